@@ -1,0 +1,9 @@
+mod AtTask
+mod Constants
+mod Initials
+mod Lawful
+mod Laying
+mod Meaning
+mod Stepped
+mod Theorem
+mod Words

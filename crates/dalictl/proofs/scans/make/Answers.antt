@@ -1,0 +1,7 @@
+use Rattle.dalictl.proofs.Stepped.{one_more}
+use Rattle.dalictl.proofs.scans.make.Goals as goal
+
+pub loop-number-preserved : goal.loop-number-preserved
+loop-number-preserved c =
+    let made = rw c.deref.ensures.value at c.in_ok-taken.ensures in
+    (rw c.in_ok-push.ensures.items (one_more _ _ _ _ _ _ _ c.loop-number.invariant.0 made), made.in_types)

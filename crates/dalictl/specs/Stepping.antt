@@ -1,0 +1,34 @@
+-- Scans one after another (IEC 61131-3, 2.7.2).
+use Rattle.std.specs.Prelude.{◌≡◌, ℕ, zero, suc, Some, slice_get, List, [], ◌∷◌, ◌++◌, map}
+use Rattle.std.specs.Arc.{arc_value}
+use Rattle.std.specs.declared.sync.Arc.{Arc}
+use Rattle.std.specs.declared.alloc.Global.{Global}
+use Rattle.ilsyms.specs.Plans.{Planned, PlannedTask}
+use Rattle.dalictl.specs.Layout.{laid_out}
+use Rattle.iltypes.specs.declared.value.Value.{Value}
+use Rattle.iltypes.specs.Values.{AreOf}
+use Rattle.ilsyms.specs.PlanMeaning.{types_of}
+use Rattle.ilverify.specs.Verdicts.{Accepted}
+use Rattle.ilmachine.specs.Scans.{IsScan}
+
+-- this many scans of the code, each from the values that the one before left, take these steps and leave those values
+abbrev pub ScansTo : Accepted → ℕ → List Value → List ℕ → List Value → Type 0
+ScansTo code zero from steps to = (steps ≡ []) × (to ≡ from)
+ScansTo code (suc scans) from steps to =
+    (before : List ℕ) × (values : List Value) × (last : ℕ) × ScansTo code scans from before values × IsScan code values last to × (steps ≡ before ++ last ∷ [])
+
+-- the accepted codes that are shared
+abbrev pub accepted_of : List (Arc Accepted Global) → List Accepted
+accepted_of codes = map (λ c. arc_value c) codes
+
+-- each task's code is what is laid out for it
+abbrev pub AreCodes : Planned → List PlannedTask → List Accepted → Type 0
+AreCodes plan tasks codes = map (λ c. c.code) codes ≡ map (laid_out plan.buses) tasks
+
+-- the value of each variable before the first scan
+abbrev pub initials_of : PlannedTask → List Value
+initials_of task = map (λ s. s.initial) task.slots
+
+-- the variables of each task begin in their types
+abbrev pub BeginInTypes : List PlannedTask → Type 0
+BeginInTypes tasks = (k : ℕ) (t : PlannedTask) → slice_get tasks k ≡ Some t → AreOf (initials_of t) (types_of t)

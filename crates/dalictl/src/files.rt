@@ -1,0 +1,36 @@
+//! Reading files.
+
+use std::alloc::Global;
+use std::fs::File;
+use std::io::{ErrorKind, Read};
+use std::rt::Files;
+
+/// The greatest number of bytes of a text or a binding; of a longer file one byte more is read, which tells that it is too long.
+const MAX_BYTES: u64 = 1_048_576;
+
+/// Why a file wasn't read.
+#[derive(Clone, Copy, PartialEq, Eq, Debug)]
+pub enum Unread {
+    Memory,
+    Failed,
+}
+
+/// The first bytes of the file, at most one more than the greatest number.
+pub fn read<R: Files + AllocGlobal>(rt: &R, path: &str) -> Result<Vec<u8>, Unread> {
+    let file = match File::open(rt, path) {
+        Ok(file) => file,
+        Err(error) => return Err(reason(error.kind())),
+    };
+    let mut bytes = Vec::new(rt.alloc());
+    match file.take(MAX_BYTES + 1).read_to_end(&mut bytes) {
+        Ok(_) => Ok(bytes),
+        Err(error) => Err(reason(error.kind())),
+    }
+}
+
+fn reason(kind: ErrorKind) -> Unread {
+    match kind {
+        ErrorKind::OutOfMemory => Unread::Memory,
+        _ => Unread::Failed,
+    }
+}

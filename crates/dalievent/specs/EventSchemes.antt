@@ -1,0 +1,57 @@
+-- The event messages of control devices: one equation on the frame's number for each scheme (profile).
+use Rattle.std.specs.Prelude.{◌≡◌, ℕ, ◌+◌, ◌*◌, ◌<◌, ◌^◌}
+use Rattle.daliframe.specs.Frames.{IsCommand24}
+use Rattle.dalievent.specs.declared.messages.Scheme.{Scheme}
+use Rattle.dalievent.specs.declared.messages.Scheme.TheVariants.{Instance, Device, DeviceInstance, DeviceGroup, InstanceGroup}
+use Rattle.dalievent.specs.declared.messages.Event.{Event as EventMessage}
+use Rattle.dalievent.specs.declared.messages.Source.{Source}
+use Rattle.dalievent.specs.declared.messages.Heard.{Heard}
+use Rattle.dalievent.specs.declared.messages.Heard.TheVariants.{Event, Command, Other}
+
+-- the numbers of the schemes
+abbrev pub scheme_number : Scheme → ℕ
+scheme_number Instance = 0
+scheme_number Device = 1
+scheme_number DeviceInstance = 2
+scheme_number DeviceGroup = 3
+scheme_number InstanceGroup = 4
+
+-- what the scheme adds to a frame: bits 23 and 22 are `10` or `11` where no short address is, bit 15 tells two schemes apart
+abbrev pub scheme_bits : Scheme → ℕ
+scheme_bits Instance = 2 ^ 23 + 2 ^ 15
+scheme_bits Device = 0
+scheme_bits DeviceInstance = 2 ^ 15
+scheme_bits DeviceGroup = 2 ^ 23
+scheme_bits InstanceGroup = 2 ^ 23 + 2 ^ 22
+
+-- short addresses have six bits, all other parts five
+abbrev pub a_limit : Scheme → ℕ
+a_limit Instance = 32
+a_limit Device = 64
+a_limit DeviceInstance = 64
+a_limit DeviceGroup = 32
+a_limit InstanceGroup = 32
+
+-- a from bit 17 on, b from bit 10 on, and the information below
+abbrev pub Solves : EventMessage → ℕ → Type 0
+Solves e frame =
+    (e.a < a_limit e.scheme) × (e.b < 32) × (e.info < 1024)
+    × (frame ≡ scheme_bits e.scheme + 2 ^ 17 * e.a + 2 ^ 10 * e.b + e.info)
+
+-- a frame that solves no equation
+abbrev pub HasNoEvent : ℕ → Type 0
+HasNoEvent frame = (e : EventMessage) → Solves e frame → ⊥
+
+-- a frame with bit 16 set is a command, and one that solves no equation is none of these
+abbrev pub IsHeard : Heard → ℕ → Type 0
+IsHeard (Event e) frame = Solves e frame
+IsHeard Command frame = IsCommand24 frame
+IsHeard Other frame = (IsCommand24 frame → ⊥) × HasNoEvent frame
+
+-- a frame has one event at most
+abbrev pub IsOnlyEvent : Heard → ℕ → Type 0
+IsOnlyEvent heard frame = (e : EventMessage) → Solves e frame → heard ≡ Event e
+
+-- an event comes from a source of its scheme and parts, whatever its information
+abbrev pub IsFrom : Source → EventMessage → Type 0
+IsFrom source e = (source.scheme ≡ e.scheme) × (source.a ≡ e.a) × (source.b ≡ e.b)

@@ -1,0 +1,4 @@
+pub mod Addresses
+pub mod Frames
+pub mod Opcodes
+pub mod Printed

@@ -1,0 +1,19 @@
+//! The forward frames of a DALI-2 bus: 16 bits for control gear, 24 bits for control devices. Across the boundary go
+//! frames, which contracts see as their numbers, and what their bits mean: addresses, levels, opcodes and the classes of
+//! these. They meet the bit equations of `specs/Addresses.antt` and `specs/Frames.antt` and the sets of opcodes of
+//! `specs/Opcodes.antt` (IEC 62386-101, -102 and -103).
+#![tactic(auto)]
+
+mod addressing;
+mod forward;
+mod forward16;
+mod forward24;
+mod opcodes;
+#[cfg(test)]
+mod tests;
+
+pub use addressing::{Address, AddressClass, GroupAddress, InstanceNumber, ShortAddress};
+pub use forward::Frame;
+pub use forward16::{Fields16, Frame16};
+pub use forward24::{Fields24, Frame24};
+pub use opcodes::{DeviceOpcodeClass, OpcodeClass};

@@ -1,0 +1,3 @@
+pub mod Listings
+pub mod Paths
+pub mod Steps

@@ -1,0 +1,16 @@
+//! Code of one task, as the list of its instructions.
+//!
+//! What crosses the boundary: [`Code`], which the compiler makes, the verifier judges and the machine runs, with its
+//! [`Instruction`]s, one a word, and their [`Operand`]s. Contracts see a code as a `Listing` (specs/Listings.antt). What
+//! a word does is `step` (specs/Steps.antt), how words follow one another is `IsNext` (specs/Paths.antt): the verifier
+//! and the machine meet these.
+#![tactic(auto)]
+
+pub mod code;
+pub mod instruction;
+
+pub use code::Code;
+pub use instruction::{Instruction, Operand};
+
+#[cfg(test)]
+mod tests;

@@ -1,0 +1,5 @@
+pub mod Exact
+pub mod Firm
+pub mod Laws
+pub mod Loops
+pub mod Repeats

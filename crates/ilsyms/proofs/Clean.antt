@@ -1,0 +1,107 @@
+-- What holds where no fault was found.
+use Rattle.std.proofs.Common.{◌≡◌, ℕ, zero, suc, ◌+◌, ◌<◌, ◌≤◌, List, [], ◌∷◌, ◌++◌, map, length, get_or, Bool, true, false, refl, ap, sym, ◌∙◌, arith, subst}
+use Rattle.std.specs.Prelude.{Option, Some, None, All, IsSome, slice_get, is_some, if◌then◌else◌}
+use Rattle.iltypes.specs.declared.value.Value.{Value}
+use Rattle.ilsource.specs.declared.name.Name.{Name}
+use Rattle.ilsource.specs.declared.instruction.Line.{Line}
+use Rattle.ilsource.specs.Names.{text_of}
+use Rattle.ilsource.specs.Trees.{Variables, Written, Tree}
+use Rattle.ilsyms.specs.Counting.{counting}
+use Rattle.ilsyms.specs.Declarations.{initial_value, slots_of, lines_of, name_in}
+use Rattle.ilsyms.specs.Gathering.{Gathered, gathered, number_in, with_name, with_names, with_initial, with_declaration, with_declarations, with_use, with_line, with_lines, Scoping, with_program, with_programs, scoping, scoping_of, lesser, found, with_excess, table_of, lowered}
+use Rattle.ilsyms.specs.Planning.{IsKnownName, AreKnown}
+use Rattle.ilsyms.specs.Resolving.{least_fault}
+use Rattle.ilsyms.specs.declared.found.Found.{Found}
+use Rattle.ilsyms.specs.declared.planned.TheConstants.{MAX_INSTANCES, MAX_SLOTS, MAX_WORDS}
+use Rattle.ilsyms.proofs.Scopes.{declarations_alone}
+
+pub none_lesser : (l : Option Found) (f : Found) → lesser l f ≡ None → ⊥
+none_lesser None f h = cc
+none_lesser (Some g) f h = cc
+
+none_excess : (l : Option Found) (e : Option ℕ) → with_excess l e ≡ None → (l ≡ None) × (e ≡ None)
+none_excess l None h = (h, refl)
+none_excess l (Some at) h = absurd (none_lesser l _ h)
+
+-- no fault of names, and no limit exceeded
+pub record IsClean (tree : Tree) : Type 0 where
+  pub names : (scoping tree).least ≡ None
+  pub instances : slice_get (map (λ p. p.name.from) tree.programs) MAX_INSTANCES ≡ None
+  pub slots : slice_get (map (λ s. s.variable.from) (slots_of tree.programs)) MAX_SLOTS ≡ None
+  pub words : slice_get (map (λ l. l.at) (lines_of tree.programs)) MAX_WORDS ≡ None
+  pub constants : (counting tree.programs).excess ≡ None
+
+pub clean : (tree : Tree) → least_fault tree ≡ None → IsClean tree
+clean tree h =
+    let a = none_excess _ _ h in
+    let b = none_excess _ _ a.0 in
+    let c = none_excess _ _ b.0 in
+    let d = none_excess _ _ c.0 in
+    record { names = d.0; instances = d.1; slots = c.1; words = b.1; constants = a.1 }
+
+pub none_length : {X : Type 0} (f : X → ℕ) (xs : List X) (n : ℕ) → slice_get (map f xs) n ≡ None → length xs ≤ n
+none_length f [] n h = omega arith
+none_length f (x ∷ xs) zero h = absurd cc
+none_length f (x ∷ xs) (suc n) h = omega (arith, none_length f xs n h)
+
+pub all_cons : {X : Type 0} (P : X → Type 0) (x : X) (xs : List X) → P x → All P xs → All P (x ∷ xs)
+all_cons P x xs p all zero d h = p
+all_cons P x xs p all (suc k) d h = all k d (omega arith)
+
+pub all_nil : {X : Type 0} (P : X → Type 0) → All P []
+all_nil P k d h = absurd (omega arith)
+
+use_known : (o : Option ℕ) (least : Option Found) (f : Found) → (if is_some o then least else lesser least f) ≡ None → (least ≡ None) × IsSome o
+use_known (Some n) least f h = (h, refl)
+use_known None least f h = absurd (none_lesser least f h)
+
+line_known : (lower : List ℕ) (names : List (List ℕ)) (n : Option Name) (least : Option Found) → with_use lower names least n ≡ None →
+    (least ≡ None) × IsKnownName lower names n
+line_known lower names None least h = (h, tt)
+line_known lower names (Some name) least h = use_known (number_in names (text_of lower name)) least _ h
+
+pub lines_known : (lower : List ℕ) (names : List (List ℕ)) (lines : List Line) (least : Option Found) → with_lines lower names least lines ≡ None →
+    (least ≡ None) × AreKnown lower names lines
+lines_known lower names [] least h = (h, all_nil _)
+lines_known lower names (l ∷ ls) least h =
+    let r = lines_known lower names ls (with_line lower names least l) h in
+    let s = line_known lower names (name_in l.instruction) least r.0 in
+    (s.0, all_cons (λ x. IsKnownName lower names (name_in x.instruction)) l ls s.1 r.1)
+
+name_none : (b : Bool) (names more : List (List ℕ)) (l : Option Found) (f : Found) →
+    (if b then gathered names (lesser l f) else gathered more l).least ≡ None → l ≡ None
+name_none true names more l f h = absurd (none_lesser l f h)
+name_none false names more l f h = h
+
+pub one_none : (lower : List ℕ) (g : Gathered) (n : Name) → (with_name lower g n).least ≡ None → g.least ≡ None
+one_none lower g n h = name_none (is_some (number_in g.names (text_of lower n))) _ _ g.least _ h
+
+pub names_none : (lower : List ℕ) (ns : List Name) (g : Gathered) → (with_names lower g ns).least ≡ None → g.least ≡ None
+names_none lower [] g h = h
+names_none lower (n ∷ ns) g h = one_none lower g n (names_none lower ns (with_name lower g n) h)
+
+pub initial_none : (l : Option Found) (v : Option Value) (n : Option Name) → with_initial l v n ≡ None → l ≡ None
+initial_none l None None h = h
+initial_none l None (Some n) h = absurd (none_lesser l _ h)
+initial_none l (Some v) None h = h
+initial_none l (Some v) (Some n) h = h
+
+pub declarations_none : (lower : List ℕ) (ds : List Variables) (g : Gathered) → (with_declarations lower g ds).least ≡ None → g.least ≡ None
+declarations_none lower [] g h = h
+declarations_none lower (d ∷ ds) g h =
+    initial_none g.least (initial_value d.initial) (slice_get d.names 0) (names_none lower d.names _ (declarations_none lower ds (with_declaration lower g d) h))
+
+pub programs_known : (lower : List ℕ) (ps : List Written) (s : Scoping) → (with_programs lower s ps).least ≡ None →
+    (s.least ≡ None) × All (λ p. AreKnown lower (table_of lower p) p.lines) ps
+programs_known lower [] s h = (h, all_nil _)
+programs_known lower (p ∷ ps) s h =
+    let r = programs_known lower ps (with_program lower s p) h in
+    let a : Gathered = with_name lower (gathered s.programs s.least) p.name in
+    let b : Gathered = with_declarations lower (gathered [] a.least) p.declarations in
+    let l = lines_known lower b.names p.lines b.least r.0 in
+    let e : b.names ≡ table_of lower p = declarations_alone lower p.declarations [] a.least None in
+    let P : List (List ℕ) → Type 0 = λ names. AreKnown lower names p.lines in
+    (one_none lower (gathered s.programs s.least) p.name (declarations_none lower p.declarations (gathered [] a.least) l.0), all_cons (λ q. AreKnown lower (table_of lower q) q.lines) p ps (subst P e l.1) r.1)
+
+pub all_known : (tree : Tree) → (scoping tree).least ≡ None → All (λ p. AreKnown (lowered tree.text) (table_of (lowered tree.text) p) p.lines) tree.programs
+all_known tree h = (programs_known (lowered tree.text) tree.programs (scoping_of [] [] None) h).1

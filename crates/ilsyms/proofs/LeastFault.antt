@@ -1,0 +1,241 @@
+-- The least fault that is gathered is the least of all that stand in the source program, those of limits too.
+use Rattle.std.proofs.Common.{◌≡◌, ℕ, suc, ◌+◌, ◌<◌, ◌≤◌, List, [], ◌∷◌, ◌++◌, map, length, Bool, true, false, ◌≢◌, refl, ap, sym, ◌∙◌, arith, subst, ◌⊎◌, inl, inr, append_assoc, length-append}
+use Rattle.std.specs.Prelude.{Option, Some, None, MatchOption, ◌==◌, fold, slice_get, if◌then◌else◌}
+use Rattle.std.specs.List.{list_any, cons_option}
+use Rattle.std.proofs.lemmas.Grind.{common_steps}
+use Rattle.iltypes.specs.declared.value.Value.{Value}
+use Rattle.ilsource.specs.declared.instruction.Line.{Line}
+use Rattle.ilsource.specs.Trees.{Written, Tree}
+use Rattle.ilsyms.specs.Counting.{Counted, counted, counting, with_one, with_line, with_lines, with_programs}
+use Rattle.ilsyms.specs.Declarations.{slots_of, lines_of, constant_in, constants_of, with_constant, each_once, same_value}
+use Rattle.ilsyms.specs.Faults.{IsFault, IsFaultOfNames, IsTooMany, MakesTooManyConstants, IsWellNamed, IsLeast}
+use Rattle.ilsyms.specs.Gathering.{scoping, scoping_of, found, lesser, with_excess, lowered}
+use Rattle.ilsyms.specs.Resolving.{least_fault}
+use Rattle.ilsyms.specs.Told.{IsTold, IsMemoryOrTold, IsOptionTold, TellsLeast, IsMemoryOrTellsLeast}
+use Rattle.ilsyms.specs.declared.fault.NameCause.{NameCause}
+use Rattle.ilsyms.specs.declared.fault.NameCause.TheVariants.{Unknown, Twice, TooMany, BadDeclaration}
+use Rattle.ilsyms.specs.declared.fault.NameFault.{NameFault}
+use Rattle.ilsyms.specs.declared.fault.NameFault.TheVariants.{Memory, At}
+use Rattle.ilsyms.specs.declared.found.Found.{Found}
+use Rattle.ilsyms.specs.declared.planned.TheConstants.{MAX_INSTANCES, MAX_SLOTS, MAX_WORDS, MAX_CONSTANTS}
+use Rattle.ilsyms.proofs.Exact.{of_names_to, of_names_from}
+use Rattle.ilsyms.proofs.Gathered.{IsBest, IsWith, best_with, best_same, or_else, AreFaults, programs_best}
+use Rattle.ilsyms.proofs.Limits.{fold_append, constants_append, lines_counted}
+
+-- what exceeds a limit
+excess_best : (e : Option ℕ) (P : ℕ → NameCause → Type 0) (o : Option Found) → IsBest P o →
+    IsBest (λ place cause. P place cause ⊎ ((cause ≡ TooMany) × (e ≡ Some place))) (with_excess o e)
+excess_best None P o l = best_same P _ o (λ place cause p. inl p) (λ place cause q. or_else (λ p. p) (λ y. absurd (no place y.1)) q) l
+  where
+    no : (place : ℕ) → None ≡ Some place → ⊥
+    no place e = cc
+excess_best (Some at) P o l =
+    best_with P _ o (found at TooMany)
+    (record { into = λ place cause q. or_else inl (λ y. inr (same place y.1, y.0)) q; old = λ place cause p. inl p; new = inr (refl, refl) }) l
+  where
+    same : (place : ℕ) → Some at ≡ Some place → place ≡ at
+    same place e = cc
+
+-- the different constants of some lines
+abbrev different : List Line → List Value
+different lines = each_once (constants_of lines)
+
+one_constant : (k : List Value) (o : Option Value) (c : Counted) (at : ℕ) → c.constants ≡ k → (with_one c at o).constants ≡ fold with_constant k (cons_option o [])
+one_constant k None c at e = e
+one_constant k (Some v) c at e = added (list_any (same_value v) c.constants) refl
+  where
+    added : (b : Bool) → list_any (same_value v) c.constants ≡ b →
+        ((if b then c else counted (c.constants ++ v ∷ []) (if length c.constants == MAX_CONSTANTS then Some at else c.excess)).constants) ≡ (if list_any (same_value v) k then k else k ++ v ∷ [])
+    added true h = let g : list_any (same_value v) k ≡ true = rw (← e) h in rw g e
+    added false h = let g : list_any (same_value v) k ≡ false = rw (← e) h in rw g (ap (λ (vs : List Value). vs ++ v ∷ []) e)
+
+line_constants : (before : List Line) (l : Line) (c : Counted) → c.constants ≡ different before → (with_line c l).constants ≡ different (before ++ l ∷ [])
+line_constants before l c e =
+    one_constant (different before) (constant_in l.instruction) c l.at e
+    ∙ sym (fold_append with_constant [] (constants_of before) (cons_option (constant_in l.instruction) []))
+    ∙ ap (λ (vs : List Value). each_once vs) (sym (constants_append before (l ∷ [])))
+
+max_is : (n : ℕ) (b : Bool) → (n == MAX_CONSTANTS) ≡ b → n ≡ MAX_CONSTANTS → b ≡ true
+max_is n true e h = refl
+max_is n false e h = absurd (no n e h)
+  where
+    no : (n : ℕ) → (n == MAX_CONSTANTS) ≡ false → n ≡ MAX_CONSTANTS → ⊥
+    no n e h = grind (arith, common_steps)
+
+is_max : (n : ℕ) → (n == MAX_CONSTANTS) ≡ true → n ≡ MAX_CONSTANTS
+is_max n e = grind (arith, common_steps)
+
+-- where a line's place becomes the excess
+excess_from : (o : Option Value) (c : Counted) (at place : ℕ) → (with_one c at o).excess ≡ Some place →
+    (c.excess ≡ Some place) ⊎ ((length c.constants ≡ MAX_CONSTANTS) × (length ((with_one c at o).constants) ≡ MAX_CONSTANTS + 1) × (place ≡ at))
+excess_from None c at place h = inl h
+excess_from (Some v) c at place h = known (list_any (same_value v) c.constants) h
+  where
+    full : (b : Bool) → (length c.constants == MAX_CONSTANTS) ≡ b → (if b then Some at else c.excess) ≡ Some place →
+        (c.excess ≡ Some place) ⊎ ((length c.constants ≡ MAX_CONSTANTS) × (length (c.constants ++ v ∷ []) ≡ MAX_CONSTANTS + 1) × (place ≡ at))
+    full true e h =
+        let m : length c.constants ≡ MAX_CONSTANTS = is_max (length c.constants) e in
+        let a = length-append c.constants (v ∷ []) in
+        let p : place ≡ at = cc in
+        inr (m, omega (arith, m, a), p)
+    full false e h = inl h
+
+    known : (b : Bool) → (if b then c else counted (c.constants ++ v ∷ []) (if length c.constants == MAX_CONSTANTS then Some at else c.excess)).excess ≡ Some place →
+        (c.excess ≡ Some place)
+        ⊎ ((length c.constants ≡ MAX_CONSTANTS) × (length ((if b then c else counted (c.constants ++ v ∷ []) (if length c.constants == MAX_CONSTANTS then Some at else c.excess)).constants) ≡ MAX_CONSTANTS + 1) × (place ≡ at))
+    known true h = inl h
+    known false h = full _ refl h
+
+excess_to : (o : Option Value) (c : Counted) (at : ℕ) → length c.constants ≡ MAX_CONSTANTS → length ((with_one c at o).constants) ≡ MAX_CONSTANTS + 1 →
+    (with_one c at o).excess ≡ Some at
+excess_to None c at m n = absurd (omega (arith, m, n))
+excess_to (Some v) c at m n = known (list_any (same_value v) c.constants) n
+  where
+    known : (b : Bool) → length ((if b then c else counted (c.constants ++ v ∷ []) (if length c.constants == MAX_CONSTANTS then Some at else c.excess)).constants) ≡ MAX_CONSTANTS + 1 →
+        (if b then c else counted (c.constants ++ v ∷ []) (if length c.constants == MAX_CONSTANTS then Some at else c.excess)).excess ≡ Some at
+    known true n = absurd (omega (arith, m, n))
+    known false n = let t : (length c.constants == MAX_CONSTANTS) ≡ true = max_is (length c.constants) _ refl m in rw t refl
+
+-- past the limit the excess stays
+abbrev IsPast : Counted → Counted → Type 0
+IsPast c d = (MAX_CONSTANTS < length d.constants) × (d.excess ≡ c.excess)
+
+past_one : (o : Option Value) (c : Counted) (at : ℕ) → MAX_CONSTANTS < length c.constants → IsPast c (with_one c at o)
+past_one None c at m = (m, refl)
+past_one (Some v) c at m = known (list_any (same_value v) c.constants)
+  where
+    not_max : (b : Bool) → (length c.constants == MAX_CONSTANTS) ≡ b → (if b then Some at else c.excess) ≡ c.excess
+    not_max true e = let n : length c.constants ≡ MAX_CONSTANTS = is_max (length c.constants) e in absurd (omega (arith, m, n))
+    not_max false e = refl
+
+    known : (b : Bool) → IsPast c (if b then c else counted (c.constants ++ v ∷ []) (if length c.constants == MAX_CONSTANTS then Some at else c.excess))
+    known true = (m, refl)
+    known false = let a = length-append c.constants (v ∷ []) in (omega (arith, m, a), not_max _ refl)
+
+past_lines : (ls : List Line) (c : Counted) → MAX_CONSTANTS < length c.constants → (fold with_line c ls).excess ≡ c.excess
+past_lines [] c m = refl
+past_lines (l ∷ ls) c m =
+    let p = past_one (constant_in l.instruction) c l.at m in
+    past_lines ls (with_line c l) p.0 ∙ p.1
+
+makes_from : (place : ℕ) (ls before : List Line) (c : Counted) → c.constants ≡ different before → (fold with_line c ls).excess ≡ Some place →
+    (c.excess ≡ Some place) ⊎ MakesTooManyConstants (before ++ ls) place
+makes_from place [] before c e h = inl h
+makes_from place (l ∷ ls) before c e h =
+    let k = line_constants before l c e in
+    or_else
+    (λ x. or_else inl
+    (λ y. inr (record { before = before; line = l; after = ls; is = refl; full = ap length (sym e) ∙ y.0; more = ap length (sym k) ∙ y.1; stands = y.2 }))
+    (excess_from (constant_in l.instruction) c l.at place x))
+    (λ m. inr (subst (λ (lines : List Line). MakesTooManyConstants lines place) (append_assoc before (l ∷ []) ls) m))
+    (makes_from place ls (before ++ l ∷ []) (with_line c l) k h)
+
+makes_to : (place : ℕ) (ls : List Line) → MakesTooManyConstants ls place → (fold with_line (counted [] None) ls).excess ≡ Some place
+makes_to place ls m =
+    let c : Counted = fold with_line (counted [] None) m.before in
+    let e : c.constants ≡ different m.before = lines_counted m.before (counted [] None) in
+    let k = line_constants m.before m.line c e in
+    let full : length c.constants ≡ MAX_CONSTANTS = ap length e ∙ m.full in
+    let more : length ((with_line c m.line).constants) ≡ MAX_CONSTANTS + 1 = ap length k ∙ m.more in
+    ap (λ (lines : List Line). (fold with_line (counted [] None) lines).excess) m.is
+    ∙ ap (λ (d : Counted). d.excess) (fold_append with_line (counted [] None) m.before (m.line ∷ m.after))
+    ∙ past_lines m.after (with_line c m.line) (omega (arith, more))
+    ∙ excess_to (constant_in m.line.instruction) c m.line.at full more
+    ∙ ap (λ (at : ℕ). Some at) (sym m.stands)
+
+all_lines_counted : (ps : List Written) (c : Counted) → with_programs c ps ≡ fold with_line c (lines_of ps)
+all_lines_counted [] c = refl
+all_lines_counted (p ∷ ps) c = all_lines_counted ps (with_lines c p) ∙ sym (fold_append with_line c p.lines (lines_of ps))
+
+constants_to : (tree : Tree) (place : ℕ) → (counting tree.programs).excess ≡ Some place → MakesTooManyConstants (lines_of tree.programs) place
+constants_to tree place h =
+    or_else (λ x. absurd (no x)) (λ m. m)
+    (makes_from place (lines_of tree.programs) [] (counted [] None) refl (ap (λ (c : Counted). c.excess) (sym (all_lines_counted tree.programs (counted [] None))) ∙ h))
+  where
+    no : None ≡ Some place → ⊥
+    no e = cc
+
+constants_from : (tree : Tree) (place : ℕ) → MakesTooManyConstants (lines_of tree.programs) place → (counting tree.programs).excess ≡ Some place
+constants_from tree place m = ap (λ (c : Counted). c.excess) (all_lines_counted tree.programs (counted [] None)) ∙ makes_to place (lines_of tree.programs) m
+
+-- the faults but those of limits
+pub scope_best : (tree : Tree) → IsBest (IsFaultOfNames tree) ((scoping tree).least)
+scope_best tree =
+    best_same _ (IsFaultOfNames tree) ((scoping tree).least)
+    (λ place cause q. or_else absurd (λ f. of_names_to tree place cause f) q)
+    (λ place cause q. inr (of_names_from tree place cause q))
+    (programs_best (lowered tree.text) tree.programs (scoping_of [] [] None) (λ place cause. ⊥) (λ place cause p. p))
+
+wider : (tree : Tree) (place : ℕ) (cause : NameCause) → IsFaultOfNames tree place cause → IsFault tree place cause
+wider tree place Unknown h = h
+wider tree place Twice h = h
+wider tree place TooMany h = absurd h
+wider tree place BadDeclaration h = h
+
+-- all faults, from those of names and the four limits
+abbrev InParts : Tree → ℕ → NameCause → Type 0
+InParts tree place cause =
+    (((IsFaultOfNames tree place cause
+    ⊎ ((cause ≡ TooMany) × (slice_get (map (λ p. p.name.from) tree.programs) MAX_INSTANCES ≡ Some place)))
+    ⊎ ((cause ≡ TooMany) × (slice_get (map (λ s. s.variable.from) (slots_of tree.programs)) MAX_SLOTS ≡ Some place)))
+    ⊎ ((cause ≡ TooMany) × (slice_get (map (λ l. l.at) (lines_of tree.programs)) MAX_WORDS ≡ Some place)))
+    ⊎ ((cause ≡ TooMany) × ((counting tree.programs).excess ≡ Some place))
+
+parts_to : (tree : Tree) (place : ℕ) (cause : NameCause) → InParts tree place cause → IsFault tree place cause
+parts_to tree place cause h =
+    let F : NameCause → Type 0 = λ k. IsFault tree place k in
+    or_else
+    (λ x. or_else
+    (λ y. or_else (λ z. or_else (λ n. wider tree place cause n) (λ i. subst F (sym i.0) (inl i.1)) z) (λ s. subst F (sym s.0) (inr (inl s.1))) y)
+    (λ w. subst F (sym w.0) (inr (inr (inl w.1)))) x)
+    (λ k. subst F (sym k.0) (inr (inr (inr (constants_to tree place k.1))))) h
+
+parts_from : (tree : Tree) (place : ℕ) (cause : NameCause) → IsFault tree place cause → InParts tree place cause
+parts_from tree place Unknown h = inl (inl (inl (inl h)))
+parts_from tree place Twice h = inl (inl (inl (inl h)))
+parts_from tree place BadDeclaration h = inl (inl (inl (inl h)))
+parts_from tree place TooMany (inl i) = inl (inl (inl (inr (refl, i))))
+parts_from tree place TooMany (inr (inl s)) = inl (inl (inr (refl, s)))
+parts_from tree place TooMany (inr (inr (inl w))) = inl (inr (refl, w))
+parts_from tree place TooMany (inr (inr (inr m))) = inr (refl, constants_from tree place m)
+
+pub all_best : (tree : Tree) → IsBest (IsFault tree) (least_fault tree)
+all_best tree =
+    best_same (InParts tree) (IsFault tree) (least_fault tree) (parts_to tree) (parts_from tree)
+    (excess_best ((counting tree.programs).excess) _ _
+    (excess_best (slice_get (map (λ l. l.at) (lines_of tree.programs)) MAX_WORDS) _ _
+    (excess_best (slice_get (map (λ s. s.variable.from) (slots_of tree.programs)) MAX_SLOTS) _ _
+    (excess_best (slice_get (map (λ p. p.name.from) tree.programs) MAX_INSTANCES) (IsFaultOfNames tree) ((scoping tree).least) (scope_best tree)))))
+
+none_best : (F : ℕ → NameCause → Type 0) (o : Option Found) → IsBest F o → o ≡ None → (place : ℕ) (cause : NameCause) → F place cause → ⊥
+none_best F None l e = l
+none_best F (Some f) l e = absurd cc
+
+-- no fault stands where none was gathered
+pub well_named : (tree : Tree) → least_fault tree ≡ None → IsWellNamed tree
+well_named tree h = none_best (IsFault tree) (least_fault tree) (all_best tree) h
+
+told_least : (text : List ℕ) (F : ℕ → NameCause → Type 0) (f : Found) (fault : NameFault) → IsLeast F f.at f.cause → IsTold text f fault → TellsLeast text F fault
+told_least text F f Memory l h = absurd h
+told_least text F f (At line col cause) l h = (f.at, subst (λ (k : NameCause). IsLeast F f.at k) (sym h.2) l, h.0, h.1)
+
+memory_or : (text : List ℕ) (F : ℕ → NameCause → Type 0) (o : Option Found) (fault : NameFault) → IsBest F o → IsMemoryOrTold text o fault → IsMemoryOrTellsLeast text F fault
+memory_or text F o Memory l h = tt
+memory_or text F None (At line col cause) l h = absurd h
+memory_or text F (Some f) (At line col cause) l h = told_least text F f (At line col cause) l h
+
+-- what is told is the least fault
+pub tells_least : (tree : Tree) (fault : NameFault) → IsMemoryOrTold tree.text (least_fault tree) fault → IsMemoryOrTellsLeast tree.text (IsFault tree) fault
+tells_least tree fault h = memory_or tree.text (IsFault tree) (least_fault tree) fault (all_best tree) h
+
+option_or : (text : List ℕ) (F : ℕ → NameCause → Type 0) (o : Option Found) (r : Option NameFault) → IsBest F o → IsOptionTold text o r →
+    MatchOption r ((place : ℕ) (cause : NameCause) → F place cause → ⊥) (λ fault. TellsLeast text F fault)
+option_or text F None None l h = l
+option_or text F None (Some fault) l h = absurd h
+option_or text F (Some f) None l h = absurd h
+option_or text F (Some f) (Some fault) l h = told_least text F f fault l h
+
+-- what a scope tells is its least fault
+pub scope_tells : (tree : Tree) (r : Option NameFault) → IsOptionTold tree.text ((scoping tree).least) r →
+    MatchOption r ((place : ℕ) (cause : NameCause) → IsFaultOfNames tree place cause → ⊥) (λ fault. TellsLeast tree.text (IsFaultOfNames tree) fault)
+scope_tells tree r h = option_or tree.text (IsFaultOfNames tree) ((scoping tree).least) r (scope_best tree) h

@@ -1,0 +1,14 @@
+pub mod Clean
+pub mod Exact
+pub mod Gathered
+pub mod Keys
+pub mod LeastFault
+pub mod Limits
+pub mod Lookups
+pub mod Paired
+pub mod Scans
+pub mod Scopes
+pub mod Simulation
+pub mod Tables
+pub mod ThePlan
+pub mod WordsPast

@@ -1,0 +1,14 @@
+use Rattle.std.proofs.Common.{◌≡◌}
+use Rattle.ilsyms.specs.Plans.{KeepsLimits}
+use Rattle.ilsyms.proofs.Clean.{clean, none_length, all_known}
+use Rattle.ilsyms.proofs.Limits.{limits}
+use Rattle.ilsyms.proofs.resolving.main_task.Goals as goal
+
+pub plan_instances-requires-clause-known : goal.plan_instances-requires-clause-known
+plan_instances-requires-clause-known c = all_known c.args.scope.now (clean c.args.scope.now c.requires.fault).names
+
+pub plan_instances-requires-clause-few : goal.plan_instances-requires-clause-few
+plan_instances-requires-clause-few c = (limits c.args.scope.now c.requires.fault).most_slots
+
+pub new-requires : goal.new-requires
+new-requires c = rw (c.in_ok-name.ensures.ok, c.requires.slots, c.requires.constants, c.in_ok-instances.ensures) (limits c.args.scope.now c.requires.fault)

@@ -1,0 +1,16 @@
+pub mod BindingFiles
+pub mod Causes
+pub mod Counting
+pub mod Declarations
+pub mod Faults
+pub mod Gathering
+pub mod Keys
+pub mod Meaning
+pub mod PlanMeaning
+pub mod Planning
+pub mod Plans
+pub mod Resolved
+pub mod Resolving
+pub mod Stores
+pub mod Told
+pub mod Wirings

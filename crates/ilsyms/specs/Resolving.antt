@@ -1,0 +1,28 @@
+-- What resolving gives: the least fault of all, and the plan of a source program that has none.
+use Rattle.std.specs.Prelude.{ℕ, List, [], ◌∷◌, map, Option, false, slice_get, codes}
+use Rattle.ilsource.specs.Trees.{Tree}
+use Rattle.ilsyms.specs.Counting.{counting}
+use Rattle.ilsyms.specs.Declarations.{slots_of, lines_of}
+use Rattle.ilsyms.specs.Gathering.{scoping, with_excess}
+use Rattle.ilsyms.specs.Planning.{planning_of}
+use Rattle.ilsyms.specs.Plans.{PlannedTask, Planned, task_of, plan_of}
+use Rattle.ilsyms.specs.declared.found.Found.{Found}
+use Rattle.ilsyms.specs.declared.planned.TheConstants.{MAX_INSTANCES, MAX_SLOTS, MAX_WORDS}
+
+-- the least fault, those of limits too
+abbrev pub least_fault : Tree → Option Found
+least_fault tree =
+    with_excess
+    (with_excess
+    (with_excess
+    (with_excess (scoping tree).least (slice_get (map (λ p. p.name.from) tree.programs) MAX_INSTANCES))
+    (slice_get (map (λ s. s.variable.from) (slots_of tree.programs)) MAX_SLOTS))
+    (slice_get (map (λ l. l.at) (lines_of tree.programs)) MAX_WORDS))
+    (counting tree.programs).excess
+
+-- the one task, `main`
+abbrev pub the_task : Tree → PlannedTask
+the_task tree = task_of (codes "main") false (slots_of tree.programs) (counting tree.programs).constants (planning_of tree).instances
+
+abbrev pub the_plan : Tree → ℕ → Planned
+the_plan tree buses = plan_of tree.text buses [] (the_task tree ∷ [])

@@ -1,0 +1,58 @@
+//! What exceeds the limits of a task.
+
+ghost use Rattle.std.specs.Prelude.{◌≡◌, map, slice_get};
+ghost use Rattle.ilsyms.specs.Declarations.{lines_of};
+ghost use Rattle.ilsyms.specs.Gathering.{with_excess};
+ghost use Rattle.ilsyms.specs.declared.planned.TheConstants.{MAX_INSTANCES, MAX_SLOTS, MAX_WORDS};
+
+use crate::fault::NameCause;
+use crate::found::{Found, lesser_of};
+use crate::planned::{MAX_INSTANCES, MAX_SLOTS, MAX_WORDS, Slot};
+use ilsource::Program;
+
+/// The place of the program that exceeds the greatest number of instances.
+pub(crate) fn instance_past(programs: &[Program]) -> Option<usize>
+    ensures { result ≡ slice_get (map (λ p. p.name.from) programs.now) MAX_INSTANCES }
+{
+    let program = programs.get(MAX_INSTANCES)?;
+    Some(program.name().from)
+}
+
+/// The place of the variable that exceeds the greatest number of slots.
+pub(crate) fn slot_past(slots: &[Slot]) -> Option<usize>
+    ensures { result ≡ slice_get (map (λ s. s.variable.from) slots.now) MAX_SLOTS }
+{
+    let slot = slots.get(MAX_SLOTS)?;
+    Some(slot.variable.from)
+}
+
+/// The place of the line that exceeds the greatest number of words.
+pub(crate) fn word_past(programs: &[Program]) -> Option<usize>
+    ensures { result ≡ slice_get (map (λ l. l.at) (lines_of programs.now)) MAX_WORDS }
+{
+    let mut left = MAX_WORDS;
+    for program in programs {
+        let lines = program.lines();
+        if left < lines.len() {
+            return Some(lines[left].at);
+        }
+        left -= lines.len();
+    }
+    None
+}
+
+/// Takes in the fault of what exceeds a limit.
+pub(crate) fn limited(least: Option<Found>, excess: Option<usize>) -> Option<Found>
+    ensures { result ≡ with_excess least excess }
+{
+    match excess {
+        None => least,
+        Some(at) => lesser_of(
+            least,
+            Found {
+                at,
+                cause: NameCause::TooMany,
+            },
+        ),
+    }
+}

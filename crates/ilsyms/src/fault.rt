@@ -1,0 +1,83 @@
+//! Faults of names.
+
+ghost use Rattle.std.specs.Prelude.{◌≡◌};
+ghost use Rattle.ilsyms.specs.Causes.{number_of};
+
+use std::alloc::{AllocError, AllocFailed};
+use thiserror::Error;
+
+/// What is wrong with a name or a declaration.
+#[derive(Clone, Copy, PartialEq, Eq, Debug)]
+pub enum NameCause {
+    /// A name that isn't declared.
+    Unknown,
+    /// A name that is declared again.
+    Twice,
+    /// A declaration or an instruction that exceeds a limit.
+    TooMany,
+    /// An initial value that isn't of the variable's type.
+    BadDeclaration,
+}
+
+impl NameCause {
+    /// The number that is printed.
+    pub fn number(self) -> u8
+        ensures { result ≡ number_of self }
+    {
+        match self {
+            NameCause::Unknown => 2,
+            NameCause::Twice => 3,
+            NameCause::TooMany => 11,
+            NameCause::BadDeclaration => 12,
+        }
+    }
+}
+
+/// Why a source program has no plan.
+#[derive(Debug, Drop, Error)]
+pub enum NameFault {
+    /// Memory was refused.
+    #[error("no memory")]
+    Memory,
+    /// The least place at which a fault stands, and the least cause there.
+    #[error("name fault {cause} at {line}:{col}", cause = .cause.number())]
+    At {
+        /// Counted from 1.
+        line: usize,
+        /// Counted from 1, in bytes.
+        col: usize,
+        cause: NameCause,
+    },
+}
+
+impl From<AllocError> for NameFault {
+    ghost use Rattle.std.specs.Prelude.{◌≡◌};
+    ghost use Rattle.ilsyms.specs.declared.fault.NameFault.TheVariants.{Memory};
+
+    ghost from_gives = { λ _ fault. fault ≡ Memory };
+
+    fn from(_refused: AllocError) -> Self {
+        NameFault::Memory
+    }
+}
+
+impl<T: Drop> From<AllocFailed<T>> for NameFault {
+    ghost use Rattle.std.specs.Prelude.{◌≡◌};
+    ghost use Rattle.ilsyms.specs.declared.fault.NameFault.TheVariants.{Memory};
+
+    ghost from_gives = { λ _ fault. fault ≡ Memory };
+
+    fn from(_refused: AllocFailed<T>) -> Self {
+        NameFault::Memory
+    }
+}
+
+impl NameFault {
+    /// The number that is printed: 1 for want of memory, else that of the cause.
+    pub fn number(&self) -> u8 {
+        match self {
+            NameFault::Memory => 1,
+            NameFault::At { cause, .. } => cause.number(),
+        }
+    }
+}

@@ -1,0 +1,32 @@
+//! Names of a source program: what each word of a line means, and the plan of its tasks.
+//!
+//! What crosses the boundary: [`Binding`], which says how many buses there are; [`resolve`], which takes a
+//! [`ilsource::Source`] to a [`Plan`], where each name is the number of a slot, or tells the least [`NameFault`]; and
+//! [`Scope`], the tables of the declared names with their own least fault. Which faults there are is `IsFault`
+//! (specs/Faults.antt). What a source program means is `source_scan` (specs/Meaning.antt), over names; what a plan
+//! means is `plan_scan` (specs/PlanMeaning.antt), over slot numbers: the two agree, by the clause of `resolve`.
+#![tactic(auto)]
+
+pub mod binding;
+pub(crate) mod constants;
+pub(crate) mod excess;
+pub mod fault;
+pub(crate) mod found;
+pub(crate) mod names;
+pub mod plan;
+pub mod planned;
+pub(crate) mod planning;
+pub(crate) mod resolving;
+pub mod scope;
+pub(crate) mod slots;
+pub(crate) mod values;
+
+pub use binding::{BindCause, BindFault, Binding};
+pub use fault::{NameCause, NameFault};
+pub use plan::{DeclaredName, Plan, SlotName, Task};
+pub use planned::{Instance, PlannedInstruction, PlannedLine, PlannedOperand, Slot};
+pub use resolving::resolve;
+pub use scope::Scope;
+
+#[cfg(test)]
+mod tests;

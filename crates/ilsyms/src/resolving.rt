@@ -1,0 +1,92 @@
+//! Resolving the names of a source program.
+
+ghost use Rattle.std.specs.Prelude.{◌≡◌, IfOk, IfErr, OnOk, MatchResult, None};
+ghost use Rattle.ilsyms.specs.Counting.{counting};
+ghost use Rattle.ilsyms.specs.Declarations.{slots_of};
+ghost use Rattle.ilsyms.specs.Resolving.{least_fault, the_task, the_plan};
+ghost use Rattle.ilsyms.specs.Faults.{IsFault, IsWellNamed};
+ghost use Rattle.ilsyms.specs.Resolved.{IsPlanOf};
+ghost use Rattle.ilsyms.specs.Told.{IsMemoryOrTold, IsMemoryOrTellsLeast};
+
+use crate::binding::Binding;
+use crate::constants::different_constants;
+use crate::excess::{instance_past, limited, slot_past, word_past};
+use crate::fault::NameFault;
+use crate::found::Found;
+use crate::plan::{Plan, Task};
+use crate::planned::Slot;
+use crate::planning::plan_instances;
+use crate::scope::{Scope, told};
+use crate::slots::all_slots;
+use ilsource::Source;
+use iltypes::Value;
+use std::alloc::{AllocError, Global};
+
+/// The plan of a source program, or the least place at which a fault of names stands and the least cause there.
+pub fn resolve(alloc: Global, source: &Source, binding: &Binding) -> Result<Plan, NameFault>
+    ensures plan { IfOk result (λ plan. IsPlanOf source.now binding.now.buses plan) }
+    ensures named { OnOk result (IsWellNamed source.now) }
+    ensures fault { IfErr result (λ fault. IsMemoryOrTellsLeast source.now.text (IsFault source.now) fault) }
+{
+    resolved(alloc, source, binding)
+}
+
+/// The one plan, or the least fault that was gathered.
+fn resolved(alloc: Global, source: &Source, binding: &Binding) -> Result<Plan, NameFault>
+    ensures { MatchResult result (λ plan. (least_fault source.now ≡ None) × (plan ≡ the_plan source.now binding.now.buses)) (λ fault. IsMemoryOrTold source.now.text (least_fault source.now) fault) }
+{
+    let scope = Scope::of(alloc, source, binding)?;
+    let slots = all_slots(alloc, source.programs())?;
+    let (constants, past) = different_constants(alloc, source.programs())?;
+    if let Some(found) = least_of(&scope, &slots, past) {
+        return Err(told(source.text(), found));
+    }
+    let task = main_task(alloc, &scope, slots, constants)?;
+    Ok(plan_with(alloc, source, binding, task)?)
+}
+
+/// The least fault, those of limits too.
+fn least_of(scope: &Scope<'_>, slots: &[Slot], past: Option<usize>) -> Option<Found>
+    requires slots { slots.now ≡ slots_of scope.now.programs }
+    requires past { past ≡ (counting scope.now.programs).excess }
+    ensures { result ≡ least_fault scope.now }
+{
+    let programs = scope.source().programs();
+    let least = limited(scope.least(), instance_past(programs));
+    let least = limited(least, slot_past(slots));
+    let least = limited(least, word_past(programs));
+    limited(least, past)
+}
+
+/// The one task of a source program that has no fault.
+fn main_task(
+    alloc: Global,
+    scope: &Scope<'_>,
+    slots: Vec<Slot>,
+    constants: Vec<Value>,
+) -> Result<Task, AllocError>
+    requires fault { least_fault scope.now ≡ None }
+    requires slots { slots.items ≡ slots_of scope.now.programs }
+    requires constants { constants.items ≡ (counting scope.now.programs).constants }
+    ensures { IfOk result (λ task. task ≡ the_task scope.now) }
+{
+    let instances = plan_instances(alloc, scope)?;
+    let name = String::from_str(alloc, "main")?;
+    Ok(Task::new(name, false, slots, constants, instances))
+}
+
+/// The plan with one task.
+fn plan_with(
+    alloc: Global,
+    source: &Source,
+    binding: &Binding,
+    task: Task,
+) -> Result<Plan, AllocError>
+    requires { task ≡ the_task source.now }
+    ensures { IfOk result (λ plan. plan ≡ the_plan source.now binding.now.buses) }
+{
+    let mut tasks = Vec::new(alloc);
+    tasks.push(task)?;
+    let text = Vec::from_slice(alloc, source.text())?;
+    Ok(Plan::new(text, binding.buses(), Vec::new(alloc), tasks))
+}

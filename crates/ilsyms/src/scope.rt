@@ -1,0 +1,269 @@
+//! Scopes: the tables of declared names, with the least fault among them.
+//!
+//! The limits aren't looked at here: what exceeds them is told when names are resolved.
+
+ghost use Rattle.std.specs.Prelude.{◌≡◌, OnOk, IfOk, slice_get};
+ghost use Rattle.ilsource.specs.Names.{text_of};
+ghost use Rattle.ilsyms.specs.Declarations.{name_in, initial_value};
+ghost use Rattle.ilsyms.specs.Gathering.{Gathered, gathered, with_name, with_names, with_initial, with_declaration, with_declarations, with_use, with_line, with_lines, lowered};
+ghost use Rattle.ilsyms.specs.Told.{IsTold};
+
+use crate::binding::Binding;
+use crate::fault::{NameCause, NameFault};
+use crate::found::{Found, lesser_of};
+use crate::names::Names;
+use crate::values::initial_of;
+use ilsource::{Declaration, Instruction, Line, Name, Operand, Place, Program, Source};
+use std::alloc::{AllocError, Global};
+use std::marker::Model;
+
+/// The declared names of a source program.
+#[derive(Drop)]
+pub struct Scope<'a> {
+    source: &'a Source,
+    lower: Vec<u8>,
+    variables: Vec<Names>,
+    least: Option<Found>,
+}
+
+impl<'a> Model for Scope<'a> {
+    ghost use Rattle.ilsource.specs.Trees.{Tree};
+
+    ghost Value = { Tree };
+
+    ghost use Rattle.ilsyms.specs.Gathering.{IsScopeOf};
+
+    ghost view = { λ s. s.source.now };
+
+    ghost invariant = { λ s. IsScopeOf s.source.now s.lower.items s.variables.items s.least };
+}
+
+impl<'a> Scope<'a> {
+    ghost use Rattle.std.specs.Prelude.{◌≡◌, ◌<◌, ℕ, IfOk, MatchOption, length, map, slice_get, Some};
+    ghost use Rattle.ilsyms.specs.Told.{IsOptionTold, TellsLeast};
+    ghost use Rattle.ilsyms.specs.Faults.{IsFaultOfNames};
+    ghost use Rattle.ilsyms.specs.declared.fault.NameCause.{NameCause};
+    ghost use Rattle.ilsyms.specs.Gathering.{lowered, scoping, table_of};
+
+    /// The tables of the names that `source` declares.
+    pub fn of(
+        alloc: Global,
+        source: &'a Source,
+        _binding: &Binding,
+    ) -> Result<Scope<'a>, AllocError>
+        ensures { IfOk result (λ scope. scope ≡ source.now) }
+    {
+        let lower = lower_case(alloc, source.text())?;
+        let mut programs = Names::new(alloc);
+        let mut variables = Vec::new(alloc);
+        let mut least = None;
+        for program in source.programs() {
+            least = declare(alloc, &lower, &mut programs, program.name(), least)?;
+            let mut names = Names::new(alloc);
+            least = declare_all(alloc, &lower, &mut names, program.declarations(), least)?;
+            least = unknown_names(&lower, &names, program.lines(), least);
+            variables.push(names)?;
+        }
+        Ok(Scope {
+            source,
+            lower,
+            variables,
+            least,
+        })
+    }
+
+    /// The least fault but those of limits, and `None` where there is none.
+    pub fn fault(&self) -> Option<NameFault>
+        ensures { MatchOption result ((place : ℕ) (cause : NameCause) → IsFaultOfNames self.now place cause → ⊥) (λ fault. TellsLeast self.now.text (IsFaultOfNames self.now) fault) }
+    {
+        self.gathered_fault()
+    }
+
+    /// The fault that was gathered.
+    fn gathered_fault(&self) -> Option<NameFault>
+        ensures { IsOptionTold self.now.text (scoping self.now).least result }
+    {
+        match self.least {
+            None => None,
+            Some(found) => Some(told(self.source.text(), found)),
+        }
+    }
+
+    /// The least fault.
+    pub(crate) fn least(&self) -> Option<Found>
+        ensures { result ≡ (scoping self.now).least }
+    {
+        self.least
+    }
+
+    /// The source program.
+    pub(crate) fn source(&self) -> &'a Source
+        ensures { result.now ≡ self.now }
+    {
+        self.source
+    }
+
+    /// The text with letters in lower case.
+    pub(crate) fn lower(&self) -> &[u8]
+        ensures { result.now ≡ lowered self.now.text }
+    {
+        &self.lower
+    }
+
+    /// The names of the variables of a program, by the program's number.
+    pub(crate) fn variables(&self, program: usize) -> &Names
+        requires { program < length self.now.programs }
+        ensures { slice_get (map (table_of (lowered self.now.text)) self.now.programs) program ≡ Some result.now }
+    {
+        &self.variables[program]
+    }
+}
+
+/// The fault with its line and column in `text`.
+pub(crate) fn told(text: &[u8], found: Found) -> NameFault
+    ensures { IsTold text.now found result }
+{
+    let Place { line, col } = Place::of(text, found.at);
+    NameFault::At {
+        line,
+        col,
+        cause: found.cause,
+    }
+}
+
+/// The bytes with letters in lower case.
+fn lower_case(alloc: Global, text: &[u8]) -> Result<Vec<u8>, AllocError>
+    ensures { IfOk result (λ v. v.items ≡ lowered text.now) }
+{
+    text.iter()
+        .map(|byte| byte.to_ascii_lowercase())
+        .collect(alloc)
+}
+
+/// Adds a name, or takes in the fault that it is there already.
+fn declare(
+    alloc: Global,
+    lower: &[u8],
+    names: &mut Names,
+    name: Name,
+    least: Option<Found>,
+) -> Result<Option<Found>, AllocError>
+    ensures names { OnOk result (names.new ≡ (with_name lower.now (gathered names.old least) name).names) }
+    ensures least { IfOk result (λ r. r ≡ (with_name lower.now (gathered names.old least) name).least) }
+{
+    let key = name.text(lower);
+    if names.number_of(key).is_some() {
+        let found = Found {
+            at: name.from,
+            cause: NameCause::Twice,
+        };
+        return Ok(lesser_of(least, found));
+    }
+    names.add(alloc, key)?;
+    Ok(least)
+}
+
+/// Adds the names of one declaration, and takes in its faults.
+fn declare_names(
+    alloc: Global,
+    lower: &[u8],
+    names: &mut Names,
+    declared: &[Name],
+    mut least: Option<Found>,
+) -> Result<Option<Found>, AllocError>
+    ensures names { OnOk result (names.new ≡ (with_names lower.now (gathered names.old least) declared.now).names) }
+    ensures least { IfOk result (λ r. r ≡ (with_names lower.now (gathered names.old least) declared.now).least) }
+{
+    for name in declared {
+        least = declare(alloc, lower, names, *name, least)?;
+    }
+    Ok(least)
+}
+
+/// Takes in the fault of an initial value that BOOL hasn't.
+fn bad_initial(declaration: &Declaration, least: Option<Found>) -> Option<Found>
+    ensures { result ≡ with_initial least (initial_value declaration.now.initial) (slice_get declaration.now.names 0) }
+{
+    match (
+        initial_of(declaration.initial()),
+        declaration.names().first(),
+    ) {
+        (None, Some(name)) => lesser_of(
+            least,
+            Found {
+                at: name.from,
+                cause: NameCause::BadDeclaration,
+            },
+        ),
+        _ => least,
+    }
+}
+
+/// Adds the names of all declarations, and takes in their faults.
+fn declare_all(
+    alloc: Global,
+    lower: &[u8],
+    names: &mut Names,
+    declarations: &[Declaration],
+    mut least: Option<Found>,
+) -> Result<Option<Found>, AllocError>
+    ensures names { OnOk result (names.new ≡ (with_declarations lower.now (gathered names.old least) declarations.now).names) }
+    ensures least { IfOk result (λ r. r ≡ (with_declarations lower.now (gathered names.old least) declarations.now).least) }
+{
+    for declaration in declarations {
+        least = bad_initial(declaration, least);
+        least = declare_names(alloc, lower, names, declaration.names(), least)?;
+    }
+    Ok(least)
+}
+
+/// Takes in the fault of a name that isn't declared.
+fn unknown_name(lower: &[u8], names: &Names, line: Line, least: Option<Found>) -> Option<Found>
+    ensures { result ≡ with_line lower.now names.now least line }
+{
+    match name_of(line.instruction) {
+        Some(name) if names.number_of(name.text(lower)).is_none() => lesser_of(
+            least,
+            Found {
+                at: name.from,
+                cause: NameCause::Unknown,
+            },
+        ),
+        _ => least,
+    }
+}
+
+/// Takes in the faults of names in lines.
+fn unknown_names(
+    lower: &[u8],
+    names: &Names,
+    lines: &[Line],
+    mut least: Option<Found>,
+) -> Option<Found>
+    ensures { result ≡ with_lines lower.now names.now least lines.now }
+{
+    for line in lines {
+        least = unknown_name(lower, names, *line, least);
+    }
+    least
+}
+
+/// The name in an instruction.
+fn name_of(instruction: Instruction) -> Option<Name>
+    ensures { result ≡ name_in instruction }
+{
+    match instruction {
+        Instruction::Load {
+            operand: Operand::Variable(name),
+            ..
+        }
+        | Instruction::Apply {
+            operand: Operand::Variable(name),
+            ..
+        }
+        | Instruction::Store { variable: name, .. }
+        | Instruction::Set(name)
+        | Instruction::Reset(name) => Some(name),
+        _ => None,
+    }
+}

@@ -1,0 +1,119 @@
+//! Printed names and faults, and each public call once.
+
+use crate::{BindCause, BindFault, Binding, NameCause, NameFault, Scope, resolve};
+use ilsource::{Constant, Declaration, Instruction, Line, Name, Operand, Program, Source};
+use iltypes::Value;
+use std::alloc::{AllocError, Global};
+use std::test::Fail;
+
+const TEXT: &[u8] =
+    b"PROGRAM Two\nVAR a : BOOL := TRUE; B : BOOL; END_VAR\nLD A\nST b\nEND_PROGRAM\n";
+
+fn one(alloc: Global, name: Name) -> Result<Vec<Name>, AllocError> {
+    let mut names = Vec::new(alloc);
+    names.push(name)?;
+    Ok(names)
+}
+
+/// The program of [`TEXT`], where the store is to the variable at `stored`.
+fn source(alloc: Global, stored: Name) -> Result<Source, AllocError> {
+    let mut declarations = Vec::new(alloc);
+    let first = one(alloc, Name { from: 16, to: 17 })?;
+    declarations.push(Declaration::new(first, Some(Constant::Bool(true))))?;
+    let second = one(alloc, Name { from: 34, to: 35 })?;
+    declarations.push(Declaration::new(second, None))?;
+    let mut lines = Vec::new(alloc);
+    lines.push(Line {
+        at: 52,
+        instruction: Instruction::Load {
+            negated: false,
+            operand: Operand::Variable(Name { from: 55, to: 56 }),
+        },
+    })?;
+    lines.push(Line {
+        at: 57,
+        instruction: Instruction::Store {
+            negated: false,
+            variable: stored,
+        },
+    })?;
+    let mut programs = Vec::new(alloc);
+    programs.push(Program::new(Name { from: 8, to: 11 }, declarations, lines))?;
+    Ok(Source::new(Vec::from_slice(alloc, TEXT)?, programs))
+}
+
+#[test]
+fn names_come_back_as_declared(rt: HostRuntime) -> Result<(), Fail> {
+    let source = source(rt.alloc(), Name { from: 60, to: 61 })?;
+    let plan = resolve(rt.alloc(), &source, &Binding::one_bus())?;
+    assert_eq!(rt; plan.buses(), 1);
+    assert_eq!(rt; plan.globals(), 0);
+    assert_eq!(rt; plan.tasks(), 1);
+    if plan.tasks() == 1 {
+        assert_eq!(rt; plan.task_name(0), "main");
+        assert!(rt; !plan.is_event(0));
+        assert_eq!(rt; plan.slots(0).len(), 2);
+        assert_eq!(rt; plan.instances(0).len(), 1);
+        let task = plan.task(0);
+        assert_eq!(rt; task.constants().len(), 0);
+        let printed = ["Two.a", "Two.B"];
+        let initial = [Value::Bool(true), Value::Bool(false)];
+        for (number, slot) in task.slots().iter().enumerate() {
+            let name = plan.slot_name(0, number).to_string(rt.alloc())?;
+            assert!(rt; number < 2);
+            assert_eq!(rt; name.as_str(), printed[number]);
+            assert_eq!(rt; slot.initial, initial[number]);
+        }
+    }
+    Ok(())
+}
+
+#[test]
+fn a_fault_is_told_at_its_line_and_column(rt: HostRuntime) -> Result<(), Fail> {
+    let source = source(rt.alloc(), Name { from: 57, to: 59 })?;
+    let binding = Binding::one_bus();
+    let scope = Scope::of(rt.alloc(), &source, &binding)?;
+    let told = scope.fault().ok_or("a fault")?.to_string(rt.alloc())?;
+    assert_eq!(rt; told.as_str(), "name fault 2 at 4:1");
+    match resolve(rt.alloc(), &source, &binding) {
+        Err(NameFault::At { line, col, cause }) => {
+            assert_eq!(rt; (line, col), (4, 1));
+            assert_eq!(rt; cause, NameCause::Unknown);
+        }
+        _ => assert!(rt; false, "a fault"),
+    }
+    Ok(())
+}
+
+#[test]
+fn bindings_are_read(rt: HostRuntime) -> Result<(), Fail> {
+    let good: [(&[u8], u8); 4] = [
+        (b"buses 1", 1),
+        (b"# here\r\n\r\nbuses 16\r\n", 16),
+        (b"buses 007\n#buses 2\n\n", 7),
+        (b"\nbuses 10\n", 10),
+    ];
+    for (bytes, buses) in good {
+        assert_eq!(rt; Binding::parse(rt.alloc(), bytes)?.buses(), buses);
+    }
+    let bad: [(&[u8], usize); 8] = [
+        (b"", 1),
+        (b"# none\n", 1),
+        (b"buses 17\n", 1),
+        (b"buses 0", 1),
+        (b"\nbuses  1\n", 2),
+        (b"buses 1\nbuses 1\n", 2),
+        (b"buses 1\r", 1),
+        (b"buses 1\n#\n source 0.0\n", 3),
+    ];
+    for (bytes, wanted) in bad {
+        match Binding::parse(rt.alloc(), bytes) {
+            Err(BindFault::At { line, cause }) => {
+                assert_eq!(rt; line, wanted);
+                assert_eq!(rt; cause, BindCause::BadLine);
+            }
+            _ => assert!(rt; false, "a fault at {wanted}"),
+        }
+    }
+    Ok(())
+}

@@ -1,0 +1,23 @@
+use Rattle.std.proofs.Common.{◌≤◌, length, arith}
+use Rattle.iltext.specs.Parsing.{most}
+use Rattle.iltext.proofs.Sources.{is_found, is_only, is_fault, is_one}
+use Rattle.iltext.proofs.parser.parse.Goals as goal
+
+pub returns-in-Ok-clause-found : goal.returns-in-Ok-clause-found
+returns-in-Ok-clause-found c =
+    let short : length c.args.text.now ≤ most = omega arith in
+    is_found c.args.text.now c.deref.result.now c.parse_tokens.result short (rw c.deref.ensures.value c.in-Ok.ensures.cut) c.parse_tokens.ensures
+
+pub returns-in-Ok-clause-only : goal.returns-in-Ok-clause-only
+returns-in-Ok-clause-only c = is_only c.args.text.now c.deref.result.now c.parse_tokens.result (rw c.deref.ensures.value c.in-Ok.ensures.cut) c.parse_tokens.ensures
+
+pub returns-in-Ok-clause-fault : goal.returns-in-Ok-clause-fault
+returns-in-Ok-clause-fault c =
+    let short : length c.args.text.now ≤ most = omega arith in
+    is_fault c.args.text.now c.deref.result.now c.parse_tokens.result short (rw c.deref.ensures.value c.in-Ok.ensures.cut) c.parse_tokens.ensures
+
+pub returns-in-Ok-clause-one : goal.returns-in-Ok-clause-one
+returns-in-Ok-clause-one c = is_one c.args.text.now
+
+pub returns-in-Err-clause-one : goal.returns-in-Err-clause-one
+returns-in-Err-clause-one c = is_one c.args.text.now

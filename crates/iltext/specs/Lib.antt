@@ -1,0 +1,7 @@
+pub mod Cutting
+pub mod Faults
+pub mod Keywords
+pub mod Operators
+pub mod Parsing
+pub mod Terminals
+pub mod Texts

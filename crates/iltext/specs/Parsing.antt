@@ -1,0 +1,57 @@
+-- Texts and their source programs.
+use Rattle.std.specs.Prelude.{◌≡◌, ℕ, ◌≤◌, ◌<◌, List, ◌⊎◌, length, Result, Ok, Err}
+use Rattle.ilgrammar.specs.Stops.{FaultAt, whole_read}
+use Rattle.ilsource.specs.Trees.{Tree, Written}
+use Rattle.iltext.specs.declared.fault.TextFault.{TextFault}
+use Rattle.iltext.specs.declared.fault.TextFault.TheVariants as faults
+use Rattle.iltext.specs.declared.fault.TextCause.TheVariants.{TooLong}
+use Rattle.iltext.specs.declared.token.Token.{Token}
+use Rattle.iltext.specs.Cutting.{Cuts}
+use Rattle.iltext.specs.Faults.{Tells}
+use Rattle.iltext.specs.Texts.{text}
+
+-- the most bytes of a text
+abbrev pub most : ℕ
+most = 1048576
+
+-- the bytes spell the source program: their tokens are those of its programs
+pub record IsText (bytes : List ℕ) (tree : Tree) : Type 0 where
+  pub short : length bytes ≤ most
+  pub same : tree.text ≡ bytes
+  pub tokens : List Token
+  pub cut : Cuts bytes 0 tokens
+  pub whole : text.whole tokens tree.programs
+
+-- the source program is answered, or memory ran out
+abbrev pub IsReadAs : Tree → Result Tree TextFault → Type 0
+IsReadAs tree (Ok source) = source ≡ tree
+IsReadAs tree (Err faults.Memory) = Unit {0}
+IsReadAs tree (Err (faults.At line col cause)) = ⊥
+
+-- the fault is told of the first token such that the tokens up to and including it are no front of a text
+pub record IsFirstFault (bytes : List ℕ) (fault : TextFault) : Type 0 where
+  pub short : length bytes ≤ most
+  pub tokens : List Token
+  pub cut : Cuts bytes 0 tokens
+  pub rest : List Token
+  pub stops : FaultAt text tokens rest
+  pub tells : Tells bytes rest fault
+
+-- a text that is too long is refused at its first byte
+abbrev pub IsTooLong : List ℕ → TextFault → Type 0
+IsTooLong bytes fault = (most < length bytes) × (fault ≡ faults.At 1 1 TooLong)
+
+abbrev pub IsFault : List ℕ → TextFault → Type 0
+IsFault bytes faults.Memory = Unit {0}
+IsFault bytes (faults.At line col cause) = IsTooLong bytes (faults.At line col cause) ⊎ IsFirstFault bytes (faults.At line col cause)
+
+-- what reading the tokens gives, of bytes that they were cut from
+abbrev pub IsParsed : List ℕ → List Token → Result Tree TextFault → Type 0
+IsParsed bytes tokens (Ok tree) = (tree.text ≡ bytes) × (whole_read text tokens ≡ Ok tree.programs)
+IsParsed bytes tokens (Err faults.Memory) = Unit {0}
+IsParsed bytes tokens (Err (faults.At line col cause)) = (rest : List Token) × (whole_read text tokens ≡ Err rest) × Tells bytes rest (faults.At line col cause)
+
+abbrev pub IsSourceOf : List ℕ → List Written → Result Tree TextFault → Type 0
+IsSourceOf bytes programs (Ok tree) = (tree.text ≡ bytes) × (tree.programs ≡ programs)
+IsSourceOf bytes programs (Err faults.Memory) = Unit {0}
+IsSourceOf bytes programs (Err (faults.At line col cause)) = ⊥

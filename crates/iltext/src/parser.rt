@@ -1,0 +1,64 @@
+//! From bytes to a source program.
+
+ghost use Rattle.std.specs.Prelude.{◌≡◌, ◌≤◌, length, IfOk, IfErr, All};
+ghost use Rattle.ilsource.specs.Trees.{Tree};
+ghost use Rattle.iltext.specs.Parsing.{IsText, IsReadAs, IsFault, IsParsed, IsSourceOf};
+
+use crate::cutting::tokens;
+use crate::fault::{TextCause, TextFault, fault_at};
+use crate::programs::whole_text;
+use crate::token::Token;
+use ilgrammar::ReadError;
+use ilsource::{Program, Source};
+use std::alloc::Global;
+
+/// The most bytes of a text.
+const MOST_BYTES: usize = 1_048_576;
+
+/// The source program that `text` spells, or its first fault: the place is that of the first token (or byte that begins none)
+/// such that the tokens up to and including it are no front of a text, and the cause is what stands there. The end of a text
+/// counts as a token just past its last byte. A text of more than 1,048,576 bytes is refused at 1:1.
+pub fn parse(alloc: Global, text: &[u8]) -> Result<Source, TextFault>
+    // What is read is spelled so.
+    ensures found { IfOk result (λ source. IsText text.now source) }
+    // What is spelled so is read, unless memory runs out.
+    ensures only { (tree : Tree) → IsText text.now tree → IsReadAs tree result }
+    // A fault is the first.
+    ensures fault { IfErr result (λ fault. IsFault text.now fault) }
+    // A text has at most one source program.
+    ensures one { (a b : Tree) → IsText text.now a → IsText text.now b → a ≡ b }
+{
+    if text.len() > MOST_BYTES {
+        return Err(TextFault::At {
+            line: 1,
+            col: 1,
+            cause: TextCause::TooLong,
+        });
+    }
+    match tokens(alloc, text) {
+        Ok(tokens) => parse_tokens(alloc, text, &tokens),
+        Err(_) => Err(TextFault::Memory),
+    }
+}
+
+/// What the tokens of `text` are read as.
+fn parse_tokens(alloc: Global, text: &[u8], ts: &[Token]) -> Result<Source, TextFault>
+    requires { All (λ t. t.from ≤ length text.now) ts.now }
+    ensures { IsParsed text.now ts.now result }
+{
+    match whole_text(alloc, ts) {
+        Ok(programs) => with_text(alloc, text, programs),
+        Err(ReadError::Memory) => Err(TextFault::Memory),
+        Err(ReadError::Fault(rest)) => Err(fault_at(text, rest)),
+    }
+}
+
+/// The source program of these programs.
+fn with_text(alloc: Global, text: &[u8], programs: Vec<Program>) -> Result<Source, TextFault>
+    ensures { IsSourceOf text.now programs.items result }
+{
+    match Vec::from_slice(alloc, text) {
+        Ok(bytes) => Ok(Source::new(bytes, programs)),
+        Err(_) => Err(TextFault::Memory),
+    }
+}

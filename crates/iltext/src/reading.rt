@@ -1,0 +1,188 @@
+//! Single tokens, and the line ends after them.
+
+ghost use Rattle.std.specs.Prelude.{◌≡◌, ◌<◌, List, length, nat_eq, IsTrue, Ok};
+ghost use Rattle.ilgrammar.specs.Items.{begins};
+ghost use Rattle.ilgrammar.specs.Results.{Gives};
+ghost use Rattle.iltext.specs.Terminals.{mark_number, word, mark, name, constant, operand, line_ends, spaced};
+
+use crate::keyword::{self, Keyword};
+use crate::token::{Kind, Mark, Token};
+use ilgrammar::ReadError;
+use ilsource::{Constant, Name, Operand};
+
+/// The place of a mark in the list of marks.
+fn mark_number(mark: Mark) -> u8
+    ensures { result ≡ mark_number mark }
+{
+    mark as u8
+}
+
+/// This reserved word.
+#[tactic(auto, unfolding(crate::specs::Terminals::word))]
+pub fn word<'a>(ts: &'a [Token], wanted: Keyword) -> Result<&'a [Token], ReadError<'a, Token>>
+    ensures { Gives (λ rest. (tt, rest.now)) result ((word wanted).read ts.now) }
+{
+    match ts {
+        [
+            Token {
+                kind: Kind::Keyword(found),
+                ..
+            },
+            rest @ ..,
+        ] => {
+            if keyword::number(*found) == keyword::number(wanted) {
+                Ok(rest)
+            } else {
+                Err(ReadError::Fault(ts))
+            }
+        }
+        _ => Err(ReadError::Fault(ts)),
+    }
+}
+
+/// This mark.
+#[tactic(auto, unfolding(crate::specs::Terminals::mark))]
+pub fn mark<'a>(ts: &'a [Token], wanted: Mark) -> Result<&'a [Token], ReadError<'a, Token>>
+    ensures { Gives (λ rest. (tt, rest.now)) result ((mark wanted).read ts.now) }
+{
+    match ts {
+        [
+            Token {
+                kind: Kind::Mark(found),
+                ..
+            },
+            rest @ ..,
+        ] => {
+            if mark_number(*found) == mark_number(wanted) {
+                Ok(rest)
+            } else {
+                Err(ReadError::Fault(ts))
+            }
+        }
+        _ => Err(ReadError::Fault(ts)),
+    }
+}
+
+/// A word that isn't reserved.
+#[tactic(auto, unfolding(crate::specs::Terminals::name))]
+pub fn name<'a>(ts: &'a [Token]) -> Result<(Name, &'a [Token]), ReadError<'a, Token>>
+    ensures { Gives (λ x. (x.0, x.1.now)) result (name.read ts.now) }
+{
+    match ts {
+        [first, rest @ ..] => match first.kind {
+            Kind::Name => Ok((
+                Name {
+                    from: first.from,
+                    to: first.to,
+                },
+                rest,
+            )),
+            _ => Err(ReadError::Fault(ts)),
+        },
+        [] => Err(ReadError::Fault(ts)),
+    }
+}
+
+/// TRUE, FALSE, a number or a duration.
+#[tactic(auto, unfolding(crate::specs::Terminals::constant))]
+pub fn constant<'a>(ts: &'a [Token]) -> Result<(Constant, &'a [Token]), ReadError<'a, Token>>
+    ensures { Gives (λ x. (x.0, x.1.now)) result (constant.read ts.now) }
+{
+    match ts {
+        [first, rest @ ..] => match first.kind {
+            Kind::Keyword(Keyword::True) => Ok((Constant::Bool(true), rest)),
+            Kind::Keyword(Keyword::False) => Ok((Constant::Bool(false), rest)),
+            Kind::Number(number) => Ok((Constant::Number(number), rest)),
+            Kind::Time(milliseconds) => Ok((Constant::Time(milliseconds), rest)),
+            _ => Err(ReadError::Fault(ts)),
+        },
+        [] => Err(ReadError::Fault(ts)),
+    }
+}
+
+/// A variable, TRUE or FALSE.
+#[tactic(auto, unfolding(crate::specs::Terminals::operand))]
+pub fn operand<'a>(ts: &'a [Token]) -> Result<(Operand, &'a [Token]), ReadError<'a, Token>>
+    ensures { Gives (λ x. (x.0, x.1.now)) result (operand.read ts.now) }
+{
+    match ts {
+        [first, rest @ ..] => match first.kind {
+            Kind::Keyword(Keyword::True) => Ok((Operand::Constant(Constant::Bool(true)), rest)),
+            Kind::Keyword(Keyword::False) => Ok((Operand::Constant(Constant::Bool(false)), rest)),
+            Kind::Name => Ok((
+                Operand::Variable(Name {
+                    from: first.from,
+                    to: first.to,
+                }),
+                rest,
+            )),
+            _ => Err(ReadError::Fault(ts)),
+        },
+        [] => Err(ReadError::Fault(ts)),
+    }
+}
+
+/// Whether a line end stands first.
+#[tactic(auto, unfolding(crate::specs::Terminals::mark))]
+fn begins_line_end(ts: &[Token]) -> bool
+    ensures begins { result ≡ begins (mark Mark.LineEnd) ts.now }
+    ensures some { IsTrue result → 0 < length ts.now }
+{
+    matches!(
+        ts,
+        [
+            Token {
+                kind: Kind::Mark(Mark::LineEnd),
+                ..
+            },
+            ..
+        ]
+    )
+}
+
+/// What stands after the line ends.
+pub fn line_ends(ts: &[Token]) -> &[Token]
+    ensures { line_ends.read ts.now ≡ Ok (tt, result.now) }
+{
+    let mut rest = ts;
+    'ends: while begins_line_end(rest) {
+        let (_, after) = rest.split_at(1);
+        rest = after;
+    }
+    rest
+}
+
+/// This reserved word and the line ends after it.
+pub fn spaced_word<'a>(
+    ts: &'a [Token],
+    wanted: Keyword,
+) -> Result<&'a [Token], ReadError<'a, Token>>
+    ensures { Gives (λ rest. (tt, rest.now)) result ((spaced (word wanted)).read ts.now) }
+{
+    let rest = word(ts, wanted)?;
+    Ok(line_ends(rest))
+}
+
+/// This mark and the line ends after it.
+pub fn spaced_mark<'a>(ts: &'a [Token], wanted: Mark) -> Result<&'a [Token], ReadError<'a, Token>>
+    ensures { Gives (λ rest. (tt, rest.now)) result ((spaced (mark wanted)).read ts.now) }
+{
+    let rest = mark(ts, wanted)?;
+    Ok(line_ends(rest))
+}
+
+/// A name and the line ends after it.
+pub fn spaced_name<'a>(ts: &'a [Token]) -> Result<(Name, &'a [Token]), ReadError<'a, Token>>
+    ensures { Gives (λ x. (x.0, x.1.now)) result ((spaced name).read ts.now) }
+{
+    let (found, rest) = name(ts)?;
+    Ok((found, line_ends(rest)))
+}
+
+/// A constant and the line ends after it.
+pub fn spaced_constant<'a>(ts: &'a [Token]) -> Result<(Constant, &'a [Token]), ReadError<'a, Token>>
+    ensures { Gives (λ x. (x.0, x.1.now)) result ((spaced constant).read ts.now) }
+{
+    let (found, rest) = constant(ts)?;
+    Ok((found, line_ends(rest)))
+}

@@ -1,0 +1,11 @@
+pub mod Addresses
+pub mod Blanks
+pub mod Digits
+pub mod Faults
+pub mod Fronts
+pub mod Numbers
+pub mod Spelling
+pub mod Spellings
+pub mod Times
+pub mod Tokens
+pub mod Views

@@ -1,0 +1,63 @@
+-- The next token of a text.
+use Rattle.std.specs.Prelude.{◌≡◌, ℕ, ◌+◌, ◌-◌, ◌<◌, ◌≤◌, List, [], ◌∷◌, ◌++◌, length, take, drop, Result, Ok, Err}
+use Rattle.iltokens.specs.declared.lexed.Lexed.{Lexed}
+use Rattle.iltokens.specs.declared.lexed.Lexed.TheVariants as lexed
+use Rattle.iltokens.specs.declared.lexed.Cause.TheVariants.{NotAscii, BadToken, BadNumber, CommentOpen}
+use Rattle.iltokens.specs.Blanks.{blanks, AreBlanks, OpensComment, BeginsNoBlank}
+use Rattle.iltokens.specs.Spellings.{Spells, IsOutside}
+use Rattle.iltokens.specs.Fronts.{Front, end, taken, fault, front_at}
+
+-- places are known by how much is left
+abbrev pub lexed_front : ℕ → List ℕ → Front → Lexed
+lexed_front total rest end = lexed.End
+lexed_front total rest (taken what after) = lexed.Token what (total - length rest) (total - length after)
+lexed_front total rest (fault cause) = lexed.Fault cause (total - length rest)
+
+abbrev pub lexed_blanks : ℕ → Result (List ℕ) (List ℕ) → Lexed
+lexed_blanks total (Ok rest) = lexed_front total rest (front_at rest)
+lexed_blanks total (Err rest) = lexed.Fault CommentOpen (total - length rest)
+
+-- what stands after the blanks and comments at a place
+unfoldable pub token_at : List ℕ → ℕ → Lexed
+token_at bytes at = lexed_blanks (length bytes) (blanks (drop at bytes))
+
+-- a token or a fault stands at the place or behind it, within the bytes
+abbrev pub IsAhead : Lexed → ℕ → ℕ → Type 0
+IsAhead (lexed.Token what from to) at len = (at ≤ from) × (from < to) × (to ≤ len)
+IsAhead lexed.End at len = Unit {0}
+IsAhead (lexed.Fault cause place) at len = (at ≤ place) × (place ≤ len)
+
+-- Between `at` and the place stand blanks and comments alone, and P holds of what follows.
+pub record IsAfterBlanks (bytes : List ℕ) (at place : ℕ) (P : List ℕ → Type 0) : Type 0 where
+  pub before : List ℕ
+  pub rest : List ℕ
+  pub parts : drop at bytes ≡ before ++ rest
+  pub blanks : AreBlanks before
+  pub here : place ≡ at + length before
+  pub ahead : P rest
+
+-- a first byte of which P holds
+abbrev pub BeginsWith : (ℕ → Type 0) → List ℕ → Type 0
+BeginsWith P [] = ⊥
+BeginsWith P (b ∷ bs) = P b
+
+-- Nothing but blanks and comments stands before what is told: a token begins where no blank does; at the end nothing is left;
+-- a fault is an open comment, a byte of 80 hex or more, or another byte.
+abbrev pub GoesOverBlanks : List ℕ → ℕ → Lexed → Type 0
+GoesOverBlanks bytes at (lexed.Token what from to) = IsAfterBlanks bytes at from BeginsNoBlank
+GoesOverBlanks bytes at lexed.End = IsAfterBlanks bytes at (length bytes) (λ rest. rest ≡ [])
+GoesOverBlanks bytes at (lexed.Fault CommentOpen place) = IsAfterBlanks bytes at place OpensComment
+GoesOverBlanks bytes at (lexed.Fault NotAscii place) = IsAfterBlanks bytes at place (BeginsWith (λ b. 128 ≤ b))
+GoesOverBlanks bytes at (lexed.Fault BadToken place) = IsAfterBlanks bytes at place (λ rest. BeginsNoBlank rest × BeginsWith (λ b. b < 128) rest)
+GoesOverBlanks bytes at (lexed.Fault BadNumber place) = IsAfterBlanks bytes at place BeginsNoBlank
+
+-- the bytes begin with what is outside its limits
+abbrev pub BeginsOutside : List ℕ → Type 0
+BeginsOutside bs = (v after : List ℕ) × (bs ≡ v ++ after) × IsOutside v
+
+-- the bytes of a token spell it, and a bad number is one
+abbrev pub SpellsIt : List ℕ → Lexed → Type 0
+SpellsIt bytes (lexed.Token what from to) = Spells what (take (to - from) (drop from bytes))
+SpellsIt bytes lexed.End = Unit {0}
+SpellsIt bytes (lexed.Fault BadNumber place) = BeginsOutside (drop place bytes)
+SpellsIt bytes (lexed.Fault cause place) = Unit {0}

@@ -1,0 +1,131 @@
+//! The token at the front of some bytes.
+
+ghost use Rattle.std.specs.Prelude.{◌≡◌, ◌<◌, length};
+ghost use Rattle.iltokens.specs.Fronts.{number_at, word_at, address_at, mark_at, front_at};
+ghost use Rattle.iltokens.specs.Views.{front_view, IsShorter};
+
+use crate::address::direct_address;
+use crate::digits::is_digit;
+use crate::lexed::{Cause, What};
+use crate::number::{signed, unsigned};
+use crate::spelling::{after_name, is_letter};
+use crate::time::time;
+
+/// What stands at the front.
+pub enum Front<'a> {
+    End,
+    /// A token, and what stands after it.
+    Token(What, &'a [u8]),
+    Fault(Cause),
+}
+
+#[tactic(auto, unfolding(crate::specs::Fronts::number_at))]
+fn number_at(negative: bool, magnitude: &[u8]) -> Front<'_>
+    ensures exact { front_view result ≡ number_at negative magnitude.now }
+    ensures within { IsShorter result (length magnitude.now) }
+{
+    match unsigned(magnitude) {
+        Some((value, rest)) => match signed(negative, value) {
+            Some(number) => Front::Token(What::Number(number), rest),
+            None => Front::Fault(Cause::BadNumber),
+        },
+        None => Front::Fault(Cause::BadToken),
+    }
+}
+
+/// A duration, or else a word.
+#[tactic(auto, unfolding(crate::specs::Fronts::word_at))]
+fn word_at(bytes: &[u8]) -> Front<'_>
+    requires { 0 < length bytes.now }
+    ensures exact { front_view result ≡ word_at bytes.now }
+    ensures within { IsShorter result (length bytes.now) }
+{
+    match time(bytes) {
+        Some((milliseconds, rest)) => {
+            if milliseconds <= 0xffff_ffff {
+                Front::Token(What::Time(milliseconds as u32), rest)
+            } else {
+                Front::Fault(Cause::BadNumber)
+            }
+        }
+        None => {
+            let (_, others) = bytes.split_at(1);
+            Front::Token(What::Word, after_name(others))
+        }
+    }
+}
+
+#[tactic(auto, unfolding(crate::specs::Fronts::address_at))]
+fn address_at(bytes: &[u8]) -> Front<'_>
+    ensures exact { front_view result ≡ address_at bytes.now }
+    ensures within { IsShorter result (length bytes.now) }
+{
+    match direct_address(bytes) {
+        Some(found) => {
+            if found.bus < 1 << 63 && found.place < 1 << 63 {
+                let what = What::Address {
+                    kind: found.kind,
+                    bus: found.bus,
+                    place: found.place,
+                };
+                Front::Token(what, found.rest)
+            } else {
+                Front::Fault(Cause::BadNumber)
+            }
+        }
+        None => Front::Fault(Cause::BadToken),
+    }
+}
+
+/// A mark, a line end or what begins no token.
+#[tactic(auto, unfolding(crate::specs::Fronts::mark_at))]
+fn mark_at(bytes: &[u8]) -> Front<'_>
+    ensures exact { front_view result ≡ mark_at bytes.now }
+    ensures within { IsShorter result (length bytes.now) }
+{
+    match bytes {
+        [] => Front::End,
+        [b',', rest @ ..] => Front::Token(What::Comma, rest),
+        [b';', rest @ ..] => Front::Token(What::Semicolon, rest),
+        [b'(', rest @ ..] => Front::Token(What::Open, rest),
+        [b')', rest @ ..] => Front::Token(What::Close, rest),
+        [b':', b'=', rest @ ..] => Front::Token(What::Assign, rest),
+        [b':', rest @ ..] => Front::Token(What::Colon, rest),
+        [b'.', b'.', rest @ ..] => Front::Token(What::Range, rest),
+        [b'.', rest @ ..] => Front::Token(What::Dot, rest),
+        [b'&', b'N' | b'n', rest @ ..] => Front::Token(What::AmpersandNot, rest),
+        [b'&', rest @ ..] => Front::Token(What::Ampersand, rest),
+        [b'\n', rest @ ..] => Front::Token(What::LineEnd, rest),
+        [b'\r', b'\n', rest @ ..] => Front::Token(What::LineEnd, rest),
+        [byte, ..] => {
+            if *byte >= 0x80 {
+                Front::Fault(Cause::NotAscii)
+            } else {
+                Front::Fault(Cause::BadToken)
+            }
+        }
+    }
+}
+
+/// The token at the front, where no blank stands.
+#[tactic(auto, unfolding(crate::specs::Fronts::front_at))]
+pub fn front_at(bytes: &[u8]) -> Front<'_>
+    ensures exact { front_view result ≡ front_at bytes.now }
+    ensures within { IsShorter result (length bytes.now) }
+{
+    match bytes {
+        [] => Front::End,
+        [b'+', magnitude @ ..] => number_at(false, magnitude),
+        [b'-', magnitude @ ..] => number_at(true, magnitude),
+        [b'%', ..] => address_at(bytes),
+        [byte, ..] => {
+            if is_letter(*byte) {
+                word_at(bytes)
+            } else if is_digit(10, *byte) {
+                number_at(false, bytes)
+            } else {
+                mark_at(bytes)
+            }
+        }
+    }
+}

@@ -1,0 +1,51 @@
+//! The next token of a text.
+
+ghost use Rattle.std.specs.Prelude.{◌≡◌, ◌≤◌, length};
+ghost use Rattle.iltokens.specs.Tokens.{token_at, IsAhead, GoesOverBlanks, SpellsIt};
+
+use crate::blanks::blanks;
+use crate::front::{Front, front_at};
+use crate::lexed::{Cause, Lexed};
+
+/// The longest token after the blanks and comments at the byte `at` of `bytes`, or the end of the text, or the fault there:
+/// a byte of 80 hex or more, a byte that begins no token, a number or time outside its limit, or a comment without end, whose
+/// place is its `(*`.
+pub fn token(bytes: &[u8], at: usize) -> Lexed
+    requires { at ≤ length bytes.now }
+    ensures exact { result ≡ token_at bytes.now at }
+    // It stands at `at` or behind it, and a token has a byte.
+    ensures ahead { IsAhead result at (length bytes.now) }
+    // Between `at` and what is told stand blanks and comments alone.
+    ensures blanks { GoesOverBlanks bytes.now at result }
+    // The bytes of a token spell it.
+    ensures spelled { SpellsIt bytes.now result }
+{
+    next_token(bytes, at)
+}
+
+#[tactic(auto, unfolding(crate::specs::Tokens::token_at))]
+fn next_token(bytes: &[u8], at: usize) -> Lexed
+    requires { at ≤ length bytes.now }
+    ensures exact { result ≡ token_at bytes.now at }
+    ensures ahead { IsAhead result at (length bytes.now) }
+{
+    let (_, ahead) = bytes.split_at(at);
+    match blanks(ahead) {
+        Err(open) => Lexed::Fault {
+            cause: Cause::CommentOpen,
+            at: bytes.len() - open.len(),
+        },
+        Ok(rest) => {
+            let from = bytes.len() - rest.len();
+            match front_at(rest) {
+                Front::End => Lexed::End,
+                Front::Token(what, after) => Lexed::Token {
+                    what,
+                    from,
+                    to: bytes.len() - after.len(),
+                },
+                Front::Fault(cause) => Lexed::Fault { cause, at: from },
+            }
+        }
+    }
+}

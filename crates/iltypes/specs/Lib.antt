@@ -1,0 +1,3 @@
+pub mod Operators
+pub mod Ranges
+pub mod Values

@@ -1,0 +1,4 @@
+pub mod Certificates
+pub mod Entries
+pub mod Rules
+pub mod Verdicts

@@ -1,0 +1,79 @@
+-- The attempts at a transaction, and the reports of them (profile).
+use Rattle.std.specs.Prelude.{◌≡◌, ℕ, zero, suc, ◌+◌, ◌<◌, List, [], ◌∷◌, ◌++◌, length, All}
+use Rattle.daliframe.specs.declared.forward.Frame.{Frame}
+use Rattle.transact.specs.declared.marks.Mark.{Mark}
+use Rattle.transact.specs.declared.marks.Mark.TheVariants.{Quiet, Lost}
+use Rattle.transact.specs.declared.marks.Sent.{Sent}
+use Rattle.transact.specs.declared.marks.Outcome.{Outcome}
+use Rattle.transact.specs.FrameLists.{FrameList}
+use Rattle.transact.specs.Marks.{IsBroken, outcome_of}
+
+-- an attempt by the marks of its frames: those before the last, and the last
+pub record Attempt : Type 0 where
+  pub before : List Mark
+  pub last : Mark
+
+abbrev pub marks_of : Attempt → List Mark
+marks_of a = a.before ++ a.last ∷ []
+
+-- An attempt sends a front of count frames. No mark but the last is Lost or Failed, and where the front is not all frames the last is.
+pub record IsAttempt (count : ℕ) (a : Attempt) : Type 0 where
+  pub within : length a.before < count
+  pub unbroken : All (λ mark. IsBroken mark → ⊥) a.before
+  pub cut : length a.before + 1 < count → IsBroken a.last
+
+-- A report is of at most one attempt more than retries. Each attempt but the last ends by Lost; the last only where no retry is left.
+abbrev pub IsReport : ℕ → ℕ → List Attempt → Type 0
+IsReport retries count [] = ⊥
+IsReport retries count (a ∷ []) = IsAttempt count a × (a.last ≡ Lost → retries ≡ 0)
+IsReport zero count (a ∷ b ∷ more) = ⊥
+IsReport (suc retries) count (a ∷ b ∷ more) = IsAttempt count a × (a.last ≡ Lost) × IsReport retries count (b ∷ more)
+
+-- a transaction is tried three times at most
+abbrev pub most_retries : ℕ
+most_retries = 2
+
+-- the marks of all attempts, in order
+abbrev pub all_marks : List Attempt → List Mark
+all_marks [] = []
+all_marks (a ∷ more) = marks_of a ++ all_marks more
+
+-- the frames of a front with these marks: the first has its own priority, each later one 1
+abbrev pub sent_with : List Frame → ℕ → List Mark → List Sent
+sent_with [] first marks = []
+sent_with (f ∷ frames) first [] = []
+sent_with (f ∷ frames) first (m ∷ marks) = record { frame = f; priority = first; mark = m } ∷ sent_with frames 1 marks
+
+-- each attempt sends the whole transaction anew
+abbrev pub all_sent : FrameList → List Attempt → List Sent
+all_sent list [] = []
+all_sent list (a ∷ more) = sent_with list.frames list.first (marks_of a) ++ all_sent list more
+
+abbrev pub last_mark : List Attempt → Mark
+last_mark [] = Quiet
+last_mark (a ∷ []) = a.last
+last_mark (a ∷ b ∷ more) = last_mark (b ∷ more)
+
+-- what a report says
+pub record ReportParts : Type 0 where
+  pub transaction : FrameList
+  pub attempts : List Sent
+  pub outcome : Outcome
+
+-- these marks spell this report of the transaction, by these attempts
+pub record Spells (list : FrameList) (marks : List Mark) (r : ReportParts) : Type 0 where
+  pub attempts : List Attempt
+  pub legal : IsReport most_retries (length list.frames) attempts
+  pub spelled : marks ≡ all_marks attempts
+  pub transaction : r.transaction ≡ list
+  pub sent : r.attempts ≡ all_sent list attempts
+  pub outcome : r.outcome ≡ outcome_of (last_mark attempts)
+
+-- some marks spell the report
+abbrev pub IsReportParts : ReportParts → Type 0
+IsReportParts r = (marks : List Mark) × Spells r.transaction marks r
+
+-- no report of the transaction is spelled by these marks
+abbrev pub SpellsNone : FrameList → List Mark → Type 0
+SpellsNone list marks =
+    (attempts : List Attempt) → IsReport most_retries (length list.frames) attempts → marks ≡ all_marks attempts → ⊥

@@ -1,0 +1,4 @@
+pub mod FrameLists
+pub mod Marks
+pub mod Attempts
+pub mod Readings

@@ -1,0 +1,94 @@
+//! What became of a frame, and of a transaction.
+ghost use Rattle.std.specs.Prelude.{◌≡◌, ◌↔◌, IsTrue};
+ghost use Rattle.transact.specs.Marks.{IsBroken, outcome_of, mark_of};
+
+use daliframe::Frame;
+
+/// What the bus answered to a frame.
+#[derive(Clone, Copy, Debug, PartialEq, Eq)]
+pub enum Reply {
+    /// No backward frame: to a query, NO.
+    Quiet,
+    /// A backward frame of this byte.
+    Answer(u8),
+    /// Something that is no backward frame, as where two gear answer at once.
+    Damaged,
+    /// The frame was lost to a collision.
+    Lost,
+}
+
+/// What became of a frame that was sent.
+#[derive(Clone, Copy, Debug, Default, PartialEq, Eq)]
+pub enum Mark {
+    /// No backward frame came.
+    #[default]
+    Quiet,
+    /// A backward frame of this byte came.
+    Answer(u8),
+    /// Something came that is no backward frame.
+    Damaged,
+    /// The frame was lost to a collision.
+    Lost,
+    /// The bus interface failed.
+    Failed,
+}
+
+impl Mark {
+    /// Whether the frame was lost or failed, which ends its attempt.
+    pub fn is_broken(self) -> bool
+        ensures { IsTrue result ↔ IsBroken self }
+    {
+        match self {
+            Mark::Lost | Mark::Failed => true,
+            Mark::Quiet | Mark::Answer(_) | Mark::Damaged => false,
+        }
+    }
+}
+
+impl From<Reply> for Mark {
+    ghost from_gives = { λ reply mark. mark ≡ mark_of reply };
+
+    fn from(reply: Reply) -> Mark {
+        match reply {
+            Reply::Quiet => Mark::Quiet,
+            Reply::Answer(byte) => Mark::Answer(byte),
+            Reply::Damaged => Mark::Damaged,
+            Reply::Lost => Mark::Lost,
+        }
+    }
+}
+
+/// A frame as it was sent.
+#[derive(Clone, Copy, Debug, Default, PartialEq, Eq)]
+pub struct Sent {
+    pub frame: Frame,
+    /// 1 to 5, 1 first.
+    pub priority: u8,
+    pub mark: Mark,
+}
+
+/// How a transaction ended.
+#[derive(Clone, Copy, Debug, PartialEq, Eq)]
+pub enum Outcome {
+    /// All frames were sent; the reply is that to the last.
+    Done(Reply),
+    /// A frame was lost in each of three attempts.
+    GaveUp,
+    /// The bus interface failed.
+    Failed,
+}
+
+impl Outcome {
+    /// The outcome of a transaction whose last frame got this mark.
+    pub(crate) fn of(last: Mark) -> Self
+        ensures { result ≡ outcome_of last }
+    {
+        match last {
+            Mark::Quiet => Outcome::Done(Reply::Quiet),
+            Mark::Answer(byte) => Outcome::Done(Reply::Answer(byte)),
+            Mark::Damaged => Outcome::Done(Reply::Damaged),
+            Mark::Lost => Outcome::GaveUp,
+            Mark::Failed => Outcome::Failed,
+        }
+    }
+}

@@ -1,0 +1,132 @@
+//! Reports: what became of a transaction, attempt by attempt.
+ghost use Rattle.std.specs.Prelude.{◌≡◌, ◌+◌, ◌*◌, ◌<◌, ◌≤◌, ◌++◌, ◌↔◌, IsTrue, length, MatchOption};
+ghost use Rattle.arrayvec.specs.ArrayVec.{array_vec_len};
+ghost use Rattle.transact.specs.Attempts.{sent_with, Spells, SpellsNone, IsReportParts};
+ghost use Rattle.transact.specs.Readings.{EndsAt, HasNoAttempt, IsRead, ReadsNone};
+
+use crate::{Mark, Outcome, Sent, Transaction};
+use arrayvec::ArrayVec;
+use daliframe::Frame;
+use std::marker::Model;
+
+/// A transaction is tried again at most so often.
+const MOST_RETRIES: u8 = 2;
+
+/// What became of a transaction: its attempts, one after another, and how it ended.
+#[derive(Debug, Drop)]
+pub struct Report {
+    transaction: Transaction,
+    attempts: ArrayVec<Sent, 9>,
+    outcome: Outcome,
+}
+
+impl Model for Report {
+    ghost use Rattle.transact.specs.Attempts.{ReportParts, IsReportParts};
+
+    ghost Value = { ReportParts };
+
+    ghost view = { λ r. record { transaction = r.transaction; attempts = r.attempts.items; outcome = r.outcome } };
+
+    ghost invariant = { λ r. IsReportParts (record { transaction = r.transaction; attempts = r.attempts.items; outcome = r.outcome }) };
+}
+
+impl Report {
+    /// The report of a transaction whose frames got these marks, in order, where the marks spell one.
+    pub fn of(transaction: &Transaction, marks: &[Mark]) -> Option<Self>
+        ensures { MatchOption result (SpellsNone transaction.now marks.now) (λ r. Spells transaction.now marks.now r) }
+    {
+        let mut attempts = ArrayVec::new();
+        let last = read_attempts(transaction, MOST_RETRIES, marks, &mut attempts)?;
+        Some(Report {
+            transaction: transaction.copied(),
+            attempts,
+            outcome: Outcome::of(last),
+        })
+    }
+
+    /// The transaction.
+    pub fn transaction(&self) -> &Transaction
+        ensures value { result.now ≡ self.now.transaction }
+        ensures legal { IsReportParts self.now }
+    {
+        &self.transaction
+    }
+
+    /// The frames of all attempts, as they were sent.
+    pub fn attempts(&self) -> &[Sent]
+        ensures value { result.now ≡ self.now.attempts }
+        ensures legal { IsReportParts self.now }
+    {
+        self.attempts.as_slice()
+    }
+
+    /// How the transaction ended.
+    pub fn outcome(&self) -> Outcome
+        ensures value { result ≡ self.now.outcome }
+        ensures legal { IsReportParts self.now }
+    {
+        self.outcome
+    }
+}
+
+/// Reads the marks as attempts, which go behind those of `sent`, and gives the last mark.
+fn read_attempts(
+    transaction: &Transaction,
+    retries: u8,
+    marks: &[Mark],
+    sent: &mut ArrayVec<Sent, 9>,
+) -> Option<Mark>
+    requires { array_vec_len sent.old + 3 * retries + 3 ≤ 9 }
+    ensures { MatchOption result (ReadsNone transaction.now retries marks.now) (λ last. IsRead transaction.now retries marks.now sent.old.items sent.new.items last) }
+{
+    let frames = transaction.frames();
+    let end = attempt_end(frames.len(), marks)?;
+    let (attempt, rest) = marks.split_at(end + 1);
+    push_attempt(frames, transaction.first(), attempt, sent);
+    if is_retried(marks[end], retries) {
+        return read_attempts(transaction, retries - 1, rest, sent);
+    }
+    if rest.is_empty() {
+        Some(marks[end])
+    } else {
+        None
+    }
+}
+
+/// Whether another attempt follows one with this last mark.
+fn is_retried(last: Mark, retries: u8) -> bool
+    ensures { IsTrue result ↔ ((last ≡ Mark.Lost) × (0 < retries)) }
+{
+    last == Mark::Lost && retries > 0
+}
+
+/// Where the attempt at `count` frames ends with which the marks begin.
+fn attempt_end(count: usize, marks: &[Mark]) -> Option<usize>
+    requires { 0 < count }
+    ensures { MatchOption result (HasNoAttempt count marks.now) (λ end. EndsAt count marks.now end) }
+{
+    for (i, mark) in marks.iter().enumerate() {
+        if mark.is_broken() || i + 1 == count {
+            return Some(i);
+        }
+    }
+    None
+}
+
+/// Appends the front of `frames` that has these marks.
+fn push_attempt(frames: &[Frame], first: u8, marks: &[Mark], sent: &mut ArrayVec<Sent, 9>)
+    requires front { length marks.now ≤ length frames.now }
+    requires room { array_vec_len sent.old + length marks.now ≤ 9 }
+    ensures { sent.new.items ≡ sent.old.items ++ sent_with frames.now first marks.now }
+{
+    let mut priority = first;
+    for (i, mark) in marks.iter().enumerate() {
+        let frame = frames[i];
+        sent.push(Sent {
+            frame,
+            priority,
+            mark: *mark,
+        });
+        priority = 1;
+    }
+}

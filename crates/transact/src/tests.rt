@@ -1,0 +1,98 @@
+//! Worked transactions, and reports of them.
+use crate::{Mark, Outcome, Reply, Report, TaskKind, Transaction};
+use daliframe::{Address, InstanceNumber, ShortAddress};
+use gearcmd::{GearSetCommand, Request, SchemeNumber};
+use std::alloc::{AllocError, Global};
+use std::test::Fail;
+
+/// The frames with their priorities, each followed by a blank.
+fn frames(alloc: Global, transaction: &Transaction) -> Result<String, AllocError> {
+    let mut text = String::new(alloc);
+    for (place, frame) in transaction.frames().iter().enumerate() {
+        let priority = transaction.priority(place);
+        let part = format!(in alloc; "{frame}/{priority} ")?;
+        text.push_str(part.as_str())?;
+    }
+    Ok(text)
+}
+
+/// The frames of all attempts with their priorities, each followed by a blank.
+fn sent(alloc: Global, report: &Report) -> Result<String, AllocError> {
+    let mut text = String::new(alloc);
+    for one in report.attempts() {
+        let frame = &one.frame;
+        let priority = one.priority;
+        let part = format!(in alloc; "{frame}/{priority} ")?;
+        text.push_str(part.as_str())?;
+    }
+    Ok(text)
+}
+
+/// SET SCENE 2 of short address 5, to level 100.
+fn scene() -> Option<Request> {
+    Some(Request::GearSet {
+        address: Address::from_number(5)?,
+        command: GearSetCommand::new(9)?,
+        value: 100,
+    })
+}
+
+fn memory_byte() -> Option<Request> {
+    Some(Request::GearRead {
+        address: ShortAddress::new(63)?,
+        bank: 0,
+        offset: 3,
+    })
+}
+
+fn event_scheme() -> Option<Request> {
+    Some(Request::DevScheme {
+        address: ShortAddress::new(5)?,
+        instance: InstanceNumber::new(2)?,
+        scheme: SchemeNumber::new(2)?,
+    })
+}
+
+#[test]
+fn worked_transactions(rt: HostRuntime) -> Result<(), Fail> {
+    for (request, text) in [
+        (scene(), "A364/3 0B42/1 0B42/1 "),
+        (memory_byte(), "C300/5 A303/1 7FC5/1 "),
+        (event_scheme(), "C13002/3 0B0267/1 0B0267/1 "),
+    ] {
+        let request = request.ok_or("a request")?;
+        let transaction = Transaction::of(&request, TaskKind::Event);
+        let printed = frames(rt.alloc(), &transaction)?;
+        assert_eq!(rt; printed.as_str(), text);
+    }
+    Ok(())
+}
+
+#[test]
+fn reports(rt: HostRuntime) -> Result<(), Fail> {
+    let transaction = Transaction::of(&scene().ok_or("a request")?, TaskKind::Cyclic);
+    let lost_once = [
+        Mark::Quiet,
+        Mark::Quiet,
+        Mark::Lost,
+        Mark::Quiet,
+        Mark::Quiet,
+        Mark::Quiet,
+    ];
+    let report = Report::of(&transaction, &lost_once).ok_or("lost once")?;
+    let text = sent(rt.alloc(), &report)?;
+    assert_eq!(rt; text.as_str(), "A364/3 0B42/1 0B42/1 A364/3 0B42/1 0B42/1 ");
+    assert!(rt; report.outcome() == Outcome::Done(Reply::Quiet));
+    assert_eq!(rt; report.transaction().first(), 3);
+    let report = Report::of(&transaction, &[Mark::Lost; 3]).ok_or("lost three times")?;
+    let text = sent(rt.alloc(), &report)?;
+    assert_eq!(rt; text.as_str(), "A364/3 A364/3 A364/3 ");
+    assert!(rt; report.outcome() == Outcome::GaveUp);
+    let failed = [Mark::Quiet, Mark::Failed];
+    let report = Report::of(&transaction, &failed).ok_or("failed")?;
+    assert!(rt; report.outcome() == Outcome::Failed);
+    assert!(rt; Report::of(&transaction, &[Mark::Lost; 4]).is_none());
+    assert!(rt; Report::of(&transaction, &lost_once[..3]).is_none());
+    assert!(rt; Mark::from(Reply::Answer(7)) == Mark::Answer(7));
+    Ok(())
+}
