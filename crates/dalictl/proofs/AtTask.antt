@@ -13,7 +13,7 @@ use Rattle.ilsyms.specs.declared.planned.Slot.{Slot}
 use Rattle.ilsyms.specs.Plans.{Planned, PlannedTask}
 use Rattle.ilverify.specs.Verdicts.{Accepted}
 use Rattle.dalictl.specs.Layout.{laid_out}
-use Rattle.dalictl.specs.Stepping.{AreCodes, BeginInTypes, accepted_of}
+use Rattle.dalictl.specs.Stepping.{AreCodes, BeginInTypes, accepted_of, initials_of}
 
 -- the code at a task's number is what is laid out for the task
 pub code_at : (plan : Planned) (codes : List (Arc Accepted Global)) (number : ℕ) (code : Arc Accepted Global) (t : PlannedTask)
@@ -34,25 +34,23 @@ code_at plan codes number code t are below is task =
     let both : Some (arc_value code).code ≡ Some (laid_out plan.buses t) = sym mine ∙ same ∙ its in
     cc
 
--- the slots of a task are those of this list
-with_slots : (o : Option PlannedTask) (slots : List Slot) → option_map (λ (t : PlannedTask). t.slots) o ≡ Some slots → (t : PlannedTask) × (o ≡ Some t) × (t.slots ≡ slots)
-with_slots None slots e = absurd (cc)
-with_slots (Some t) slots e = let same : t.slots ≡ slots = cc in (t, refl, same)
-
--- the initial values of a task's slots are in the types of its code's slots
-pub initials_fit : (plan : Planned) (codes : List (Arc Accepted Global)) (number : ℕ) (code : Arc Accepted Global) (slots : List Slot)
+-- the initial values of a task's variables are in the types of its code's slots
+pub initials_fit : (plan : Planned) (codes : List (Arc Accepted Global)) (number : ℕ) (code : Arc Accepted Global) (t : PlannedTask)
     → AreCodes plan plan.tasks (accepted_of codes)
     → BeginInTypes plan.tasks
     → number < length codes
     → code ≡ get_or codes number code
-    → option_map (λ (t : PlannedTask). t.slots) (slice_get plan.tasks number) ≡ Some slots
-    → AreOf (map (λ (s : Slot). s.initial) slots) (arc_value code).code.slots
-initials_fit plan codes number code slots are begin below is of_task =
-    let task = with_slots (slice_get plan.tasks number) slots of_task in
-    let fit = begin number task.0 task.1 in
-    let laid : (arc_value code).code.slots ≡ (laid_out plan.buses task.0).slots = ap (λ (l : Listing). l.slots) (code_at plan codes number code task.0 are below is task.1) in
-    subst (λ (ts : List IlType). AreOf (map (λ (s : Slot). s.initial) slots) ts) (sym laid)
-    (subst (λ (ss : List Slot). AreOf (map (λ (s : Slot). s.initial) ss) (map (λ (s : Slot). s.value_type) task.0.slots)) task.2 fit)
+    → slice_get plan.tasks number ≡ Some t
+    → AreOf (initials_of t) (arc_value code).code.slots
+initials_fit plan codes number code t are begin below is task =
+    let laid : (arc_value code).code.slots ≡ (laid_out plan.buses t).slots = ap (λ (l : Listing). l.slots) (code_at plan codes number code t are below is task) in
+    subst (λ (ts : List IlType). AreOf (initials_of t) ts) (sym laid) (begin number t task)
+
+-- the code at a place
+pub coded_at : (codes : List (Arc Accepted Global)) (number : ℕ) (code : Arc Accepted Global) → number < length codes → code ≡ get_or codes number code → slice_get (accepted_of codes) number ≡ Some (arc_value code)
+coded_at codes number code below is =
+    slice_get-map (λ (c : Arc Accepted Global). arc_value c) codes number
+    ∙ ap (option_map (λ (c : Arc Accepted Global). arc_value c)) (slice_get-get_or codes number code below ∙ ap (λ (c : Arc Accepted Global). Some c) (sym is))
 
 -- there are as many codes as tasks
 pub as_many : (plan : Planned) (codes : List (Arc Accepted Global)) → AreCodes plan plan.tasks (accepted_of codes) → length codes ≡ length plan.tasks

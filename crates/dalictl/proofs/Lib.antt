@@ -4,6 +4,8 @@ mod Initials
 mod Lawful
 mod Laying
 mod Meaning
+mod Outcome
 mod Stepped
 mod Theorem
+mod Told
 mod Words

@@ -1,3 +1,5 @@
+pub mod Answered
 pub mod Layout
 pub mod Meant
 pub mod Stepping
+pub mod Stops

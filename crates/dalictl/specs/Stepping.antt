@@ -3,7 +3,8 @@ use Rattle.std.specs.Prelude.{◌≡◌, ℕ, zero, suc, Some, slice_get, List, 
 use Rattle.std.specs.Arc.{arc_value}
 use Rattle.std.specs.declared.sync.Arc.{Arc}
 use Rattle.std.specs.declared.alloc.Global.{Global}
-use Rattle.ilsyms.specs.Plans.{Planned, PlannedTask}
+use Rattle.ilsyms.specs.Plans.{Planned, PlannedTask, KeepsLimits}
+use Rattle.ilcode.specs.Paths.{IsBound}
 use Rattle.dalictl.specs.Layout.{laid_out}
 use Rattle.iltypes.specs.declared.value.Value.{Value}
 use Rattle.iltypes.specs.Values.{AreOf}
@@ -32,3 +33,14 @@ initials_of task = map (λ s. s.initial) task.slots
 -- the variables of each task begin in their types
 abbrev pub BeginInTypes : List PlannedTask → Type 0
 BeginInTypes tasks = (k : ℕ) (t : PlannedTask) → slice_get tasks k ≡ Some t → AreOf (initials_of t) (types_of t)
+
+-- scans of one of the plan's tasks by its code, from the initial values of its variables
+pub record IsRunOf (plan : Planned) (codes : List Accepted) (number scans bound : ℕ) (steps : List ℕ) (values : List Value) : Type 0 where
+  pub task : PlannedTask
+  pub is : slice_get plan.tasks number ≡ Some task
+  pub limits : KeepsLimits task
+  pub code : Accepted
+  pub coded : slice_get codes number ≡ Some code
+  pub run : ScansTo code scans (initials_of task) steps values
+  pub bound_is : code.bound ≡ bound
+  pub greatest : IsBound code.code.instructions bound

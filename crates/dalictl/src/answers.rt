@@ -1,13 +1,16 @@
 //! What a text is answered: its verified codes, and the variables after scans of a task.
 
-ghost use Rattle.std.specs.Prelude.{◌≡◌, ◌<◌, length, map, slice_get, vec_len, IfOk, IfSome};
+ghost use Rattle.std.specs.Prelude.{◌≡◌, ◌<◌, length, map, slice_get, IfErr, IfOk, IfSome, MatchOption, OnOk};
 ghost use Rattle.std.specs.Arc.{arc_value};
 ghost use Rattle.dalictl.specs.Layout.{laid_out};
-ghost use Rattle.dalictl.specs.Stepping.{AreCodes, BeginInTypes, ScansTo, accepted_of, initials_of};
+ghost use Rattle.ilverify.specs.Certificates.{IsCertified};
+ghost use Rattle.dalictl.specs.Answered.{AreCertified, IsCodeStop, IsFirstCalled, IsPlanOfText, IsPlanStop, IsStepStop, IsStepped, IsTaskStop, NoneIsCalled};
+ghost use Rattle.dalictl.specs.Stepping.{AreCodes, BeginInTypes, IsRunOf, accepted_of};
 
 use crate::compile::compile;
 use crate::scans;
 use crate::scans::Scans;
+use crate::setup::{Setup, Stepped};
 use crate::stop::Stop;
 use ilsyms::{Binding, Plan, Slot, resolve};
 use iltext::parse;
@@ -16,50 +19,32 @@ use ilverify::{Verified, VerifyError, verify};
 use std::alloc::{AllocError, Global};
 use std::sync::Arc;
 
-/// A text's plan with the verified code of each of its tasks.
-#[derive(Drop)]
-pub struct Setup {
-    pub plan: Plan,
-    /// One for each task.
-    pub codes: Vec<Arc<Verified>>,
-    ghost one_each: { vec_len codes ≡ length plan.tasks },
-}
-
-/// Scans of one task.
-#[derive(Drop)]
-pub struct Stepped {
-    pub plan: Plan,
-    /// The task's number.
-    pub task: usize,
-    /// No scan takes more steps.
-    pub bound: u32,
-    pub scans: Scans,
-    ghost of_plan: { task < length plan.tasks },
-}
-
 /// The plan of a text with its verified codes, or the first of what stands against it.
-pub fn check(alloc: Global, binding: Option<&[u8]>, text: &[u8]) -> Result<Setup, Stop> {
+pub fn check(alloc: Global, binding: &Binding, text: &[u8]) -> Result<Setup, Stop> {
     let plan = plan_of(alloc, binding, text)?;
     let codes = verified(alloc, &plan)?;
     Ok(Setup { plan, codes })
 }
 
-/// The variables of a task after this many scans, the first from their initial values.
+/// The variables of a task after this many scans, the first from their initial values; or the text's first fault, else the least
+/// fault of its names, else that no task has the name, else the first task's refusal.
 pub fn step(
     alloc: Global,
-    binding: Option<&[u8]>,
+    binding: &Binding,
     text: &[u8],
     task: &str,
     scans: u32,
     every: u32,
-) -> Result<Stepped, Stop> {
+) -> Result<Stepped, Stop>
+    ensures made { IfOk result (IsStepped binding.now.buses text.now task.now scans) }
+    ensures stop { IfErr result (IsStepStop binding.now.buses text.now task.now) }
+{
     let plan = plan_of(alloc, binding, text)?;
     let Some(number) = task_number(&plan, task) else {
         return Err(Stop::NoTask(String::from_str(alloc, task)?));
     };
     let codes = verified(alloc, &plan)?;
-    let scans = run(alloc, &plan, &codes, number, scans, every)?;
-    let bound = codes[number].bound();
+    let (bound, scans) = run(alloc, &plan, &codes, number, scans, every)?;
     Ok(Stepped {
         plan,
         task: number,
@@ -68,7 +53,7 @@ pub fn step(
     })
 }
 
-/// Scans of a task by its code, the first from the initial values of its variables.
+/// Scans of a task by its code, the first from the initial values of its variables, with the code's bound.
 fn run(
     alloc: Global,
     plan: &Plan,
@@ -76,27 +61,27 @@ fn run(
     task: usize,
     scans: u32,
     every: u32,
-) -> Result<Scans, AllocError>
+) -> Result<(u32, Scans), AllocError>
     requires of_plan { task < length plan.now.tasks }
     requires coded { AreCodes plan.now plan.now.tasks (accepted_of codes.now) }
     requires in_types { BeginInTypes plan.now.tasks }
-    ensures { IfOk result (λ made. IfSome (slice_get plan.now.tasks task) (λ t. IfSome (slice_get (accepted_of codes.now) task) (λ code. ScansTo code scans (initials_of t) made.steps.items made.values.items))) }
+    ensures { IfOk result (λ made. IsRunOf plan.now (accepted_of codes.now) task scans made.0 made.1.steps.items made.1.values.items) }
 {
-    let initial = initial_values(alloc, plan.slots(task))?;
+    let of_task = plan.task(task);
+    let initial = initial_values(alloc, of_task.slots())?;
     let code = &codes[task];
-    scans::make(alloc, code, &initial, scans, every)
+    let bound = code.bound();
+    let made = scans::make(alloc, code, &initial, scans, every)?;
+    Ok((bound, made))
 }
 
-/// The plan of a text, or its first fault: of the binding, of the text, of its names.
-fn plan_of(alloc: Global, binding: Option<&[u8]>, text: &[u8]) -> Result<Plan, Stop>
-    ensures { IfOk result (λ plan. BeginInTypes plan.tasks) }
+/// The plan of a text, or the text's first fault, else the least fault of its names.
+fn plan_of(alloc: Global, binding: &Binding, text: &[u8]) -> Result<Plan, Stop>
+    ensures plan { IfOk result (IsPlanOfText binding.now.buses text.now) }
+    ensures stop { IfErr result (IsPlanStop text.now) }
 {
-    let binding = match binding {
-        None => Binding::one_bus(),
-        Some(bytes) => Binding::parse(alloc, bytes)?,
-    };
     let source = parse(alloc, text)?;
-    let plan = resolve(alloc, &source, &binding)?;
+    let plan = resolve(alloc, &source, binding)?;
     Ok(plan)
 }
 
@@ -109,7 +94,7 @@ fn initial_values(alloc: Global, slots: &[Slot]) -> Result<Vec<Value>, AllocErro
 
 /// The number of the task of this name, without regard to letter case.
 fn task_number(plan: &Plan, name: &str) -> Option<usize>
-    ensures { IfSome result (λ task. task < length plan.now.tasks) }
+    ensures { MatchOption result (NoneIsCalled plan.now name.now) (IsFirstCalled plan.now name.now) }
 {
     for task in 0..plan.tasks() {
         if plan.task_name(task).eq_ignore_ascii_case(name) {
@@ -121,11 +106,16 @@ fn task_number(plan: &Plan, name: &str) -> Option<usize>
 
 /// The verified code of each task, or the first refusal.
 fn verified(alloc: Global, plan: &Plan) -> Result<Vec<Arc<Verified>>, Stop>
-    ensures { IfOk result (λ codes. AreCodes plan.now plan.now.tasks (accepted_of codes.items)) }
+    ensures codes { IfOk result (λ codes. AreCodes plan.now plan.now.tasks (accepted_of codes.items)) }
+    ensures certified { OnOk result (AreCertified plan.now (length plan.now.tasks)) }
+    ensures stop { IfErr result (IsCodeStop plan.now) }
 {
     let mut codes = Vec::new(alloc);
     for task in 0..plan.tasks() {
-        codes.push(verified_task(alloc, plan, task)?)?;
+        match verified_task(alloc, plan, task) {
+            Ok(code) => codes.push(code)?,
+            Err(stop) => return Err(stop),
+        }
     }
     Ok(codes)
 }
@@ -133,7 +123,9 @@ fn verified(alloc: Global, plan: &Plan) -> Result<Vec<Arc<Verified>>, Stop>
 /// The verified code of a task, or its refusal.
 fn verified_task(alloc: Global, plan: &Plan, task: usize) -> Result<Arc<Verified>, Stop>
     requires { task < length plan.now.tasks }
-    ensures { IfOk result (λ code. IfSome (slice_get plan.now.tasks task) (λ t. (arc_value code).code ≡ laid_out plan.now.buses t)) }
+    ensures code { IfOk result (λ code. IfSome (slice_get plan.now.tasks task) (λ t. (arc_value code).code ≡ laid_out plan.now.buses t)) }
+    ensures certified { OnOk result (IfSome (slice_get plan.now.tasks task) (λ t. IsCertified (laid_out plan.now.buses t))) }
+    ensures stop { IfErr result (λ stop. IfSome (slice_get plan.now.tasks task) (λ t. IsTaskStop plan.now t stop)) }
 {
     let code = compile(alloc, plan, task)?;
     match verify(alloc, code) {

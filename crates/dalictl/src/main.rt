@@ -11,6 +11,7 @@ mod files;
 mod options;
 mod report;
 mod scans;
+mod setup;
 mod stop;
 
 use crate::files::Unread;

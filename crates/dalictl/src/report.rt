@@ -1,9 +1,11 @@
 //! What is printed.
 
-use crate::answers::{Setup, Stepped, check, step};
+use crate::answers::{check, step};
 use crate::options::Request;
+use crate::setup::{Setup, Stepped};
 use crate::stop::Stop;
 use crate::{FAILED, REFUSED};
+use ilsyms::Binding;
 use std::io;
 use std::io::{BufWriter, Write};
 
@@ -14,8 +16,15 @@ pub fn answer<R: Print + AllocGlobal>(
     binding: Option<&[u8]>,
     text: &[u8],
 ) -> io::Result<u8> {
+    let binding = match binding {
+        None => Binding::one_bus(),
+        Some(bytes) => match Binding::parse(rt.alloc(), bytes) {
+            Ok(binding) => binding,
+            Err(fault) => return stopped(rt, &Stop::from(fault)),
+        },
+    };
     match request {
-        Request::Check { .. } => match check(rt.alloc(), binding, text) {
+        Request::Check { .. } => match check(rt.alloc(), &binding, text) {
             Ok(setup) => checked(rt, &setup),
             Err(stop) => stopped(rt, &stop),
         },
@@ -24,7 +33,7 @@ pub fn answer<R: Print + AllocGlobal>(
             scans,
             every,
             ..
-        } => match step(rt.alloc(), binding, text, task, scans, every) {
+        } => match step(rt.alloc(), &binding, text, task, scans, every) {
             Ok(made) => stepped(rt, &made),
             Err(stop) => stopped(rt, &stop),
         },

@@ -48,6 +48,11 @@ impl<T: Drop> From<AllocFailed<T>> for Stop {
 }
 
 impl From<TextFault> for Stop {
+    ghost use Rattle.std.specs.Prelude.{◌≡◌};
+    ghost use Rattle.dalictl.specs.Stops.{of_text};
+
+    ghost from_gives = { λ fault stop. stop ≡ of_text fault };
+
     fn from(fault: TextFault) -> Stop {
         match fault {
             TextFault::Memory => Stop::Memory,
@@ -57,6 +62,11 @@ impl From<TextFault> for Stop {
 }
 
 impl From<NameFault> for Stop {
+    ghost use Rattle.std.specs.Prelude.{◌≡◌};
+    ghost use Rattle.dalictl.specs.Stops.{of_name};
+
+    ghost from_gives = { λ fault stop. stop ≡ of_name fault };
+
     fn from(fault: NameFault) -> Stop {
         match fault {
             NameFault::Memory => Stop::Memory,

@@ -1,5 +1,5 @@
 -- What holds where no fault was found.
-use Rattle.std.proofs.Common.{◌≡◌, ℕ, zero, suc, ◌+◌, ◌<◌, ◌≤◌, List, [], ◌∷◌, ◌++◌, map, length, get_or, Bool, true, false, refl, ap, sym, ◌∙◌, arith, subst}
+use Rattle.std.proofs.Common.{◌≡◌, ℕ, zero, suc, ◌≤◌, List, [], ◌∷◌, map, length, Bool, true, false, refl, arith, subst}
 use Rattle.std.specs.Prelude.{Option, Some, None, All, IsSome, slice_get, is_some, if◌then◌else◌}
 use Rattle.iltypes.specs.declared.value.Value.{Value}
 use Rattle.ilsource.specs.declared.name.Name.{Name}
@@ -8,7 +8,7 @@ use Rattle.ilsource.specs.Names.{text_of}
 use Rattle.ilsource.specs.Trees.{Variables, Written, Tree}
 use Rattle.ilsyms.specs.Counting.{counting}
 use Rattle.ilsyms.specs.Declarations.{initial_value, slots_of, lines_of, name_in}
-use Rattle.ilsyms.specs.Gathering.{Gathered, gathered, number_in, with_name, with_names, with_initial, with_declaration, with_declarations, with_use, with_line, with_lines, Scoping, with_program, with_programs, scoping, scoping_of, lesser, found, with_excess, table_of, lowered}
+use Rattle.ilsyms.specs.Gathering.{Gathered, gathered, number_in, with_name, with_names, with_initial, with_declaration, with_declarations, with_use, with_line, with_lines, Scoping, with_program, with_programs, scoping, scoping_of, lesser, with_excess, table_of, lowered}
 use Rattle.ilsyms.specs.Planning.{IsKnownName, AreKnown}
 use Rattle.ilsyms.specs.Resolving.{least_fault}
 use Rattle.ilsyms.specs.declared.found.Found.{Found}

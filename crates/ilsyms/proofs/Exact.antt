@@ -3,16 +3,15 @@ use Rattle.std.proofs.Common.{◌≡◌, ℕ, suc, List, [], ◌∷◌, ◌++◌
 use Rattle.std.specs.Prelude.{Option, Some, None, IsSomeAnd, fold, flat_map, option_map, is_some, bytes_eq, if◌then◌else◌}
 use Rattle.std.proofs.lemmas.Slice.Eq.{bytes_eq-Decides}
 use Rattle.ilsource.specs.declared.name.Name.{Name}
-use Rattle.ilsource.specs.declared.instruction.Line.{Line}
-use Rattle.ilsource.specs.Names.{folded, text_of, SameName}
+use Rattle.ilsource.specs.Names.{text_of, SameName}
 use Rattle.ilsource.specs.Trees.{Variables, Written, Tree}
 use Rattle.ilsyms.specs.Declarations.{name_in, variables_of}
-use Rattle.ilsyms.specs.Faults.{SomeOf, SomeLater, IsTwiceIn, IsTwice, IsUnknownIn, IsUnknown, IsBadIn, IsBad, IsFault, IsFaultOfNames}
-use Rattle.ilsyms.specs.Gathering.{first_at, number_in, table_of, lowered, gathered, with_declarations, with_declaration, with_names, with_name}
+use Rattle.ilsyms.specs.Faults.{SomeOf, SomeLater, IsTwiceIn, IsUnknownIn, IsBadIn, IsFaultOfNames}
+use Rattle.ilsyms.specs.Gathering.{number_in, table_of, lowered, gathered, with_declarations, with_declaration}
 use Rattle.ilsyms.specs.declared.fault.NameCause.{NameCause}
 use Rattle.ilsyms.specs.declared.fault.NameCause.TheVariants.{Unknown, Twice, BadDeclaration, TooMany}
 use Rattle.ilsyms.specs.declared.found.Found.{Found}
-use Rattle.ilsyms.proofs.Gathered.{after, after_all, IsAgain, AreDeclared, IsMissing, AreFaults, or_else, names_after, name_is}
+use Rattle.ilsyms.proofs.Gathered.{after, after_all, IsAgain, AreDeclared, AreFaults, or_else, names_after}
 use Rattle.ilsyms.proofs.Scans.{key_is}
 
 some_of : {X : Type 0} {P Q : X → Type 0} → ((x : X) → P x → Q x) → (xs : List X) → SomeOf P xs → SomeOf Q xs

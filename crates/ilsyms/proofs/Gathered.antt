@@ -1,16 +1,16 @@
 -- The least fault that is gathered is the least of all that stand in the source program.
-use Rattle.std.proofs.Common.{◌≡◌, ℕ, ◌<◌, ◌≤◌, List, [], ◌∷◌, ◌++◌, map, Bool, true, false, ◌||◌, ◌&&◌, ◌≢◌, refl, ap, sym, ◌∙◌, arith, subst, ◌⊎◌, inl, inr}
+use Rattle.std.proofs.Common.{◌≡◌, ℕ, ◌<◌, ◌≤◌, List, [], ◌∷◌, ◌++◌, Bool, true, false, ◌||◌, ◌&&◌, ◌≢◌, refl, ap, sym, ◌∙◌, arith, subst, ◌⊎◌, inl, inr}
 use Rattle.std.specs.Prelude.{Option, Some, None, IsSomeAnd, nat_lt, ◌==◌, fold, is_some, slice_get, if◌then◌else◌}
 use Rattle.std.proofs.lemmas.Grind.{common_steps}
 use Rattle.iltypes.specs.declared.value.Value.{Value}
 use Rattle.ilsource.specs.declared.name.Name.{Name}
 use Rattle.ilsource.specs.declared.instruction.Line.{Line}
 use Rattle.ilsource.specs.Names.{text_of}
-use Rattle.ilsource.specs.Trees.{Variables, Written, Tree}
+use Rattle.ilsource.specs.Trees.{Variables, Written}
 use Rattle.ilsyms.specs.Causes.{number_of}
 use Rattle.ilsyms.specs.Declarations.{initial_value, name_in}
 use Rattle.ilsyms.specs.Faults.{SomeOf, IsBadIn, IsNotAfter, IsLeast}
-use Rattle.ilsyms.specs.Gathering.{Gathered, gathered, number_in, found, comes_before, lesser, with_name, with_names, with_initial, with_declaration, with_declarations, with_use, with_line, with_lines, Scoping, scoping_of, with_program, with_programs, table_of}
+use Rattle.ilsyms.specs.Gathering.{Gathered, gathered, number_in, found, comes_before, lesser, with_name, with_names, with_initial, with_declarations, with_use, with_line, with_lines, Scoping, with_program, with_programs, table_of}
 use Rattle.ilsyms.specs.declared.fault.NameCause.{NameCause}
 use Rattle.ilsyms.specs.declared.fault.NameCause.TheVariants.{Unknown, Twice, BadDeclaration}
 use Rattle.ilsyms.specs.declared.found.Found.{Found}

@@ -1,5 +1,5 @@
 -- The least fault that is gathered is the least of all that stand in the source program, those of limits too.
-use Rattle.std.proofs.Common.{◌≡◌, ℕ, suc, ◌+◌, ◌<◌, ◌≤◌, List, [], ◌∷◌, ◌++◌, map, length, Bool, true, false, ◌≢◌, refl, ap, sym, ◌∙◌, arith, subst, ◌⊎◌, inl, inr, append_assoc, length-append}
+use Rattle.std.proofs.Common.{◌≡◌, ℕ, ◌+◌, ◌<◌, List, [], ◌∷◌, ◌++◌, map, length, Bool, true, false, refl, ap, sym, ◌∙◌, arith, subst, ◌⊎◌, inl, inr, append_assoc, length-append}
 use Rattle.std.specs.Prelude.{Option, Some, None, MatchOption, ◌==◌, fold, slice_get, if◌then◌else◌}
 use Rattle.std.specs.List.{list_any, cons_option}
 use Rattle.std.proofs.lemmas.Grind.{common_steps}
@@ -8,8 +8,8 @@ use Rattle.ilsource.specs.declared.instruction.Line.{Line}
 use Rattle.ilsource.specs.Trees.{Written, Tree}
 use Rattle.ilsyms.specs.Counting.{Counted, counted, counting, with_one, with_line, with_lines, with_programs}
 use Rattle.ilsyms.specs.Declarations.{slots_of, lines_of, constant_in, constants_of, with_constant, each_once, same_value}
-use Rattle.ilsyms.specs.Faults.{IsFault, IsFaultOfNames, IsTooMany, MakesTooManyConstants, IsWellNamed, IsLeast}
-use Rattle.ilsyms.specs.Gathering.{scoping, scoping_of, found, lesser, with_excess, lowered}
+use Rattle.ilsyms.specs.Faults.{IsFault, IsFaultOfNames, MakesTooManyConstants, IsWellNamed, IsLeast}
+use Rattle.ilsyms.specs.Gathering.{scoping, scoping_of, found, with_excess, lowered}
 use Rattle.ilsyms.specs.Resolving.{least_fault}
 use Rattle.ilsyms.specs.Told.{IsTold, IsMemoryOrTold, IsOptionTold, TellsLeast, IsMemoryOrTellsLeast}
 use Rattle.ilsyms.specs.declared.fault.NameCause.{NameCause}
@@ -19,7 +19,7 @@ use Rattle.ilsyms.specs.declared.fault.NameFault.TheVariants.{Memory, At}
 use Rattle.ilsyms.specs.declared.found.Found.{Found}
 use Rattle.ilsyms.specs.declared.planned.TheConstants.{MAX_INSTANCES, MAX_SLOTS, MAX_WORDS, MAX_CONSTANTS}
 use Rattle.ilsyms.proofs.Exact.{of_names_to, of_names_from}
-use Rattle.ilsyms.proofs.Gathered.{IsBest, IsWith, best_with, best_same, or_else, AreFaults, programs_best}
+use Rattle.ilsyms.proofs.Gathered.{IsBest, best_with, best_same, or_else, programs_best}
 use Rattle.ilsyms.proofs.Limits.{fold_append, constants_append, lines_counted}
 
 -- what exceeds a limit

@@ -1,7 +1,7 @@
 -- The planned instances of a source program without fault keep the limits.
-use Rattle.std.proofs.Common.{◌≡◌, ℕ, zero, suc, ◌+◌, ◌<◌, ◌≤◌, List, [], ◌∷◌, ◌++◌, map, length, get_or, Bool, true, false, refl, ap, sym, ◌∙◌, arith, subst, append_assoc, length-append}
+use Rattle.std.proofs.Common.{◌≡◌, ℕ, suc, ◌+◌, ◌<◌, ◌≤◌, List, [], ◌∷◌, ◌++◌, map, length, Bool, true, false, refl, ap, sym, ◌∙◌, arith, append_assoc, length-append}
 use Rattle.std.proofs.lemmas.List.{length-map, append-nil}
-use Rattle.std.specs.Prelude.{Option, Some, None, All, IfSome, IsSome, fold, filter_map, flat_map, slice_get, is_some, unwrap_or, if◌then◌else◌, ◌==◌, option_map, bytes_eq}
+use Rattle.std.specs.Prelude.{Option, Some, None, All, IfSome, IsSome, fold, unwrap_or, if◌then◌else◌, ◌==◌, option_map, bytes_eq}
 use Rattle.std.specs.List.{list_any, cons_option}
 use Rattle.std.proofs.lemmas.Grind.{common_steps}
 use Rattle.iltypes.specs.declared.value.Value.{Value}
@@ -12,9 +12,9 @@ use Rattle.ilsource.specs.declared.instruction.Instruction.{Instruction}
 use Rattle.ilsource.specs.declared.instruction.Instruction.TheVariants.{Load, Apply, Not, Store, Set, Reset}
 use Rattle.ilsource.specs.declared.instruction.Line.{Line}
 use Rattle.ilsource.specs.Names.{text_of}
-use Rattle.ilsource.specs.Trees.{Variables, Written, Tree}
-use Rattle.ilsyms.specs.Counting.{Counted, counted, counting, with_one, with_line, with_lines, with_programs}
-use Rattle.ilsyms.specs.Declarations.{slots_of, slots_of_program, lines_of, name_in, name_in_operand, constant_in, constant_in_operand, constants_of, with_constant, each_once, same_value}
+use Rattle.ilsource.specs.Trees.{Written, Tree}
+use Rattle.ilsyms.specs.Counting.{Counted, counted, with_one, with_line, with_lines, with_programs}
+use Rattle.ilsyms.specs.Declarations.{slots_of, slots_of_program, lines_of, name_in, name_in_operand, constant_in, constant_in_operand, constants_of, with_constant, same_value}
 use Rattle.ilsyms.specs.Gathering.{number_in, first_at, table_of, lowered}
 use Rattle.ilsyms.specs.Planning.{Planning, planning, with_instance, with_instances, planning_of, planned_instance, planned_operand, planned_instruction, planned_line, slot_number, IsKnownName, AreKnown}
 use Rattle.ilsyms.specs.Plans.{PlannedInstance, KeepsLimits, NamesSlotsBelow, all_lines, constants_in, slots_in}
@@ -22,7 +22,7 @@ use Rattle.ilsyms.specs.Plans as plans
 use Rattle.ilsyms.specs.Resolving.{least_fault, the_task}
 use Rattle.ilsyms.specs.declared.planned.PlannedLine.{PlannedLine}
 use Rattle.ilsyms.specs.declared.planned.TheConstants.{MAX_CONSTANTS}
-use Rattle.ilsyms.proofs.Clean.{IsClean, clean, none_length, all_cons, all_nil, all_known}
+use Rattle.ilsyms.proofs.Clean.{clean, none_length, all_cons, all_nil, all_known}
 use Rattle.ilsyms.proofs.Tables.{table_le}
 
 -- the instances of these programs, where the first one's slots begin at `base`

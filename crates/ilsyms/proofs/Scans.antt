@@ -1,20 +1,19 @@
 -- A scan of a source program without fault is a scan of its plan.
-use Rattle.std.proofs.Common.{◌≡◌, ℕ, zero, suc, ◌+◌, ◌<◌, List, [], ◌∷◌, ◌++◌, map, length, Bool, true, false, ◌&&◌, refl, ap, sym, ◌∙◌, arith, subst, append_assoc, length-append}
+use Rattle.std.proofs.Common.{◌≡◌, ℕ, suc, ◌+◌, List, [], ◌∷◌, ◌++◌, map, length, Bool, true, false, refl, ap, sym, ◌∙◌, arith, subst, append_assoc, length-append}
 use Rattle.std.proofs.lemmas.List.{length-map, take-map, drop-map, append-nil}
 use Rattle.std.proofs.lemmas.Slice.Eq.{bytes_eq-Decides}
-use Rattle.std.specs.Prelude.{Option, Some, None, All, IfSome, IsSome, flat_map, option_map, option_and_then, is_some, slice_get, unwrap_or, bytes_eq, if◌then◌else◌}
+use Rattle.std.specs.Prelude.{Option, Some, None, IsSome, flat_map, option_map, is_some, slice_get, unwrap_or, bytes_eq, if◌then◌else◌}
 use Rattle.std.specs.Char.{to_ascii_lowercase}
 use Rattle.iltypes.specs.declared.value.Value.{Value}
 use Rattle.ilsource.specs.declared.name.Name.{Name}
 use Rattle.ilsource.specs.Names.{folded, text_of}
 use Rattle.ilsource.specs.Trees.{Variables, Written, Tree}
 use Rattle.ilsyms.specs.Declarations.{initial_value, slot, slots_of_declaration, slots_of_program, slots_of, variables_of}
-use Rattle.ilsyms.specs.Gathering.{Gathered, gathered, first_at, number_in, with_name, with_names, with_declaration, with_declarations, with_initial, with_lines, Scoping, scoping_of, scoping, with_program, with_programs, table_of, lowered, lesser}
-use Rattle.ilsyms.specs.Meaning.{runs, programs_scan, source_scan}
-use Rattle.ilsyms.specs.PlanMeaning.{Standing, instance_run, instances_scan, plan_scan, paired}
-use Rattle.ilsyms.specs.Planning.{Planning, planning, planning_of, planned_line, slot_number, AreKnown}
+use Rattle.ilsyms.specs.Gathering.{Gathered, gathered, first_at, number_in, with_name, with_names, with_declaration, with_declarations, with_initial, Scoping, scoping_of, with_program, with_programs, table_of, lowered, lesser}
+use Rattle.ilsyms.specs.Meaning.{programs_scan, source_scan}
+use Rattle.ilsyms.specs.PlanMeaning.{Standing, instances_scan, plan_scan, paired}
+use Rattle.ilsyms.specs.Planning.{planning, planning_of, planned_line, slot_number, AreKnown}
 use Rattle.ilsyms.specs.Resolving.{least_fault, the_task}
-use Rattle.ilsyms.specs.Stores.{Entry}
 use Rattle.ilsyms.specs.declared.found.Found.{Found}
 use Rattle.ilsyms.specs.declared.planned.Slot.{Slot}
 use Rattle.ilsyms.proofs.Clean.{clean, names_none, declarations_none, lines_known, none_lesser, programs_known}

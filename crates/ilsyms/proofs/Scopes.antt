@@ -1,12 +1,11 @@
 -- The tables of a scope are those of its programs, one by one.
-use Rattle.std.proofs.Common.{◌≡◌, ℕ, List, [], ◌∷◌, ◌++◌, map, Bool, true, false, refl, ap, sym, ◌∙◌, append_assoc}
-use Rattle.std.specs.Prelude.{Option, None, is_some, slice_get, if◌then◌else◌}
+use Rattle.std.proofs.Common.{◌≡◌, ℕ, List, [], ◌∷◌, ◌++◌, map, Bool, true, false, refl, ap, ◌∙◌, append_assoc}
+use Rattle.std.specs.Prelude.{Option, None, is_some, if◌then◌else◌}
 use Rattle.std.proofs.lemmas.List.{append-nil}
 use Rattle.ilsource.specs.declared.name.Name.{Name}
 use Rattle.ilsource.specs.Names.{text_of}
 use Rattle.ilsource.specs.Trees.{Variables, Written}
-use Rattle.ilsyms.specs.Declarations.{initial_value}
-use Rattle.ilsyms.specs.Gathering.{Gathered, gathered, number_in, with_name, with_names, with_initial, with_declaration, with_declarations, with_lines, Scoping, scoping_of, with_program, with_programs, table_of, lesser, found}
+use Rattle.ilsyms.specs.Gathering.{Gathered, gathered, number_in, with_names, with_declaration, with_declarations, Scoping, with_program, with_programs, table_of}
 use Rattle.ilsyms.specs.declared.found.Found.{Found}
 
 -- the same names whatever was the least fault

@@ -1,5 +1,5 @@
 -- An instance's lines do the same over names and over slot numbers.
-use Rattle.std.proofs.Common.{◌≡◌, ℕ, zero, suc, ◌<◌, List, [], ◌∷◌, map, length, Bool, true, false, refl, ap, sym, ◌∙◌, arith, subst}
+use Rattle.std.proofs.Common.{◌≡◌, ℕ, suc, List, [], ◌∷◌, map, length, Bool, true, false, refl, ap, ◌∙◌, arith, subst}
 use Rattle.std.proofs.lemmas.List.{length-set}
 use Rattle.std.specs.Prelude.{Option, Some, None, IfSome, IsSome, option_map, option_and_then, slice_get, slice_set}
 use Rattle.iltypes.specs.declared.operator.BooleanOperator.{BooleanOperator}
@@ -19,7 +19,7 @@ use Rattle.ilsyms.specs.Gathering.{first_at, number_in}
 use Rattle.ilsyms.specs.Meaning.{Between, operand_value, perhaps_opposite, loads, applies, inverts, stores, sets, does, runs}
 use Rattle.ilsyms.specs.PlanMeaning.{Standing, value_of, modified, load, apply, invert, store, write, effect, instance_run, paired}
 use Rattle.ilsyms.specs.Planning.{slot_number, planned_operand, planned_instruction, planned_line, IsKnownName, AreKnown}
-use Rattle.ilsyms.specs.Stores.{Entry, value_under, with_value}
+use Rattle.ilsyms.specs.Stores.{value_under, with_value}
 use Rattle.ilsyms.specs.declared.planned.PlannedInstruction.{PlannedInstruction}
 use Rattle.ilsyms.specs.declared.planned.PlannedInstruction.TheVariants as planned
 use Rattle.ilsyms.specs.declared.planned.PlannedLine.{PlannedLine}

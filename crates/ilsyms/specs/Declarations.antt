@@ -1,6 +1,6 @@
 -- What a source program declares and holds, in its order (IEC 61131-3, 2.4.3 and 3.2). Without a configuration there is one
 -- task with one instance of each program, under its own name (profile).
-use Rattle.std.specs.Prelude.{ℕ, ℤ, pos, List, [], ◌∷◌, ◌++◌, Option, Some, None, Bool, true, false, fold, map, flat_map, filter_map, if◌then◌else◌, unwrap_or}
+use Rattle.std.specs.Prelude.{pos, List, [], ◌∷◌, ◌++◌, Option, Some, None, Bool, true, false, fold, map, flat_map, filter_map, if◌then◌else◌, unwrap_or}
 use Rattle.std.specs.List.{list_any}
 use Rattle.std.specs.Bool.{beq}
 use Rattle.std.specs.Ordering.{int_eq}

@@ -4,7 +4,7 @@ use Rattle.std.specs.Prelude.{◌≡◌, ℕ, ◌+◌, ◌<◌, ◌≤◌, List,
 use Rattle.ilsource.specs.declared.name.Name.{Name}
 use Rattle.ilsource.specs.declared.instruction.Line.{Line}
 use Rattle.ilsource.specs.Names.{SameName}
-use Rattle.ilsource.specs.Trees.{Variables, Written, Tree}
+use Rattle.ilsource.specs.Trees.{Variables, Tree}
 use Rattle.ilsyms.specs.Causes.{number_of}
 use Rattle.ilsyms.specs.Declarations.{initial_value, variables_of, slots_of, lines_of, name_in, constants_of, each_once}
 use Rattle.ilsyms.specs.declared.fault.NameCause.{NameCause}

@@ -5,7 +5,6 @@ use Rattle.iltypes.specs.declared.operator.BooleanOperator.{BooleanOperator}
 use Rattle.iltypes.specs.declared.value.Value.{Value}
 use Rattle.iltypes.specs.declared.value.Value.TheVariants as values
 use Rattle.iltypes.specs.Operators.{opposite, result_of}
-use Rattle.ilsource.specs.declared.name.Name.{Name}
 use Rattle.ilsource.specs.declared.instruction.Operand.{Operand}
 use Rattle.ilsource.specs.declared.instruction.Operand.TheVariants.{Variable, Constant}
 use Rattle.ilsource.specs.declared.instruction.Instruction.{Instruction}

@@ -1,5 +1,5 @@
 -- How lines are planned: each name becomes the number of its slot. An instance's slots begin after those of the instances before.
-use Rattle.std.specs.Prelude.{ℕ, ◌+◌, List, [], ◌∷◌, ◌++◌, map, fold, length, Option, Some, None, IsSome, IfSome, All, unwrap_or}
+use Rattle.std.specs.Prelude.{ℕ, ◌+◌, List, [], ◌∷◌, ◌++◌, map, fold, length, Option, IsSome, IfSome, All, unwrap_or}
 use Rattle.ilsource.specs.declared.name.Name.{Name}
 use Rattle.ilsource.specs.declared.instruction.Operand.{Operand}
 use Rattle.ilsource.specs.declared.instruction.Operand.TheVariants.{Variable, Constant}
@@ -9,7 +9,7 @@ use Rattle.ilsource.specs.declared.instruction.Line.{Line}
 use Rattle.ilsource.specs.Names.{text_of}
 use Rattle.ilsource.specs.Places.{line_at}
 use Rattle.ilsource.specs.Trees.{Written, Tree}
-use Rattle.ilsyms.specs.Declarations.{constant_value, name_in, name_in_operand}
+use Rattle.ilsyms.specs.Declarations.{constant_value, name_in}
 use Rattle.ilsyms.specs.Gathering.{number_in, table_of, lowered}
 use Rattle.ilsyms.specs.Plans.{PlannedInstance}
 use Rattle.ilsyms.specs.declared.planned.PlannedOperand.{PlannedOperand}

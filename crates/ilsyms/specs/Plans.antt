@@ -1,6 +1,5 @@
 -- Plans as contracts see them, and the limits of each task (profile).
 use Rattle.std.specs.Prelude.{◌≡◌, ℕ, ◌<◌, ◌≤◌, List, [], ◌∷◌, flat_map, filter_map, length, Bool, All, Option, Some, None, slice_get, option_and_then}
-use Rattle.iltypes.specs.declared.value.IlType.TheVariants as types
 use Rattle.iltypes.specs.declared.value.Value.{Value}
 use Rattle.ilsource.specs.declared.name.Name.{Name}
 use Rattle.ilsyms.specs.Declarations.{each_once}

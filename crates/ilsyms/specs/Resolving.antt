@@ -1,5 +1,5 @@
 -- What resolving gives: the least fault of all, and the plan of a source program that has none.
-use Rattle.std.specs.Prelude.{ℕ, List, [], ◌∷◌, map, Option, false, slice_get, codes}
+use Rattle.std.specs.Prelude.{ℕ, [], ◌∷◌, map, Option, false, slice_get, codes}
 use Rattle.ilsource.specs.Trees.{Tree}
 use Rattle.ilsyms.specs.Counting.{counting}
 use Rattle.ilsyms.specs.Declarations.{slots_of, lines_of}

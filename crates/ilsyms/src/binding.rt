@@ -54,8 +54,13 @@ pub enum BindFault {
 }
 
 impl BindCause {
+    ghost use Rattle.std.specs.Prelude.{◌≡◌};
+    ghost use Rattle.ilsyms.specs.Causes.{bind_number};
+
     /// The number that is printed.
-    pub fn number(self) -> u8 {
+    pub fn number(self) -> u8
+        ensures { result ≡ bind_number self }
+    {
         match self {
             BindCause::BadLine => 2,
             BindCause::TooLong => 3,
@@ -64,8 +69,13 @@ impl BindCause {
 }
 
 impl BindFault {
+    ghost use Rattle.std.specs.Prelude.{◌≡◌};
+    ghost use Rattle.ilsyms.specs.Causes.{bind_fault_number};
+
     /// The number that is printed: 1 for want of memory, else that of the cause.
-    pub fn number(&self) -> u8 {
+    pub fn number(&self) -> u8
+        ensures { result ≡ bind_fault_number self.now }
+    {
         match self {
             BindFault::Memory => 1,
             BindFault::At { cause, .. } => cause.number(),

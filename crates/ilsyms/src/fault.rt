@@ -1,7 +1,7 @@
 //! Faults of names.
 
 ghost use Rattle.std.specs.Prelude.{◌≡◌};
-ghost use Rattle.ilsyms.specs.Causes.{number_of};
+ghost use Rattle.ilsyms.specs.Causes.{number_of, fault_number};
 
 use std::alloc::{AllocError, AllocFailed};
 use thiserror::Error;
@@ -74,7 +74,9 @@ impl<T: Drop> From<AllocFailed<T>> for NameFault {
 
 impl NameFault {
     /// The number that is printed: 1 for want of memory, else that of the cause.
-    pub fn number(&self) -> u8 {
+    pub fn number(&self) -> u8
+        ensures { result ≡ fault_number self.now }
+    {
         match self {
             NameFault::Memory => 1,
             NameFault::At { cause, .. } => cause.number(),

@@ -1,4 +1,4 @@
-use Rattle.std.proofs.Common.{◌≡◌, map, drop, ◌≤◌}
+use Rattle.std.proofs.Common.{◌≡◌, map, drop}
 use Rattle.std.specs.Prelude.{slice_get}
 use Rattle.ilsyms.specs.Declarations.{lines_of}
 use Rattle.ilsyms.specs.declared.planned.TheConstants.{MAX_WORDS}

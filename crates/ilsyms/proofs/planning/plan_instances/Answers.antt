@@ -1,6 +1,5 @@
-use Rattle.std.proofs.Common.{◌≡◌, ◌+◌, ◌≤◌, ◌<◌, ap, ◌∙◌, arith, get_or, length, take, List, [], sym, subst, ℕ}
+use Rattle.std.proofs.Common.{◌≡◌, ◌+◌, ◌<◌, ap, ◌∙◌, arith, get_or, length, take, List, [], sym}
 use Rattle.ilsource.specs.Trees.{Tree, Written}
-use Rattle.ilsyms.specs.Declarations.{slots_of}
 use Rattle.ilsyms.specs.Gathering.{lowered, table_of}
 use Rattle.ilsyms.specs.Planning.{Planning, planning, with_instance, with_instances}
 use Rattle.std.proofs.lemmas.List.Sums.{fold_more}

@@ -1,4 +1,4 @@
-use Rattle.std.proofs.Common.{◌≡◌, take, [], ◌≤◌}
+use Rattle.std.proofs.Common.{◌≡◌, take, []}
 use Rattle.ilsyms.specs.Gathering.{lowered}
 use Rattle.ilsyms.specs.Planning.{planning, with_instances}
 use Rattle.ilsyms.proofs.planning.plan_instances.Given as goal

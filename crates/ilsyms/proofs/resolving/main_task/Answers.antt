@@ -1,6 +1,4 @@
-use Rattle.std.proofs.Common.{◌≡◌}
-use Rattle.ilsyms.specs.Plans.{KeepsLimits}
-use Rattle.ilsyms.proofs.Clean.{clean, none_length, all_known}
+use Rattle.ilsyms.proofs.Clean.{clean, all_known}
 use Rattle.ilsyms.proofs.Limits.{limits}
 use Rattle.ilsyms.proofs.resolving.main_task.Goals as goal
 

@@ -1,7 +1,7 @@
 use Rattle.std.proofs.Common.{◌≡◌, ap, ◌∙◌, [], refl}
 use Rattle.std.specs.Prelude.{None}
 use Rattle.std.proofs.lemmas.List.{take_all}
-use Rattle.ilsyms.specs.Gathering.{Scoping, scoping, scoping_of, lowered, with_programs}
+use Rattle.ilsyms.specs.Gathering.{Scoping, scoping, scoping_of, lowered}
 use Rattle.ilsyms.proofs.Scopes.{tables_are}
 use Rattle.ilsyms.proofs.scope.Scope.of.Goals as goal
 

@@ -1,6 +1,6 @@
-use Rattle.std.proofs.Common.{◌≡◌, take, [], map}
+use Rattle.std.proofs.Common.{◌≡◌, take, []}
 use Rattle.std.specs.Prelude.{None}
-use Rattle.ilsyms.specs.Gathering.{scoping_of, with_programs, lowered}
+use Rattle.ilsyms.specs.Gathering.{scoping_of, with_programs}
 use Rattle.ilsyms.proofs.scope.Scope.of.Given as goal
 
 abbrev pub invariant-loop-program : goal.invariant-loop-program

@@ -1,0 +1,3 @@
+mod Marks
+mod Trying
+mod Failures

@@ -1,0 +1,68 @@
+-- What a bus is to a contract: what was sent and heard on it so far, and its counts.
+use Rattle.std.specs.Prelude.{ℕ, ◌+◌, ◌-◌, ◌%◌, ◌^◌, min, Bool, true, false, Option, Some, None, Result, Ok, Err, List, [], ◌∷◌, ◌++◌}
+use Rattle.daliframe.specs.declared.forward.Frame.{Frame}
+use Rattle.transact.specs.declared.marks.Mark.{Mark}
+use Rattle.transact.specs.declared.marks.Mark.TheVariants.{Failed}
+use Rattle.transact.specs.declared.marks.Reply.{Reply}
+use Rattle.transact.specs.declared.marks.Sent.{Sent}
+use Rattle.transact.specs.Marks.{mark_of}
+use Rattle.buslink.specs.declared.faults.Fault.{Fault}
+
+pub record BusLog : Type 0 where
+  -- the frames that were sent, first to last, each with its priority and what became of it
+  pub sent : List Sent
+  -- the numbers of the 24-bit frames that were heard, first to last
+  pub heard : List ℕ
+  -- at least so many frames more fit into the two lists before they grow
+  pub spare : ℕ
+  -- the faults of the bus interface, modulo 2^64
+  pub failures : ℕ
+  -- the calls that heard, kept at 2^64 - 1 once there
+  pub hears : ℕ
+  -- whether the last of those calls found that nothing had come
+  pub heard_none : Bool
+
+-- one fault more
+abbrev pub one_more_failure : ℕ → ℕ
+one_more_failure failures = (failures + 1) % 2 ^ 64
+
+-- one call more that heard
+abbrev pub one_more_hear : ℕ → ℕ
+one_more_hear hears = min (hears + 1) (2 ^ 64 - 1)
+
+-- what became of a frame: a frame at which the bus interface failed has the mark Failed
+abbrev pub mark_of_send : Result Reply Fault → Mark
+mark_of_send (Ok reply) = mark_of reply
+mark_of_send (Err fault) = Failed
+
+-- a frame more was sent, which takes one of the spare places
+abbrev pub with_sent : Frame → ℕ → Mark → BusLog → BusLog
+with_sent frame priority mark log = record log {
+  sent = log.sent ++ record { frame = frame; priority = priority; mark = mark } ∷ [];
+  spare = log.spare - 1;
+}
+
+-- the bus after a send: only a fault counts as a failure
+abbrev pub after_send : Frame → ℕ → Result Reply Fault → BusLog → BusLog
+after_send frame priority (Ok reply) log = with_sent frame priority (mark_of reply) log
+after_send frame priority (Err fault) log =
+    record (with_sent frame priority Failed log) { failures = one_more_failure log.failures }
+
+-- the bus after a call that heard: only a frame is added and takes one of the spare places, and only a fault counts as a failure
+abbrev pub after_hear : Result (Option ℕ) Fault → BusLog → BusLog
+after_hear (Ok (Some frame)) log = record log {
+  heard = log.heard ++ frame ∷ [];
+  spare = log.spare - 1;
+  hears = one_more_hear log.hears;
+  heard_none = false;
+}
+after_hear (Ok None) log = record log { hears = one_more_hear log.hears; heard_none = true }
+after_hear (Err fault) log = record log {
+  failures = one_more_failure log.failures;
+  hears = one_more_hear log.hears;
+  heard_none = false;
+}
+
+-- the same but for the spare places
+abbrev pub with_spare : ℕ → BusLog → BusLog
+with_spare spare log = record log { spare = spare }

@@ -1,0 +1,2 @@
+pub mod BusLog
+pub mod Performing

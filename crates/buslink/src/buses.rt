@@ -1,0 +1,62 @@
+//! What the controller asks of a bus interface.
+ghost use Rattle.std.specs.Prelude.{◌≡◌, ◌<◌, ◌≤◌, IsOk, OnOk};
+ghost use Rattle.buslink.specs.BusLog.{after_send, after_hear, with_spare};
+
+use crate::Fault;
+use daliframe::{Frame, Frame24};
+use std::alloc::AllocError;
+use transact::Reply;
+
+/// A bus interface, with what became of it so far: the frames that were sent and heard, and how often it failed and heard.
+/// The two lists grow in `room` alone; `send` and `hear` take no memory.
+pub trait Bus: Drop {
+    ghost use Rattle.buslink.specs.BusLog.{BusLog};
+
+    ghost log: { Self → BusLog };
+
+    /// Makes room for so many frames more, sent or heard. Where there is room already it succeeds.
+    ///
+    /// # Errors
+    ///
+    /// A growth was refused. No frame was sent or heard.
+    fn room(&mut self, frames: usize) -> Result<(), AllocError>
+        ensures made { OnOk result (frames ≤ (log self.new).spare) }
+        ensures already { frames ≤ (log self.old).spare → IsOk result }
+        ensures same { log self.new ≡ with_spare (log self.new).spare (log self.old) };
+
+    /// Sends a frame with a priority, 1 to 5, of which 1 is the highest (IEC 62386-101, clause 9), and tells what it was
+    /// answered.
+    ///
+    /// # Errors
+    ///
+    /// The interface failed. The frame counts as sent, with the mark `Failed`.
+    fn send(&mut self, frame: Frame, priority: u8) -> Result<Reply, Fault>
+        requires { 0 < (log self.old).spare }
+        ensures { log self.new ≡ after_send frame priority result (log self.old) };
+
+    /// The next 24-bit frame that came on the bus, where there is one.
+    ///
+    /// # Errors
+    ///
+    /// The interface failed. No frame was heard.
+    fn hear(&mut self) -> Result<Option<Frame24>, Fault>
+        requires { 0 < (log self.old).spare }
+        ensures { log self.new ≡ after_hear result (log self.old) };
+}
+
+/// A call goes to the bus in the box, and what became of that one became of the box.
+impl Bus for Box<dyn Bus + Send> {
+    ghost log = { λ b. (Bus-box b).log b.value };
+
+    fn room(&mut self, frames: usize) -> Result<(), AllocError> {
+        (**self).room(frames)
+    }
+
+    fn send(&mut self, frame: Frame, priority: u8) -> Result<Reply, Fault> {
+        (**self).send(frame, priority)
+    }
+
+    fn hear(&mut self) -> Result<Option<Frame24>, Fault> {
+        (**self).hear()
+    }
+}

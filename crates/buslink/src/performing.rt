@@ -1,0 +1,96 @@
+//! Transactions on a bus.
+ghost use Rattle.std.specs.Prelude.{◌≡◌, ◌+◌, ◌*◌, ◌<◌, ◌≤◌, ◌↔◌, IsTrue, length, All, IfOk, IfErr, IsOk};
+ghost use Rattle.arrayvec.specs.ArrayVec.{array_vec_len};
+ghost use Rattle.transact.specs.Attempts.{IsReportParts};
+ghost use Rattle.buslink.specs.BusLog.{one_more_failure, with_spare};
+ghost use Rattle.buslink.specs.Performing.{after_report, IsSent, IsTriedOnce, IsTried};
+
+use crate::{Bus, Fault};
+use arrayvec::ArrayVec;
+use daliframe::Frame;
+use std::alloc::AllocError;
+use transact::{Mark, Report, Transaction};
+
+/// A transaction has at most so many frames, in all of its attempts.
+const MOST_FRAMES: usize = 9;
+/// A transaction is tried again at most so often.
+const MOST_RETRIES: u8 = 2;
+
+/// Sends the frames of a transaction, and all of them again where one is lost, in three attempts at most. A fault of the
+/// bus interface ends it at once, with the outcome `Failed`.
+///
+/// # Errors
+///
+/// The bus had no room for the frames of three attempts and got none. Then nothing was sent.
+pub fn perform<B: Bus>(bus: &mut B, transaction: &Transaction) -> Result<Report, AllocError>
+    ensures report { IfOk result (λ r. (r.transaction ≡ transaction.now) × IsReportParts r) }
+    ensures bus { IfOk result (λ r. B.log bus.new ≡ after_report r (B.log bus.new).spare (B.log bus.old)) }
+    ensures spare { IfOk result (λ r. 9 ≤ (B.log bus.new).spare + length r.attempts) }
+    ensures failed { IfOk result (λ r. All (λ frame. frame.mark ≡ Mark.Failed → (B.log bus.new).failures ≡ one_more_failure (B.log bus.old).failures) r.attempts) }
+    ensures refused { IfErr result (λ _. B.log bus.new ≡ with_spare (B.log bus.new).spare (B.log bus.old)) }
+    ensures enough { 9 ≤ (B.log bus.old).spare → IsOk result }
+{
+    bus.room(MOST_FRAMES)?;
+    let mut marks = ArrayVec::new();
+    try_again(bus, transaction, MOST_RETRIES, &mut marks);
+    match Report::of(transaction, marks.as_slice()) {
+        Some(report) => Ok(report),
+        None => unreachable!(),
+    }
+}
+
+/// Tries the transaction, and again after each loss while retries are left. The marks go behind those of `marks`.
+fn try_again<B: Bus>(
+    bus: &mut B,
+    transaction: &Transaction,
+    retries: u8,
+    marks: &mut ArrayVec<Mark, 9>,
+)
+    requires spare { 3 * retries + 3 ≤ (B.log bus.old).spare }
+    requires room { array_vec_len marks.old + 3 * retries + 3 ≤ 9 }
+    ensures { IsTried transaction.now retries marks.old.items marks.new.items (B.log bus.old) (B.log bus.new) }
+{
+    let last = try_once(bus, transaction.frames(), transaction.first(), marks);
+    if is_retried(last, retries) {
+        try_again(bus, transaction, retries - 1, marks);
+    }
+}
+
+/// Whether another attempt follows one with this last mark.
+fn is_retried(last: Mark, retries: u8) -> bool
+    ensures { IsTrue result ↔ ((last ≡ Mark.Lost) × (0 < retries)) }
+{
+    last == Mark::Lost && retries > 0
+}
+
+/// Sends the frames, up to one that is lost or fails, and gives the last mark. The first has this priority, each later one 1.
+fn try_once<B: Bus>(
+    bus: &mut B,
+    frames: &[Frame],
+    priority: u8,
+    marks: &mut ArrayVec<Mark, 9>,
+) -> Mark
+    requires some { 0 < length frames.now }
+    requires spare { length frames.now ≤ (B.log bus.old).spare }
+    requires room { array_vec_len marks.old + length frames.now ≤ 9 }
+    ensures { IsTriedOnce frames.now priority marks.old.items marks.new.items (B.log bus.old) (B.log bus.new) result }
+{
+    let mark = send(bus, frames[0], priority);
+    marks.push(mark);
+    let rest = &frames[1..];
+    if mark.is_broken() || rest.is_empty() {
+        return mark;
+    }
+    try_once(bus, rest, 1, marks)
+}
+
+/// Sends a frame and gives what became of it.
+fn send<B: Bus>(bus: &mut B, frame: Frame, priority: u8) -> Mark
+    requires { 0 < (B.log bus.old).spare }
+    ensures { IsSent frame priority result (B.log bus.old) (B.log bus.new) }
+{
+    match bus.send(frame, priority) {
+        Ok(reply) => Mark::from(reply),
+        Err(Fault) => Mark::Failed,
+    }
+}
