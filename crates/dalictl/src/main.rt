@@ -33,7 +33,12 @@ const FAILED: u8 = 3;
 fn main(rt: HostRuntime) -> ExitCode {
     match run(&rt) {
         Ok(status) => ExitCode::from(status),
-        Err(_) => ExitCode::from(FAILED),
+        Err(error) => {
+            if matches!(error.kind(), io::ErrorKind::OutOfMemory) {
+                let _ = no_memory(&rt);
+            }
+            ExitCode::from(FAILED)
+        }
     }
 }
 
