@@ -1,5 +1,5 @@
 -- The code and the variables of one task belong together.
-use Rattle.std.proofs.Common.{◌≡◌, ℕ, ◌<◌, List, length, map, get_or, Option, Some, None, refl, sym, ap, ◌∙◌, subst}
+use Rattle.std.proofs.Common.{◌≡◌, ℕ, ◌<◌, List, length, map, get_or, Some, sym, ap, ◌∙◌, subst}
 use Rattle.std.specs.Prelude.{slice_get, option_map}
 use Rattle.std.specs.Arc.{arc_value}
 use Rattle.std.specs.declared.alloc.Global.{Global}
@@ -9,7 +9,6 @@ use Rattle.std.proofs.lemmas.Option.{slice_get-map, slice_get-get_or}
 use Rattle.iltypes.specs.declared.value.IlType.{IlType}
 use Rattle.iltypes.specs.Values.{AreOf}
 use Rattle.ilcode.specs.Listings.{Listing}
-use Rattle.ilsyms.specs.declared.planned.Slot.{Slot}
 use Rattle.ilsyms.specs.Plans.{Planned, PlannedTask}
 use Rattle.ilverify.specs.Verdicts.{Accepted}
 use Rattle.dalictl.specs.Layout.{laid_out}

@@ -1,6 +1,6 @@
 -- The variables of a resolved text begin in their types.
 use Rattle.std.proofs.Common.{◌≡◌, ℕ, zero, suc, Bool, true, false, cond, List, [], ◌∷◌, ◌++◌, map, Option, Some, None, sym, subst}
-use Rattle.std.specs.Prelude.{slice_get, unwrap_or, flat_map}
+use Rattle.std.specs.Prelude.{unwrap_or, flat_map}
 use Rattle.std.specs.Ordering.{int_eq}
 use Rattle.iltypes.specs.declared.value.IlType.TheVariants as types
 use Rattle.iltypes.specs.declared.value.Value.{Value}

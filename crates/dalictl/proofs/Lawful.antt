@@ -1,5 +1,5 @@
 -- What is laid out for a task that keeps the limits has the shape of a code.
-use Rattle.std.proofs.Common.{◌≡◌, ℕ, zero, suc, ◌+◌, ◌<◌, ◌≤◌, List, [], ◌∷◌, ◌++◌, length, map, get_or, refl, sym, ◌∙◌, arith, length-append}
+use Rattle.std.proofs.Common.{◌≡◌, ℕ, zero, suc, ◌+◌, ◌<◌, ◌≤◌, List, [], ◌∷◌, length, get_or, refl, arith, length-append}
 use Rattle.std.specs.Prelude.{All, MatchOption, slice_get}
 use Rattle.std.specs.List.Sorted.{IsNonDecreasing}
 use Rattle.std.proofs.lemmas.List.{length-map}
@@ -9,7 +9,7 @@ use Rattle.iltypes.specs.declared.value.Value.{Value}
 use Rattle.ilcode.specs.declared.instruction.Instruction.{Instruction}
 use Rattle.ilsyms.specs.Plans.{PlannedInstance, PlannedTask, KeepsLimits, all_lines}
 use Rattle.ilsyms.specs.PlanMeaning.{types_of}
-use Rattle.ilcode.specs.Listings.{IsLawful, AreStarts, listing_of}
+use Rattle.ilcode.specs.Listings.{IsLawful, listing_of}
 use Rattle.dalictl.specs.Layout.{words_of, numbers_of, starts_from, laid_out, word_of}
 
 -- no start is before the first

@@ -1,14 +1,13 @@
 -- Words that lie as an instance's lines do, from a place on, do what the lines do.
-use Rattle.std.proofs.Common.{◌≡◌, ℕ, zero, suc, ◌+◌, ◌<◌, ◌≤◌, Bool, true, false, cond, List, [], ◌∷◌, ◌++◌, length, Option, Some, None, refl, sym, ap, ◌∙◌, subst, add-one, arith, length-append}
+use Rattle.std.proofs.Common.{◌≡◌, ℕ, zero, suc, ◌+◌, Bool, true, false, cond, List, [], ◌∷◌, length, Option, Some, None, refl, sym, ap, ◌∙◌, arith, length-append}
 use Rattle.std.specs.Prelude.{slice_get, option_map, option_and_then}
 use Rattle.iltypes.specs.declared.value.Value.{Value}
 use Rattle.ilsyms.specs.declared.planned.PlannedLine.{PlannedLine}
 use Rattle.ilsyms.specs.Plans.{PlannedInstance, all_lines}
 use Rattle.ilsyms.specs.PlanMeaning as plans
 use Rattle.ilsyms.specs.PlanMeaning.{Standing, instance_run, instances_scan}
-use Rattle.ilcode.specs.declared.instruction.Instruction.{Instruction}
 use Rattle.ilcode.specs.Listings.{Listing}
-use Rattle.ilcode.specs.Steps.{Configuration, at, effect, is_start, entered, step_by, step, after}
+use Rattle.ilcode.specs.Steps.{Configuration, at, is_start, entered, step_by, step, after}
 use Rattle.dalictl.specs.Layout.{word_of}
 use Rattle.dalictl.proofs.Words.{IsServed, standing_at, effect_same}
 

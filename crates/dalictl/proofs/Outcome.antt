@@ -1,17 +1,17 @@
 -- What the scans of a task's code leave is what the scans of its source program mean.
-use Rattle.std.proofs.Common.{◌≡◌, ℕ, zero, suc, ◌+◌, ◌≤◌, List, [], ◌∷◌, ◌++◌, length, map, Option, Some, None, refl, sym, ap, ◌∙◌, subst, add-one, arith, length-append}
+use Rattle.std.proofs.Common.{◌≡◌, ℕ, zero, suc, ◌≤◌, List, [], ◌∷◌, length, map, Some, refl, sym, ap, ◌∙◌, subst, arith, length-append}
 use Rattle.std.specs.Prelude.{slice_get, option_map, All, IfSome}
 use Rattle.std.proofs.lemmas.List.{length-map}
 use Rattle.std.proofs.lemmas.List.Elements.{All-nil, All-append, All-cons}
 use Rattle.std.proofs.lemmas.Option.{slice_get-map}
 use Rattle.iltypes.specs.declared.value.IlType.{IlType}
 use Rattle.iltypes.specs.declared.value.Value.{Value}
-use Rattle.iltypes.specs.Values.{IsOf, AreOf}
+use Rattle.iltypes.specs.Values.{AreOf}
 use Rattle.ilsource.specs.Trees.{Tree}
 use Rattle.ilsyms.specs.declared.planned.Slot.{Slot}
 use Rattle.ilsyms.specs.Declarations.{slots_of}
 use Rattle.ilsyms.specs.Meaning.{source_scan}
-use Rattle.ilsyms.specs.PlanMeaning.{plan_scan, types_of, paired}
+use Rattle.ilsyms.specs.PlanMeaning.{types_of, paired}
 use Rattle.ilsyms.specs.Plans.{Planned, PlannedTask}
 use Rattle.ilsyms.specs.Resolved.{IsPlanOf, IsTaskOf}
 use Rattle.ilcode.specs.Listings.{Listing}
@@ -21,7 +21,7 @@ use Rattle.ilmachine.specs.Scans.{IsScan}
 use Rattle.dalictl.specs.Answered.{ScansMean, store_of, initial_values_of}
 use Rattle.dalictl.specs.Layout.{laid_out}
 use Rattle.dalictl.specs.Meant.{IsMeant}
-use Rattle.dalictl.specs.Stepping.{ScansTo, AreCodes, BeginInTypes, IsRunOf, initials_of}
+use Rattle.dalictl.specs.Stepping.{ScansTo, AreCodes, IsRunOf, initials_of}
 use Rattle.dalictl.proofs.Initials.{begins}
 use Rattle.dalictl.proofs.Theorem.{is_meant}
 

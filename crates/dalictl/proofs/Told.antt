@@ -1,5 +1,5 @@
 -- What stands against running a text, from what stands against its parts.
-use Rattle.std.proofs.Common.{◌≡◌, ℕ, zero, suc, ◌+◌, ◌<◌, List, [], ◌∷◌, length, map, Option, Some, None, refl, sym, ap, subst, arith, below_more}
+use Rattle.std.proofs.Common.{◌≡◌, ℕ, zero, suc, ◌+◌, ◌<◌, List, [], ◌∷◌, length, map, Option, Some, None, refl, sym, subst, arith, below_more}
 use Rattle.std.specs.Prelude.{slice_get, option_map, IfSome}
 use Rattle.std.specs.Char.{to_ascii_lowercase}
 use Rattle.ilsource.specs.Trees.{Tree}

@@ -1,7 +1,6 @@
 -- A word does what its planned instruction does.
-use Rattle.std.proofs.Common.{◌≡◌, ℕ, zero, suc, ◌+◌, Bool, true, false, cond, List, [], ◌∷◌, ◌++◌, Option, Some, None, refl, sym, ap, ◌∙◌, add-one, ◌||◌}
+use Rattle.std.proofs.Common.{◌≡◌, ℕ, ◌+◌, Bool, true, false, List, Option, Some, None, refl, ap, ◌∙◌}
 use Rattle.std.specs.Prelude.{slice_get, option_map}
-use Rattle.std.specs.List.{list_any}
 use Rattle.iltypes.specs.declared.operator.BooleanOperator.{BooleanOperator}
 use Rattle.iltypes.specs.declared.value.IlType.{IlType}
 use Rattle.iltypes.specs.declared.value.IlType.TheVariants as types
@@ -11,7 +10,6 @@ use Rattle.ilsyms.specs.declared.planned.PlannedOperand.{PlannedOperand}
 use Rattle.ilsyms.specs.declared.planned.PlannedOperand.TheVariants as planned_operands
 use Rattle.ilsyms.specs.declared.planned.PlannedInstruction.{PlannedInstruction}
 use Rattle.ilsyms.specs.declared.planned.PlannedInstruction.TheVariants as planned
-use Rattle.ilsyms.specs.Declarations.{same_value}
 use Rattle.ilsyms.specs.PlanMeaning as plans
 use Rattle.ilcode.specs.Listings.{Listing}
 use Rattle.ilcode.specs.Steps as steps

@@ -89,6 +89,15 @@ IsStepStop buses bytes name (stops.Text fault) = IsPlanStop bytes (stops.Text fa
 IsStepStop buses bytes name (stops.Name fault) = IsPlanStop bytes (stops.Name fault)
 IsStepStop buses bytes name (stops.Binding fault) = ⊥
 
+-- why a text isn't accepted: the text's or its names' fault, else the first refusal
+abbrev pub IsCheckStop : ℕ → List ℕ → Stop → Type 0
+IsCheckStop buses bytes stops.Memory = Unit {0}
+IsCheckStop buses bytes (stops.Code task refusal) = (plan : Planned) × IsPlanOfText buses bytes plan × IsFirstRefused plan (string_bytes task) refusal
+IsCheckStop buses bytes (stops.Text fault) = IsPlanStop bytes (stops.Text fault)
+IsCheckStop buses bytes (stops.Name fault) = IsPlanStop bytes (stops.Name fault)
+IsCheckStop buses bytes (stops.NoTask asked) = ⊥
+IsCheckStop buses bytes (stops.Binding fault) = ⊥
+
 -- this many scans of the source program, each from the store that the one before left
 abbrev pub ScansMean : Tree → ℕ → List Entry → List Entry → Type 0
 ScansMean tree zero from to = to ≡ from

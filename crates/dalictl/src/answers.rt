@@ -4,7 +4,7 @@ ghost use Rattle.std.specs.Prelude.{◌≡◌, ◌<◌, length, map, slice_get, 
 ghost use Rattle.std.specs.Arc.{arc_value};
 ghost use Rattle.dalictl.specs.Layout.{laid_out};
 ghost use Rattle.ilverify.specs.Certificates.{IsCertified};
-ghost use Rattle.dalictl.specs.Answered.{AreCertified, IsCodeStop, IsFirstCalled, IsPlanOfText, IsPlanStop, IsStepStop, IsStepped, IsTaskStop, NoneIsCalled};
+ghost use Rattle.dalictl.specs.Answered.{AreCertified, IsCheckStop, IsCodeStop, IsFirstCalled, IsPlanOfText, IsPlanStop, IsStepStop, IsStepped, IsTaskStop, NoneIsCalled};
 ghost use Rattle.dalictl.specs.Stepping.{AreCodes, BeginInTypes, IsRunOf, accepted_of};
 
 use crate::compile::compile;
@@ -20,7 +20,11 @@ use std::alloc::{AllocError, Global};
 use std::sync::Arc;
 
 /// The plan of a text with its verified codes, or the first of what stands against it.
-pub fn check(alloc: Global, binding: &Binding, text: &[u8]) -> Result<Setup, Stop> {
+pub fn check(alloc: Global, binding: &Binding, text: &[u8]) -> Result<Setup, Stop>
+    ensures plan { IfOk result (λ setup. IsPlanOfText binding.now.buses text.now setup.plan) }
+    ensures codes { IfOk result (λ setup. AreCodes setup.plan setup.plan.tasks (accepted_of setup.codes.items)) }
+    ensures stop { IfErr result (IsCheckStop binding.now.buses text.now) }
+{
     let plan = plan_of(alloc, binding, text)?;
     let codes = verified(alloc, &plan)?;
     Ok(Setup { plan, codes })

@@ -1,6 +1,6 @@
-use Rattle.std.proofs.Common.{ℕ, ◌<◌, length, arith, refl, below_more}
+use Rattle.std.proofs.Common.{ℕ, arith, refl, below_more}
 use Rattle.dalictl.specs.Answered.{IsCalled}
-use Rattle.dalictl.proofs.Told.{called, uncalled, text_stop, name_stop}
+use Rattle.dalictl.proofs.Told.{called, uncalled}
 use Rattle.dalictl.proofs.answers.task_number.Goals as goal
 
 pub returns-then-eq_ignore_ascii_case : goal.returns-then-eq_ignore_ascii_case

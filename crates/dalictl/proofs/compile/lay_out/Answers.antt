@@ -1,5 +1,5 @@
-use Rattle.std.proofs.Common.{◌≡◌, ◌∙◌, sym, subst}
-use Rattle.ilcode.specs.Listings.{Listing, IsLawful}
+use Rattle.std.proofs.Common.{◌∙◌, sym, subst}
+use Rattle.ilcode.specs.Listings.{IsLawful}
 use Rattle.dalictl.specs.Meant.{IsMeant}
 use Rattle.dalictl.proofs.Lawful.{laid_out_lawful, parts_are}
 use Rattle.dalictl.proofs.Theorem.{is_meant}

@@ -1,4 +1,3 @@
-use Rattle.std.proofs.Common.{◌≡◌}
 use Rattle.std.specs.Arc.{arc_value}
 use Rattle.iltypes.specs.Values.{AreOf}
 use Rattle.dalictl.specs.Stepping.{ScansTo}
