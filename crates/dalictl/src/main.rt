@@ -9,6 +9,8 @@ mod answers;
 mod compile;
 mod files;
 mod options;
+#[cfg(test)]
+mod plain;
 mod report;
 mod scans;
 mod setup;

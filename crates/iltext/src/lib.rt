@@ -12,6 +12,8 @@ mod fault;
 mod instructions;
 mod keyword;
 mod parser;
+#[cfg(test)]
+mod plain;
 mod programs;
 mod reading;
 mod token;

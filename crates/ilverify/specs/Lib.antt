@@ -1,4 +1,5 @@
 pub mod Certificates
 pub mod Entries
+pub mod Printed
 pub mod Rules
 pub mod Verdicts
