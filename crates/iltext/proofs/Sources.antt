@@ -20,7 +20,7 @@ is_found bytes ts (Err e) short cut p = tt
 
 reads : (bytes : List ℕ) (ts : List Token) (tree : Tree) → Cuts bytes 0 ts → IsText bytes tree → whole_read text ts ≡ Ok tree.programs
 reads bytes ts tree cut t =
-    let same : t.tokens ≡ ts = one_cut bytes 0 t.tokens ts t.cut cut in
+    let same : t.tokens ≡ ts = one_cut bytes 0 (omega arith) t.tokens ts t.cut cut in
     whole_only _ _ _ _ Lawful-text ts tree.programs (subst (λ (z : List Token). text.whole z tree.programs) same t.whole)
 
 abbrev done : List Written → Result (List Written) (List Token)

@@ -6,7 +6,7 @@ use Rattle.iltokens.specs.declared.lexed.What.{What}
 use Rattle.iltokens.specs.declared.lexed.What.TheVariants as whats
 use Rattle.iltokens.specs.declared.lexed.Cause.{Cause}
 use Rattle.iltokens.specs.declared.lexed.Lexed.TheVariants as lexed
-use Rattle.iltokens.specs.Tokens.{token_at}
+use Rattle.iltokens.specs.Tokens.{IsTold}
 use Rattle.iltext.specs.declared.keyword.Keyword.{Keyword}
 use Rattle.iltext.specs.declared.token.Mark.TheVariants as marks
 use Rattle.iltext.specs.declared.token.Kind.{Kind}
@@ -45,7 +45,7 @@ span t = record { from = t.from; to = t.to }
 -- These are the tokens of the text from a place on: each begins where the one before it ends, and the last stands before
 -- the end of the text or is what begins no token.
 abbrev pub Cuts : List ℕ → ℕ → List Token → Type 0
-Cuts text at [] = token_at text at ≡ lexed.End
+Cuts text at [] = IsTold text at lexed.End
 Cuts text at (t ∷ ts) =
-    ((what : What) × (token_at text at ≡ lexed.Token what t.from t.to) × IsKind text (span t) what t.kind × Cuts text t.to ts)
-    ⊎ ((cause : Cause) × (token_at text at ≡ lexed.Fault cause t.from) × (t.kind ≡ kinds.Bad cause) × (t.to ≡ t.from) × (ts ≡ []))
+    ((what : What) × IsTold text at (lexed.Token what t.from t.to) × IsKind text (span t) what t.kind × Cuts text t.to ts)
+    ⊎ ((cause : Cause) × IsTold text at (lexed.Fault cause t.from) × (t.kind ≡ kinds.Bad cause) × (t.to ≡ t.from) × (ts ≡ []))

@@ -18,7 +18,7 @@ grown base value d lt le = go (leb value (2 ^ 64 - 1)) refl
     go true is = let low = leb-true value (2 ^ 64 - 1) is in let e : min value (2 ^ 64 - 1) ≡ value = omega arith in rw e refl
     go false is = let high = leb-false value (2 ^ 64 - 1) is in let e : min value (2 ^ 64 - 1) ≡ 2 ^ 64 - 1 = omega arith in rw e (omega arith)
 
-capped_digit : (base value b : ℕ) → 0 < base → add_digit base (capped value) b ≡ capped (value * base + digit_of b)
+pub capped_digit : (base value b : ℕ) → 0 < base → add_digit base (capped value) b ≡ capped (value * base + digit_of b)
 unfolding add_digit
 capped_digit base value b lt = grown base value (digit_of b) lt (le-mul_of_pos_right value lt)
 
@@ -73,7 +73,7 @@ digits_more base lt (suc k) cv bs u value h e = go (next_digit base bs) (is_next
     go (Some read) (is, inl p) ih = step (forms.Digits base) u (read.0 ∷ []) bs read.1 _ p (ih (add_digit base cv read.0) read.1 (u ++ read.0 ∷ []) (value * base + digit_of read.0) (forms.Digits.next u value read.0 h is) (grows read.0))
     go (Some read) (is, inr p) ih = step (forms.Digits base) u (95 ∷ read.0 ∷ []) bs read.1 _ p (ih (add_digit base cv read.0) read.1 (u ++ 95 ∷ read.0 ∷ []) (value * base + digit_of read.0) (forms.Digits.marked u value read.0 h is) (grows read.0))
 
-small : (d : ℕ) → digit_of d ≡ capped (digit_of d)
+pub small : (d : ℕ) → digit_of d ≡ capped (digit_of d)
 small d = let low : digit_of d ≤ 16 = grind arith in omega arith
 
 pub digits_found : (base : ℕ) → 0 < base → (bs : List ℕ) → Found (forms.Digits base) bs (digits base bs)

@@ -1,18 +1,17 @@
 -- Which faults a front may have, and that only the end of the bytes is an end.
-use Rattle.std.proofs.Common.{◌≡◌, ℤ, ℕ, ◌+◌, ◌-◌, ◌^◌, ◌<◌, ◌≤◌, Bool, true, false, cond, eqb, leb, ltb, List, [], ◌∷◌, ◌++◌, length, drop, Option, Some, None, Result, Ok, Err, ◌&&◌, ◌||◌, refl, sym, ap, subst, ◌∙◌, arith, eqb-true, length-drop, length-append}
+use Rattle.std.proofs.Common.{◌≡◌, ℤ, ℕ, ◌+◌, ◌-◌, ◌^◌, ◌<◌, ◌≤◌, Bool, true, false, cond, eqb, leb, ltb, List, [], ◌∷◌, ◌++◌, length, drop, Option, Some, None, ◌&&◌, ◌||◌, refl, ap, arith, eqb-true, length-drop, length-append}
 use Rattle.iltokens.specs.declared.lexed.Cause.TheVariants.{NotAscii, BadToken, BadNumber, CommentOpen}
-use Rattle.iltokens.specs.Blanks.{blanks, AreBlanks, OpensComment, BeginsNoBlank}
+use Rattle.iltokens.specs.Blanks.{AreBlanks}
 use Rattle.iltokens.specs.Numbers.{unsigned, signed}
 use Rattle.iltokens.specs.Times.{time}
 use Rattle.iltokens.specs.Addresses.{Place, address}
 use Rattle.iltokens.specs.Spelling.{is_letter}
 use Rattle.iltokens.specs.Digits.{is_digit}
 use Rattle.iltokens.specs.Fronts.{Front, end, taken, fault, in_limits, number_front, number_at, time_front, word_at, address_front, address_at, colon_at, dot_at, ampersand_at, return_at, mark_at, front_at}
-use Rattle.iltokens.specs.Tokens.{lexed_front, lexed_blanks, token_at, IsAfterBlanks, BeginsWith, GoesOverBlanks}
-use Rattle.iltokens.proofs.Comments.{Passed, AllBlanks, blanks_are}
+use Rattle.iltokens.specs.Tokens.{IsAfterBlanks, BeginsWith}
 
 -- what a front that begins with a byte may be
-abbrev Fits : ℕ → Front → Type 0
+abbrev pub Fits : ℕ → Front → Type 0
 Fits b end = ⊥
 Fits b (taken what rest) = Unit {0}
 Fits b (fault NotAscii) = 128 ≤ b
@@ -89,11 +88,11 @@ digit_below : (b : ℕ) → is_digit 10 b ≡ true → b < 128
 unfolding is_digit
 digit_below b e = grind arith
 
-front_nil : front_at [] ≡ end
+pub front_nil : front_at [] ≡ end
 unfolding front_at
 front_nil = refl
 
-front_fits : (b : ℕ) (bs : List ℕ) → Fits b (front_at (b ∷ bs))
+pub front_fits : (b : ℕ) (bs : List ℕ) → Fits b (front_at (b ∷ bs))
 unfolding front_at
 front_fits b bs =
     chosen (eqb b 43) b _ _ (λ e. number_fits b false bs (below b 43 (omega arith) e)) (λ e.
@@ -105,34 +104,12 @@ front_fits b bs =
 
 -- ---- places
 
-told : (bytes : List ℕ) (at : ℕ) (rest u : List ℕ) (P : List ℕ → Type 0) (place : ℕ) → at ≤ length bytes → drop at bytes ≡ u ++ rest → AreBlanks u → P rest → place + length rest ≡ length bytes → IsAfterBlanks bytes at place P
-told bytes at rest u P place le e are h there = record { before = u; rest = rest; parts = e; blanks = are; here = omega (arith, length-drop at bytes, ap length e, length-append u rest); ahead = h }
+pub after_blanks : (bytes : List ℕ) (at : ℕ) (rest u : List ℕ) (P : List ℕ → Type 0) (place : ℕ) → at ≤ length bytes → drop at bytes ≡ u ++ rest → AreBlanks u → P rest → place + length rest ≡ length bytes → IsAfterBlanks bytes at place P
+after_blanks bytes at rest u P place le e are h there = record { before = u; rest = rest; parts = e; blanks = are; here = omega (arith, length-drop at bytes, ap length e, length-append u rest); ahead = h }
 
-shorter : (bytes : List ℕ) (at : ℕ) (rest u : List ℕ) → drop at bytes ≡ u ++ rest → (length bytes - length rest) + length rest ≡ length bytes
+pub shorter : (bytes : List ℕ) (at : ℕ) (rest u : List ℕ) → drop at bytes ≡ u ++ rest → (length bytes - length rest) + length rest ≡ length bytes
 shorter bytes at rest u e = omega (arith, length-drop at bytes, ap length e, length-append u rest)
 
-begins : (rest : List ℕ) (P : ℕ → Type 0) → ((b : ℕ) (bs : List ℕ) → rest ≡ b ∷ bs → P b) → (rest ≡ [] → ⊥) → BeginsWith P rest
+pub begins : (rest : List ℕ) (P : ℕ → Type 0) → ((b : ℕ) (bs : List ℕ) → rest ≡ b ∷ bs → P b) → (rest ≡ [] → ⊥) → BeginsWith P rest
 begins [] P h n = n refl
 begins (b ∷ bs) P h n = h b bs refl
-
-empty : (rest : List ℕ) → ((b : ℕ) (bs : List ℕ) → rest ≡ b ∷ bs → ⊥) → rest ≡ []
-empty [] h = refl
-empty (b ∷ bs) h = absurd (h b bs refl)
-
-after_front : (bytes : List ℕ) (at : ℕ) (rest : List ℕ) (f : Front) → at ≤ length bytes → Passed (drop at bytes) rest BeginsNoBlank → ((b : ℕ) (bs : List ℕ) → rest ≡ b ∷ bs → Fits b f) → (rest ≡ [] → f ≡ end) → GoesOverBlanks bytes at (lexed_front (length bytes) rest f)
-after_front bytes at rest end le p fits nil =
-    let none : rest ≡ [] = empty rest fits in
-    told bytes at rest p.0 (λ r. r ≡ []) (length bytes) le p.1 p.2 none (rw none (omega arith))
-after_front bytes at rest (taken what after) le p fits nil = told bytes at rest p.0 BeginsNoBlank (length bytes - length rest) le p.1 p.2 p.3 (shorter bytes at rest p.0 p.1)
-after_front bytes at rest (fault NotAscii) le p fits nil = told bytes at rest p.0 (BeginsWith (λ b. 128 ≤ b)) (length bytes - length rest) le p.1 p.2 (begins rest (λ b. 128 ≤ b) fits (λ e. let bad = nil e in cc)) (shorter bytes at rest p.0 p.1)
-after_front bytes at rest (fault BadToken) le p fits nil = told bytes at rest p.0 (λ r. BeginsNoBlank r × BeginsWith (λ b. b < 128) r) (length bytes - length rest) le p.1 p.2 (p.3, begins rest (λ b. b < 128) fits (λ e. let bad = nil e in cc)) (shorter bytes at rest p.0 p.1)
-after_front bytes at rest (fault BadNumber) le p fits nil = told bytes at rest p.0 BeginsNoBlank (length bytes - length rest) le p.1 p.2 p.3 (shorter bytes at rest p.0 p.1)
-after_front bytes at rest (fault CommentOpen) le p fits nil = let none : rest ≡ [] = empty rest fits in let bad = nil none in absurd cc
-
-pub goes_over : (bytes : List ℕ) (at : ℕ) → at ≤ length bytes → GoesOverBlanks bytes at (token_at bytes at)
-unfolding token_at
-goes_over bytes at le = go (blanks (drop at bytes)) (blanks_are (drop at bytes))
-  where
-    go : (r : Result (List ℕ) (List ℕ)) → AllBlanks (drop at bytes) r → GoesOverBlanks bytes at (lexed_blanks (length bytes) r)
-    go (Ok rest) p = after_front bytes at rest (front_at rest) le p (λ b bs e. subst (λ (z : List ℕ). Fits b (front_at z)) (sym e) (front_fits b bs)) (λ e. ap front_at e ∙ front_nil)
-    go (Err rest) p = told bytes at rest p.0 OpensComment (length bytes - length rest) le p.1 p.2 p.3 (shorter bytes at rest p.0 p.1)

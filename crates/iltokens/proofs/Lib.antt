@@ -1,8 +1,15 @@
+pub mod BlanksAgain
 pub mod Comments
 pub mod DigitLaws
+pub mod DigitsAgain
 pub mod Fallen
+pub mod FrontsAgain
+pub mod NumbersAgain
 pub mod OverBlanks
 pub mod OverDigits
 pub mod Spelled
+pub mod Telling
 pub mod TimeLaws
+pub mod TimesAgain
 pub mod TokenLaws
+pub mod WordsAgain

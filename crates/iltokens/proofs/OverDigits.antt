@@ -2,7 +2,7 @@
 use Rattle.std.proofs.Common.{◌≡◌, ℕ, zero, suc, ◌<◌, ◌≤◌, Bool, true, false, cond, eqb, List, [], ◌∷◌, length, Option, Some, None, ◌&&◌, refl, sym, subst, arith}
 use Rattle.iltokens.specs.Digits.{is_digit, add_digit, marked, next_digit, digit_then, digits_read, digits_from}
 
-abbrev Shorter : ℕ → Option (ℕ × List ℕ) → Type 0
+abbrev pub Shorter : ℕ → Option (ℕ × List ℕ) → Type 0
 Shorter n None = Unit {0}
 Shorter n (Some read) = length read.1 < n
 

@@ -28,19 +28,22 @@ unit_found units.Minute bs = unless (codes "m") bs (after_word (codes "ms") bs) 
 unit_found units.Second bs = word_found (codes "s") bs
 unit_found units.Millisecond bs = word_found (codes "ms") bs
 
-times_capped : (n base : ℕ) → n ≤ n * base → 0 < base → min (min n (2 ^ 64 - 1) * base) (2 ^ 64 - 1) ≡ min (n * base) (2 ^ 64 - 1)
+pub times_capped : (n base : ℕ) → n ≤ n * base → 0 < base → min (min n (2 ^ 64 - 1) * base) (2 ^ 64 - 1) ≡ min (n * base) (2 ^ 64 - 1)
 times_capped n base le lt = go (leb n (2 ^ 64 - 1)) refl
   where
     go : (t : Bool) → leb n (2 ^ 64 - 1) ≡ t → min (min n (2 ^ 64 - 1) * base) (2 ^ 64 - 1) ≡ min (n * base) (2 ^ 64 - 1)
     go true is = let low = leb-true n (2 ^ 64 - 1) is in let e : min n (2 ^ 64 - 1) ≡ n = omega arith in rw e refl
     go false is = let high = leb-false n (2 ^ 64 - 1) is in let e : min n (2 ^ 64 - 1) ≡ 2 ^ 64 - 1 = omega arith in rw e (omega arith)
 
-some_time : (unit : Unit) → 0 < milliseconds unit
+pub some_time : (unit : Unit) → 0 < milliseconds unit
 some_time units.Day = omega arith
 some_time units.Hour = omega arith
 some_time units.Minute = omega arith
 some_time units.Second = omega arith
 some_time units.Millisecond = omega arith
+
+pub scale_grows : (unit : Unit) (count : ℕ) → count ≤ count * milliseconds unit
+scale_grows unit count = le-mul_of_pos_right count (some_time unit)
 
 scaled_found : (unit : Unit) (bs number others : List ℕ) (count told : ℕ) (o : Option (List ℕ)) → bs ≡ number ++ others → forms.Digits 10 number count → told ≡ capped count → WordAt (forms.letters unit) others o → Found (IsPart unit) bs (scaled unit told o)
 scaled_found unit bs number others count told None e are kept w = tt
@@ -49,10 +52,10 @@ scaled_found unit bs number others count told (Some rest) e are kept w = (
   count * milliseconds unit,
   e ∙ ap (λ (z : List ℕ). number ++ z) w.1 ∙ sym (append_assoc number w.0 rest),
   record { number = number; count = count; word = w.0; parts = refl; digits = are; reads = w.2; scaled = refl },
-  rw kept (times_capped count (milliseconds unit) (le-mul_of_pos_right count (some_time unit)) (some_time unit)),
+  rw kept (times_capped count (milliseconds unit) (scale_grows unit count) (some_time unit)),
 )
 
-part_found : (unit : Unit) (bs : List ℕ) → Found (IsPart unit) bs (part unit bs)
+pub part_found : (unit : Unit) (bs : List ℕ) → Found (IsPart unit) bs (part unit bs)
 unfolding part
 part_found unit bs = go (digits 10 bs) (digits_found 10 (omega arith) bs)
   where
@@ -89,10 +92,10 @@ marks (b ∷ bs) = go (eqb b 95) refl
     go true is = let x = eqb-true b 95 is in inr (rw x refl)
     go false is = inl refl
 
-abbrev state : ℕ → Bool → List ℕ → Parts
+abbrev pub state : ℕ → Bool → List ℕ → Parts
 state total some rest = record { total = total; some = some; rest = rest }
 
-summed : (total told value n : ℕ) → total ≡ capped value → told ≡ capped n → min (total + told) (2 ^ 64 - 1) ≡ capped (value + n)
+pub summed : (total told value n : ℕ) → total ≡ capped value → told ≡ capped n → min (total + told) (2 ^ 64 - 1) ≡ capped (value + n)
 summed total told value n e f = omega arith
 
 module _ (unit : Unit) (limit : ℕ) (lt : milliseconds unit < limit) (bs : List ℕ) where

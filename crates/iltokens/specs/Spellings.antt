@@ -1,6 +1,6 @@
 -- What each kind of token spells, by itself (IEC 61131-3, 2.1.2, 2.2.1, 2.2.3.1 and 2.4.1.1, with this project's profile).
 -- Values are whole numbers without limit.
-use Rattle.std.specs.Prelude.{◌≡◌, ◌⊎◌, ℕ, ◌+◌, ◌*◌, ◌^◌, ◌<◌, ◌≤◌, ℤ, pos, neg_ℤ, List, [], ◌∷◌, ◌++◌, true, map, codes}
+use Rattle.std.specs.Prelude.{◌≡◌, ◌⊎◌, ℕ, ◌+◌, ◌*◌, ◌<◌, ℤ, pos, neg_ℤ, List, [], ◌∷◌, ◌++◌, true, map, codes}
 use Rattle.std.specs.Char.{to_ascii_lowercase}
 use Rattle.iltokens.specs.declared.lexed.AddressKind.{AddressKind}
 use Rattle.iltokens.specs.declared.lexed.AddressKind.TheVariants as kinds
@@ -22,7 +22,7 @@ abbrev pub AreNameBytes : List ℕ → Type 0
 AreNameBytes [] = Prim.Unit {0}
 AreNameBytes (b ∷ bs) = (is_name_byte b ≡ true) × AreNameBytes bs
 
--- a letter or underscore, then letters, digits and underscores
+-- a letter or underscore, then letters, digits and underscores (profile: also several underscores together)
 abbrev pub IsName : List ℕ → Type 0
 IsName [] = ⊥
 IsName (b ∷ bs) = (is_letter b ≡ true) × AreNameBytes bs
@@ -42,7 +42,7 @@ pub data IsUnsigned : List ℕ → ℕ → Type 0 where
   octal : (u : List ℕ) (n : ℕ) → Digits 8 u n → IsUnsigned (codes "8#" ++ u) n
   hexadecimal : (u : List ℕ) (n : ℕ) → Digits 16 u n → IsUnsigned (codes "16#" ++ u) n
 
--- with a sign or none
+-- with a sign or none (profile: one may stand before a base)
 pub data IsNumber : List ℕ → ℤ → Type 0 where
   plain : (u : List ℕ) (n : ℕ) → IsUnsigned u n → IsNumber u (pos n)
   positive : (u : List ℕ) (n : ℕ) → IsUnsigned u n → IsNumber (codes "+" ++ u) (pos n)
@@ -73,7 +73,7 @@ pub data AreParts : ℕ → List ℕ → ℕ → Type 0 where
   then : (least : ℕ) (v : List ℕ) (m : ℕ) (unit : Unit) (u : List ℕ) (n : ℕ) → AreParts least v m → milliseconds unit < least → IsPart unit u n → AreParts (milliseconds unit) (v ++ u) (m + n)
   apart : (least : ℕ) (v : List ℕ) (m : ℕ) (unit : Unit) (u : List ℕ) (n : ℕ) → AreParts least v m → milliseconds unit < least → IsPart unit u n → AreParts (milliseconds unit) (v ++ 95 ∷ u) (m + n)
 
--- `T#` or `TIME#` and parts
+-- `T#` or `TIME#` and parts (profile: neither a sign nor a fraction)
 pub record IsTime (u : List ℕ) (n : ℕ) : Type 0 where
   pub prefix : List ℕ
   pub least : ℕ
@@ -122,11 +122,3 @@ Spells whats.Close u = u ≡ codes ")"
 Spells whats.Ampersand u = u ≡ codes "&"
 Spells whats.AmpersandNot u = Reads (codes "&n") u
 Spells whats.LineEnd u = (u ≡ 10 ∷ []) ⊎ (u ≡ 13 ∷ 10 ∷ [])
-
--- a number, a duration or an address outside its limits: 64 signed bits, 32 bits of milliseconds, 64 signed bits each
-pub data IsOutside : List ℕ → Type 0 where
-  too_high : (u : List ℕ) (n : ℕ) → IsNumber u (pos n) → 2 ^ 63 ≤ n → IsOutside u
-  too_low : (u : List ℕ) (n : ℕ) → IsNumber u (neg_ℤ (pos n)) → 2 ^ 63 < n → IsOutside u
-  duration : (u : List ℕ) (n : ℕ) → IsTime u n → 2 ^ 32 ≤ n → IsOutside u
-  bus : (u : List ℕ) (kind : AddressKind) (n m : ℕ) → IsAddress u kind n m → 2 ^ 63 ≤ n → IsOutside u
-  place : (u : List ℕ) (kind : AddressKind) (n m : ℕ) → IsAddress u kind n m → 2 ^ 63 ≤ m → IsOutside u

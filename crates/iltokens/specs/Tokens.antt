@@ -1,10 +1,11 @@
 -- The next token of a text.
-use Rattle.std.specs.Prelude.{◌≡◌, ℕ, ◌+◌, ◌-◌, ◌<◌, ◌≤◌, List, [], ◌∷◌, ◌++◌, length, take, drop, Result, Ok, Err}
+use Rattle.std.specs.Prelude.{◌≡◌, ℕ, ◌+◌, ◌-◌, ◌<◌, ◌≤◌, List, [], ◌∷◌, ◌++◌, length, drop, Result, Ok, Err}
+use Rattle.iltokens.specs.declared.lexed.What.{What}
 use Rattle.iltokens.specs.declared.lexed.Lexed.{Lexed}
 use Rattle.iltokens.specs.declared.lexed.Lexed.TheVariants as lexed
 use Rattle.iltokens.specs.declared.lexed.Cause.TheVariants.{NotAscii, BadToken, BadNumber, CommentOpen}
 use Rattle.iltokens.specs.Blanks.{blanks, AreBlanks, OpensComment, BeginsNoBlank}
-use Rattle.iltokens.specs.Spellings.{Spells, IsOutside}
+use Rattle.iltokens.specs.Longest.{IsWithin, IsLongest, SpellsNone}
 use Rattle.iltokens.specs.Fronts.{Front, end, taken, fault, front_at}
 
 -- places are known by how much is left
@@ -41,23 +42,21 @@ abbrev pub BeginsWith : (ℕ → Type 0) → List ℕ → Type 0
 BeginsWith P [] = ⊥
 BeginsWith P (b ∷ bs) = P b
 
--- Nothing but blanks and comments stands before what is told: a token begins where no blank does; at the end nothing is left;
--- a fault is an open comment, a byte of 80 hex or more, or another byte.
-abbrev pub GoesOverBlanks : List ℕ → ℕ → Lexed → Type 0
-GoesOverBlanks bytes at (lexed.Token what from to) = IsAfterBlanks bytes at from BeginsNoBlank
-GoesOverBlanks bytes at lexed.End = IsAfterBlanks bytes at (length bytes) (λ rest. rest ≡ [])
-GoesOverBlanks bytes at (lexed.Fault CommentOpen place) = IsAfterBlanks bytes at place OpensComment
-GoesOverBlanks bytes at (lexed.Fault NotAscii place) = IsAfterBlanks bytes at place (BeginsWith (λ b. 128 ≤ b))
-GoesOverBlanks bytes at (lexed.Fault BadToken place) = IsAfterBlanks bytes at place (λ rest. BeginsNoBlank rest × BeginsWith (λ b. b < 128) rest)
-GoesOverBlanks bytes at (lexed.Fault BadNumber place) = IsAfterBlanks bytes at place BeginsNoBlank
+-- a token stands here: the longest, in its limits
+abbrev pub TokenStands : What → ℕ → ℕ → List ℕ → Type 0
+TokenStands what from to rest = (front : List ℕ) × (to ≡ from + length front) × IsLongest rest front what × IsWithin what
 
--- the bytes begin with what is outside its limits
-abbrev pub BeginsOutside : List ℕ → Type 0
-BeginsOutside bs = (v after : List ℕ) × (bs ≡ v ++ after) × IsOutside v
+-- what stands here is the longest token, outside its limits
+abbrev pub OutsideStands : List ℕ → Type 0
+OutsideStands rest = (front : List ℕ) × (what : What) × IsLongest rest front what × (IsWithin what → ⊥)
 
--- the bytes of a token spell it, and a bad number is one
-abbrev pub SpellsIt : List ℕ → Lexed → Type 0
-SpellsIt bytes (lexed.Token what from to) = Spells what (take (to - from) (drop from bytes))
-SpellsIt bytes lexed.End = Unit {0}
-SpellsIt bytes (lexed.Fault BadNumber place) = BeginsOutside (drop place bytes)
-SpellsIt bytes (lexed.Fault cause place) = Unit {0}
+-- Nothing but blanks and comments stands before what is told, and no blank where it stands: the longest token, in its limits;
+-- the end of the bytes; or a fault, which is a comment without end, a byte of 80 hex or more, another byte where no token
+-- begins, or the longest token, outside its limits.
+abbrev pub IsTold : List ℕ → ℕ → Lexed → Type 0
+IsTold bytes at (lexed.Token what from to) = IsAfterBlanks bytes at from (λ rest. BeginsNoBlank rest × TokenStands what from to rest)
+IsTold bytes at lexed.End = IsAfterBlanks bytes at (length bytes) (λ rest. rest ≡ [])
+IsTold bytes at (lexed.Fault CommentOpen place) = IsAfterBlanks bytes at place OpensComment
+IsTold bytes at (lexed.Fault NotAscii place) = IsAfterBlanks bytes at place (BeginsWith (λ b. 128 ≤ b))
+IsTold bytes at (lexed.Fault BadToken place) = IsAfterBlanks bytes at place (λ rest. BeginsNoBlank rest × BeginsWith (λ b. b < 128) rest × SpellsNone rest)
+IsTold bytes at (lexed.Fault BadNumber place) = IsAfterBlanks bytes at place (λ rest. BeginsNoBlank rest × OutsideStands rest)

@@ -1,7 +1,7 @@
 //! The next token of a text.
 
 ghost use Rattle.std.specs.Prelude.{◌≡◌, ◌≤◌, length};
-ghost use Rattle.iltokens.specs.Tokens.{token_at, IsAhead, GoesOverBlanks, SpellsIt};
+ghost use Rattle.iltokens.specs.Tokens.{token_at, IsAhead, IsTold};
 
 use crate::blanks::blanks;
 use crate::front::{Front, front_at};
@@ -12,13 +12,12 @@ use crate::lexed::{Cause, Lexed};
 /// place is its `(*`.
 pub fn token(bytes: &[u8], at: usize) -> Lexed
     requires { at ≤ length bytes.now }
-    ensures exact { result ≡ token_at bytes.now at }
     // It stands at `at` or behind it, and a token has a byte.
     ensures ahead { IsAhead result at (length bytes.now) }
-    // Between `at` and what is told stand blanks and comments alone.
-    ensures blanks { GoesOverBlanks bytes.now at result }
-    // The bytes of a token spell it.
-    ensures spelled { SpellsIt bytes.now result }
+    // It is what stands after the blanks and comments: the longest token, the end of the bytes, or the fault,
+    ensures told { IsTold bytes.now at result }
+    // and nothing else is.
+    ensures only { (other : Lexed) → IsTold bytes.now at other → other ≡ result }
 {
     next_token(bytes, at)
 }

@@ -1,5 +1,6 @@
-//! Tokens of small texts.
+//! Tokens of small texts, and those of a slow reader beside them.
 
+use crate::trial::{Spelled, longest_by_trial};
 use crate::{AddressKind, Cause, Lexed, What, token};
 use std::test::Fail;
 
@@ -77,5 +78,83 @@ fn each_fault(rt: HostRuntime) {
     for (text, cause, at, number) in texts {
         assert_eq!(rt; token(text, 0), Lexed::Fault { cause, at });
         assert_eq!(rt; cause.number(), number);
+    }
+}
+
+/// Whether a slow reader finds what `token` tells, at each place of the text.
+fn read_alike(text: &[u8]) -> bool {
+    let mut rest = text;
+    for _ in text {
+        match token(rest, 0) {
+            Lexed::Token { what, from, to } => {
+                let (_, ahead) = rest.split_at(from);
+                if longest_by_trial(ahead) != Some((Spelled::Token(what), to - from)) {
+                    return false;
+                }
+                let (_, after) = rest.split_at(to);
+                rest = after;
+            }
+            Lexed::Fault { cause, at } => {
+                let (_, ahead) = rest.split_at(at);
+                let slow = longest_by_trial(ahead);
+                return match cause {
+                    Cause::BadNumber => matches!(slow, Some((Spelled::Outside, _))),
+                    Cause::BadToken | Cause::NotAscii => slow.is_none(),
+                    Cause::CommentOpen => true,
+                };
+            }
+            Lexed::End => return true,
+        }
+    }
+    matches!(token(rest, 0), Lexed::End)
+}
+
+#[test]
+fn a_slow_reader_reads_alike(rt: HostRuntime) {
+    let texts: [&[u8]; 24] = [
+        b"PROGRAM p\nVAR a : BOOL := TRUE; b, c : BOOL; END_VAR\nLD a\nANDN b\nST c\nSTN a\nEND_PROGRAM\n",
+        b"CAL t(PT := T#250ms)\r\n",
+        b"g AT %QB0.5 : SINT(0..254) := 16#Fe;",
+        b"TASK t2 (INTERVAL := T#1s, PRIORITY := 2);",
+        b"1_ 1__2 1_2_ _1 12abc 2# 2#2 2#12 8#78 16# 16#G 16#1g +16#_1 - + -+1 --1 +1_000-1",
+        b"9223372036854775807 9223372036854775808",
+        b"-9223372036854775808-9223372036854775809",
+        b"-16#8000_0000_0000_0000 16#8000_0000_0000_0000",
+        b"2#1111111111111111111111111111111111111111111111111111111111111111111",
+        b"T#5 t5 T#5m T#5ms T#5m3s T#5m3 T#5m_3s T#5m__3s T#5m_ T#5s3m T#5m3m T#5ms5ms time#5h time#",
+        b"TIME#1d25h TIME#1d_2h_3m_4s_5ms TIME#_1d T#1_0d1__h T#d T#1dh T_#1d TI#1d T##1d T#1ds T#1hs1ms",
+        b"T#4294967295ms T#4294967296ms",
+        b"T#49d17h2m47s295ms T#49d17h2m47s296ms",
+        b"T#18446744073709551616d",
+        b"%QB0.5 %qb1.22x %Iw01.2 %ix3.4.5 %IX3.4_5",
+        b"%QW1.2",
+        b"%QB1",
+        b"%QB1.",
+        b"%QB1_0.2",
+        b"%QB9223372036854775807.9223372036854775807 %QB9223372036854775808.1",
+        b"&NIGHT &n&N&& :=:: =",
+        b"...(.)..;,:(*) *)a(**)b",
+        b"\r\n\n\r",
+        b"a\x80",
+    ];
+    for text in texts {
+        for begin in 0..text.len() {
+            let (_, ahead) = text.split_at(begin);
+            assert!(rt; read_alike(ahead));
+        }
+    }
+}
+
+#[test]
+fn a_slow_reader_reads_all_short_durations_alike(rt: HostRuntime) {
+    let letters = b"1_dhmsMS";
+    for number in 0..32_768_u32 {
+        let mut text = *b"T#2     ";
+        let mut number = number;
+        for byte in text.iter_mut().skip(3) {
+            *byte = letters[(number % 8) as usize];
+            number /= 8;
+        }
+        assert!(rt; read_alike(&text));
     }
 }
