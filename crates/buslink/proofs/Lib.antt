@@ -1,3 +1,2 @@
-mod Marks
 mod Trying
 mod Failures

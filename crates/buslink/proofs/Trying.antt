@@ -1,7 +1,7 @@
 -- What trying a transaction once, and again after a loss, does to a bus.
 use Rattle.std.proofs.Common.{◌≡◌, ℕ, ◌⊎◌, inl, inr, zero, suc, ◌+◌, ◌-◌, ◌<◌, ◌≤◌, List, [], ◌∷◌, ◌++◌, length, take, drop, slice_index_or, refl, sym, ◌∙◌, ap, append_assoc, arith}
 use Rattle.std.specs.Prelude.{All, IsTrue, Result, Ok, Err, ◌==◌, true, false}
-use Rattle.std.proofs.lemmas.Bool.{cases_lt, eqb-true}
+use Rattle.std.proofs.lemmas.Bool.{eqb-true}
 use Rattle.std.proofs.lemmas.List.{append-nil, length-append, take_all}
 use Rattle.daliframe.specs.declared.forward.Frame.{Frame}
 use Rattle.transact.specs.declared.marks.Mark.{Mark}
@@ -12,11 +12,11 @@ use Rattle.transact.specs.declared.marks.Sent.{Sent}
 use Rattle.transact.specs.Marks.{IsBroken, outcome_of}
 use Rattle.transact.specs.FrameLists.{FrameList}
 use Rattle.transact.specs.Attempts.{Attempt, IsAttempt, IsReport, ReportParts, Spells, marks_of, all_marks, sent_with, all_sent, last_mark}
+use Rattle.transact.proofs.AttemptLemmas.{same_reading}
 use Rattle.transact.proofs.ReadingLemmas.{sent_with_none}
 use Rattle.buslink.specs.declared.faults.Fault.{Fault}
 use Rattle.buslink.specs.BusLog.{BusLog, mark_of_send, after_send, with_spare}
 use Rattle.buslink.specs.Performing.{failures_after, after_report, failures_with, after_frames, IsTriedOnce, IsTried}
-use Rattle.buslink.proofs.Marks.{same_reading}
 
 -- ---- frames, one after another
 abbrev frame_sent : Frame → ℕ → Mark → Sent
@@ -89,8 +89,8 @@ pub once_more : (frames rest : List Frame) (frame : Frame) (priority : ℕ) (bef
     → 0 < length frames → frame ≡ slice_index_or frames 0 frame → rest ≡ take (length frames - 1) (drop 1 frames) → mark ≡ mark_of_send r → mid ≡ after_send frame priority r old
     → middle ≡ before ++ mark ∷ [] → (IsBroken mark → ⊥)
     → IsTriedOnce rest 1 middle after mid new last → IsTriedOnce frames priority before after old new last
-once_more [] rest frame priority before middle after old mid new mark last r some is behind marked sends pushed whole t = absurd (omega arith)
-once_more (f ∷ frames) rest frame priority before middle after old mid new mark last r some is behind marked sends pushed whole t =
+once_more [] rest frame priority before middle after old mid new mark _ r some is behind marked sends pushed whole t = absurd (omega arith)
+once_more (f ∷ frames) rest frame priority before middle after old mid new mark _ r some is behind marked sends pushed whole t =
     let at : frame ≡ f = is in
     let tail : rest ≡ frames = behind ∙ take_all (suc (length frames) - 1) frames (omega arith) in
     let legal : IsAttempt (length frames) t.attempt = rw tail at t.legal in
@@ -117,18 +117,11 @@ once_more (f ∷ frames) rest frame priority before middle after old mid new mar
     elim_all m xs whole h (suc k) d lt = h k d (omega arith)
 
 -- ---- all attempts
--- no retry is left where one would be made
-pub none_left : (retries : ℕ) (P : Type 0) → (P × (0 < retries) → IsTrue false) → P → retries ≡ 0
-none_left retries P refused p = elim (cases_lt 0 retries) as (λ _. retries ≡ 0) [
-  | inl lt ↦ absurd (not_true (refused (p, lt)))
-  | inr ge ↦ omega arith
-]
-
 -- the last attempt
 pub tried_last : (list : FrameList) (frames : List Frame) (first retries : ℕ) (before after : List Mark) (old new : BusLog) (last : Mark)
     → frames ≡ list.frames → first ≡ list.first → IsTriedOnce frames first before after old new last → (last ≡ Lost → retries ≡ 0)
     → IsTried list retries before after old new
-tried_last list frames first retries before after old new last same priority t settled = record {
+tried_last list frames first retries before after old new _ same priority t settled = record {
   attempts = t.attempt ∷ [];
   legal = (rw same at t.legal, λ lost. settled (t.ends ∙ lost));
   marks = t.marks ∙ ap (λ (xs : List Mark). before ++ xs) (sym (append-nil (marks_of t.attempt)));
@@ -143,8 +136,8 @@ tried_last list frames first retries before after old new last same priority t s
 pub tried_more : (list : FrameList) (frames : List Frame) (first retries : ℕ) (before middle after : List Mark) (old mid new : BusLog) (last : Mark)
     → frames ≡ list.frames → first ≡ list.first → IsTriedOnce frames first before middle old mid last → last ≡ Lost → 0 < retries
     → IsTried list (retries - 1) middle after mid new → IsTried list retries before after old new
-tried_more list frames first zero before middle after old mid new last same priority t lost left u = absurd (omega arith)
-tried_more list frames first (suc retries) before middle after old mid new last same priority t lost left u =
+tried_more list frames first zero before middle after old mid new _ same priority t lost left u = absurd (omega arith)
+tried_more list frames first (suc retries) before middle after old mid new _ same priority t lost left u =
     let fewer : suc retries - 1 ≡ retries = omega arith in
     behind u.attempts (rw fewer at u.legal) u.marks u.bus
   where

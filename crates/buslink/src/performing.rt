@@ -1,5 +1,5 @@
 //! Transactions on a bus.
-ghost use Rattle.std.specs.Prelude.{◌≡◌, ◌+◌, ◌*◌, ◌<◌, ◌≤◌, ◌↔◌, IsTrue, length, All, IfOk, IfErr, IsOk};
+ghost use Rattle.std.specs.Prelude.{◌≡◌, ◌+◌, ◌*◌, ◌<◌, ◌≤◌, length, All, IfOk, IfErr, IsOk};
 ghost use Rattle.arrayvec.specs.ArrayVec.{array_vec_len};
 ghost use Rattle.transact.specs.Attempts.{IsReportParts};
 ghost use Rattle.buslink.specs.BusLog.{one_more_failure, with_spare};
@@ -9,12 +9,10 @@ use crate::{Bus, Fault};
 use arrayvec::ArrayVec;
 use daliframe::Frame;
 use std::alloc::AllocError;
-use transact::{Mark, Report, Transaction};
+use transact::{MOST_RETRIES, Mark, Report, Transaction};
 
 /// A transaction has at most so many frames, in all of its attempts.
 const MOST_FRAMES: usize = 9;
-/// A transaction is tried again at most so often.
-const MOST_RETRIES: u8 = 2;
 
 /// Sends the frames of a transaction, and all of them again where one is lost, in three attempts at most. A fault of the
 /// bus interface ends it at once, with the outcome `Failed`.
@@ -51,16 +49,9 @@ fn try_again<B: Bus>(
     ensures { IsTried transaction.now retries marks.old.items marks.new.items (B.log bus.old) (B.log bus.new) }
 {
     let last = try_once(bus, transaction.frames(), transaction.first(), marks);
-    if is_retried(last, retries) {
+    if last.is_retried(retries) {
         try_again(bus, transaction, retries - 1, marks);
     }
-}
-
-/// Whether another attempt follows one with this last mark.
-fn is_retried(last: Mark, retries: u8) -> bool
-    ensures { IsTrue result ↔ ((last ≡ Mark.Lost) × (0 < retries)) }
-{
-    last == Mark::Lost && retries > 0
 }
 
 /// Sends the frames, up to one that is lost or fails, and gives the last mark. The first has this priority, each later one 1.

@@ -1,2 +1,3 @@
 pub mod Spellings
+pub mod AttemptLemmas
 pub mod ReadingLemmas

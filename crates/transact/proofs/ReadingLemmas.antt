@@ -1,6 +1,6 @@
--- Marks have one reading as attempts.
+-- The steps of reading marks as attempts.
 use Rattle.std.proofs.Common.{◌≡◌, ℕ, inl, inr, zero, suc, ◌+◌, ◌-◌, ◌<◌, List, [], ◌∷◌, ◌++◌, length, take, drop, slice_index_or, refl, sym, ◌∙◌, ap, append_assoc, arith}
-use Rattle.std.specs.Prelude.{All, IsTrue, true, false, ◌==◌, Option, Some, None, MatchOption}
+use Rattle.std.specs.Prelude.{IsTrue, true, false, ◌==◌, Option, Some, None, MatchOption}
 use Rattle.std.proofs.lemmas.Bool.{cases_lt, eqb-true}
 use Rattle.std.proofs.lemmas.List.{take-append-drop, take_more, get_or_default, append-nil}
 use Rattle.daliframe.specs.declared.forward.Frame.{Frame}
@@ -9,9 +9,10 @@ use Rattle.transact.specs.declared.marks.Mark.TheVariants.{Quiet, Lost}
 use Rattle.transact.specs.declared.marks.Sent.{Sent}
 use Rattle.transact.specs.declared.marks.Outcome.{Outcome}
 use Rattle.transact.specs.FrameLists.{FrameList}
-use Rattle.transact.specs.Marks.{IsBroken, outcome_of}
+use Rattle.transact.specs.Marks.{outcome_of}
 use Rattle.transact.specs.Attempts.{Spells, Attempt, IsAttempt, IsReport, marks_of, all_marks, sent_with, all_sent, last_mark}
 use Rattle.transact.specs.Readings.{EndsAt, IsRead, ReadsNone, HasNoAttempt}
+use Rattle.transact.proofs.AttemptLemmas.{same_attempt}
 
 -- nothing is sent with no marks
 pub sent_with_none : (frames : List Frame) (first : ℕ) → sent_with frames first [] ≡ []
@@ -20,49 +21,6 @@ sent_with_none (f ∷ frames) first = refl
 
 regroup : (xs ys zs : List Sent) → (xs ++ ys) ++ zs ≡ xs ++ (ys ++ zs)
 regroup xs ys zs = simp append_assoc
-
--- ---- an attempt is told by its marks and those behind
-record Front (count : ℕ) (xs : List Mark) (x : Mark) : Type 0 where
-  pub within : length xs < count
-  pub unbroken : All (λ mark. IsBroken mark → ⊥) xs
-  pub cut : length xs + 1 < count → IsBroken x
-
-shorter : (count : ℕ) (m : Mark) (xs : List Mark) (x : Mark) → Front (suc count) (m ∷ xs) x → Front count xs x
-shorter count m xs x f = record {
-  within = let h : suc (length xs) < suc count = f.within in omega arith;
-  unbroken = λ k d lt. f.unbroken (suc k) d (omega arith);
-  cut = λ h. f.cut (omega arith);
-}
-
-same_front : (count : ℕ) (xs ys : List Mark) (x y : Mark) (r s : List Mark) → Front count xs x → Front count ys y
-    → (xs ++ x ∷ []) ++ r ≡ (ys ++ y ∷ []) ++ s → (xs ≡ ys) × (x ≡ y) × (r ≡ s)
-same_front count [] [] x y r s f g e = (refl, cc, cc)
-same_front count [] (m ∷ ys) x y r s f g e =
-    let same : x ≡ m = cc in
-    let in_front : suc (length ys) < count = g.within in
-    let broken : IsBroken x = f.cut (omega arith) in
-    absurd (g.unbroken 0 m (omega arith) (rw same at broken))
-same_front count (m ∷ xs) [] x y r s f g e =
-    let same : y ≡ m = cc in
-    let in_front : suc (length xs) < count = f.within in
-    let broken : IsBroken y = g.cut (omega arith) in
-    absurd (f.unbroken 0 m (omega arith) (rw same at broken))
-same_front zero (m ∷ xs) (n ∷ ys) x y r s f g e = absurd (let h : suc (length xs) < 0 = f.within in omega arith)
-same_front (suc count) (m ∷ xs) (n ∷ ys) x y r s f g e =
-    let tails : (xs ++ x ∷ []) ++ r ≡ (ys ++ y ∷ []) ++ s = cc in
-    let rest : (xs ≡ ys) × (x ≡ y) × (r ≡ s) = same_front count xs ys x y r s (shorter count m xs x f) (shorter count n ys y g) tails in
-    let tail : xs ≡ ys = rest.0 in
-    (cc, rest.1, rest.2)
-
-front_of : (count : ℕ) (a : Attempt) → IsAttempt count a → Front count a.before a.last
-front_of count a h = record { within = h.within; unbroken = h.unbroken; cut = h.cut }
-
-same_attempt : (count : ℕ) (a b : Attempt) (r s : List Mark) → IsAttempt count a → IsAttempt count b
-    → marks_of a ++ r ≡ marks_of b ++ s → (a.last ≡ b.last) × (r ≡ s)
-same_attempt count a b r s f g e =
-    let both : (a.before ≡ b.before) × (a.last ≡ b.last) × (r ≡ s) =
-    same_front count a.before b.before a.last b.last r s (front_of count a f) (front_of count b g) e in
-    (both.1, both.2)
 
 -- ---- reports by their first attempt
 report_first : (retries count : ℕ) (a : Attempt) (more : List Attempt) → IsReport retries count (a ∷ more) → IsAttempt count a
@@ -95,7 +53,7 @@ reads_too_much list retries marks rest a is settled e more (b ∷ []) h spelled 
     more (same_attempt (length list.frames) a b rest [] is h.0 (sym e ∙ spelled)).1
 reads_too_much list zero marks rest a is settled e more (b ∷ c ∷ others) h spelled = h
 reads_too_much list (suc retries) marks rest a is settled e more (b ∷ c ∷ others) h spelled =
-    let same : a.last ≡ b.last = (same_attempt (length list.frames) a b rest (all_marks (c ∷ others)) is h.0 (sym e ∙ spelled)).0 in
+    let same : a.last ≡ b.last = ap (λ (x : Attempt). x.last) (same_attempt (length list.frames) a b rest (all_marks (c ∷ others)) is h.0 (sym e ∙ spelled)).0 in
     let none_left : suc retries ≡ 0 = settled (same ∙ h.1) in
     absurd (omega arith)
 
@@ -124,7 +82,7 @@ pub reads_none_retried : (list : FrameList) (retries : ℕ) (marks rest : List M
     → ReadsNone list retries rest → ReadsNone list (suc retries) marks
 reads_none_retried list retries marks rest a is lost e none [] h spelled = h
 reads_none_retried list retries marks rest a is lost e none (b ∷ []) h spelled =
-    let same : a.last ≡ b.last = (same_attempt (length list.frames) a b rest [] is h.0 (sym e ∙ spelled)).0 in
+    let same : a.last ≡ b.last = ap (λ (x : Attempt). x.last) (same_attempt (length list.frames) a b rest [] is h.0 (sym e ∙ spelled)).0 in
     let none_left : suc retries ≡ 0 = h.1 (sym same ∙ lost) in
     absurd (omega arith)
 reads_none_retried list retries marks rest a is lost e none (b ∷ c ∷ more) h spelled =

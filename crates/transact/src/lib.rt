@@ -6,6 +6,8 @@
 #![tactic(auto)]
 
 mod marks;
+#[cfg(test)]
+mod plain_tests;
 mod reports;
 #[cfg(test)]
 mod tests;
@@ -13,5 +15,5 @@ mod transactions;
 
 pub use gearcmd::TaskKind;
 pub use marks::{Mark, Outcome, Reply, Sent};
-pub use reports::Report;
+pub use reports::{MOST_RETRIES, Report};
 pub use transactions::Transaction;

@@ -1,5 +1,5 @@
 //! What became of a frame, and of a transaction.
-ghost use Rattle.std.specs.Prelude.{◌≡◌, ◌↔◌, IsTrue};
+ghost use Rattle.std.specs.Prelude.{◌≡◌, ◌<◌, ◌↔◌, IsTrue};
 ghost use Rattle.transact.specs.Marks.{IsBroken, outcome_of, mark_of};
 
 use daliframe::Frame;
@@ -42,6 +42,13 @@ impl Mark {
             Mark::Lost | Mark::Failed => true,
             Mark::Quiet | Mark::Answer(_) | Mark::Damaged => false,
         }
+    }
+
+    /// Whether another attempt follows one with this last mark, where so many retries are left (profile).
+    pub fn is_retried(self, retries: u8) -> bool
+        ensures { IsTrue result ↔ ((self ≡ Mark.Lost) × (0 < retries)) }
+    {
+        self == Mark::Lost && retries > 0
     }
 }
 

@@ -1,5 +1,5 @@
 //! Reports: what became of a transaction, attempt by attempt.
-ghost use Rattle.std.specs.Prelude.{◌≡◌, ◌+◌, ◌*◌, ◌<◌, ◌≤◌, ◌++◌, ◌↔◌, IsTrue, length, MatchOption};
+ghost use Rattle.std.specs.Prelude.{◌≡◌, ◌+◌, ◌*◌, ◌<◌, ◌≤◌, ◌++◌, length, MatchOption};
 ghost use Rattle.arrayvec.specs.ArrayVec.{array_vec_len};
 ghost use Rattle.transact.specs.Attempts.{sent_with, Spells, SpellsNone, IsReportParts};
 ghost use Rattle.transact.specs.Readings.{EndsAt, HasNoAttempt, IsRead, ReadsNone};
@@ -9,8 +9,8 @@ use arrayvec::ArrayVec;
 use daliframe::Frame;
 use std::marker::Model;
 
-/// A transaction is tried again at most so often.
-const MOST_RETRIES: u8 = 2;
+/// A transaction is tried again at most so often (profile).
+pub const MOST_RETRIES: u8 = 2;
 
 /// What became of a transaction: its attempts, one after another, and how it ended.
 #[derive(Debug, Drop)]
@@ -83,7 +83,7 @@ fn read_attempts(
     let end = attempt_end(frames.len(), marks)?;
     let (attempt, rest) = marks.split_at(end + 1);
     push_attempt(frames, transaction.first(), attempt, sent);
-    if is_retried(marks[end], retries) {
+    if marks[end].is_retried(retries) {
         return read_attempts(transaction, retries - 1, rest, sent);
     }
     if rest.is_empty() {
@@ -91,13 +91,6 @@ fn read_attempts(
     } else {
         None
     }
-}
-
-/// Whether another attempt follows one with this last mark.
-fn is_retried(last: Mark, retries: u8) -> bool
-    ensures { IsTrue result ↔ ((last ≡ Mark.Lost) × (0 < retries)) }
-{
-    last == Mark::Lost && retries > 0
 }
 
 /// Where the attempt at `count` frames ends with which the marks begin.

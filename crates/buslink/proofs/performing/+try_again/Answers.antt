@@ -1,7 +1,8 @@
 use Rattle.std.proofs.Common.{◌≡◌, ◌<◌, ◌↔◌, true, false, refl}
 use Rattle.std.specs.Prelude.{IsTrue}
 use Rattle.transact.specs.declared.marks.Mark.TheVariants.{Lost}
-use Rattle.buslink.proofs.Trying.{none_left, tried_last, tried_more}
+use Rattle.transact.proofs.ReadingLemmas.{none_left}
+use Rattle.buslink.proofs.Trying.{tried_last, tried_more}
 use Rattle.buslink.proofs.performing.+try_again.Goals as goal
 
 pub returns-then-is_retried : goal.returns-then-is_retried

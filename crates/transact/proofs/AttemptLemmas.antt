@@ -1,4 +1,4 @@
--- Marks have one reading as attempts.
+-- Marks are those of one attempt, and of one list of attempts, at most.
 use Rattle.std.proofs.Common.{◌≡◌, ℕ, zero, suc, ◌+◌, ◌<◌, List, [], ◌∷◌, ◌++◌, length, refl, sym, ◌∙◌, ap, arith}
 use Rattle.std.specs.Prelude.{All}
 use Rattle.transact.specs.declared.marks.Mark.{Mark}
@@ -42,7 +42,8 @@ same_front (suc count) (m ∷ xs) (n ∷ ys) x y r s f g e =
 front_of : (count : ℕ) (a : Attempt) → IsAttempt count a → Front count a.before a.last
 front_of count a h = record { within = h.within; unbroken = h.unbroken; cut = h.cut }
 
-same_attempt : (count : ℕ) (a b : Attempt) (r s : List Mark) → IsAttempt count a → IsAttempt count b
+-- the marks at the front of a list are those of one attempt
+pub same_attempt : (count : ℕ) (a b : Attempt) (r s : List Mark) → IsAttempt count a → IsAttempt count b
     → marks_of a ++ r ≡ marks_of b ++ s → (a ≡ b) × (r ≡ s)
 same_attempt count a b r s f g e =
     let both : (a.before ≡ b.before) × (a.last ≡ b.last) × (r ≡ s) =
