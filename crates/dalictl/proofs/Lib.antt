@@ -5,6 +5,7 @@ mod Lawful
 mod Laying
 mod Meaning
 mod Outcome
+mod Places
 mod Stepped
 mod Theorem
 mod Told

@@ -47,6 +47,10 @@ code_is plan codes k t code are is coded =
     let both : Some code.code ≡ Some (laid_out plan.buses t) = sym mine ∙ same ∙ its in
     cc
 
+-- an accepted code by its parts
+accepted_is : (a : Accepted) (code : Listing) (bound : ℕ) → a.code ≡ code → a.bound ≡ bound → a ≡ record { code = code; bound = bound }
+accepted_is a code bound e f = λ i. record { code = e i; bound = f i }
+
 -- what some scans leave
 pub record IsLeft (tree : Tree) (code : Accepted) (scans : ℕ) (from : List Value) (steps : List ℕ) (to : List Value) : Type 0 where
   pub values : ScansMean tree scans (store_of tree from) (store_of tree to)
@@ -86,6 +90,7 @@ pub record HasOutcome (tree : Tree) (buses : ℕ) (plan : Planned) (number scans
   pub meaning : ScansMean tree scans (store_of tree (initial_values_of tree)) (store_of tree values)
   pub each : length values ≡ length (slots_of tree.programs)
   pub many : length steps ≡ scans
+  pub runs : IfSome (slice_get plan.tasks number) (λ t. ScansTo (record { code = laid_out buses t; bound = bound }) scans (initials_of t) steps values)
   pub few : All (λ n. n ≤ bound) steps
   pub greatest : IfSome (slice_get plan.tasks number) (λ t. IsBound (laid_out buses t).instructions bound)
 
@@ -101,11 +106,13 @@ outcome tree buses plan codes number scans bound steps values p are r =
     let meant : IsMeant t r.code.code = subst (IsMeant t) (sym laid) (is_meant plan.buses t r.limits) in
     let slots : r.code.code.slots ≡ types_of t = ap (λ (l : Listing). l.slots) laid in
     let fit : AreOf (initials_of t) r.code.code.slots = subst (λ (ts : List IlType). AreOf (initials_of t) ts) (sym slots) (begins tree buses plan p number t r.is) in
+    let whole : r.code ≡ record { code = laid_out buses t; bound = bound } = accepted_is r.code (laid_out buses t) bound (laid ∙ ap (λ (b : ℕ). laid_out b t) p.bus) r.bound_is in
     let done = left tree t r.code of_tree meant slots scans (initials_of t) steps values fit r.run in
     record {
       meaning = subst (λ (ss : List Slot). ScansMean tree scans (store_of tree (map (λ (s : Slot). s.initial) ss)) (store_of tree values)) of_tree.slots done.values;
       each = as_long values r.code.code.slots done.in_types ∙ ap (λ (ts : List IlType). length ts) slots ∙ length-map t.slots (λ (s : Slot). s.value_type) ∙ ap (λ (ss : List Slot). length ss) of_tree.slots;
       many = done.many;
+      runs = rw r.is (subst (λ (a : Accepted). ScansTo a scans (initials_of t) steps values) whole r.run);
       few = subst (λ (b : ℕ). All (λ n. n ≤ b) steps) r.bound_is done.few;
       greatest = rw r.is (subst (λ (l : Listing). IsBound l.instructions bound) laid r.greatest);
     }

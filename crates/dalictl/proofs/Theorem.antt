@@ -8,11 +8,11 @@ use Rattle.ilsyms.specs.Plans.{PlannedTask, KeepsLimits, all_lines}
 use Rattle.ilsyms.specs.PlanMeaning.{plan_scan}
 use Rattle.ilcode.specs.Listings.{Listing}
 use Rattle.ilcode.specs.Steps.{Configuration, at, after, start, Ends}
-use Rattle.ilcode.proofs.Runs.{run_place}
 use Rattle.dalictl.specs.Layout.{word_of, laid_out}
 use Rattle.dalictl.specs.Meant.{IsMeant}
 use Rattle.dalictl.proofs.Laying.{laid_out_lie}
 use Rattle.dalictl.proofs.Meaning.{instances_same}
+use Rattle.dalictl.proofs.Places.{run_place}
 
 module _ (buses : ℕ) (t : PlannedTask) (k : KeepsLimits t) where
   abbrev code : Listing

@@ -1,5 +1,5 @@
 -- What stands against running a text, from what stands against its parts.
-use Rattle.std.proofs.Common.{◌≡◌, ℕ, zero, suc, ◌+◌, ◌<◌, List, [], ◌∷◌, length, map, Option, Some, None, refl, sym, subst, arith, below_more}
+use Rattle.std.proofs.Common.{◌≡◌, ◌≢◌, ◌↔◌, Result, Err, ℕ, zero, suc, ◌+◌, ◌<◌, List, [], ◌∷◌, length, map, Option, Some, None, refl, sym, subst, arith, below_more}
 use Rattle.std.specs.Prelude.{slice_get, option_map, IfSome}
 use Rattle.std.specs.Char.{to_ascii_lowercase}
 use Rattle.ilsource.specs.Trees.{Tree}
@@ -7,6 +7,10 @@ use Rattle.iltext.specs.declared.fault.TextFault.{TextFault}
 use Rattle.iltext.specs.declared.fault.TextFault.TheVariants as text_faults
 use Rattle.iltext.specs.Parsing.{IsText}
 use Rattle.iltext.specs.Parsing as texts
+use Rattle.ilsyms.specs.declared.binding.BindCause.TheVariants.{BadLine, TooLong}
+use Rattle.ilsyms.specs.declared.binding.BindFault.{BindFault}
+use Rattle.ilsyms.specs.declared.binding.BindFault.TheVariants as bind_faults
+use Rattle.ilsyms.specs.BindingLines.{IsBadBinding, IsTooLong}
 use Rattle.ilsyms.specs.declared.fault.NameFault.{NameFault}
 use Rattle.ilsyms.specs.declared.fault.NameFault.TheVariants as name_faults
 use Rattle.ilsyms.specs.Faults.{IsFault}
@@ -16,8 +20,20 @@ use Rattle.ilverify.specs.Certificates.{IsCertified}
 use Rattle.dalictl.specs.declared.stop.Stop.{Stop}
 use Rattle.dalictl.specs.declared.stop.Stop.TheVariants as stops
 use Rattle.dalictl.specs.Answered.{IsPlanStop, IsCalled, AreCertified, IsCodeStop, IsTaskStop}
+use Rattle.dalictl.specs.Connected.{IsBindingStop}
 use Rattle.dalictl.specs.Layout.{laid_out}
-use Rattle.dalictl.specs.Stops.{of_text, of_name}
+use Rattle.dalictl.specs.Stops.{of_text, of_name, of_binding}
+
+pub binding_stop : {T : Type 0} (bytes : List ℕ) (r : Result T BindFault) (fault : BindFault) (stop : Stop)
+    → r ≡ Err fault
+    → ((line : ℕ) → (r ≡ Err (bind_faults.At line BadLine)) ↔ IsBadBinding bytes line)
+    → ((line : ℕ) → (r ≡ Err (bind_faults.At line TooLong)) ↔ IsTooLong bytes line)
+    → r ≢ Err bind_faults.Memory
+    → stop ≡ of_binding fault
+    → IsBindingStop (Some bytes) stop
+binding_stop bytes r bind_faults.Memory stop is bad long none e = absurd (none is)
+binding_stop bytes r (bind_faults.At line BadLine) stop is bad long none e = rw e ((bad line).0 is)
+binding_stop bytes r (bind_faults.At line TooLong) stop is bad long none e = rw e ((long line).0 is)
 
 pub text_stop : (bytes : List ℕ) (fault : TextFault) (stop : Stop) → texts.IsFault bytes fault → stop ≡ of_text fault → IsPlanStop bytes stop
 text_stop bytes text_faults.Memory stop h e = rw e tt

@@ -20,6 +20,7 @@ use Rattle.ilcode.specs.Paths.{IsBound}
 use Rattle.ilverify.specs.declared.verifier.Refusal.{Refusal}
 use Rattle.ilverify.specs.Certificates.{IsCertified, IsRefusal}
 use Rattle.dalictl.specs.Layout.{laid_out}
+use Rattle.dalictl.specs.Stepping.{ScansTo, initials_of}
 use Rattle.dalictl.specs.declared.setup.Stepped.{Stepped}
 use Rattle.dalictl.specs.declared.stop.Stop.{Stop}
 use Rattle.dalictl.specs.declared.stop.Stop.TheVariants as stops
@@ -111,7 +112,8 @@ store_of tree values = paired tree.text (slots_of tree.programs) values
 abbrev pub initial_values_of : Tree → List Value
 initial_values_of tree = map (λ s. s.initial) (slots_of tree.programs)
 
--- the variables after this many scans of the text, from their initial values, with the steps of each scan at most the bound
+-- the variables after this many scans of the text, from their initial values, with the steps of each scan, which are those of the
+-- task's code from the variables before it and at most the bound
 pub record IsStepped (buses : ℕ) (bytes name : List ℕ) (scans : ℕ) (made : Stepped) : Type 0 where
   pub tree : Tree
   pub spelled : IsText bytes tree
@@ -120,5 +122,6 @@ pub record IsStepped (buses : ℕ) (bytes name : List ℕ) (scans : ℕ) (made :
   pub values : ScansMean tree scans (store_of tree (initial_values_of tree)) (store_of tree made.scans.values.items)
   pub each : length made.scans.values.items ≡ length (slots_of tree.programs)
   pub many : length made.scans.steps.items ≡ scans
+  pub runs : IfSome (slice_get made.plan.tasks made.task) (λ t. ScansTo (record { code = laid_out buses t; bound = made.bound }) scans (initials_of t) made.scans.steps.items made.scans.values.items)
   pub few : All (λ steps. steps ≤ made.bound) made.scans.steps.items
   pub bound : IfSome (slice_get made.plan.tasks made.task) (λ t. IsBound (laid_out buses t).instructions made.bound)

@@ -2,9 +2,11 @@
 
 ghost use Rattle.std.specs.Prelude.{◌≡◌, ◌<◌, length, map, slice_get, IfErr, IfOk, IfSome, MatchOption, OnOk};
 ghost use Rattle.std.specs.Arc.{arc_value};
+ghost use Rattle.std.specs.Option.{option_copied};
 ghost use Rattle.dalictl.specs.Layout.{laid_out};
 ghost use Rattle.ilverify.specs.Certificates.{IsCertified};
 ghost use Rattle.dalictl.specs.Answered.{AreCertified, IsCheckStop, IsCodeStop, IsFirstCalled, IsPlanOfText, IsPlanStop, IsStepStop, IsStepped, IsTaskStop, NoneIsCalled};
+ghost use Rattle.dalictl.specs.Connected.{IsConnected, IsBindingStop};
 ghost use Rattle.dalictl.specs.Stepping.{AreCodes, BeginInTypes, IsRunOf, accepted_of};
 
 use crate::compile::compile;
@@ -19,10 +21,25 @@ use ilverify::{Verified, VerifyError, verify};
 use std::alloc::{AllocError, Global};
 use std::sync::Arc;
 
+/// The binding that a file's bytes spell, or why they spell none; without a file there is one bus.
+pub fn binding_of(alloc: Global, bytes: Option<&[u8]>) -> Result<Binding, Stop>
+    ensures binding { IfOk result (IsConnected (option_copied bytes.entry)) }
+    ensures stop { IfErr result (IsBindingStop (option_copied bytes.entry)) }
+{
+    match bytes {
+        None => Ok(Binding::one_bus()),
+        Some(bytes) => match Binding::parse(alloc, bytes) {
+            Ok(binding) => Ok(binding),
+            Err(fault) => Err(Stop::from(fault)),
+        },
+    }
+}
+
 /// The plan of a text with its verified codes, or the first of what stands against it.
 pub fn check(alloc: Global, binding: &Binding, text: &[u8]) -> Result<Setup, Stop>
     ensures plan { IfOk result (λ setup. IsPlanOfText binding.now.buses text.now setup.plan) }
     ensures codes { IfOk result (λ setup. AreCodes setup.plan setup.plan.tasks (accepted_of setup.codes.items)) }
+    ensures certified { IfOk result (λ setup. AreCertified setup.plan (length setup.plan.tasks)) }
     ensures stop { IfErr result (IsCheckStop binding.now.buses text.now) }
 {
     let plan = plan_of(alloc, binding, text)?;

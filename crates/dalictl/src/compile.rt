@@ -167,3 +167,6 @@ fn push_numbers(numbers: &mut Vec<usize>, lines: &[PlannedLine]) -> Result<(), A
     }
     Ok(())
 }
+
+#[cfg(test)]
+mod tests;

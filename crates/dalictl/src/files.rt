@@ -1,5 +1,7 @@
 //! Reading files.
 
+ghost use Rattle.std.specs.Prelude.{◌≡◌, ◌↔◌};
+
 use std::alloc::Global;
 use std::fs::File;
 use std::io::{ErrorKind, Read};
@@ -28,7 +30,10 @@ pub fn read<R: Files + AllocGlobal>(rt: &R, path: &str) -> Result<Vec<u8>, Unrea
     }
 }
 
-fn reason(kind: ErrorKind) -> Unread {
+/// Why a file wasn't read, by the kind of the error.
+fn reason(kind: ErrorKind) -> Unread
+    ensures { (result ≡ Unread.Memory) ↔ (kind ≡ ErrorKind.OutOfMemory) }
+{
     match kind {
         ErrorKind::OutOfMemory => Unread::Memory,
         _ => Unread::Failed,

@@ -8,6 +8,7 @@
 mod answers;
 mod compile;
 mod files;
+mod lines;
 mod options;
 #[cfg(test)]
 mod plain;

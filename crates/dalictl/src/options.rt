@@ -20,8 +20,13 @@ pub enum Request<'a> {
 }
 
 impl<'a> Request<'a> {
+    ghost use Rattle.std.specs.Prelude.{◌≡◌};
+    ghost use Rattle.dalictl.specs.Requests.{files_of};
+
     /// The files that the command reads.
-    pub fn files(self) -> Files<'a> {
+    pub fn files(self) -> Files<'a>
+        ensures { result ≡ files_of self.entry }
+    {
         match self {
             Request::Check { files } | Request::Step { files, .. } => files,
         }
@@ -120,4 +125,73 @@ fn binding<'a>(alloc: Global) -> Arg<'a> {
         .value_name("FILE")
         .action(ArgAction::Set)
         .help("The binding of buses [default: one bus]")
+}
+
+#[cfg(test)]
+mod tests {
+    use super::*;
+    use std::test::Fail;
+
+    fn words(alloc: Global, line: &str) -> Result<Vec<String>, AllocError> {
+        let mut words = Vec::new(alloc);
+        for word in line.split(' ') {
+            words.push(String::from_str(alloc, word)?)?;
+        }
+        Ok(words)
+    }
+
+    #[test]
+    fn options_have_their_defaults(rt: HostRuntime) -> Result<(), Fail> {
+        let alloc = rt.alloc();
+        let files = Files {
+            text: "t.il",
+            binding: None,
+        };
+        let bound = Files {
+            text: "t.il",
+            binding: Some("b"),
+        };
+        let table = [
+            ("dalictl check t.il", Request::Check { files }),
+            (
+                "dalictl check --bind b t.il",
+                Request::Check { files: bound },
+            ),
+            (
+                "dalictl step t.il main",
+                Request::Step {
+                    files,
+                    task: "main",
+                    scans: 1,
+                    every: 100,
+                },
+            ),
+            (
+                "dalictl step t.il --every=0 main --scans 1000000 --bind b",
+                Request::Step {
+                    files: bound,
+                    task: "main",
+                    scans: 1_000_000,
+                    every: 0,
+                },
+            ),
+        ];
+        for (line, wanted) in table {
+            let words = words(alloc, line)?;
+            match read(alloc, &words) {
+                Ok(request) => assert!(rt; request == wanted, "{line}"),
+                Err(_) => return Err("it is a request".into()),
+            }
+        }
+        for line in [
+            "dalictl step t.il main --scans 0",
+            "dalictl step t.il main --scans 1000001",
+            "dalictl step t.il",
+            "dalictl run t.il",
+        ] {
+            let words = words(alloc, line)?;
+            assert!(rt; read(alloc, &words).is_err(), "{line}");
+        }
+        Ok(())
+    }
 }

@@ -1,11 +1,9 @@
 //! What is printed.
 
-use crate::answers::{check, step};
+use crate::answers::{binding_of, check, step};
 use crate::options::Request;
 use crate::setup::{Setup, Stepped};
 use crate::stop::Stop;
-use crate::{FAILED, REFUSED};
-use ilsyms::Binding;
 use std::io;
 use std::io::{BufWriter, Write};
 
@@ -16,12 +14,9 @@ pub fn answer<R: Print + AllocGlobal>(
     binding: Option<&[u8]>,
     text: &[u8],
 ) -> io::Result<u8> {
-    let binding = match binding {
-        None => Binding::one_bus(),
-        Some(bytes) => match Binding::parse(rt.alloc(), bytes) {
-            Ok(binding) => binding,
-            Err(fault) => return stopped(rt, &Stop::from(fault)),
-        },
+    let binding = match binding_of(rt.alloc(), binding) {
+        Ok(binding) => binding,
+        Err(stop) => return stopped(rt, &stop),
     };
     match request {
         Request::Check { .. } => match check(rt.alloc(), &binding, text) {
@@ -42,21 +37,13 @@ pub fn answer<R: Print + AllocGlobal>(
 
 fn stopped<R: Print>(rt: &R, stop: &Stop) -> io::Result<u8> {
     println!(rt; "{stop}")?;
-    Ok(if matches!(stop, Stop::Memory) {
-        FAILED
-    } else {
-        REFUSED
-    })
+    Ok(stop.status())
 }
 
 /// A line for each task.
 fn checked<R: Print>(rt: &R, setup: &Setup) -> io::Result<u8> {
     for task in 0..setup.plan.tasks() {
-        let name = setup.plan.task_name(task);
-        let code = &setup.codes[task];
-        let words = code.code().instructions().len();
-        let bound = code.bound();
-        println!(rt; "task {name} words {words} bound {bound}")?;
+        println!(rt; "{}", setup.task_line(task))?;
     }
     Ok(0)
 }
@@ -64,14 +51,12 @@ fn checked<R: Print>(rt: &R, setup: &Setup) -> io::Result<u8> {
 /// A line for each scan, and then the variables.
 fn stepped<R: Print + AllocGlobal>(rt: &R, made: &Stepped) -> io::Result<u8> {
     let mut out = BufWriter::new(rt.alloc(), io::writer(rt))?;
-    let bound = made.bound;
-    for (number, steps) in made.scans.steps.iter().enumerate() {
-        writeln!(out, "scan {number} steps {steps} bound {bound}")?;
+    for number in 0..made.scans.steps.len() {
+        writeln!(out, "{}", made.scan_line(number))?;
     }
     let slots = made.plan.slots(made.task).len();
-    for (slot, value) in made.scans.values.iter().enumerate().take(slots) {
-        let name = made.plan.slot_name(made.task, slot);
-        writeln!(out, "{name} = {value}")?;
+    for slot in 0..made.scans.values.len().min(slots) {
+        writeln!(out, "{}", made.variable_line(slot))?;
     }
     out.flush()?;
     Ok(0)

@@ -1,28 +1,58 @@
 //! Why a text isn't run.
 
+use crate::{FAILED, REFUSED};
 use ilsyms::{BindFault, NameFault};
 use iltext::TextFault;
 use ilverify::Refusal;
 use std::alloc::{AllocError, AllocFailed};
-use thiserror::Error;
+use std::error::Error;
+use std::fmt;
 
 /// The first of what stands against running a text, in the order in which it is told.
-#[derive(Debug, Drop, Error)]
+#[derive(Debug, Drop)]
 pub enum Stop {
-    #[error("no memory")]
     Memory,
-    #[error("{0}")]
     Binding(BindFault),
-    #[error("{0}")]
     Text(TextFault),
-    #[error("{0}")]
     Name(NameFault),
     /// No task has this name.
-    #[error("no task {0}")]
     NoTask(String),
     /// The code of the first task that is refused.
-    #[error("task {task} {refusal}")]
     Code { task: String, refusal: Refusal },
+}
+
+impl Error for Stop {}
+
+impl fmt::Display for Stop {
+    ghost use Rattle.dalictl.specs.Stops.{printed_stop};
+
+    ghost output = { λ stop. printed_stop stop };
+
+    fn fmt<W: fmt::Write>(&self, f: &mut fmt::Formatter<W>) -> fmt::Result {
+        match self {
+            Stop::Memory => write!(f, "no memory"),
+            Stop::Binding(fault) => write!(f, "{fault}"),
+            Stop::Text(fault) => write!(f, "{fault}"),
+            Stop::Name(fault) => write!(f, "{fault}"),
+            Stop::NoTask(name) => write!(f, "no task {name}"),
+            Stop::Code { task, refusal } => write!(f, "task {task} {refusal}"),
+        }
+    }
+}
+
+impl Stop {
+    ghost use Rattle.std.specs.Prelude.{◌≡◌};
+    ghost use Rattle.dalictl.specs.Stops.{status_of};
+
+    /// The exit status: 3 where memory was refused, else 1.
+    pub fn status(&self) -> u8
+        ensures { result ≡ status_of self.now }
+    {
+        match self {
+            Stop::Memory => FAILED,
+            _ => REFUSED,
+        }
+    }
 }
 
 impl From<AllocError> for Stop {
@@ -76,6 +106,11 @@ impl From<NameFault> for Stop {
 }
 
 impl From<BindFault> for Stop {
+    ghost use Rattle.std.specs.Prelude.{◌≡◌};
+    ghost use Rattle.dalictl.specs.Stops.{of_binding};
+
+    ghost from_gives = { λ fault stop. stop ≡ of_binding fault };
+
     fn from(fault: BindFault) -> Stop {
         match fault {
             BindFault::Memory => Stop::Memory,

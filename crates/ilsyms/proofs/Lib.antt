@@ -1,3 +1,6 @@
+pub mod BindingCuts
+pub mod BindingJudged
+pub mod BindingTold
 pub mod Clean
 pub mod Exact
 pub mod Gathered

@@ -1,4 +1,5 @@
-pub mod BindingFiles
+pub mod BindingLines
+pub mod BindingParts
 pub mod Causes
 pub mod Counting
 pub mod Declarations
@@ -9,6 +10,7 @@ pub mod Meaning
 pub mod PlanMeaning
 pub mod Planning
 pub mod Plans
+pub mod Printed
 pub mod Resolved
 pub mod Resolving
 pub mod Stores

@@ -1,8 +1,10 @@
 //! Bindings: what the controller is connected to.
 
-ghost use Rattle.std.specs.Prelude.{◌≤◌, ◌<◌, length, IfOk, IfErr, IfSome};
-ghost use Rattle.ilsyms.specs.Wirings.{IsWithinLimits};
+ghost use Rattle.std.specs.Prelude.{◌≤◌, length, Some, None, MatchResult};
+ghost use Rattle.std.specs.Str.Lines.{lines};
+ghost use Rattle.ilsyms.specs.BindingLines.{Tell, IsFaultAt};
 
+use crate::binding_lines::{Entry, entry_of, first_line};
 use std::alloc::Global;
 use std::marker::Model;
 use thiserror::Error;
@@ -84,9 +86,9 @@ impl BindFault {
 }
 
 impl Binding {
-    ghost use Rattle.std.specs.Prelude.{◌≡◌};
+    ghost use Rattle.std.specs.Prelude.{◌≡◌, ◌≢◌, ◌↔◌, ℕ};
     ghost use Rattle.ilsyms.specs.Wirings.{Wiring, IsWithinLimits};
-    ghost use Rattle.ilsyms.specs.BindingFiles.{IsJudgedByLength};
+    ghost use Rattle.ilsyms.specs.BindingLines.{IsBinding, IsBadBinding, IsTooLong};
 
     /// One bus.
     pub fn one_bus() -> Binding
@@ -103,10 +105,13 @@ impl Binding {
         self.buses
     }
 
-    /// The binding that a file spells: lines of words between single spaces, of which `buses N` stands there once. Empty lines
-    /// and lines that begin with `#` are skipped; a line ends with LF or CR LF, and the last needs no end.
+    /// The binding that a file spells: lines of words between single spaces, of which `buses N` stands there once, and first. Empty
+    /// lines and lines that begin with `#` are skipped; a line ends with LF or CR LF, and the last needs no end. No memory is taken.
     pub fn parse(_alloc: Global, bytes: &[u8]) -> Result<Binding, BindFault>
-        ensures { IsJudgedByLength bytes.now result }
+        ensures binding { (wiring : Wiring) → (result ≡ Ok wiring) ↔ IsBinding bytes.now wiring }
+        ensures bad_line { (line : ℕ) → (result ≡ Err (BindFault.At line BindCause.BadLine)) ↔ IsBadBinding bytes.now line }
+        ensures too_long { (line : ℕ) → (result ≡ Err (BindFault.At line BindCause.TooLong)) ↔ IsTooLong bytes.now line }
+        ensures memory { result ≢ Err BindFault.Memory }
     {
         if bytes.len() > MAX_BYTES {
             return Err(BindFault::At {
@@ -114,8 +119,8 @@ impl Binding {
                 cause: BindCause::TooLong,
             });
         }
-        match buses_in(bytes) {
-            Ok(buses) => Ok(Binding { buses }),
+        match told_by(bytes) {
+            Ok(binding) => Ok(binding),
             Err(line) => Err(BindFault::At {
                 line,
                 cause: BindCause::BadLine,
@@ -124,84 +129,29 @@ impl Binding {
     }
 }
 
-/// The number of buses that the lines tell, or the first bad line; 1 where no line tells it.
-fn buses_in(bytes: &[u8]) -> Result<u8, usize>
-    requires { length bytes.now ≤ 1048576 }
-    ensures buses { IfOk result (λ n. IsWithinLimits (record { buses = n })) }
-    ensures line { IfErr result (λ line. 1 ≤ line) }
+/// The binding that lines tell, or the line at fault.
+fn told_by(bytes: &[u8]) -> Result<Binding, usize>
+    requires { length bytes.now ≤ MAX_BYTES }
+    ensures { MatchResult result (λ wiring. Tell None (lines bytes.now) (Some wiring)) (IsFaultAt (lines bytes.now)) }
 {
     let mut rest = bytes;
     let mut line = 1;
     let mut buses = None;
     'lines: while !rest.is_empty() {
         let (content, after) = first_line(rest);
-        if !is_skipped(content) {
-            match (buses, buses_line(content)) {
-                (None, Some(number)) => buses = Some(number),
-                _ => return Err(line),
-            }
+        let Some(entry) = entry_of(content) else {
+            return Err(line);
+        };
+        match (entry, buses) {
+            (Entry::Skipped, _) => {}
+            (Entry::Buses(number), None) => buses = Some(number),
+            (Entry::Buses(_), Some(_)) => return Err(line),
         }
         rest = after;
         line += 1;
     }
-    buses.ok_or(1)
-}
-
-/// Whether a line says nothing.
-fn is_skipped(line: &[u8]) -> bool {
-    match line {
-        [] | [b'#', ..] => true,
-        _ => false,
-    }
-}
-
-/// The first line without its end, and what stands after it.
-fn first_line(bytes: &[u8]) -> (&[u8], &[u8])
-    requires { 0 < length bytes.now }
-    ensures { length result.1.now < length bytes.now }
-{
-    match bytes.iter().position(|byte| *byte == b'\n') {
-        None => (bytes, &[]),
-        Some(end) => {
-            let (content, rest) = bytes.split_at(end);
-            let (_, after) = rest.split_at(1);
-            (without_return(content), after)
-        }
-    }
-}
-
-/// The line without the CR at its end.
-fn without_return(line: &[u8]) -> &[u8] {
-    match line {
-        [content @ .., b'\r'] => content,
-        _ => line,
-    }
-}
-
-/// The number of buses that a line tells.
-fn buses_line(line: &[u8]) -> Option<u8>
-    ensures { IfSome result (λ n. IsWithinLimits (record { buses = n })) }
-{
-    match line {
-        [b'b', b'u', b's', b'e', b's', b' ', digits @ ..] => bus_count(digits),
-        _ => None,
-    }
-}
-
-/// The number that digits spell, from 1 to [`MAX_BUSES`].
-fn bus_count(digits: &[u8]) -> Option<u8>
-    ensures { IfSome result (λ n. IsWithinLimits (record { buses = n })) }
-{
-    let mut number = 0;
-    for digit in digits {
-        if !digit.is_ascii_digit() {
-            return None;
-        }
-        number = (number * 10 + (*digit - b'0')).min(MAX_BUSES + 1);
-    }
-    if 1 <= number && number <= MAX_BUSES {
-        Some(number)
-    } else {
-        None
+    match buses {
+        Some(buses) => Ok(Binding { buses }),
+        None => Err(1),
     }
 }

@@ -3,11 +3,13 @@
 //! What crosses the boundary: [`Binding`], which says how many buses there are; [`resolve`], which takes a
 //! [`ilsource::Source`] to a [`Plan`], where each name is the number of a slot, or tells the least [`NameFault`]; and
 //! [`Scope`], the tables of the declared names with their own least fault. Which faults there are is `IsFault`
-//! (specs/Faults.antt). What a source program means is `source_scan` (specs/Meaning.antt), over names; what a plan
+//! (specs/Faults.antt). Which bytes are a binding, what it says and which line is at fault in others are `IsBinding` and
+//! `IsBadBinding` (specs/BindingLines.antt). What a source program means is `source_scan` (specs/Meaning.antt), over names; what a plan
 //! means is `plan_scan` (specs/PlanMeaning.antt), over slot numbers: the two agree, by the clause of `resolve`.
 #![tactic(auto)]
 
 pub mod binding;
+pub(crate) mod binding_lines;
 pub(crate) mod constants;
 pub(crate) mod excess;
 pub mod fault;
@@ -28,5 +30,9 @@ pub use planned::{Instance, PlannedInstruction, PlannedLine, PlannedOperand, Slo
 pub use resolving::resolve;
 pub use scope::Scope;
 
+#[cfg(test)]
+mod generated;
+#[cfg(test)]
+mod plain;
 #[cfg(test)]
 mod tests;

@@ -97,7 +97,13 @@ pub struct DeclaredName<'a> {
     pub bytes: &'a [u8],
 }
 
+/// Each byte as the character of its code: names are ASCII.
 impl fmt::Display for DeclaredName<'_> {
+    ghost use Rattle.std.specs.Prelude.{Some};
+    ghost use Rattle.ilsyms.specs.Printed.{printed_name};
+
+    ghost output = { λ n. Some (printed_name n.bytes.now) };
+
     fn fmt<W: fmt::Write>(&self, f: &mut fmt::Formatter<W>) -> fmt::Result {
         for byte in self.bytes {
             write!(f, "{}", char::from(*byte))?;
@@ -114,6 +120,11 @@ pub struct SlotName<'a> {
 }
 
 impl fmt::Display for SlotName<'_> {
+    ghost use Rattle.std.specs.Prelude.{Some};
+    ghost use Rattle.ilsyms.specs.Printed.{printed_slot};
+
+    ghost output = { λ n. Some (printed_slot n.instance.bytes.now n.variable.bytes.now) };
+
     fn fmt<W: fmt::Write>(&self, f: &mut fmt::Formatter<W>) -> fmt::Result {
         write!(f, "{}.{}", self.instance, self.variable)
     }

@@ -1,3 +1,4 @@
 pub mod Operators
+pub mod Printed
 pub mod Ranges
 pub mod Values

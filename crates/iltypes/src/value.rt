@@ -37,6 +37,11 @@ impl IlType {
 }
 
 impl fmt::Display for Value {
+    ghost use Rattle.std.specs.Prelude.{Some};
+    ghost use Rattle.iltypes.specs.Printed.{printed};
+
+    ghost output = { λ value. Some (printed value) };
+
     fn fmt<W: fmt::Write>(&self, f: &mut fmt::Formatter<W>) -> fmt::Result {
         match self {
             Value::Bool(true) => write!(f, "TRUE"),

@@ -8,7 +8,6 @@ use Rattle.ilcode.specs.declared.instruction.Instruction.{Instruction}
 use Rattle.ilcode.specs.Listings.{Listing}
 use Rattle.ilcode.specs.Paths.{IsBound}
 use Rattle.ilcode.specs.Steps.{is_start}
-use Rattle.ilcode.proofs.Runs.{run_within}
 use Rattle.ilverify.specs.declared.rules.Entry.{Entry}
 use Rattle.ilverify.specs.declared.rules.Cause.{Cause}
 use Rattle.ilverify.specs.Rules.{NoneArises, IsLeastCause, leaves}
@@ -18,6 +17,7 @@ use Rattle.ilverify.specs.Verdicts.{IsVerified}
 use Rattle.ilverify.proofs.Bounds.{leads_next, next_is, whole_path}
 use Rattle.ilverify.proofs.Lists.{set_there, same_set, other_set}
 use Rattle.ilverify.proofs.Soundness.{certified_safe, certified_kept, certified_ends}
+use Rattle.ilverify.proofs.Runs.{run_within}
 use Rattle.ilverify.proofs.Order.{into_arriving, arriving_into, arriving_none, arriving_opening, unlawful}
 
 -- ---- certificates

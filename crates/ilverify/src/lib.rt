@@ -16,4 +16,6 @@ pub use verified::Verified;
 pub use verifier::{Refusal, VerifyError, verify};
 
 #[cfg(test)]
+mod plain;
+#[cfg(test)]
 mod tests;

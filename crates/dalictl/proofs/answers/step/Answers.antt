@@ -21,6 +21,7 @@ returns-clause-made c =
       values = o.meaning;
       each = o.each;
       many = o.many;
+      runs = o.runs;
       few = o.few;
       bound = o.greatest;
     }

@@ -1,0 +1,18 @@
+-- What the controller is connected to: what the binding's file says, and one bus without such a file (profile).
+use Rattle.std.specs.Prelude.{◌≡◌, ℕ, List, Option, Some, None}
+use Rattle.ilsyms.specs.declared.binding.BindCause.TheVariants.{BadLine, TooLong}
+use Rattle.ilsyms.specs.declared.binding.BindFault.TheVariants as bind_faults
+use Rattle.ilsyms.specs.BindingLines.{IsBinding, IsBadBinding, IsTooLong}
+use Rattle.ilsyms.specs.Wirings.{Wiring}
+use Rattle.dalictl.specs.declared.stop.Stop.{Stop}
+use Rattle.dalictl.specs.declared.stop.Stop.TheVariants as stops
+
+abbrev pub IsConnected : Option (List ℕ) → Wiring → Type 0
+IsConnected None wiring = wiring.buses ≡ 1
+IsConnected (Some bytes) wiring = IsBinding bytes wiring
+
+-- why there is none: a bad line, or too many bytes
+abbrev pub IsBindingStop : Option (List ℕ) → Stop → Type 0
+IsBindingStop (Some bytes) (stops.Binding (bind_faults.At line BadLine)) = IsBadBinding bytes line
+IsBindingStop (Some bytes) (stops.Binding (bind_faults.At line TooLong)) = IsTooLong bytes line
+IsBindingStop _ stop = ⊥

@@ -1,0 +1,18 @@
+-- The lines that answers are printed as (profile).
+use Rattle.std.specs.Prelude.{ℕ, List, ◌++◌, codes}
+use Rattle.std.specs.Fmt.{decimal}
+use Rattle.iltypes.specs.declared.value.Value.{Value}
+use Rattle.iltypes.specs.Printed as values
+use Rattle.ilsyms.specs.Printed.{printed_slot}
+
+-- an accepted task: its words, and the bound
+abbrev pub printed_task : List ℕ → ℕ → ℕ → List ℕ
+printed_task name words bound = codes "task " ++ name ++ codes " words " ++ decimal words ++ codes " bound " ++ decimal bound
+
+-- a scan: its number, its steps, and the bound
+abbrev pub printed_scan : ℕ → ℕ → ℕ → List ℕ
+printed_scan number steps bound = codes "scan " ++ decimal number ++ codes " steps " ++ decimal steps ++ codes " bound " ++ decimal bound
+
+-- a variable: its name, and its value
+abbrev pub printed_variable : List ℕ → List ℕ → Value → List ℕ
+printed_variable instance variable value = printed_slot instance variable ++ codes " = " ++ values.printed value

@@ -1,0 +1,16 @@
+use Rattle.std.proofs.Common.{◌≡◌, ◌≤◌, ◌+◌, [], length}
+use Rattle.scenario.specs.Following.{clock, FollowOneAnother}
+use Rattle.scenario.proofs.TellingLines.{IsRead}
+use Rattle.scenario.proofs.scenario.told_by.Given as goal
+
+abbrev pub invariant-lines : goal.invariant-lines
+invariant-lines l =
+    record {
+      room : l.line + length l.rest ≤ 1 + length l.fn.bytes;
+      stands : l.clock ≡ clock l.entries.items;
+      order : FollowOneAnother [] l.entries.items;
+      read : IsRead l.fn.bytes l.rest l.entries.items l.line;
+    }
+
+abbrev pub decreases-lines : goal.decreases-lines
+decreases-lines l = length l.rest

@@ -1,0 +1,4 @@
+pub mod Causes
+pub mod Following
+pub mod Saying
+pub mod Scenarios

@@ -1,0 +1,110 @@
+-- What the words of a line say (profile): a keyword, then numbers, each in its range, and no word more. Numbers are decimal;
+-- the 24 bits of an event's frame are six hexadecimal digits.
+use Rattle.std.specs.Prelude.{ℕ, ◌==◌, List, [], ◌∷◌, Option, Some, None, option_map, codes, bytes_eq, if◌then◌else◌}
+use Rattle.wordlines.specs.WordLines.{number_in, hex_number}
+use Rattle.scenario.specs.declared.entries.Upset.{Upset}
+use Rattle.scenario.specs.declared.entries.Upset.TheVariants.{Lost, Damaged, Fault}
+use Rattle.scenario.specs.declared.entries.Entry.{Entry}
+use Rattle.scenario.specs.declared.entries.Entry.TheVariants.{Gear, LampFailure, Memory, Device, Instance, Reply, HearFault, Tick, Event}
+
+-- what the first word gives, where it gives something, and what the words after it make of that
+abbrev pub first : {A : Type 0} → Option (A × List (List ℕ)) → (A → List (List ℕ) → Option Entry) → Option Entry
+first None says = None
+first (Some taken) says = says taken.0 taken.1
+
+-- no word is left
+abbrev pub at_end : List (List ℕ) → Entry → Option Entry
+at_end [] entry = Some entry
+at_end (word ∷ rest) entry = None
+
+abbrev pub upset_of : List ℕ → Option Upset
+upset_of word =
+    if bytes_eq word (codes "lost") then Some Lost
+    else if bytes_eq word (codes "damaged") then Some Damaged
+    else if bytes_eq word (codes "fault") then Some Fault
+    else None
+
+abbrev pub upset_in : List (List ℕ) → Option (Upset × List (List ℕ))
+upset_in [] = None
+upset_in (word ∷ rest) = option_map (λ upset. (upset, rest)) (upset_of word)
+
+abbrev pub frame_in : List (List ℕ) → Option (ℕ × List (List ℕ))
+frame_in [] = None
+frame_in (word ∷ rest) = option_map (λ frame. (frame, rest)) (hex_number word)
+
+-- `gear b s`
+abbrev pub gear_of : List (List ℕ) → Option Entry
+gear_of words =
+    first (number_in 15 words) (λ bus rest.
+    first (number_in 63 rest) (λ short rest. at_end rest (Gear bus short)))
+
+-- `lampfailure b s`
+abbrev pub lamp_failure_of : List (List ℕ) → Option Entry
+lamp_failure_of words =
+    first (number_in 15 words) (λ bus rest.
+    first (number_in 63 rest) (λ short rest. at_end rest (LampFailure bus short)))
+
+-- `memory b s bank offset value`
+abbrev pub memory_of : List (List ℕ) → Option Entry
+memory_of words =
+    first (number_in 15 words) (λ bus rest.
+    first (number_in 63 rest) (λ short rest.
+    first (number_in 255 rest) (λ bank rest.
+    first (number_in 255 rest) (λ offset rest.
+    first (number_in 255 rest) (λ value rest. at_end rest (Memory bus short bank offset value))))))
+
+-- `device b s`
+abbrev pub device_of : List (List ℕ) → Option Entry
+device_of words =
+    first (number_in 15 words) (λ bus rest.
+    first (number_in 63 rest) (λ short rest. at_end rest (Device bus short)))
+
+-- `instance b s i type scheme value`
+abbrev pub instance_of : List (List ℕ) → Option Entry
+instance_of words =
+    first (number_in 15 words) (λ bus rest.
+    first (number_in 63 rest) (λ short rest.
+    first (number_in 31 rest) (λ number rest.
+    first (number_in 31 rest) (λ kind rest.
+    first (number_in 4 rest) (λ scheme rest.
+    first (number_in 255 rest) (λ value rest. at_end rest (Instance bus short number kind scheme value)))))))
+
+-- `reply b n lost`, `damaged` or `fault`, where n counts from 1
+abbrev pub reply_of : List (List ℕ) → Option Entry
+reply_of words =
+    first (number_in 15 words) (λ bus rest.
+    first (number_in 18446744073709551615 rest) (λ place rest.
+    first (upset_in rest) (λ upset rest. if place == 0 then None else at_end rest (Reply bus place upset))))
+
+-- `hearfault b`
+abbrev pub hear_fault_of : List (List ℕ) → Option Entry
+hear_fault_of words = first (number_in 15 words) (λ bus rest. at_end rest (HearFault bus))
+
+-- `tick m`
+abbrev pub tick_of : List (List ℕ) → Option Entry
+tick_of words = first (number_in 18446744073709551615 words) (λ moment rest. at_end rest (Tick moment))
+
+-- `event b HHHHHH`
+abbrev pub event_of : List (List ℕ) → Option Entry
+event_of words =
+    first (number_in 15 words) (λ bus rest.
+    first (frame_in rest) (λ frame rest. at_end rest (Event bus frame)))
+
+-- what the words after the keyword say
+abbrev pub said_after : List ℕ → List (List ℕ) → Option Entry
+said_after keyword words =
+    if bytes_eq keyword (codes "gear") then gear_of words
+    else if bytes_eq keyword (codes "lampfailure") then lamp_failure_of words
+    else if bytes_eq keyword (codes "memory") then memory_of words
+    else if bytes_eq keyword (codes "device") then device_of words
+    else if bytes_eq keyword (codes "instance") then instance_of words
+    else if bytes_eq keyword (codes "reply") then reply_of words
+    else if bytes_eq keyword (codes "hearfault") then hear_fault_of words
+    else if bytes_eq keyword (codes "tick") then tick_of words
+    else if bytes_eq keyword (codes "event") then event_of words
+    else None
+
+-- what the words of a line say, where it is a line of a scenario
+abbrev pub said : List (List ℕ) → Option Entry
+said [] = None
+said (keyword ∷ words) = said_after keyword words

@@ -1,0 +1,144 @@
+//! The entries of a scenario.
+
+use daliframe::{Frame24, InstanceNumber, ShortAddress};
+
+/// What becomes of a frame that is sent.
+#[derive(Clone, Copy, Debug, PartialEq, Eq)]
+pub enum Upset {
+    /// It is lost, and reaches nobody.
+    Lost,
+    /// It acts, and its answer is damaged.
+    Damaged,
+    /// The bus interface fails.
+    Fault,
+}
+
+/// What a line of a scenario says. Buses are 0 to 15.
+#[derive(Clone, Copy, Debug, PartialEq, Eq)]
+pub enum Entry {
+    /// There is a control gear.
+    Gear {
+        bus: u8,
+        short: ShortAddress,
+    },
+    /// The lamp of a control gear failed.
+    LampFailure {
+        bus: u8,
+        short: ShortAddress,
+    },
+    /// A place of a memory bank of a control gear has this value.
+    Memory {
+        bus: u8,
+        short: ShortAddress,
+        bank: u8,
+        offset: u8,
+        value: u8,
+    },
+    /// There is a control device.
+    Device {
+        bus: u8,
+        short: ShortAddress,
+    },
+    /// A control device has this instance.
+    Instance {
+        bus: u8,
+        short: ShortAddress,
+        number: InstanceNumber,
+        /// The instance type, 0 to 31 (IEC 62386-103).
+        kind: u8,
+        /// The event scheme, 0 to 4 (IEC 62386-103).
+        scheme: u8,
+        /// The input value.
+        value: u8,
+    },
+    /// What becomes of a frame that is sent on a bus.
+    Reply {
+        bus: u8,
+        /// Which of the frames that are sent there, from 1.
+        place: u64,
+        upset: Upset,
+    },
+    /// The next hear on a bus fails.
+    HearFault {
+        bus: u8,
+    },
+    /// The clock comes to this moment, in milliseconds.
+    Tick {
+        moment: u64,
+    },
+    /// A frame of a control device is heard.
+    Event {
+        bus: u8,
+        frame: Frame24,
+    },
+}
+
+impl Entry {
+    ghost use Rattle.std.specs.Prelude.{◌≡◌, IsTrue};
+    ghost use Rattle.scenario.specs.Following.{is_gear_at, is_device_at, is_instance_at, is_reply_to, clock_after};
+
+    /// Whether it declares this control gear.
+    pub(crate) fn is_gear_at(&self, bus: u8, short: ShortAddress) -> bool
+        ensures { result ≡ is_gear_at bus short self.now }
+    {
+        match *self {
+            Entry::Gear { bus: on, short: at } => on == bus && at.number() == short.number(),
+            _ => false,
+        }
+    }
+
+    /// Whether it declares this control device.
+    pub(crate) fn is_device_at(&self, bus: u8, short: ShortAddress) -> bool
+        ensures { result ≡ is_device_at bus short self.now }
+    {
+        match *self {
+            Entry::Device { bus: on, short: at } => on == bus && at.number() == short.number(),
+            _ => false,
+        }
+    }
+
+    /// Whether it declares this instance of a control device.
+    pub(crate) fn is_instance_at(
+        &self,
+        bus: u8,
+        short: ShortAddress,
+        number: InstanceNumber,
+    ) -> bool
+        ensures { result ≡ is_instance_at bus short number self.now }
+    {
+        match *self {
+            Entry::Instance {
+                bus: on,
+                short: at,
+                number: its,
+                ..
+            } => { on == bus && at.number() == short.number() && its.number() == number.number() }
+            _ => false,
+        }
+    }
+
+    /// Whether it says what becomes of this frame.
+    pub(crate) fn is_reply_to(&self, bus: u8, place: u64) -> bool
+        ensures { result ≡ is_reply_to bus place self.now }
+    {
+        match *self {
+            Entry::Reply {
+                bus: on,
+                place: at,
+                ..
+            } => on == bus && at == place,
+            _ => false,
+        }
+    }
+
+    /// The moment to which the clock comes, where it came to `now`.
+    pub(crate) fn clock_after(&self, now: Option<u64>) -> Option<u64>
+        ensures { result ≡ clock_after now self.now }
+    {
+        match *self {
+            Entry::Tick { moment } => Some(moment),
+            Entry::Event { .. } => Some(now.unwrap_or(0)),
+            _ => now,
+        }
+    }
+}

@@ -1,0 +1,207 @@
+//! The lines of a scenario.
+
+ghost use Rattle.std.specs.Prelude.{◌≡◌, Some, None, MatchOption};
+ghost use Rattle.wordlines.specs.WordLines.{words, IsTaken};
+ghost use Rattle.scenario.specs.Saying.{said, said_after, gear_of, lamp_failure_of, memory_of, device_of, instance_of, reply_of, hear_fault_of, tick_of, event_of, upset_of, upset_in, frame_in, at_end};
+
+use crate::entries::{Entry, Upset};
+use daliframe::{Frame24, InstanceNumber, ShortAddress};
+use wordlines::{Words, hex_of};
+
+/// The greatest number of a bus.
+const LAST_BUS: u8 = 15;
+
+/// What a line says that isn't skipped.
+pub(crate) fn entry_of(line: &[u8]) -> Option<Entry>
+    ensures { result ≡ said (words line.now) }
+{
+    let mut words = Words::of(line);
+    let keyword = words.next()?;
+    entry_after(keyword, words)
+}
+
+/// What the words after a keyword say.
+fn entry_after(keyword: &[u8], words: Words<'_>) -> Option<Entry>
+    ensures { result ≡ said_after keyword.now words.entry }
+{
+    if keyword == b"gear".as_slice() {
+        gear(words)
+    } else if keyword == b"lampfailure".as_slice() {
+        lamp_failure(words)
+    } else if keyword == b"memory".as_slice() {
+        memory(words)
+    } else if keyword == b"device".as_slice() {
+        device(words)
+    } else if keyword == b"instance".as_slice() {
+        instance(words)
+    } else if keyword == b"reply".as_slice() {
+        reply(words)
+    } else if keyword == b"hearfault".as_slice() {
+        hear_fault(words)
+    } else if keyword == b"tick".as_slice() {
+        tick(words)
+    } else if keyword == b"event".as_slice() {
+        event(words)
+    } else {
+        None
+    }
+}
+
+/// The numbers of `gear b s`.
+fn gear(mut words: Words<'_>) -> Option<Entry>
+    ensures { result ≡ gear_of words.entry }
+{
+    let bus = words.byte(LAST_BUS)?;
+    let short = short_address(&mut words)?;
+    ended(&words, Entry::Gear { bus, short })
+}
+
+/// The numbers of `lampfailure b s`.
+fn lamp_failure(mut words: Words<'_>) -> Option<Entry>
+    ensures { result ≡ lamp_failure_of words.entry }
+{
+    let bus = words.byte(LAST_BUS)?;
+    let short = short_address(&mut words)?;
+    ended(&words, Entry::LampFailure { bus, short })
+}
+
+/// The numbers of `memory b s bank offset value`.
+fn memory(mut words: Words<'_>) -> Option<Entry>
+    ensures { result ≡ memory_of words.entry }
+{
+    let bus = words.byte(LAST_BUS)?;
+    let short = short_address(&mut words)?;
+    let bank = words.byte(u8::MAX)?;
+    let offset = words.byte(u8::MAX)?;
+    let value = words.byte(u8::MAX)?;
+    ended(
+        &words,
+        Entry::Memory {
+            bus,
+            short,
+            bank,
+            offset,
+            value,
+        },
+    )
+}
+
+/// The numbers of `device b s`.
+fn device(mut words: Words<'_>) -> Option<Entry>
+    ensures { result ≡ device_of words.entry }
+{
+    let bus = words.byte(LAST_BUS)?;
+    let short = short_address(&mut words)?;
+    ended(&words, Entry::Device { bus, short })
+}
+
+/// The numbers of `instance b s i type scheme value`.
+fn instance(mut words: Words<'_>) -> Option<Entry>
+    ensures { result ≡ instance_of words.entry }
+{
+    let bus = words.byte(LAST_BUS)?;
+    let short = short_address(&mut words)?;
+    let number = instance_number(&mut words)?;
+    let kind = words.byte(31)?;
+    let scheme = words.byte(4)?;
+    let value = words.byte(u8::MAX)?;
+    ended(
+        &words,
+        Entry::Instance {
+            bus,
+            short,
+            number,
+            kind,
+            scheme,
+            value,
+        },
+    )
+}
+
+/// The numbers and the word of `reply b n lost`, `damaged` or `fault`.
+fn reply(mut words: Words<'_>) -> Option<Entry>
+    ensures { result ≡ reply_of words.entry }
+{
+    let bus = words.byte(LAST_BUS)?;
+    let place = words.number(u64::MAX)?;
+    let upset = upset(&mut words)?;
+    if place == 0 {
+        return None;
+    }
+    ended(&words, Entry::Reply { bus, place, upset })
+}
+
+/// The number of `hearfault b`.
+fn hear_fault(mut words: Words<'_>) -> Option<Entry>
+    ensures { result ≡ hear_fault_of words.entry }
+{
+    let bus = words.byte(LAST_BUS)?;
+    ended(&words, Entry::HearFault { bus })
+}
+
+/// The number of `tick m`.
+fn tick(mut words: Words<'_>) -> Option<Entry>
+    ensures { result ≡ tick_of words.entry }
+{
+    let moment = words.number(u64::MAX)?;
+    ended(&words, Entry::Tick { moment })
+}
+
+/// The numbers of `event b HHHHHH`.
+fn event(mut words: Words<'_>) -> Option<Entry>
+    ensures { result ≡ event_of words.entry }
+{
+    let bus = words.byte(LAST_BUS)?;
+    let frame = frame(&mut words)?;
+    ended(&words, Entry::Event { bus, frame })
+}
+
+/// The entry, where no word is left.
+fn ended(words: &Words<'_>, entry: Entry) -> Option<Entry>
+    ensures { result ≡ at_end words.now entry }
+{
+    if words.is_empty() { Some(entry) } else { None }
+}
+
+/// Takes a short address.
+fn short_address(words: &mut Words<'_>) -> Option<ShortAddress>
+    ensures { IsTaken 63 words.old words.new result }
+{
+    ShortAddress::new(words.byte(63)?)
+}
+
+/// Takes the number of an instance.
+fn instance_number(words: &mut Words<'_>) -> Option<InstanceNumber>
+    ensures { IsTaken 31 words.old words.new result }
+{
+    InstanceNumber::new(words.byte(31)?)
+}
+
+/// Takes the word that says what becomes of a frame.
+fn upset(words: &mut Words<'_>) -> Option<Upset>
+    ensures { MatchOption result (upset_in words.old ≡ None) (λ upset. upset_in words.old ≡ Some (upset, words.new)) }
+{
+    upset_named(words.next()?)
+}
+
+/// What a word says that becomes of a frame.
+fn upset_named(word: &[u8]) -> Option<Upset>
+    ensures { result ≡ upset_of word.now }
+{
+    if word == b"lost".as_slice() {
+        Some(Upset::Lost)
+    } else if word == b"damaged".as_slice() {
+        Some(Upset::Damaged)
+    } else if word == b"fault".as_slice() {
+        Some(Upset::Fault)
+    } else {
+        None
+    }
+}
+
+/// Takes the six digits of a frame.
+fn frame(words: &mut Words<'_>) -> Option<Frame24>
+    ensures { MatchOption result (frame_in words.old ≡ None) (λ frame. frame_in words.old ≡ Some (frame, words.new)) }
+{
+    Frame24::new(hex_of(words.next()?)?)
+}
