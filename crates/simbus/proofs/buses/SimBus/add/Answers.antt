@@ -1,0 +1,45 @@
+use Rattle.std.proofs.Common.{◌≡◌, ◌+◌, ◌-◌, ◌<◌, List, [], ◌∷◌, ◌++◌, refl, ◌∙◌, ap, vec_len, arith}
+use Rattle.std.specs.Prelude.{reverse}
+use Rattle.transact.specs.declared.marks.Sent.{Sent}
+use Rattle.simbus.specs.Histories.{Setup}
+use Rattle.simbus.specs.Kept.{setup_of, IsKept}
+use Rattle.simbus.specs.Simulated.{Simulated}
+use Rattle.simbus.proofs.Keeping.{setup_stays, kept_sent, sent_more}
+use Rattle.simbus.proofs.buses.SimBus.add.Goals as goal
+
+pub invariant_of-self : goal.invariant_of-self
+invariant_of-self c =
+    let s : Sent = record { frame = c.args.frame.now; priority = c.args.priority; mark = c.args.mark } in
+    let kept : IsKept (setup_of c.self.inside.equipment) (s ∷ reverse c.self.inside.sent.items) c.see.new.self = c.see.ensures _ _ s refl refl c.self.invariant.kept in
+    let items : c.push.new.self.items ≡ c.self.inside.sent.items ++ s ∷ [] = rw c.unwrap.ensures at c.push.ensures.items in
+    let len : vec_len c.push.new.self ≡ vec_len c.self.inside.sent + 1 = rw c.unwrap.ensures at c.push.ensures.len in
+    let spare : c.self.inside.spare ≡ c.args.self.now.log.spare = ap (λ (v : Simulated). v.log.spare) c.self.view_is in
+    let some : 0 < c.args.self.now.log.spare = c.requires in
+    record {
+      kept = kept_sent (setup_of c.self.inside.equipment) (s ∷ reverse c.self.inside.sent.items) c.push.new.self.items c.see.new.self kept (sent_more c.self.inside.sent.items c.push.new.self.items s items);
+      sent_spare = omega (arith, c.push.ensures.capacity, c.self.invariant.sent_spare);
+      heard_spare = omega (arith, c.self.invariant.heard_spare);
+      room = c.self.invariant.room;
+    }
+
+pub returns : goal.returns
+returns c =
+    let s : Sent = record { frame = c.args.frame.now; priority = c.args.priority; mark = c.args.mark } in
+    let kept : IsKept (setup_of c.self.inside.equipment) (s ∷ reverse c.self.inside.sent.items) c.see.new.self = c.see.ensures _ _ s refl refl c.self.invariant.kept in
+    let items : c.push.new.self.items ≡ c.self.inside.sent.items ++ s ∷ [] = rw c.unwrap.ensures at c.push.ensures.items in
+    let seen : Setup → List Sent → Simulated = λ setup sent. record {
+      setup = setup;
+      script = c.self.inside.script.items;
+      waiting = c.self.inside.waiting.items;
+      later = c.self.inside.later.items;
+      log = record {
+        sent = sent;
+        heard = c.self.inside.heard.items;
+        spare = c.self.inside.spare - 1;
+        failures = c.self.inside.failures;
+        hears = c.self.inside.hears;
+        heard_none = c.self.inside.heard_none;
+      };
+    } in
+    rw (← c.self.view_is) (ap (λ (x : Setup). seen x c.push.new.self.items) (setup_stays c.self.inside.equipment c.see.new.self s (reverse c.self.inside.sent.items) kept)
+    ∙ ap (λ (y : List Sent). seen (setup_of c.self.inside.equipment) y) items)

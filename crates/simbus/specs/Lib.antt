@@ -1,0 +1,10 @@
+pub mod Commands
+pub mod Said
+pub mod Gears
+pub mod Answers
+pub mod Instances
+pub mod Histories
+pub mod Kept
+pub mod Simulated
+pub mod Insides
+pub mod Setups

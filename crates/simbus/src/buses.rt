@@ -1,0 +1,200 @@
+//! Simulated buses.
+ghost use Rattle.std.specs.Prelude.{◌≡◌, ◌+◌, ◌<◌, ◌≤◌, ◌↔◌, IfOk, IsOk, OnOk, IsTrue, length, reverse};
+ghost use Rattle.buslink.specs.BusLog.{after_send, with_spare, with_sent};
+ghost use Rattle.simbus.specs.Histories.{variables_at};
+ghost use Rattle.simbus.specs.Simulated.{setup_in, new_bus, upset_at, Sends, Hears, after_hearing, after_arrival};
+
+use crate::equipment::Equipment;
+use crate::scripts::upset_at;
+use crate::{Arrival, BusSetup, GearVariables, ScriptedReply};
+use buslink::{Bus, Fault};
+use daliframe::{Frame, Frame24, ShortAddress};
+use scenario::Upset;
+use std::alloc::{AllocError, Global};
+use std::collections::VecDeque;
+use std::marker::Model;
+use transact::{Mark, Reply, Sent};
+
+/// A simulated bus. It never waits: a frame is answered at once, and a call that hears meets what came or nothing.
+#[derive(Drop)]
+pub struct SimBus {
+    equipment: Equipment,
+    script: Vec<ScriptedReply>,
+    waiting: VecDeque<Arrival>,
+    later: VecDeque<Arrival>,
+    sent: Vec<Sent>,
+    heard: Vec<Frame24>,
+    spare: usize,
+    failures: u64,
+    hears: u64,
+    heard_none: bool,
+}
+
+impl Model for SimBus {
+    ghost use Rattle.simbus.specs.Simulated.{Simulated};
+
+    ghost Value = { Simulated };
+
+    ghost use Rattle.simbus.specs.Insides.{simulated, IsSimBus};
+
+    ghost view = { simulated };
+
+    ghost invariant = { IsSimBus };
+}
+
+impl SimBus {
+    /// What the script says of the next frame.
+    fn upset(&self) -> Option<Upset>
+        requires { 0 < self.now.log.spare }
+        ensures { result ≡ upset_at self.now.script (length self.now.log.sent + 1) }
+    {
+        upset_at(self.script.as_slice(), self.sent.len() as u64 + 1)
+    }
+
+    /// Adds a frame that was sent, and what became of it.
+    fn add(&mut self, frame: &Frame, priority: u8, mark: Mark)
+        requires { 0 < self.old.log.spare }
+        ensures { self.new ≡ record self.old { log = with_sent frame.now priority mark self.old.log } }
+    {
+        self.equipment.see(frame, mark);
+        self.sent
+            .push(Sent {
+                frame: *frame,
+                priority,
+                mark,
+            })
+            .unwrap();
+        self.spare -= 1;
+    }
+
+    /// A bus on which nothing happened.
+    ///
+    /// # Errors
+    ///
+    /// Memory was refused.
+    pub fn new(alloc: Global, setup: BusSetup) -> Result<Self, AllocError>
+        ensures { IfOk result (λ b. b ≡ new_bus (setup_in setup) setup.script.items setup.arrivals.items) }
+    {
+        let BusSetup {
+            gears,
+            memory,
+            instances,
+            script,
+            arrivals,
+        } = setup;
+        let equipment = Equipment::new(alloc, gears.as_slice(), memory, instances.as_slice())?;
+        Ok(SimBus {
+            equipment,
+            script,
+            waiting: VecDeque::with_capacity(alloc, arrivals.len())?,
+            later: VecDeque::from_vec(arrivals),
+            sent: Vec::new(alloc),
+            heard: Vec::new(alloc),
+            spare: 0,
+            failures: 0,
+            hears: 0,
+            heard_none: false,
+        })
+    }
+
+    /// The next of what comes later comes now, and is met by a call that hears. Answers whether there was any.
+    pub fn arrive(&mut self) -> bool
+        ensures any { IsTrue result ↔ (0 < length self.old.later) }
+        ensures after { self.new ≡ after_arrival self.old.later self.old }
+    {
+        match self.later.pop_front() {
+            Some(arrival) => {
+                self.waiting.push_back(arrival).unwrap();
+                true
+            }
+            None => false,
+        }
+    }
+
+    /// The variables of the gear at a short address after all frames that were sent, where there is gear.
+    pub fn gear(&self, address: ShortAddress) -> Option<GearVariables>
+        ensures { result ≡ variables_at self.now.setup (reverse self.now.log.sent) address }
+    {
+        self.equipment.gear(address)
+    }
+
+    /// The frames that were sent, first to last.
+    pub fn sent(&self) -> &[Sent]
+        ensures { result.now ≡ self.now.log.sent }
+    {
+        self.sent.as_slice()
+    }
+
+    /// The frames that were heard, first to last.
+    pub fn heard(&self) -> &[Frame24]
+        ensures { result.now ≡ self.now.log.heard }
+    {
+        self.heard.as_slice()
+    }
+}
+
+impl Bus for SimBus {
+    ghost log = { λ b. b.log };
+
+    fn room(&mut self, frames: usize) -> Result<(), AllocError>
+        ensures made { OnOk result (frames ≤ self.new.log.spare) }
+        ensures already { frames ≤ self.old.log.spare → IsOk result }
+        ensures same { self.new ≡ record self.old { log = with_spare self.new.log.spare self.old.log } }
+    {
+        if frames > self.spare {
+            self.sent.reserve(frames)?;
+            self.heard.reserve(frames)?;
+            self.spare = frames;
+        }
+        Ok(())
+    }
+
+    fn send(&mut self, frame: Frame, priority: u8) -> Result<Reply, Fault>
+        requires { 0 < self.old.log.spare }
+        ensures answer { Sends self.old frame result }
+        ensures after { self.new ≡ record self.old { log = after_send frame priority result self.old.log } }
+    {
+        match self.upset() {
+            None => {
+                let reply = self.equipment.reply(&frame);
+                self.add(&frame, priority, Mark::from(reply));
+                Ok(reply)
+            }
+            Some(Upset::Damaged) => {
+                self.add(&frame, priority, Mark::Damaged);
+                Ok(Reply::Damaged)
+            }
+            Some(Upset::Lost) => {
+                self.add(&frame, priority, Mark::Lost);
+                Ok(Reply::Lost)
+            }
+            Some(Upset::Fault) => {
+                self.add(&frame, priority, Mark::Failed);
+                self.failures = self.failures.wrapping_add(1);
+                Err(Fault)
+            }
+        }
+    }
+
+    fn hear(&mut self) -> Result<Option<Frame24>, Fault>
+        requires { 0 < self.old.log.spare }
+        ensures heard { Hears self.old.waiting result }
+        ensures after { self.new ≡ after_hearing result self.old }
+    {
+        self.hears = self.hears.saturating_add(1);
+        let next = self.waiting.pop_front();
+        self.heard_none = next.is_none();
+        match &next {
+            None => Ok(None),
+            Some(Arrival::Frame(frame)) => {
+                self.heard.push(*frame).unwrap();
+                self.spare -= 1;
+                Ok(Some(*frame))
+            }
+            Some(Arrival::Fault) => {
+                self.failures = self.failures.wrapping_add(1);
+                Err(Fault)
+            }
+        }
+    }
+}

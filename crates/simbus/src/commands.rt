@@ -1,0 +1,184 @@
+//! What an opcode commands control gear (IEC 62386-102, clause 11).
+ghost use Rattle.std.specs.Prelude.{◌≡◌, ◌/◌, ◌%◌, ◌<◌};
+ghost use Rattle.simbus.specs.Commands.{command_of, command_at, action_at, setting_at, query_at, level_query_at, group_query_at};
+
+use std::marker::Model;
+
+/// The number of a scene or of a group, 0 to 15.
+#[derive(Clone, Copy, Debug, PartialEq, Eq)]
+pub(crate) struct Sixteenth {
+    number: u8,
+}
+
+impl Model for Sixteenth {
+    ghost use Rattle.std.specs.Prelude.{ℕ, ◌<◌};
+
+    ghost Value = { ℕ };
+
+    ghost view = { λ n. n.number };
+
+    ghost invariant = { λ n. n.number < 16 };
+
+    ghost inverse = { λ n. record { number = n } };
+}
+
+impl Sixteenth {
+    /// The number as an index.
+    pub(crate) fn index(self) -> usize
+        ensures value { result ≡ self }
+        ensures range { self < 16 }
+    {
+        usize::from(self.number)
+    }
+}
+
+/// A command that acts when it is sent once.
+#[derive(Clone, Copy, Debug, PartialEq, Eq)]
+pub(crate) enum Action {
+    Off,
+    StepUp,
+    StepDown,
+    RecallMaxLevel,
+    RecallMinLevel,
+    StepDownAndOff,
+    OnAndStepUp,
+    GoToLastActiveLevel,
+    GoToScene(Sixteenth),
+}
+
+/// A command that acts when it is sent twice.
+#[derive(Clone, Copy, Debug, PartialEq, Eq)]
+pub(crate) enum Setting {
+    Reset,
+    StoreActualLevelInDtr0,
+    SetScene(Sixteenth),
+    RemoveFromScene(Sixteenth),
+    AddToGroup(Sixteenth),
+    RemoveFromGroup(Sixteenth),
+}
+
+/// A command that asks for an answer.
+#[derive(Clone, Copy, Debug, PartialEq, Eq)]
+pub(crate) enum Query {
+    Status,
+    ControlGearPresent,
+    LampFailure,
+    LampPowerOn,
+    ContentDtr0,
+    ContentDtr1,
+    ActualLevel,
+    MaxLevel,
+    MinLevel,
+    SceneLevel(Sixteenth),
+    Groups0To7,
+    Groups8To15,
+    /// READ MEMORY LOCATION.
+    Memory,
+}
+
+/// What an opcode commands.
+#[derive(Clone, Copy, Debug, PartialEq, Eq)]
+pub(crate) enum Command {
+    Act(Action),
+    Set(Setting),
+    Ask(Query),
+    /// No simulated gear does anything with it.
+    Nothing,
+}
+
+impl Command {
+    /// What an opcode commands.
+    #[tactic(auto, unfolding(crate::specs::Commands::command_at))]
+    pub(crate) fn of(opcode: u8) -> Self
+        ensures { result ≡ command_of opcode }
+    {
+        let number = opcode % 16;
+        let sixteenth = Sixteenth { number };
+        match opcode / 16 {
+            0x0 => action_of(number),
+            0x1 => Command::Act(Action::GoToScene(sixteenth)),
+            0x2 => setting_of(number),
+            0x4 => Command::Set(Setting::SetScene(sixteenth)),
+            0x5 => Command::Set(Setting::RemoveFromScene(sixteenth)),
+            0x6 => Command::Set(Setting::AddToGroup(sixteenth)),
+            0x7 => Command::Set(Setting::RemoveFromGroup(sixteenth)),
+            0x9 => query_of(number),
+            0xA => level_query(number),
+            0xB => Command::Ask(Query::SceneLevel(sixteenth)),
+            0xC => group_query(number),
+            _ => Command::Nothing,
+        }
+    }
+}
+
+/// The opcodes 00 to 0F.
+#[tactic(auto, unfolding(crate::specs::Commands::action_at))]
+fn action_of(number: u8) -> Command
+    ensures { result ≡ action_at number }
+{
+    Command::Act(match number {
+        0x0 => Action::Off,
+        0x3 => Action::StepUp,
+        0x4 => Action::StepDown,
+        0x5 => Action::RecallMaxLevel,
+        0x6 => Action::RecallMinLevel,
+        0x7 => Action::StepDownAndOff,
+        0x8 => Action::OnAndStepUp,
+        0xA => Action::GoToLastActiveLevel,
+        _ => return Command::Nothing,
+    })
+}
+
+/// The opcodes 20 to 2F.
+#[tactic(auto, unfolding(crate::specs::Commands::setting_at))]
+fn setting_of(number: u8) -> Command
+    ensures { result ≡ setting_at number }
+{
+    match number {
+        0x0 => Command::Set(Setting::Reset),
+        0x1 => Command::Set(Setting::StoreActualLevelInDtr0),
+        _ => Command::Nothing,
+    }
+}
+
+/// The opcodes 90 to 9F.
+#[tactic(auto, unfolding(crate::specs::Commands::query_at))]
+fn query_of(number: u8) -> Command
+    ensures { result ≡ query_at number }
+{
+    Command::Ask(match number {
+        0x0 => Query::Status,
+        0x1 => Query::ControlGearPresent,
+        0x2 => Query::LampFailure,
+        0x3 => Query::LampPowerOn,
+        0x8 => Query::ContentDtr0,
+        0xC => Query::ContentDtr1,
+        _ => return Command::Nothing,
+    })
+}
+
+/// The opcodes A0 to AF.
+#[tactic(auto, unfolding(crate::specs::Commands::level_query_at))]
+fn level_query(number: u8) -> Command
+    ensures { result ≡ level_query_at number }
+{
+    match number {
+        0x0 => Command::Ask(Query::ActualLevel),
+        0x1 => Command::Ask(Query::MaxLevel),
+        0x2 => Command::Ask(Query::MinLevel),
+        _ => Command::Nothing,
+    }
+}
+
+/// The opcodes C0 to CF.
+#[tactic(auto, unfolding(crate::specs::Commands::group_query_at))]
+fn group_query(number: u8) -> Command
+    ensures { result ≡ group_query_at number }
+{
+    match number {
+        0x0 => Command::Ask(Query::Groups0To7),
+        0x1 => Command::Ask(Query::Groups8To15),
+        0x5 => Command::Ask(Query::Memory),
+        _ => Command::Nothing,
+    }
+}

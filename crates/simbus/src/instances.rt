@@ -1,0 +1,124 @@
+//! Simulated instances of control devices (profile).
+ghost use Rattle.std.specs.Prelude.{◌≡◌};
+ghost use Rattle.simbus.specs.Instances.{device_command_of, command_to, variables_of, instance_after_fields, instance_fields_answer};
+
+use daliframe::{Fields24, InstanceNumber, ShortAddress};
+
+/// The greatest number of an event scheme.
+const MAX_SCHEME: u8 = 4;
+
+/// A simulated instance of a control device, as a scenario declares it.
+#[derive(Clone, Copy, Debug, PartialEq, Eq)]
+pub struct Instance {
+    /// The device.
+    pub address: ShortAddress,
+    pub number: InstanceNumber,
+    pub instance_type: u8,
+    pub scheme: u8,
+    /// The answer to QUERY INPUT VALUE.
+    pub value: u8,
+}
+
+/// What commands change of an instance.
+#[derive(Clone, Copy, Debug, PartialEq, Eq)]
+pub struct InstanceVariables {
+    pub scheme: u8,
+    pub is_enabled: bool,
+}
+
+/// What an opcode commands an instance of a control device.
+#[derive(Clone, Copy, Debug, PartialEq, Eq)]
+pub(crate) enum DeviceCommand {
+    Enable,
+    Disable,
+    SetEventScheme,
+    QueryInstanceType,
+    QueryEventScheme,
+    QueryInputValue,
+    /// No simulated instance does anything with it.
+    Nothing,
+}
+
+impl DeviceCommand {
+    /// What an opcode commands.
+    #[tactic(auto, unfolding(crate::specs::Instances::device_command_of))]
+    fn of(opcode: u8) -> Self
+        ensures { result ≡ device_command_of opcode }
+    {
+        match opcode {
+            0x62 => DeviceCommand::Enable,
+            0x63 => DeviceCommand::Disable,
+            0x67 => DeviceCommand::SetEventScheme,
+            0x80 => DeviceCommand::QueryInstanceType,
+            0x8B => DeviceCommand::QueryEventScheme,
+            0x8C => DeviceCommand::QueryInputValue,
+            _ => DeviceCommand::Nothing,
+        }
+    }
+}
+
+impl Instance {
+    /// The variables of an instance that no frame reached: enabled, with the scheme that was declared.
+    pub(crate) fn variables(&self) -> InstanceVariables
+        ensures { result ≡ variables_of self.now }
+    {
+        InstanceVariables {
+            scheme: self.scheme,
+            is_enabled: true,
+        }
+    }
+
+    /// The variables after a frame that says this, as the second of a pair or not, where DTR0 of the devices is `dtr0`.
+    pub(crate) fn after_fields(
+        &self,
+        variables: InstanceVariables,
+        dtr0: u8,
+        fields: &Fields24,
+        is_pair: bool,
+    ) -> InstanceVariables
+        ensures { result ≡ instance_after_fields is_pair dtr0 self.now fields.now variables }
+    {
+        match self.command(fields) {
+            DeviceCommand::Enable if is_pair => InstanceVariables {
+                is_enabled: true,
+                ..variables
+            },
+            DeviceCommand::Disable if is_pair => InstanceVariables {
+                is_enabled: false,
+                ..variables
+            },
+            DeviceCommand::SetEventScheme if is_pair && dtr0 <= MAX_SCHEME => InstanceVariables {
+                scheme: dtr0,
+                ..variables
+            },
+            _ => variables,
+        }
+    }
+
+    /// What an instance with these variables answers to a frame that says this.
+    pub(crate) fn answer(&self, variables: InstanceVariables, fields: &Fields24) -> Option<u8>
+        ensures { result ≡ instance_fields_answer self.now fields.now variables }
+    {
+        match self.command(fields) {
+            DeviceCommand::QueryInstanceType => Some(self.instance_type),
+            DeviceCommand::QueryEventScheme => Some(variables.scheme),
+            DeviceCommand::QueryInputValue => Some(self.value),
+            _ => None,
+        }
+    }
+
+    /// What a frame that says this commands the instance.
+    fn command(&self, fields: &Fields24) -> DeviceCommand
+        ensures { result ≡ command_to self.now fields.now }
+    {
+        match fields {
+            Fields24::Command {
+                address,
+                instance,
+                opcode,
+            } if address.number() == self.address.number()
+                && instance.number() == self.number.number() => DeviceCommand::of(*opcode),
+            _ => DeviceCommand::Nothing,
+        }
+    }
+}

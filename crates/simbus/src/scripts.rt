@@ -1,0 +1,33 @@
+//! What a scenario scripts for a bus.
+ghost use Rattle.std.specs.Prelude.{◌≡◌};
+ghost use Rattle.simbus.specs.Simulated.{upset_at};
+
+use daliframe::Frame24;
+use scenario::Upset;
+
+/// An upset of a frame by its place.
+#[derive(Clone, Copy, Debug, PartialEq, Eq)]
+pub struct ScriptedReply {
+    /// The place of the frame among those sent on the bus, from 1.
+    pub place: u64,
+    pub upset: Upset,
+}
+
+/// What a call that hears meets.
+#[derive(Clone, Copy, Debug, PartialEq, Eq)]
+pub enum Arrival {
+    /// A frame.
+    Frame(Frame24),
+    /// A fault of the bus interface.
+    Fault,
+}
+
+/// What becomes of the frame at this place.
+pub(crate) fn upset_at(script: &[ScriptedReply], place: u64) -> Option<Upset>
+    ensures { result ≡ upset_at script.now place }
+{
+    script
+        .iter()
+        .find(|reply| reply.place == place)
+        .map(|reply| reply.upset)
+}

@@ -1,0 +1,195 @@
+//! What a scenario says of one bus.
+ghost use Rattle.std.specs.Prelude.{◌≡◌, IfOk};
+ghost use Rattle.std.specs.List.{filter_map, list_any};
+ghost use Rattle.simbus.specs.Setups.{gear_on, memory_on, instance_on, reply_on, arrival_on, has_lamp_failure, gear_with_lamp, gears_on};
+
+use crate::{Arrival, Gear, Instance, MemoryByte, ScriptedReply};
+use daliframe::ShortAddress;
+use scenario::{Entry, Scenario};
+use std::alloc::{AllocError, Global};
+
+/// What a scenario says of one bus.
+#[derive(Drop)]
+pub struct BusSetup {
+    pub gears: Vec<Gear>,
+    pub memory: Vec<MemoryByte>,
+    pub instances: Vec<Instance>,
+    pub script: Vec<ScriptedReply>,
+    /// What comes to be heard, in order.
+    pub arrivals: Vec<Arrival>,
+}
+
+impl BusSetup {
+    /// What a scenario says of this bus.
+    ///
+    /// # Errors
+    ///
+    /// Memory was refused.
+    pub fn of(alloc: Global, scenario: &Scenario, bus: u8) -> Result<Self, AllocError>
+        ensures gears { IfOk result (λ s. s.gears.items ≡ gears_on bus scenario.now) }
+        ensures memory { IfOk result (λ s. s.memory.items ≡ filter_map (memory_on bus) scenario.now) }
+        ensures instances { IfOk result (λ s. s.instances.items ≡ filter_map (instance_on bus) scenario.now) }
+        ensures script { IfOk result (λ s. s.script.items ≡ filter_map (reply_on bus) scenario.now) }
+        ensures arrivals { IfOk result (λ s. s.arrivals.items ≡ filter_map (arrival_on bus) scenario.now) }
+    {
+        let entries = scenario.lines();
+        Ok(BusSetup {
+            gears: gears_on(alloc, entries, bus)?,
+            memory: all_memory_on(alloc, entries, bus)?,
+            instances: instances_on(alloc, entries, bus)?,
+            script: replies_on(alloc, entries, bus)?,
+            arrivals: arrivals_on(alloc, entries, bus)?,
+        })
+    }
+}
+
+/// The short address of the gear that an entry declares on a bus.
+fn gear_on(entry: &Entry, bus: u8) -> Option<ShortAddress>
+    ensures { result ≡ gear_on bus entry.now }
+{
+    match entry {
+        Entry::Gear { bus: on, short } if *on == bus => Some(*short),
+        _ => None,
+    }
+}
+
+fn memory_on(entry: &Entry, bus: u8) -> Option<MemoryByte>
+    ensures { result ≡ memory_on bus entry.now }
+{
+    match entry {
+        Entry::Memory {
+            bus: on,
+            short,
+            bank,
+            offset,
+            value,
+        } if *on == bus => Some(MemoryByte {
+            address: *short,
+            bank: *bank,
+            offset: *offset,
+            value: *value,
+        }),
+        _ => None,
+    }
+}
+
+fn instance_on(entry: &Entry, bus: u8) -> Option<Instance>
+    ensures { result ≡ instance_on bus entry.now }
+{
+    match entry {
+        Entry::Instance {
+            bus: on,
+            short,
+            number,
+            kind,
+            scheme,
+            value,
+        } if *on == bus => Some(Instance {
+            address: *short,
+            number: *number,
+            instance_type: *kind,
+            scheme: *scheme,
+            value: *value,
+        }),
+        _ => None,
+    }
+}
+
+fn reply_on(entry: &Entry, bus: u8) -> Option<ScriptedReply>
+    ensures { result ≡ reply_on bus entry.now }
+{
+    match entry {
+        Entry::Reply {
+            bus: on,
+            place,
+            upset,
+        } if *on == bus => Some(ScriptedReply {
+            place: *place,
+            upset: *upset,
+        }),
+        _ => None,
+    }
+}
+
+fn arrival_on(entry: &Entry, bus: u8) -> Option<Arrival>
+    ensures { result ≡ arrival_on bus entry.now }
+{
+    match entry {
+        Entry::Event { bus: on, frame } if *on == bus => Some(Arrival::Frame(*frame)),
+        Entry::HearFault { bus: on } if *on == bus => Some(Arrival::Fault),
+        _ => None,
+    }
+}
+
+/// Whether an entry says that the lamp of this gear failed.
+fn has_lamp_failure(entry: &Entry, bus: u8, gear: ShortAddress) -> bool
+    ensures { result ≡ has_lamp_failure bus gear entry.now }
+{
+    match entry {
+        Entry::LampFailure { bus: on, short } => *on == bus && short.number() == gear.number(),
+        _ => false,
+    }
+}
+
+fn has_failed_lamp(entries: &[Entry], bus: u8, address: ShortAddress) -> bool
+    ensures { result ≡ list_any (has_lamp_failure bus address) entries.now }
+{
+    entries
+        .iter()
+        .any(|entry| has_lamp_failure(entry, bus, address))
+}
+
+fn gear_with_lamp(entries: &[Entry], bus: u8, address: ShortAddress) -> Gear
+    ensures { result ≡ gear_with_lamp bus entries.now address }
+{
+    Gear {
+        address,
+        lamp_failure: has_failed_lamp(entries, bus, address),
+    }
+}
+
+fn gears_on(alloc: Global, entries: &[Entry], bus: u8) -> Result<Vec<Gear>, AllocError>
+    ensures { IfOk result (λ v. v.items ≡ gears_on bus entries.now) }
+{
+    entries
+        .iter()
+        .filter_map(|entry| gear_on(entry, bus))
+        .map(|address| gear_with_lamp(entries, bus, address))
+        .collect(alloc)
+}
+
+fn all_memory_on(alloc: Global, entries: &[Entry], bus: u8) -> Result<Vec<MemoryByte>, AllocError>
+    ensures { IfOk result (λ v. v.items ≡ filter_map (memory_on bus) entries.now) }
+{
+    entries
+        .iter()
+        .filter_map(|entry| memory_on(entry, bus))
+        .collect(alloc)
+}
+
+fn instances_on(alloc: Global, entries: &[Entry], bus: u8) -> Result<Vec<Instance>, AllocError>
+    ensures { IfOk result (λ v. v.items ≡ filter_map (instance_on bus) entries.now) }
+{
+    entries
+        .iter()
+        .filter_map(|entry| instance_on(entry, bus))
+        .collect(alloc)
+}
+
+fn replies_on(alloc: Global, entries: &[Entry], bus: u8) -> Result<Vec<ScriptedReply>, AllocError>
+    ensures { IfOk result (λ v. v.items ≡ filter_map (reply_on bus) entries.now) }
+{
+    entries
+        .iter()
+        .filter_map(|entry| reply_on(entry, bus))
+        .collect(alloc)
+}
+
+fn arrivals_on(alloc: Global, entries: &[Entry], bus: u8) -> Result<Vec<Arrival>, AllocError>
+    ensures { IfOk result (λ v. v.items ≡ filter_map (arrival_on bus) entries.now) }
+{
+    entries
+        .iter()
+        .filter_map(|entry| arrival_on(entry, bus))
+        .collect(alloc)
+}

@@ -1,0 +1,399 @@
+//! Worked frames on simulated buses, and transactions of all kinds under all scripts.
+use crate::{Arrival, BusSetup, Gear, Instance, MemoryByte, ScriptedReply, SimBus};
+use buslink::{Bus, Fault, perform};
+use daliframe::{Address, Frame, Frame16, Frame24, InstanceNumber, ShortAddress};
+use gearcmd::{
+    DevAskCommand, DevDoCommand, GearAskCommand, GearDoCommand, GearPairCommand, GearSetCommand,
+    Request, SchemeNumber, TaskKind,
+};
+use scenario::Upset;
+use std::alloc::{AllocError, Global};
+use std::test::Fail;
+use transact::{Mark, Outcome, Reply, Transaction};
+
+/// Gear 5 and 6 with a byte of memory in gear 5, and an instance of device 5.
+fn setup(alloc: Global, gears: u8) -> Result<BusSetup, Fail> {
+    let address = ShortAddress::new(5).ok_or("short 5")?;
+    let mut setup = BusSetup {
+        gears: Vec::new(alloc),
+        memory: Vec::new(alloc),
+        instances: Vec::new(alloc),
+        script: Vec::new(alloc),
+        arrivals: Vec::new(alloc),
+    };
+    setup.gears.push(Gear {
+        address,
+        lamp_failure: false,
+    })?;
+    if gears > 1 {
+        let address = ShortAddress::new(6).ok_or("short 6")?;
+        setup.gears.push(Gear {
+            address,
+            lamp_failure: true,
+        })?;
+    }
+    for value in [7, 77] {
+        setup.memory.push(MemoryByte {
+            address,
+            bank: 2,
+            offset: 3,
+            value,
+        })?;
+    }
+    let number = InstanceNumber::new(2).ok_or("instance 2")?;
+    setup.instances.push(Instance {
+        address,
+        number,
+        instance_type: 1,
+        scheme: 0,
+        value: 9,
+    })?;
+    Ok(setup)
+}
+
+/// The reply to a 16-bit frame, or none at a fault.
+fn reply(bus: &mut SimBus, number: u16) -> Result<Option<Reply>, AllocError> {
+    bus.room(1)?;
+    Ok(bus.send(Frame::Forward16(Frame16::new(number)), 2).ok())
+}
+
+const QUIET: Option<Reply> = Some(Reply::Quiet);
+
+fn answer(byte: u8) -> Option<Reply> {
+    Some(Reply::Answer(byte))
+}
+
+#[test]
+fn pairs_of_frames(rt: HostRuntime) -> Result<(), Fail> {
+    let mut bus = SimBus::new(rt.alloc(), setup(rt.alloc(), 1)?)?;
+    for (frame, expected) in [
+        (0x0A80, QUIET),
+        (0x0BA0, answer(128)),
+        (0x0B21, QUIET),
+        (0x0BA0, answer(128)),
+        (0x0B21, QUIET),
+        (0x0B98, answer(0)),
+        (0x0B21, QUIET),
+        (0x0B21, QUIET),
+        (0x0B98, answer(128)),
+        (0x0B63, QUIET),
+        (0x0B63, QUIET),
+        (0x8610, QUIET),
+        (0x0BA0, answer(16)),
+    ] {
+        let found = reply(&mut bus, frame)?;
+        assert!(rt; found == expected, "{frame:04X}");
+    }
+    Ok(())
+}
+
+#[test]
+fn commands_of_gear(rt: HostRuntime) -> Result<(), Fail> {
+    let mut bus = SimBus::new(rt.alloc(), setup(rt.alloc(), 2)?)?;
+    for (frame, expected) in [
+        // STEP UP does nothing at level 0, ON AND STEP UP goes to MIN LEVEL, STEP DOWN AND OFF back to 0.
+        (0x0B03, QUIET),
+        (0x0BA0, answer(0)),
+        (0x0B08, QUIET),
+        (0x0BA0, answer(1)),
+        (0x0B04, QUIET),
+        (0x0BA0, answer(1)),
+        (0x0B07, QUIET),
+        (0x0BA0, answer(0)),
+        (0x0B05, QUIET),
+        (0x0B03, QUIET),
+        (0x0BA0, answer(254)),
+        // OFF, and GO TO LAST ACTIVE LEVEL; the level 255 is none.
+        (0x0A64, QUIET),
+        (0x0B00, QUIET),
+        (0x0B0A, QUIET),
+        (0x0BA0, answer(100)),
+        (0x0AFF, QUIET),
+        (0x0BA0, answer(100)),
+        // SET SCENE 4 from DTR0, GO TO SCENE 4, and REMOVE FROM SCENE 4.
+        (0xA320, QUIET),
+        (0x0B44, QUIET),
+        (0x0B44, QUIET),
+        (0x0BB4, answer(32)),
+        (0x0B14, QUIET),
+        (0x0BA0, answer(32)),
+        (0x0B54, QUIET),
+        (0x0B54, QUIET),
+        (0x0BB4, answer(255)),
+        (0x0B14, QUIET),
+        (0x0BA0, answer(32)),
+        // Groups 3 and 9; the third frame alone is no pair.
+        (0x0B63, QUIET),
+        (0x0B63, QUIET),
+        (0x0B69, QUIET),
+        (0x0B69, QUIET),
+        (0x0BC0, answer(8)),
+        (0x0BC1, answer(2)),
+        (0x0B73, QUIET),
+        (0x0BC0, answer(8)),
+        (0x0B73, QUIET),
+        (0x0B73, QUIET),
+        (0x0BC0, answer(0)),
+        // Statuses, and a lamp that failed.
+        (0x0B90, answer(4)),
+        (0x0B93, answer(255)),
+        (0x0B92, QUIET),
+        (0x0D90, answer(2)),
+        (0x0D92, answer(255)),
+        (0x0D93, QUIET),
+        (0x0B91, answer(255)),
+        (0x0BA1, answer(254)),
+        (0x0BA2, answer(1)),
+        (0x0B99, QUIET),
+        (0x0F90, QUIET),
+        // Two answers damage each other.
+        (0xFFA0, Some(Reply::Damaged)),
+        (0x93A0, answer(32)),
+        // Memory at bank DTR1 and offset DTR0: the last byte declared; DTR0 stays.
+        (0xC302, QUIET),
+        (0xA303, QUIET),
+        (0x0BC5, answer(77)),
+        (0xA304, QUIET),
+        (0x0BC5, QUIET),
+        (0x0B9C, answer(2)),
+        // RESET leaves DTR0.
+        (0x0B20, QUIET),
+        (0x0B20, QUIET),
+        (0x0BA0, answer(254)),
+        (0x0BC1, answer(0)),
+        (0x0B98, answer(4)),
+    ] {
+        let found = reply(&mut bus, frame)?;
+        assert!(rt; found == expected, "{frame:04X}");
+    }
+    let gear = bus.gear(ShortAddress::new(5).ok_or("short 5")?);
+    assert!(rt; gear.map(|variables| variables.level) == Some(254));
+    let none = bus.gear(ShortAddress::new(7).ok_or("short 7")?);
+    assert!(rt; none.is_none());
+    Ok(())
+}
+
+#[test]
+fn commands_of_devices(rt: HostRuntime) -> Result<(), Fail> {
+    let mut bus = SimBus::new(rt.alloc(), setup(rt.alloc(), 1)?)?;
+    for (frame, expected) in [
+        (0x0B_0280, answer(1)),
+        (0x0B_028B, answer(0)),
+        (0x0B_028C, answer(9)),
+        (0x0B_0380, QUIET),
+        (0x0D_0280, QUIET),
+        (0xC1_3003, QUIET),
+        (0x0B_0267, QUIET),
+        (0x0B_028B, answer(0)),
+        (0x0B_0267, QUIET),
+        (0x0B_0267, QUIET),
+        (0x0B_028B, answer(3)),
+        (0xC1_3005, QUIET),
+        (0x0B_0267, QUIET),
+        (0x0B_0267, QUIET),
+        (0x0B_028B, answer(3)),
+    ] {
+        bus.room(1)?;
+        let frame = Frame24::new(frame).ok_or("24 bits")?;
+        let found = bus.send(Frame::Forward24(frame), 2).ok();
+        assert!(rt; found == expected, "{frame}");
+    }
+    Ok(())
+}
+
+/// A request of each kind, 0 to 9, and how many frames it has.
+fn request(kind: u8) -> Option<(Request, usize)> {
+    let short = ShortAddress::new(5)?;
+    let address = Address::Short(short);
+    let instance = InstanceNumber::new(2)?;
+    Some(match kind {
+        0 => (
+            Request::Output {
+                address,
+                level: 100,
+            },
+            1,
+        ),
+        1 => (
+            Request::GearLevel {
+                address,
+                level: 100,
+            },
+            1,
+        ),
+        2 => (
+            Request::GearDo {
+                address,
+                command: GearDoCommand::new(5)?,
+            },
+            1,
+        ),
+        3 => (
+            Request::GearSet {
+                address,
+                command: GearSetCommand::new(9)?,
+                value: 100,
+            },
+            3,
+        ),
+        4 => (
+            Request::GearPair {
+                address,
+                command: GearPairCommand::new(1)?,
+            },
+            2,
+        ),
+        5 => (
+            Request::GearAsk {
+                address: short,
+                command: GearAskCommand::new(0)?,
+            },
+            1,
+        ),
+        6 => (
+            Request::GearRead {
+                address: short,
+                bank: 2,
+                offset: 3,
+            },
+            3,
+        ),
+        7 => (
+            Request::DevDo {
+                address: short,
+                instance,
+                command: DevDoCommand::new(1)?,
+            },
+            2,
+        ),
+        8 => (
+            Request::DevScheme {
+                address: short,
+                instance,
+                scheme: SchemeNumber::new(2)?,
+            },
+            3,
+        ),
+        9 => (
+            Request::DevAsk {
+                address: short,
+                instance,
+                command: DevAskCommand::new(2)?,
+            },
+            1,
+        ),
+        _ => return None,
+    })
+}
+
+/// The outcome of a request that nothing upsets.
+fn plain(kind: u8) -> Outcome {
+    Outcome::Done(match kind {
+        5 => Reply::Answer(0),
+        6 => Reply::Answer(77),
+        9 => Reply::Answer(9),
+        _ => Reply::Quiet,
+    })
+}
+
+/// So many attempts lose their first frame, and then the frame at this place of an attempt is upset.
+fn script(
+    alloc: Global,
+    lost: usize,
+    place: usize,
+    upset: Upset,
+) -> Result<Vec<ScriptedReply>, AllocError> {
+    let mut script = Vec::new(alloc);
+    for first in 0..lost.min(3) {
+        script.push(ScriptedReply {
+            place: first as u64 + 1,
+            upset: Upset::Lost,
+        })?;
+    }
+    script.push(ScriptedReply {
+        place: (lost.min(3) + place.min(3)) as u64,
+        upset,
+    })?;
+    Ok(script)
+}
+
+#[test]
+fn every_upset_of_every_kind(rt: HostRuntime) -> Result<(), Fail> {
+    for kind in 0..10 {
+        let (request, count) = request(kind).ok_or("a request")?;
+        let transaction = Transaction::of(&request, TaskKind::Cyclic);
+        for lost in 0..3usize {
+            for place in 1..count.min(3) + 1 {
+                for upset in [Upset::Lost, Upset::Damaged, Upset::Fault] {
+                    let mut setup = setup(rt.alloc(), 1)?;
+                    setup.script = script(rt.alloc(), lost, place, upset)?;
+                    let mut bus = SimBus::new(rt.alloc(), setup)?;
+                    let report = perform(&mut bus, &transaction)?;
+                    let (frames, outcome) = match upset {
+                        Upset::Lost if lost == 2 => (lost + place, Outcome::GaveUp),
+                        Upset::Lost => (lost + place + count.min(3), plain(kind)),
+                        Upset::Damaged if place == count => (
+                            lost + place,
+                            Outcome::Done(Reply::Damaged),
+                        ),
+                        Upset::Damaged => (lost + count.min(3), plain(kind)),
+                        Upset::Fault => (lost + place, Outcome::Failed),
+                    };
+                    assert!(rt;
+                        report.outcome() == outcome,
+                        "{kind} {lost} {place} {upset:?}"
+                    );
+                    assert_eq!(rt; report.attempts().len(), frames);
+                    assert_eq!(rt; bus.sent().len(), frames);
+                }
+            }
+        }
+    }
+    Ok(())
+}
+
+#[test]
+fn fault_at_second_frame(rt: HostRuntime) -> Result<(), Fail> {
+    let (request, _) = request(3).ok_or("a request")?;
+    let mut setup = setup(rt.alloc(), 1)?;
+    setup.script = script(rt.alloc(), 0, 2, Upset::Fault)?;
+    let mut bus = SimBus::new(rt.alloc(), setup)?;
+    let report = perform(&mut bus, &Transaction::of(&request, TaskKind::Cyclic))?;
+    assert!(rt; report.outcome() == Outcome::Failed);
+    let mut text = String::new(rt.alloc());
+    for sent in bus.sent() {
+        let frame = &sent.frame;
+        let priority = sent.priority;
+        let mark = if sent.mark == Mark::Failed {
+            "failed"
+        } else {
+            ""
+        };
+        let part = format!(in rt.alloc(); "{frame}/{priority}{mark} ")?;
+        text.push_str(part.as_str())?;
+    }
+    assert_eq!(rt; text.as_str(), "A364/3 0B42/1failed ");
+    Ok(())
+}
+
+#[test]
+fn what_comes_is_heard(rt: HostRuntime) -> Result<(), Fail> {
+    let frame = Frame24::new(0x0A_8809).ok_or("24 bits")?;
+    let mut setup = setup(rt.alloc(), 1)?;
+    setup.arrivals.push(Arrival::Frame(frame))?;
+    setup.arrivals.push(Arrival::Fault)?;
+    let mut bus = SimBus::new(rt.alloc(), setup)?;
+    bus.room(1)?;
+    assert!(rt; bus.hear() == Ok(None));
+    assert!(rt; bus.arrive());
+    assert!(rt; bus.arrive());
+    bus.room(1)?;
+    assert!(rt; bus.hear() == Ok(Some(frame)));
+    bus.room(1)?;
+    assert!(rt; bus.hear() == Err(Fault));
+    bus.room(1)?;
+    assert!(rt; bus.hear() == Ok(None));
+    assert!(rt; !bus.arrive());
+    assert_eq!(rt; bus.heard().len(), 1);
+    Ok(())
+}
