@@ -1,12 +1,16 @@
 mod AtTask
 mod Constants
+mod Found
 mod Initials
 mod Lawful
 mod Laying
 mod Meaning
 mod Outcome
+mod Parsed
 mod Places
+mod ReportedLines
 mod Stepped
+mod Taken
 mod Theorem
 mod Told
 mod Words

@@ -1,5 +1,5 @@
 -- One scan more.
-use Rattle.std.proofs.Common.{◌≡◌, ℕ, zero, suc, ◌+◌, ◌<◌, List, [], ◌∷◌, ◌++◌, length, refl, sym, ap, ◌∙◌, add-one, take, arith}
+use Rattle.std.proofs.Common.{◌≡◌, ℕ, zero, suc, ◌+◌, ◌*◌, ◌<◌, List, [], ◌∷◌, ◌++◌, length, refl, sym, ap, ◌∙◌, add-one, take, arith}
 use Rattle.std.specs.Prelude.{slice_get, IfSome, map}
 use Rattle.std.specs.Arc.{arc_value}
 use Rattle.std.specs.declared.alloc.Global.{Global}
@@ -11,11 +11,12 @@ use Rattle.ilverify.specs.Verdicts.{Accepted}
 use Rattle.ilmachine.specs.Scans.{IsScan}
 use Rattle.ilsyms.specs.Plans.{Planned, PlannedTask}
 use Rattle.dalictl.specs.Layout.{laid_out}
+use Rattle.dalictl.specs.declared.scans.Taken.{Taken}
 use Rattle.dalictl.specs.Stepping.{ScansTo, AreCodes, accepted_of}
 
-pub one_more : (code : Accepted) (n : ℕ) (from : List Value) (before : List ℕ) (values : List Value) (last : ℕ) (to : List Value)
-    → ScansTo code n from before values → IsScan code values last to → ScansTo code (n + 1) from (before ++ last ∷ []) to
-one_more code n from before values last to scans scan = rw add-one (before, values, last, scans, scan, refl)
+pub one_more : (code : Accepted) (every n : ℕ) (from : List Value) (before : List Taken) (values : List Value) (last : Taken) (to : List Value)
+    → ScansTo code every n from before values → IsScan code values last.steps to → last.moment ≡ n * every → ScansTo code every (n + 1) from (before ++ last ∷ []) to
+one_more code every n from before values last to scans scan moment = rw add-one (before, values, last, scans, record { scan = scan; at_moment = moment }, refl)
 
 -- a longer front has one element more
 longer_front : {X : Type 0} (P : X → Type 0) (xs : List X) (k : ℕ) → k < length xs → IfSome (slice_get xs k) P → (x : X) × (take (suc k) xs ≡ take k xs ++ x ∷ []) × P x

@@ -112,16 +112,16 @@ store_of tree values = paired tree.text (slots_of tree.programs) values
 abbrev pub initial_values_of : Tree → List Value
 initial_values_of tree = map (λ s. s.initial) (slots_of tree.programs)
 
--- the variables after this many scans of the text, from their initial values, with the steps of each scan, which are those of the
--- task's code from the variables before it and at most the bound
-pub record IsStepped (buses : ℕ) (bytes name : List ℕ) (scans : ℕ) (made : Stepped) : Type 0 where
+-- the variables after this many scans of the text, so many milliseconds apart, from their initial values, with the steps of each scan,
+-- which are those of the task's code from the variables before it and at most the bound
+pub record IsStepped (buses : ℕ) (bytes name : List ℕ) (scans every : ℕ) (made : Stepped) : Type 0 where
   pub tree : Tree
   pub spelled : IsText bytes tree
   pub plan : IsPlanOf tree buses made.plan
   pub task : IsFirstCalled made.plan name made.task
   pub values : ScansMean tree scans (store_of tree (initial_values_of tree)) (store_of tree made.scans.values.items)
   pub each : length made.scans.values.items ≡ length (slots_of tree.programs)
-  pub many : length made.scans.steps.items ≡ scans
-  pub runs : IfSome (slice_get made.plan.tasks made.task) (λ t. ScansTo (record { code = laid_out buses t; bound = made.bound }) scans (initials_of t) made.scans.steps.items made.scans.values.items)
-  pub few : All (λ steps. steps ≤ made.bound) made.scans.steps.items
+  pub many : length made.scans.each.items ≡ scans
+  pub runs : IfSome (slice_get made.plan.tasks made.task) (λ t. ScansTo (record { code = laid_out buses t; bound = made.bound }) every scans (initials_of t) made.scans.each.items made.scans.values.items)
+  pub few : All (λ taken. taken.steps ≤ made.bound) made.scans.each.items
   pub bound : IfSome (slice_get made.plan.tasks made.task) (λ t. IsBound (laid_out buses t).instructions made.bound)

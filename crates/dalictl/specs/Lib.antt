@@ -1,8 +1,11 @@
 pub mod Answered
+pub mod CommandLine
 pub mod Connected
 pub mod Layout
 pub mod Meant
 pub mod Printed
+pub mod Reports
+pub mod Requested
 pub mod Requests
 pub mod Stepping
 pub mod Stops

@@ -7,9 +7,11 @@ ghost use Rattle.dalictl.specs.Layout.{laid_out};
 ghost use Rattle.ilverify.specs.Certificates.{IsCertified};
 ghost use Rattle.dalictl.specs.Answered.{AreCertified, IsCheckStop, IsCodeStop, IsFirstCalled, IsPlanOfText, IsPlanStop, IsStepStop, IsStepped, IsTaskStop, NoneIsCalled};
 ghost use Rattle.dalictl.specs.Connected.{IsConnected, IsBindingStop};
+ghost use Rattle.dalictl.specs.Requested.{IsAnswer, IsMade};
 ghost use Rattle.dalictl.specs.Stepping.{AreCodes, BeginInTypes, IsRunOf, accepted_of};
 
 use crate::compile::compile;
+use crate::options::Request;
 use crate::scans;
 use crate::scans::Scans;
 use crate::setup::{Setup, Stepped};
@@ -20,6 +22,45 @@ use iltypes::Value;
 use ilverify::{Verified, VerifyError, verify};
 use std::alloc::{AllocError, Global};
 use std::sync::Arc;
+
+/// What a request is answered.
+#[derive(Drop)]
+pub enum Answer {
+    Checked(Setup),
+    Stepped(Stepped),
+    Stopped(Stop),
+}
+
+/// The answer to a request, of the bytes of a binding's file, if one is named, and of a text's.
+pub fn respond(alloc: Global, request: Request, binding: Option<&[u8]>, text: &[u8]) -> Answer
+    ensures { IsAnswer request.entry (option_copied binding.entry) text.now result }
+{
+    match binding_of(alloc, binding) {
+        Ok(binding) => respond_under(alloc, &binding, request, text),
+        Err(stop) => Answer::Stopped(stop),
+    }
+}
+
+/// The answer to a request under a binding.
+fn respond_under(alloc: Global, binding: &Binding, request: Request, text: &[u8]) -> Answer
+    ensures { IsMade binding.now.buses text.now request.entry result }
+{
+    match request {
+        Request::Check { .. } => match check(alloc, binding, text) {
+            Ok(setup) => Answer::Checked(setup),
+            Err(stop) => Answer::Stopped(stop),
+        },
+        Request::Step {
+            task,
+            scans,
+            every,
+            ..
+        } => match step(alloc, binding, text, task, scans, every) {
+            Ok(made) => Answer::Stepped(made),
+            Err(stop) => Answer::Stopped(stop),
+        },
+    }
+}
 
 /// The binding that a file's bytes spell, or why they spell none; without a file there is one bus.
 pub fn binding_of(alloc: Global, bytes: Option<&[u8]>) -> Result<Binding, Stop>
@@ -57,7 +98,7 @@ pub fn step(
     scans: u32,
     every: u32,
 ) -> Result<Stepped, Stop>
-    ensures made { IfOk result (IsStepped binding.now.buses text.now task.now scans) }
+    ensures made { IfOk result (IsStepped binding.now.buses text.now task.now scans every) }
     ensures stop { IfErr result (IsStepStop binding.now.buses text.now task.now) }
 {
     let plan = plan_of(alloc, binding, text)?;
@@ -86,7 +127,7 @@ fn run(
     requires of_plan { task < length plan.now.tasks }
     requires coded { AreCodes plan.now plan.now.tasks (accepted_of codes.now) }
     requires in_types { BeginInTypes plan.now.tasks }
-    ensures { IfOk result (λ made. IsRunOf plan.now (accepted_of codes.now) task scans made.0 made.1.steps.items made.1.values.items) }
+    ensures { IfOk result (λ made. IsRunOf plan.now (accepted_of codes.now) task scans every made.0 made.1.each.items made.1.values.items) }
 {
     let of_task = plan.task(task);
     let initial = initial_values(alloc, of_task.slots())?;

@@ -1,6 +1,6 @@
 //! Reading files.
 
-ghost use Rattle.std.specs.Prelude.{◌≡◌, ◌↔◌};
+ghost use Rattle.std.specs.Prelude.{◌≡◌, ◌↔◌, IfOk, IfSome, take};
 
 use std::alloc::Global;
 use std::fs::File;
@@ -19,12 +19,18 @@ pub enum Unread {
 
 /// The first bytes of the file, at most one more than the greatest number.
 pub fn read<R: Files + AllocGlobal>(rt: &R, path: &str) -> Result<Vec<u8>, Unread> {
-    let file = match File::open(rt, path) {
-        Ok(file) => file,
-        Err(error) => return Err(reason(error.kind())),
-    };
-    let mut bytes = Vec::new(rt.alloc());
-    match file.take(MAX_BYTES + 1).read_to_end(&mut bytes) {
+    match File::open(rt, path) {
+        Ok(file) => bytes_of(rt.alloc(), file),
+        Err(error) => Err(reason(error.kind())),
+    }
+}
+
+/// The first bytes that a reader gives, at most one more than the greatest number.
+fn bytes_of<R: Read + Drop>(alloc: Global, reader: R) -> Result<Vec<u8>, Unread>
+    ensures { IfOk result (λ bytes. IfSome (R.remaining reader) (λ all. bytes.items ≡ take 1048577 all)) }
+{
+    let mut bytes = Vec::new(alloc);
+    match reader.take(MAX_BYTES + 1).read_to_end(&mut bytes) {
         Ok(_) => Ok(bytes),
         Err(error) => Err(reason(error.kind())),
     }

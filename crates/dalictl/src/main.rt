@@ -1,8 +1,9 @@
 //! The program `dalictl`: checks Instruction List texts and runs their scans.
 //!
-//! A thin shell round proved calls: `options` reads the command line with `clap`, `files` reads the files, `answers` answers what
-//! they hold (by the contracts of the crates below, and of `compile`, which lays out a task's code), and `report` prints the
-//! answer. What is printed is checked by tests alone. Nothing crosses a boundary above it.
+//! A thin shell round proved calls: `options` reads the command line with `clap` (specs/CommandLine.antt), `files` reads the files,
+//! `answers` answers what they hold (specs/Requested.antt; by the contracts of the crates below, and of `compile`, which lays out a
+//! task's code), and `report` writes the answer's lines (specs/Reports.antt). No contract can say which bytes a file or a terminal
+//! gives or takes. Nothing crosses a boundary above it.
 #![tactic(auto)]
 
 mod answers;

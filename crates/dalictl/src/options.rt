@@ -1,6 +1,11 @@
 //! The command line, read with `clap`.
 
-use clap::{Arg, ArgAction, Command, Error};
+ghost use Rattle.std.specs.Prelude.{◌≡◌, IfOk, codes, false, map, string_bytes};
+ghost use Rattle.clap.specs.Words.{FailsBy, app_of, fault_of, first_of, found_of, one_of, rows_of, rule_of, shape_of};
+ghost use Rattle.clap.specs.declared.builder.command.Command.TheViews.{out-Command};
+ghost use Rattle.dalictl.specs.CommandLine.{AreFiles, IsNumber, IsOfCommand, IsRequest, check_command, command_line, given, number_option, option, step_command, step_files, wanted};
+
+use clap::{Arg, ArgAction, ArgMatches, Command, Error};
 use std::alloc::{AllocError, Global};
 
 /// What the user asks for.
@@ -47,28 +52,68 @@ pub struct Files<'a> {
 /// # Errors
 ///
 /// What `clap` says of words that spell none, and the help where it is asked for.
-pub fn read<'a>(alloc: Global, words: &'a [String]) -> Result<Request<'a>, Error> {
+pub fn read<'a>(alloc: Global, words: &'a [String]) -> Result<Request<'a>, Error>
+    // Exactly the words that the command line takes are taken, unless memory is refused,
+    ensures taken { FailsBy (fault_of command_line (map (λ word. string_bytes word) words.entry.now)) result }
+    // and the request is the one that they spell.
+    ensures request { IfOk result (IsRequest (map (λ word. string_bytes word) words.entry.now)) }
+{
     let mut matches = command(alloc)?.try_get_matches_from(words)?;
-    let (name, of_command) = match matches.remove_subcommand() {
-        Some(found) => found,
-        None => ("check", matches),
-    };
-    let files = Files {
-        text: of_command.get_str("FILE").unwrap_or(""),
-        binding: of_command.get_str("bind"),
-    };
-    if name == "check" {
-        return Ok(Request::Check { files });
+    match matches.remove_subcommand() {
+        Some((name, found)) => Ok(request_of(name, &found)),
+        None => unreachable!(),
     }
-    Ok(Request::Step {
-        files,
-        task: of_command.get_str("TASK").unwrap_or(""),
-        scans: of_command.get_one::<u32>("scans").unwrap_or(1),
-        every: of_command.get_one::<u32>("every").unwrap_or(100),
-    })
 }
 
-fn command<'a>(alloc: Global) -> Result<Command<'a>, AllocError> {
+/// The request of what was found under a command's name.
+fn request_of<'a>(name: &str, found: &ArgMatches<'a>) -> Request<'a>
+    ensures { IsOfCommand name.now (rows_of (found_of found.now)) result }
+{
+    let files = files_in(found);
+    if name == "check" {
+        return Request::Check { files };
+    }
+    Request::Step {
+        files,
+        task: text_in(found, "TASK"),
+        scans: number_in(found, "scans", 1),
+        every: number_in(found, "every", 100),
+    }
+}
+
+/// The files that are named.
+fn files_in<'a>(found: &ArgMatches<'a>) -> Files<'a>
+    ensures { AreFiles (rows_of (found_of found.now)) result }
+{
+    Files {
+        text: text_in(found, "FILE"),
+        binding: found.get_str("bind"),
+    }
+}
+
+/// The text that was given, or none.
+fn text_in<'a>(found: &ArgMatches<'a>, id: &str) -> &'a str
+    ensures { result.now ≡ given (first_of id.now (rows_of (found_of found.now))) }
+{
+    match found.get_str(id) {
+        Some(text) => text,
+        None => "",
+    }
+}
+
+/// The number that was given, or without one the default.
+fn number_in(found: &ArgMatches, id: &str, default: u32) -> u32
+    ensures { IsNumber default (one_of id.now (rows_of (found_of found.now))) result }
+{
+    match found.get_one::<u32>(id) {
+        Some(number) => number,
+        None => default,
+    }
+}
+
+fn command<'a>(alloc: Global) -> Result<Command<'a>, AllocError>
+    ensures { IfOk result (λ c. app_of c ≡ command_line) }
+{
     Command::new(alloc, "dalictl")
         .about("Checks Instruction List programs for DALI-2 lighting buses, and runs their scans")
         .subcommand_required(true)
@@ -76,55 +121,87 @@ fn command<'a>(alloc: Global) -> Result<Command<'a>, AllocError> {
         .subcommand(step(alloc)?)
 }
 
-fn check<'a>(alloc: Global) -> Result<Command<'a>, AllocError> {
+fn check<'a>(alloc: Global) -> Result<Command<'a>, AllocError>
+    ensures shape { IfOk result (λ c. app_of c ≡ check_command) }
+    ensures local { IfOk result (λ c. (out-Command c).has_globals ≡ false) }
+{
     Command::new(alloc, "check")
         .about("Tells for each task its words and the bound of a scan, or the first fault")
         .arg(text(alloc))?
         .arg(binding(alloc))
 }
 
-fn step<'a>(alloc: Global) -> Result<Command<'a>, AllocError> {
+fn step<'a>(alloc: Global) -> Result<Command<'a>, AllocError>
+    ensures shape { IfOk result (λ c. app_of c ≡ step_command) }
+    ensures local { IfOk result (λ c. (out-Command c).has_globals ≡ false) }
+{
+    step_files(alloc)?.arg(scans(alloc))?.arg(every(alloc))
+}
+
+fn step_files<'a>(alloc: Global) -> Result<Command<'a>, AllocError>
+    ensures shape { IfOk result (λ c. app_of c ≡ step_files) }
+    ensures local { IfOk result (λ c. (out-Command c).has_globals ≡ false) }
+{
     Command::new(alloc, "step")
         .about("Runs scans of one task and tells its variables")
         .arg(text(alloc))?
-        .arg(
-            Arg::new(alloc, "TASK")
-                .required(true)
-                .action(ArgAction::Set)
-                .help("The task's name, in any letter case"),
-        )?
-        .arg(binding(alloc))?
-        .arg(
-            Arg::new(alloc, "scans")
-                .long("scans")
-                .value_name("N")
-                .action(ArgAction::Set)
-                .value_parser(clap::value_parser!(u32).range(1..=1_000_000))
-                .help("How many scans, 1 to 1000000 [default: 1]"),
-        )?
-        .arg(
-            Arg::new(alloc, "every")
-                .long("every")
-                .value_name("MS")
-                .action(ArgAction::Set)
-                .value_parser(clap::value_parser!(u32))
-                .help("Milliseconds from scan to scan, 0 to 4294967295 [default: 100]"),
-        )
+        .arg(task(alloc))?
+        .arg(binding(alloc))
 }
 
-fn text<'a>(alloc: Global) -> Arg<'a> {
+fn text<'a>(alloc: Global) -> Arg<'a>
+    ensures rule { rule_of result ≡ wanted (codes "FILE") }
+    ensures local { result.global ≡ false }
+{
     Arg::new(alloc, "FILE")
         .required(true)
         .action(ArgAction::Set)
         .help("The text of the programs")
 }
 
-fn binding<'a>(alloc: Global) -> Arg<'a> {
+fn task<'a>(alloc: Global) -> Arg<'a>
+    ensures rule { rule_of result ≡ wanted (codes "TASK") }
+    ensures local { result.global ≡ false }
+{
+    Arg::new(alloc, "TASK")
+        .required(true)
+        .action(ArgAction::Set)
+        .help("The task's name, in any letter case")
+}
+
+fn binding<'a>(alloc: Global) -> Arg<'a>
+    ensures rule { rule_of result ≡ option (codes "bind") }
+    ensures local { result.global ≡ false }
+{
     Arg::new(alloc, "bind")
         .long("bind")
         .value_name("FILE")
         .action(ArgAction::Set)
         .help("The binding of buses [default: one bus]")
+}
+
+fn scans<'a>(alloc: Global) -> Arg<'a>
+    ensures rule { rule_of result ≡ number_option (codes "scans") 1 1000000 }
+    ensures local { result.global ≡ false }
+{
+    Arg::new(alloc, "scans")
+        .long("scans")
+        .value_name("N")
+        .action(ArgAction::Set)
+        .value_parser(clap::value_parser!(u32).range(1..=1_000_000))
+        .help("How many scans, 1 to 1000000 [default: 1]")
+}
+
+fn every<'a>(alloc: Global) -> Arg<'a>
+    ensures rule { rule_of result ≡ number_option (codes "every") 0 4294967295 }
+    ensures local { result.global ≡ false }
+{
+    Arg::new(alloc, "every")
+        .long("every")
+        .value_name("MS")
+        .action(ArgAction::Set)
+        .value_parser(clap::value_parser!(u32))
+        .help("Milliseconds from scan to scan, 0 to 4294967295 [default: 100]")
 }
 
 #[cfg(test)]

@@ -1,129 +1,41 @@
-//! What scans of a text do, by a plain slow program over its names; `answers::step` answers the same.
+//! Scans of texts as `step` answers them, beside plain scans over names.
 
 use crate::answers::step;
-use ilsource::{Constant, Instruction, Name, Operand, Source};
-use ilsyms::Binding;
+use ilsource::Source;
+use ilsyms::{Binding, Store, scan};
 use iltext::parse;
-use iltypes::{BooleanOperator, Value};
-use std::alloc::{AllocError, Global};
+use std::alloc::Global;
+use std::process::Abort;
 use std::test::Fail;
 
-/// A variable of one of the text's programs, each of which has one instance.
-#[derive(Drop)]
-struct Variable {
-    program: usize,
-    name: Name,
-    value: bool,
-}
-
-fn is_true(constant: Constant) -> bool {
-    matches!(constant, Constant::Bool(true) | Constant::Number(1))
-}
-
-fn declared(alloc: Global, source: &Source) -> Result<Vec<Variable>, AllocError> {
-    let mut variables = Vec::new(alloc);
-    for (program, written) in source.programs().iter().enumerate() {
-        for declaration in written.declarations() {
-            for name in declaration.names() {
-                let value = declaration.initial().is_some_and(is_true);
-                variables.push(Variable {
-                    program,
-                    name: *name,
-                    value,
-                })?;
-            }
-        }
-    }
-    Ok(variables)
-}
-
-fn value_of(text: &[u8], variables: &[Variable], program: usize, operand: Operand) -> bool {
-    match operand {
-        Operand::Constant(constant) => is_true(constant),
-        Operand::Variable(name) => variables.iter().any(|variable| {
-            variable.program == program && variable.name.is_same(name, text) && variable.value
-        }),
-    }
-}
-
-fn set(text: &[u8], variables: &mut [Variable], program: usize, name: Name, value: bool) {
-    for variable in variables.iter_mut() {
-        if variable.program == program && variable.name.is_same(name, text) {
-            variable.value = value;
-        }
-    }
-}
-
-fn apply(operator: BooleanOperator, left: bool, right: bool) -> bool {
-    match operator {
-        BooleanOperator::And => left && right,
-        BooleanOperator::Or => left || right,
-        BooleanOperator::Xor => left != right,
-    }
-}
-
-/// Does one instruction; the current result after it.
-fn obey(
-    text: &[u8],
-    variables: &mut [Variable],
-    program: usize,
-    instruction: Instruction,
-    current: bool,
-) -> bool {
-    match instruction {
-        Instruction::Load { negated, operand } => {
-            value_of(text, variables, program, operand) != negated
-        }
-        Instruction::Apply {
-            operator,
-            negated,
-            operand,
-        } => {
-            let right = value_of(text, variables, program, operand) != negated;
-            apply(operator, current, right)
-        }
-        Instruction::Not => !current,
-        Instruction::Store { negated, variable } => {
-            set(text, variables, program, variable, current != negated);
-            current
-        }
-        Instruction::Set(variable) => {
-            if current {
-                set(text, variables, program, variable, true);
-            }
-            current
-        }
-        Instruction::Reset(variable) => {
-            if current {
-                set(text, variables, program, variable, false);
-            }
-            current
-        }
-    }
-}
-
-fn scan(source: &Source, variables: &mut [Variable]) {
-    for (program, written) in source.programs().iter().enumerate() {
-        let mut current = false;
-        for line in written.lines() {
-            current = obey(source.text(), variables, program, line.instruction, current);
-        }
-    }
-}
-
-/// The values of the variables after this many scans.
-fn after(alloc: Global, text: &[u8], scans: u32) -> Result<Vec<Value>, Fail> {
-    let source = parse(alloc, text)?;
-    let mut variables = declared(alloc, &source)?;
+/// The store after this many plain scans.
+fn after(alloc: Global, source: &Source, scans: u32) -> Result<Store, Fail> {
+    let mut store = Store::of(alloc, source)?;
     for _ in 0..scans {
-        scan(&source, &mut variables);
+        store = scan(alloc, source, store)?.ok_or("a scan has a meaning")?;
     }
-    Ok(
-        variables
-            .iter()
-            .map(|variable| Value::Bool(variable.value))
-            .collect(alloc)?,
-    )
+    Ok(store)
+}
+
+/// Asserts that `step` leaves each variable, of which there are so many, the value that as many plain scans leave it.
+fn compare(
+    rt: &(impl Abort + AllocGlobal),
+    text: &str,
+    scans: u32,
+    variables: usize,
+) -> Result<(), Fail> {
+    let bytes = text.as_bytes();
+    let stepped = step(rt.alloc(), &Binding::one_bus(), bytes, "MAIN", scans, 100)?;
+    let store = after(rt.alloc(), &parse(rt.alloc(), bytes)?, scans)?;
+    let slots = stepped.plan.slots(stepped.task);
+    assert_eq!(rt; slots.len(), variables, "{text}");
+    assert_eq!(rt; stepped.scans.values.len(), variables, "{text}");
+    for (slot, value) in slots.iter().zip(&stepped.scans.values) {
+        let instance = slot.instance.text(bytes).to_ascii_lowercase(rt.alloc())?;
+        let variable = slot.variable.text(bytes).to_ascii_lowercase(rt.alloc())?;
+        assert_eq!(rt; store.value(&instance, &variable), Some(*value), "{text}");
+    }
+    Ok(())
 }
 
 const WORDS: [&str; 14] = [
@@ -144,24 +56,37 @@ const WORDS: [&str; 14] = [
 ];
 
 #[test]
-fn scans_do_what_the_plain_program_does(rt: HostRuntime) -> Result<(), Fail> {
-    let alloc = rt.alloc();
-    let binding = Binding::one_bus();
+fn scans_do_what_plain_scans_do(rt: HostRuntime) -> Result<(), Fail> {
     for first in WORDS {
         for second in WORDS {
-            let text = format!(in alloc;
+            let text = format!(in rt.alloc();
                 "PROGRAM p\nVAR a : BOOL := TRUE; B, c : BOOL; END_VAR\nLD a\n{first}\n{second}\nST c\nEND_PROGRAM\n\
                 PROGRAM q\nVAR b : BOOL := 1; END_VAR\nLDN b\nST B\nEND_PROGRAM\n"
             )?;
             for scans in 1..4 {
-                let stepped = step(alloc, &binding, text.as_bytes(), "MAIN", scans, 100)?;
-                let wanted = after(alloc, text.as_bytes(), scans)?;
-                assert_eq!(rt;
-                    stepped.scans.values.as_slice(),
-                    wanted.as_slice(),
-                    "{text}"
-                );
+                compare(&rt, &text, scans, 4)?;
             }
+        }
+    }
+    Ok(())
+}
+
+#[test]
+fn scans_of_single_programs_do_too(rt: HostRuntime) -> Result<(), Fail> {
+    let texts = [
+        (
+            "PROGRAM p\nVAR a : BOOL := TRUE; b, c : BOOL; END_VAR\nLD a\nANDN b\nST c\nSTN a\nEND_PROGRAM\n",
+            3,
+        ),
+        ("PROGRAM p\nVAR a : BOOL; END_VAR\nEND_PROGRAM\n", 1),
+        (
+            "PROGRAM p\nVAR a : BOOL; END_VAR\nLD TRUE\nST a\nEND_PROGRAM\n",
+            1,
+        ),
+    ];
+    for (text, variables) in texts {
+        for scans in 0..3 {
+            compare(&rt, text, scans, variables)?;
         }
     }
     Ok(())

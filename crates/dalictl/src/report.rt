@@ -1,6 +1,11 @@
 //! What is printed.
 
-use crate::answers::{binding_of, check, step};
+ghost use Rattle.std.specs.Prelude.{◌≡◌, length, IfOk, IfSome, OnOk};
+ghost use Rattle.std.specs.Io.KnownBytes.{Appends};
+ghost use Rattle.dalictl.specs.Reports.{first_lines, printed_answer, scan_line, status_of_answer, task_line, variable_line};
+ghost use Rattle.dalictl.specs.Stops.{printed_stop};
+
+use crate::answers::{Answer, respond};
 use crate::options::Request;
 use crate::setup::{Setup, Stepped};
 use crate::stop::Stop;
@@ -14,50 +19,61 @@ pub fn answer<R: Print + AllocGlobal>(
     binding: Option<&[u8]>,
     text: &[u8],
 ) -> io::Result<u8> {
-    let binding = match binding_of(rt.alloc(), binding) {
-        Ok(binding) => binding,
-        Err(stop) => return stopped(rt, &stop),
-    };
-    match request {
-        Request::Check { .. } => match check(rt.alloc(), &binding, text) {
-            Ok(setup) => checked(rt, &setup),
-            Err(stop) => stopped(rt, &stop),
-        },
-        Request::Step {
-            task,
-            scans,
-            every,
-            ..
-        } => match step(rt.alloc(), &binding, text, task, scans, every) {
-            Ok(made) => stepped(rt, &made),
-            Err(stop) => stopped(rt, &stop),
-        },
-    }
+    let answer = respond(rt.alloc(), request, binding, text);
+    let mut out = BufWriter::new(rt.alloc(), io::writer(rt))?;
+    let status = report(&mut out, &answer)?;
+    out.flush()?;
+    Ok(status)
 }
 
-fn stopped<R: Print>(rt: &R, stop: &Stop) -> io::Result<u8> {
-    println!(rt; "{stop}")?;
-    Ok(stop.status())
+/// Writes the answer's lines; the exit status.
+fn report<W: Write>(out: &mut W, answer: &Answer) -> io::Result<u8>
+    ensures text { OnOk result (IfSome (printed_answer answer.now) (Appends (W.contents out.old) (W.contents out.new))) }
+    ensures status { IfOk result (λ status. status ≡ status_of_answer answer.now) }
+{
+    match answer {
+        Answer::Checked(setup) => {
+            tasks(out, setup)?;
+            Ok(0)
+        }
+        Answer::Stepped(made) => {
+            scans(out, made)?;
+            variables(out, made)?;
+            Ok(0)
+        }
+        Answer::Stopped(stop) => {
+            writeln!(out, "{stop}")?;
+            Ok(stop.status())
+        }
+    }
 }
 
 /// A line for each task.
-fn checked<R: Print>(rt: &R, setup: &Setup) -> io::Result<u8> {
+fn tasks<W: Write>(out: &mut W, setup: &Setup) -> io::Result<()>
+    ensures { OnOk result (Appends (W.contents out.old) (W.contents out.new) (first_lines (task_line setup.now) (length setup.now.plan.tasks))) }
+{
     for task in 0..setup.plan.tasks() {
-        println!(rt; "{}", setup.task_line(task))?;
+        writeln!(out, "{}", setup.task_line(task))?;
     }
-    Ok(0)
+    Ok(())
 }
 
-/// A line for each scan, and then the variables.
-fn stepped<R: Print + AllocGlobal>(rt: &R, made: &Stepped) -> io::Result<u8> {
-    let mut out = BufWriter::new(rt.alloc(), io::writer(rt))?;
-    for number in 0..made.scans.steps.len() {
+/// A line for each scan.
+fn scans<W: Write>(out: &mut W, made: &Stepped) -> io::Result<()>
+    ensures { OnOk result (Appends (W.contents out.old) (W.contents out.new) (first_lines (scan_line made.now) (length made.now.scans.each.items))) }
+{
+    for number in 0..made.scans.each.len() {
         writeln!(out, "{}", made.scan_line(number))?;
     }
-    let slots = made.plan.slots(made.task).len();
-    for slot in 0..made.scans.values.len().min(slots) {
+    Ok(())
+}
+
+/// A line for each variable.
+fn variables<W: Write>(out: &mut W, made: &Stepped) -> io::Result<()>
+    ensures { OnOk result (Appends (W.contents out.old) (W.contents out.new) (first_lines (variable_line made.now) (length made.now.scans.values.items))) }
+{
+    for slot in 0..made.scans.values.len() {
         writeln!(out, "{}", made.variable_line(slot))?;
     }
-    out.flush()?;
-    Ok(0)
+    Ok(())
 }

@@ -1,6 +1,6 @@
 //! What is kept of a text: its plan with its codes, and scans of one of its tasks.
 
-ghost use Rattle.std.specs.Prelude.{◌≡◌, ◌<◌, length, vec_len};
+ghost use Rattle.std.specs.Prelude.{◌≡◌, ◌<◌, length, option_map, slice_get, vec_len, Some};
 
 use crate::lines::{ScanLine, TaskLine, VariableLine};
 use crate::scans::Scans;
@@ -27,18 +27,19 @@ pub struct Stepped {
     pub bound: u32,
     pub scans: Scans,
     ghost of_plan: { task < length plan.tasks },
+    ghost valued: { option_map (λ t. length t.slots) (slice_get plan.tasks task) ≡ Some (length scans.values.items) },
 }
 
 impl Setup {
-    ghost use Rattle.std.specs.Prelude.{◌≡◌, ◌<◌, length, slice_get, Some, IfSome, option_map};
+    ghost use Rattle.std.specs.Prelude.{◌≡◌, ◌<◌, length, slice_get, Some, option_map};
     ghost use Rattle.dalictl.specs.Stepping.{accepted_of};
 
     /// What is told of the task of this number: its name, the words of its code, and the code's bound.
     pub fn task_line(&self, task: usize) -> TaskLine<'_>
         requires { task < length self.now.plan.tasks }
         ensures name { option_map (λ t. t.name) (slice_get self.now.plan.tasks task) ≡ Some result.name.now }
-        ensures words { IfSome (slice_get (accepted_of self.now.codes.items) task) (λ a. result.words ≡ length a.code.instructions) }
-        ensures bound { IfSome (slice_get (accepted_of self.now.codes.items) task) (λ a. result.bound ≡ a.bound) }
+        ensures words { option_map (λ a. length a.code.instructions) (slice_get (accepted_of self.now.codes.items) task) ≡ Some result.words }
+        ensures bound { option_map (λ a. a.bound) (slice_get (accepted_of self.now.codes.items) task) ≡ Some result.bound }
     {
         let code = &self.codes[task];
         TaskLine {
@@ -56,14 +57,14 @@ impl Stepped {
 
     /// What is told of the scan of this number, counted from 0.
     pub fn scan_line(&self, number: usize) -> ScanLine
-        requires { number < vec_len self.now.scans.steps }
+        requires { number < vec_len self.now.scans.each }
         ensures number { result.number ≡ number }
-        ensures steps { slice_get self.now.scans.steps.items number ≡ Some result.steps }
+        ensures steps { option_map (λ taken. taken.steps) (slice_get self.now.scans.each.items number) ≡ Some result.steps }
         ensures bound { result.bound ≡ self.now.bound }
     {
         ScanLine {
             number,
-            steps: self.scans.steps[number],
+            steps: self.scans.each[number].steps,
             bound: self.bound,
         }
     }

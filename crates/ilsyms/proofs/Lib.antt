@@ -12,6 +12,7 @@ pub mod Paired
 pub mod Scans
 pub mod Scopes
 pub mod Simulation
+pub mod StoredValues
 pub mod Tables
 pub mod ThePlan
 pub mod WordsPast
