@@ -14,7 +14,7 @@ pub trait Bus: Drop {
 
     ghost log: { Self → BusLog };
 
-    /// Makes room for so many frames more, sent or heard. Where there is room already it succeeds.
+    /// Makes room for so many frames more, sent or heard. Where there is room already it succeeds, and room is never given up.
     ///
     /// # Errors
     ///
@@ -22,6 +22,7 @@ pub trait Bus: Drop {
     fn room(&mut self, frames: usize) -> Result<(), AllocError>
         ensures made { OnOk result (frames ≤ (log self.new).spare) }
         ensures already { frames ≤ (log self.old).spare → IsOk result }
+        ensures keeps { (log self.old).spare ≤ (log self.new).spare }
         ensures same { log self.new ≡ with_spare (log self.new).spare (log self.old) };
 
     /// Sends a frame with a priority, 1 to 5, of which 1 is the highest (IEC 62386-101, clause 9), and tells what it was

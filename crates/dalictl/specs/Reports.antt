@@ -1,5 +1,5 @@
 -- The lines that an answer is printed as, one after another (profile).
-use Rattle.std.specs.Prelude.{ℕ, zero, suc, List, [], ◌∷◌, ◌++◌, length, Option, Some, option_map, slice_get}
+use Rattle.std.specs.Prelude.{ℕ, zero, suc, List, [], ◌∷◌, ◌++◌, length, Option, Some, slice_get}
 use Rattle.ilsource.specs.Names.{text_of}
 use Rattle.ilsyms.specs.Plans.{slot_at}
 use Rattle.dalictl.specs.declared.answers.Answer.{Answer}
@@ -34,12 +34,11 @@ abbrev pub variable_line : Stepped → ℕ → List ℕ
 variable_line made number =
     of_both (λ slot value. printed_variable (text_of made.plan.text slot.instance) (text_of made.plan.text slot.variable) value) (slot_at made.plan made.task number) (slice_get made.scans.values.items number)
 
--- a line for each task; a line for each scan, and then one for each variable; the line of what stands against it, where that is known
-abbrev pub printed_answer : Answer → Option (List ℕ)
-printed_answer (answers.Checked setup) = Some (first_lines (task_line setup) (length setup.plan.tasks))
-printed_answer (answers.Stepped made) =
-    Some (first_lines (scan_line made) (length made.scans.each.items) ++ first_lines (variable_line made) (length made.scans.values.items))
-printed_answer (answers.Stopped stop) = option_map (λ line. line ++ 10 ∷ []) (printed_stop stop)
+-- a line for each task; a line for each scan, and then one for each variable; the line of what stands against it
+abbrev pub printed_answer : Answer → List ℕ
+printed_answer (answers.Checked setup) = first_lines (task_line setup) (length setup.plan.tasks)
+printed_answer (answers.Stepped made) = first_lines (scan_line made) (length made.scans.each.items) ++ first_lines (variable_line made) (length made.scans.values.items)
+printed_answer (answers.Stopped stop) = printed_stop stop ++ 10 ∷ []
 
 -- the exit status
 abbrev pub status_of_answer : Answer → ℕ

@@ -1,11 +1,13 @@
 -- What stands against running a text, by the fault that it comes from.
-use Rattle.std.specs.Prelude.{ℕ, List, ◌++◌, Option, Some, None, codes, string_bytes}
+use Rattle.std.specs.Prelude.{ℕ, List, ◌++◌, codes, string_bytes}
 use Rattle.iltext.specs.declared.fault.TextFault.{TextFault}
 use Rattle.iltext.specs.declared.fault.TextFault.TheVariants as text_faults
 use Rattle.ilsyms.specs.declared.fault.NameFault.{NameFault}
 use Rattle.ilsyms.specs.declared.fault.NameFault.TheVariants as name_faults
 use Rattle.ilsyms.specs.declared.binding.BindFault.{BindFault}
 use Rattle.ilsyms.specs.declared.binding.BindFault.TheVariants as bind_faults
+use Rattle.ilsyms.specs.Printed.{printed_bind_fault, printed_name_fault}
+use Rattle.iltext.specs.Printed as texts
 use Rattle.ilverify.specs.Printed.{printed}
 use Rattle.dalictl.specs.declared.stop.Stop.{Stop}
 use Rattle.dalictl.specs.declared.stop.Stop.TheVariants.{Memory, Binding, Text, Name, NoTask, Code}
@@ -28,9 +30,11 @@ abbrev pub status_of : Stop → ℕ
 status_of Memory = 3
 status_of stop = 1
 
--- the line that is printed; a fault of the binding, the text or its names is printed as its own crate prints it
-abbrev pub printed_stop : Stop → Option (List ℕ)
-printed_stop Memory = Some (codes "no memory")
-printed_stop (NoTask name) = Some (codes "no task " ++ string_bytes name)
-printed_stop (Code task refusal) = Some (codes "task " ++ string_bytes task ++ codes " " ++ printed refusal)
-printed_stop stop = None
+-- the line that is printed
+abbrev pub printed_stop : Stop → List ℕ
+printed_stop Memory = codes "no memory"
+printed_stop (Binding fault) = printed_bind_fault fault
+printed_stop (Text fault) = texts.printed fault
+printed_stop (Name fault) = printed_name_fault fault
+printed_stop (NoTask name) = codes "no task " ++ string_bytes name
+printed_stop (Code task refusal) = codes "task " ++ string_bytes task ++ codes " " ++ printed refusal

@@ -1,6 +1,6 @@
 //! What is printed.
 
-ghost use Rattle.std.specs.Prelude.{◌≡◌, length, IfOk, IfSome, OnOk};
+ghost use Rattle.std.specs.Prelude.{◌≡◌, length, IfOk, OnOk};
 ghost use Rattle.std.specs.Io.KnownBytes.{Appends};
 ghost use Rattle.dalictl.specs.Reports.{first_lines, printed_answer, scan_line, status_of_answer, task_line, variable_line};
 ghost use Rattle.dalictl.specs.Stops.{printed_stop};
@@ -28,7 +28,7 @@ pub fn answer<R: Print + AllocGlobal>(
 
 /// Writes the answer's lines; the exit status.
 fn report<W: Write>(out: &mut W, answer: &Answer) -> io::Result<u8>
-    ensures text { OnOk result (IfSome (printed_answer answer.now) (Appends (W.contents out.old) (W.contents out.new))) }
+    ensures text { OnOk result (Appends (W.contents out.old) (W.contents out.new) (printed_answer answer.now)) }
     ensures status { IfOk result (λ status. status ≡ status_of_answer answer.now) }
 {
     match answer {

@@ -24,9 +24,10 @@ pub enum Stop {
 impl Error for Stop {}
 
 impl fmt::Display for Stop {
+    ghost use Rattle.std.specs.Prelude.{Some};
     ghost use Rattle.dalictl.specs.Stops.{printed_stop};
 
-    ghost output = { λ stop. printed_stop stop };
+    ghost output = { λ stop. Some (printed_stop stop) };
 
     fn fmt<W: fmt::Write>(&self, f: &mut fmt::Formatter<W>) -> fmt::Result {
         match self {

@@ -3,10 +3,11 @@ use Rattle.std.proofs.Common.{◌≡◌, ℕ, zero, suc, ◌+◌, List, [], ◌�
 use Rattle.std.specs.Prelude.{codes, IfSome}
 use Rattle.std.specs.List.{onto_first}
 use Rattle.std.specs.Str.Lines.{lines}
-use Rattle.std.specs.Str.Parse.{digits_value}
+use Rattle.wordlines.specs.WordLines.{words, IsSkipped, number_upto}
 use Rattle.ilsyms.specs.Wirings.{Wiring, IsWithinLimits}
-use Rattle.ilsyms.specs.BindingLines.{words, IsSkipped, TellsBuses, Says, Follows, Tell, IsBadAfter, IsFirstBad, IsFaultAt}
+use Rattle.ilsyms.specs.BindingLines.{TellsBuses, Says, Follows, Tell, IsBadAfter, IsFirstBad, IsFaultAt}
 use Rattle.ilsyms.specs.BindingParts.{SaysNothing}
+use Rattle.ilsyms.specs.declared.binding.TheConstants.{MAX_BUSES}
 use Rattle.ilsyms.specs.declared.binding_lines.Entry.{Entry}
 use Rattle.ilsyms.specs.declared.binding_lines.Entry.TheVariants.{Skipped, Buses}
 
@@ -33,8 +34,9 @@ same_number line n m t u =
     let two = t.words in
     let others = u.words in
     let digits : t.digits ≡ u.digits = cc in
-    let value = ap (digits_value 10) digits in
-    sym t.spell.value ∙ (value ∙ u.spell.value)
+    let number = ap (number_upto MAX_BUSES) digits in
+    let same : Some n ≡ Some m = sym t.spell ∙ (number ∙ u.spell) in
+    cc
 
 -- a line says one thing
 says_one : (line : List ℕ) (e f : Entry) → Says line e → Says line f → e ≡ f

@@ -1,4 +1,3 @@
-pub mod BindingCuts
 pub mod BindingJudged
 pub mod BindingTold
 pub mod Clean

@@ -1,33 +1,18 @@
--- Bindings line by line (profile): a line is words with exactly one space (32) between two of them, ends with LF or CR LF, and
--- the last line needs no end. Empty lines and those that begin with `#` (35) are skipped. `buses N` comes first, and once.
-use Rattle.std.specs.Prelude.{◌≡◌, ℕ, ◌+◌, ◌<◌, ◌≤◌, ◌==◌, ◌⊎◌, List, [], ◌∷◌, ◌++◌, length, codes, Option, Some, None}
-use Rattle.std.specs.List.{slice_split}
+-- Bindings line by line (profile): lines of words, as wordlines has them, where empty lines and comments are skipped, and
+-- `buses N` comes first, and once.
+use Rattle.std.specs.Prelude.{◌≡◌, ℕ, ◌+◌, ◌<◌, ◌≤◌, ◌⊎◌, List, [], ◌∷◌, ◌++◌, length, codes, Option, Some, None}
 use Rattle.std.specs.Str.Lines.{lines}
-use Rattle.std.specs.Str.Parse.{IsNumeral, digits_value}
+use Rattle.wordlines.specs.WordLines.{words, IsSkipped, number_upto}
 use Rattle.ilsyms.specs.Wirings.{Wiring, IsWithinLimits}
-use Rattle.ilsyms.specs.declared.binding.TheConstants.{MAX_BYTES}
+use Rattle.ilsyms.specs.declared.binding.TheConstants.{MAX_BUSES, MAX_BYTES}
 use Rattle.ilsyms.specs.declared.binding_lines.Entry.{Entry}
 use Rattle.ilsyms.specs.declared.binding_lines.Entry.TheVariants.{Skipped, Buses}
-
--- the parts between the spaces: where two spaces meet, or one stands at an end, a part is empty, and that is no word of a line
-abbrev pub words : List ℕ → List (List ℕ)
-words line = slice_split (λ byte. byte == 32) line
-
--- nothing, or a comment
-abbrev pub IsSkipped : List ℕ → Type 0
-IsSkipped [] = Unit {0}
-IsSkipped (byte ∷ bytes) = byte ≡ 35
-
--- the digits, and nothing but digits, spell the number
-pub record Spell (digits : List ℕ) (number : ℕ) : Type 0 where
-  pub digits_alone : IsNumeral 10 digits
-  pub value : digits_value 10 digits ≡ number
 
 -- `buses N`
 pub record TellsBuses (line : List ℕ) (number : ℕ) : Type 0 where
   pub digits : List ℕ
   pub words : words line ≡ codes "buses" ∷ digits ∷ []
-  pub spell : Spell digits number
+  pub spell : number_upto MAX_BUSES digits ≡ Some number
   pub limits : IsWithinLimits (record { buses = number })
 
 -- what a line says

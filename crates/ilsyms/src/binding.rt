@@ -4,10 +4,12 @@ ghost use Rattle.std.specs.Prelude.{◌≤◌, length, Some, None, MatchResult};
 ghost use Rattle.std.specs.Str.Lines.{lines};
 ghost use Rattle.ilsyms.specs.BindingLines.{Tell, IsFaultAt};
 
-use crate::binding_lines::{Entry, entry_of, first_line};
+use crate::binding_lines::{Entry, entry_of};
 use std::alloc::Global;
+use std::fmt;
 use std::marker::Model;
 use thiserror::Error;
+use wordlines::first_line;
 
 /// The greatest number of buses.
 pub const MAX_BUSES: u8 = 16;
@@ -44,15 +46,27 @@ pub enum BindCause {
 #[derive(Debug, Drop, Error)]
 pub enum BindFault {
     /// Memory was refused.
-    #[error("no memory")]
     Memory,
     /// The first bad line.
-    #[error("bind fault at {line}")]
     At {
         /// Counted from 1.
         line: usize,
         cause: BindCause,
     },
+}
+
+impl fmt::Display for BindFault {
+    ghost use Rattle.std.specs.Prelude.{Some};
+    ghost use Rattle.ilsyms.specs.Printed.{printed_bind_fault};
+
+    ghost output = { λ fault. Some (printed_bind_fault fault) };
+
+    fn fmt<W: fmt::Write>(&self, f: &mut fmt::Formatter<W>) -> fmt::Result {
+        match self {
+            BindFault::Memory => write!(f, "no memory"),
+            BindFault::At { line, .. } => write!(f, "bind fault at {line}"),
+        }
+    }
 }
 
 impl BindCause {

@@ -4,6 +4,7 @@ ghost use Rattle.std.specs.Prelude.{◌≡◌};
 ghost use Rattle.ilsyms.specs.Causes.{number_of, fault_number};
 
 use std::alloc::{AllocError, AllocFailed};
+use std::fmt;
 use thiserror::Error;
 
 /// What is wrong with a name or a declaration.
@@ -37,10 +38,8 @@ impl NameCause {
 #[derive(Debug, Drop, Error)]
 pub enum NameFault {
     /// Memory was refused.
-    #[error("no memory")]
     Memory,
     /// The least place at which a fault stands, and the least cause there.
-    #[error("name fault {cause} at {line}:{col}", cause = .cause.number())]
     At {
         /// Counted from 1.
         line: usize,
@@ -48,6 +47,22 @@ pub enum NameFault {
         col: usize,
         cause: NameCause,
     },
+}
+
+impl fmt::Display for NameFault {
+    ghost use Rattle.std.specs.Prelude.{Some};
+    ghost use Rattle.ilsyms.specs.Printed.{printed_name_fault};
+
+    ghost output = { λ fault. Some (printed_name_fault fault) };
+
+    fn fmt<W: fmt::Write>(&self, f: &mut fmt::Formatter<W>) -> fmt::Result {
+        match self {
+            NameFault::Memory => write!(f, "no memory"),
+            NameFault::At { line, col, cause } => {
+                write!(f, "name fault {} at {line}:{col}", cause.number())
+            }
+        }
+    }
 }
 
 impl From<AllocError> for NameFault {

@@ -2,6 +2,7 @@ pub mod Cutting
 pub mod Faults
 pub mod Keywords
 pub mod Operators
+pub mod Printed
 pub mod Parsing
 pub mod Terminals
 pub mod Texts

@@ -1,11 +1,12 @@
 //! Why a text was refused.
 
-ghost use Rattle.std.specs.Prelude.{◌≡◌, ◌≤◌, length};
+ghost use Rattle.std.specs.Prelude.{◌≡◌, ◌≤◌, length, Some};
 ghost use Rattle.iltext.specs.Faults.{number_of, number_of_cause, cause_at, place_at, Tells};
 
 use crate::token::{Kind, Token};
 use ilsource::Place;
 use iltokens::Cause;
+use std::fmt;
 use thiserror::Error;
 
 /// What stands where a text goes on as none.
@@ -45,15 +46,28 @@ impl TextCause {
 #[derive(Debug, Drop, Error)]
 pub enum TextFault {
     /// A growth was refused.
-    #[error("no memory")]
     Memory,
     /// The first fault of the text; line and column count from 1, the column in bytes.
-    #[error("text fault {} at {line}:{col}", .cause.number())]
     At {
         line: usize,
         col: usize,
         cause: TextCause,
     },
+}
+
+impl fmt::Display for TextFault {
+    ghost use Rattle.iltext.specs.Printed.{printed};
+
+    ghost output = { λ fault. Some (printed fault) };
+
+    fn fmt<W: fmt::Write>(&self, f: &mut fmt::Formatter<W>) -> fmt::Result {
+        match self {
+            TextFault::Memory => write!(f, "no memory"),
+            TextFault::At { line, col, cause } => {
+                write!(f, "text fault {} at {line}:{col}", cause.number())
+            }
+        }
+    }
 }
 
 impl TextFault {

@@ -1,7 +1,6 @@
-pub mod Bounds
 pub mod Lists
 pub mod Order
 pub mod Pass
-pub mod Runs
+pub mod Search
 pub mod Soundness
 pub mod Words

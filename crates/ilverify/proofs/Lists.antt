@@ -1,11 +1,6 @@
--- Lists by their elements.
+-- Lists after one element is written.
 use Rattle.std.proofs.Common.{◌≡◌, ℕ, zero, suc, ◌<◌, List, [], ◌∷◌, length, Some, refl, ap, arith}
 use Rattle.std.specs.Prelude.{slice_get, slice_set}
-
-pub get : {A : Type 0} (xs : List A) (i : ℕ) → i < length xs → (x : A) × (slice_get xs i ≡ Some x)
-get [] i h = absurd (omega arith)
-get (x ∷ xs) zero h = (x, refl)
-get (x ∷ xs) (suc i) h = get xs i (omega arith)
 
 pub set_there : {A : Type 0} (xs : List A) (i : ℕ) (v : A) → i < length xs → slice_get (slice_set xs i v) i ≡ Some v
 set_there [] i v h = absurd (omega arith)

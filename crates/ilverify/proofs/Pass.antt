@@ -14,10 +14,10 @@ use Rattle.ilverify.specs.Rules.{NoneArises, IsLeastCause, leaves}
 use Rattle.ilverify.specs.Certificates.{Certificate, Leads, IsFine, IsConsistentBelow, IsCertified, IsClosest, IsRefusal}
 use Rattle.ilverify.specs.Entries.{opening, arriving}
 use Rattle.ilverify.specs.Verdicts.{IsVerified}
-use Rattle.ilverify.proofs.Bounds.{leads_next, next_is, whole_path}
+use Rattle.ilcode.proofs.Bounds.{leads_next, next_is, whole_path}
 use Rattle.ilverify.proofs.Lists.{set_there, same_set, other_set}
 use Rattle.ilverify.proofs.Soundness.{certified_safe, certified_kept, certified_ends}
-use Rattle.ilverify.proofs.Runs.{run_within}
+use Rattle.ilcode.proofs.Runs.{run_within}
 use Rattle.ilverify.proofs.Order.{into_arriving, arriving_into, arriving_none, arriving_opening, unlawful}
 
 -- ---- certificates

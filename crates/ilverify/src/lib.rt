@@ -16,6 +16,8 @@ pub use verified::Verified;
 pub use verifier::{Refusal, VerifyError, verify};
 
 #[cfg(test)]
+mod certificates;
+#[cfg(test)]
 mod plain;
 #[cfg(test)]
 mod tests;

@@ -1,30 +1,17 @@
-//! The verdict and the bound by plain slow programs, which try every certificate and every path; `verify` gives the same.
+//! The verdict and the bound by plain slow programs; `verify` gives the same.
 
 ghost use Rattle.std.specs.Prelude.{◌≤◌, length};
 ghost use Rattle.ilcode.specs.Listings.{AreStarts};
 
-use crate::{VerifyError, verify};
+use crate::certificates::{certificate, entry_at, is_certified, refused_word, word_at};
+use crate::rules::after_word;
+use crate::{Cause, VerifyError, verify};
+use ilcode::reference::longest_path;
 use ilcode::{Code, Instruction, Operand};
 use iltypes::{BooleanOperator, IlType, Range, Value};
 use std::alloc::{AllocError, Global};
 use std::process::Abort;
 use std::test::Fail;
-
-// What a certificate says of a word.
-#[derive(Clone, Copy, PartialEq, Eq, Debug)]
-enum Known {
-    Unreached,
-    Truth,
-    Number,
-    Nothing,
-}
-
-const KNOWN: [Known; 4] = [
-    Known::Truth,
-    Known::Number,
-    Known::Nothing,
-    Known::Unreached,
-];
 
 // The slots and the constants are a truth value and a whole number.
 const WORDS: [Instruction; 10] = [
@@ -63,99 +50,16 @@ const WORDS: [Instruction; 10] = [
     Instruction::Reset(0),
 ];
 
-// The number of the operand, and whether the word takes the current result.
-fn parts(word: Instruction) -> (Option<usize>, bool) {
-    match word {
-        Instruction::Load {
-            operand: Operand::Slot(number) | Operand::Constant(number),
-            ..
-        } => (Some(number), false),
-        Instruction::Apply {
-            operand: Operand::Slot(number) | Operand::Constant(number),
-            ..
-        } => (Some(number), true),
-        Instruction::Not => (None, true),
-        Instruction::Store { slot, .. } | Instruction::Set(slot) | Instruction::Reset(slot) => (
-            Some(slot),
-            true,
-        ),
-    }
-}
-
-// The least number of a cause that arises at the word.
-fn cause(word: Instruction, known: Known) -> Option<u8> {
-    let (operand, takes) = parts(word);
-    if operand == Some(1) || (takes && known == Known::Number) {
-        Some(2)
-    } else if takes && known == Known::Nothing {
-        Some(3)
-    } else if operand == Some(2) {
-        Some(11)
-    } else {
-        None
-    }
-}
-
-// Whether the certificate is consistent at the words below `end`.
-fn is_consistent(
-    words: &[Instruction],
-    starts: &[usize],
-    certificate: &[Known],
-    end: usize,
-) -> bool {
-    for (place, (word, known)) in words.iter().zip(certificate).enumerate() {
-        if place == 0 && *known != Known::Nothing {
-            return false;
-        }
-        if starts.contains(&place) && matches!(*known, Known::Truth | Known::Number) {
-            return false;
-        }
-        if place < end && *known != Known::Unreached {
-            let next = certificate
-                .get(place + 1)
-                .copied()
-                .unwrap_or(Known::Nothing);
-            let leads = place + 1 == words.len() || matches!(next, Known::Truth | Known::Nothing);
-            if cause(*word, *known).is_some() || !leads {
-                return false;
-            }
-        }
-    }
-    true
-}
-
-// The first certificate that is consistent below `end`, those that say most first.
-fn certificate(words: &[Instruction], starts: &[usize], end: usize) -> Option<[Known; 3]> {
-    for first in KNOWN {
-        for second in KNOWN {
-            for third in KNOWN {
-                let certificate = [first, second, third];
-                if is_consistent(words, starts, &certificate, end) {
-                    return Some(certificate);
-                }
-            }
-        }
-    }
-    None
-}
-
-// The least word that no certificate passes, with the least cause there.
-fn refusal(words: &[Instruction], starts: &[usize]) -> Option<(usize, Option<u8>)> {
-    for (place, word) in words.iter().enumerate() {
-        if certificate(words, starts, place + 1).is_none() {
-            let entry = certificate(words, starts, place)?.get(place).copied()?;
-            return Some((place, cause(*word, entry)));
-        }
-    }
-    None
-}
-
-// The greatest number of words on a path from a place on: each word leads to the next.
-fn longest_path(words: &[Instruction]) -> u32 {
-    match words {
-        [] => 0,
-        [_, next @ ..] => longest_path(next).saturating_add(1),
-    }
+// The least word that no certificate passes, with the least cause there by the certificate that says most.
+fn refusal(alloc: Global, code: &Code) -> Result<Option<(usize, Cause)>, AllocError> {
+    let Some(word) = refused_word(alloc, code)? else {
+        return Ok(None);
+    };
+    let before = certificate(alloc, code, word)?;
+    let entry = before.and_then(|before| entry_at(&before, word));
+    let refused = entry.zip(word_at(code, word));
+    let cause = refused.and_then(|(entry, at)| after_word(code, entry, at).err());
+    Ok(cause.map(|cause| (word, cause)))
 }
 
 // The code of these words; its slots and its constants are a truth value and a whole number.
@@ -185,15 +89,19 @@ fn judge_alike(
     requires few_starts { length starts.now ≤ 3 }
     requires starts { AreStarts starts.now words.now }
 {
-    match verify(alloc, code_of(alloc, words, starts)?) {
+    let code = code_of(alloc, words, starts)?;
+    let certified = is_certified(alloc, &code)?;
+    let expected = refusal(alloc, &code)?;
+    match verify(alloc, code) {
         Ok(verified) => {
-            assert_eq!(rt; refusal(words, starts), None, "{words:?} {starts:?}");
-            assert_eq!(rt; verified.bound(), longest_path(words), "{words:?}");
+            assert!(rt; certified, "{words:?} {starts:?}");
+            assert_eq!(rt; verified.bound() as usize, longest_path(words), "{words:?}");
             Ok(())
         }
         Err(VerifyError::Refused(refused)) => {
-            let told = (refused.word, Some(refused.cause.number()));
-            assert_eq!(rt; refusal(words, starts), Some(told), "{words:?} {starts:?}");
+            assert!(rt; !certified, "{words:?} {starts:?}");
+            let told = (refused.word, refused.cause);
+            assert_eq!(rt; expected, Some(told), "{words:?} {starts:?}");
             Ok(())
         }
         Err(VerifyError::Memory(error)) => Err(error.into()),

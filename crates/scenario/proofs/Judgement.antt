@@ -1,7 +1,7 @@
 -- A judgement of bytes by cases is the only one, but for want of memory.
 use Rattle.std.proofs.Common.{◌≡◌, ℕ, ◌≤◌, ◌↔◌, inl, inr, List, [], length, Result, Ok, Err, refl, ap, subst, arith}
 use Rattle.std.specs.Str.Lines.{lines}
-use Rattle.scenario.specs.Scenarios.{IsScenario, IsBadScenario, IsTooLong, IsJudged, GivesIfRoom}
+use Rattle.scenario.specs.Scenarios.{IsScenario, IsBadScenario, IsTooLong, AddsSome, IsJudged, GivesIfRoom}
 use Rattle.scenario.specs.declared.entries.Entry.{Entry}
 use Rattle.scenario.specs.declared.scenario.ScenarioCause.TheVariants.{BadLine, TooLong}
 use Rattle.scenario.specs.declared.scenario.ScenarioFault.{ScenarioFault}
@@ -37,3 +37,8 @@ too_long_judged bytes (Ok es) j short line = (λ e. cc, λ b. absurd (omega (ari
 too_long_judged bytes (Err Memory) j short line = (λ e. cc, λ b. absurd (omega (arith, short, b.long)))
 too_long_judged bytes (Err (At at BadLine)) j short line = (λ e. cc, λ b. absurd (omega (arith, short, b.long)))
 too_long_judged bytes (Err (At at TooLong)) j short line = absurd (omega (arith, short, j.long))
+
+pub memory_judged : (bytes : List ℕ) (r : Result (List Entry) ScenarioFault) → IsJudged bytes r → r ≡ Err Memory → AddsSome (lines bytes)
+memory_judged bytes (Ok es) j e = cc
+memory_judged bytes (Err Memory) j e = j
+memory_judged bytes (Err (At line cause)) j e = cc

@@ -2,7 +2,7 @@
 use Rattle.std.proofs.Common.{◌≡◌, ℕ, zero, suc, ◌+◌, List, [], ◌∷◌, ◌++◌, length, refl, ap, sym, subst, ◌∙◌, inl, inr, arith, append_assoc, append-nil, length-append}
 use Rattle.std.specs.Str.Lines.{lines}
 use Rattle.wordlines.specs.WordLines.{IsSkipped}
-use Rattle.scenario.specs.Scenarios.{Adds, AddsNothing, Leads, Tell, IsFirstBad}
+use Rattle.scenario.specs.Scenarios.{Adds, AddsNothing, AddsSome, Leads, Tell, IsFirstBad}
 use Rattle.scenario.specs.declared.entries.Entry.{Entry}
 
 -- one more line
@@ -106,6 +106,20 @@ bad_read bytes rest after told number line r first read nothing =
       good = r.tell;
       bad = no_leads told line read nothing;
       counted = r.counted;
+    }
+
+-- the entry of this line is to be kept
+pub adds_read : (bytes rest after : List ℕ) (told : List Entry) (number : ℕ) (line : List ℕ) (entry : Entry) → IsRead bytes rest told number → lines rest ≡ line ∷ lines after → Adds told line entry → AddsSome (lines bytes)
+adds_read bytes rest after told number line entry r first adds =
+    record {
+      before = r.before;
+      line = line;
+      after = lines after;
+      is = r.is ∙ ap (λ (ls : List (List ℕ)). r.before ++ ls) first;
+      told = told;
+      good = r.tell;
+      entry = entry;
+      adds = adds;
     }
 
 pub all_read : (bytes rest : List ℕ) (told : List Entry) (number : ℕ) → length rest ≡ 0 → IsRead bytes rest told number → Tell [] (lines bytes) told

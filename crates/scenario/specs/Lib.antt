@@ -1,4 +1,5 @@
 pub mod Causes
 pub mod Following
+pub mod Printed
 pub mod Saying
 pub mod Scenarios

@@ -50,15 +50,26 @@ pub record IsBadScenario (bytes : List ℕ) (line : ℕ) : Type 0 where
   pub short : length bytes ≤ MAX_BYTES
   pub bad : IsFirstBad (lines bytes) line
 
+-- some line adds an entry to those of the lines before it
+pub record AddsSome (all : List (List ℕ)) : Type 0 where
+  pub before : List (List ℕ)
+  pub line : List ℕ
+  pub after : List (List ℕ)
+  pub is : all ≡ before ++ line ∷ after
+  pub told : List Entry
+  pub good : Tell [] before told
+  pub entry : Entry
+  pub adds : Adds told line entry
+
 -- the bytes are too many, which is told at line 1
 pub record IsTooLong (bytes : List ℕ) (line : ℕ) : Type 0 where
   pub long : MAX_BYTES < length bytes
   pub first : line ≡ 1
 
--- what the bytes come to: a scenario, or a fault with its line; nothing is said where memory is refused
+-- what the bytes come to: a scenario, a fault with its line, or where an entry is to be kept want of memory
 abbrev pub IsJudged : List ℕ → Result (List Entry) ScenarioFault → Type 0
 IsJudged bytes (Ok entries) = IsScenario bytes entries
-IsJudged bytes (Err Memory) = Unit {0}
+IsJudged bytes (Err Memory) = AddsSome (lines bytes)
 IsJudged bytes (Err (At line BadLine)) = IsBadScenario bytes line
 IsJudged bytes (Err (At line TooLong)) = IsTooLong bytes line
 

@@ -9,6 +9,7 @@ use crate::entries::Entry;
 use crate::follow::may_follow;
 use crate::lines::entry_of;
 use std::alloc::{AllocFailed, Global};
+use std::fmt;
 use std::marker::Model;
 use thiserror::Error;
 use wordlines::{first_line, is_skipped};
@@ -47,15 +48,27 @@ pub enum ScenarioCause {
 #[derive(Debug, Drop, Error)]
 pub enum ScenarioFault {
     /// Memory was refused.
-    #[error("no memory")]
     Memory,
     /// The first bad line.
-    #[error("scenario fault at {line}")]
     At {
         /// Counted from 1.
         line: usize,
         cause: ScenarioCause,
     },
+}
+
+impl fmt::Display for ScenarioFault {
+    ghost use Rattle.std.specs.Prelude.{Some};
+    ghost use Rattle.scenario.specs.Printed.{printed};
+
+    ghost output = { λ fault. Some (printed fault) };
+
+    fn fmt<W: fmt::Write>(&self, f: &mut fmt::Formatter<W>) -> fmt::Result {
+        match self {
+            ScenarioFault::Memory => write!(f, "no memory"),
+            ScenarioFault::At { line, .. } => write!(f, "scenario fault at {line}"),
+        }
+    }
 }
 
 impl ScenarioCause {
@@ -103,7 +116,8 @@ impl Scenario {
     ghost use Rattle.std.specs.Prelude.{◌≡◌, ◌↔◌, ℕ, List, []};
     ghost use Rattle.scenario.specs.declared.entries.Entry.{Entry};
     ghost use Rattle.scenario.specs.Following.{FollowOneAnother};
-    ghost use Rattle.scenario.specs.Scenarios.{IsScenario, IsBadScenario, IsTooLong, GivesIfRoom};
+    ghost use Rattle.scenario.specs.Scenarios.{IsScenario, IsBadScenario, IsTooLong, AddsSome, GivesIfRoom};
+    ghost use Rattle.std.specs.Str.Lines.{lines};
 
     /// The entries in order.
     pub fn lines(&self) -> &[Entry]
@@ -119,12 +133,13 @@ impl Scenario {
     /// # Errors
     ///
     /// The first bad line, or line 1 where there are more than [`MAX_BYTES`] bytes. Memory is refused only where an entry is
-    /// kept, each of which is that of a line.
+    /// to be kept, each of which is that of a line.
     pub fn parse(alloc: Global, bytes: &[u8]) -> Result<Scenario, ScenarioFault>
         ensures scenario { (entries : List Entry) → result ≡ Ok entries → IsScenario bytes.now entries }
         ensures is_told { (entries : List Entry) → IsScenario bytes.now entries → GivesIfRoom result (Ok entries) }
         ensures bad_line { (line : ℕ) → result ≡ Err (ScenarioFault.At line ScenarioCause.BadLine) → IsBadScenario bytes.now line }
         ensures bad_is_told { (line : ℕ) → IsBadScenario bytes.now line → GivesIfRoom result (Err (ScenarioFault.At line ScenarioCause.BadLine)) }
+        ensures memory { result ≡ Err ScenarioFault.Memory → AddsSome (lines bytes.now) }
         ensures too_long { (line : ℕ) → (result ≡ Err (ScenarioFault.At line ScenarioCause.TooLong)) ↔ IsTooLong bytes.now line }
     {
         if bytes.len() > MAX_BYTES {

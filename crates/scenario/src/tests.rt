@@ -4,18 +4,15 @@ use crate::{Entry, Scenario, ScenarioCause, ScenarioFault, Upset};
 use daliframe::{Frame24, InstanceNumber, ShortAddress};
 use std::test::Fail;
 
-#[test]
-fn each_kind_of_line_is_read(rt: HostRuntime) -> Result<(), Fail> {
-    let text =
-        b"# a bus\r\n\r\nhearfault 1\ngear 0 05\nlampfailure 0 5\nmemory 0 5 1 2 255\nmemory 0 5 1 2 3\n\
-        device 15 63\ninstance 15 63 31 31 4 255\nreply 2 1 lost\nreply 2 18446744073709551615 damaged\n\
-        reply 3 1 fault\nlampfailure 0 5\ntick 0\nevent 1 02fFfE\ntick 7\nhearfault 0\ntick 7";
-    let scenario = Scenario::parse(rt.alloc(), text)?;
-    let short = ShortAddress::new(5).ok_or("an address")?;
-    let far = ShortAddress::new(63).ok_or("an address")?;
-    let number = InstanceNumber::new(31).ok_or("an instance")?;
-    let frame = Frame24::new(0x02FFFE).ok_or("a frame")?;
-    let wanted = [
+const TEXT: &[u8] =
+    b"# a bus\r\n\r\nhearfault 1\ngear 0 05\nlampfailure 0 5\nmemory 0 5 1 2 255\nmemory 0 5 1 2 3\n\
+    device 15 63\ninstance 15 63 31 31 4 255\nreply 2 1 lost\nreply 2 18446744073709551615 damaged\n\
+    reply 3 1 fault\nlampfailure 0 5\ntick 0\nevent 1 02fFfE\ntick 7\nhearfault 0\ntick 7";
+
+/// What the lines of gear say.
+fn gear_lines() -> Option<[Entry; 5]> {
+    let short = ShortAddress::new(5)?;
+    Some([
         Entry::HearFault { bus: 1 },
         Entry::Gear { bus: 0, short },
         Entry::LampFailure { bus: 0, short },
@@ -33,18 +30,29 @@ fn each_kind_of_line_is_read(rt: HostRuntime) -> Result<(), Fail> {
             offset: 2,
             value: 3,
         },
-        Entry::Device {
-            bus: 15,
-            short: far,
-        },
+    ])
+}
+
+/// What the lines of a device say.
+fn device_lines() -> Option<[Entry; 2]> {
+    let short = ShortAddress::new(63)?;
+    let number = InstanceNumber::new(31)?;
+    Some([
+        Entry::Device { bus: 15, short },
         Entry::Instance {
             bus: 15,
-            short: far,
+            short,
             number,
             kind: 31,
             scheme: 4,
             value: 255,
         },
+    ])
+}
+
+/// What the lines of replies say.
+fn reply_lines() -> [Entry; 3] {
+    [
         Entry::Reply {
             bus: 2,
             place: 1,
@@ -60,13 +68,31 @@ fn each_kind_of_line_is_read(rt: HostRuntime) -> Result<(), Fail> {
             place: 1,
             upset: Upset::Fault,
         },
+    ]
+}
+
+/// What the last lines say.
+fn last_lines() -> Option<[Entry; 6]> {
+    let short = ShortAddress::new(5)?;
+    let frame = Frame24::new(0x02FFFE)?;
+    Some([
         Entry::LampFailure { bus: 0, short },
         Entry::Tick { moment: 0 },
         Entry::Event { bus: 1, frame },
         Entry::Tick { moment: 7 },
         Entry::HearFault { bus: 0 },
         Entry::Tick { moment: 7 },
-    ];
+    ])
+}
+
+#[test]
+fn each_kind_of_line_is_read(rt: HostRuntime) -> Result<(), Fail> {
+    let scenario = Scenario::parse(rt.alloc(), TEXT)?;
+    let mut wanted = Vec::new(rt.alloc());
+    wanted.extend_from_slice(&gear_lines().ok_or("addresses")?)?;
+    wanted.extend_from_slice(&device_lines().ok_or("addresses")?)?;
+    wanted.extend_from_slice(&reply_lines())?;
+    wanted.extend_from_slice(&last_lines().ok_or("addresses")?)?;
     assert_eq!(rt; scenario.lines(), wanted.as_slice());
     assert!(rt; Scenario::parse(rt.alloc(), b"")?.lines().is_empty());
     Ok(())

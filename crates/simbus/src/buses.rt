@@ -139,6 +139,7 @@ impl Bus for SimBus {
     fn room(&mut self, frames: usize) -> Result<(), AllocError>
         ensures made { OnOk result (frames ≤ self.new.log.spare) }
         ensures already { frames ≤ self.old.log.spare → IsOk result }
+        ensures keeps { self.old.log.spare ≤ self.new.log.spare }
         ensures same { self.new ≡ record self.old { log = with_spare self.new.log.spare self.old.log } }
     {
         if frames > self.spare {

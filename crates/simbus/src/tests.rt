@@ -8,6 +8,7 @@ use gearcmd::{
 };
 use scenario::Upset;
 use std::alloc::{AllocError, Global};
+use std::process::Abort;
 use std::test::Fail;
 use transact::{Mark, Outcome, Reply, Transaction};
 
@@ -63,10 +64,19 @@ fn answer(byte: u8) -> Option<Reply> {
     Some(Reply::Answer(byte))
 }
 
+/// Each frame is replied to so, one after another.
+fn expect(rt: &impl Abort, bus: &mut SimBus, frames: &[(u16, Option<Reply>)]) -> Result<(), Fail> {
+    for (frame, expected) in frames {
+        let found = reply(bus, *frame)?;
+        assert!(rt; found == *expected, "{frame:04X}");
+    }
+    Ok(())
+}
+
 #[test]
 fn pairs_of_frames(rt: HostRuntime) -> Result<(), Fail> {
     let mut bus = SimBus::new(rt.alloc(), setup(rt.alloc(), 1)?)?;
-    for (frame, expected) in [
+    let frames = [
         (0x0A80, QUIET),
         (0x0BA0, answer(128)),
         (0x0B21, QUIET),
@@ -80,18 +90,13 @@ fn pairs_of_frames(rt: HostRuntime) -> Result<(), Fail> {
         (0x0B63, QUIET),
         (0x8610, QUIET),
         (0x0BA0, answer(16)),
-    ] {
-        let found = reply(&mut bus, frame)?;
-        assert!(rt; found == expected, "{frame:04X}");
-    }
-    Ok(())
+    ];
+    expect(&rt, &mut bus, &frames)
 }
 
-#[test]
-fn commands_of_gear(rt: HostRuntime) -> Result<(), Fail> {
-    let mut bus = SimBus::new(rt.alloc(), setup(rt.alloc(), 2)?)?;
-    for (frame, expected) in [
-        // STEP UP does nothing at level 0, ON AND STEP UP goes to MIN LEVEL, STEP DOWN AND OFF back to 0.
+/// STEP UP does nothing at level 0, ON AND STEP UP goes to MIN LEVEL, STEP DOWN AND OFF back to 0.
+fn steps() -> [(u16, Option<Reply>); 11] {
+    [
         (0x0B03, QUIET),
         (0x0BA0, answer(0)),
         (0x0B08, QUIET),
@@ -103,14 +108,24 @@ fn commands_of_gear(rt: HostRuntime) -> Result<(), Fail> {
         (0x0B05, QUIET),
         (0x0B03, QUIET),
         (0x0BA0, answer(254)),
-        // OFF, and GO TO LAST ACTIVE LEVEL; the level 255 is none.
+    ]
+}
+
+/// OFF, and GO TO LAST ACTIVE LEVEL; the level 255 is none.
+fn levels() -> [(u16, Option<Reply>); 6] {
+    [
         (0x0A64, QUIET),
         (0x0B00, QUIET),
         (0x0B0A, QUIET),
         (0x0BA0, answer(100)),
         (0x0AFF, QUIET),
         (0x0BA0, answer(100)),
-        // SET SCENE 4 from DTR0, GO TO SCENE 4, and REMOVE FROM SCENE 4.
+    ]
+}
+
+/// SET SCENE 4 from DTR0, GO TO SCENE 4, and REMOVE FROM SCENE 4.
+fn scenes() -> [(u16, Option<Reply>); 11] {
+    [
         (0xA320, QUIET),
         (0x0B44, QUIET),
         (0x0B44, QUIET),
@@ -122,7 +137,12 @@ fn commands_of_gear(rt: HostRuntime) -> Result<(), Fail> {
         (0x0BB4, answer(255)),
         (0x0B14, QUIET),
         (0x0BA0, answer(32)),
-        // Groups 3 and 9; the third frame alone is no pair.
+    ]
+}
+
+/// Groups 3 and 9; the third frame alone is no pair.
+fn groups() -> [(u16, Option<Reply>); 11] {
+    [
         (0x0B63, QUIET),
         (0x0B63, QUIET),
         (0x0B69, QUIET),
@@ -134,7 +154,12 @@ fn commands_of_gear(rt: HostRuntime) -> Result<(), Fail> {
         (0x0B73, QUIET),
         (0x0B73, QUIET),
         (0x0BC0, answer(0)),
-        // Statuses, and a lamp that failed.
+    ]
+}
+
+/// Statuses, and a lamp that failed.
+fn statuses() -> [(u16, Option<Reply>); 11] {
+    [
         (0x0B90, answer(4)),
         (0x0B93, answer(255)),
         (0x0B92, QUIET),
@@ -146,26 +171,48 @@ fn commands_of_gear(rt: HostRuntime) -> Result<(), Fail> {
         (0x0BA2, answer(1)),
         (0x0B99, QUIET),
         (0x0F90, QUIET),
-        // Two answers damage each other.
-        (0xFFA0, Some(Reply::Damaged)),
-        (0x93A0, answer(32)),
-        // Memory at bank DTR1 and offset DTR0: the last byte declared; DTR0 stays.
+    ]
+}
+
+/// Two answers damage each other.
+fn two_answers() -> [(u16, Option<Reply>); 2] {
+    [(0xFFA0, Some(Reply::Damaged)), (0x93A0, answer(32))]
+}
+
+/// Memory at bank DTR1 and offset DTR0: the last byte declared; DTR0 stays.
+fn memory() -> [(u16, Option<Reply>); 6] {
+    [
         (0xC302, QUIET),
         (0xA303, QUIET),
         (0x0BC5, answer(77)),
         (0xA304, QUIET),
         (0x0BC5, QUIET),
         (0x0B9C, answer(2)),
-        // RESET leaves DTR0.
+    ]
+}
+
+/// RESET leaves DTR0.
+fn reset() -> [(u16, Option<Reply>); 5] {
+    [
         (0x0B20, QUIET),
         (0x0B20, QUIET),
         (0x0BA0, answer(254)),
         (0x0BC1, answer(0)),
         (0x0B98, answer(4)),
-    ] {
-        let found = reply(&mut bus, frame)?;
-        assert!(rt; found == expected, "{frame:04X}");
-    }
+    ]
+}
+
+#[test]
+fn commands_of_gear(rt: HostRuntime) -> Result<(), Fail> {
+    let mut bus = SimBus::new(rt.alloc(), setup(rt.alloc(), 2)?)?;
+    expect(&rt, &mut bus, &steps())?;
+    expect(&rt, &mut bus, &levels())?;
+    expect(&rt, &mut bus, &scenes())?;
+    expect(&rt, &mut bus, &groups())?;
+    expect(&rt, &mut bus, &statuses())?;
+    expect(&rt, &mut bus, &two_answers())?;
+    expect(&rt, &mut bus, &memory())?;
+    expect(&rt, &mut bus, &reset())?;
     let gear = bus.gear(ShortAddress::new(5).ok_or("short 5")?);
     assert!(rt; gear.map(|variables| variables.level) == Some(254));
     let none = bus.gear(ShortAddress::new(7).ok_or("short 7")?);
@@ -201,11 +248,10 @@ fn commands_of_devices(rt: HostRuntime) -> Result<(), Fail> {
     Ok(())
 }
 
-/// A request of each kind, 0 to 9, and how many frames it has.
-fn request(kind: u8) -> Option<(Request, usize)> {
+/// A request to gear of each kind, 0 to 6, and how many frames it has.
+fn gear_request(kind: u8) -> Option<(Request, usize)> {
     let short = ShortAddress::new(5)?;
     let address = Address::Short(short);
-    let instance = InstanceNumber::new(2)?;
     Some(match kind {
         0 => (
             Request::Output {
@@ -258,9 +304,18 @@ fn request(kind: u8) -> Option<(Request, usize)> {
             },
             3,
         ),
+        _ => return None,
+    })
+}
+
+/// A request to an instance of each kind, 7 to 9, and how many frames it has.
+fn device_request(kind: u8) -> Option<(Request, usize)> {
+    let address = ShortAddress::new(5)?;
+    let instance = InstanceNumber::new(2)?;
+    Some(match kind {
         7 => (
             Request::DevDo {
-                address: short,
+                address,
                 instance,
                 command: DevDoCommand::new(1)?,
             },
@@ -268,7 +323,7 @@ fn request(kind: u8) -> Option<(Request, usize)> {
         ),
         8 => (
             Request::DevScheme {
-                address: short,
+                address,
                 instance,
                 scheme: SchemeNumber::new(2)?,
             },
@@ -276,7 +331,7 @@ fn request(kind: u8) -> Option<(Request, usize)> {
         ),
         9 => (
             Request::DevAsk {
-                address: short,
+                address,
                 instance,
                 command: DevAskCommand::new(2)?,
             },
@@ -284,6 +339,15 @@ fn request(kind: u8) -> Option<(Request, usize)> {
         ),
         _ => return None,
     })
+}
+
+/// A request of each kind, 0 to 9, and how many frames it has.
+fn request(kind: u8) -> Option<(Request, usize)> {
+    if kind < 7 {
+        gear_request(kind)
+    } else {
+        device_request(kind)
+    }
 }
 
 /// The outcome of a request that nothing upsets.

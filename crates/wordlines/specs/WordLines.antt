@@ -3,7 +3,7 @@
 use Rattle.std.specs.Prelude.{◌≡◌, ℕ, ◌==◌, nat_lt, nat_le, Bool, true, ◌&&◌, if◌then◌else◌, List, [], ◌∷◌, length, Option, Some, None, option_map}
 use Rattle.std.specs.List.{slice_split}
 use Rattle.std.specs.Char.{digit_value}
-use Rattle.std.specs.Str.Parse.{IsNumeral, digits_value}
+use Rattle.std.specs.Str.Parse.{digits_value}
 
 -- the parts between the spaces: where two spaces meet, or one stands at an end, a part is empty, and that is no word of a line
 abbrev pub words : List ℕ → List (List ℕ)
@@ -13,11 +13,6 @@ words line = slice_split (λ byte. byte == 32) line
 abbrev pub IsSkipped : List ℕ → Type 0
 IsSkipped [] = Unit {0}
 IsSkipped (byte ∷ bytes) = byte ≡ 35
-
--- the digits, and nothing but digits, spell the number
-pub record Spell (digits : List ℕ) (number : ℕ) : Type 0 where
-  pub digits_alone : IsNumeral 10 digits
-  pub value : digits_value 10 digits ≡ number
 
 -- each byte is a digit in the radix, whose letters are of either case
 abbrev pub are_digits : ℕ → List ℕ → Bool

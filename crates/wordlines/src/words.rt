@@ -1,6 +1,6 @@
 //! The words of a line.
 
-ghost use Rattle.std.specs.Prelude.{◌≡◌, ◌≤◌, ◌↔◌, ◌∷◌, [], IsTrue, IfSome, MatchOption};
+ghost use Rattle.std.specs.Prelude.{◌≡◌, ◌≤◌, ◌↔◌, ◌∷◌, [], drop, IsTrue, IfSome, MatchOption};
 
 use crate::cuts::cut_at;
 use crate::numerals::number_of;
@@ -41,17 +41,19 @@ impl<'a> Words<'a> {
         Some(word)
     }
 
-    /// Takes the first word that is left, where it spells a number of at most `most`.
+    /// Takes the first word that is left, and gives the number of at most `most` that it spells.
     pub fn number(&mut self, most: u64) -> Option<u64>
         ensures value { IsTaken most self.old self.new result }
+        ensures rest { self.new ≡ drop 1 self.old }
         ensures limit { IfSome result (λ number. number ≤ most) }
     {
         number_of(self.next()?, most)
     }
 
-    /// Takes the first word that is left, where it spells a number of at most `most`.
+    /// Takes the first word that is left, and gives the number of at most `most` that it spells.
     pub fn byte(&mut self, most: u8) -> Option<u8>
         ensures value { IsTaken most self.old self.new result }
+        ensures rest { self.new ≡ drop 1 self.old }
         ensures limit { IfSome result (λ number. number ≤ most) }
     {
         let number = self.number(u64::from(most))?;

@@ -3,7 +3,7 @@ use Rattle.std.proofs.Common.{◌≡◌, ℕ, zero, suc, ◌+◌, ◌<◌, ◌�
 use Rattle.ilcode.specs.declared.instruction.Instruction.{Instruction}
 use Rattle.ilcode.specs.declared.instruction.Instruction.TheVariants.{Load, Apply, Not, Store, Set, Reset}
 use Rattle.ilcode.specs.Paths.{LeadsTo, AreNext, IsPath, IsBound}
-use Rattle.ilverify.proofs.Lists.{get}
+use Rattle.ilcode.proofs.Lists.{get}
 
 pub leads_next : (word : Instruction) (place : ℕ) → LeadsTo word place (place + 1)
 leads_next (Load negated operand) place = refl
