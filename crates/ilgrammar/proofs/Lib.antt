@@ -2,4 +2,5 @@ pub mod Exact
 pub mod Firm
 pub mod Laws
 pub mod Loops
+pub mod Recognising
 pub mod Repeats

@@ -1,3 +1,4 @@
 pub mod Items
+pub mod Recognising
 pub mod Results
 pub mod Stops

@@ -62,7 +62,7 @@ fn class_of_word(word: Keyword) -> Class
     }
 }
 
-fn class_of(kind: Kind) -> Class
+pub fn class_of(kind: Kind) -> Class
     ensures { result ≡ class_of kind }
 {
     match kind {

@@ -4,6 +4,9 @@
 //! column and cause. The tokens of a text are what `iltokens` cuts from its bytes, with the reserved words told apart
 //! (specs/Cutting.antt, specs/Keywords.antt); the grammar is a set of items over tokens (specs/Texts.antt), whose reading is
 //! exact by the laws of `ilgrammar`; a fault stands at the first token that goes on as no text (specs/Parsing.antt).
+//!
+//! Beside it, for tests: a recogniser that tries each cut of the tokens, whose contracts are the items of the grammar and the
+//! first fault as they are defined (src/recogniser.rt), and a plain table of which token goes on where (src/plain.rt).
 #![tactic(auto)]
 
 mod cutting;
@@ -16,6 +19,8 @@ mod parser;
 mod plain;
 mod programs;
 mod reading;
+#[cfg(test)]
+mod recogniser;
 mod token;
 
 pub use fault::{TextCause, TextFault};

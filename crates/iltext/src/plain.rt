@@ -26,7 +26,7 @@ enum Place {
     Line,
 }
 
-const WORDS: [&str; 16] = [
+pub const WORDS: [&str; 16] = [
     "PROGRAM",
     "p",
     "VAR",
@@ -85,7 +85,7 @@ fn front(words: &[&str]) -> (usize, bool) {
 }
 
 /// A text of these words, each after a blank.
-fn text_of(alloc: Global, words: &[&str]) -> Result<Vec<u8>, AllocError> {
+pub fn text_of(alloc: Global, words: &[&str]) -> Result<Vec<u8>, AllocError> {
     let mut text = Vec::new(alloc);
     for word in words {
         text.push(b' ')?;
@@ -134,7 +134,7 @@ fn parsed(alloc: Global, words: &[&str]) -> Result<Option<(usize, usize)>, Fail>
     }
 }
 
-const FRONTS: [&[&str]; 15] = [
+pub const FRONTS: [&[&str]; 15] = [
     &[],
     &["\n", "PROGRAM"],
     &["PROGRAM", "p", "\n"],

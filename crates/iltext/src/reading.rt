@@ -11,7 +11,7 @@ use ilgrammar::ReadError;
 use ilsource::{Constant, Name, Operand};
 
 /// The place of a mark in the list of marks.
-fn mark_number(mark: Mark) -> u8
+pub fn mark_number(mark: Mark) -> u8
     ensures { result ≡ mark_number mark }
 {
     mark as u8

@@ -49,7 +49,7 @@ closes (b ∷ c ∷ bs) = go ((eqb b 42) && (eqb c 41)) refl (closes (c ∷ bs))
 
 -- ---- one blank
 
-abbrev OneBlank : List ℕ → Blank → Type 0
+abbrev pub OneBlank : List ℕ → Blank → Type 0
 OneBlank bs here = BeginsNoBlank bs
 OneBlank bs (past rest) = (u : List ℕ) × (bs ≡ u ++ rest) × IsBlank u
 OneBlank bs open_comment = OpensComment bs
@@ -71,7 +71,7 @@ at_comment b (c ∷ bs) s t = go ((eqb b 40) && (eqb c 42)) refl
         rw (x, y) (comment_is bs (after_comment bs) (closes bs))
     go false is = (s, t, not_both b c 40 42 is)
 
-one_blank : (bs : List ℕ) → OneBlank bs (blank_at bs)
+pub one_blank : (bs : List ℕ) → OneBlank bs (blank_at bs)
 one_blank [] = tt
 one_blank (b ∷ bs) = go ((eqb b 32) || (eqb b 9)) refl
   where

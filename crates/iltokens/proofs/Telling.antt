@@ -74,7 +74,7 @@ token_told bytes at le = go (blanks (drop at bytes)) (blanks_are (drop at bytes)
 
 -- ---- nothing else is
 
-whole : (what : What) (v : List ℕ) → Spells what v → Limited what (front_at v)
+pub whole : (what : What) (v : List ℕ) → Spells what v → Limited what (front_at v)
 whole what v h = go (rest_at (v ++ [])) (reaches what v h [])
   where
     go : (o : Option (List ℕ)) → Reaches what [] (front_at (v ++ [])) o → Limited what (front_at v)
@@ -102,12 +102,12 @@ same_front bs front v r what other l e h is =
 no_rest : (bs front : List ℕ) (what : What) → IsLongest bs front what → rest_at bs ≡ None → ⊥
 no_rest bs front what l is = spells_none bs is front l.after what l.parts l.spells
 
-one_token : (a b : What) (f : Front) → IsWithin a → IsWithin b → Limited a f → Limited b f → a ≡ b
+pub one_token : (a b : What) (f : Front) → IsWithin a → IsWithin b → Limited a f → Limited b f → a ≡ b
 one_token a b f v w (inl h) (inl k) = let x = h.1 in let y = k.1 in cc
 one_token a b f v w (inl h) (inr k) = absurd (k.0 w)
 one_token a b f v w (inr h) k = absurd (h.0 v)
 
-one_limit : (a b : What) (f : Front) → IsWithin a → (IsWithin b → ⊥) → Limited a f → Limited b f → ⊥
+pub one_limit : (a b : What) (f : Front) → IsWithin a → (IsWithin b → ⊥) → Limited a f → Limited b f → ⊥
 one_limit a b f v w (inl h) (inl k) = w k.0
 one_limit a b f v w (inl h) (inr k) = let x = h.1 in let y = k.1 in cc
 one_limit a b f v w (inr h) k = h.0 v

@@ -9,4 +9,5 @@ pub mod Spelling
 pub mod Spellings
 pub mod Times
 pub mod Tokens
+pub mod Trials
 pub mod Views

@@ -5,7 +5,7 @@ ghost use Rattle.iltokens.specs.Digits.{digit_of, is_digit, add_digit, next_digi
 ghost use Rattle.iltokens.specs.Views.{valued, value_view};
 
 /// The value of a digit of any base up to 16, in either letter case; 16 for another byte.
-fn digit_of(byte: u8) -> u8
+pub fn digit_of(byte: u8) -> u8
     ensures { result ≡ digit_of byte }
 {
     if b'0' <= byte && byte <= b'9' {
@@ -29,7 +29,7 @@ pub fn is_digit(base: u8, byte: u8) -> bool
 
 /// The value with one more digit.
 #[tactic(auto, unfolding(crate::specs::Digits::add_digit))]
-fn add_digit(base: u8, value: u64, byte: u8) -> u64
+pub fn add_digit(base: u8, value: u64, byte: u8) -> u64
     ensures { result ≡ add_digit base value byte }
 {
     value

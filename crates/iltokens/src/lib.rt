@@ -25,4 +25,6 @@ pub use lexer::token;
 #[cfg(test)]
 mod tests;
 #[cfg(test)]
+mod told;
+#[cfg(test)]
 mod trial;

@@ -12,7 +12,7 @@ pub fn is_letter(byte: u8) -> bool
 }
 
 /// Whether a name may go on with `byte`.
-fn is_name_byte(byte: u8) -> bool
+pub fn is_name_byte(byte: u8) -> bool
     ensures { result ≡ is_name_byte byte }
 {
     byte.is_ascii_alphanumeric() || byte == b'_'

@@ -1,6 +1,6 @@
 //! Tokens of small texts, and those of a slow reader beside them.
 
-use crate::trial::{Spelled, longest_by_trial};
+use crate::told::told_by_trial;
 use crate::{AddressKind, Cause, Lexed, What, token};
 use std::test::Fail;
 
@@ -81,37 +81,19 @@ fn each_fault(rt: HostRuntime) {
     }
 }
 
-/// Whether a slow reader finds what `token` tells, at each place of the text.
-fn read_alike(text: &[u8]) -> bool {
-    let mut rest = text;
-    for _ in text {
-        match token(rest, 0) {
-            Lexed::Token { what, from, to } => {
-                let (_, ahead) = rest.split_at(from);
-                if longest_by_trial(ahead) != Some((Spelled::Token(what), to - from)) {
-                    return false;
-                }
-                let (_, after) = rest.split_at(to);
-                rest = after;
-            }
-            Lexed::Fault { cause, at } => {
-                let (_, ahead) = rest.split_at(at);
-                let slow = longest_by_trial(ahead);
-                return match cause {
-                    Cause::BadNumber => matches!(slow, Some((Spelled::Outside, _))),
-                    Cause::BadToken | Cause::NotAscii => slow.is_none(),
-                    Cause::CommentOpen => true,
-                };
-            }
-            Lexed::End => return true,
+/// Whether a slow reader tells what `token` does, at each place of the text.
+fn told_alike(text: &[u8]) -> bool {
+    for at in 0..text.len() {
+        if token(text, at) != told_by_trial(text, at) {
+            return false;
         }
     }
-    matches!(token(rest, 0), Lexed::End)
+    token(text, text.len()) == told_by_trial(text, text.len())
 }
 
 #[test]
 fn a_slow_reader_reads_alike(rt: HostRuntime) {
-    let texts: [&[u8]; 24] = [
+    let texts: [&[u8]; 25] = [
         b"PROGRAM p\nVAR a : BOOL := TRUE; b, c : BOOL; END_VAR\nLD a\nANDN b\nST c\nSTN a\nEND_PROGRAM\n",
         b"CAL t(PT := T#250ms)\r\n",
         b"g AT %QB0.5 : SINT(0..254) := 16#Fe;",
@@ -136,12 +118,10 @@ fn a_slow_reader_reads_alike(rt: HostRuntime) {
         b"...(.)..;,:(*) *)a(**)b",
         b"\r\n\n\r",
         b"a\x80",
+        b" \t(**)(*)(*) (*) *)a(* (* *)*)\t\x80 (***)(* *",
     ];
     for text in texts {
-        for begin in 0..text.len() {
-            let (_, ahead) = text.split_at(begin);
-            assert!(rt; read_alike(ahead));
-        }
+        assert!(rt; told_alike(text));
     }
 }
 
@@ -155,6 +135,6 @@ fn a_slow_reader_reads_all_short_durations_alike(rt: HostRuntime) {
             *byte = letters[(number % 8) as usize];
             number /= 8;
         }
-        assert!(rt; read_alike(&text));
+        assert_eq!(rt; token(&text, 0), told_by_trial(&text, 0));
     }
 }

@@ -9,7 +9,7 @@ use crate::spelling::after_word;
 
 /// The units, each of which stands at most once, in falling order.
 #[derive(Clone, Copy, PartialEq, Eq, Debug)]
-enum Unit {
+pub enum Unit {
     Day,
     Hour,
     Minute,
@@ -17,7 +17,7 @@ enum Unit {
     Millisecond,
 }
 
-fn milliseconds(unit: Unit) -> u64
+pub fn milliseconds(unit: Unit) -> u64
     ensures { result ≡ milliseconds unit }
 {
     match unit {
