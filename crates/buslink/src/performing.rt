@@ -24,7 +24,8 @@ pub fn perform<B: Bus>(bus: &mut B, transaction: &Transaction) -> Result<Report,
     ensures report { IfOk result (λ r. (r.transaction ≡ transaction.now) × IsReportParts r) }
     ensures bus { IfOk result (λ r. B.log bus.new ≡ after_report r (B.log bus.new).spare (B.log bus.old)) }
     ensures spare { IfOk result (λ r. 9 ≤ (B.log bus.new).spare + length r.attempts) }
-    ensures failed { IfOk result (λ r. All (λ frame. frame.mark ≡ Mark.Failed → (B.log bus.new).failures ≡ one_more_failure (B.log bus.old).failures) r.attempts) }
+    ensures failed { IfOk result (λ r. All
+        (λ frame. frame.mark ≡ Mark.Failed → (B.log bus.new).failures ≡ one_more_failure (B.log bus.old).failures) r.attempts) }
     ensures refused { IfErr result (λ _. B.log bus.new ≡ with_spare (B.log bus.new).spare (B.log bus.old)) }
     ensures enough { 9 ≤ (B.log bus.old).spare → IsOk result }
 {

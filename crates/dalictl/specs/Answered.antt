@@ -19,6 +19,7 @@ use Rattle.ilsyms.specs.Told.{TellsLeast}
 use Rattle.ilcode.specs.Paths.{IsBound}
 use Rattle.ilverify.specs.declared.verifier.Refusal.{Refusal}
 use Rattle.ilverify.specs.Certificates.{IsCertified, IsRefusal}
+use Rattle.ilverify.specs.Verdicts.{Accepted}
 use Rattle.dalictl.specs.Layout.{laid_out}
 use Rattle.dalictl.specs.Stepping.{ScansTo, initials_of}
 use Rattle.dalictl.specs.declared.setup.Stepped.{Stepped}
@@ -85,7 +86,8 @@ IsTaskStop plan task _ = ⊥
 abbrev pub IsStepStop : ℕ → List ℕ → List ℕ → Stop → Type 0
 IsStepStop buses bytes name stops.Memory = Unit {0}
 IsStepStop buses bytes name (stops.NoTask asked) = (plan : Planned) × IsPlanOfText buses bytes plan × (string_bytes asked ≡ name) × NoneIsCalled plan name
-IsStepStop buses bytes name (stops.Code task refusal) = (plan : Planned) × (k : ℕ) × IsPlanOfText buses bytes plan × IsFirstCalled plan name k × IsFirstRefused plan (string_bytes task) refusal
+IsStepStop buses bytes name (stops.Code task refusal) =
+    (plan : Planned) × (k : ℕ) × IsPlanOfText buses bytes plan × IsFirstCalled plan name k × IsFirstRefused plan (string_bytes task) refusal
 IsStepStop buses bytes name (stops.Text fault) = IsPlanStop bytes (stops.Text fault)
 IsStepStop buses bytes name (stops.Name fault) = IsPlanStop bytes (stops.Name fault)
 IsStepStop buses bytes name (stops.Binding fault) = ⊥
@@ -112,6 +114,10 @@ store_of tree values = paired tree.text (slots_of tree.programs) values
 abbrev pub initial_values_of : Tree → List Value
 initial_values_of tree = map (λ s. s.initial) (slots_of tree.programs)
 
+-- the accepted code of a task with this bound
+abbrev pub code_of : ℕ → PlannedTask → ℕ → Accepted
+code_of buses task bound = record { code = laid_out buses task; bound = bound }
+
 -- the variables after this many scans of the text, so many milliseconds apart, from their initial values, with the steps of each scan,
 -- which are those of the task's code from the variables before it and at most the bound
 pub record IsStepped (buses : ℕ) (bytes name : List ℕ) (scans every : ℕ) (made : Stepped) : Type 0 where
@@ -122,6 +128,7 @@ pub record IsStepped (buses : ℕ) (bytes name : List ℕ) (scans every : ℕ) (
   pub values : ScansMean tree scans (store_of tree (initial_values_of tree)) (store_of tree made.scans.values.items)
   pub each : length made.scans.values.items ≡ length (slots_of tree.programs)
   pub many : length made.scans.each.items ≡ scans
-  pub runs : IfSome (slice_get made.plan.tasks made.task) (λ t. ScansTo (record { code = laid_out buses t; bound = made.bound }) every scans (initials_of t) made.scans.each.items made.scans.values.items)
+  pub runs : IfSome (slice_get made.plan.tasks made.task)
+      (λ t. ScansTo (code_of buses t made.bound) every scans (initials_of t) made.scans.each.items made.scans.values.items)
   pub few : All (λ taken. taken.steps ≤ made.bound) made.scans.each.items
   pub bound : IfSome (slice_get made.plan.tasks made.task) (λ t. IsBound (laid_out buses t).instructions made.bound)

@@ -23,7 +23,9 @@ of_both said _ _ = []
 -- the line of the task of this number
 abbrev pub task_line : Setup → ℕ → List ℕ
 task_line setup number =
-    of_both (λ task code. printed_task task.name (length code.code.instructions) code.bound) (slice_get setup.plan.tasks number) (slice_get (accepted_of setup.codes.items) number)
+    of_both (λ task code. printed_task task.name (length code.code.instructions) code.bound)
+    (slice_get setup.plan.tasks number)
+    (slice_get (accepted_of setup.codes.items) number)
 
 -- the line of the scan of this number
 abbrev pub scan_line : Stepped → ℕ → List ℕ
@@ -32,12 +34,15 @@ scan_line made number = of_both (λ taken bound. printed_scan number taken.steps
 -- the line of the variable in the slot of this number
 abbrev pub variable_line : Stepped → ℕ → List ℕ
 variable_line made number =
-    of_both (λ slot value. printed_variable (text_of made.plan.text slot.instance) (text_of made.plan.text slot.variable) value) (slot_at made.plan made.task number) (slice_get made.scans.values.items number)
+    of_both (λ slot value. printed_variable (text_of made.plan.text slot.instance) (text_of made.plan.text slot.variable) value)
+    (slot_at made.plan made.task number)
+    (slice_get made.scans.values.items number)
 
 -- a line for each task; a line for each scan, and then one for each variable; the line of what stands against it
 abbrev pub printed_answer : Answer → List ℕ
 printed_answer (answers.Checked setup) = first_lines (task_line setup) (length setup.plan.tasks)
-printed_answer (answers.Stepped made) = first_lines (scan_line made) (length made.scans.each.items) ++ first_lines (variable_line made) (length made.scans.values.items)
+printed_answer (answers.Stepped made) =
+    first_lines (scan_line made) (length made.scans.each.items) ++ first_lines (variable_line made) (length made.scans.values.items)
 printed_answer (answers.Stopped stop) = printed_stop stop ++ 10 ∷ []
 
 -- the exit status

@@ -36,4 +36,5 @@ IsUnconnected binding answer = ⊥
 
 -- the answer for these bytes of a binding, or none, and of a text
 abbrev pub IsAnswer : Request → Option (List ℕ) → List ℕ → Answer → Type 0
-IsAnswer request binding bytes answer = IsUnconnected binding answer ⊎ ((wiring : Wiring) × IsConnected binding wiring × IsMade wiring.buses bytes request answer)
+IsAnswer request binding bytes answer =
+    IsUnconnected binding answer ⊎ ((wiring : Wiring) × IsConnected binding wiring × IsMade wiring.buses bytes request answer)

@@ -1,11 +1,9 @@
 //! Reading files.
 
-ghost use Rattle.std.specs.Prelude.{◌≡◌, ◌↔◌, IfOk, IfSome, take};
+ghost use Rattle.std.specs.Prelude.{◌≡◌, ◌+◌, ◌↔◌, IfOk, IfSome, take};
 
 use std::alloc::Global;
-use std::fs::File;
 use std::io::{ErrorKind, Read};
-use std::rt::Files;
 
 /// The greatest number of bytes of a text or a binding; of a longer file one byte more is read, which tells that it is too long.
 const MAX_BYTES: u64 = 1_048_576;
@@ -17,17 +15,9 @@ pub enum Unread {
     Failed,
 }
 
-/// The first bytes of the file, at most one more than the greatest number.
-pub fn read<R: Files + AllocGlobal>(rt: &R, path: &str) -> Result<Vec<u8>, Unread> {
-    match File::open(rt, path) {
-        Ok(file) => bytes_of(rt.alloc(), file),
-        Err(error) => Err(reason(error.kind())),
-    }
-}
-
 /// The first bytes that a reader gives, at most one more than the greatest number.
-fn bytes_of<R: Read + Drop>(alloc: Global, reader: R) -> Result<Vec<u8>, Unread>
-    ensures { IfOk result (λ bytes. IfSome (R.remaining reader) (λ all. bytes.items ≡ take 1048577 all)) }
+pub fn bytes_of<R: Read + Drop>(alloc: Global, reader: R) -> Result<Vec<u8>, Unread>
+    ensures { IfOk result (λ bytes. IfSome (R.remaining reader) (λ all. bytes.items ≡ take (MAX_BYTES + 1) all)) }
 {
     let mut bytes = Vec::new(alloc);
     match reader.take(MAX_BYTES + 1).read_to_end(&mut bytes) {
@@ -37,7 +27,7 @@ fn bytes_of<R: Read + Drop>(alloc: Global, reader: R) -> Result<Vec<u8>, Unread>
 }
 
 /// Why a file wasn't read, by the kind of the error.
-fn reason(kind: ErrorKind) -> Unread
+pub fn reason(kind: ErrorKind) -> Unread
     ensures { (result ≡ Unread.Memory) ↔ (kind ≡ ErrorKind.OutOfMemory) }
 {
     match kind {

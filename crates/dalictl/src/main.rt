@@ -21,6 +21,7 @@ mod stop;
 use crate::files::Unread;
 use crate::options::Request;
 use clap::error::ErrorKind;
+use std::fs::File;
 use std::process::ExitCode;
 use std::rt::{Env, Files};
 use std::{env, io};
@@ -76,16 +77,24 @@ fn serve<R: Files + Print + Eprint + AllocGlobal>(rt: &R, request: Request) -> i
     let files = request.files();
     let binding = match files.binding {
         None => None,
-        Some(path) => match files::read(rt, path) {
+        Some(path) => match read(rt, path) {
             Ok(bytes) => Some(bytes),
             Err(unread) => return not_read(rt, path, unread),
         },
     };
-    let text = match files::read(rt, files.text) {
+    let text = match read(rt, files.text) {
         Ok(bytes) => bytes,
         Err(unread) => return not_read(rt, files.text, unread),
     };
     report::answer(rt, request, binding.as_deref(), &text)
+}
+
+/// The first bytes of the file, at most one more than the greatest number.
+fn read<R: Files + AllocGlobal>(rt: &R, path: &str) -> Result<Vec<u8>, Unread> {
+    match File::open(rt, path) {
+        Ok(file) => files::bytes_of(rt.alloc(), file),
+        Err(error) => Err(files::reason(error.kind())),
+    }
 }
 
 fn not_read<R: Print + Eprint>(rt: &R, path: &str, unread: Unread) -> io::Result<u8> {

@@ -3,7 +3,8 @@
 ghost use Rattle.std.specs.Prelude.{◌≡◌, IfOk, codes, false, map, string_bytes};
 ghost use Rattle.clap.specs.Words.{FailsBy, app_of, fault_of, first_of, found_of, one_of, rows_of, rule_of, shape_of};
 ghost use Rattle.clap.specs.declared.builder.command.Command.TheViews.{out-Command};
-ghost use Rattle.dalictl.specs.CommandLine.{AreFiles, IsNumber, IsOfCommand, IsRequest, check_command, command_line, given, number_option, option, step_command, step_files, wanted};
+ghost use Rattle.dalictl.specs.CommandLine.{AreFiles, IsNumber, IsOfCommand, IsRequest, check_command, command_line, given};
+ghost use Rattle.dalictl.specs.CommandLine.{number_option, option, step_command, step_files, wanted};
 
 use clap::{Arg, ArgAction, ArgMatches, Command, Error};
 use std::alloc::{AllocError, Global};

@@ -1,9 +1,11 @@
 //! What is printed.
 
 ghost use Rattle.std.specs.Prelude.{◌≡◌, length, IfOk, OnOk};
+ghost use Rattle.std.specs.Option.{option_copied};
 ghost use Rattle.std.specs.Io.KnownBytes.{Appends};
 ghost use Rattle.dalictl.specs.Reports.{first_lines, printed_answer, scan_line, status_of_answer, task_line, variable_line};
-ghost use Rattle.dalictl.specs.Stops.{printed_stop};
+ghost use Rattle.dalictl.specs.declared.answers.Answer.{Answer};
+ghost use Rattle.dalictl.specs.Requested.{IsAnswer};
 
 use crate::answers::{Answer, respond};
 use crate::options::Request;
@@ -18,7 +20,9 @@ pub fn answer<R: Print + AllocGlobal>(
     request: Request,
     binding: Option<&[u8]>,
     text: &[u8],
-) -> io::Result<u8> {
+) -> io::Result<u8>
+    ensures { IfOk result (λ status. (answer : Answer) × IsAnswer request.entry (option_copied binding.entry) text.now answer × (status ≡ status_of_answer answer)) }
+{
     let answer = respond(rt.alloc(), request, binding, text);
     let mut out = BufWriter::new(rt.alloc(), io::writer(rt))?;
     let status = report(&mut out, &answer)?;

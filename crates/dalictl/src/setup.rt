@@ -73,8 +73,10 @@ impl Stepped {
     pub fn variable_line(&self, slot: usize) -> VariableLine<'_>
         requires slot { IfSome (slice_get self.now.plan.tasks self.now.task) (λ t. slot < length t.slots) }
         requires value { slot < vec_len self.now.scans.values }
-        ensures instance { option_map (λ s. text_of self.now.plan.text s.instance) (slot_at self.now.plan self.now.task slot) ≡ Some result.name.instance.bytes.now }
-        ensures variable { option_map (λ s. text_of self.now.plan.text s.variable) (slot_at self.now.plan self.now.task slot) ≡ Some result.name.variable.bytes.now }
+        ensures instance { option_map (λ s. text_of self.now.plan.text s.instance) (slot_at self.now.plan self.now.task slot)
+            ≡ Some result.name.instance.bytes.now }
+        ensures variable { option_map (λ s. text_of self.now.plan.text s.variable) (slot_at self.now.plan self.now.task slot)
+            ≡ Some result.name.variable.bytes.now }
         ensures value { slice_get self.now.scans.values.items slot ≡ Some result.value }
     {
         VariableLine {

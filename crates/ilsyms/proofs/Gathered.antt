@@ -45,7 +45,7 @@ before_false a b x y false true true e f g h = absurd cc
 before_false a b x y false true false e f g h = inr (sym (eq_true a b f), lt_false x y g)
 before_false a b x y false false w e f g h = let l : b ≤ a = lt_false a b e in let n : a ≢ b = eq_false a b f in inl (omega arith)
 
-later : (a b c x y z : ℕ) → (a < b) ⊎ ((a ≡ b) × (x ≤ y)) → (b < c) ⊎ ((b ≡ c) × (y ≤ z)) → (a < c) ⊎ ((a ≡ c) × (x ≤ z))
+pub later : (a b c x y z : ℕ) → (a < b) ⊎ ((a ≡ b) × (x ≤ y)) → (b < c) ⊎ ((b ≡ c) × (y ≤ z)) → (a < c) ⊎ ((a ≡ c) × (x ≤ z))
 later a b c x y z (inl p) (inl q) = inl (omega arith)
 later a b c x y z (inl p) (inr q) = inl (omega arith)
 later a b c x y z (inr p) (inl q) = inl (omega arith)

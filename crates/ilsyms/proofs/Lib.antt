@@ -6,6 +6,9 @@ pub mod Gathered
 pub mod Keys
 pub mod LeastFault
 pub mod Limits
+pub mod Listed
+pub mod ListedConstants
+pub mod ListedFaults
 pub mod Lookups
 pub mod Paired
 pub mod Scans

@@ -7,6 +7,7 @@ pub mod Faults
 pub mod Gathering
 pub mod InitialStores
 pub mod Keys
+pub mod Listing
 pub mod Meaning
 pub mod PlanMeaning
 pub mod Planning
@@ -14,6 +15,7 @@ pub mod Plans
 pub mod Printed
 pub mod Resolved
 pub mod Resolving
+pub mod SlotLines
 pub mod Stores
 pub mod Told
 pub mod Wirings

@@ -1,6 +1,7 @@
 //! Generated source programs: what `resolve` answers of each is what the plain resolver says.
 
-use crate::plain::{all_faults, constants_of, least_of, lines_of, slots_of};
+use crate::plain::least_fault;
+use crate::plain_tables::{constants_of, lines_of, planned_lines, slots_of};
 use crate::{Binding, NameCause, NameFault, Plan, resolve};
 use ilsource::{Constant, Declaration, Instruction, Line, Name, Operand, Place, Program, Source};
 use iltypes::BooleanOperator;
@@ -101,8 +102,7 @@ struct Answer {
 
 /// Compares the fault that `resolve` tells with that of the plain resolver, and gives the plan where there is none.
 fn compare(rt: &impl Abort, alloc: Global, source: &Source) -> Result<Answer, Fail> {
-    let faults = all_faults(alloc, source)?;
-    let least = least_of(&faults);
+    let least = least_fault(alloc, source)?;
     let mut made = None;
     match (resolve(alloc, source, &Binding::one_bus()), least) {
         (Ok(plan), None) => made = Some(plan),
@@ -120,23 +120,26 @@ fn compare(rt: &impl Abort, alloc: Global, source: &Source) -> Result<Answer, Fa
 
 fn compare_plan(rt: &impl Abort, alloc: Global, source: &Source, plan: &Plan) -> Result<(), Fail> {
     let text = source.text();
-    let slots = slots_of(alloc, source)?;
+    let slots = slots_of(alloc, source.programs())?;
+    let lines = lines_of(alloc, source.programs())?;
     assert_eq!(rt; plan.tasks(), 1);
     let task = plan.task(0);
     assert_eq!(rt; task.name(), "main");
-    assert_eq!(rt; task.constants(), constants_of(alloc, source)?.as_slice());
+    assert_eq!(rt; task.constants(), constants_of(alloc, &lines)?.as_slice());
     assert_eq!(rt; task.slots().len(), slots.len());
     for (number, (slot, wanted)) in task.slots().iter().zip(&slots).enumerate() {
-        assert_eq!(rt; *slot, wanted.1);
+        assert_eq!(rt; *slot, *wanted);
         assert!(rt; number < task.slots().len());
         let name = plan.slot_name(0, number);
-        assert_eq!(rt; name.variable.bytes, wanted.1.variable.text(text));
-        assert_eq!(rt; name.instance.bytes, wanted.1.instance.text(text));
+        assert_eq!(rt; name.variable.bytes, wanted.variable.text(text));
+        assert_eq!(rt; name.instance.bytes, wanted.instance.text(text));
     }
     assert_eq!(rt; task.instances().len(), source.programs().len());
-    for (owner, (instance, program)) in task.instances().iter().zip(source.programs()).enumerate() {
+    for (instance, program) in task.instances().iter().zip(source.programs()) {
         assert_eq!(rt; instance.name(), program.name());
-        let lines = lines_of(alloc, text, &slots, owner, program.lines())?.ok_or("declared")?;
+        let lines = planned_lines(alloc, text, &slots, program.name(), program.lines())?.ok_or(
+            "declared",
+        )?;
         assert_eq!(rt; instance.lines(), lines.as_slice());
     }
     Ok(())
@@ -264,6 +267,36 @@ fn limits_are_kept_exactly(rt: HostRuntime) -> Result<(), Fail> {
         let source = large(rt.alloc(), programs, variables, lines, different)?;
         let answer = compare(&rt, rt.alloc(), &source)?;
         assert_eq!(rt; answer.plan.is_some(), fits);
+    }
+    Ok(())
+}
+
+/// A worked text, whose third line names a variable that isn't declared.
+const UNDECLARED: &[u8] = b"PROGRAM p\n\nLD x\nEND_PROGRAM\n";
+
+#[test]
+fn a_worked_text_is_refused_at_its_place(rt: HostRuntime) -> Result<(), Fail> {
+    let mut lines = Vec::new(rt.alloc());
+    let operand = Operand::Variable(Name { from: 14, to: 15 });
+    lines.push(Line {
+        at: 11,
+        instruction: Instruction::Load {
+            negated: false,
+            operand,
+        },
+    })?;
+    let mut programs = Vec::new(rt.alloc());
+    let name = Name { from: 8, to: 9 };
+    programs.push(Program::new(name, Vec::new(rt.alloc()), lines))?;
+    let source = Source::new(Vec::from_slice(rt.alloc(), UNDECLARED)?, programs);
+    let answer = compare(&rt, rt.alloc(), &source)?;
+    assert_eq!(rt; answer.cause, Some(NameCause::Unknown));
+    match resolve(rt.alloc(), &source, &Binding::one_bus()) {
+        Err(fault) => {
+            let told = fault.to_string(rt.alloc())?;
+            assert_eq!(rt; told.as_str(), "name fault 2 at 3:4");
+        }
+        Ok(_) => assert!(rt; false, "a fault"),
     }
     Ok(())
 }

@@ -40,4 +40,6 @@ mod generated;
 #[cfg(test)]
 mod plain;
 #[cfg(test)]
+mod plain_tables;
+#[cfg(test)]
 mod tests;

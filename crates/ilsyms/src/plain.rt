@@ -1,278 +1,315 @@
-//! A slow resolver that goes by the definitions, for tests: it collects each fault of each declaration, line and limit.
+//! A slow resolver that goes by the definitions, for tests: it lists each fault of each declaration, line and limit.
+//!
+//! Each list has exactly the faults of its definition in specs/Faults.antt, and [`least_fault`] is the least of all.
+
+ghost use Rattle.std.specs.Prelude.{◌≡◌, ◌↔◌, ◌+◌, [], Some, OnOk, IfOk, IsTrue, MatchOption, Contains, map, slice_get};
+ghost use Rattle.ilsource.specs.Names.{SameName};
+ghost use Rattle.ilsyms.specs.Declarations.{variables_of};
+ghost use Rattle.ilsyms.specs.Faults.{SomeOf, IsTwiceIn, IsTwice, IsUnknownIn, IsUnknown, IsBadIn, IsBad, MakesTooManyConstants, IsTooMany};
+ghost use Rattle.ilsyms.specs.Faults.{IsFault, IsWellNamed, IsNotAfter, IsLeast};
+ghost use Rattle.ilsyms.specs.Listing.{Lists, Adds, IsThePlace, IsLesser};
+ghost use Rattle.ilsyms.specs.declared.planned.TheConstants.{MAX_INSTANCES, MAX_SLOTS, MAX_CONSTANTS, MAX_WORDS};
 
 use crate::fault::NameCause;
-use crate::planned::{PlannedInstruction, PlannedLine, PlannedOperand, Slot};
-use ilsource::{Constant, Instruction, Line, Name, Operand, Place, Program, Source};
-use iltypes::{IlType, Value};
+use crate::plain_tables::{
+    add_constant, initial_of, lines_of, name_in, names_of, slots_of, variables_of,
+};
+use crate::planned::{MAX_CONSTANTS, MAX_INSTANCES, MAX_SLOTS, MAX_WORDS, Slot};
+use ilsource::{Declaration, Line, Name, Program, Source};
 use std::alloc::{AllocError, Global};
 
 /// A fault at a byte of the text.
 pub(crate) type Fault = (usize, NameCause);
 
-/// A slot with the number of its program.
-type Owned = (usize, Slot);
+/// Adds a place, where there is one.
+fn add_place(places: &mut Vec<usize>, found: Option<usize>) -> Result<(), AllocError>
+    ensures { OnOk result (Adds places.old.items places.new.items (λ place. found ≡ Some place)) }
+{
+    if let Some(place) = found {
+        places.push(place)?;
+    }
+    Ok(())
+}
+
+/// The place of `later`, where it is spelled as `earlier`.
+fn place_of_same(earlier: Name, later: Name, text: &[u8]) -> Option<usize>
+    ensures { IsThePlace result (λ place. SameName text.now earlier later × (place ≡ later.from)) }
+{
+    earlier.is_same(later, text).then_some(later.from)
+}
+
+/// Adds the places of the names that are spelled as `earlier`.
+fn add_same(
+    places: &mut Vec<usize>,
+    earlier: Name,
+    names: &[Name],
+    text: &[u8],
+) -> Result<(), AllocError>
+    ensures { OnOk result (Adds places.old.items places.new.items
+        (λ place. SomeOf (λ later. SameName text.now earlier later × (place ≡ later.from)) names.now)) }
+{
+    for later in names {
+        add_place(places, place_of_same(earlier, *later, text))?;
+    }
+    Ok(())
+}
+
+/// Adds the places of the names that are spelled as one before them.
+fn add_twice(places: &mut Vec<usize>, names: &[Name], text: &[u8]) -> Result<(), AllocError>
+    ensures { OnOk result (Adds places.old.items places.new.items (IsTwiceIn text.now names.now)) }
+{
+    for (number, earlier) in names.iter().enumerate() {
+        add_same(places, *earlier, &names[number + 1..], text)?;
+    }
+    Ok(())
+}
+
+/// Adds the places at which a program declares a variable again.
+fn add_twice_in(
+    alloc: Global,
+    places: &mut Vec<usize>,
+    program: &Program,
+    text: &[u8],
+) -> Result<(), AllocError>
+    ensures { OnOk result (Adds places.old.items places.new.items (IsTwiceIn text.now (variables_of program.now))) }
+{
+    let variables = variables_of(alloc, program)?;
+    add_twice(places, &variables, text)
+}
+
+/// The places at which a program, or a variable within its program, is declared again.
+fn twice_places(alloc: Global, source: &Source) -> Result<Vec<usize>, AllocError>
+    ensures { IfOk result (λ places. Lists places.items (IsTwice source.now)) }
+{
+    let text = source.text();
+    let programs = source.programs();
+    let mut places = Vec::new(alloc);
+    add_twice(&mut places, &names_of(alloc, programs)?, text)?;
+    for program in programs {
+        add_twice_in(alloc, &mut places, program, text)?;
+    }
+    Ok(places)
+}
+
+/// Whether the name is spelled as one of the variables.
+fn is_declared(name: Name, variables: &[Name], text: &[u8]) -> bool
+    ensures { IsTrue result ↔ SomeOf (SameName text.now name) variables.now }
+{
+    for variable in variables {
+        if name.is_same(*variable, text) {
+            return true;
+        }
+    }
+    false
+}
+
+/// The place of the name in a line, where it is none of the variables.
+fn place_of_unknown(line: Line, variables: &[Name], text: &[u8]) -> Option<usize>
+    ensures { IsThePlace result (λ place. IsUnknownIn text.now variables.now place line) }
+{
+    match name_in(line.instruction) {
+        Some(name) if !is_declared(name, variables, text) => Some(name.from),
+        _ => None,
+    }
+}
+
+/// Adds the places of names in lines that are none of the variables.
+fn add_unknown(
+    places: &mut Vec<usize>,
+    lines: &[Line],
+    variables: &[Name],
+    text: &[u8],
+) -> Result<(), AllocError>
+    ensures { OnOk result (Adds places.old.items places.new.items (λ place. SomeOf (IsUnknownIn text.now variables.now place) lines.now)) }
+{
+    for line in lines {
+        add_place(places, place_of_unknown(*line, variables, text))?;
+    }
+    Ok(())
+}
+
+/// Adds the places at which an instruction of a program names a variable that the program doesn't declare.
+fn add_unknown_in(
+    alloc: Global,
+    places: &mut Vec<usize>,
+    program: &Program,
+    text: &[u8],
+) -> Result<(), AllocError>
+    ensures { OnOk result (Adds places.old.items places.new.items (λ place. SomeOf (IsUnknownIn text.now (variables_of program.now) place) program.now.lines)) }
+{
+    let variables = variables_of(alloc, program)?;
+    add_unknown(places, program.lines(), &variables, text)
+}
+
+/// The places at which an instruction names a variable that its program doesn't declare.
+fn unknown_places(alloc: Global, source: &Source) -> Result<Vec<usize>, AllocError>
+    ensures { IfOk result (λ places. Lists places.items (IsUnknown source.now)) }
+{
+    let text = source.text();
+    let programs = source.programs();
+    let mut places = Vec::new(alloc);
+    for program in programs {
+        add_unknown_in(alloc, &mut places, program, text)?;
+    }
+    Ok(places)
+}
+
+/// The place of a declaration's first name, where BOOL hasn't the initial value.
+fn place_of_bad(declaration: &Declaration) -> Option<usize>
+    ensures { IsThePlace result (λ place. IsBadIn place declaration.now) }
+{
+    match (
+        initial_of(declaration.initial()),
+        declaration.names().first(),
+    ) {
+        (None, Some(first)) => Some(first.from),
+        _ => None,
+    }
+}
+
+/// Adds the places of declarations with an initial value that BOOL hasn't.
+fn add_bad(places: &mut Vec<usize>, declarations: &[Declaration]) -> Result<(), AllocError>
+    ensures { OnOk result (Adds places.old.items places.new.items (λ place. SomeOf (IsBadIn place) declarations.now)) }
+{
+    for declaration in declarations {
+        add_place(places, place_of_bad(declaration))?;
+    }
+    Ok(())
+}
+
+/// The places of all declarations with an initial value that BOOL hasn't.
+fn bad_places(alloc: Global, source: &Source) -> Result<Vec<usize>, AllocError>
+    ensures { IfOk result (λ places. Lists places.items (IsBad source.now)) }
+{
+    let programs = source.programs();
+    let mut places = Vec::new(alloc);
+    for program in programs {
+        add_bad(&mut places, program.declarations())?;
+    }
+    Ok(places)
+}
+
+/// The place of the program that exceeds the greatest number of instances.
+fn program_past(programs: &[Program]) -> Option<usize>
+    ensures { result ≡ slice_get (map (λ p. p.name.from) programs.now) MAX_INSTANCES }
+{
+    let program = programs.get(MAX_INSTANCES)?;
+    Some(program.name().from)
+}
+
+/// The place of the variable that exceeds the greatest number of slots.
+fn slot_past(slots: &[Slot]) -> Option<usize>
+    ensures { result ≡ slice_get (map (λ s. s.variable.from) slots.now) MAX_SLOTS }
+{
+    let slot = slots.get(MAX_SLOTS)?;
+    Some(slot.variable.from)
+}
+
+/// The place of the line that exceeds the greatest number of words.
+fn line_past(lines: &[Line]) -> Option<usize>
+    ensures { result ≡ slice_get (map (λ l. l.at) lines.now) MAX_WORDS }
+{
+    let line = lines.get(MAX_WORDS)?;
+    Some(line.at)
+}
+
+/// The place of a line, where there are too many constants with it, and without it as many as may be.
+fn place_of_excess(without: usize, with: usize, line: Line) -> Option<usize>
+    ensures { IsThePlace result (λ place. (without ≡ MAX_CONSTANTS) × (with ≡ MAX_CONSTANTS + 1) × (place ≡ line.at)) }
+{
+    (without == MAX_CONSTANTS && with == MAX_CONSTANTS + 1).then_some(line.at)
+}
+
+/// Adds the place of the line that exceeds the greatest number of constants.
+fn add_constant_past(
+    alloc: Global,
+    places: &mut Vec<usize>,
+    lines: &[Line],
+) -> Result<(), AllocError>
+    ensures { OnOk result (Adds places.old.items places.new.items (MakesTooManyConstants lines.now)) }
+{
+    let mut known = Vec::new(alloc);
+    for line in lines {
+        let without = known.len();
+        add_constant(&mut known, *line)?;
+        add_place(places, place_of_excess(without, known.len(), *line))?;
+    }
+    Ok(())
+}
+
+/// The places of the program, the variable and the lines that exceed the limits.
+fn excess_places(alloc: Global, source: &Source) -> Result<Vec<usize>, AllocError>
+    ensures { IfOk result (λ places. Lists places.items (IsTooMany source.now)) }
+{
+    let programs = source.programs();
+    let slots = slots_of(alloc, programs)?;
+    let lines = lines_of(alloc, programs)?;
+    let mut places = Vec::new(alloc);
+    add_place(&mut places, program_past(programs))?;
+    add_place(&mut places, slot_past(&slots))?;
+    add_place(&mut places, line_past(&lines))?;
+    add_constant_past(alloc, &mut places, &lines)?;
+    Ok(places)
+}
+
+/// Adds a fault with this cause at each of the places.
+fn add_faults(faults: &mut Vec<Fault>, cause: NameCause, places: &[usize]) -> Result<(), AllocError>
+    ensures { OnOk result (Adds faults.old.items faults.new.items (λ fault. SomeOf (λ place. (place, cause) ≡ fault) places.now)) }
+{
+    for place in places {
+        faults.push((*place, cause))?;
+    }
+    Ok(())
+}
 
 /// All faults of a source program.
-pub(crate) fn all_faults(alloc: Global, source: &Source) -> Result<Vec<Fault>, AllocError> {
-    let text = source.text();
+fn all_faults(alloc: Global, source: &Source) -> Result<Vec<Fault>, AllocError>
+    ensures { IfOk result (λ faults. Lists faults.items (λ fault. IsFault source.now fault.0 fault.1)) }
+{
+    let unknown = unknown_places(alloc, source)?;
+    let twice = twice_places(alloc, source)?;
+    let excess = excess_places(alloc, source)?;
+    let bad = bad_places(alloc, source)?;
     let mut faults = Vec::new(alloc);
-    let mut names = Vec::new(alloc);
-    for program in source.programs() {
-        names.push(program.name())?;
-        let variables = variables_of(alloc, program)?;
-        add_twice(&mut faults, &variables, text)?;
-        add_bad(&mut faults, program)?;
-        add_unknown(&mut faults, &variables, program.lines(), text)?;
-    }
-    add_twice(&mut faults, &names, text)?;
-    add_excess(alloc, &mut faults, source)?;
+    add_faults(&mut faults, NameCause::Unknown, &unknown)?;
+    add_faults(&mut faults, NameCause::Twice, &twice)?;
+    add_faults(&mut faults, NameCause::TooMany, &excess)?;
+    add_faults(&mut faults, NameCause::BadDeclaration, &bad)?;
     Ok(faults)
 }
 
-/// The fault at the least place with the least number there.
-pub(crate) fn least_of(faults: &[Fault]) -> Option<Fault> {
-    let mut least: Option<Fault> = None;
+/// Whether the first fault isn't after the second.
+fn is_not_after(fault: Fault, other: Fault) -> bool
+    ensures { IsTrue result ↔ IsNotAfter fault.0 fault.1 other.0 other.1 }
+{
+    fault.0 < other.0 || (fault.0 == other.0 && fault.1.number() <= other.1.number())
+}
+
+/// The lesser of two faults, of which the first may be missing.
+fn lesser_of(least: Option<Fault>, fault: Fault) -> Fault
+    ensures { IsLesser least fault result }
+{
+    match least {
+        Some(other) if is_not_after(other, fault) => other,
+        _ => fault,
+    }
+}
+
+/// The fault at the least place with the least cause there.
+fn least_of(faults: &[Fault]) -> Option<Fault>
+    ensures { MatchOption result (faults.now ≡ []) (λ fault. IsLeast (λ place cause. Contains faults.now (place, cause)) fault.0 fault.1) }
+{
+    let mut least = None;
     for fault in faults {
-        let key = (fault.0, fault.1.number());
-        least = match least {
-            Some(other) if (other.0, other.1.number()) <= key => least,
-            _ => Some(*fault),
-        };
+        least = Some(lesser_of(least, *fault));
     }
     least
 }
 
-/// The variables of a program, in declared order.
-fn variables_of(alloc: Global, program: &Program) -> Result<Vec<Name>, AllocError> {
-    let mut variables = Vec::new(alloc);
-    for declaration in program.declarations() {
-        variables.extend_from_slice(declaration.names())?;
-    }
-    Ok(variables)
-}
-
-/// Adds each name that is spelled as one before it.
-fn add_twice(faults: &mut Vec<Fault>, names: &[Name], text: &[u8]) -> Result<(), AllocError> {
-    for (number, later) in names.iter().enumerate() {
-        for earlier in names.iter().take(number) {
-            if earlier.is_same(*later, text) {
-                faults.push((later.from, NameCause::Twice))?;
-            }
-        }
-    }
-    Ok(())
-}
-
-/// Adds each declaration whose initial value isn't of its type.
-fn add_bad(faults: &mut Vec<Fault>, program: &Program) -> Result<(), AllocError> {
-    for declaration in program.declarations() {
-        if let (None, Some(first)) = (initial(declaration.initial()), declaration.names().first()) {
-            faults.push((first.from, NameCause::BadDeclaration))?;
-        }
-    }
-    Ok(())
-}
-
-/// Adds each use of a name that is none of the variables.
-fn add_unknown(
-    faults: &mut Vec<Fault>,
-    variables: &[Name],
-    lines: &[Line],
-    text: &[u8],
-) -> Result<(), AllocError> {
-    for line in lines {
-        if let Some(name) = used(line.instruction) {
-            let mut known = false;
-            for variable in variables {
-                known = known || variable.is_same(name, text);
-            }
-            if !known {
-                faults.push((name.from, NameCause::Unknown))?;
-            }
-        }
-    }
-    Ok(())
-}
-
-/// Adds the program, the variable, the line and the constant that exceed the limits.
-fn add_excess(alloc: Global, faults: &mut Vec<Fault>, source: &Source) -> Result<(), AllocError> {
-    let mut variables = Vec::new(alloc);
-    let mut lines = Vec::new(alloc);
-    for program in source.programs() {
-        let declared = variables_of(alloc, program)?;
-        variables.extend_from_slice(&declared)?;
-        lines.extend_from_slice(program.lines())?;
-    }
-    if let Some(program) = source.programs().get(64) {
-        faults.push((program.name().from, NameCause::TooMany))?;
-    }
-    if let Some(variable) = variables.get(4096) {
-        faults.push((variable.from, NameCause::TooMany))?;
-    }
-    if let Some(line) = lines.get(65_536) {
-        faults.push((line.at, NameCause::TooMany))?;
-    }
-    let mut constants = Vec::new(alloc);
-    for line in &lines {
-        let before = constants.len();
-        add_constant(&mut constants, line.instruction)?;
-        if before == 4096 && constants.len() != before {
-            faults.push((line.at, NameCause::TooMany))?;
-        }
-    }
-    Ok(())
-}
-
-/// Adds the constant of an instruction, where it is new.
-fn add_constant(constants: &mut Vec<Value>, instruction: Instruction) -> Result<(), AllocError> {
-    if let Instruction::Load { operand, .. } | Instruction::Apply { operand, .. } = instruction
-        && let Operand::Constant(constant) = operand
-    {
-        let value = meant(constant);
-        if !constants.contains(&value) {
-            constants.push(value)?;
-        }
-    }
-    Ok(())
-}
-
-/// The different constants of all lines, in order of first use.
-pub(crate) fn constants_of(alloc: Global, source: &Source) -> Result<Vec<Value>, AllocError> {
-    let mut constants = Vec::new(alloc);
-    for program in source.programs() {
-        for line in program.lines() {
-            add_constant(&mut constants, line.instruction)?;
-        }
-    }
-    Ok(constants)
-}
-
-/// The slots of all programs, in declared order.
-pub(crate) fn slots_of(alloc: Global, source: &Source) -> Result<Vec<Owned>, AllocError> {
-    let mut slots = Vec::new(alloc);
-    for (owner, program) in source.programs().iter().enumerate() {
-        for declaration in program.declarations() {
-            for variable in declaration.names() {
-                let slot = Slot {
-                    instance: program.name(),
-                    variable: *variable,
-                    value_type: IlType::Bool,
-                    initial: initial(declaration.initial()).unwrap_or(Value::Bool(false)),
-                };
-                slots.push((owner, slot))?;
-            }
-        }
-    }
-    Ok(slots)
-}
-
-/// The lines of a program over slots; `None` where a name has none.
-pub(crate) fn lines_of(
-    alloc: Global,
-    text: &[u8],
-    slots: &[Owned],
-    owner: usize,
-    lines: &[Line],
-) -> Result<Option<Vec<PlannedLine>>, AllocError> {
-    let mut planned = Vec::new(alloc);
-    for line in lines {
-        let Some(instruction) = planned_of(text, slots, owner, line.instruction) else {
-            return Ok(None);
-        };
-        planned.push(PlannedLine {
-            line: Place::of(text, line.at).line,
-            instruction,
-        })?;
-    }
-    Ok(Some(planned))
-}
-
-fn planned_of(
-    text: &[u8],
-    slots: &[Owned],
-    owner: usize,
-    instruction: Instruction,
-) -> Option<PlannedInstruction> {
-    Some(match instruction {
-        Instruction::Load { negated, operand } => PlannedInstruction::Load {
-            negated,
-            operand: operand_of(text, slots, owner, operand)?,
-        },
-        Instruction::Apply {
-            operator,
-            negated,
-            operand,
-        } => PlannedInstruction::Apply {
-            operator,
-            negated,
-            operand: operand_of(text, slots, owner, operand)?,
-        },
-        Instruction::Not => PlannedInstruction::Not,
-        Instruction::Store { negated, variable } => PlannedInstruction::Store {
-            negated,
-            slot: slot_of(text, slots, owner, variable)?,
-        },
-        Instruction::Set(variable) => {
-            PlannedInstruction::Set(slot_of(text, slots, owner, variable)?)
-        }
-        Instruction::Reset(variable) => {
-            PlannedInstruction::Reset(slot_of(text, slots, owner, variable)?)
-        }
-    })
-}
-
-fn operand_of(
-    text: &[u8],
-    slots: &[Owned],
-    owner: usize,
-    operand: Operand,
-) -> Option<PlannedOperand> {
-    Some(match operand {
-        Operand::Variable(name) => PlannedOperand::Slot(slot_of(text, slots, owner, name)?),
-        Operand::Constant(constant) => PlannedOperand::Constant(meant(constant)),
-    })
-}
-
-/// The number of the first slot of this owner whose variable is spelled so.
-fn slot_of(text: &[u8], slots: &[Owned], owner: usize, name: Name) -> Option<usize> {
-    for (number, (its, slot)) in slots.iter().enumerate() {
-        if *its == owner && slot.variable.is_same(name, text) {
-            return Some(number);
-        }
-    }
-    None
-}
-
-/// The name that an instruction uses.
-fn used(instruction: Instruction) -> Option<Name> {
-    match instruction {
-        Instruction::Load { operand, .. } | Instruction::Apply { operand, .. } => match operand {
-            Operand::Variable(name) => Some(name),
-            Operand::Constant(_) => None,
-        },
-        Instruction::Not => None,
-        Instruction::Store { variable, .. }
-        | Instruction::Set(variable)
-        | Instruction::Reset(variable) => Some(variable),
-    }
-}
-
-fn meant(constant: Constant) -> Value {
-    match constant {
-        Constant::Bool(truth) => Value::Bool(truth),
-        Constant::Number(number) => Value::Int(number),
-        Constant::Time(milliseconds) => Value::Int(i64::from(milliseconds)),
-    }
-}
-
-/// The value of BOOL that an initial value means.
-fn initial(constant: Option<Constant>) -> Option<Value> {
-    let truth = match constant {
-        None => false,
-        Some(Constant::Bool(truth)) => truth,
-        Some(Constant::Number(0)) => false,
-        Some(Constant::Number(1)) => true,
-        Some(_) => return None,
-    };
-    Some(Value::Bool(truth))
+/// The least fault of a source program, and `None` where it is well named.
+pub(crate) fn least_fault(alloc: Global, source: &Source) -> Result<Option<Fault>, AllocError>
+    ensures { IfOk result (λ least. MatchOption least (IsWellNamed source.now) (λ fault. IsLeast (IsFault source.now) fault.0 fault.1)) }
+{
+    let faults = all_faults(alloc, source)?;
+    Ok(least_of(&faults))
 }

@@ -33,7 +33,9 @@ pub fn resolve(alloc: Global, source: &Source, binding: &Binding) -> Result<Plan
 
 /// The one plan, or the least fault that was gathered.
 fn resolved(alloc: Global, source: &Source, binding: &Binding) -> Result<Plan, NameFault>
-    ensures { MatchResult result (λ plan. (least_fault source.now ≡ None) × (plan ≡ the_plan source.now binding.now.buses)) (λ fault. IsMemoryOrTold source.now.text (least_fault source.now) fault) }
+    ensures { MatchResult result
+        (λ plan. (least_fault source.now ≡ None) × (plan ≡ the_plan source.now binding.now.buses))
+        (λ fault. IsMemoryOrTold source.now.text (least_fault source.now) fault) }
 {
     let scope = Scope::of(alloc, source, binding)?;
     let slots = all_slots(alloc, source.programs())?;

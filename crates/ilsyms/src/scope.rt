@@ -5,7 +5,8 @@
 ghost use Rattle.std.specs.Prelude.{◌≡◌, OnOk, IfOk, slice_get};
 ghost use Rattle.ilsource.specs.Names.{text_of};
 ghost use Rattle.ilsyms.specs.Declarations.{name_in, initial_value};
-ghost use Rattle.ilsyms.specs.Gathering.{Gathered, gathered, with_name, with_names, with_initial, with_declaration, with_declarations, with_use, with_line, with_lines, lowered};
+ghost use Rattle.ilsyms.specs.Gathering.{Gathered, gathered, with_name, with_names, with_initial, with_declaration};
+ghost use Rattle.ilsyms.specs.Gathering.{with_declarations, with_use, with_line, with_lines, lowered};
 ghost use Rattle.ilsyms.specs.Told.{IsTold};
 
 use crate::binding::Binding;
@@ -74,7 +75,9 @@ impl<'a> Scope<'a> {
 
     /// The least fault but those of limits, and `None` where there is none.
     pub fn fault(&self) -> Option<NameFault>
-        ensures { MatchOption result ((place : ℕ) (cause : NameCause) → IsFaultOfNames self.now place cause → ⊥) (λ fault. TellsLeast self.now.text (IsFaultOfNames self.now) fault) }
+        ensures { MatchOption result
+            ((place : ℕ) (cause : NameCause) → IsFaultOfNames self.now place cause → ⊥)
+            (λ fault. TellsLeast self.now.text (IsFaultOfNames self.now) fault) }
     {
         self.gathered_fault()
     }

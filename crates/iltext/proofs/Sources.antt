@@ -10,11 +10,12 @@ use Rattle.iltext.specs.declared.token.Token.{Token}
 use Rattle.iltext.specs.Cutting.{Cuts}
 use Rattle.iltext.specs.Faults.{place_at}
 use Rattle.iltext.specs.Texts.{text}
-use Rattle.iltext.specs.Parsing.{most, IsText, IsReadAs, IsFault, IsParsed}
+use Rattle.iltext.specs.declared.parser.TheConstants.{MAX_BYTES}
+use Rattle.iltext.specs.Parsing.{IsText, IsReadAs, IsFault, IsParsed}
 use Rattle.iltext.proofs.Cut.{one_cut}
 use Rattle.iltext.proofs.Laws.{Lawful-text}
 
-pub is_found : (bytes : List ℕ) (ts : List Token) (r : Result Tree TextFault) → length bytes ≤ most → Cuts bytes 0 ts → IsParsed bytes ts r → IfOk r (λ tree. IsText bytes tree)
+pub is_found : (bytes : List ℕ) (ts : List Token) (r : Result Tree TextFault) → length bytes ≤ MAX_BYTES → Cuts bytes 0 ts → IsParsed bytes ts r → IfOk r (λ tree. IsText bytes tree)
 is_found bytes ts (Ok tree) short cut p = record { short = short; same = p.0; tokens = ts; cut = cut; whole = whole_found _ _ _ _ Lawful-text ts tree.programs p.1 }
 is_found bytes ts (Err e) short cut p = tt
 
@@ -41,7 +42,7 @@ is_only bytes ts (Ok source) cut p tree t =
 is_only bytes ts (Err faults.Memory) cut p tree t = tt
 is_only bytes ts (Err (faults.At line col cause)) cut p tree t = let bad = sym p.1 ∙ reads bytes ts tree cut t in cc
 
-pub is_fault : (bytes : List ℕ) (ts : List Token) (r : Result Tree TextFault) → length bytes ≤ most → Cuts bytes 0 ts → IsParsed bytes ts r → IfErr r (λ fault. IsFault bytes fault)
+pub is_fault : (bytes : List ℕ) (ts : List Token) (r : Result Tree TextFault) → length bytes ≤ MAX_BYTES → Cuts bytes 0 ts → IsParsed bytes ts r → IfErr r (λ fault. IsFault bytes fault)
 is_fault bytes ts (Ok source) short cut p = tt
 is_fault bytes ts (Err faults.Memory) short cut p = tt
 is_fault bytes ts (Err (faults.At line col cause)) short cut p =

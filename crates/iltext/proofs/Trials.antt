@@ -6,10 +6,11 @@ use Rattle.iltext.specs.declared.token.Token.{Token}
 use Rattle.iltext.specs.Cutting.{Cuts}
 use Rattle.iltext.specs.Faults.{place_at}
 use Rattle.iltext.specs.Texts.{text}
-use Rattle.iltext.specs.Parsing.{most, IsText}
+use Rattle.iltext.specs.declared.parser.TheConstants.{MAX_BYTES}
+use Rattle.iltext.specs.Parsing.{IsText}
 use Rattle.iltext.proofs.Cut.{one_cut}
 
-pub is_text : (bytes : List ℕ) (ts : List Token) → length bytes ≤ most → Cuts bytes 0 ts → Spells text ts → (tree : Tree) × IsText bytes tree
+pub is_text : (bytes : List ℕ) (ts : List Token) → length bytes ≤ MAX_BYTES → Cuts bytes 0 ts → Spells text ts → (tree : Tree) × IsText bytes tree
 is_text bytes ts short cut s = (record { text = bytes; programs = s.0 }, record { short = short; same = refl; tokens = ts; cut = cut; whole = s.1 })
 
 pub tokens_spell : (bytes : List ℕ) (ts : List Token) → Cuts bytes 0 ts → (tree : Tree) → IsText bytes tree → Spells text ts

@@ -128,25 +128,46 @@ abbrev pub group1 : List Keyword
 group1 = words.Not ∷ words.Add ∷ words.Sub ∷ words.Mul ∷ words.Div ∷ words.Mod ∷ words.Gt ∷ words.Ge ∷ words.Eq ∷ words.Ne ∷ words.Le ∷ words.Lt ∷ []
 
 abbrev pub group2 : List Keyword
-group2 = words.Jmp ∷ words.Jmpc ∷ words.Jmpcn ∷ words.Cal ∷ words.Calc ∷ words.Calcn ∷ words.Ret ∷ words.Retc ∷ words.Retcn ∷ words.Min ∷ words.Max ∷ words.Limit ∷ []
+group2 =
+    words.Jmp ∷ words.Jmpc ∷ words.Jmpcn ∷ words.Cal ∷ words.Calc ∷ words.Calcn
+    ∷ words.Ret ∷ words.Retc ∷ words.Retcn ∷ words.Min ∷ words.Max ∷ words.Limit
+    ∷ []
 
 abbrev pub group3 : List Keyword
-group3 = words.Abs ∷ words.SintToInt ∷ words.SintToDint ∷ words.SintToUsint ∷ words.SintToUint ∷ words.SintToUdint ∷ words.IntToSint ∷ words.IntToDint ∷ words.IntToUsint ∷ words.IntToUint ∷ words.IntToUdint ∷ words.DintToSint ∷ []
+group3 =
+    words.Abs ∷ words.SintToInt ∷ words.SintToDint ∷ words.SintToUsint ∷ words.SintToUint ∷ words.SintToUdint
+    ∷ words.IntToSint ∷ words.IntToDint ∷ words.IntToUsint ∷ words.IntToUint ∷ words.IntToUdint ∷ words.DintToSint
+    ∷ []
 
 abbrev pub group4 : List Keyword
-group4 = words.DintToInt ∷ words.DintToUsint ∷ words.DintToUint ∷ words.DintToUdint ∷ words.UsintToSint ∷ words.UsintToInt ∷ words.UsintToDint ∷ words.UsintToUint ∷ words.UsintToUdint ∷ words.UintToSint ∷ words.UintToInt ∷ words.UintToDint ∷ []
+group4 =
+    words.DintToInt ∷ words.DintToUsint ∷ words.DintToUint ∷ words.DintToUdint ∷ words.UsintToSint ∷ words.UsintToInt
+    ∷ words.UsintToDint ∷ words.UsintToUint ∷ words.UsintToUdint ∷ words.UintToSint ∷ words.UintToInt ∷ words.UintToDint
+    ∷ []
 
 abbrev pub group5 : List Keyword
-group5 = words.UintToUsint ∷ words.UintToUdint ∷ words.UdintToSint ∷ words.UdintToInt ∷ words.UdintToDint ∷ words.UdintToUsint ∷ words.UdintToUint ∷ words.Bool ∷ words.Time ∷ words.Sint ∷ words.Int ∷ words.Dint ∷ []
+group5 =
+    words.UintToUsint ∷ words.UintToUdint ∷ words.UdintToSint ∷ words.UdintToInt ∷ words.UdintToDint ∷ words.UdintToUsint
+    ∷ words.UdintToUint ∷ words.Bool ∷ words.Time ∷ words.Sint ∷ words.Int ∷ words.Dint
+    ∷ []
 
 abbrev pub group6 : List Keyword
-group6 = words.Usint ∷ words.Uint ∷ words.Udint ∷ words.RTrig ∷ words.Ctu ∷ words.Ton ∷ words.GearLevel ∷ words.GearDo ∷ words.GearSet ∷ words.GearPair ∷ words.GearAsk ∷ words.GearRead ∷ []
+group6 =
+    words.Usint ∷ words.Uint ∷ words.Udint ∷ words.RTrig ∷ words.Ctu ∷ words.Ton
+    ∷ words.GearLevel ∷ words.GearDo ∷ words.GearSet ∷ words.GearPair ∷ words.GearAsk ∷ words.GearRead
+    ∷ []
 
 abbrev pub group7 : List Keyword
-group7 = words.DevDo ∷ words.DevScheme ∷ words.DevAsk ∷ words.True ∷ words.False ∷ words.Type ∷ words.EndType ∷ words.Program ∷ words.EndProgram ∷ words.Var ∷ words.EndVar ∷ words.VarExternal ∷ []
+group7 =
+    words.DevDo ∷ words.DevScheme ∷ words.DevAsk ∷ words.True ∷ words.False ∷ words.Type
+    ∷ words.EndType ∷ words.Program ∷ words.EndProgram ∷ words.Var ∷ words.EndVar ∷ words.VarExternal
+    ∷ []
 
 abbrev pub group8 : List Keyword
-group8 = words.VarGlobal ∷ words.Configuration ∷ words.EndConfiguration ∷ words.Resource ∷ words.EndResource ∷ words.On ∷ words.At ∷ words.Task ∷ words.Single ∷ words.Interval ∷ words.Priority ∷ words.With ∷ []
+group8 =
+    words.VarGlobal ∷ words.Configuration ∷ words.EndConfiguration ∷ words.Resource ∷ words.EndResource ∷ words.On
+    ∷ words.At ∷ words.Task ∷ words.Single ∷ words.Interval ∷ words.Priority ∷ words.With
+    ∷ []
 
 -- the first of the words that the text is
 abbrev pub find : List ℕ → List Keyword → Option Keyword

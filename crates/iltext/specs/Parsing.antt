@@ -2,6 +2,7 @@
 use Rattle.std.specs.Prelude.{◌≡◌, ℕ, ◌≤◌, ◌<◌, List, ◌⊎◌, length, Result, Ok, Err}
 use Rattle.ilgrammar.specs.Stops.{FaultAt, whole_read}
 use Rattle.ilsource.specs.Trees.{Tree, Written}
+use Rattle.iltext.specs.declared.parser.TheConstants.{MAX_BYTES}
 use Rattle.iltext.specs.declared.fault.TextFault.{TextFault}
 use Rattle.iltext.specs.declared.fault.TextFault.TheVariants as faults
 use Rattle.iltext.specs.declared.fault.TextCause.TheVariants.{TooLong}
@@ -10,13 +11,9 @@ use Rattle.iltext.specs.Cutting.{Cuts}
 use Rattle.iltext.specs.Faults.{Tells}
 use Rattle.iltext.specs.Texts.{text}
 
--- the most bytes of a text
-abbrev pub most : ℕ
-most = 1048576
-
 -- the bytes spell the source program: their tokens are those of its programs
 pub record IsText (bytes : List ℕ) (tree : Tree) : Type 0 where
-  pub short : length bytes ≤ most
+  pub short : length bytes ≤ MAX_BYTES
   pub same : tree.text ≡ bytes
   pub tokens : List Token
   pub cut : Cuts bytes 0 tokens
@@ -30,7 +27,7 @@ IsReadAs tree (Err (faults.At line col cause)) = ⊥
 
 -- the fault is told of the first token such that the tokens up to and including it are no front of a text
 pub record IsFirstFault (bytes : List ℕ) (fault : TextFault) : Type 0 where
-  pub short : length bytes ≤ most
+  pub short : length bytes ≤ MAX_BYTES
   pub tokens : List Token
   pub cut : Cuts bytes 0 tokens
   pub rest : List Token
@@ -39,7 +36,7 @@ pub record IsFirstFault (bytes : List ℕ) (fault : TextFault) : Type 0 where
 
 -- a text that is too long is refused at its first byte
 abbrev pub IsTooLong : List ℕ → TextFault → Type 0
-IsTooLong bytes fault = (most < length bytes) × (fault ≡ faults.At 1 1 TooLong)
+IsTooLong bytes fault = (MAX_BYTES < length bytes) × (fault ≡ faults.At 1 1 TooLong)
 
 abbrev pub IsFault : List ℕ → TextFault → Type 0
 IsFault bytes faults.Memory = Unit {0}

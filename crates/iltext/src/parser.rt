@@ -12,8 +12,8 @@ use ilgrammar::ReadError;
 use ilsource::{Program, Source};
 use std::alloc::Global;
 
-/// The most bytes of a text.
-const MOST_BYTES: usize = 1_048_576;
+/// The greatest number of bytes of a text.
+pub const MAX_BYTES: usize = 1_048_576;
 
 /// The source program that `text` spells, or its first fault: the place is that of the first token (or byte that begins none)
 /// such that the tokens up to and including it are no front of a text, and the cause is what stands there. The end of a text
@@ -28,7 +28,7 @@ pub fn parse(alloc: Global, text: &[u8]) -> Result<Source, TextFault>
     // A text has at most one source program.
     ensures one { (a b : Tree) → IsText text.now a → IsText text.now b → a ≡ b }
 {
-    if text.len() > MOST_BYTES {
+    if text.len() > MAX_BYTES {
         return Err(TextFault::At {
             line: 1,
             col: 1,

@@ -70,8 +70,10 @@ pub record IsPart (unit : Unit) (u : List ℕ) (n : ℕ) : Type 0 where
 -- parts in falling order of their units, the last of which is worth `least` milliseconds; an underscore may stand between two
 pub data AreParts : ℕ → List ℕ → ℕ → Type 0 where
   first : (unit : Unit) (u : List ℕ) (n : ℕ) → IsPart unit u n → AreParts (milliseconds unit) u n
-  then : (least : ℕ) (v : List ℕ) (m : ℕ) (unit : Unit) (u : List ℕ) (n : ℕ) → AreParts least v m → milliseconds unit < least → IsPart unit u n → AreParts (milliseconds unit) (v ++ u) (m + n)
-  apart : (least : ℕ) (v : List ℕ) (m : ℕ) (unit : Unit) (u : List ℕ) (n : ℕ) → AreParts least v m → milliseconds unit < least → IsPart unit u n → AreParts (milliseconds unit) (v ++ 95 ∷ u) (m + n)
+  then : (least : ℕ) (v : List ℕ) (m : ℕ) (unit : Unit) (u : List ℕ) (n : ℕ)
+      → AreParts least v m → milliseconds unit < least → IsPart unit u n → AreParts (milliseconds unit) (v ++ u) (m + n)
+  apart : (least : ℕ) (v : List ℕ) (m : ℕ) (unit : Unit) (u : List ℕ) (n : ℕ)
+      → AreParts least v m → milliseconds unit < least → IsPart unit u n → AreParts (milliseconds unit) (v ++ 95 ∷ u) (m + n)
 
 -- `T#` or `TIME#` and parts (profile: neither a sign nor a fraction)
 pub record IsTime (u : List ℕ) (n : ℕ) : Type 0 where

@@ -31,7 +31,8 @@ pub record IsConsistentBelow (code : Listing) (certificate : Certificate) (end :
   pub long : length certificate ≡ length code.instructions
   pub first : 0 < length code.instructions → Leads certificate 0 opening
   pub starts : (place : ℕ) (entry : Entry) → IsTrue (is_start code place) → slice_get certificate place ≡ Some (Some entry) → entry.result ≡ None
-  pub each : (place : ℕ) (entry : Entry) (word : Instruction) → place < end → slice_get code.instructions place ≡ Some word → slice_get certificate place ≡ Some (Some entry) → IsFine code certificate place entry word
+  pub each : (place : ℕ) (entry : Entry) (word : Instruction) → place < end → slice_get code.instructions place ≡ Some word
+      → slice_get certificate place ≡ Some (Some entry) → IsFine code certificate place entry word
 
 -- some certificate is consistent at all words
 pub record IsCertified (code : Listing) : Type 0 where

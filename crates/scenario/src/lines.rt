@@ -2,7 +2,8 @@
 
 ghost use Rattle.std.specs.Prelude.{◌≡◌, Some, None, MatchOption};
 ghost use Rattle.wordlines.specs.WordLines.{words, IsTaken};
-ghost use Rattle.scenario.specs.Saying.{said, said_after, gear_of, lamp_failure_of, memory_of, device_of, instance_of, reply_of, hear_fault_of, tick_of, event_of, upset_of, upset_in, frame_in, at_end};
+ghost use Rattle.scenario.specs.Saying.{said, said_after, gear_of, lamp_failure_of, memory_of, device_of, instance_of, reply_of};
+ghost use Rattle.scenario.specs.Saying.{hear_fault_of, tick_of, event_of, upset_of, upset_in, frame_in, at_end};
 
 use crate::entries::{Entry, Upset};
 use daliframe::{Frame24, InstanceNumber, ShortAddress};

@@ -5,7 +5,8 @@ use Rattle.daliframe.specs.declared.forward.Frame.TheVariants.{Forward16, Forwar
 use Rattle.daliframe.specs.declared.forward24.Fields24.{Fields24}
 use Rattle.daliframe.specs.declared.forward24.Fields24.TheVariants as said
 use Rattle.simbus.specs.declared.instances.DeviceCommand.{DeviceCommand}
-use Rattle.simbus.specs.declared.instances.DeviceCommand.TheVariants.{Enable, Disable, SetEventScheme, QueryInstanceType, QueryEventScheme, QueryInputValue, Nothing}
+use Rattle.simbus.specs.declared.instances.DeviceCommand.TheVariants.{Enable, Disable, SetEventScheme, QueryInstanceType}
+use Rattle.simbus.specs.declared.instances.DeviceCommand.TheVariants.{QueryEventScheme, QueryInputValue, Nothing}
 use Rattle.simbus.specs.declared.instances.Instance.{Instance}
 use Rattle.simbus.specs.declared.instances.InstanceVariables.{InstanceVariables}
 use Rattle.simbus.specs.Said.{device_fields_of}

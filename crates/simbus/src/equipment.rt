@@ -7,7 +7,8 @@ ghost use Rattle.simbus.specs.Histories.{same_frame, Setup, answer_of, is_reache
 ghost use Rattle.simbus.specs.Answers.{reply_of};
 ghost use Rattle.simbus.specs.Instances.{dtr0_after_fields};
 ghost use Rattle.std.specs.Prelude.{[], ◌∷◌, ◌==◌, if◌then◌else◌, option_map, find};
-ghost use Rattle.simbus.specs.Kept.{live_gear, live_instance, IsAfterGearFields, IsAfterDeviceFields, IsKept, is_begun, joined, gear_after_fields, live_instance_after_fields, live_answer, live_instance_answer};
+ghost use Rattle.simbus.specs.Kept.{live_gear, live_instance, IsAfterGearFields, IsAfterDeviceFields, IsKept, is_begun};
+ghost use Rattle.simbus.specs.Kept.{joined, gear_after_fields, live_instance_after_fields, live_answer, live_instance_answer};
 
 use crate::{Gear, GearVariables, Instance, InstanceVariables, MemoryByte};
 use daliframe::{Fields16, Fields24, Frame, ShortAddress};
@@ -219,7 +220,8 @@ impl Equipment {
 
     /// A frame was sent, and this became of it.
     pub(crate) fn see(&mut self, frame: &Frame, mark: Mark)
-        ensures { (setup : Setup) (earlier : List Sent) (s : Sent) → s.frame ≡ frame.now → s.mark ≡ mark → IsKept setup earlier self.old → IsKept setup (s ∷ earlier) self.new }
+        ensures { (setup : Setup) (earlier : List Sent) (s : Sent) → s.frame ≡ frame.now → s.mark ≡ mark
+            → IsKept setup earlier self.old → IsKept setup (s ∷ earlier) self.new }
     {
         if is_reached(mark) {
             self.take(frame);
@@ -237,7 +239,8 @@ impl Equipment {
 
     /// A frame reached the bus.
     fn take(&mut self, frame: &Frame)
-        ensures { (setup : Setup) (earlier : List Sent) (s : Sent) → IsReachedBy frame.now s → IsKept setup earlier self.old → IsKept setup (s ∷ earlier) self.new }
+        ensures { (setup : Setup) (earlier : List Sent) (s : Sent) → IsReachedBy frame.now s
+            → IsKept setup earlier self.old → IsKept setup (s ∷ earlier) self.new }
     {
         let is_pair = is_begun(&self.begun, frame);
         self.begun = begun_after(is_pair, frame);

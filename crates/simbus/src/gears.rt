@@ -1,6 +1,7 @@
 //! Simulated control gear.
 ghost use Rattle.std.specs.Prelude.{◌≡◌};
-ghost use Rattle.simbus.specs.Gears.{new_variables, at_level, to_level, after_action, with_scene, with_member, after_setting, is_addressed, after_command, after_fields};
+ghost use Rattle.simbus.specs.Gears.{new_variables, at_level, to_level, after_action, with_scene};
+ghost use Rattle.simbus.specs.Gears.{with_member, after_setting, is_addressed, after_command, after_fields};
 
 use crate::commands::{Action, Command, Setting, Sixteenth};
 use daliframe::{Address, Fields16, ShortAddress};

@@ -7,8 +7,8 @@ use scenario::{Scenario, Upset};
 use std::test::Fail;
 use transact::{Outcome, Reply, Transaction};
 
-const ALL_KINDS: &str =
-    "gear 0 5\ngear 0 6\ngear 1 7\nlampfailure 0 6\nmemory 0 5 2 3 4\ndevice 0 5\ninstance 0 5 2 1 3 9\nreply 0 2 lost\nreply 1 1 fault\ntick 1000\nevent 0 0a8809\nevent 1 0A8809\nhearfault 0\n";
+const ALL_KINDS: &str = "gear 0 5\ngear 0 6\ngear 1 7\nlampfailure 0 6\nmemory 0 5 2 3 4\n\
+    device 0 5\ninstance 0 5 2 1 3 9\nreply 0 2 lost\nreply 1 1 fault\ntick 1000\nevent 0 0a8809\nevent 1 0A8809\nhearfault 0\n";
 
 #[test]
 fn setup_of_one_bus(rt: HostRuntime) -> Result<(), Fail> {
@@ -28,7 +28,8 @@ fn setup_of_one_bus(rt: HostRuntime) -> Result<(), Fail> {
 }
 
 const WORKED: &str =
-    "# a lamp, and a push button beside it\ngear 0 5\ndevice 0 3\ninstance 0 3 2 1 2 0\n# the third frame is lost once\nreply 0 3 lost\ntick 1000\nevent 0 068809\n";
+    "# a lamp, and a push button beside it\ngear 0 5\ndevice 0 3\ninstance 0 3 2 1 2 0\n\
+    # the third frame is lost once\nreply 0 3 lost\ntick 1000\nevent 0 068809\n";
 
 #[test]
 fn worked_example(rt: HostRuntime) -> Result<(), Fail> {

@@ -77,7 +77,8 @@ fn read_attempts(
     sent: &mut ArrayVec<Sent, 9>,
 ) -> Option<Mark>
     requires { array_vec_len sent.old + 3 * retries + 3 ≤ 9 }
-    ensures { MatchOption result (ReadsNone transaction.now retries marks.now) (λ last. IsRead transaction.now retries marks.now sent.old.items sent.new.items last) }
+    ensures { MatchOption result (ReadsNone transaction.now retries marks.now)
+        (λ last. IsRead transaction.now retries marks.now sent.old.items sent.new.items last) }
 {
     let frames = transaction.frames();
     let end = attempt_end(frames.len(), marks)?;

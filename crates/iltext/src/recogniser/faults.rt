@@ -11,11 +11,9 @@ use super::Recogniser;
 use super::rules::Text;
 use crate::cutting::tokens;
 use crate::fault::{TextCause, TextFault, fault_at};
+use crate::parser::MAX_BYTES;
 use crate::token::Token;
 use std::alloc::{AllocError, Global};
-
-/// The most bytes of a text.
-const MOST_BYTES: usize = 1_048_576;
 
 /// The number of tokens before the first that goes on as no text, or all where more are wanted; `None` where they spell
 /// source programs.
@@ -41,7 +39,7 @@ pub fn fault_by_trial(alloc: Global, text: &[u8]) -> Result<Option<TextFault>, A
     ensures whole { IfOk result (λ found. IsNone found ↔ ((tree : Tree) × IsText text.now tree)) }
     ensures fault { IfOk result (λ found. IfSome found (λ fault. IsTooLong text.now fault ⊎ IsFirstFault text.now fault)) }
 {
-    if text.len() > MOST_BYTES {
+    if text.len() > MAX_BYTES {
         return Ok(Some(TextFault::At {
             line: 1,
             col: 1,

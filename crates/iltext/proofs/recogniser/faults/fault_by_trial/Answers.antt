@@ -3,13 +3,13 @@ use Rattle.std.proofs.lemmas.Bool.{false≢true}
 use Rattle.std.proofs.lemmas.List.Elements.{All-drop}
 use Rattle.iltext.specs.declared.token.Token.{Token}
 use Rattle.iltext.specs.Cutting.{Cuts}
-use Rattle.iltext.specs.Parsing.{most}
+use Rattle.iltext.specs.declared.parser.TheConstants.{MAX_BYTES}
 use Rattle.iltext.proofs.Trials.{is_text, tokens_spell, place_within}
 use Rattle.iltext.proofs.recogniser.faults.fault_by_trial.Goals as goal
 
 pub returns-in-None-clause-whole : goal.returns-in-None-clause-whole
 returns-in-None-clause-whole c =
-    let short : length c.args.text.now ≤ most = omega arith in
+    let short : length c.args.text.now ≤ MAX_BYTES = omega arith in
     let cut : Cuts c.args.text.now 0 c.deref.result.now = rw c.deref.ensures.value c.in_ok-tokens.ensures.cut in
     (λ e. is_text c.args.text.now c.deref.result.now short cut (c.in-None.ensures.whole.0 refl), λ t. refl)
 
