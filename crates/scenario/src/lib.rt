@@ -10,7 +10,7 @@ mod lines;
 mod scenario;
 
 pub use entries::{Entry, Upset};
-pub use scenario::{MAX_BYTES, Scenario, ScenarioCause, ScenarioFault};
+pub use scenario::{MAX_BYTES, Scenario, ScenarioCause, ScenarioFault, parse};
 
 #[cfg(test)]
 mod tests;

@@ -1,9 +1,11 @@
 //! Scenarios, and the faults of their lines.
 
-ghost use Rattle.std.specs.Prelude.{◌≡◌, ◌≤◌, length, MatchOption};
+ghost use Rattle.std.specs.Prelude.{◌≡◌, ◌≤◌, ◌↔◌, ℕ, List, length, MatchOption};
+ghost use Rattle.std.specs.Str.Lines.{lines};
 ghost use Rattle.wordlines.specs.WordLines.{IsSkipped};
+ghost use Rattle.scenario.specs.declared.entries.Entry.{Entry};
 ghost use Rattle.scenario.specs.Following.{clock};
-ghost use Rattle.scenario.specs.Scenarios.{Adds, AddsNothing, IsJudged};
+ghost use Rattle.scenario.specs.Scenarios.{Adds, AddsNothing, AddsSome, GivesIfRoom, IsBadScenario, IsJudged, IsScenario, IsTooLong};
 
 use crate::entries::Entry;
 use crate::follow::may_follow;
@@ -113,11 +115,8 @@ impl<T: Drop> From<AllocFailed<T>> for ScenarioFault {
 }
 
 impl Scenario {
-    ghost use Rattle.std.specs.Prelude.{◌≡◌, ◌↔◌, ℕ, List, []};
-    ghost use Rattle.scenario.specs.declared.entries.Entry.{Entry};
+    ghost use Rattle.std.specs.Prelude.{◌≡◌, []};
     ghost use Rattle.scenario.specs.Following.{FollowOneAnother};
-    ghost use Rattle.scenario.specs.Scenarios.{IsScenario, IsBadScenario, IsTooLong, AddsSome, GivesIfRoom};
-    ghost use Rattle.std.specs.Str.Lines.{lines};
 
     /// The entries in order.
     pub fn lines(&self) -> &[Entry]
@@ -126,30 +125,30 @@ impl Scenario {
     {
         self.entries.as_slice()
     }
+}
 
-    /// The scenario that a file spells: lines of words between single spaces. Empty lines and lines that begin with `#` are
-    /// skipped; a line ends with LF or CR LF, and the last needs no end.
-    ///
-    /// # Errors
-    ///
-    /// The first bad line, or line 1 where there are more than [`MAX_BYTES`] bytes. Memory is refused only where an entry is
-    /// to be kept, each of which is that of a line.
-    pub fn parse(alloc: Global, bytes: &[u8]) -> Result<Scenario, ScenarioFault>
-        ensures scenario { (entries : List Entry) → result ≡ Ok entries → IsScenario bytes.now entries }
-        ensures is_told { (entries : List Entry) → IsScenario bytes.now entries → GivesIfRoom result (Ok entries) }
-        ensures bad_line { (line : ℕ) → result ≡ Err (ScenarioFault.At line ScenarioCause.BadLine) → IsBadScenario bytes.now line }
-        ensures bad_is_told { (line : ℕ) → IsBadScenario bytes.now line → GivesIfRoom result (Err (ScenarioFault.At line ScenarioCause.BadLine)) }
-        ensures memory { result ≡ Err ScenarioFault.Memory → AddsSome (lines bytes.now) }
-        ensures too_long { (line : ℕ) → (result ≡ Err (ScenarioFault.At line ScenarioCause.TooLong)) ↔ IsTooLong bytes.now line }
-    {
-        if bytes.len() > MAX_BYTES {
-            return Err(ScenarioFault::At {
-                line: 1,
-                cause: ScenarioCause::TooLong,
-            });
-        }
-        told_by(alloc, bytes)
+/// The scenario that a file spells: lines of words between single spaces. Empty lines and lines that begin with `#` are
+/// skipped; a line ends with LF or CR LF, and the last needs no end.
+///
+/// # Errors
+///
+/// The first bad line, or line 1 where there are more than [`MAX_BYTES`] bytes. Memory is refused only where an entry is
+/// to be kept, each of which is that of a line.
+pub fn parse(alloc: Global, bytes: &[u8]) -> Result<Scenario, ScenarioFault>
+    ensures scenario { (entries : List Entry) → result ≡ Ok entries → IsScenario bytes.now entries }
+    ensures is_told { (entries : List Entry) → IsScenario bytes.now entries → GivesIfRoom result (Ok entries) }
+    ensures bad_line { (line : ℕ) → result ≡ Err (ScenarioFault.At line ScenarioCause.BadLine) → IsBadScenario bytes.now line }
+    ensures bad_is_told { (line : ℕ) → IsBadScenario bytes.now line → GivesIfRoom result (Err (ScenarioFault.At line ScenarioCause.BadLine)) }
+    ensures memory { result ≡ Err ScenarioFault.Memory → AddsSome (lines bytes.now) }
+    ensures too_long { (line : ℕ) → (result ≡ Err (ScenarioFault.At line ScenarioCause.TooLong)) ↔ IsTooLong bytes.now line }
+{
+    if bytes.len() > MAX_BYTES {
+        return Err(ScenarioFault::At {
+            line: 1,
+            cause: ScenarioCause::TooLong,
+        });
     }
+    told_by(alloc, bytes)
 }
 
 /// The scenario that lines tell, or the first bad line.

@@ -1,6 +1,6 @@
 //! Scenarios as they are written, with what they say, and the line of each fault.
 
-use crate::{Entry, Scenario, ScenarioCause, ScenarioFault, Upset};
+use crate::{Entry, ScenarioCause, ScenarioFault, Upset, parse};
 use daliframe::{Frame24, InstanceNumber, ShortAddress};
 use std::test::Fail;
 
@@ -87,14 +87,14 @@ fn last_lines() -> Option<[Entry; 6]> {
 
 #[test]
 fn each_kind_of_line_is_read(rt: HostRuntime) -> Result<(), Fail> {
-    let scenario = Scenario::parse(rt.alloc(), TEXT)?;
+    let scenario = parse(rt.alloc(), TEXT)?;
     let mut wanted = Vec::new(rt.alloc());
     wanted.extend_from_slice(&gear_lines().ok_or("addresses")?)?;
     wanted.extend_from_slice(&device_lines().ok_or("addresses")?)?;
     wanted.extend_from_slice(&reply_lines())?;
     wanted.extend_from_slice(&last_lines().ok_or("addresses")?)?;
     assert_eq!(rt; scenario.lines(), wanted.as_slice());
-    assert!(rt; Scenario::parse(rt.alloc(), b"")?.lines().is_empty());
+    assert!(rt; parse(rt.alloc(), b"")?.lines().is_empty());
     Ok(())
 }
 
@@ -133,7 +133,7 @@ fn the_first_bad_line_is_told(rt: HostRuntime) -> Result<(), Fail> {
         (b"lamp 0 1\n", 1),
     ];
     for (text, wanted) in bad {
-        match Scenario::parse(rt.alloc(), text) {
+        match parse(rt.alloc(), text) {
             Err(ScenarioFault::At { line, cause }) => {
                 assert_eq!(rt; line, wanted);
                 assert_eq!(rt; cause, ScenarioCause::BadLine);
@@ -147,7 +147,7 @@ fn the_first_bad_line_is_told(rt: HostRuntime) -> Result<(), Fail> {
 #[test]
 fn too_many_bytes_are_told_at_the_first_line(rt: HostRuntime) -> Result<(), Fail> {
     let text = vec![in rt.alloc(); b'\n'; crate::MAX_BYTES + 1]?;
-    match Scenario::parse(rt.alloc(), text.as_slice()) {
+    match parse(rt.alloc(), text.as_slice()) {
         Err(fault) => {
             assert_eq!(rt; fault.number(), 3);
             assert_eq!(rt;

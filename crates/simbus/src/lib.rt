@@ -22,5 +22,6 @@ mod tests;
 pub use buses::SimBus;
 pub use gears::{Gear, GearVariables, MemoryByte};
 pub use instances::{Instance, InstanceVariables};
+pub use scenario::{Entry, Scenario, ScenarioCause, ScenarioFault, Upset, parse};
 pub use scripts::{Arrival, ScriptedReply};
 pub use setups::BusSetup;

@@ -1,9 +1,8 @@
 //! What a scenario says of its buses, and the worked example of its language.
-use crate::{BusSetup, SimBus};
+use crate::{BusSetup, SimBus, Upset, parse};
 use buslink::{Bus, perform};
 use daliframe::{Address, Frame, Frame16, Frame24};
 use gearcmd::{GearSetCommand, Request, TaskKind};
-use scenario::{Scenario, Upset};
 use std::test::Fail;
 use transact::{Outcome, Reply, Transaction};
 
@@ -12,7 +11,7 @@ const ALL_KINDS: &str = "gear 0 5\ngear 0 6\ngear 1 7\nlampfailure 0 6\nmemory 0
 
 #[test]
 fn setup_of_one_bus(rt: HostRuntime) -> Result<(), Fail> {
-    let Ok(scenario) = Scenario::parse(rt.alloc(), ALL_KINDS.as_bytes()) else {
+    let Ok(scenario) = parse(rt.alloc(), ALL_KINDS.as_bytes()) else {
         return Err(Fail::from("a scenario"));
     };
     let setup = BusSetup::of(rt.alloc(), &scenario, 0)?;
@@ -33,7 +32,7 @@ const WORKED: &str =
 
 #[test]
 fn worked_example(rt: HostRuntime) -> Result<(), Fail> {
-    let Ok(scenario) = Scenario::parse(rt.alloc(), WORKED.as_bytes()) else {
+    let Ok(scenario) = parse(rt.alloc(), WORKED.as_bytes()) else {
         return Err(Fail::from("a scenario"));
     };
     let setup = BusSetup::of(rt.alloc(), &scenario, 0)?;

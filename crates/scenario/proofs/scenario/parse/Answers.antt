@@ -1,5 +1,5 @@
 use Rattle.scenario.proofs.Judgement.{is_told_judged, bad_is_told_judged}
-use Rattle.scenario.proofs.scenario.Scenario.parse.Goals as goal
+use Rattle.scenario.proofs.scenario.parse.Goals as goal
 
 pub returns-clause-is_told : goal.returns-clause-is_told
 returns-clause-is_told c = is_told_judged c.args.bytes.now c.told_by.result c.told_by.ensures
