@@ -7,5 +7,6 @@ pub mod Printed
 pub mod Reports
 pub mod Requested
 pub mod Requests
+pub mod Served
 pub mod Stepping
 pub mod Stops

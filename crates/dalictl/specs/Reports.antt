@@ -1,12 +1,15 @@
 -- The lines that an answer is printed as, one after another (profile).
-use Rattle.std.specs.Prelude.{ℕ, zero, suc, List, [], ◌∷◌, ◌++◌, length, Option, Some, slice_get}
+use Rattle.std.specs.Prelude.{◌≡◌, ℕ, zero, suc, List, [], ◌∷◌, ◌++◌, length, Option, Some, slice_get}
+use Rattle.std.specs.Io.KnownBytes.{Appends}
 use Rattle.ilsource.specs.Names.{text_of}
 use Rattle.ilsyms.specs.Plans.{slot_at}
 use Rattle.dalictl.specs.declared.answers.Answer.{Answer}
 use Rattle.dalictl.specs.declared.answers.Answer.TheVariants as answers
+use Rattle.dalictl.specs.declared.options.Request.{Request}
 use Rattle.dalictl.specs.declared.setup.Setup.{Setup}
 use Rattle.dalictl.specs.declared.setup.Stepped.{Stepped}
 use Rattle.dalictl.specs.Printed.{printed_task, printed_scan, printed_variable}
+use Rattle.dalictl.specs.Requested.{IsAnswer}
 use Rattle.dalictl.specs.Stepping.{accepted_of}
 use Rattle.dalictl.specs.Stops.{printed_stop, status_of}
 
@@ -49,3 +52,8 @@ printed_answer (answers.Stopped stop) = printed_stop stop ++ 10 ∷ []
 abbrev pub status_of_answer : Answer → ℕ
 status_of_answer (answers.Stopped stop) = status_of stop
 status_of_answer answer = 0
+
+-- what a writer held, and what it holds after: the lines of an answer to the request are new, and the exit status is that of the answer
+abbrev pub IsReport : Request → Option (List ℕ) → List ℕ → Option (List ℕ) → Option (List ℕ) → ℕ → Type 0
+IsReport request binding bytes before after status =
+    (answer : Answer) × IsAnswer request binding bytes answer × Appends before after (printed_answer answer) × (status ≡ status_of_answer answer)

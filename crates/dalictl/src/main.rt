@@ -1,9 +1,10 @@
 //! The program `dalictl`: checks Instruction List texts and runs their scans.
 //!
-//! A thin shell round proved calls: `options` reads the command line with `clap` (specs/CommandLine.antt), `files` reads the files,
-//! `answers` answers what they hold (specs/Requested.antt; by the contracts of the crates below, and of `compile`, which lays out a
-//! task's code), and `report` writes the answer's lines (specs/Reports.antt). No contract can say which bytes a file or a terminal
-//! gives or takes. Nothing crosses a boundary above it.
+//! A thin shell round proved calls: `options` reads the command line with `clap` (specs/CommandLine.antt), and `serve` reads the
+//! files that it names from a disk and prints the answer on a writer (specs/Served.antt). `answers` answers what the files hold
+//! (specs/Requested.antt; by the contracts of the crates below, and of `compile`, which lays out a task's code), and `report` writes
+//! the answer's lines (specs/Reports.antt). No contract can say which bytes the machine's disk gives, or what becomes of those that
+//! its terminal takes. Nothing crosses a boundary above it.
 #![tactic(auto)]
 
 mod answers;
@@ -15,13 +16,16 @@ mod options;
 mod plain;
 mod report;
 mod scans;
+mod serve;
+#[cfg(test)]
+mod serve_tests;
 mod setup;
 mod stop;
 
-use crate::files::Unread;
+use crate::files::{HostDisk, Unread};
 use crate::options::Request;
+use crate::serve::Unserved;
 use clap::error::ErrorKind;
-use std::fs::File;
 use std::process::ExitCode;
 use std::rt::{Env, Files};
 use std::{env, io};
@@ -56,7 +60,7 @@ fn run<R: Files + Env + Print + Eprint + AllocGlobal>(rt: &R) -> io::Result<u8> 
         }
     }
     match options::read(rt.alloc(), words.as_slice()) {
-        Ok(request) => serve(rt, request),
+        Ok(request) => serve_request(rt, request),
         Err(error) => {
             if matches!(error.kind(), ErrorKind::OutOfMemory) {
                 return no_memory(rt);
@@ -72,33 +76,20 @@ fn no_memory<R: Print>(rt: &R) -> io::Result<u8> {
     Ok(FAILED)
 }
 
-/// Reads the files, the binding before the text, and answers.
-fn serve<R: Files + Print + Eprint + AllocGlobal>(rt: &R, request: Request) -> io::Result<u8> {
-    let files = request.files();
-    let binding = match files.binding {
-        None => None,
-        Some(path) => match read(rt, path) {
-            Ok(bytes) => Some(bytes),
-            Err(unread) => return not_read(rt, path, unread),
-        },
-    };
-    let text = match read(rt, files.text) {
-        Ok(bytes) => bytes,
-        Err(unread) => return not_read(rt, files.text, unread),
-    };
-    report::answer(rt, request, binding.as_deref(), &text)
-}
-
-/// The first bytes of the file, at most one more than the greatest number.
-fn read<R: Files + AllocGlobal>(rt: &R, path: &str) -> Result<Vec<u8>, Unread> {
-    match File::open(rt, path) {
-        Ok(file) => files::bytes_of(rt.alloc(), file),
-        Err(error) => Err(files::reason(error.kind())),
+/// Serves the request from the machine's files; the exit status.
+fn serve_request<R: Files + Print + Eprint + AllocGlobal>(
+    rt: &R,
+    request: Request,
+) -> io::Result<u8> {
+    match serve::serve(rt.alloc(), &HostDisk { rt }, io::writer(rt), request) {
+        Ok((_, status)) => Ok(status),
+        Err(Unserved::NotRead { path, why }) => not_read(rt, path, why),
+        Err(Unserved::NotPrinted(error)) => Err(error),
     }
 }
 
-fn not_read<R: Print + Eprint>(rt: &R, path: &str, unread: Unread) -> io::Result<u8> {
-    match unread {
+fn not_read<R: Print + Eprint>(rt: &R, path: &str, why: Unread) -> io::Result<u8> {
+    match why {
         Unread::Memory => no_memory(rt),
         Unread::Failed => {
             eprintln!(rt; "cannot read {path}")?;

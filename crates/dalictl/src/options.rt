@@ -206,11 +206,12 @@ fn every<'a>(alloc: Global) -> Arg<'a>
 }
 
 #[cfg(test)]
-mod tests {
+pub(crate) mod tests {
     use super::*;
     use std::test::Fail;
 
-    fn words(alloc: Global, line: &str) -> Result<Vec<String>, AllocError> {
+    /// The words of a line.
+    pub(crate) fn words(alloc: Global, line: &str) -> Result<Vec<String>, AllocError> {
         let mut words = Vec::new(alloc);
         for word in line.split(' ') {
             words.push(String::from_str(alloc, word)?)?;

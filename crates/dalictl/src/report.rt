@@ -3,31 +3,38 @@
 ghost use Rattle.std.specs.Prelude.{◌≡◌, length, IfOk, OnOk};
 ghost use Rattle.std.specs.Option.{option_copied};
 ghost use Rattle.std.specs.Io.KnownBytes.{Appends};
-ghost use Rattle.dalictl.specs.Reports.{first_lines, printed_answer, scan_line, status_of_answer, task_line, variable_line};
-ghost use Rattle.dalictl.specs.declared.answers.Answer.{Answer};
-ghost use Rattle.dalictl.specs.Requested.{IsAnswer};
+ghost use Rattle.dalictl.specs.Reports.{IsReport, first_lines, printed_answer, scan_line, status_of_answer, task_line, variable_line};
 
 use crate::answers::{Answer, respond};
 use crate::options::Request;
 use crate::setup::{Setup, Stepped};
 use crate::stop::Stop;
+use std::alloc::Global;
 use std::io;
 use std::io::{BufWriter, Write};
 
-/// Answers the request and prints the answer; the exit status.
-pub fn answer<R: Print + AllocGlobal>(
-    rt: &R,
+/// Answers the request and prints the answer; the writer, which then has every line, and the exit status.
+pub fn answer<W: Write + Drop>(
+    alloc: Global,
+    to: W,
     request: Request,
     binding: Option<&[u8]>,
     text: &[u8],
-) -> io::Result<u8>
-    ensures { IfOk result (λ status. (answer : Answer) × IsAnswer request.entry (option_copied binding.entry) text.now answer × (status ≡ status_of_answer answer)) }
+) -> io::Result<(W, u8)>
+    ensures { IfOk result (λ done. IsReport request.entry (option_copied binding.entry) text.now (W.contents to) (W.contents done.0) done.1) }
 {
-    let answer = respond(rt.alloc(), request, binding, text);
-    let mut out = BufWriter::new(rt.alloc(), io::writer(rt))?;
-    let status = report(&mut out, &answer)?;
-    out.flush()?;
-    Ok(status)
+    let answer = respond(alloc, request, binding, text);
+    print(alloc, to, &answer)
+}
+
+/// Prints the answer through a buffer, of which nothing is left behind; the writer and the exit status.
+fn print<W: Write + Drop>(alloc: Global, to: W, answer: &Answer) -> io::Result<(W, u8)>
+    ensures text { IfOk result (λ done. Appends (W.contents to) (W.contents done.0) (printed_answer answer.now)) }
+    ensures status { IfOk result (λ done. done.1 ≡ status_of_answer answer.now) }
+{
+    let mut out = BufWriter::new(alloc, to)?;
+    let status = report(&mut out, answer)?;
+    Ok((out.into_inner()?, status))
 }
 
 /// Writes the answer's lines; the exit status.
