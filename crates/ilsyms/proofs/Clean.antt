@@ -1,5 +1,5 @@
 -- What holds where no fault was found.
-use Rattle.std.proofs.Common.{◌≡◌, ℕ, zero, suc, ◌≤◌, List, [], ◌∷◌, map, length, Bool, true, false, refl, arith, subst}
+use Rattle.std.proofs.Common.{◌≡◌, ℕ, zero, suc, ◌≤◌, List, [], ◌∷◌, map, length, Bool, true, false, refl, arith}
 use Rattle.std.specs.Prelude.{Option, Some, None, All, IsSome, slice_get, is_some, if◌then◌else◌}
 use Rattle.iltypes.specs.declared.value.Value.{Value}
 use Rattle.ilsource.specs.declared.name.Name.{Name}
@@ -8,12 +8,13 @@ use Rattle.ilsource.specs.Names.{text_of}
 use Rattle.ilsource.specs.Trees.{Variables, Written, Tree}
 use Rattle.ilsyms.specs.Counting.{counting}
 use Rattle.ilsyms.specs.Declarations.{initial_value, slots_of, lines_of, name_in}
-use Rattle.ilsyms.specs.Gathering.{Gathered, gathered, number_in, with_name, with_names, with_initial, with_declaration, with_declarations, with_use, with_line, with_lines, Scoping, with_program, with_programs, scoping, scoping_of, lesser, with_excess, table_of, lowered}
+use Rattle.ilsyms.specs.Gathering.{Gathered, gathered, number_in, with_name, with_names, with_initial, with_declaration, with_declarations}
+use Rattle.ilsyms.specs.Gathering.{Scoping, with_program, with_programs, scoping, lesser, with_excess, table_of, lowered}
 use Rattle.ilsyms.specs.Planning.{IsKnownName, AreKnown}
 use Rattle.ilsyms.specs.Resolving.{least_fault}
+use Rattle.ilsyms.specs.Uses.{with_use, with_line, with_lines, with_uses_in, with_uses}
 use Rattle.ilsyms.specs.declared.found.Found.{Found}
 use Rattle.ilsyms.specs.declared.planned.TheConstants.{MAX_INSTANCES, MAX_SLOTS, MAX_WORDS}
-use Rattle.ilsyms.proofs.Scopes.{declarations_alone}
 
 pub none_lesser : (l : Option Found) (f : Found) → lesser l f ≡ None → ⊥
 none_lesser None f h = cc
@@ -22,22 +23,6 @@ none_lesser (Some g) f h = cc
 none_excess : (l : Option Found) (e : Option ℕ) → with_excess l e ≡ None → (l ≡ None) × (e ≡ None)
 none_excess l None h = (h, refl)
 none_excess l (Some at) h = absurd (none_lesser l _ h)
-
--- no fault of names, and no limit exceeded
-pub record IsClean (tree : Tree) : Type 0 where
-  pub names : (scoping tree).least ≡ None
-  pub instances : slice_get (map (λ p. p.name.from) tree.programs) MAX_INSTANCES ≡ None
-  pub slots : slice_get (map (λ s. s.variable.from) (slots_of tree.programs)) MAX_SLOTS ≡ None
-  pub words : slice_get (map (λ l. l.at) (lines_of tree.programs)) MAX_WORDS ≡ None
-  pub constants : (counting tree.programs).excess ≡ None
-
-pub clean : (tree : Tree) → least_fault tree ≡ None → IsClean tree
-clean tree h =
-    let a = none_excess _ _ h in
-    let b = none_excess _ _ a.0 in
-    let c = none_excess _ _ b.0 in
-    let d = none_excess _ _ c.0 in
-    record { names = d.0; instances = d.1; slots = c.1; words = b.1; constants = a.1 }
 
 pub none_length : {X : Type 0} (f : X → ℕ) (xs : List X) (n : ℕ) → slice_get (map f xs) n ≡ None → length xs ≤ n
 none_length f [] n h = omega arith
@@ -60,7 +45,7 @@ line_known : (lower : List ℕ) (names : List (List ℕ)) (n : Option Name) (lea
 line_known lower names None least h = (h, tt)
 line_known lower names (Some name) least h = use_known (number_in names (text_of lower name)) least _ h
 
-pub lines_known : (lower : List ℕ) (names : List (List ℕ)) (lines : List Line) (least : Option Found) → with_lines lower names least lines ≡ None →
+lines_known : (lower : List ℕ) (names : List (List ℕ)) (lines : List Line) (least : Option Found) → with_lines lower names least lines ≡ None →
     (least ≡ None) × AreKnown lower names lines
 lines_known lower names [] least h = (h, all_nil _)
 lines_known lower names (l ∷ ls) least h =
@@ -91,17 +76,38 @@ declarations_none lower [] g h = h
 declarations_none lower (d ∷ ds) g h =
     initial_none g.least (initial_value d.initial) (slice_get d.names 0) (names_none lower d.names _ (declarations_none lower ds (with_declaration lower g d) h))
 
-pub programs_known : (lower : List ℕ) (ps : List Written) (s : Scoping) → (with_programs lower s ps).least ≡ None →
-    (s.least ≡ None) × All (λ p. AreKnown lower (table_of lower p) p.lines) ps
-programs_known lower [] s h = (h, all_nil _)
-programs_known lower (p ∷ ps) s h =
-    let r = programs_known lower ps (with_program lower s p) h in
+pub programs_none : (lower : List ℕ) (ps : List Written) (s : Scoping) → (with_programs lower s ps).least ≡ None → s.least ≡ None
+programs_none lower [] s h = h
+programs_none lower (p ∷ ps) s h =
     let a : Gathered = with_name lower (gathered s.programs s.least) p.name in
-    let b : Gathered = with_declarations lower (gathered [] a.least) p.declarations in
-    let l = lines_known lower b.names p.lines b.least r.0 in
-    let e : b.names ≡ table_of lower p = declarations_alone lower p.declarations [] a.least None in
-    let P : List (List ℕ) → Type 0 = λ names. AreKnown lower names p.lines in
-    (one_none lower (gathered s.programs s.least) p.name (declarations_none lower p.declarations (gathered [] a.least) l.0), all_cons (λ q. AreKnown lower (table_of lower q) q.lines) p ps (subst P e l.1) r.1)
+    let first = programs_none lower ps (with_program lower s p) h in
+    one_none lower (gathered s.programs s.least) p.name (declarations_none lower p.declarations (gathered [] a.least) first)
 
-pub all_known : (tree : Tree) → (scoping tree).least ≡ None → All (λ p. AreKnown (lowered tree.text) (table_of (lowered tree.text) p) p.lines) tree.programs
-all_known tree h = (programs_known (lowered tree.text) tree.programs (scoping_of [] [] None) h).1
+-- each name in a program's lines is in its table
+abbrev pub UsesKnown : List ℕ → List Written → Type 0
+UsesKnown lower ps = All (λ p. AreKnown lower (table_of lower p) p.lines) ps
+
+uses_known : (lower : List ℕ) (ps : List Written) (least : Option Found) → with_uses lower least ps ≡ None → (least ≡ None) × UsesKnown lower ps
+uses_known lower [] least h = (h, all_nil _)
+uses_known lower (p ∷ ps) least h =
+    let r = uses_known lower ps (with_uses_in lower least p) h in
+    let l = lines_known lower (table_of lower p) p.lines least r.0 in
+    (l.0, all_cons (λ q. AreKnown lower (table_of lower q) q.lines) p ps l.1 r.1)
+
+-- no fault of names, and no limit exceeded
+pub record IsClean (tree : Tree) : Type 0 where
+  pub declarations : (scoping tree).least ≡ None
+  pub uses : UsesKnown (lowered tree.text) tree.programs
+  pub instances : slice_get (map (λ p. p.name.from) tree.programs) MAX_INSTANCES ≡ None
+  pub slots : slice_get (map (λ s. s.variable.from) (slots_of tree.programs)) MAX_SLOTS ≡ None
+  pub words : slice_get (map (λ l. l.at) (lines_of tree.programs)) MAX_WORDS ≡ None
+  pub constants : (counting tree.programs).excess ≡ None
+
+pub clean : (tree : Tree) → least_fault tree ≡ None → IsClean tree
+clean tree h =
+    let a = none_excess _ _ h in
+    let b = none_excess _ _ a.0 in
+    let c = none_excess _ _ b.0 in
+    let d = none_excess _ _ c.0 in
+    let e = uses_known (lowered tree.text) tree.programs ((scoping tree).least) d.0 in
+    record { declarations = e.0; uses = e.1; instances = d.1; slots = c.1; words = b.1; constants = a.1 }

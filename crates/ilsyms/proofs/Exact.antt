@@ -6,12 +6,12 @@ use Rattle.ilsource.specs.declared.name.Name.{Name}
 use Rattle.ilsource.specs.Names.{text_of, SameName}
 use Rattle.ilsource.specs.Trees.{Variables, Written, Tree}
 use Rattle.ilsyms.specs.Declarations.{name_in, variables_of}
-use Rattle.ilsyms.specs.Faults.{SomeOf, SomeLater, IsTwiceIn, IsUnknownIn, IsBadIn, IsFaultOfNames}
+use Rattle.ilsyms.specs.Faults.{SomeOf, SomeLater, IsTwiceIn, IsUnknown, IsBadIn, IsFaultOfDeclarations}
 use Rattle.ilsyms.specs.Gathering.{number_in, table_of, lowered, gathered, with_declarations, with_declaration}
 use Rattle.ilsyms.specs.declared.fault.NameCause.{NameCause}
 use Rattle.ilsyms.specs.declared.fault.NameCause.TheVariants.{Unknown, Twice, BadDeclaration, TooMany}
 use Rattle.ilsyms.specs.declared.found.Found.{Found}
-use Rattle.ilsyms.proofs.Gathered.{after, after_all, IsAgain, AreDeclared, AreFaults, or_else, names_after}
+use Rattle.ilsyms.proofs.Gathered.{after, after_all, IsAgain, AreDeclared, AreMissing, AreFaults, or_else, names_after}
 use Rattle.ilsyms.proofs.Scans.{key_is}
 
 some_of : {X : Type 0} {P Q : X → Type 0} → ((x : X) → P x → Q x) → (xs : List X) → SomeOf P xs → SomeOf Q xs
@@ -240,50 +240,51 @@ abbrev InPrograms : List ℕ → List (List ℕ) → List Written → ℕ → Na
 InPrograms text keys ps place cause =
     ((cause ≡ Twice) × (IsAgain (lowered text) keys (map (λ p. p.name) ps) place ⊎ SomeOf (λ p. IsTwiceIn text (variables_of p) place) ps))
     ⊎ ((cause ≡ BadDeclaration) × SomeOf (λ p. SomeOf (IsBadIn place) p.declarations) ps)
-    ⊎ ((cause ≡ Unknown) × SomeOf (λ p. SomeOf (IsUnknownIn text (variables_of p) place) p.lines) ps)
 
 faults_to : (text : List ℕ) (ps : List Written) (keys : List (List ℕ)) (place : ℕ) (cause : NameCause) → AreFaults (lowered text) keys ps place cause → InPrograms text keys ps place cause
 faults_to text [] keys place cause h = absurd h
 faults_to text (p ∷ ps) keys place cause (inl t) = inl (t.0, inl (inl t.1))
 faults_to text (p ∷ ps) keys place cause (inr (inl d)) =
-    or_else (λ b. inr (inl (b.0, inl b.1))) (λ t. inl (t.0, inr (inl (twice_to text place (variables_of p) t.1)))) (declared_to (lowered text) p.declarations [] place cause d)
-faults_to text (p ∷ ps) keys place cause (inr (inr (inl u))) =
-    inr (inr (u.0, inl (some_of (λ l m. missing_to text p place (name_in l.instruction) m) p.lines u.1)))
-faults_to text (p ∷ ps) keys place cause (inr (inr (inr r))) =
-    or_else (λ t. inl (t.0, or_else (λ a. inl (inr a)) (λ s. inr (inr s)) t.1)) (λ z. or_else (λ b. inr (inl (b.0, inr b.1))) (λ u. inr (inr (u.0, inr u.1))) z)
+    or_else (λ b. inr (b.0, inl b.1)) (λ t. inl (t.0, inr (inl (twice_to text place (variables_of p) t.1))))
+    (declared_to (lowered text) p.declarations [] place cause d)
+faults_to text (p ∷ ps) keys place cause (inr (inr r)) =
+    or_else (λ t. inl (t.0, or_else (λ a. inl (inr a)) (λ s. inr (inr s)) t.1)) (λ b. inr (b.0, inr b.1))
     (faults_to text ps (after (lowered text) keys p.name) place cause r)
 
 faults_twice : (text : List ℕ) (ps : List Written) (keys : List (List ℕ)) (place : ℕ) → IsAgain (lowered text) keys (map (λ p. p.name) ps) place → AreFaults (lowered text) keys ps place Twice
 faults_twice text [] keys place h = h
 faults_twice text (p ∷ ps) keys place (inl a) = inl (refl, a)
-faults_twice text (p ∷ ps) keys place (inr h) = inr (inr (inr (faults_twice text ps _ place h)))
+faults_twice text (p ∷ ps) keys place (inr h) = inr (inr (faults_twice text ps _ place h))
 
 faults_variables : (text : List ℕ) (ps : List Written) (keys : List (List ℕ)) (place : ℕ) → SomeOf (λ p. IsTwiceIn text (variables_of p) place) ps → AreFaults (lowered text) keys ps place Twice
 faults_variables text [] keys place h = h
 faults_variables text (p ∷ ps) keys place (inl t) = inr (inl (declared_from_twice (lowered text) p.declarations [] place Twice refl (twice_from text place (variables_of p) t)))
-faults_variables text (p ∷ ps) keys place (inr s) = inr (inr (inr (faults_variables text ps _ place s)))
+faults_variables text (p ∷ ps) keys place (inr s) = inr (inr (faults_variables text ps _ place s))
 
 faults_bad : (text : List ℕ) (ps : List Written) (keys : List (List ℕ)) (place : ℕ) → SomeOf (λ p. SomeOf (IsBadIn place) p.declarations) ps → AreFaults (lowered text) keys ps place BadDeclaration
 faults_bad text [] keys place h = h
 faults_bad text (p ∷ ps) keys place (inl b) = inr (inl (declared_from_bad (lowered text) p.declarations [] place BadDeclaration refl b))
-faults_bad text (p ∷ ps) keys place (inr s) = inr (inr (inr (faults_bad text ps _ place s)))
+faults_bad text (p ∷ ps) keys place (inr s) = inr (inr (faults_bad text ps _ place s))
 
-faults_unknown : (text : List ℕ) (ps : List Written) (keys : List (List ℕ)) (place : ℕ) → SomeOf (λ p. SomeOf (IsUnknownIn text (variables_of p) place) p.lines) ps →
-    AreFaults (lowered text) keys ps place Unknown
-faults_unknown text [] keys place h = h
-faults_unknown text (p ∷ ps) keys place (inl u) = inr (inr (inl (refl, some_of (λ l m. missing_from text p place (name_in l.instruction) m) p.lines u)))
-faults_unknown text (p ∷ ps) keys place (inr s) = inr (inr (inr (faults_unknown text ps _ place s)))
-
-pub of_names_to : (tree : Tree) (place : ℕ) (cause : NameCause) → AreFaults (lowered tree.text) [] tree.programs place cause → IsFaultOfNames tree place cause
-of_names_to tree place cause h =
-    let F : NameCause → Type 0 = λ c. IsFaultOfNames tree place c in
+pub of_declarations_to : (tree : Tree) (place : ℕ) (cause : NameCause) → AreFaults (lowered tree.text) [] tree.programs place cause →
+    IsFaultOfDeclarations tree place cause
+of_declarations_to tree place cause h =
+    let F : NameCause → Type 0 = λ c. IsFaultOfDeclarations tree place c in
     or_else (λ t. subst F (sym t.0) (or_else (λ a. inl (twice_to tree.text place (map (λ p. p.name) tree.programs) a)) inr t.1))
-    (λ z. or_else (λ b. subst F (sym b.0) b.1) (λ u. subst F (sym u.0) u.1) z)
+    (λ b. subst F (sym b.0) b.1)
     (faults_to tree.text tree.programs [] place cause h)
 
-pub of_names_from : (tree : Tree) (place : ℕ) (cause : NameCause) → IsFaultOfNames tree place cause → AreFaults (lowered tree.text) [] tree.programs place cause
-of_names_from tree place Unknown h = faults_unknown tree.text tree.programs [] place h
-of_names_from tree place Twice (inl a) = faults_twice tree.text tree.programs [] place (twice_from tree.text place (map (λ p. p.name) tree.programs) a)
-of_names_from tree place Twice (inr s) = faults_variables tree.text tree.programs [] place s
-of_names_from tree place TooMany h = absurd h
-of_names_from tree place BadDeclaration h = faults_bad tree.text tree.programs [] place h
+pub of_declarations_from : (tree : Tree) (place : ℕ) (cause : NameCause) → IsFaultOfDeclarations tree place cause →
+    AreFaults (lowered tree.text) [] tree.programs place cause
+of_declarations_from tree place Unknown h = absurd h
+of_declarations_from tree place Twice (inl a) = faults_twice tree.text tree.programs [] place (twice_from tree.text place (map (λ p. p.name) tree.programs) a)
+of_declarations_from tree place Twice (inr s) = faults_variables tree.text tree.programs [] place s
+of_declarations_from tree place TooMany h = absurd h
+of_declarations_from tree place BadDeclaration h = faults_bad tree.text tree.programs [] place h
+
+-- names in lines
+pub unknown_to : (tree : Tree) (place : ℕ) → AreMissing (lowered tree.text) tree.programs place → IsUnknown tree place
+unknown_to tree place h = some_of (λ p s. some_of (λ l m. missing_to tree.text p place (name_in l.instruction) m) p.lines s) tree.programs h
+
+pub unknown_from : (tree : Tree) (place : ℕ) → IsUnknown tree place → AreMissing (lowered tree.text) tree.programs place
+unknown_from tree place h = some_of (λ p s. some_of (λ l m. missing_from tree.text p place (name_in l.instruction) m) p.lines s) tree.programs h

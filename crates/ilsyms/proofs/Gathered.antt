@@ -10,11 +10,12 @@ use Rattle.ilsource.specs.Trees.{Variables, Written}
 use Rattle.ilsyms.specs.Causes.{number_of}
 use Rattle.ilsyms.specs.Declarations.{initial_value, name_in}
 use Rattle.ilsyms.specs.Faults.{SomeOf, IsBadIn, IsNotAfter, IsLeast}
-use Rattle.ilsyms.specs.Gathering.{Gathered, gathered, number_in, found, comes_before, lesser, with_name, with_names, with_initial, with_declarations, with_use, with_line, with_lines, Scoping, with_program, with_programs, table_of}
+use Rattle.ilsyms.specs.Gathering.{Gathered, gathered, number_in, found, comes_before, lesser, with_name, with_names, with_initial, with_declarations}
+use Rattle.ilsyms.specs.Gathering.{Scoping, with_program, with_programs, table_of}
+use Rattle.ilsyms.specs.Uses.{with_use, with_line, with_lines, with_uses_in, with_uses}
 use Rattle.ilsyms.specs.declared.fault.NameCause.{NameCause}
 use Rattle.ilsyms.specs.declared.fault.NameCause.TheVariants.{Unknown, Twice, BadDeclaration}
 use Rattle.ilsyms.specs.declared.found.Found.{Found}
-use Rattle.ilsyms.proofs.Scopes.{declarations_alone}
 
 -- what was found is the least of some faults, and nothing where there is none
 abbrev pub IsBest : (ℕ → NameCause → Type 0) → Option Found → Type 0
@@ -212,13 +213,25 @@ lines_best lower names (x ∷ xs) P o l =
     (λ place cause q. or_else (λ p. inl (inl p)) (λ y. or_else (λ z. inl (inr (y.0, z))) (λ z. inr (y.0, z)) y.1) q)
     (lines_best lower names xs _ (with_line lower names o x) (use_best lower names (name_in x.instruction) P o l))
 
--- the faults of programs
+-- the name at the place, in a line of some program, isn't in the program's table
+abbrev pub AreMissing : List ℕ → List Written → ℕ → Type 0
+AreMissing lower ps place = SomeOf (λ p. SomeOf (IsMissing lower (table_of lower p) place) p.lines) ps
+
+pub uses_best : (lower : List ℕ) (ps : List Written) (P : ℕ → NameCause → Type 0) (o : Option Found) → IsBest P o →
+    IsBest (λ place cause. P place cause ⊎ ((cause ≡ Unknown) × AreMissing lower ps place)) (with_uses lower o ps)
+uses_best lower [] P o l = best_same P _ o (λ place cause p. inl p) (λ place cause q. or_else (λ p. p) (λ y. absurd y.1) q) l
+uses_best lower (p ∷ ps) P o l =
+    best_same _ _ (with_uses lower (with_uses_in lower o p) ps)
+    (λ place cause q. or_else (λ z. or_else inl (λ y. inr (y.0, inl y.1)) z) (λ y. inr (y.0, inr y.1)) q)
+    (λ place cause q. or_else (λ x. inl (inl x)) (λ y. or_else (λ z. inl (inr (y.0, z))) (λ z. inr (y.0, z)) y.1) q)
+    (uses_best lower ps _ (with_uses_in lower o p) (lines_best lower (table_of lower p) p.lines P o l))
+
+-- the faults of programs' declarations
 abbrev pub AreFaults : List ℕ → List (List ℕ) → List Written → ℕ → NameCause → Type 0
 AreFaults lower keys [] place cause = ⊥
 AreFaults lower keys (p ∷ ps) place cause =
     ((cause ≡ Twice) × ((is_some (number_in keys (text_of lower p.name)) ≡ true) × (place ≡ p.name.from)))
     ⊎ AreDeclared lower [] p.declarations place cause
-    ⊎ ((cause ≡ Unknown) × SomeOf (IsMissing lower (table_of lower p) place) p.lines)
     ⊎ AreFaults lower (after lower keys p.name) ps place cause
 
 pub programs_best : (lower : List ℕ) (ps : List Written) (s : Scoping) (P : ℕ → NameCause → Type 0) → IsBest P s.least →
@@ -233,20 +246,15 @@ programs_best lower (p ∷ ps) s P l =
     (sym (name_is lower s.programs s.least p.name)) (one_best again P s.least p.name.from Twice l)
     in
     let second = declared_best lower p.declarations [] _ a.least first in
-    let third = lines_best lower b.names p.lines _ b.least second in
-    let fourth = programs_best lower ps (with_program lower s p) _ third in
-    let e : b.names ≡ table_of lower p = declarations_alone lower p.declarations [] a.least None in
+    let third = programs_best lower ps (with_program lower s p) _ second in
     let f : a.names ≡ after lower s.programs p.name = ap (λ (g : Gathered). g.names) (name_is lower s.programs s.least p.name) in
     best_same _ _ ((with_programs lower (with_program lower s p) ps).least)
     (λ place cause q.
     or_else
-    (λ z. or_else (λ y. or_else (λ x. or_else inl (λ w. inr (inl w)) x) (λ x. inr (inr (inl x))) y)
-    (λ y. inr (inr (inr (inl (y.0, subst (λ (ks : List (List ℕ)). SomeOf (IsMissing lower ks place) p.lines) e y.1))))) z)
-    (λ z. inr (inr (inr (inr (subst (λ (ks : List (List ℕ)). AreFaults lower ks ps place cause) f z))))) q)
+    (λ z. or_else (λ y. or_else inl (λ x. inr (inl x)) y) (λ y. inr (inr (inl y))) z)
+    (λ z. inr (inr (inr (subst (λ (ks : List (List ℕ)). AreFaults lower ks ps place cause) f z)))) q)
     (λ place cause q.
-    or_else (λ x. inl (inl (inl (inl x))))
-    (λ z. or_else (λ y. inl (inl (inl (inr y))))
-    (λ y. or_else (λ x. inl (inl (inr x)))
-    (λ x. or_else (λ w. inl (inr (w.0, subst (λ (ks : List (List ℕ)). SomeOf (IsMissing lower ks place) p.lines) (sym e) w.1)))
-    (λ w. inr (subst (λ (ks : List (List ℕ)). AreFaults lower ks ps place cause) (sym f) w)) x) y) z) q)
-    fourth
+    or_else (λ x. inl (inl (inl x)))
+    (λ z. or_else (λ y. inl (inl (inr y)))
+    (λ y. or_else (λ x. inl (inr x)) (λ x. inr (subst (λ (ks : List (List ℕ)). AreFaults lower ks ps place cause) (sym f) x)) y) z) q)
+    third

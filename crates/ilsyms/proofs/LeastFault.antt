@@ -8,9 +8,9 @@ use Rattle.ilsource.specs.declared.instruction.Line.{Line}
 use Rattle.ilsource.specs.Trees.{Written, Tree}
 use Rattle.ilsyms.specs.Counting.{Counted, counted, counting, with_one, with_line, with_lines, with_programs}
 use Rattle.ilsyms.specs.Declarations.{slots_of, lines_of, constant_in, constants_of, with_constant, each_once, same_value}
-use Rattle.ilsyms.specs.Faults.{IsFault, IsFaultOfNames, MakesTooManyConstants, IsWellNamed, IsLeast}
+use Rattle.ilsyms.specs.Faults.{IsFault, IsFaultOfDeclarations, IsUnknown, MakesTooManyConstants, IsWellNamed, IsLeast}
 use Rattle.ilsyms.specs.Gathering.{scoping, scoping_of, found, with_excess, lowered}
-use Rattle.ilsyms.specs.Resolving.{least_fault}
+use Rattle.ilsyms.specs.Resolving.{least_of_names, least_fault}
 use Rattle.ilsyms.specs.Told.{IsTold, IsMemoryOrTold, IsOptionTold, TellsLeast, IsMemoryOrTellsLeast}
 use Rattle.ilsyms.specs.declared.fault.NameCause.{NameCause}
 use Rattle.ilsyms.specs.declared.fault.NameCause.TheVariants.{Unknown, Twice, TooMany, BadDeclaration}
@@ -18,8 +18,8 @@ use Rattle.ilsyms.specs.declared.fault.NameFault.{NameFault}
 use Rattle.ilsyms.specs.declared.fault.NameFault.TheVariants.{Memory, At}
 use Rattle.ilsyms.specs.declared.found.Found.{Found}
 use Rattle.ilsyms.specs.declared.planned.TheConstants.{MAX_INSTANCES, MAX_SLOTS, MAX_WORDS, MAX_CONSTANTS}
-use Rattle.ilsyms.proofs.Exact.{of_names_to, of_names_from}
-use Rattle.ilsyms.proofs.Gathered.{IsBest, best_with, best_same, or_else, programs_best}
+use Rattle.ilsyms.proofs.Exact.{of_declarations_to, of_declarations_from, unknown_to, unknown_from}
+use Rattle.ilsyms.proofs.Gathered.{IsBest, best_with, best_same, or_else, programs_best, uses_best}
 use Rattle.ilsyms.proofs.Limits.{fold_append, constants_append, lines_counted}
 
 -- what exceeds a limit
@@ -158,24 +158,38 @@ constants_to tree place h =
 constants_from : (tree : Tree) (place : ℕ) → MakesTooManyConstants (lines_of tree.programs) place → (counting tree.programs).excess ≡ Some place
 constants_from tree place m = ap (λ (c : Counted). c.excess) (all_lines_counted tree.programs (counted [] None)) ∙ makes_to place (lines_of tree.programs) m
 
--- the faults but those of limits
-pub scope_best : (tree : Tree) → IsBest (IsFaultOfNames tree) ((scoping tree).least)
+-- the faults of declarations
+pub scope_best : (tree : Tree) → IsBest (IsFaultOfDeclarations tree) ((scoping tree).least)
 scope_best tree =
-    best_same _ (IsFaultOfNames tree) ((scoping tree).least)
-    (λ place cause q. or_else absurd (λ f. of_names_to tree place cause f) q)
-    (λ place cause q. inr (of_names_from tree place cause q))
+    best_same _ (IsFaultOfDeclarations tree) ((scoping tree).least)
+    (λ place cause q. or_else absurd (λ f. of_declarations_to tree place cause f) q)
+    (λ place cause q. inr (of_declarations_from tree place cause q))
     (programs_best (lowered tree.text) tree.programs (scoping_of [] [] None) (λ place cause. ⊥) (λ place cause p. p))
 
-wider : (tree : Tree) (place : ℕ) (cause : NameCause) → IsFaultOfNames tree place cause → IsFault tree place cause
-wider tree place Unknown h = h
+-- the faults but those of limits
+abbrev OfNames : Tree → ℕ → NameCause → Type 0
+OfNames tree place cause = IsFaultOfDeclarations tree place cause ⊎ ((cause ≡ Unknown) × IsUnknown tree place)
+
+names_best : (tree : Tree) → IsBest (OfNames tree) (least_of_names tree)
+names_best tree =
+    best_same _ (OfNames tree) (least_of_names tree)
+    (λ place cause q. or_else inl (λ u. inr (u.0, unknown_to tree place u.1)) q)
+    (λ place cause q. or_else inl (λ u. inr (u.0, unknown_from tree place u.1)) q)
+    (uses_best (lowered tree.text) tree.programs (IsFaultOfDeclarations tree) ((scoping tree).least) (scope_best tree))
+
+wider : (tree : Tree) (place : ℕ) (cause : NameCause) → IsFaultOfDeclarations tree place cause → IsFault tree place cause
+wider tree place Unknown h = absurd h
 wider tree place Twice h = h
 wider tree place TooMany h = absurd h
 wider tree place BadDeclaration h = h
 
+names_to : (tree : Tree) (place : ℕ) (cause : NameCause) → OfNames tree place cause → IsFault tree place cause
+names_to tree place cause h = or_else (λ d. wider tree place cause d) (λ u. subst (λ (k : NameCause). IsFault tree place k) (sym u.0) u.1) h
+
 -- all faults, from those of names and the four limits
 abbrev InParts : Tree → ℕ → NameCause → Type 0
 InParts tree place cause =
-    (((IsFaultOfNames tree place cause
+    (((OfNames tree place cause
     ⊎ ((cause ≡ TooMany) × (slice_get (map (λ p. p.name.from) tree.programs) MAX_INSTANCES ≡ Some place)))
     ⊎ ((cause ≡ TooMany) × (slice_get (map (λ s. s.variable.from) (slots_of tree.programs)) MAX_SLOTS ≡ Some place)))
     ⊎ ((cause ≡ TooMany) × (slice_get (map (λ l. l.at) (lines_of tree.programs)) MAX_WORDS ≡ Some place)))
@@ -186,14 +200,14 @@ parts_to tree place cause h =
     let F : NameCause → Type 0 = λ k. IsFault tree place k in
     or_else
     (λ x. or_else
-    (λ y. or_else (λ z. or_else (λ n. wider tree place cause n) (λ i. subst F (sym i.0) (inl i.1)) z) (λ s. subst F (sym s.0) (inr (inl s.1))) y)
+    (λ y. or_else (λ z. or_else (λ n. names_to tree place cause n) (λ i. subst F (sym i.0) (inl i.1)) z) (λ s. subst F (sym s.0) (inr (inl s.1))) y)
     (λ w. subst F (sym w.0) (inr (inr (inl w.1)))) x)
     (λ k. subst F (sym k.0) (inr (inr (inr (constants_to tree place k.1))))) h
 
 parts_from : (tree : Tree) (place : ℕ) (cause : NameCause) → IsFault tree place cause → InParts tree place cause
-parts_from tree place Unknown h = inl (inl (inl (inl h)))
-parts_from tree place Twice h = inl (inl (inl (inl h)))
-parts_from tree place BadDeclaration h = inl (inl (inl (inl h)))
+parts_from tree place Unknown h = inl (inl (inl (inl (inr (refl, h)))))
+parts_from tree place Twice h = inl (inl (inl (inl (inl h))))
+parts_from tree place BadDeclaration h = inl (inl (inl (inl (inl h))))
 parts_from tree place TooMany (inl i) = inl (inl (inl (inr (refl, i))))
 parts_from tree place TooMany (inr (inl s)) = inl (inl (inr (refl, s)))
 parts_from tree place TooMany (inr (inr (inl w))) = inl (inr (refl, w))
@@ -205,7 +219,7 @@ all_best tree =
     (excess_best ((counting tree.programs).excess) _ _
     (excess_best (slice_get (map (λ l. l.at) (lines_of tree.programs)) MAX_WORDS) _ _
     (excess_best (slice_get (map (λ s. s.variable.from) (slots_of tree.programs)) MAX_SLOTS) _ _
-    (excess_best (slice_get (map (λ p. p.name.from) tree.programs) MAX_INSTANCES) (IsFaultOfNames tree) ((scoping tree).least) (scope_best tree)))))
+    (excess_best (slice_get (map (λ p. p.name.from) tree.programs) MAX_INSTANCES) (OfNames tree) (least_of_names tree) (names_best tree)))))
 
 none_best : (F : ℕ → NameCause → Type 0) (o : Option Found) → IsBest F o → o ≡ None → (place : ℕ) (cause : NameCause) → F place cause → ⊥
 none_best F None l e = l
@@ -235,7 +249,8 @@ option_or text F None (Some fault) l h = absurd h
 option_or text F (Some f) None l h = absurd h
 option_or text F (Some f) (Some fault) l h = told_least text F f fault l h
 
--- what a scope tells is its least fault
+-- what a scope tells is the least fault of its declarations
 pub scope_tells : (tree : Tree) (r : Option NameFault) → IsOptionTold tree.text ((scoping tree).least) r →
-    MatchOption r ((place : ℕ) (cause : NameCause) → IsFaultOfNames tree place cause → ⊥) (λ fault. TellsLeast tree.text (IsFaultOfNames tree) fault)
-scope_tells tree r h = option_or tree.text (IsFaultOfNames tree) ((scoping tree).least) r (scope_best tree) h
+    MatchOption r ((place : ℕ) (cause : NameCause) → IsFaultOfDeclarations tree place cause → ⊥)
+    (λ fault. TellsLeast tree.text (IsFaultOfDeclarations tree) fault)
+scope_tells tree r h = option_or tree.text (IsFaultOfDeclarations tree) ((scoping tree).least) r (scope_best tree) h

@@ -22,7 +22,7 @@ use Rattle.ilsyms.specs.Plans as plans
 use Rattle.ilsyms.specs.Resolving.{least_fault, the_task}
 use Rattle.ilsyms.specs.declared.planned.PlannedLine.{PlannedLine}
 use Rattle.ilsyms.specs.declared.planned.TheConstants.{MAX_CONSTANTS}
-use Rattle.ilsyms.proofs.Clean.{clean, none_length, all_cons, all_nil, all_known}
+use Rattle.ilsyms.proofs.Clean.{clean, none_length, all_cons, all_nil}
 use Rattle.ilsyms.proofs.Tables.{table_le}
 
 -- the instances of these programs, where the first one's slots begin at `base`
@@ -202,6 +202,6 @@ limits tree h =
       most_slots = none_length (λ s. s.variable.from) (slots_of tree.programs) 4096 c.slots;
       most_constants = programs_fine tree.programs (counted [] None) (λ _. omega arith) c.constants;
       most_words = rw e (rw (count_words tree.text (lowered tree.text) tree.programs 0) (none_length (λ l. l.at) (lines_of tree.programs) 65536 c.words));
-      slots = rw e (all_below tree.text (lowered tree.text) tree.programs 0 (length (slots_of tree.programs)) (omega arith) (all_known tree c.names));
+      slots = rw e (all_below tree.text (lowered tree.text) tree.programs 0 (length (slots_of tree.programs)) (omega arith) c.uses);
       constants = rw (e, all_constants tree.text (lowered tree.text) tree.programs 0) (programs_counted tree.programs (counted [] None));
     }

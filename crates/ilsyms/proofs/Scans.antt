@@ -16,7 +16,7 @@ use Rattle.ilsyms.specs.Planning.{planning, planning_of, planned_line, slot_numb
 use Rattle.ilsyms.specs.Resolving.{least_fault, the_task}
 use Rattle.ilsyms.specs.declared.found.Found.{Found}
 use Rattle.ilsyms.specs.declared.planned.Slot.{Slot}
-use Rattle.ilsyms.proofs.Clean.{clean, names_none, declarations_none, lines_known, none_lesser, programs_known}
+use Rattle.ilsyms.proofs.Clean.{clean, names_none, declarations_none, none_lesser, programs_none, UsesKnown}
 use Rattle.ilsyms.proofs.Limits.{instances_from, instances_are}
 use Rattle.ilsyms.proofs.Paired.{has_name, AreBool}
 use Rattle.ilsyms.proofs.Scopes.{declarations_alone}
@@ -219,17 +219,16 @@ none_from None h = refl
 none_from (Some n) h = absurd cc
 
 sound : (text : List ℕ) (ps front : List Written) (s : Scoping) → s.programs ≡ map (λ q. folded text q.name) front →
-    (with_programs (lowered text) s ps).least ≡ None → AreSound text front ps
-sound text [] front s e h = tt
-sound text (p ∷ ps) front s e h =
-    let r = (programs_known (lowered text) ps (with_program (lowered text) s p) h).0 in
+    (with_programs (lowered text) s ps).least ≡ None → UsesKnown (lowered text) ps → AreSound text front ps
+sound text [] front s e h k = tt
+sound text (p ∷ ps) front s e h k =
+    let r = programs_none (lowered text) ps (with_program (lowered text) s p) h in
     let a : Gathered = with_name (lowered text) (gathered s.programs s.least) p.name in
     let b : Gathered = with_declarations (lowered text) (gathered [] a.least) p.declarations in
-    let l = lines_known (lowered text) b.names p.lines b.least r in
-    let n = declarations_none (lowered text) p.declarations (gathered [] a.least) l.0 in
+    let n = declarations_none (lowered text) p.declarations (gathered [] a.least) r in
     let o = one_added (is_some (number_in s.programs (text_of (lowered text) p.name))) s.programs (text_of (lowered text) p.name) s.least _ n in
     let t : b.names ≡ table_of (lowered text) p = declarations_alone (lowered text) p.declarations [] a.least None in
-    let all : b.names ≡ map (folded text) (variables_of p) = added_all (lowered text) p.declarations (gathered [] a.least) l.0 ∙ map_keys text (variables_of p) in
+    let all : b.names ≡ map (folded text) (variables_of p) = added_all (lowered text) p.declarations (gathered [] a.least) r ∙ map_keys text (variables_of p) in
     let apart : first_at (bytes_eq (folded text p.name)) (map (λ q. folded text q.name) front) ≡ None =
     ap (λ (key : List ℕ). number_in (map (λ q. folded text q.name) front) key) (sym (key_is text p.name))
     ∙ ap (λ (ks : List (List ℕ)). number_in ks (text_of (lowered text) p.name)) (sym e)
@@ -241,7 +240,8 @@ sound text (p ∷ ps) front s e h =
     ∙ ap (λ (key : List ℕ). map (λ q. folded text q.name) front ++ key ∷ []) (key_is text p.name)
     ∙ sym (map_append (λ q. folded text q.name) front (p ∷ []))
     in
-    (apart, sym t ∙ all, subst (λ (ks : List (List ℕ)). AreKnown (lowered text) ks p.lines) t l.1, sound text ps (front ++ p ∷ []) (with_program (lowered text) s p) next h)
+    let rest : UsesKnown (lowered text) ps = λ i q b. k (suc i) q (omega (arith, b)) in
+    (apart, sym t ∙ all, k 0 p (omega arith), sound text ps (front ++ p ∷ []) (with_program (lowered text) s p) next h rest)
 
 -- a scan over names is a scan of the plan
 pub law : (tree : Tree) → least_fault tree ≡ None → (xs : List Value) → length xs ≡ length (slots_of tree.programs) →
@@ -250,4 +250,4 @@ law tree h xs n =
     let e : (planning_of tree).instances ≡ instances_from tree.text (lowered tree.text) 0 tree.programs = instances_are tree.text (lowered tree.text) tree.programs (planning [] 0) in
     rw e
     (scans_same tree.text (slots_of tree.programs) tree.programs [] 0 refl refl
-    (sound tree.text tree.programs [] (scoping_of [] [] None) refl (clean tree h).names) xs n)
+    (sound tree.text tree.programs [] (scoping_of [] [] None) refl (clean tree h).declarations (clean tree h).uses) xs n)

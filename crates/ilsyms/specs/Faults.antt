@@ -69,10 +69,11 @@ IsFault tree place Twice = IsTwice tree place
 IsFault tree place TooMany = IsTooMany tree place
 IsFault tree place BadDeclaration = IsBad tree place
 
--- the same, where no limit is looked at
-abbrev pub IsFaultOfNames : Tree → ℕ → NameCause → Type 0
-IsFaultOfNames tree place TooMany = ⊥
-IsFaultOfNames tree place cause = IsFault tree place cause
+-- the same, with its place in a declaration, where no limit is looked at
+abbrev pub IsFaultOfDeclarations : Tree → ℕ → NameCause → Type 0
+IsFaultOfDeclarations tree place Unknown = ⊥
+IsFaultOfDeclarations tree place TooMany = ⊥
+IsFaultOfDeclarations tree place cause = IsFault tree place cause
 
 -- no fault stands anywhere
 abbrev pub IsWellNamed : Tree → Type 0

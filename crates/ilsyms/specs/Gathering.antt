@@ -1,17 +1,16 @@
--- How faults of names are gathered, in one pass over a source program: the state after each part. What is gathered is the
--- least fault of `IsFaultOfNames`, and of each program the different names of its variables in lower case.
+-- How declarations are gathered, in one pass over a source program: the state after each part. What is gathered is the
+-- least fault of `IsFaultOfDeclarations`, and of each program the different names of its variables in lower case.
 use Rattle.std.specs.Prelude.{◌≡◌, ℕ, suc, List, [], ◌∷◌, ◌++◌, map, fold, Option, Some}
 use Rattle.std.specs.Prelude.{None, Bool, ◌&&◌, ◌||◌, ◌==◌, nat_lt, if◌then◌else◌, bytes_eq, option_map, is_some, slice_get}
 use Rattle.std.specs.Char.{to_ascii_lowercase}
 use Rattle.iltypes.specs.declared.value.Value.{Value}
 use Rattle.ilsource.specs.declared.name.Name.{Name}
-use Rattle.ilsource.specs.declared.instruction.Line.{Line}
 use Rattle.ilsource.specs.Names.{text_of}
 use Rattle.ilsource.specs.Trees.{Variables, Written, Tree}
 use Rattle.ilsyms.specs.Causes.{number_of}
-use Rattle.ilsyms.specs.Declarations.{initial_value, name_in}
+use Rattle.ilsyms.specs.Declarations.{initial_value}
 use Rattle.ilsyms.specs.declared.fault.NameCause.{NameCause}
-use Rattle.ilsyms.specs.declared.fault.NameCause.TheVariants.{Unknown, Twice, TooMany, BadDeclaration}
+use Rattle.ilsyms.specs.declared.fault.NameCause.TheVariants.{Twice, TooMany, BadDeclaration}
 use Rattle.ilsyms.specs.declared.found.Found.{Found}
 
 -- the place of the first element that passes
@@ -64,18 +63,6 @@ with_declaration lower g d = with_names lower (gathered g.names (with_initial g.
 abbrev pub with_declarations : List ℕ → Gathered → List Variables → Gathered
 with_declarations lower g declarations = fold (with_declaration lower) g declarations
 
--- after the name in one more line is looked up
-abbrev pub with_use : List ℕ → List (List ℕ) → Option Found → Option Name → Option Found
-with_use lower names least None = least
-with_use lower names least (Some name) =
-    if is_some (number_in names (text_of lower name)) then least else lesser least (found name.from Unknown)
-
-abbrev pub with_line : List ℕ → List (List ℕ) → Option Found → Line → Option Found
-with_line lower names least line = with_use lower names least (name_in line.instruction)
-
-abbrev pub with_lines : List ℕ → List (List ℕ) → Option Found → List Line → Option Found
-with_lines lower names least lines = fold (with_line lower names) least lines
-
 -- the programs' names, each program's variables, and the least fault
 pub record Scoping : Type 0 where
   pub programs : List (List ℕ)
@@ -90,7 +77,7 @@ abbrev pub with_program : List ℕ → Scoping → Written → Scoping
 with_program lower s program =
     let a = with_name lower (gathered s.programs s.least) program.name in
     let b = with_declarations lower (gathered [] a.least) program.declarations in
-    scoping_of a.names (s.variables ++ b.names ∷ []) (with_lines lower b.names b.least program.lines)
+    scoping_of a.names (s.variables ++ b.names ∷ []) b.least
 
 abbrev pub with_programs : List ℕ → Scoping → List Written → Scoping
 with_programs lower s programs = fold (with_program lower) s programs

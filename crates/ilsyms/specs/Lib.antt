@@ -18,4 +18,5 @@ pub mod Resolving
 pub mod SlotLines
 pub mod Stores
 pub mod Told
+pub mod Uses
 pub mod Wirings

@@ -3,11 +3,16 @@ use Rattle.std.specs.Prelude.{ℕ, [], ◌∷◌, map, Option, false, slice_get,
 use Rattle.ilsource.specs.Trees.{Tree}
 use Rattle.ilsyms.specs.Counting.{counting}
 use Rattle.ilsyms.specs.Declarations.{slots_of, lines_of}
-use Rattle.ilsyms.specs.Gathering.{scoping, with_excess}
+use Rattle.ilsyms.specs.Gathering.{scoping, lowered, with_excess}
 use Rattle.ilsyms.specs.Planning.{planning_of}
 use Rattle.ilsyms.specs.Plans.{PlannedTask, Planned, task_of, plan_of}
+use Rattle.ilsyms.specs.Uses.{with_uses}
 use Rattle.ilsyms.specs.declared.found.Found.{Found}
 use Rattle.ilsyms.specs.declared.planned.TheConstants.{MAX_INSTANCES, MAX_SLOTS, MAX_WORDS}
+
+-- the least fault of declarations and of names in lines
+abbrev pub least_of_names : Tree → Option Found
+least_of_names tree = with_uses (lowered tree.text) (scoping tree).least tree.programs
 
 -- the least fault, those of limits too
 abbrev pub least_fault : Tree → Option Found
@@ -15,7 +20,7 @@ least_fault tree =
     with_excess
     (with_excess
     (with_excess
-    (with_excess (scoping tree).least (slice_get (map (λ p. p.name.from) tree.programs) MAX_INSTANCES))
+    (with_excess (least_of_names tree) (slice_get (map (λ p. p.name.from) tree.programs) MAX_INSTANCES))
     (slice_get (map (λ s. s.variable.from) (slots_of tree.programs)) MAX_SLOTS))
     (slice_get (map (λ l. l.at) (lines_of tree.programs)) MAX_WORDS))
     (counting tree.programs).excess

@@ -2,11 +2,12 @@
 //!
 //! What crosses the boundary: [`Binding`], which says how many buses there are; [`resolve`], which takes a
 //! [`ilsource::Source`] to a [`Plan`], where each name is the number of a slot, or tells the least [`NameFault`]; and
-//! [`Scope`], the tables of the declared names with their own least fault. Which faults there are is `IsFault`
-//! (specs/Faults.antt). Which bytes are a binding, what it says and which line is at fault in others are `IsBinding` and
-//! `IsBadBinding` (specs/BindingLines.antt). What a source program means is `source_scan` (specs/Meaning.antt), over names; what a plan
-//! means is `plan_scan` (specs/PlanMeaning.antt), over slot numbers: the two agree, by the clause of `resolve`. [`scan`] is `source_scan`
-//! as a plain slow program, over a [`Store`] of values under names.
+//! [`Scope`], the tables of the declared names with the least fault of declarations. Which faults there are is `IsFault`, and
+//! which of them have their place in a declaration is `IsFaultOfDeclarations` (specs/Faults.antt). Which bytes are a binding, what
+//! it says and which line is at fault in others are `IsBinding` and `IsBadBinding` (specs/BindingLines.antt). What a source program
+//! means is `source_scan` (specs/Meaning.antt), over names; what a plan means is `plan_scan` (specs/PlanMeaning.antt), over slot
+//! numbers: the two agree, by the clause of `resolve`. [`scan`] is `source_scan` as a plain slow program, over a [`Store`] of values
+//! under names.
 #![tactic(auto)]
 
 pub mod binding;
@@ -24,6 +25,7 @@ pub(crate) mod resolving;
 pub mod scope;
 pub(crate) mod slots;
 pub mod stores;
+pub(crate) mod uses;
 pub(crate) mod values;
 
 pub use binding::{BindCause, BindFault, Binding};

@@ -18,6 +18,7 @@ use crate::planned::Slot;
 use crate::planning::plan_instances;
 use crate::scope::{Scope, told};
 use crate::slots::all_slots;
+use crate::uses::unknown_uses;
 use ilsource::Source;
 use iltypes::Value;
 use std::alloc::{AllocError, Global};
@@ -47,14 +48,15 @@ fn resolved(alloc: Global, source: &Source, binding: &Binding) -> Result<Plan, N
     Ok(plan_with(alloc, source, binding, task)?)
 }
 
-/// The least fault, those of limits too.
+/// The least fault: of declarations, of names in instructions, and of limits.
 fn least_of(scope: &Scope<'_>, slots: &[Slot], past: Option<usize>) -> Option<Found>
     requires slots { slots.now ≡ slots_of scope.now.programs }
     requires past { past ≡ (counting scope.now.programs).excess }
     ensures { result ≡ least_fault scope.now }
 {
     let programs = scope.source().programs();
-    let least = limited(scope.least(), instance_past(programs));
+    let least = unknown_uses(scope, scope.least());
+    let least = limited(least, instance_past(programs));
     let least = limited(least, slot_past(slots));
     let least = limited(least, word_past(programs));
     limited(least, past)

@@ -1,12 +1,12 @@
-//! Scopes: the tables of declared names, with the least fault among them.
+//! Scopes: the tables of declared names, with the least fault of declarations.
 //!
-//! The limits aren't looked at here: what exceeds them is told when names are resolved.
+//! Neither limits nor names in instructions are looked at here: their faults are told when names are resolved.
 
 ghost use Rattle.std.specs.Prelude.{◌≡◌, OnOk, IfOk, slice_get};
 ghost use Rattle.ilsource.specs.Names.{text_of};
-ghost use Rattle.ilsyms.specs.Declarations.{name_in, initial_value};
+ghost use Rattle.ilsyms.specs.Declarations.{initial_value};
 ghost use Rattle.ilsyms.specs.Gathering.{Gathered, gathered, with_name, with_names, with_initial, with_declaration};
-ghost use Rattle.ilsyms.specs.Gathering.{with_declarations, with_use, with_line, with_lines, lowered};
+ghost use Rattle.ilsyms.specs.Gathering.{with_declarations, lowered};
 ghost use Rattle.ilsyms.specs.Told.{IsTold};
 
 use crate::binding::Binding;
@@ -14,7 +14,7 @@ use crate::fault::{NameCause, NameFault};
 use crate::found::{Found, lesser_of};
 use crate::names::Names;
 use crate::values::initial_of;
-use ilsource::{Declaration, Instruction, Line, Name, Operand, Place, Program, Source};
+use ilsource::{Declaration, Name, Place, Program, Source};
 use std::alloc::{AllocError, Global};
 use std::marker::Model;
 
@@ -42,7 +42,7 @@ impl<'a> Model for Scope<'a> {
 impl<'a> Scope<'a> {
     ghost use Rattle.std.specs.Prelude.{◌≡◌, ◌<◌, ℕ, IfOk, MatchOption, length, map, slice_get, Some};
     ghost use Rattle.ilsyms.specs.Told.{IsOptionTold, TellsLeast};
-    ghost use Rattle.ilsyms.specs.Faults.{IsFaultOfNames};
+    ghost use Rattle.ilsyms.specs.Faults.{IsFaultOfDeclarations};
     ghost use Rattle.ilsyms.specs.declared.fault.NameCause.{NameCause};
     ghost use Rattle.ilsyms.specs.Gathering.{lowered, scoping, table_of};
 
@@ -62,7 +62,6 @@ impl<'a> Scope<'a> {
             least = declare(alloc, &lower, &mut programs, program.name(), least)?;
             let mut names = Names::new(alloc);
             least = declare_all(alloc, &lower, &mut names, program.declarations(), least)?;
-            least = unknown_names(&lower, &names, program.lines(), least);
             variables.push(names)?;
         }
         Ok(Scope {
@@ -73,11 +72,11 @@ impl<'a> Scope<'a> {
         })
     }
 
-    /// The least fault but those of limits, and `None` where there is none.
+    /// The least fault that stands in a declaration; limits and names in instructions are looked at when names are resolved.
     pub fn fault(&self) -> Option<NameFault>
         ensures { MatchOption result
-            ((place : ℕ) (cause : NameCause) → IsFaultOfNames self.now place cause → ⊥)
-            (λ fault. TellsLeast self.now.text (IsFaultOfNames self.now) fault) }
+            ((place : ℕ) (cause : NameCause) → IsFaultOfDeclarations self.now place cause → ⊥)
+            (λ fault. TellsLeast self.now.text (IsFaultOfDeclarations self.now) fault) }
     {
         self.gathered_fault()
     }
@@ -92,7 +91,7 @@ impl<'a> Scope<'a> {
         }
     }
 
-    /// The least fault.
+    /// The least fault of declarations.
     pub(crate) fn least(&self) -> Option<Found>
         ensures { result ≡ (scoping self.now).least }
     {
@@ -218,55 +217,4 @@ fn declare_all(
         least = declare_names(alloc, lower, names, declaration.names(), least)?;
     }
     Ok(least)
-}
-
-/// Takes in the fault of a name that isn't declared.
-fn unknown_name(lower: &[u8], names: &Names, line: Line, least: Option<Found>) -> Option<Found>
-    ensures { result ≡ with_line lower.now names.now least line }
-{
-    match name_of(line.instruction) {
-        Some(name) if names.number_of(name.text(lower)).is_none() => lesser_of(
-            least,
-            Found {
-                at: name.from,
-                cause: NameCause::Unknown,
-            },
-        ),
-        _ => least,
-    }
-}
-
-/// Takes in the faults of names in lines.
-fn unknown_names(
-    lower: &[u8],
-    names: &Names,
-    lines: &[Line],
-    mut least: Option<Found>,
-) -> Option<Found>
-    ensures { result ≡ with_lines lower.now names.now least lines.now }
-{
-    for line in lines {
-        least = unknown_name(lower, names, *line, least);
-    }
-    least
-}
-
-/// The name in an instruction.
-fn name_of(instruction: Instruction) -> Option<Name>
-    ensures { result ≡ name_in instruction }
-{
-    match instruction {
-        Instruction::Load {
-            operand: Operand::Variable(name),
-            ..
-        }
-        | Instruction::Apply {
-            operand: Operand::Variable(name),
-            ..
-        }
-        | Instruction::Store { variable: name, .. }
-        | Instruction::Set(name)
-        | Instruction::Reset(name) => Some(name),
-        _ => None,
-    }
 }

@@ -5,6 +5,7 @@ use crate::{BindCause, BindFault, Binding, NameCause, NameFault, Scope, resolve}
 use ilsource::{Constant, Declaration, Instruction, Line, Name, Operand, Program, Source};
 use iltypes::Value;
 use std::alloc::{AllocError, Global};
+use std::process::Abort;
 use std::test::Fail;
 
 const TEXT: &[u8] =
@@ -74,8 +75,7 @@ fn a_fault_is_told_at_its_line_and_column(rt: HostRuntime) -> Result<(), Fail> {
     let source = source(rt.alloc(), Name { from: 57, to: 59 })?;
     let binding = Binding::one_bus();
     let scope = Scope::of(rt.alloc(), &source, &binding)?;
-    let told = scope.fault().ok_or("a fault")?.to_string(rt.alloc())?;
-    assert_eq!(rt; told.as_str(), "name fault 2 at 4:1");
+    assert!(rt; scope.fault().is_none());
     match resolve(rt.alloc(), &source, &binding) {
         Err(NameFault::At { line, col, cause }) => {
             assert_eq!(rt; (line, col), (4, 1));
@@ -84,6 +84,83 @@ fn a_fault_is_told_at_its_line_and_column(rt: HostRuntime) -> Result<(), Fail> {
         _ => assert!(rt; false, "a fault"),
     }
     Ok(())
+}
+
+/// A program that declares some names, and stores to some.
+fn program(
+    alloc: Global,
+    name: Name,
+    declared: &[Name],
+    stored: &[Name],
+) -> Result<Program, AllocError> {
+    let mut declarations = Vec::new(alloc);
+    declarations.push(Declaration::new(Vec::from_slice(alloc, declared)?, None))?;
+    let mut lines = Vec::new(alloc);
+    for variable in stored {
+        lines.push(Line {
+            at: variable.from,
+            instruction: Instruction::Store {
+                negated: false,
+                variable: *variable,
+            },
+        })?;
+    }
+    Ok(Program::new(name, declarations, lines))
+}
+
+/// What the scope tells must be the first text, and what resolving tells the second.
+fn compare_told(
+    rt: &impl Abort,
+    alloc: Global,
+    source: &Source,
+    by_scope: &str,
+    by_resolving: &str,
+) -> Result<(), Fail> {
+    let binding = Binding::one_bus();
+    let scope = Scope::of(alloc, source, &binding)?;
+    let told = scope.fault().ok_or("a fault of a declaration")?;
+    assert_eq!(rt; told.to_string(alloc)?.as_str(), by_scope);
+    match resolve(alloc, source, &binding) {
+        Err(told) => assert_eq!(rt; told.to_string(alloc)?.as_str(), by_resolving),
+        Ok(_) => assert!(rt; false, "a fault"),
+    }
+    Ok(())
+}
+
+#[test]
+fn a_use_is_told_before_a_later_declaration(rt: HostRuntime) -> Result<(), Fail> {
+    let text = b"PROGRAM One\nST x\nEND_PROGRAM\nPROGRAM one\nEND_PROGRAM\n";
+    let alloc = rt.alloc();
+    let mut programs = Vec::new(alloc);
+    let stored = [Name { from: 15, to: 16 }];
+    programs.push(program(alloc, Name { from: 8, to: 11 }, &[], &stored)?)?;
+    programs.push(program(alloc, Name { from: 37, to: 40 }, &[], &[])?)?;
+    let source = Source::new(Vec::from_slice(alloc, text)?, programs);
+    compare_told(
+        &rt,
+        alloc,
+        &source,
+        "name fault 3 at 4:9",
+        "name fault 2 at 2:4",
+    )
+}
+
+#[test]
+fn a_declaration_is_told_before_a_later_use(rt: HostRuntime) -> Result<(), Fail> {
+    let text = b"PROGRAM One\nVAR a, A : BOOL; END_VAR\nST x\nEND_PROGRAM\n";
+    let alloc = rt.alloc();
+    let mut programs = Vec::new(alloc);
+    let declared = [Name { from: 16, to: 17 }, Name { from: 19, to: 20 }];
+    let stored = [Name { from: 40, to: 41 }];
+    programs.push(program(alloc, Name { from: 8, to: 11 }, &declared, &stored)?)?;
+    let source = Source::new(Vec::from_slice(alloc, text)?, programs);
+    compare_told(
+        &rt,
+        alloc,
+        &source,
+        "name fault 3 at 2:8",
+        "name fault 3 at 2:8",
+    )
 }
 
 #[test]

@@ -1,9 +1,9 @@
-use Rattle.ilsyms.proofs.Clean.{clean, all_known}
+use Rattle.ilsyms.proofs.Clean.{clean}
 use Rattle.ilsyms.proofs.Limits.{limits}
 use Rattle.ilsyms.proofs.resolving.main_task.Goals as goal
 
 pub plan_instances-requires-clause-known : goal.plan_instances-requires-clause-known
-plan_instances-requires-clause-known c = all_known c.args.scope.now (clean c.args.scope.now c.requires.fault).names
+plan_instances-requires-clause-known c = (clean c.args.scope.now c.requires.fault).uses
 
 pub plan_instances-requires-clause-few : goal.plan_instances-requires-clause-few
 plan_instances-requires-clause-few c = (limits c.args.scope.now c.requires.fault).most_slots
