@@ -13,7 +13,8 @@ use Rattle.buslink.specs.BusLog.{BusLog, one_more_failure}
 use Rattle.buslink.specs.Performing.{failures_after, after_report}
 
 -- what holds of each mark holds of the mark of each frame
-all_frames : (P : Mark → Type 0) (frames : List Frame) (first : ℕ) (marks : List Mark) → All P marks → All (λ (s : Sent). P s.mark) (sent_with frames first marks)
+all_frames : (P : Mark → Type 0) (frames : List Frame) (first : ℕ) (marks : List Mark) → All P marks
+    → All (λ (s : Sent). P s.mark) (sent_with frames first marks)
 all_frames P [] first marks h = λ k d lt. absurd (omega arith)
 all_frames P (f ∷ frames) first [] h = λ k d lt. absurd (omega arith)
 all_frames P (f ∷ frames) first (m ∷ marks) h =

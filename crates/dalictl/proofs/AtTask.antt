@@ -46,7 +46,8 @@ initials_fit plan codes number code t are begin below is task =
     subst (λ (ts : List IlType). AreOf (initials_of t) ts) (sym laid) (begin number t task)
 
 -- the code at a place
-pub coded_at : (codes : List (Arc Accepted Global)) (number : ℕ) (code : Arc Accepted Global) → number < length codes → code ≡ get_or codes number code → slice_get (accepted_of codes) number ≡ Some (arc_value code)
+pub coded_at : (codes : List (Arc Accepted Global)) (number : ℕ) (code : Arc Accepted Global) → number < length codes
+    → code ≡ get_or codes number code → slice_get (accepted_of codes) number ≡ Some (arc_value code)
 coded_at codes number code below is =
     slice_get-map (λ (c : Arc Accepted Global). arc_value c) codes number
     ∙ ap (option_map (λ (c : Arc Accepted Global). arc_value c)) (slice_get-get_or codes number code below ∙ ap (λ (c : Arc Accepted Global). Some c) (sym is))

@@ -65,7 +65,8 @@ kept_one v w known e = go (list_any (same_value w) known)
     go true = e
     go false = list_any-append (same_value v) known (w ∷ []) ∙ either _ _ e
 
-kept : (all : List Value) (v : Value) (known : List Value) → list_any (same_value v) known ≡ true → list_any (same_value v) (fold with_constant known all) ≡ true
+kept : (all : List Value) (v : Value) (known : List Value) → list_any (same_value v) known ≡ true
+    → list_any (same_value v) (fold with_constant known all) ≡ true
 kept [] v known e = e
 kept (w ∷ all) v known e = kept all v (with_constant known w) (kept_one v w known e)
 

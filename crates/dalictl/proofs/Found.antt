@@ -9,7 +9,8 @@ use Rattle.clap.proofs.WalkLemmas.{first_value-rows, one_text-rows}
 use Rattle.dalictl.specs.CommandLine.{IsNumber, given}
 
 -- the text of an id
-pub text_found : (f : Found) (id : Text) (text : Option (Bor Text)) → option_map (λ s. s.now) text ≡ first_value f id → option_map (λ s. s.now) text ≡ first_of id (rows_of f)
+pub text_found : (f : Found) (id : Text) (text : Option (Bor Text)) → option_map (λ s. s.now) text ≡ first_value f id
+    → option_map (λ s. s.now) text ≡ first_of id (rows_of f)
 text_found f id text is = is ∙ first_value-rows f id
 
 pub text_given : (f : Found) (id : Text) (text : Option (Bor Text)) → option_map (λ s. s.now) text ≡ first_value f id

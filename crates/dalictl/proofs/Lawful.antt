@@ -27,7 +27,8 @@ starts_ordered n (x ∷ xs) zero (suc j) d le h =
 starts_ordered n (x ∷ xs) (suc i) zero d le h = absurd (omega arith)
 starts_ordered n (x ∷ xs) (suc i) (suc j) d le h = starts_ordered (n + length x.lines) xs i j d (omega arith) (omega arith)
 
-starts_within : (n most : ℕ) (instances : List PlannedInstance) → n + length (all_lines instances) ≤ most → All (λ start. start ≤ most) (starts_from n instances)
+starts_within : (n most : ℕ) (instances : List PlannedInstance) → n + length (all_lines instances) ≤ most
+    → All (λ start. start ≤ most) (starts_from n instances)
 starts_within n most [] h = All-nil (λ start. start ≤ most)
 starts_within n most (x ∷ xs) h =
     let parts = length-append x.lines (all_lines xs) in
@@ -37,7 +38,8 @@ length-starts : (n : ℕ) (instances : List PlannedInstance) → length (starts_
 length-starts n [] = refl
 length-starts n (x ∷ xs) = let more = length-starts (n + length x.lines) xs in omega (arith, more)
 
-first_start : (t : PlannedTask) (instances : List PlannedInstance) → MatchOption (slice_get (starts_from 0 instances) 0) (words_of t.constants (all_lines instances) ≡ []) (λ start. start ≡ 0)
+first_start : (t : PlannedTask) (instances : List PlannedInstance)
+    → MatchOption (slice_get (starts_from 0 instances) 0) (words_of t.constants (all_lines instances) ≡ []) (λ start. start ≡ 0)
 first_start t [] = refl
 first_start t (x ∷ xs) = refl
 

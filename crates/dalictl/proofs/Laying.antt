@@ -24,7 +24,8 @@ word_there (w ∷ before) after word = word_there before after word
 abbrev NoneWithin : Listing → ℕ → ℕ → Type 0
 NoneWithin code place size = (q : ℕ) → place < q → q < place + size → is_start code q ≡ false
 
-none_before : (code : Listing) (place : ℕ) (line : PlannedLine) (lines : List PlannedLine) → NoneWithin code place (length (line ∷ lines)) → NoStartBefore code (place + 1) lines
+none_before : (code : Listing) (place : ℕ) (line : PlannedLine) (lines : List PlannedLine) → NoneWithin code place (length (line ∷ lines))
+    → NoStartBefore code (place + 1) lines
 none_before code place line [] none = tt
 none_before code place line (next ∷ lines) none = none (place + 1) (omega arith) (omega arith)
 
@@ -89,7 +90,8 @@ record Starts (code : Listing) (before : List ℕ) (place : ℕ) (instances : Li
   is : code.starts ≡ before ++ starts_from place instances
   below : StartsBelow (place + 1) before
 
-none_within : (code : Listing) (before : List ℕ) (place : ℕ) (i : PlannedInstance) (instances : List PlannedInstance) → Starts code before place (i ∷ instances) → NoneWithin code place (length i.lines)
+none_within : (code : Listing) (before : List ℕ) (place : ℕ) (i : PlannedInstance) (instances : List PlannedInstance)
+    → Starts code before place (i ∷ instances) → NoneWithin code place (length i.lines)
 none_within code before place i instances s q low high =
     let all : is_start code q ≡ list_any (λ start. eqb start q) (before ++ starts_from place (i ∷ instances)) = ap (list_any (λ start. eqb start q)) s.is in
     all
@@ -97,13 +99,15 @@ none_within code before place i instances s q low high =
     ∙ none_or _ _ (none_low before q (wider (place + 1) q before (omega arith) s.below))
     (none_or _ _ (unequal_low place q low) (none_high instances (place + length i.lines) q high))
 
-next_start : (code : Listing) (before : List ℕ) (place : ℕ) (i : PlannedInstance) (instances : List PlannedInstance) → Starts code before place (i ∷ instances) → Starts code (before ++ place ∷ []) (place + length i.lines) instances
+next_start : (code : Listing) (before : List ℕ) (place : ℕ) (i : PlannedInstance) (instances : List PlannedInstance)
+    → Starts code before place (i ∷ instances) → Starts code (before ++ place ∷ []) (place + length i.lines) instances
 next_start code before place i instances s = record {
   is = s.is ∙ sym (append_assoc before (place ∷ []) (starts_from (place + length i.lines) instances));
   below = below_last _ place before (omega arith) (wider (place + 1) _ before (omega arith) s.below);
 }
 
-start_there : (code : Listing) (before : List ℕ) (place : ℕ) (instances : List PlannedInstance) → Starts code before place instances → StartBefore code place instances
+start_there : (code : Listing) (before : List ℕ) (place : ℕ) (instances : List PlannedInstance) → Starts code before place instances
+    → StartBefore code place instances
 start_there code before place [] s = tt
 start_there code before place (i ∷ instances) s =
     ap (list_any (λ start. eqb start place)) s.is ∙ one_there before (starts_from (place + length i.lines) instances) place

@@ -71,19 +71,24 @@ begun_next : (code : Listing) (place : ℕ) (s : Standing) (lines : List Planned
 begun_next code place s [] h = tt
 begun_next code place s (line ∷ lines) h = entered_off code place s (is_start code place) refl h
 
-map_entered : (code : Listing) (place : ℕ) (o : Option Standing) → option_map (entered code) (option_map (standing_at place) o) ≡ option_map (arrived code place) o
+map_entered : (code : Listing) (place : ℕ) (o : Option Standing)
+    → option_map (entered code) (option_map (standing_at place) o) ≡ option_map (arrived code place) o
 map_entered code place None = refl
 map_entered code place (Some s) = refl
 
 -- one line's word
-line_step : (code : Listing) (place : ℕ) (s : Standing) (line : PlannedLine) → slice_get code.instructions place ≡ Some (word_of code.constants line.instruction) → IsServed code.constants line.instruction → arrived code place s ≡ standing_at place s → step code (arrived code place s) ≡ option_map (arrived code (place + 1)) (plans.effect code.slots line.instruction s)
+line_step : (code : Listing) (place : ℕ) (s : Standing) (line : PlannedLine)
+    → slice_get code.instructions place ≡ Some (word_of code.constants line.instruction) → IsServed code.constants line.instruction
+    → arrived code place s ≡ standing_at place s
+    → step code (arrived code place s) ≡ option_map (arrived code (place + 1)) (plans.effect code.slots line.instruction s)
 line_step code place s line word served begun =
     ap (step code) begun
     ∙ ap (step_by code (standing_at place s)) word
     ∙ ap (option_map (entered code)) (effect_same code place s line.instruction served)
     ∙ map_entered code (place + 1) (plans.effect code.slots line.instruction s)
 
-pub instance_same : (code : Listing) (lines : List PlannedLine) (place : ℕ) (s : Standing) → Lie code place lines → Begun code place s lines → after code (arrived code place s) (length lines) ≡ option_map (arrived code (place + length lines)) (instance_run code.slots lines s)
+pub instance_same : (code : Listing) (lines : List PlannedLine) (place : ℕ) (s : Standing) → Lie code place lines → Begun code place s lines
+    → after code (arrived code place s) (length lines) ≡ option_map (arrived code (place + length lines)) (instance_run code.slots lines s)
 instance_same code [] place s lie begun = let e : place ≡ place + 0 = omega arith in ap (λ (p : ℕ). Some (arrived code p s)) e
 instance_same code (line ∷ lines) place s lie begun =
     after_first code (arrived code place s) (length lines)
@@ -127,7 +132,8 @@ begun_fresh code place values (line ∷ lines) = fresh_arrives code place values
 abbrev values_of : Option Configuration → Option (List Value)
 values_of o = option_map (λ c. c.slots) o
 
-pub instances_same : (code : Listing) (instances : List PlannedInstance) (place : ℕ) (values : List Value) → AllLie code place instances → values_of (after code (at place values None) (length (all_lines instances))) ≡ instances_scan code.slots instances values
+pub instances_same : (code : Listing) (instances : List PlannedInstance) (place : ℕ) (values : List Value) → AllLie code place instances
+    → values_of (after code (at place values None) (length (all_lines instances))) ≡ instances_scan code.slots instances values
 instances_same code [] place values lie = refl
 instances_same code (i ∷ instances) place values lie =
     ap (λ (n : ℕ). values_of (after code (at place values None) n)) (length-append i.lines (all_lines instances))

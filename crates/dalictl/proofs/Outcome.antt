@@ -39,7 +39,8 @@ task_is tree only t zero is e = let same : only ≡ t = cc in subst (IsTaskOf tr
 task_is tree only t (suc k) is e = absurd (cc)
 
 -- a task's code is what is laid out for it
-code_is : (plan : Planned) (codes : List Accepted) (k : ℕ) (t : PlannedTask) (code : Accepted) → AreCodes plan plan.tasks codes → slice_get plan.tasks k ≡ Some t → slice_get codes k ≡ Some code → code.code ≡ laid_out plan.buses t
+code_is : (plan : Planned) (codes : List Accepted) (k : ℕ) (t : PlannedTask) (code : Accepted) → AreCodes plan plan.tasks codes
+    → slice_get plan.tasks k ≡ Some t → slice_get codes k ≡ Some code → code.code ≡ laid_out plan.buses t
 code_is plan codes k t code are is coded =
     let shown : Accepted → Listing = λ a. a.code in
     let mine : slice_get (map shown codes) k ≡ Some code.code = slice_get-map shown codes k ∙ ap (option_map shown) coded in

@@ -25,7 +25,8 @@ effect_place code c d (Store negated slot) e =
 effect_place code c d (Set slot) e = stands (c.place + 1) _ d (sym (write_same c.place c.slots true slot c.result (slice_get code.slots slot)) ∙ e)
 effect_place code c d (Reset slot) e = stands (c.place + 1) _ d (sym (write_same c.place c.slots false slot c.result (slice_get code.slots slot)) ∙ e)
 
-by_effect : (code : Listing) (c d : Configuration) (word : Instruction) (o : Option Configuration) → effect code c word ≡ o → option_map (entered code) o ≡ Some d → d.place ≡ c.place + 1
+by_effect : (code : Listing) (c d : Configuration) (word : Instruction) (o : Option Configuration) → effect code c word ≡ o
+    → option_map (entered code) o ≡ Some d → d.place ≡ c.place + 1
 by_effect code c d word None e h = absurd (cc)
 by_effect code c d word (Some b) e h =
     let p : entered code b ≡ d = cc in

@@ -32,7 +32,8 @@ task_is (Some t) (Some a) name words bound named worded bounded =
     let b : a.bound ≡ bound = cc in
     rw (n, w, b) refl
 
-pub variable_is : (text : List ℕ) (o : Option Slot) (p : Option Value) (instance variable : List ℕ) (value : Value) → option_map (λ s. text_of text s.instance) o ≡ Some instance
+pub variable_is : (text : List ℕ) (o : Option Slot) (p : Option Value) (instance variable : List ℕ) (value : Value)
+    → option_map (λ s. text_of text s.instance) o ≡ Some instance
     → option_map (λ s. text_of text s.variable) o ≡ Some variable → p ≡ Some value
     → of_both (λ slot v. printed_variable (text_of text slot.instance) (text_of text slot.variable) v) o p ≡ printed_variable instance variable value
 variable_is text None p instance variable value is_instance is_variable is_value = absurd (cc)

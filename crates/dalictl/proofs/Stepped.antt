@@ -19,7 +19,8 @@ pub one_more : (code : Accepted) (every n : ℕ) (from : List Value) (before : L
 one_more code every n from before values last to scans scan moment = rw add-one (before, values, last, scans, record { scan = scan; at_moment = moment }, refl)
 
 -- a longer front has one element more
-longer_front : {X : Type 0} (P : X → Type 0) (xs : List X) (k : ℕ) → k < length xs → IfSome (slice_get xs k) P → (x : X) × (take (suc k) xs ≡ take k xs ++ x ∷ []) × P x
+longer_front : {X : Type 0} (P : X → Type 0) (xs : List X) (k : ℕ) → k < length xs → IfSome (slice_get xs k) P
+    → (x : X) × (take (suc k) xs ≡ take k xs ++ x ∷ []) × P x
 longer_front P [] k h p = absurd (omega arith)
 longer_front P (x ∷ xs) zero h p = (x, refl, p)
 longer_front P (x ∷ xs) (suc k) h p =

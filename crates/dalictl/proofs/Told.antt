@@ -39,7 +39,8 @@ pub text_stop : (bytes : List ℕ) (fault : TextFault) (stop : Stop) → texts.I
 text_stop bytes text_faults.Memory stop h e = rw e tt
 text_stop bytes (text_faults.At line col cause) stop h e = rw e h
 
-pub name_stop : (bytes : List ℕ) (tree : Tree) (fault : NameFault) (stop : Stop) → IsText bytes tree → IsMemoryOrTellsLeast tree.text (IsFault tree) fault → stop ≡ of_name fault → IsPlanStop bytes stop
+pub name_stop : (bytes : List ℕ) (tree : Tree) (fault : NameFault) (stop : Stop) → IsText bytes tree
+    → IsMemoryOrTellsLeast tree.text (IsFault tree) fault → stop ≡ of_name fault → IsPlanStop bytes stop
 name_stop bytes tree name_faults.Memory stop is h e = rw e tt
 name_stop bytes tree (name_faults.At line col cause) stop is h e = rw e (tree, is, h)
 
@@ -49,7 +50,8 @@ there [] k h = absurd (omega arith)
 there (x ∷ xs) zero h = (x, refl)
 there (x ∷ xs) (suc k) h = there xs k (omega arith)
 
-code_stop_at : (plan : Planned) (k : ℕ) (t : PlannedTask) (stop : Stop) → slice_get plan.tasks k ≡ Some t → AreCertified plan k → IsTaskStop plan t stop → IsCodeStop plan stop
+code_stop_at : (plan : Planned) (k : ℕ) (t : PlannedTask) (stop : Stop) → slice_get plan.tasks k ≡ Some t → AreCertified plan k
+    → IsTaskStop plan t stop → IsCodeStop plan stop
 code_stop_at plan k t stops.Memory is before h = tt
 code_stop_at plan k t (stops.Code name refusal) is before h = record { number = k; task = t; is = is; before = before; named = h.0; refused = h.1 }
 code_stop_at plan k t (stops.Binding f) is before h = absurd h
@@ -57,26 +59,32 @@ code_stop_at plan k t (stops.Text f) is before h = absurd h
 code_stop_at plan k t (stops.Name f) is before h = absurd h
 code_stop_at plan k t (stops.NoTask n) is before h = absurd h
 
-pub code_stop : (plan : Planned) (k : ℕ) (stop : Stop) → k < length plan.tasks → AreCertified plan k → IfSome (slice_get plan.tasks k) (λ t. IsTaskStop plan t stop) → IsCodeStop plan stop
+pub code_stop : (plan : Planned) (k : ℕ) (stop : Stop) → k < length plan.tasks → AreCertified plan k
+    → IfSome (slice_get plan.tasks k) (λ t. IsTaskStop plan t stop) → IsCodeStop plan stop
 code_stop plan k stop below before h =
     let x = there plan.tasks k below in
     code_stop_at plan k x.0 stop x.1 before (subst (λ (o : Option PlannedTask). IfSome o (λ t. IsTaskStop plan t stop)) x.1 h)
 
-pub certified_more : (plan : Planned) (k : ℕ) → AreCertified plan k → IfSome (slice_get plan.tasks k) (λ t. IsCertified (laid_out plan.buses t)) → AreCertified plan (k + 1)
+pub certified_more : (plan : Planned) (k : ℕ) → AreCertified plan k → IfSome (slice_get plan.tasks k) (λ t. IsCertified (laid_out plan.buses t))
+    → AreCertified plan (k + 1)
 certified_more plan k before this =
     below_more (λ (j : ℕ). (t : PlannedTask) → slice_get plan.tasks j ≡ Some t → IsCertified (laid_out plan.buses t)) k before
     (λ t is. subst (λ (o : Option PlannedTask). IfSome o (λ t. IsCertified (laid_out plan.buses t))) is this)
 
-called_at : (o : Option PlannedTask) (name shown : List ℕ) → option_map (λ (t : PlannedTask). t.name) o ≡ Some shown → map to_ascii_lowercase shown ≡ map to_ascii_lowercase name → IfSome o (λ t. map to_ascii_lowercase t.name ≡ map to_ascii_lowercase name)
+called_at : (o : Option PlannedTask) (name shown : List ℕ) → option_map (λ (t : PlannedTask). t.name) o ≡ Some shown
+    → map to_ascii_lowercase shown ≡ map to_ascii_lowercase name → IfSome o (λ t. map to_ascii_lowercase t.name ≡ map to_ascii_lowercase name)
 called_at None name shown e h = absurd (cc)
 called_at (Some t) name shown e h = let same : t.name ≡ shown = cc in rw same h
 
-uncalled_at : (o : Option PlannedTask) (name shown : List ℕ) → option_map (λ (t : PlannedTask). t.name) o ≡ Some shown → IfSome o (λ t. map to_ascii_lowercase t.name ≡ map to_ascii_lowercase name) → map to_ascii_lowercase shown ≡ map to_ascii_lowercase name
+uncalled_at : (o : Option PlannedTask) (name shown : List ℕ) → option_map (λ (t : PlannedTask). t.name) o ≡ Some shown
+    → IfSome o (λ t. map to_ascii_lowercase t.name ≡ map to_ascii_lowercase name) → map to_ascii_lowercase shown ≡ map to_ascii_lowercase name
 uncalled_at None name shown e h = absurd (cc)
 uncalled_at (Some t) name shown e h = let same : t.name ≡ shown = cc in rw (sym same) h
 
-pub called : (plan : Planned) (name shown : List ℕ) (k : ℕ) → option_map (λ (t : PlannedTask). t.name) (slice_get plan.tasks k) ≡ Some shown → map to_ascii_lowercase shown ≡ map to_ascii_lowercase name → IsCalled plan name k
+pub called : (plan : Planned) (name shown : List ℕ) (k : ℕ) → option_map (λ (t : PlannedTask). t.name) (slice_get plan.tasks k) ≡ Some shown
+    → map to_ascii_lowercase shown ≡ map to_ascii_lowercase name → IsCalled plan name k
 called plan name shown k e h = called_at (slice_get plan.tasks k) name shown e h
 
-pub uncalled : (plan : Planned) (name shown : List ℕ) (k : ℕ) → option_map (λ (t : PlannedTask). t.name) (slice_get plan.tasks k) ≡ Some shown → IsCalled plan name k → map to_ascii_lowercase shown ≡ map to_ascii_lowercase name
+pub uncalled : (plan : Planned) (name shown : List ℕ) (k : ℕ) → option_map (λ (t : PlannedTask). t.name) (slice_get plan.tasks k) ≡ Some shown
+    → IsCalled plan name k → map to_ascii_lowercase shown ≡ map to_ascii_lowercase name
 uncalled plan name shown k e h = uncalled_at (slice_get plan.tasks k) name shown e h

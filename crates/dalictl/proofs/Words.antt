@@ -33,17 +33,20 @@ IsServed constants (planned.Reset slot) = Unit {0}
 abbrev pub standing_at : ℕ → plans.Standing → Configuration
 standing_at place s = at place s.values s.result
 
-operand_same : (code : Listing) (slots : List Value) (operand : PlannedOperand) → HasConstant code.constants operand → steps.value_of code slots (operand_of code.constants operand) ≡ plans.value_of slots operand
+operand_same : (code : Listing) (slots : List Value) (operand : PlannedOperand) → HasConstant code.constants operand
+    → steps.value_of code slots (operand_of code.constants operand) ≡ plans.value_of slots operand
 operand_same code slots (planned_operands.Slot slot) h = refl
 operand_same code slots (planned_operands.Constant value) h = h
 
-pub load_same : (place : ℕ) (slots : List Value) (result : Option Value) (negated : Bool) (operand : Option Value) → steps.load (at place slots result) negated operand ≡ option_map (standing_at (place + 1)) (plans.load negated slots operand)
+pub load_same : (place : ℕ) (slots : List Value) (result : Option Value) (negated : Bool) (operand : Option Value)
+    → steps.load (at place slots result) negated operand ≡ option_map (standing_at (place + 1)) (plans.load negated slots operand)
 load_same place slots result negated None = refl
 load_same place slots result negated (Some (values.Int n)) = refl
 load_same place slots result true (Some (values.Bool b)) = refl
 load_same place slots result false (Some (values.Bool b)) = refl
 
-pub apply_same : (place : ℕ) (slots : List Value) (operator : BooleanOperator) (negated : Bool) (result operand : Option Value) → steps.apply (at place slots result) operator negated result operand ≡ option_map (standing_at (place + 1)) (plans.apply operator negated slots result operand)
+pub apply_same : (place : ℕ) (slots : List Value) (operator : BooleanOperator) (negated : Bool) (result operand : Option Value)
+    → steps.apply (at place slots result) operator negated result operand ≡ option_map (standing_at (place + 1)) (plans.apply operator negated slots result operand)
 apply_same place slots operator negated None operand = refl
 apply_same place slots operator negated (Some (values.Int n)) operand = refl
 apply_same place slots operator negated (Some (values.Bool a)) None = refl
@@ -51,12 +54,14 @@ apply_same place slots operator negated (Some (values.Bool a)) (Some (values.Int
 apply_same place slots operator true (Some (values.Bool a)) (Some (values.Bool b)) = refl
 apply_same place slots operator false (Some (values.Bool a)) (Some (values.Bool b)) = refl
 
-pub invert_same : (place : ℕ) (slots : List Value) (result : Option Value) → steps.invert (at place slots result) result ≡ option_map (standing_at (place + 1)) (plans.invert slots result)
+pub invert_same : (place : ℕ) (slots : List Value) (result : Option Value)
+    → steps.invert (at place slots result) result ≡ option_map (standing_at (place + 1)) (plans.invert slots result)
 invert_same place slots None = refl
 invert_same place slots (Some (values.Int n)) = refl
 invert_same place slots (Some (values.Bool b)) = refl
 
-pub store_same : (place : ℕ) (slots : List Value) (negated : Bool) (slot : ℕ) (result : Option Value) (kind : Option IlType) → steps.store (at place slots result) negated slot result kind ≡ option_map (standing_at (place + 1)) (plans.store negated slot slots result kind)
+pub store_same : (place : ℕ) (slots : List Value) (negated : Bool) (slot : ℕ) (result : Option Value) (kind : Option IlType)
+    → steps.store (at place slots result) negated slot result kind ≡ option_map (standing_at (place + 1)) (plans.store negated slot slots result kind)
 store_same place slots negated slot None kind = refl
 store_same place slots negated slot (Some (values.Int n)) kind = refl
 store_same place slots negated slot (Some (values.Bool b)) None = refl
@@ -64,7 +69,8 @@ store_same place slots negated slot (Some (values.Bool b)) (Some (types.Int r)) 
 store_same place slots true slot (Some (values.Bool b)) (Some types.Bool) = refl
 store_same place slots false slot (Some (values.Bool b)) (Some types.Bool) = refl
 
-pub write_same : (place : ℕ) (slots : List Value) (written : Bool) (slot : ℕ) (result : Option Value) (kind : Option IlType) → steps.write (at place slots result) written slot result kind ≡ option_map (standing_at (place + 1)) (plans.write written slot slots result kind)
+pub write_same : (place : ℕ) (slots : List Value) (written : Bool) (slot : ℕ) (result : Option Value) (kind : Option IlType)
+    → steps.write (at place slots result) written slot result kind ≡ option_map (standing_at (place + 1)) (plans.write written slot slots result kind)
 write_same place slots written slot None kind = refl
 write_same place slots written slot (Some (values.Int n)) kind = refl
 write_same place slots written slot (Some (values.Bool true)) None = refl
@@ -75,7 +81,8 @@ write_same place slots written slot (Some (values.Bool true)) (Some types.Bool) 
 write_same place slots written slot (Some (values.Bool false)) (Some types.Bool) = refl
 
 -- what the word does, the instruction does
-pub effect_same : (code : Listing) (place : ℕ) (s : plans.Standing) (i : PlannedInstruction) → IsServed code.constants i → steps.effect code (standing_at place s) (word_of code.constants i) ≡ option_map (standing_at (place + 1)) (plans.effect code.slots i s)
+pub effect_same : (code : Listing) (place : ℕ) (s : plans.Standing) (i : PlannedInstruction) → IsServed code.constants i
+    → steps.effect code (standing_at place s) (word_of code.constants i) ≡ option_map (standing_at (place + 1)) (plans.effect code.slots i s)
 effect_same code place s (planned.Load negated operand) h =
     ap (λ (o : Option Value). steps.load (standing_at place s) negated o) (operand_same code s.values operand h)
     ∙ load_same place s.values s.result negated (plans.value_of s.values operand)

@@ -38,7 +38,8 @@ all_next instructions place (suc n) lt =
     let w = get instructions place (omega arith) in
     (record { word = w.0; is = w.1; leads = leads_next w.0 place; within = omega arith }, all_next instructions (place + 1) n (omega arith))
 
-few_next : (instructions : List Instruction) (place : ℕ) (more : List ℕ) → place < length instructions → AreNext instructions place more → length more + place < length instructions
+few_next : (instructions : List Instruction) (place : ℕ) (more : List ℕ) → place < length instructions → AreNext instructions place more
+    → length more + place < length instructions
 few_next instructions place [] lt h = omega arith
 few_next instructions place (to ∷ more) lt h =
     let e = next_is h.0.word place to h.0.leads in

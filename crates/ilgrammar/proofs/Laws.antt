@@ -8,7 +8,8 @@ pub bind_ok : {T A B : Type 0} (r : Result A (List T)) (f : A → Result B (List
 bind_ok (Ok x) f y e = (x, refl, e)
 bind_ok (Err d) f y e = absurd cc
 
-pub bind_err : {T A B : Type 0} (r : Result A (List T)) (f : A → Result B (List T)) (d : List T) → (r >>= f) ≡ Err d → (r ≡ Err d) ⊎ ((x : A) × (r ≡ Ok x) × (f x ≡ Err d))
+pub bind_err : {T A B : Type 0} (r : Result A (List T)) (f : A → Result B (List T)) (d : List T) → (r >>= f) ≡ Err d
+    → (r ≡ Err d) ⊎ ((x : A) × (r ≡ Ok x) × (f x ≡ Err d))
 bind_err (Ok x) f d e = inr (x, refl, e)
 bind_err (Err c) f d e = inl cc
 

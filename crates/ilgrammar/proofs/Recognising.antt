@@ -12,10 +12,12 @@ use Rattle.ilgrammar.specs.Recognising.{Spells, SpellsThenPart}
 abbrev pub NoCut : {T : Type 0} → (List T → Type 0) → (List T → Type 0) → List T → ℕ → ℕ → Type 0
 NoCut P Q ts low high = (k : ℕ) → k < high → low ≤ k → P (take k ts) → Q (drop k ts) → ⊥
 
-pub one_more : {T : Type 0} (P Q : List T → Type 0) (ts : List T) (low k : ℕ) → NoCut P Q ts low k → (P (take k ts) → Q (drop k ts) → ⊥) → NoCut P Q ts low (k + 1)
+pub one_more : {T : Type 0} (P Q : List T → Type 0) (ts : List T) (low k : ℕ) → NoCut P Q ts low k → (P (take k ts) → Q (drop k ts) → ⊥)
+    → NoCut P Q ts low (k + 1)
 one_more P Q ts low k none here = below_more (λ (j : ℕ). low ≤ j → P (take j ts) → Q (drop j ts) → ⊥) k none (λ l. here)
 
-place_of : {T : Type 0} (P Q : List T → Type 0) (ts u v : List T) → ts ≡ u ++ v → P u → Q v → (length u ≤ length ts) × P (take (length u) ts) × Q (drop (length u) ts)
+place_of : {T : Type 0} (P Q : List T → Type 0) (ts u v : List T) → ts ≡ u ++ v → P u → Q v
+    → (length u ≤ length ts) × P (take (length u) ts) × Q (drop (length u) ts)
 place_of {T} P Q ts u v e p q = (
   rw e (omega (arith, length-append u v)),
   subst (λ (z : List T). P (take (length u) z)) (sym e) (subst P (sym (take-append_seam u v)) p),
@@ -33,13 +35,15 @@ no_cut P Q ts u v high le none e p q =
 pub spells_at : {T A B : Type 0} (a : Item T A) (b : Item T B) (ts : List T) (k : ℕ) → Spells a (take k ts) → Spells b (drop k ts) → Spells (seq a b) ts
 spells_at a b ts k p q = ((p.0, q.0), (take k ts, drop k ts, sym (take-append-drop k ts), p.1, q.1))
 
-pub spells_nowhere : {T A B : Type 0} (a : Item T A) (b : Item T B) (ts : List T) (high : ℕ) → length ts < high → NoCut (Spells a) (Spells b) ts 0 high → Spells (seq a b) ts → ⊥
+pub spells_nowhere : {T A B : Type 0} (a : Item T A) (b : Item T B) (ts : List T) (high : ℕ) → length ts < high
+    → NoCut (Spells a) (Spells b) ts 0 high → Spells (seq a b) ts → ⊥
 spells_nowhere a b ts high le none s = no_cut (Spells a) (Spells b) ts s.1.0 s.1.1 high le none s.1.2 (s.0.0, s.1.3) (s.0.1, s.1.4)
 
 pub part_at : {T A B : Type 0} (a : Item T A) (b : Item T B) (ts : List T) (k : ℕ) → Spells a (take k ts) → b.part (drop k ts) → SpellsThenPart a b ts
 part_at a b ts k p q = (take k ts, drop k ts, p.0, sym (take-append-drop k ts), p.1, q)
 
-pub part_nowhere : {T A B : Type 0} (a : Item T A) (b : Item T B) (ts : List T) (high : ℕ) → length ts < high → NoCut (Spells a) b.part ts 0 high → SpellsThenPart a b ts → ⊥
+pub part_nowhere : {T A B : Type 0} (a : Item T A) (b : Item T B) (ts : List T) (high : ℕ) → length ts < high → NoCut (Spells a) b.part ts 0 high
+    → SpellsThenPart a b ts → ⊥
 part_nowhere a b ts high le none s = no_cut (Spells a) b.part ts s.0 s.1 high le none s.3 (s.2, s.4) s.5
 
 -- ---- an item any number of times
@@ -51,7 +55,8 @@ more_spelled a ts k p q = (p.0 ∷ q.0, (take k ts, drop k ts, sym (take-append-
 abbrev HasFirst : {T A : Type 0} → Item T A → List T → Type 0
 HasFirst a ts = (k : ℕ) × (1 ≤ k) × (k ≤ length ts) × Spells a (take k ts) × Spells (many a) (drop k ts)
 
-first_or_next : {T A : Type 0} (a : Item T A) (ts u v : List T) → ts ≡ u ++ v → Spells a u → Spells (many a) v → (ts ≡ v → (ts ≡ []) ⊎ HasFirst a ts) → (ts ≡ []) ⊎ HasFirst a ts
+first_or_next : {T A : Type 0} (a : Item T A) (ts u v : List T) → ts ≡ u ++ v → Spells a u → Spells (many a) v → (ts ≡ v → (ts ≡ []) ⊎ HasFirst a ts)
+    → (ts ≡ []) ⊎ HasFirst a ts
 first_or_next a ts [] v e p q next = next e
 first_or_next a ts (t ∷ u) v e p q next =
     let c = place_of (Spells a) (Spells (many a)) ts (t ∷ u) v e p q in
@@ -61,7 +66,8 @@ has_first : {T A : Type 0} (a : Item T A) (xs : List A) (ts : List T) → many_w
 has_first a [] ts h = inl h
 has_first {T} a (x ∷ xs) ts h = first_or_next a ts h.0 h.1 h.2 (x, h.3) (xs, h.4) (λ e. has_first a xs ts (subst (λ (z : List T). many_whole a z xs) (sym e) h.4))
 
-pub many_nowhere : {T A : Type 0} (a : Item T A) (ts : List T) (high : ℕ) → length ts < high → (ts ≡ [] → ⊥) → NoCut (Spells a) (Spells (many a)) ts 1 high → Spells (many a) ts → ⊥
+pub many_nowhere : {T A : Type 0} (a : Item T A) (ts : List T) (high : ℕ) → length ts < high → (ts ≡ [] → ⊥)
+    → NoCut (Spells a) (Spells (many a)) ts 1 high → Spells (many a) ts → ⊥
 many_nowhere a ts high le some none s = elim (has_first a s.0 ts s.1) [
   | inl e ↦ some e
   | inr c ↦
@@ -96,19 +102,22 @@ pub spells_one : {T A : Type 0} (class : T → Option A) (t : T) → IsSome (cla
 spells_one class t = (some_value (class t), λ y. is_some_value (class t) y.0 y.1)
 
 -- what decides whether the only token is of the class decides whether the tokens spell it
-pub only_whole : {T A R : Type 0} (class : T → Option A) (ts : List T) (d : T) → 1 ≤ length ts → length ts < 2 → R ↔ IsSome (class (get_or ts 0 d)) → R ↔ Spells (one class) ts
+pub only_whole : {T A R : Type 0} (class : T → Option A) (ts : List T) (d : T) → 1 ≤ length ts → length ts < 2 → R ↔ IsSome (class (get_or ts 0 d))
+    → R ↔ Spells (one class) ts
 only_whole class [] d least less h = absurd (omega arith)
 only_whole class (t ∷ []) d least less h = (λ r. (spells_one class t).0 (h.0 r), λ s. h.1 ((spells_one class t).1 s))
 only_whole class (t ∷ u ∷ ts) d least less h = absurd (omega arith)
 
-pub only_part : {T A R : Type 0} (class : T → Option A) (ts : List T) (d : T) → 1 ≤ length ts → length ts < 2 → R ↔ IsSome (class (get_or ts 0 d)) → R ↔ (one class).part ts
+pub only_part : {T A R : Type 0} (class : T → Option A) (ts : List T) (d : T) → 1 ≤ length ts → length ts < 2 → R ↔ IsSome (class (get_or ts 0 d))
+    → R ↔ (one class).part ts
 only_part class [] d least less h = absurd (omega arith)
 only_part class (t ∷ []) d least less h = only_whole class (t ∷ []) d least less h
 only_part class (t ∷ u ∷ ts) d least less h = absurd (omega arith)
 
 -- ---- the first fault
 
-stops_before : {T A : Type 0} (a : Item T A) (ts : List T) (n : ℕ) (rest : List T) → n < length ts → drop n ts ≡ rest → a.part (take n ts) → (a.part (take n ts ++ take 1 rest) → ⊥) → StopsBefore a ts (take n ts) rest
+stops_before : {T A : Type 0} (a : Item T A) (ts : List T) (n : ℕ) (rest : List T) → n < length ts → drop n ts ≡ rest → a.part (take n ts)
+    → (a.part (take n ts ++ take 1 rest) → ⊥) → StopsBefore a ts (take n ts) rest
 stops_before a ts n [] less e p stop = absurd (omega (arith, length-drop n ts, ap length e))
 stops_before {T} a ts n (t ∷ v) less e p stop = (sym (take-append-drop n ts) ∙ ap (λ (z : List T). take n ts ++ z) e, p, stop)
 
@@ -119,7 +128,8 @@ one_longer {T} ts n less =
     let seam = take-append-add (take n ts) (drop n ts) 1 in
     ap (λ (k : ℕ). take (k + 1) ts) (sym len) ∙ ap (λ (z : List T). take (length (take n ts) + 1) z) (sym whole) ∙ seam
 
-pub fault_at_cut : {T A : Type 0} (a : Item T A) (ts : List T) (n : ℕ) → n < length ts → a.part (take n ts) → (a.part (take (n + 1) ts) → ⊥) → FaultAt a ts (drop n ts)
+pub fault_at_cut : {T A : Type 0} (a : Item T A) (ts : List T) (n : ℕ) → n < length ts → a.part (take n ts) → (a.part (take (n + 1) ts) → ⊥)
+    → FaultAt a ts (drop n ts)
 fault_at_cut a ts n less p stop = (take n ts, stops_before a ts n (drop n ts) less refl p (λ q. stop (subst a.part (sym (one_longer ts n less)) q)))
 
 pub fault_at_end : {T A : Type 0} (a : Item T A) (ts : List T) → a.part (take (length ts) ts) → (Spells a ts → ⊥) → FaultAt a ts (drop (length ts) ts)

@@ -12,7 +12,8 @@ use Rattle.ilsyms.specs.declared.binding_lines.Entry.{Entry}
 use Rattle.ilsyms.specs.declared.binding_lines.Entry.TheVariants.{Skipped, Buses}
 
 -- one more line
-pub tell-push : (told : Option Wiring) (before : List (List ℕ)) (line : List ℕ) (entry : Entry) (here next : Option Wiring) → Tell told before here → Says line entry → Follows here entry next → Tell told (before ++ line ∷ []) next
+pub tell-push : (told : Option Wiring) (before : List (List ℕ)) (line : List ℕ) (entry : Entry) (here next : Option Wiring) → Tell told before here
+    → Says line entry → Follows here entry next → Tell told (before ++ line ∷ []) next
 tell-push told [] line entry here next tell says follows = (entry, next, says, subst (λ (w : Option Wiring). Follows w entry next) tell follows, refl)
 tell-push told (first ∷ before) line entry here next tell says follows =
     (tell.0, tell.1, tell.2, tell.3, tell-push tell.1 before line entry here next tell.4 says follows)
@@ -51,7 +52,8 @@ follows_one told Skipped a b h k = h ∙ sym k
 follows_one None (Buses n) a b h k = h ∙ sym k
 follows_one (Some w) (Buses n) a b h k = absurd h
 
-leads_to_one : (told : Option Wiring) (line : List ℕ) (e f : Entry) (a b : Option Wiring) → Says line e → Says line f → Follows told e a → Follows told f b → a ≡ b
+leads_to_one : (told : Option Wiring) (line : List ℕ) (e f : Entry) (a b : Option Wiring) → Says line e → Says line f → Follows told e a
+    → Follows told f b → a ≡ b
 leads_to_one told line e f a b s t h k = follows_one told e a b h (subst (λ (x : Entry). Follows told x b) (sym (says_one line e f s t)) k)
 
 pub tell_one : (told : Option Wiring) (all : List (List ℕ)) (a b : Option Wiring) → Tell told all a → Tell told all b → a ≡ b
@@ -66,7 +68,8 @@ BadFrom told [] k = ⊥
 BadFrom told (line ∷ more) zero = IsBadAfter told line
 BadFrom told (line ∷ more) (suc k) = (entry : Entry) × (next : Option Wiring) × Says line entry × Follows told entry next × BadFrom next more k
 
-bad_from : (told : Option Wiring) (before : List (List ℕ)) (line : List ℕ) (after : List (List ℕ)) (here : Option Wiring) → Tell told before here → IsBadAfter here line → BadFrom told (before ++ line ∷ after) (length before)
+bad_from : (told : Option Wiring) (before : List (List ℕ)) (line : List ℕ) (after : List (List ℕ)) (here : Option Wiring) → Tell told before here
+    → IsBadAfter here line → BadFrom told (before ++ line ∷ after) (length before)
 bad_from told [] line after here tell bad = subst (λ (w : Option Wiring). IsBadAfter w line) tell bad
 bad_from told (first ∷ before) line after here tell bad = (tell.0, tell.1, tell.2, tell.3, bad_from tell.1 before line after here tell.4 bad)
 
@@ -127,7 +130,8 @@ pub record IsRead (bytes rest : List ℕ) (told : Option Wiring) (line : ℕ) : 
 pub none_read : (bytes : List ℕ) → IsRead bytes bytes None 1
 none_read bytes = record { before = []; is = refl; tell = refl; counted = refl }
 
-pub line_read : (bytes rest after : List ℕ) (told next : Option Wiring) (number : ℕ) (line : List ℕ) (entry : Entry) → IsRead bytes rest told number → lines rest ≡ line ∷ lines after → Says line entry → Follows told entry next → IsRead bytes after next (number + 1)
+pub line_read : (bytes rest after : List ℕ) (told next : Option Wiring) (number : ℕ) (line : List ℕ) (entry : Entry) → IsRead bytes rest told number
+    → lines rest ≡ line ∷ lines after → Says line entry → Follows told entry next → IsRead bytes after next (number + 1)
 line_read bytes rest after told next number line entry r first says follows =
     record {
       before = r.before ++ line ∷ [];
@@ -136,7 +140,8 @@ line_read bytes rest after told next number line entry r first says follows =
       counted = omega (arith, length-append r.before (line ∷ []), r.counted);
     }
 
-pub bad_read : (bytes rest after : List ℕ) (told : Option Wiring) (number : ℕ) (line : List ℕ) → IsRead bytes rest told number → lines rest ≡ line ∷ lines after → IsBadAfter told line → IsFaultAt (lines bytes) number
+pub bad_read : (bytes rest after : List ℕ) (told : Option Wiring) (number : ℕ) (line : List ℕ) → IsRead bytes rest told number
+    → lines rest ≡ line ∷ lines after → IsBadAfter told line → IsFaultAt (lines bytes) number
 bad_read bytes rest after told number line r first bad =
     inl (record {
       before = r.before;
@@ -166,7 +171,9 @@ skipped_read bytes rest after buses now number line entry limits r first says is
       read = line_read bytes rest after (told_by_buses buses) (told_by_buses buses) number line Skipped r first (subst (Says line) is says) refl;
     })
 
-pub buses_read : (bytes rest after : List ℕ) (buses now : Option ℕ) (number : ℕ) (line : List ℕ) (entry : Entry) (n : ℕ) → IsRead bytes rest (told_by_buses buses) number → lines rest ≡ line ∷ lines after → Says line entry → entry ≡ Buses n → buses ≡ None → now ≡ Some n → GoesOn bytes after now (number + 1)
+pub buses_read : (bytes rest after : List ℕ) (buses now : Option ℕ) (number : ℕ) (line : List ℕ) (entry : Entry) (n : ℕ)
+    → IsRead bytes rest (told_by_buses buses) number → lines rest ≡ line ∷ lines after → Says line entry → entry ≡ Buses n → buses ≡ None
+    → now ≡ Some n → GoesOn bytes after now (number + 1)
 buses_read bytes rest after buses now number line entry n r first says is none so =
     let told : TellsBuses line n = subst (Says line) is says in
     let before = subst (λ (b : Option ℕ). IsRead bytes rest (told_by_buses b) number) none r in

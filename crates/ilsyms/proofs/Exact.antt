@@ -102,7 +102,8 @@ IsAmong lower keys ns place = SomeOf (λ n. IsIn keys (text_of lower n) × (plac
 abbrev IsLater : List ℕ → List Name → ℕ → Type 0
 IsLater lower ns place = SomeLater (λ e n. (text_of lower e ≡ text_of lower n) × (place ≡ n.from)) ns
 
-again_to : (lower : List ℕ) (ns : List Name) (keys : List (List ℕ)) (place : ℕ) → IsAgain lower keys ns place → IsAmong lower keys ns place ⊎ IsLater lower ns place
+again_to : (lower : List ℕ) (ns : List Name) (keys : List (List ℕ)) (place : ℕ) → IsAgain lower keys ns place
+    → IsAmong lower keys ns place ⊎ IsLater lower ns place
 again_to lower [] keys place h = inl h
 again_to lower (n ∷ ns) keys place (inl a) = inl (inl a)
 again_to lower (n ∷ ns) keys place (inr h) =
@@ -156,25 +157,29 @@ abbrev InDeclarations : List ℕ → List (List ℕ) → List Variables → ℕ 
 InDeclarations lower keys ds place cause =
     ((cause ≡ BadDeclaration) × SomeOf (IsBadIn place) ds) ⊎ ((cause ≡ Twice) × IsAgain lower keys (flat_map (λ d. d.names) ds) place)
 
-declared_to : (lower : List ℕ) (ds : List Variables) (keys : List (List ℕ)) (place : ℕ) (cause : NameCause) → AreDeclared lower keys ds place cause → InDeclarations lower keys ds place cause
+declared_to : (lower : List ℕ) (ds : List Variables) (keys : List (List ℕ)) (place : ℕ) (cause : NameCause) → AreDeclared lower keys ds place cause
+    → InDeclarations lower keys ds place cause
 declared_to lower [] keys place cause h = absurd h
 declared_to lower (d ∷ ds) keys place cause (inl b) = inl (b.0, inl b.1)
 declared_to lower (d ∷ ds) keys place cause (inr (inl t)) = inr (t.0, append_again lower d.names _ keys place (inl t.1))
 declared_to lower (d ∷ ds) keys place cause (inr (inr r)) =
     or_else (λ b. inl (b.0, inr b.1)) (λ t. inr (t.0, append_again lower d.names _ keys place (inr t.1))) (declared_to lower ds (after_all lower keys d.names) place cause r)
 
-declared_from_bad : (lower : List ℕ) (ds : List Variables) (keys : List (List ℕ)) (place : ℕ) (cause : NameCause) → cause ≡ BadDeclaration → SomeOf (IsBadIn place) ds → AreDeclared lower keys ds place cause
+declared_from_bad : (lower : List ℕ) (ds : List Variables) (keys : List (List ℕ)) (place : ℕ) (cause : NameCause) → cause ≡ BadDeclaration
+    → SomeOf (IsBadIn place) ds → AreDeclared lower keys ds place cause
 declared_from_bad lower [] keys place cause e h = h
 declared_from_bad lower (d ∷ ds) keys place cause e (inl b) = inl (e, b)
 declared_from_bad lower (d ∷ ds) keys place cause e (inr s) = inr (inr (declared_from_bad lower ds _ place cause e s))
 
-declared_from_twice : (lower : List ℕ) (ds : List Variables) (keys : List (List ℕ)) (place : ℕ) (cause : NameCause) → cause ≡ Twice → IsAgain lower keys (flat_map (λ d. d.names) ds) place →
+declared_from_twice : (lower : List ℕ) (ds : List Variables) (keys : List (List ℕ)) (place : ℕ) (cause : NameCause) → cause ≡ Twice
+    → IsAgain lower keys (flat_map (λ d. d.names) ds) place →
     AreDeclared lower keys ds place cause
 declared_from_twice lower [] keys place cause e h = h
 declared_from_twice lower (d ∷ ds) keys place cause e h =
     or_else (λ t. inr (inl (e, t))) (λ r. inr (inr (declared_from_twice lower ds _ place cause e r))) (again_append lower d.names _ keys place h)
 
-table_after : (lower : List ℕ) (ds : List Variables) (keys : List (List ℕ)) (o : Option Found) → (with_declarations lower (gathered keys o) ds).names ≡ after_all lower keys (flat_map (λ d. d.names) ds)
+table_after : (lower : List ℕ) (ds : List Variables) (keys : List (List ℕ)) (o : Option Found)
+    → (with_declarations lower (gathered keys o) ds).names ≡ after_all lower keys (flat_map (λ d. d.names) ds)
 table_after lower [] keys o = refl
 table_after lower (d ∷ ds) keys o =
     table_after lower ds ((with_declaration lower (gathered keys o) d).names) ((with_declaration lower (gathered keys o) d).least)
@@ -241,7 +246,8 @@ InPrograms text keys ps place cause =
     ((cause ≡ Twice) × (IsAgain (lowered text) keys (map (λ p. p.name) ps) place ⊎ SomeOf (λ p. IsTwiceIn text (variables_of p) place) ps))
     ⊎ ((cause ≡ BadDeclaration) × SomeOf (λ p. SomeOf (IsBadIn place) p.declarations) ps)
 
-faults_to : (text : List ℕ) (ps : List Written) (keys : List (List ℕ)) (place : ℕ) (cause : NameCause) → AreFaults (lowered text) keys ps place cause → InPrograms text keys ps place cause
+faults_to : (text : List ℕ) (ps : List Written) (keys : List (List ℕ)) (place : ℕ) (cause : NameCause) → AreFaults (lowered text) keys ps place cause
+    → InPrograms text keys ps place cause
 faults_to text [] keys place cause h = absurd h
 faults_to text (p ∷ ps) keys place cause (inl t) = inl (t.0, inl (inl t.1))
 faults_to text (p ∷ ps) keys place cause (inr (inl d)) =
@@ -251,17 +257,20 @@ faults_to text (p ∷ ps) keys place cause (inr (inr r)) =
     or_else (λ t. inl (t.0, or_else (λ a. inl (inr a)) (λ s. inr (inr s)) t.1)) (λ b. inr (b.0, inr b.1))
     (faults_to text ps (after (lowered text) keys p.name) place cause r)
 
-faults_twice : (text : List ℕ) (ps : List Written) (keys : List (List ℕ)) (place : ℕ) → IsAgain (lowered text) keys (map (λ p. p.name) ps) place → AreFaults (lowered text) keys ps place Twice
+faults_twice : (text : List ℕ) (ps : List Written) (keys : List (List ℕ)) (place : ℕ) → IsAgain (lowered text) keys (map (λ p. p.name) ps) place
+    → AreFaults (lowered text) keys ps place Twice
 faults_twice text [] keys place h = h
 faults_twice text (p ∷ ps) keys place (inl a) = inl (refl, a)
 faults_twice text (p ∷ ps) keys place (inr h) = inr (inr (faults_twice text ps _ place h))
 
-faults_variables : (text : List ℕ) (ps : List Written) (keys : List (List ℕ)) (place : ℕ) → SomeOf (λ p. IsTwiceIn text (variables_of p) place) ps → AreFaults (lowered text) keys ps place Twice
+faults_variables : (text : List ℕ) (ps : List Written) (keys : List (List ℕ)) (place : ℕ) → SomeOf (λ p. IsTwiceIn text (variables_of p) place) ps
+    → AreFaults (lowered text) keys ps place Twice
 faults_variables text [] keys place h = h
 faults_variables text (p ∷ ps) keys place (inl t) = inr (inl (declared_from_twice (lowered text) p.declarations [] place Twice refl (twice_from text place (variables_of p) t)))
 faults_variables text (p ∷ ps) keys place (inr s) = inr (inr (faults_variables text ps _ place s))
 
-faults_bad : (text : List ℕ) (ps : List Written) (keys : List (List ℕ)) (place : ℕ) → SomeOf (λ p. SomeOf (IsBadIn place) p.declarations) ps → AreFaults (lowered text) keys ps place BadDeclaration
+faults_bad : (text : List ℕ) (ps : List Written) (keys : List (List ℕ)) (place : ℕ) → SomeOf (λ p. SomeOf (IsBadIn place) p.declarations) ps
+    → AreFaults (lowered text) keys ps place BadDeclaration
 faults_bad text [] keys place h = h
 faults_bad text (p ∷ ps) keys place (inl b) = inr (inl (declared_from_bad (lowered text) p.declarations [] place BadDeclaration refl b))
 faults_bad text (p ∷ ps) keys place (inr s) = inr (inr (faults_bad text ps _ place s))

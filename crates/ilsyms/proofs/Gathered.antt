@@ -121,7 +121,8 @@ IsAgain lower keys [] place = ⊥
 IsAgain lower keys (n ∷ ns) place =
     ((is_some (number_in keys (text_of lower n)) ≡ true) × (place ≡ n.from)) ⊎ IsAgain lower (after lower keys n) ns place
 
-apart : (b : Bool) (keys more : List (List ℕ)) (o l : Option Found) → (if b then gathered keys l else gathered more o) ≡ gathered (if b then keys else more) (if b then l else o)
+apart : (b : Bool) (keys more : List (List ℕ)) (o l : Option Found)
+    → (if b then gathered keys l else gathered more o) ≡ gathered (if b then keys else more) (if b then l else o)
 apart true keys more o l = refl
 apart false keys more o l = refl
 
@@ -143,7 +144,8 @@ names_best lower (n ∷ ns) keys P o l =
     (λ place cause q. or_else (λ p. inl (inl p)) (λ y. or_else (λ z. inl (inr (y.0, z))) (λ z. inr (y.0, z)) y.1) q)
     rest)
 
-pub names_after : (lower : List ℕ) (ns : List Name) (keys : List (List ℕ)) (o : Option Found) → (with_names lower (gathered keys o) ns).names ≡ after_all lower keys ns
+pub names_after : (lower : List ℕ) (ns : List Name) (keys : List (List ℕ)) (o : Option Found)
+    → (with_names lower (gathered keys o) ns).names ≡ after_all lower keys ns
 names_after lower [] keys o = refl
 names_after lower (n ∷ ns) keys o = ap (λ (g : Gathered). (with_names lower g ns).names) (name_is lower keys o n) ∙ names_after lower ns (after lower keys n) _
 

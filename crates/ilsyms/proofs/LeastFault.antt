@@ -40,7 +40,8 @@ excess_best (Some at) P o l =
 abbrev different : List Line → List Value
 different lines = each_once (constants_of lines)
 
-one_constant : (k : List Value) (o : Option Value) (c : Counted) (at : ℕ) → c.constants ≡ k → (with_one c at o).constants ≡ fold with_constant k (cons_option o [])
+one_constant : (k : List Value) (o : Option Value) (c : Counted) (at : ℕ) → c.constants ≡ k
+    → (with_one c at o).constants ≡ fold with_constant k (cons_option o [])
 one_constant k None c at e = e
 one_constant k (Some v) c at e = added (list_any (same_value v) c.constants) refl
   where
@@ -229,11 +230,13 @@ none_best F (Some f) l e = absurd cc
 pub well_named : (tree : Tree) → least_fault tree ≡ None → IsWellNamed tree
 well_named tree h = none_best (IsFault tree) (least_fault tree) (all_best tree) h
 
-told_least : (text : List ℕ) (F : ℕ → NameCause → Type 0) (f : Found) (fault : NameFault) → IsLeast F f.at f.cause → IsTold text f fault → TellsLeast text F fault
+told_least : (text : List ℕ) (F : ℕ → NameCause → Type 0) (f : Found) (fault : NameFault) → IsLeast F f.at f.cause → IsTold text f fault
+    → TellsLeast text F fault
 told_least text F f Memory l h = absurd h
 told_least text F f (At line col cause) l h = (f.at, subst (λ (k : NameCause). IsLeast F f.at k) (sym h.2) l, h.0, h.1)
 
-memory_or : (text : List ℕ) (F : ℕ → NameCause → Type 0) (o : Option Found) (fault : NameFault) → IsBest F o → IsMemoryOrTold text o fault → IsMemoryOrTellsLeast text F fault
+memory_or : (text : List ℕ) (F : ℕ → NameCause → Type 0) (o : Option Found) (fault : NameFault) → IsBest F o → IsMemoryOrTold text o fault
+    → IsMemoryOrTellsLeast text F fault
 memory_or text F o Memory l h = tt
 memory_or text F None (At line col cause) l h = absurd h
 memory_or text F (Some f) (At line col cause) l h = told_least text F f (At line col cause) l h

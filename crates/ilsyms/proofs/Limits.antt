@@ -70,7 +70,8 @@ lines_constants text lower names base [] rest more h = h
 lines_constants text lower names base (l ∷ ls) rest more h =
     rw (instruction_constant lower names base l.instruction, lines_constants text lower names base ls rest more h) refl
 
-pub all_constants : (text lower : List ℕ) (ps : List Written) (base : ℕ) → constants_in (all_lines (instances_from text lower base ps)) ≡ constants_of (lines_of ps)
+pub all_constants : (text lower : List ℕ) (ps : List Written) (base : ℕ)
+    → constants_in (all_lines (instances_from text lower base ps)) ≡ constants_of (lines_of ps)
 all_constants text lower [] base = refl
 all_constants text lower (p ∷ ps) base = lines_constants text lower (table_of lower p) base p.lines _ _ (all_constants text lower ps _)
 

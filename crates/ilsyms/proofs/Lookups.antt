@@ -24,7 +24,8 @@ pub first_at-map : {X Y : Type 0} (test : Y → Bool) (f : X → Y) (xs : List X
 first_at-map test f [] = refl
 first_at-map test f (x ∷ xs) = rw (first_at-map test f xs) refl
 
-none_more : {X : Type 0} (test : X → Bool) (b : Bool) (o : Option ℕ) (r : Bool) → (o ≡ None → r ≡ false) → cond b (Some 0) (option_map suc o) ≡ None → (b || r) ≡ false
+none_more : {X : Type 0} (test : X → Bool) (b : Bool) (o : Option ℕ) (r : Bool) → (o ≡ None → r ≡ false) → cond b (Some 0) (option_map suc o) ≡ None
+    → (b || r) ≡ false
 none_more test true o r h e = absurd cc
 none_more test false None r h e = h refl
 none_more test false (Some n) r h e = absurd cc

@@ -202,12 +202,14 @@ Lawful-blocks : Lawful Token (List (List Variables)) blocks (λ t. NoEnd t × No
 unfolding blocks vars
 Lawful-blocks = from_many (λ t e. word_no_end words.Var t e) Firm-vars
 
-body_word_apart : (w : Keyword) (f g : ℕ) → (lead lines (spaced (word words.EndProgram))).starts (token_of (kinds.Keyword w) f g) ≡ true → NoVar (token_of (kinds.Keyword w) f g)
+body_word_apart : (w : Keyword) (f g : ℕ) → (lead lines (spaced (word words.EndProgram))).starts (token_of (kinds.Keyword w) f g) ≡ true
+    → NoVar (token_of (kinds.Keyword w) f g)
 unfolding lines line instruction word
 body_word_apart words.Var f g e = absurd cc
 body_word_apart _ f g e = refl
 
-body_apart : (k : Kind) (f g : ℕ) → (lead lines (spaced (word words.EndProgram))).starts (token_of k f g) ≡ true → NoEnd (token_of k f g) × NoVar (token_of k f g)
+body_apart : (k : Kind) (f g : ℕ) → (lead lines (spaced (word words.EndProgram))).starts (token_of k f g) ≡ true
+    → NoEnd (token_of k f g) × NoVar (token_of k f g)
 unfolding lines line instruction word mark
 body_apart (kinds.Keyword w) f g e = (refl, body_word_apart w f g e)
 body_apart (kinds.Mark marks.LineEnd) f g e = absurd cc

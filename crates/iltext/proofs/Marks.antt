@@ -34,7 +34,8 @@ unfolding word
 Firm-word w = Firm-one _ (token_of (kinds.Keyword w) 0 0) tt (itself (number w))
 
 -- what a reserved word is apart from
-pub apart_word : (w : Keyword) (p : Token → Bool) → ((f g : ℕ) → p (token_of (kinds.Keyword w) f g) ≡ false) → (k : Kind) (f g : ℕ) → (word w).starts (token_of k f g) ≡ true → p (token_of k f g) ≡ false
+pub apart_word : (w : Keyword) (p : Token → Bool) → ((f g : ℕ) → p (token_of (kinds.Keyword w) f g) ≡ false) → (k : Kind) (f g : ℕ)
+    → (word w).starts (token_of k f g) ≡ true → p (token_of k f g) ≡ false
 unfolding word
 apart_word w p h (kinds.Keyword v) f g e =
     let same : w ≡ v = sym (same_number v w (eqb-true (number v) (number w) (chosen (eqb (number v) (number w)) e))) in
@@ -56,7 +57,8 @@ unfolding mark
 Firm-mark m = Firm-one _ (token_of (kinds.Mark m) 0 0) tt (itself (mark_number m))
 
 -- what a mark is apart from
-pub apart_mark : (m : Mark) (p : Token → Bool) → ((f g : ℕ) → p (token_of (kinds.Mark m) f g) ≡ false) → (k : Kind) (f g : ℕ) → (mark m).starts (token_of k f g) ≡ true → p (token_of k f g) ≡ false
+pub apart_mark : (m : Mark) (p : Token → Bool) → ((f g : ℕ) → p (token_of (kinds.Mark m) f g) ≡ false) → (k : Kind) (f g : ℕ)
+    → (mark m).starts (token_of k f g) ≡ true → p (token_of k f g) ≡ false
 unfolding mark
 apart_mark m p h (kinds.Mark n) f g e =
     let same : m ≡ n = sym (same_mark n m (eqb-true (mark_number n) (mark_number m) (chosen (eqb (mark_number n) (mark_number m)) e))) in

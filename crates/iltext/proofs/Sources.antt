@@ -15,7 +15,8 @@ use Rattle.iltext.specs.Parsing.{IsText, IsReadAs, IsFault, IsParsed}
 use Rattle.iltext.proofs.Cut.{one_cut}
 use Rattle.iltext.proofs.Laws.{Lawful-text}
 
-pub is_found : (bytes : List ℕ) (ts : List Token) (r : Result Tree TextFault) → length bytes ≤ MAX_BYTES → Cuts bytes 0 ts → IsParsed bytes ts r → IfOk r (λ tree. IsText bytes tree)
+pub is_found : (bytes : List ℕ) (ts : List Token) (r : Result Tree TextFault) → length bytes ≤ MAX_BYTES → Cuts bytes 0 ts → IsParsed bytes ts r
+    → IfOk r (λ tree. IsText bytes tree)
 is_found bytes ts (Ok tree) short cut p = record { short = short; same = p.0; tokens = ts; cut = cut; whole = whole_found _ _ _ _ Lawful-text ts tree.programs p.1 }
 is_found bytes ts (Err e) short cut p = tt
 
@@ -36,13 +37,15 @@ same_tree a b t p = let e : made a.text a.programs ≡ made b.text b.programs = 
 same_programs : (ps qs : List Written) → done ps ≡ done qs → ps ≡ qs
 same_programs ps qs e = cc
 
-pub is_only : (bytes : List ℕ) (ts : List Token) (r : Result Tree TextFault) → Cuts bytes 0 ts → IsParsed bytes ts r → (tree : Tree) → IsText bytes tree → IsReadAs tree r
+pub is_only : (bytes : List ℕ) (ts : List Token) (r : Result Tree TextFault) → Cuts bytes 0 ts → IsParsed bytes ts r → (tree : Tree)
+    → IsText bytes tree → IsReadAs tree r
 is_only bytes ts (Ok source) cut p tree t =
     same_tree source tree (p.0 ∙ sym t.same) (same_programs source.programs tree.programs (sym p.1 ∙ reads bytes ts tree cut t))
 is_only bytes ts (Err faults.Memory) cut p tree t = tt
 is_only bytes ts (Err (faults.At line col cause)) cut p tree t = let bad = sym p.1 ∙ reads bytes ts tree cut t in cc
 
-pub is_fault : (bytes : List ℕ) (ts : List Token) (r : Result Tree TextFault) → length bytes ≤ MAX_BYTES → Cuts bytes 0 ts → IsParsed bytes ts r → IfErr r (λ fault. IsFault bytes fault)
+pub is_fault : (bytes : List ℕ) (ts : List Token) (r : Result Tree TextFault) → length bytes ≤ MAX_BYTES → Cuts bytes 0 ts → IsParsed bytes ts r
+    → IfErr r (λ fault. IsFault bytes fault)
 is_fault bytes ts (Ok source) short cut p = tt
 is_fault bytes ts (Err faults.Memory) short cut p = tt
 is_fault bytes ts (Err (faults.At line col cause)) short cut p =

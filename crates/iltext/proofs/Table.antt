@@ -18,7 +18,8 @@ either : (a b : Option Keyword) (w : Keyword) → otherwise a b ≡ Some w → (
 either (Some v) b w e = inl e
 either None b w e = inr e
 
-then_spelled : (text : List ℕ) (ws : List Keyword) (other : Option Keyword) (w : Keyword) → (other ≡ Some w → text ≡ spelling w) → otherwise (find text ws) other ≡ Some w → text ≡ spelling w
+then_spelled : (text : List ℕ) (ws : List Keyword) (other : Option Keyword) (w : Keyword) → (other ≡ Some w → text ≡ spelling w)
+    → otherwise (find text ws) other ≡ Some w → text ≡ spelling w
 then_spelled text ws other w h e = elim (either (find text ws) other w e) [ inl f ↦ spelled text ws w f | inr o ↦ h o ]
 
 pub is_spelled : (text : List ℕ) (w : Keyword) → word_of text ≡ Some w → text ≡ spelling w
@@ -39,7 +40,19 @@ pub one_word : (v w : Keyword) → spelling v ≡ spelling w → v ≡ w
 one_word v w e = let a = each_found v in let b = each_found w in let c = ap word_of e in cc
 
 abbrev all_words : List Keyword
-all_words = words.Ld ∷ words.Ldn ∷ words.St ∷ words.Stn ∷ words.S ∷ words.R ∷ words.And ∷ words.Andn ∷ words.Or ∷ words.Orn ∷ words.Xor ∷ words.Xorn ∷ words.Not ∷ words.Add ∷ words.Sub ∷ words.Mul ∷ words.Div ∷ words.Mod ∷ words.Gt ∷ words.Ge ∷ words.Eq ∷ words.Ne ∷ words.Le ∷ words.Lt ∷ words.Jmp ∷ words.Jmpc ∷ words.Jmpcn ∷ words.Cal ∷ words.Calc ∷ words.Calcn ∷ words.Ret ∷ words.Retc ∷ words.Retcn ∷ words.Min ∷ words.Max ∷ words.Limit ∷ words.Abs ∷ words.SintToInt ∷ words.SintToDint ∷ words.SintToUsint ∷ words.SintToUint ∷ words.SintToUdint ∷ words.IntToSint ∷ words.IntToDint ∷ words.IntToUsint ∷ words.IntToUint ∷ words.IntToUdint ∷ words.DintToSint ∷ words.DintToInt ∷ words.DintToUsint ∷ words.DintToUint ∷ words.DintToUdint ∷ words.UsintToSint ∷ words.UsintToInt ∷ words.UsintToDint ∷ words.UsintToUint ∷ words.UsintToUdint ∷ words.UintToSint ∷ words.UintToInt ∷ words.UintToDint ∷ words.UintToUsint ∷ words.UintToUdint ∷ words.UdintToSint ∷ words.UdintToInt ∷ words.UdintToDint ∷ words.UdintToUsint ∷ words.UdintToUint ∷ words.Bool ∷ words.Time ∷ words.Sint ∷ words.Int ∷ words.Dint ∷ words.Usint ∷ words.Uint ∷ words.Udint ∷ words.RTrig ∷ words.Ctu ∷ words.Ton ∷ words.GearLevel ∷ words.GearDo ∷ words.GearSet ∷ words.GearPair ∷ words.GearAsk ∷ words.GearRead ∷ words.DevDo ∷ words.DevScheme ∷ words.DevAsk ∷ words.True ∷ words.False ∷ words.Type ∷ words.EndType ∷ words.Program ∷ words.EndProgram ∷ words.Var ∷ words.EndVar ∷ words.VarExternal ∷ words.VarGlobal ∷ words.Configuration ∷ words.EndConfiguration ∷ words.Resource ∷ words.EndResource ∷ words.On ∷ words.At ∷ words.Task ∷ words.Single ∷ words.Interval ∷ words.Priority ∷ words.With ∷ []
+all_words =
+    words.Ld ∷ words.Ldn ∷ words.St ∷ words.Stn ∷ words.S ∷ words.R ∷ words.And ∷ words.Andn ∷ words.Or ∷ words.Orn ∷ words.Xor ∷ words.Xorn ∷
+    words.Not ∷ words.Add ∷ words.Sub ∷ words.Mul ∷ words.Div ∷ words.Mod ∷ words.Gt ∷ words.Ge ∷ words.Eq ∷ words.Ne ∷ words.Le ∷ words.Lt ∷
+    words.Jmp ∷ words.Jmpc ∷ words.Jmpcn ∷ words.Cal ∷ words.Calc ∷ words.Calcn ∷ words.Ret ∷ words.Retc ∷ words.Retcn ∷ words.Min ∷ words.Max ∷
+    words.Limit ∷ words.Abs ∷ words.SintToInt ∷ words.SintToDint ∷ words.SintToUsint ∷ words.SintToUint ∷ words.SintToUdint ∷ words.IntToSint ∷
+    words.IntToDint ∷ words.IntToUsint ∷ words.IntToUint ∷ words.IntToUdint ∷ words.DintToSint ∷ words.DintToInt ∷ words.DintToUsint ∷
+    words.DintToUint ∷ words.DintToUdint ∷ words.UsintToSint ∷ words.UsintToInt ∷ words.UsintToDint ∷ words.UsintToUint ∷ words.UsintToUdint ∷
+    words.UintToSint ∷ words.UintToInt ∷ words.UintToDint ∷ words.UintToUsint ∷ words.UintToUdint ∷ words.UdintToSint ∷ words.UdintToInt ∷
+    words.UdintToDint ∷ words.UdintToUsint ∷ words.UdintToUint ∷ words.Bool ∷ words.Time ∷ words.Sint ∷ words.Int ∷ words.Dint ∷ words.Usint ∷
+    words.Uint ∷ words.Udint ∷ words.RTrig ∷ words.Ctu ∷ words.Ton ∷ words.GearLevel ∷ words.GearDo ∷ words.GearSet ∷ words.GearPair ∷ words.GearAsk ∷
+    words.GearRead ∷ words.DevDo ∷ words.DevScheme ∷ words.DevAsk ∷ words.True ∷ words.False ∷ words.Type ∷ words.EndType ∷ words.Program ∷
+    words.EndProgram ∷ words.Var ∷ words.EndVar ∷ words.VarExternal ∷ words.VarGlobal ∷ words.Configuration ∷ words.EndConfiguration ∷
+    words.Resource ∷ words.EndResource ∷ words.On ∷ words.At ∷ words.Task ∷ words.Single ∷ words.Interval ∷ words.Priority ∷ words.With ∷ []
 
 back : (w : Keyword) → get_or all_words (number w) words.Ld ≡ w
 back words.Ld = refl

@@ -30,7 +30,8 @@ abbrev Closed : List ℕ → Option (List ℕ) → Type 0
 Closed bs (Some rest) = (inside : List ℕ) × (bs ≡ inside ++ 42 ∷ 41 ∷ rest) × NoClose (inside ++ 42 ∷ [])
 Closed bs None = NoClose bs
 
-one_more : (b c : ℕ) (bs inside rest : List ℕ) → (b ≡ 42 → c ≡ 41 → ⊥) → c ∷ bs ≡ inside ++ 42 ∷ 41 ∷ rest → NoClose (inside ++ 42 ∷ []) → NoClose (b ∷ (inside ++ 42 ∷ []))
+one_more : (b c : ℕ) (bs inside rest : List ℕ) → (b ≡ 42 → c ≡ 41 → ⊥) → c ∷ bs ≡ inside ++ 42 ∷ 41 ∷ rest → NoClose (inside ++ 42 ∷ [])
+    → NoClose (b ∷ (inside ++ 42 ∷ []))
 one_more b c bs [] rest away e h = (λ x y. omega arith, tt)
 one_more b c bs (d ∷ inside) rest away e h = let same : c ≡ d = cc in (λ x y. away x (same ∙ y), h)
 

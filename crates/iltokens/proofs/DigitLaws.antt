@@ -58,7 +58,8 @@ no_more P u bs value cv h e = ([], value, refl, subst (λ (z : List ℕ). P z va
 step : (P : List ℕ → ℕ → Type 0) (u w bs rest : List ℕ) (r : ℕ × List ℕ) → bs ≡ w ++ rest → More P (u ++ w) rest r → More P u bs r
 step P u w bs rest r e h = (w ++ h.0, h.1, e ∙ ap (λ (z : List ℕ). w ++ z) h.2 ∙ sym (append_assoc w h.0 r.1), subst (λ (z : List ℕ). P z h.1) (append_assoc u w h.0) h.3, h.4)
 
-digits_more : (base : ℕ) → 0 < base → (k cv : ℕ) (bs u : List ℕ) (value : ℕ) → forms.Digits base u value → cv ≡ capped value → More (forms.Digits base) u bs (digits_read k base cv bs)
+digits_more : (base : ℕ) → 0 < base → (k cv : ℕ) (bs u : List ℕ) (value : ℕ) → forms.Digits base u value → cv ≡ capped value
+    → More (forms.Digits base) u bs (digits_read k base cv bs)
 unfolding digits_read
 digits_more base lt zero cv bs u value h e = no_more (forms.Digits base) u bs value cv h e
 digits_more base lt (suc k) cv bs u value h e = go (next_digit base bs) (is_next base bs) (digits_more base lt k)

@@ -49,7 +49,8 @@ mark_next base d bs le is = let no : is_digit base 95 ≡ false = no_mark base l
 grown : (base v d : ℕ) (bs : List ℕ) → 0 < base → digits_from base (add_digit base (capped v) d) bs ≡ digits_from base (capped (v * base + digit_of d)) bs
 grown base v d bs lt = ap (λ (c : ℕ). digits_from base c bs) (capped_digit base v d lt)
 
-from_more : (base : ℕ) → 0 < base → base ≤ 16 → (v : ℕ) (w : List ℕ) (n : ℕ) → More base v w n → (rest : List ℕ) → digits_from base (capped v) (w ++ rest) ≡ digits_from base (capped n) rest
+from_more : (base : ℕ) → 0 < base → base ≤ 16 → (v : ℕ) (w : List ℕ) (n : ℕ) → More base v w n → (rest : List ℕ)
+    → digits_from base (capped v) (w ++ rest) ≡ digits_from base (capped n) rest
 from_more base lt le _ _ _ (More.end v) rest = refl
 from_more base lt le _ _ _ (More.digit v d w n is more) rest =
     sym (goes_on base (capped v) (d ∷ w ++ rest) d (w ++ rest) (digit_next base d (w ++ rest) is)) ∙ grown base v d (w ++ rest) lt ∙ from_more base lt le (v * base + digit_of d) w n more rest
@@ -60,7 +61,8 @@ first_digit : (base d : ℕ) (bs : List ℕ) → is_digit base d ≡ true → di
 first_digit base d bs is = rw is refl
 
 -- digits are read with those that follow them
-pub digits_again : (base : ℕ) → 0 < base → base ≤ 16 → (u : List ℕ) (n : ℕ) → forms.Digits base u n → (rest : List ℕ) → digits base (u ++ rest) ≡ Some (digits_from base (capped n) rest)
+pub digits_again : (base : ℕ) → 0 < base → base ≤ 16 → (u : List ℕ) (n : ℕ) → forms.Digits base u n → (rest : List ℕ)
+    → digits base (u ++ rest) ≡ Some (digits_from base (capped n) rest)
 digits_again base lt le u n h rest =
     let k = begun base u n h in
     ap (λ (z : List ℕ). digits base (z ++ rest)) k.2 ∙ first_digit base k.0 (k.1 ++ rest) k.3

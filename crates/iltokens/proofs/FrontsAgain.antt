@@ -91,7 +91,8 @@ positive_to n rest (Some read) h = (h.0, λ z. go (ltb read.0 (2 ^ 63)) refl (h.
     go true is kept none = let lt = ltb-true read.0 (2 ^ 63) is in let same : read.0 ≡ n = omega arith in inl (fits_pos n (omega arith), rw (same, none) refl)
     go false is kept none = let le = ltb-false read.0 (2 ^ 63) is in inr (λ w. (let lt = pos_fits n w in omega arith), refl)
 
-negative_to : (n : ℕ) (rest : List ℕ) (o : Option (ℕ × List ℕ)) → ReadTo n rest o → Reaches (whats.Number (neg_ℤ (pos n))) rest (number_front true o) (rest_of o)
+negative_to : (n : ℕ) (rest : List ℕ) (o : Option (ℕ × List ℕ)) → ReadTo n rest o
+    → Reaches (whats.Number (neg_ℤ (pos n))) rest (number_front true o) (rest_of o)
 unfolding signed
 negative_to n rest None h = h
 negative_to n rest (Some read) h = (h.0, λ z. go (leb read.0 (2 ^ 63)) refl (h.1 z) (nothing rest read.1 h.0 z))
@@ -114,7 +115,8 @@ digit_range b is = (grind arith, grind arith)
 below_letters : (b : ℕ) → b < 65 → is_letter b ≡ false
 below_letters b lt = grind arith
 
-plain_to : (n : ℕ) (rest : List ℕ) (b : ℕ) (bs : List ℕ) → is_digit 10 b ≡ true → ReadTo n rest (unsigned (b ∷ bs)) → Reaches (whats.Number (pos n)) rest (front_at (b ∷ bs)) (rest_at (b ∷ bs))
+plain_to : (n : ℕ) (rest : List ℕ) (b : ℕ) (bs : List ℕ) → is_digit 10 b ≡ true → ReadTo n rest (unsigned (b ∷ bs))
+    → Reaches (whats.Number (pos n)) rest (front_at (b ∷ bs)) (rest_at (b ∷ bs))
 unfolding front_at number_at is_digit
 plain_to n rest b bs is h =
     let range = digit_range b is in
@@ -136,7 +138,8 @@ number_reaches _ _ (IsNumber.negative u n h) rest = negative_to n rest (unsigned
 
 -- ---- words and durations
 
-at_letter : (what : What) (rest : List ℕ) (b : ℕ) (bs : List ℕ) → is_letter b ≡ true → Reaches what rest (word_at (b ∷ bs)) (Some (word_rest (time (b ∷ bs)) (b ∷ bs))) → Reaches what rest (front_at (b ∷ bs)) (rest_at (b ∷ bs))
+at_letter : (what : What) (rest : List ℕ) (b : ℕ) (bs : List ℕ) → is_letter b ≡ true
+    → Reaches what rest (word_at (b ∷ bs)) (Some (word_rest (time (b ∷ bs)) (b ∷ bs))) → Reaches what rest (front_at (b ∷ bs)) (rest_at (b ∷ bs))
 unfolding front_at
 at_letter what rest b bs is h =
     let plus : eqb b 43 ≡ false = differs is_letter b 43 is refl in
@@ -164,7 +167,8 @@ name_short u rest read name f = go f.3.reads
     go (inl h) = let k = hash_last (codes "t") f.3.prefix h in hashed k.0 k.1
     go (inr h) = let k = hash_last (codes "time") f.3.prefix h in hashed k.0 k.1
 
-word_reaches : (b : ℕ) (w rest : List ℕ) → is_letter b ≡ true → forms.AreNameBytes w → Reaches whats.Word rest (word_at (b ∷ w ++ rest)) (Some (word_rest (time (b ∷ w ++ rest)) (b ∷ w ++ rest)))
+word_reaches : (b : ℕ) (w rest : List ℕ) → is_letter b ≡ true → forms.AreNameBytes w
+    → Reaches whats.Word rest (word_at (b ∷ w ++ rest)) (Some (word_rest (time (b ∷ w ++ rest)) (b ∷ w ++ rest)))
 unfolding word_at
 word_reaches b w rest is name = go (time (b ∷ w ++ rest)) (time_found (b ∷ w ++ rest))
   where
@@ -209,7 +213,8 @@ time_reaches u n h rest =
 
 -- ---- addresses
 
-limited_address : (kind : AddressKind) (bus place : ℕ) (rest : List ℕ) (o : Option Place) → AddressTo kind bus place rest o → Reaches (whats.Address kind bus place) rest (address_front o) (place_rest o)
+limited_address : (kind : AddressKind) (bus place : ℕ) (rest : List ℕ) (o : Option Place) → AddressTo kind bus place rest o
+    → Reaches (whats.Address kind bus place) rest (address_front o) (place_rest o)
 limited_address kind bus place rest None h = h
 limited_address kind bus place rest (Some p) h = (h.0, λ z. go (ltb p.bus (2 ^ 63)) (ltb p.place (2 ^ 63)) refl refl (h.1 z) (nothing rest p.rest h.0 z))
   where
@@ -235,11 +240,13 @@ address_begins kinds.OutputByte (b ∷ w) h = (w, ap (λ (c : ℕ). c ∷ w) (lo
 address_begins kinds.InputWord (b ∷ w) h = (w, ap (λ (c : ℕ). c ∷ w) (lower_mark b 37 (omega arith) (cc)))
 address_begins kinds.InputBit (b ∷ w) h = (w, ap (λ (c : ℕ). c ∷ w) (lower_mark b 37 (omega arith) (cc)))
 
-at_percent : (what : What) (rest bs : List ℕ) → Reaches what rest (address_at (37 ∷ bs)) (place_rest (address (37 ∷ bs))) → Reaches what rest (front_at (37 ∷ bs)) (rest_at (37 ∷ bs))
+at_percent : (what : What) (rest bs : List ℕ) → Reaches what rest (address_at (37 ∷ bs)) (place_rest (address (37 ∷ bs)))
+    → Reaches what rest (front_at (37 ∷ bs)) (rest_at (37 ∷ bs))
 unfolding front_at
 at_percent what rest bs h = h
 
-address_reaches : (u : List ℕ) (kind : AddressKind) (bus place : ℕ) → IsAddress u kind bus place → (rest : List ℕ) → Reaches (whats.Address kind bus place) rest (front_at (u ++ rest)) (rest_at (u ++ rest))
+address_reaches : (u : List ℕ) (kind : AddressKind) (bus place : ℕ) → IsAddress u kind bus place → (rest : List ℕ)
+    → Reaches (whats.Address kind bus place) rest (front_at (u ++ rest)) (rest_at (u ++ rest))
 unfolding address_at
 address_reaches u kind bus place h rest =
     let k = address_begins kind h.prefix h.reads in
@@ -255,7 +262,8 @@ simple : (what : What) (rest : List ℕ) → IsWithin what → Reaches what rest
 simple what rest w = (omega arith, λ z. inl (w, ap (taken what) z))
 
 -- a mark that goes on with one more byte, where this stands there
-either_mark : (what longer : What) (rest : List ℕ) (t : Bool) (b : ℕ) (bs : List ℕ) → IsWithin what → rest ≡ b ∷ bs → Reaches what rest (cond t (taken longer bs) (taken what rest)) (front_rest (cond t (taken longer bs) (taken what rest)))
+either_mark : (what longer : What) (rest : List ℕ) (t : Bool) (b : ℕ) (bs : List ℕ) → IsWithin what → rest ≡ b ∷ bs
+    → Reaches what rest (cond t (taken longer bs) (taken what rest)) (front_rest (cond t (taken longer bs) (taken what rest)))
 either_mark what longer rest true b bs w e = (let size = ap length e in omega arith, λ z. absurd (let bad = sym z ∙ e in cc))
 either_mark what longer rest false b bs w e = simple what rest w
 
@@ -284,7 +292,8 @@ ampersand_not (b ∷ c ∷ []) h =
     go (inl x) = rw x refl
     go (inr k) = let x : c ≡ 78 = (let f = k.0 in omega arith) in rw x refl
 
-ampersand_not_at : (n : ℕ) (rest : List ℕ) → ((eqb n 78) || (eqb n 110)) ≡ true → Reaches whats.AmpersandNot rest (ampersand_at (n ∷ rest)) (front_rest (ampersand_at (n ∷ rest)))
+ampersand_not_at : (n : ℕ) (rest : List ℕ) → ((eqb n 78) || (eqb n 110)) ≡ true
+    → Reaches whats.AmpersandNot rest (ampersand_at (n ∷ rest)) (front_rest (ampersand_at (n ∷ rest)))
 ampersand_not_at n rest is = rw is (simple whats.AmpersandNot rest tt)
 
 -- ---- all tokens

@@ -33,7 +33,8 @@ digits_within base lt bs = go (digits base bs) (digits_found base lt bs)
     go (Some read) f = let e = f.2 in let le = within_append f.0 read.1 in (rw e le)
 
 -- what is read with a base goes further than the decimal digits before its hash
-further : (n size : ℕ) (rest : List ℕ) (o p : Option (ℕ × List ℕ)) (told : ℕ) (stop : List ℕ) → Within size o → p ≡ Some (told, stop) → size < length stop → ReadTo n rest p → ReadTo n rest (option_or o p)
+further : (n size : ℕ) (rest : List ℕ) (o p : Option (ℕ × List ℕ)) (told : ℕ) (stop : List ℕ) → Within size o → p ≡ Some (told, stop)
+    → size < length stop → ReadTo n rest p → ReadTo n rest (option_or o p)
 further n size rest None p told stop within e lt h = h
 further n size rest (Some read) p told stop within e lt h =
     let k = subst (λ (q : Option (ℕ × List ℕ)). ReadTo n rest q) e h in
@@ -127,11 +128,13 @@ plain_stops : (value : ℕ) (bs : List ℕ) → plain_from value (46 ∷ bs) ≡
 unfolding plain_from is_digit
 plain_stops value bs = refl
 
-placed : (kind : AddressKind) (bus place told : ℕ) (rest : List ℕ) (o : Option (ℕ × List ℕ)) → told ≡ capped bus → ReadTo place rest o → AddressTo kind bus place rest (with_place kind told o)
+placed : (kind : AddressKind) (bus place told : ℕ) (rest : List ℕ) (o : Option (ℕ × List ℕ)) → told ≡ capped bus → ReadTo place rest o
+    → AddressTo kind bus place rest (with_place kind told o)
 placed kind bus place told rest None e h = absurd h
 placed kind bus place told rest (Some read) e h = (h.0, λ z. (refl, e, h.1 z))
 
-pub address_to : (u : List ℕ) (kind : AddressKind) (bus place : ℕ) → IsAddress u kind bus place → (rest : List ℕ) → AddressTo kind bus place rest (address (u ++ rest))
+pub address_to : (u : List ℕ) (kind : AddressKind) (bus place : ℕ) → IsAddress u kind bus place → (rest : List ℕ)
+    → AddressTo kind bus place rest (address (u ++ rest))
 unfolding address
 address_to u kind bus place h rest =
     let whole : u ++ rest ≡ h.prefix ++ (h.first ++ (46 ∷ (h.second ++ rest))) = ap (λ (z : List ℕ). z ++ rest) h.parts ∙ regroup h.prefix h.first h.second rest in

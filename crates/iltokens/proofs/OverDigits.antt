@@ -40,13 +40,15 @@ same_fuel (suc n) (suc m) base value bs ln lm = go (λ v rest a b. same_fuel n m
     go ih None e = refl
     go ih (Some read) e = let lt = some_shorter base bs read e in ih (add_digit base value read.0) read.1 (omega arith) (omega arith)
 
-goes_from : (n base value : ℕ) (bs : List ℕ) (read : ℕ × List ℕ) → length bs ≤ n → Some read ≡ next_digit base bs → digits_read n base value bs ≡ digits_from base (add_digit base value read.0) read.1
+goes_from : (n base value : ℕ) (bs : List ℕ) (read : ℕ × List ℕ) → length bs ≤ n → Some read ≡ next_digit base bs
+    → digits_read n base value bs ≡ digits_from base (add_digit base value read.0) read.1
 unfolding digits_read
 goes_from zero base value bs read le e = absurd (let lt = some_shorter base bs read e in omega arith)
 goes_from (suc n) base value bs read le e = let lt = some_shorter base bs read e in rw (sym e) (same_fuel n (length read.1) base (add_digit base value read.0) read.1 (omega arith) (omega arith))
 
 -- one more digit
-pub goes_on : (base value : ℕ) (bs : List ℕ) (d : ℕ) (rest : List ℕ) → Some (d, rest) ≡ next_digit base bs → digits_from base (add_digit base value d) rest ≡ digits_from base value bs
+pub goes_on : (base value : ℕ) (bs : List ℕ) (d : ℕ) (rest : List ℕ) → Some (d, rest) ≡ next_digit base bs
+    → digits_from base (add_digit base value d) rest ≡ digits_from base value bs
 goes_on base value bs d rest e = sym (goes_from (length bs) base value bs (d, rest) (omega arith) e)
 
 stops_from : (n base value : ℕ) (bs : List ℕ) → None ≡ next_digit base bs → digits_read n base value bs ≡ (value, bs)

@@ -19,7 +19,8 @@ Shaped P bs read = (v : List ℕ) × (value : ℕ) × (bs ≡ v ++ read.1) × P 
 
 -- ---- numbers
 
-lifted : (P Q : List ℕ → ℕ → Type 0) (w bs : List ℕ) → ((u : List ℕ) (n : ℕ) → P u n → Q (w ++ u) n) → (o : Option (ℕ × List ℕ)) → Found P bs o → Found Q (w ++ bs) o
+lifted : (P Q : List ℕ → ℕ → Type 0) (w bs : List ℕ) → ((u : List ℕ) (n : ℕ) → P u n → Q (w ++ u) n) → (o : Option (ℕ × List ℕ)) → Found P bs o
+    → Found Q (w ++ bs) o
 lifted P Q w bs f None h = tt
 lifted P Q w bs f (Some read) h = (w ++ h.0, h.1, ap (λ (z : List ℕ). w ++ z) h.2 ∙ sym (append_assoc w h.0 read.1), f h.0 h.1 h.3, h.4)
 

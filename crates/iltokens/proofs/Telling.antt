@@ -35,7 +35,8 @@ spells_none bs is u after any e s = subst (λ (o : Option (List ℕ)). Reaches a
 
 -- ---- what is told stands there
 
-after_front : (bytes : List ℕ) (at : ℕ) (rest : List ℕ) (f : Front) (o : Option (List ℕ)) → at ≤ length bytes → Passed (drop at bytes) rest BeginsNoBlank → ((b : ℕ) (bs : List ℕ) → rest ≡ b ∷ bs → Fits b f) → (rest ≡ [] → f ≡ end)
+after_front : (bytes : List ℕ) (at : ℕ) (rest : List ℕ) (f : Front) (o : Option (List ℕ)) → at ≤ length bytes
+    → Passed (drop at bytes) rest BeginsNoBlank → ((b : ℕ) (bs : List ℕ) → rest ≡ b ∷ bs → Fits b f) → (rest ≡ [] → f ≡ end)
     → rest_at rest ≡ o → Told rest f o → IsTold bytes at (lexed_front (length bytes) rest f)
 after_front bytes at rest end None le p fits nil is t =
     after_blanks bytes at rest p.0 (λ r. r ≡ []) (length bytes) le p.1 p.2 t (rw t (omega arith))
@@ -92,7 +93,8 @@ same_size (a ∷ u) (b ∷ v) r after e l =
     (rw first (ap (λ (z : List ℕ). b ∷ z) k.0), k.1)
 
 -- another token that is told there has the same bytes
-same_front : (bs front v r : List ℕ) (what other : What) → (l : IsLongest bs front what) → bs ≡ v ++ r → Spells other v → rest_at bs ≡ Some r → (v ≡ front) × (r ≡ l.after)
+same_front : (bs front v r : List ℕ) (what other : What) → (l : IsLongest bs front what) → bs ≡ v ++ r → Spells other v → rest_at bs ≡ Some r
+    → (v ≡ front) × (r ≡ l.after)
 same_front bs front v r what other l e h is =
     let k = subst (λ (o : Option (List ℕ)). Reaches what l.after (front_at bs) o) is (reaches_at bs front l.after what l.parts l.spells) in
     let less = k.0 in
@@ -150,7 +152,8 @@ module _ (bs front : List ℕ) (what : What) (l : IsLongest bs front what) where
   is_outside outside (fault CommentOpen) (Some r) is t = absurd t
 
 -- where no token is spelled, a fault of the first byte is told
-is_bad : (b : ℕ) (bs : List ℕ) → SpellsNone (b ∷ bs) → (f : Front) (o : Option (List ℕ)) → Told (b ∷ bs) f o → Fits b f → ((b < 128) → f ≡ fault BadToken) × ((128 ≤ b) → f ≡ fault NotAscii)
+is_bad : (b : ℕ) (bs : List ℕ) → SpellsNone (b ∷ bs) → (f : Front) (o : Option (List ℕ)) → Told (b ∷ bs) f o → Fits b f
+    → ((b < 128) → f ≡ fault BadToken) × ((128 ≤ b) → f ≡ fault NotAscii)
 is_bad b bs none end o t fits = absurd fits
 is_bad b bs none (taken what rest) None t fits = absurd t
 is_bad b bs none (taken what rest) (Some r) t fits = absurd (none t.0 r what t.2 t.3)

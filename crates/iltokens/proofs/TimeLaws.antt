@@ -45,7 +45,8 @@ some_time units.Millisecond = omega arith
 pub scale_grows : (unit : Unit) (count : ℕ) → count ≤ count * milliseconds unit
 scale_grows unit count = le-mul_of_pos_right count (some_time unit)
 
-scaled_found : (unit : Unit) (bs number others : List ℕ) (count told : ℕ) (o : Option (List ℕ)) → bs ≡ number ++ others → forms.Digits 10 number count → told ≡ capped count → WordAt (forms.letters unit) others o → Found (IsPart unit) bs (scaled unit told o)
+scaled_found : (unit : Unit) (bs number others : List ℕ) (count told : ℕ) (o : Option (List ℕ)) → bs ≡ number ++ others
+    → forms.Digits 10 number count → told ≡ capped count → WordAt (forms.letters unit) others o → Found (IsPart unit) bs (scaled unit told o)
 scaled_found unit bs number others count told None e are kept w = tt
 scaled_found unit bs number others count told (Some rest) e are kept w = (
   number ++ w.0,
@@ -72,7 +73,8 @@ GoodWhen true limit bs total rest = (v : List ℕ) × (value least : ℕ) × (bs
 abbrev Good : ℕ → List ℕ → Parts → Type 0
 Good limit bs p = GoodWhen p.some limit bs p.total p.rest
 
-fewer : (some : Bool) (limit less : ℕ) (bs : List ℕ) (total : ℕ) (rest : List ℕ) → less < limit → GoodWhen some limit bs total rest → GoodWhen some less bs total rest
+fewer : (some : Bool) (limit less : ℕ) (bs : List ℕ) (total : ℕ) (rest : List ℕ) → less < limit → GoodWhen some limit bs total rest
+    → GoodWhen some less bs total rest
 fewer false limit less bs total rest lt h = h
 fewer true limit less bs total rest lt h = (h.0, h.1, h.2, h.3, h.4, h.5, let le = h.6 in omega arith)
 

@@ -111,7 +111,8 @@ own_minute (m ∷ []) (s ∷ others) h = go (eqb (to_ascii_lowercase s) 115) ref
 -- ---- a part
 
 -- no letter of a unit goes on with digits
-letters_stop : (x : Unit) (word rest : List ℕ) → Reads (forms.letters x) word → (c : ℕ) × (others : List ℕ) × (word ++ rest ≡ c ∷ others) × (100 ≤ to_ascii_lowercase c)
+letters_stop : (x : Unit) (word rest : List ℕ) → Reads (forms.letters x) word
+    → (c : ℕ) × (others : List ℕ) × (word ++ rest ≡ c ∷ others) × (100 ≤ to_ascii_lowercase c)
 letters_stop units.Day [] rest h = absurd cc
 letters_stop units.Day (c ∷ word) rest h = (c, word ++ rest, refl, (let one : to_ascii_lowercase c ≡ 100 = cc in omega arith))
 letters_stop units.Hour [] rest h = absurd cc
@@ -127,7 +128,8 @@ letter_no_digit : (c : ℕ) → 100 ≤ to_ascii_lowercase c → (is_digit 10 c 
 unfolding is_digit
 letter_no_digit c le = (grind arith, grind arith)
 
-count_again : (x : Unit) (number word rest : List ℕ) (count : ℕ) → forms.Digits 10 number count → Reads (forms.letters x) word → digits 10 (number ++ (word ++ rest)) ≡ Some (capped count, word ++ rest)
+count_again : (x : Unit) (number word rest : List ℕ) (count : ℕ) → forms.Digits 10 number count → Reads (forms.letters x) word
+    → digits 10 (number ++ (word ++ rest)) ≡ Some (capped count, word ++ rest)
 count_again x number word rest count h reads =
     let k = letters_stop x word rest reads in
     let other = letter_no_digit k.0 k.3 in
@@ -190,7 +192,8 @@ Falling some (x ∷ us) w n = Falling some us w n ⊎ Takes some x (λ v b. Fall
 abbrev IsNothing : Bool → List ℕ → ℕ → Type 0
 IsNothing some w n = (some ≡ true) × (w ≡ []) × (n ≡ 0)
 
-blocked : (x : Unit) (us : List Unit) → AllApart x us → (some : Bool) (w : List ℕ) (n : ℕ) → Falling some us w n → IsNothing some w n ⊎ ((rest : List ℕ) → part x (after_mark some (w ++ rest)) ≡ None)
+blocked : (x : Unit) (us : List Unit) → AllApart x us → (some : Bool) (w : List ℕ) (n : ℕ) → Falling some us w n
+    → IsNothing some w n ⊎ ((rest : List ℕ) → part x (after_mark some (w ++ rest)) ≡ None)
 blocked x [] apart some w n h = inl h
 blocked x (y ∷ us) apart some w n (inl h) = blocked x us apart.1 some w n h
 blocked x (y ∷ us) apart some w n (inr t) = inr (λ rest.
@@ -210,10 +213,12 @@ with_is : (x : Unit) (told : ℕ) (some : Bool) (bs : List ℕ) → with_part x 
 unfolding with_part parts_begin
 with_is x told some bs = refl
 
-skips : (x : Unit) (us : List Unit) (told : ℕ) (some : Bool) (bs : List ℕ) → part x (after_mark some bs) ≡ None → run (x ∷ us) (state told some bs) ≡ run us (state told some bs)
+skips : (x : Unit) (us : List Unit) (told : ℕ) (some : Bool) (bs : List ℕ) → part x (after_mark some bs) ≡ None
+    → run (x ∷ us) (state told some bs) ≡ run us (state told some bs)
 skips x us told some bs e = ap (run us) (with_is x told some bs ∙ ap (added (state told some bs)) e)
 
-reads_one : (x : Unit) (us : List Unit) (told : ℕ) (some : Bool) (bs : List ℕ) (read : ℕ × List ℕ) → part x (after_mark some bs) ≡ Some read → run (x ∷ us) (state told some bs) ≡ run us (state (min (told + read.0) (2 ^ 64 - 1)) true read.1)
+reads_one : (x : Unit) (us : List Unit) (told : ℕ) (some : Bool) (bs : List ℕ) (read : ℕ × List ℕ) → part x (after_mark some bs) ≡ Some read
+    → run (x ∷ us) (state told some bs) ≡ run us (state (min (told + read.0) (2 ^ 64 - 1)) true read.1)
 reads_one x us told some bs read e = ap (run us) (with_is x told some bs ∙ ap (added (state told some bs)) e)
 
 mark_shorter : (some : Bool) (bs : List ℕ) → length (after_mark some bs) ≤ length bs
@@ -262,7 +267,8 @@ Reached us = (some : Bool) (w : List ℕ) (n told total : ℕ) (rest : List ℕ)
 reached_none : Reached []
 reached_none some w n told total rest h e = (h.0, rw h.1 (omega arith), λ z. (let f = h.2 in omega arith))
 
-nothing_left : (us : List Unit) (some : Bool) (w : List ℕ) (n told total : ℕ) (rest : List ℕ) → IsNothing some w n → told ≡ capped total → Ends (total + n) rest (run us (state told some (w ++ rest)))
+nothing_left : (us : List Unit) (some : Bool) (w : List ℕ) (n told total : ℕ) (rest : List ℕ) → IsNothing some w n → told ≡ capped total
+    → Ends (total + n) rest (run us (state told some (w ++ rest)))
 nothing_left us some w n told total rest h e =
     let k = goes_on us told rest in
     rw (h.0, h.1) (k.0, k.1, λ z. k.2 z ∙ (let f = h.2 in omega arith))
@@ -327,7 +333,8 @@ begins_no_second (x ∷ us) w rest n (inr t) s = absurd (never t.mark)
         no_mark s.0 s.3 same
 
 -- `m` and `s` of a minute's part are milliseconds
-joined : (here : List ℕ) (first s : ℕ) → (h : IsPart units.Minute here first) → to_ascii_lowercase s ≡ 115 → IsPart units.Millisecond (here ++ s ∷ []) (h.count * 1)
+joined : (here : List ℕ) (first s : ℕ) → (h : IsPart units.Minute here first) → to_ascii_lowercase s ≡ 115
+    → IsPart units.Millisecond (here ++ s ∷ []) (h.count * 1)
 joined here first s h e = record {
   number = h.number;
   count = h.count;

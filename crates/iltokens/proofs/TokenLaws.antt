@@ -31,11 +31,13 @@ Told bs (fault BadNumber) (Some r) = (v : List ℕ) × (what : What) × (bs ≡ 
 Told bs (fault cause) None = Unit {0}
 Told bs (fault cause) (Some r) = ⊥
 
-chosen : (t : Bool) (bs : List ℕ) (x y : Front) (p q : Option (List ℕ)) → (t ≡ true → Told bs x p) → (t ≡ false → Told bs y q) → Told bs (cond t x y) (cond t p q)
+chosen : (t : Bool) (bs : List ℕ) (x y : Front) (p q : Option (List ℕ)) → (t ≡ true → Told bs x p) → (t ≡ false → Told bs y q)
+    → Told bs (cond t x y) (cond t p q)
 chosen true bs x y p q h k = h refl
 chosen false bs x y p q h k = k refl
 
-marked : (t : Bool) (bs : List ℕ) (x y : Front) → (t ≡ true → Told bs x (front_rest x)) → (t ≡ false → Told bs y (front_rest y)) → Told bs (cond t x y) (front_rest (cond t x y))
+marked : (t : Bool) (bs : List ℕ) (x y : Front) → (t ≡ true → Told bs x (front_rest x)) → (t ≡ false → Told bs y (front_rest y))
+    → Told bs (cond t x y) (front_rest (cond t x y))
 marked true bs x y h k = h refl
 marked false bs x y h k = k refl
 
@@ -47,7 +49,8 @@ at_least told value n e le = omega arith
 exactly : (told value n : ℕ) → told ≡ capped value → told ≤ n → n < 2 ^ 64 - 1 → value ≡ told
 exactly told value n e le lt = omega arith
 
-positive_front : (w bs : List ℕ) → ((u : List ℕ) (n : ℕ) → IsUnsigned u n → IsNumber (w ++ u) (pos n)) → (o : Option (ℕ × List ℕ)) → Found IsUnsigned bs o → Told (w ++ bs) (number_front false o) (rest_of o)
+positive_front : (w bs : List ℕ) → ((u : List ℕ) (n : ℕ) → IsUnsigned u n → IsNumber (w ++ u) (pos n)) → (o : Option (ℕ × List ℕ))
+    → Found IsUnsigned bs o → Told (w ++ bs) (number_front false o) (rest_of o)
 unfolding signed
 positive_front w bs make None h = tt
 positive_front w bs make (Some read) h = go (ltb read.0 (2 ^ 63)) refl
@@ -65,7 +68,8 @@ positive_front w bs make (Some read) h = go (ltb read.0 (2 ^ 63)) refl
         let much = at_least read.0 h.1 (2 ^ 63) h.4 high in
         (w ++ h.0, whats.Number (pos h.1), parts, make h.0 h.1 h.3, λ fits. (let lt = pos_fits h.1 fits in omega arith))
 
-negative_front : (w bs : List ℕ) → ((u : List ℕ) (n : ℕ) → IsUnsigned u n → IsNumber (w ++ u) (neg_ℤ (pos n))) → (o : Option (ℕ × List ℕ)) → Found IsUnsigned bs o → Told (w ++ bs) (number_front true o) (rest_of o)
+negative_front : (w bs : List ℕ) → ((u : List ℕ) (n : ℕ) → IsUnsigned u n → IsNumber (w ++ u) (neg_ℤ (pos n))) → (o : Option (ℕ × List ℕ))
+    → Found IsUnsigned bs o → Told (w ++ bs) (number_front true o) (rest_of o)
 unfolding signed
 negative_front w bs make None h = tt
 negative_front w bs make (Some read) h = go (leb read.0 (2 ^ 63)) refl

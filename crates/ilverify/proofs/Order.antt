@@ -44,7 +44,8 @@ absent_into known None i h = tt
 absent_into None (Some kind) i h = absurd i
 absent_into (Some known) (Some kind) i h = absurd h
 
-taken_number : (t : Bool) (known wider : Option Kind) → IsResultInto known wider → IsTaken t (IsNumber known) → IsTaken t (IsNumber wider) ⊎ IsTaken t (IsAbsent wider)
+taken_number : (t : Bool) (known wider : Option Kind) → IsResultInto known wider → IsTaken t (IsNumber known)
+    → IsTaken t (IsNumber wider) ⊎ IsTaken t (IsAbsent wider)
 taken_number true known wider i h = number_into known wider i h
 taken_number false known wider i h = absurd h
 
@@ -53,7 +54,8 @@ taken_absent true known wider i h = absent_into known wider i h
 taken_absent false known wider i h = h
 
 -- a word at which a cause arises isn't lawful by any entry that holds this one
-pub unlawful : (code : Listing) (entry wider : Entry) (word : Instruction) (cause : Cause) → IsInto entry wider → Arises code entry word cause → NoneArises code wider word → ⊥
+pub unlawful : (code : Listing) (entry wider : Entry) (word : Instruction) (cause : Cause) → IsInto entry wider → Arises code entry word cause
+    → NoneArises code wider word → ⊥
 unlawful code entry wider word WrongType i (inl h) l = l WrongType (inl h)
 unlawful code entry wider word WrongType i (inr h) l =
     elim (taken_number (takes_result word) entry.result wider.result i.result h) [ inl n ↦ l WrongType (inr n) | inr a ↦ l NoResult a ]

@@ -72,7 +72,8 @@ opened code =
     }
 
 -- a word that isn't reached
-pub skipped : (code : Listing) (certificate : Certificate) (n : ℕ) → IsClosest code certificate n → slice_get certificate n ≡ Some None → IsClosest code certificate (n + 1)
+pub skipped : (code : Listing) (certificate : Certificate) (n : ℕ) → IsClosest code certificate n → slice_get certificate n ≡ Some None
+    → IsClosest code certificate (n + 1)
 skipped code certificate n c e = record {
   consistent = record {
     long = c.consistent.long;
@@ -89,16 +90,19 @@ skipped code certificate n c e = record {
 
 -- ---- a word that is passed
 
-leads_kept : (certificate : Certificate) (to at : ℕ) (x : Option Entry) (entry : Entry) → (to ≡ at → ⊥) → Leads certificate to entry → Leads (slice_set certificate at x) to entry
+leads_kept : (certificate : Certificate) (to at : ℕ) (x : Option Entry) (entry : Entry) → (to ≡ at → ⊥) → Leads certificate to entry
+    → Leads (slice_set certificate at x) to entry
 leads_kept certificate to at x entry d l = record { wider = l.wider; is = other_set certificate at to x d ∙ l.is; into = l.into }
 
-fine_kept : (code : Listing) (certificate : Certificate) (place n : ℕ) (x : Option Entry) (entry : Entry) (word : Instruction) → place < n → IsFine code certificate place entry word → IsFine code (slice_set certificate (n + 1) x) place entry word
+fine_kept : (code : Listing) (certificate : Certificate) (place n : ℕ) (x : Option Entry) (entry : Entry) (word : Instruction) → place < n
+    → IsFine code certificate place entry word → IsFine code (slice_set certificate (n + 1) x) place entry word
 fine_kept code certificate place n x entry word lt f = record {
   lawful = f.lawful;
   leads = λ to h. let e = next_is h.word place to h.leads in leads_kept certificate to (n + 1) x (leaves entry) (λ q. omega arith) (f.leads to h);
 }
 
-fine_here : (code : Listing) (certificate : Certificate) (n : ℕ) (entry : Entry) (word : Instruction) → length certificate ≡ length code.instructions → NoneArises code entry word → IsFine code (slice_set certificate (n + 1) (Some (arriving code (n + 1) (leaves entry)))) n entry word
+fine_here : (code : Listing) (certificate : Certificate) (n : ℕ) (entry : Entry) (word : Instruction) → length certificate ≡ length code.instructions
+    → NoneArises code entry word → IsFine code (slice_set certificate (n + 1) (Some (arriving code (n + 1) (leaves entry)))) n entry word
 fine_here code certificate n entry word long l = record {
   lawful = l;
   leads = λ to h.
@@ -110,7 +114,9 @@ fine_here code certificate n entry word long l = record {
 }
 
 -- the word's entry in another certificate leads on too
-covers_next : (code : Listing) (certificate other : Certificate) (n : ℕ) (entry : Entry) (word : Instruction) → IsClosest code certificate n → IsConsistentBelow code other (n + 1) → slice_get code.instructions n ≡ Some word → slice_get certificate n ≡ Some (Some entry) → n + 1 < length code.instructions → Leads other (n + 1) (arriving code (n + 1) (leaves entry))
+covers_next : (code : Listing) (certificate other : Certificate) (n : ℕ) (entry : Entry) (word : Instruction) → IsClosest code certificate n
+    → IsConsistentBelow code other (n + 1) → slice_get code.instructions n ≡ Some word → slice_get certificate n ≡ Some (Some entry)
+    → n + 1 < length code.instructions → Leads other (n + 1) (arriving code (n + 1) (leaves entry))
 covers_next code certificate other n entry word c k w e lt =
     let o = c.covers other (below code other n (n + 1) (omega arith) k) n entry e in
     let fine = k.each n o.wider word (omega arith) w o.is in
@@ -121,7 +127,9 @@ covers_next code certificate other n entry word c k w e lt =
       into = arriving_into (is_start code (n + 1)) (leaves entry) l.wider (λ t. k.starts (n + 1) l.wider t l.is) l.into;
     }
 
-pub passed : (code : Listing) (certificate : Certificate) (n : ℕ) (entry : Entry) (word : Instruction) → IsClosest code certificate n → slice_get code.instructions n ≡ Some word → slice_get certificate n ≡ Some (Some entry) → NoneArises code entry word → IsClosest code (slice_set certificate (n + 1) (Some (arriving code (n + 1) (leaves entry)))) (n + 1)
+pub passed : (code : Listing) (certificate : Certificate) (n : ℕ) (entry : Entry) (word : Instruction) → IsClosest code certificate n
+    → slice_get code.instructions n ≡ Some word → slice_get certificate n ≡ Some (Some entry) → NoneArises code entry word
+    → IsClosest code (slice_set certificate (n + 1) (Some (arriving code (n + 1) (leaves entry)))) (n + 1)
 passed code certificate n entry word c w e l =
     let x = Some (arriving code (n + 1) (leaves entry)) in
     let k = c.consistent in

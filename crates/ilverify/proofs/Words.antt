@@ -51,7 +51,8 @@ truth_constant None e = absurd (cc)
 truth_constant (Some (values.Bool b)) e = (b, refl)
 truth_constant (Some (values.Int n)) e = absurd (cc)
 
-truth_slot : (slots : List Value) (declared : List IlType) (i : ℕ) → AreOf slots declared → slice_get declared i ≡ Some types.Bool → (b : Bool) × (slice_get slots i ≡ Some (values.Bool b))
+truth_slot : (slots : List Value) (declared : List IlType) (i : ℕ) → AreOf slots declared → slice_get declared i ≡ Some types.Bool
+    → (b : Bool) × (slice_get slots i ≡ Some (values.Bool b))
 truth_slot [] [] i a e = absurd (cc)
 truth_slot [] (t ∷ ts) i a e = absurd a
 truth_slot (v ∷ vs) [] i a e = absurd a
@@ -60,12 +61,14 @@ truth_slot (values.Int n ∷ vs) (types.Bool ∷ ts) zero a e = absurd a.0
 truth_slot (values.Int n ∷ vs) (types.Int r ∷ ts) zero a e = absurd (cc)
 truth_slot (v ∷ vs) (t ∷ ts) (suc i) a e = truth_slot vs ts i a.1 e
 
-found : (code : Listing) (slots : List Value) (operand : Operand) → AreOf slots code.slots → kind_of code operand ≡ Some kinds.Bool → (b : Bool) × (value_of code slots operand ≡ Some (values.Bool b))
+found : (code : Listing) (slots : List Value) (operand : Operand) → AreOf slots code.slots → kind_of code operand ≡ Some kinds.Bool
+    → (b : Bool) × (value_of code slots operand ≡ Some (values.Bool b))
 found code slots (Slot i) a e = truth_slot slots code.slots i a (truth_type (slice_get code.slots i) e)
 found code slots (Constant k) a e = truth_constant (slice_get code.constants k) e
 
 -- a truth value written to a BOOL slot
-set_of : (slots : List Value) (declared : List IlType) (i : ℕ) (b : Bool) → AreOf slots declared → slice_get declared i ≡ Some types.Bool → AreOf (slice_set slots i (values.Bool b)) declared
+set_of : (slots : List Value) (declared : List IlType) (i : ℕ) (b : Bool) → AreOf slots declared → slice_get declared i ≡ Some types.Bool
+    → AreOf (slice_set slots i (values.Bool b)) declared
 set_of [] [] i b a e = tt
 set_of [] (t ∷ ts) i b a e = absurd a
 set_of (v ∷ vs) [] i b a e = absurd a
@@ -86,14 +89,17 @@ pub record Goes (code : Listing) (c : Configuration) (o : Option Configuration) 
 goes_to : (code : Listing) (c : Configuration) (o : Option Configuration) (slots : List Value) (b : Bool) → o ≡ Some (record { place = c.place + 1; slots = slots; result = Some (values.Bool b) }) → AreOf slots code.slots → Goes code c o
 goes_to code c o slots b e a = record { to = record { place = c.place + 1; slots = slots; result = Some (values.Bool b) }; is = e; place = refl; slots = a; result = refl }
 
-write_goes : (code : Listing) (c : Configuration) (written : Bool) (i : ℕ) (b : Bool) → AreOf c.slots code.slots → c.result ≡ Some (values.Bool b) → slice_get code.slots i ≡ Some types.Bool → Goes code c (write c written i c.result (slice_get code.slots i))
+write_goes : (code : Listing) (c : Configuration) (written : Bool) (i : ℕ) (b : Bool) → AreOf c.slots code.slots → c.result ≡ Some (values.Bool b)
+    → slice_get code.slots i ≡ Some types.Bool → Goes code c (write c written i c.result (slice_get code.slots i))
 write_goes code c written i true a r t = goes_to code c _ (slice_set c.slots i (values.Bool written)) true (λ j. write c written i (r j) (t j)) (set_of c.slots code.slots i written a t)
 write_goes code c written i false a r t = goes_to code c _ c.slots false (λ j. write c written i (r j) (t j)) a
 
-known_truth : (code : Listing) (entry : Entry) (c : Configuration) → IsResult entry.result c.result → (IsNumber entry.result → ⊥) → (IsAbsent entry.result → ⊥) → (b : Bool) × (c.result ≡ Some (values.Bool b))
+known_truth : (code : Listing) (entry : Entry) (c : Configuration) → IsResult entry.result c.result → (IsNumber entry.result → ⊥)
+    → (IsAbsent entry.result → ⊥) → (b : Bool) × (c.result ≡ Some (values.Bool b))
 known_truth code entry c h n a = truth_result c.result (subst (λ (k : Option Kind). IsResult k c.result) (is_truth entry.result n a) h)
 
-pub word_goes : (code : Listing) (entry : Entry) (c : Configuration) (word : Instruction) → AreOf c.slots code.slots → IsResult entry.result c.result → NoneArises code entry word → Goes code c (effect code c word)
+pub word_goes : (code : Listing) (entry : Entry) (c : Configuration) (word : Instruction) → AreOf c.slots code.slots → IsResult entry.result c.result
+    → NoneArises code entry word → Goes code c (effect code c word)
 word_goes code entry c (Load negated operand) a h l =
     let v = found code c.slots operand a (is_truth (kind_of code operand) (λ n. l WrongType (inl n)) (l BadSlot)) in
     goes_to code c _ c.slots (modified negated v.0) (ap (load c negated) v.1) a

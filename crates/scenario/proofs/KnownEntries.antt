@@ -4,7 +4,8 @@ use Rattle.std.specs.Prelude.{IsTrue, not}
 use Rattle.scenario.specs.Following.{IsKnown}
 use Rattle.scenario.specs.declared.entries.Entry.{Entry}
 
-pub known_as : (before : List Entry) (entry form : Entry) → entry ≡ form → (test : Bool) → IsTrue test ↔ IsKnown before form → IsTrue test ↔ IsKnown before entry
+pub known_as : (before : List Entry) (entry form : Entry) → entry ≡ form → (test : Bool) → IsTrue test ↔ IsKnown before form
+    → IsTrue test ↔ IsKnown before entry
 known_as before entry form is test known = subst (λ (e : Entry). IsTrue test ↔ IsKnown before e) (sym is) known
 
 pub has : (test found : Bool) → test ≡ found → IsTrue test ↔ (found ≡ true)

@@ -6,7 +6,8 @@ use Rattle.scenario.specs.Scenarios.{Adds, AddsNothing, AddsSome, Leads, Tell, I
 use Rattle.scenario.specs.declared.entries.Entry.{Entry}
 
 -- one more line
-pub tell-push : (told : List Entry) (before : List (List ℕ)) (line : List ℕ) (here next : List Entry) → Tell told before here → Leads here line next → Tell told (before ++ line ∷ []) next
+pub tell-push : (told : List Entry) (before : List (List ℕ)) (line : List ℕ) (here next : List Entry) → Tell told before here → Leads here line next
+    → Tell told (before ++ line ∷ []) next
 tell-push told [] line here next tell leads = (next, subst (λ (es : List Entry). Leads es line next) tell leads, refl)
 tell-push told (first ∷ before) line here next tell leads = (tell.0, tell.1, tell-push tell.0 before line here next tell.2 leads)
 
@@ -33,7 +34,8 @@ BadFrom told [] k = ⊥
 BadFrom told (line ∷ more) zero = (next : List Entry) → Leads told line next → ⊥
 BadFrom told (line ∷ more) (suc k) = (next : List Entry) × Leads told line next × BadFrom next more k
 
-bad_from : (told : List Entry) (before : List (List ℕ)) (line : List ℕ) (after : List (List ℕ)) (here : List Entry) → Tell told before here → ((next : List Entry) → Leads here line next → ⊥) → BadFrom told (before ++ line ∷ after) (length before)
+bad_from : (told : List Entry) (before : List (List ℕ)) (line : List ℕ) (after : List (List ℕ)) (here : List Entry) → Tell told before here
+    → ((next : List Entry) → Leads here line next → ⊥) → BadFrom told (before ++ line ∷ after) (length before)
 bad_from told [] line after here tell bad = subst (λ (es : List Entry). (next : List Entry) → Leads es line next → ⊥) tell bad
 bad_from told (first ∷ before) line after here tell bad = (tell.0, tell.1, bad_from tell.0 before line after here tell.2 bad)
 
@@ -76,7 +78,8 @@ pub record IsRead (bytes rest : List ℕ) (told : List Entry) (line : ℕ) : Typ
 pub none_read : (bytes : List ℕ) → IsRead bytes bytes [] 1
 none_read bytes = record { before = []; is = refl; tell = refl; counted = refl }
 
-line_read : (bytes rest after : List ℕ) (told next : List Entry) (number : ℕ) (line : List ℕ) → IsRead bytes rest told number → lines rest ≡ line ∷ lines after → Leads told line next → IsRead bytes after next (number + 1)
+line_read : (bytes rest after : List ℕ) (told next : List Entry) (number : ℕ) (line : List ℕ) → IsRead bytes rest told number
+    → lines rest ≡ line ∷ lines after → Leads told line next → IsRead bytes after next (number + 1)
 line_read bytes rest after told next number line r first leads =
     record {
       before = r.before ++ line ∷ [];
@@ -85,17 +88,20 @@ line_read bytes rest after told next number line r first leads =
       counted = omega (arith, length-append r.before (line ∷ []), r.counted);
     }
 
-pub skipped_read : (bytes rest after : List ℕ) (told next : List Entry) (number : ℕ) (line : List ℕ) → IsRead bytes rest told number → lines rest ≡ line ∷ lines after → IsSkipped line → next ≡ told → IsRead bytes after next (number + 1)
+pub skipped_read : (bytes rest after : List ℕ) (told next : List Entry) (number : ℕ) (line : List ℕ) → IsRead bytes rest told number
+    → lines rest ≡ line ∷ lines after → IsSkipped line → next ≡ told → IsRead bytes after next (number + 1)
 skipped_read bytes rest after told next number line r first skipped same = line_read bytes rest after told next number line r first (inl (skipped, same))
 
-pub entry_read : (bytes rest after : List ℕ) (told next : List Entry) (number : ℕ) (line : List ℕ) (entry : Entry) → IsRead bytes rest told number → lines rest ≡ line ∷ lines after → Adds told line entry → next ≡ told ++ entry ∷ [] → IsRead bytes after next (number + 1)
+pub entry_read : (bytes rest after : List ℕ) (told next : List Entry) (number : ℕ) (line : List ℕ) (entry : Entry) → IsRead bytes rest told number
+    → lines rest ≡ line ∷ lines after → Adds told line entry → next ≡ told ++ entry ∷ [] → IsRead bytes after next (number + 1)
 entry_read bytes rest after told next number line entry r first adds so = line_read bytes rest after told next number line r first (inr (entry, adds, so))
 
 no_leads : (told : List Entry) (line : List ℕ) → (IsSkipped line → ⊥) → AddsNothing told line → (next : List Entry) → Leads told line next → ⊥
 no_leads told line read nothing next (inl s) = read s.0
 no_leads told line read nothing next (inr s) = nothing s.0 s.1
 
-pub bad_read : (bytes rest after : List ℕ) (told : List Entry) (number : ℕ) (line : List ℕ) → IsRead bytes rest told number → lines rest ≡ line ∷ lines after → (IsSkipped line → ⊥) → AddsNothing told line → IsFirstBad (lines bytes) number
+pub bad_read : (bytes rest after : List ℕ) (told : List Entry) (number : ℕ) (line : List ℕ) → IsRead bytes rest told number
+    → lines rest ≡ line ∷ lines after → (IsSkipped line → ⊥) → AddsNothing told line → IsFirstBad (lines bytes) number
 bad_read bytes rest after told number line r first read nothing =
     record {
       before = r.before;
@@ -109,7 +115,8 @@ bad_read bytes rest after told number line r first read nothing =
     }
 
 -- the entry of this line is to be kept
-pub adds_read : (bytes rest after : List ℕ) (told : List Entry) (number : ℕ) (line : List ℕ) (entry : Entry) → IsRead bytes rest told number → lines rest ≡ line ∷ lines after → Adds told line entry → AddsSome (lines bytes)
+pub adds_read : (bytes rest after : List ℕ) (told : List Entry) (number : ℕ) (line : List ℕ) (entry : Entry) → IsRead bytes rest told number
+    → lines rest ≡ line ∷ lines after → Adds told line entry → AddsSome (lines bytes)
 adds_read bytes rest after told number line entry r first adds =
     record {
       before = r.before;

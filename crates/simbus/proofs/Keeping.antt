@@ -60,7 +60,8 @@ instance_step : (s : Sent) (h : List Sent) (n : ℕ) → s.frame ≡ Forward24 n
     live_instance_after_fields (is_pair (Forward24 n) h) (device_dtr0 h) (device_fields_of n) (live_instance h i) ≡ live_instance (s ∷ h) i
 instance_step s h n e r i = rw (r, e) refl
 
-instance_rest : (s : Sent) (h : List Sent) (n : ℕ) → s.frame ≡ Forward16 n → is_reached s.mark ≡ true → (i : Instance) → live_instance h i ≡ live_instance (s ∷ h) i
+instance_rest : (s : Sent) (h : List Sent) (n : ℕ) → s.frame ≡ Forward16 n → is_reached s.mark ≡ true → (i : Instance)
+    → live_instance h i ≡ live_instance (s ∷ h) i
 instance_rest s h n e r i = rw (r, e) refl
 
 dtr0_step : (s : Sent) (h : List Sent) (n : ℕ) → s.frame ≡ Forward24 n → is_reached s.mark ≡ true →

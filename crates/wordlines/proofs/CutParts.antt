@@ -20,7 +20,8 @@ splits_whole m bs h =
     let past : length bs ≤ position_or_len p bs = none_place (position_or_len p bs) (length bs) h in
     slice_split_none p bs (λ k d lt. let low : k < position_or_len p bs = omega arith in fails_before_first p bs k d low)
 
-pub splits_at : (m : ℕ) (bs : List ℕ) (e : ℕ) → position (λ b. b == m) bs ≡ Some e → slice_split (λ b. b == m) bs ≡ take e bs ∷ slice_split (λ b. b == m) (drop 1 (drop e bs))
+pub splits_at : (m : ℕ) (bs : List ℕ) (e : ℕ) → position (λ b. b == m) bs ≡ Some e
+    → slice_split (λ b. b == m) bs ≡ take e bs ∷ slice_split (λ b. b == m) (drop 1 (drop e bs))
 splits_at m bs e h =
     let p : ℕ → Bool = λ b. b == m in
     let f = position-Some p bs e 0 h in

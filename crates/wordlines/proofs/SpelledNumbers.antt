@@ -19,13 +19,15 @@ front_at ds i within = rw add-one (drop-cons ds i 0 within)
 pub digit_here : (radix : ℕ) (ds : List ℕ) (i : ℕ) → i < length ds → AllDigits radix (drop i ds) → digit_value (get_or ds i 0) < radix
 digit_here radix ds i within all = (subst (AllDigits radix) (front_at ds i within) all).0
 
-pub digits_on : (radix : ℕ) (ds : List ℕ) (i : ℕ) → i < length ds → digit_value (get_or ds i 0) < radix → AllDigits radix (drop i ds) ↔ AllDigits radix ds → AllDigits radix (drop (i + 1) ds) ↔ AllDigits radix ds
+pub digits_on : (radix : ℕ) (ds : List ℕ) (i : ℕ) → i < length ds → digit_value (get_or ds i 0) < radix
+    → AllDigits radix (drop i ds) ↔ AllDigits radix ds → AllDigits radix (drop (i + 1) ds) ↔ AllDigits radix ds
 digits_on radix ds i within digit so_far =
     let next = front_at ds i within in
     let now = subst (λ (xs : List ℕ). AllDigits radix xs ↔ AllDigits radix ds) next so_far in
     (λ left. now.0 (digit, left), λ all. (now.1 all).1)
 
-pub value_on : (radix : ℕ) (ds : List ℕ) (i n value : ℕ) → i < length ds → digits_value_after radix n (drop i ds) ≡ value → digits_value_after radix (n * radix + digit_value (get_or ds i 0)) (drop (i + 1) ds) ≡ value
+pub value_on : (radix : ℕ) (ds : List ℕ) (i n value : ℕ) → i < length ds → digits_value_after radix n (drop i ds) ≡ value
+    → digits_value_after radix (n * radix + digit_value (get_or ds i 0)) (drop (i + 1) ds) ≡ value
 value_on radix ds i n value within so_far =
     subst (λ (xs : List ℕ). digits_value_after radix n xs ≡ value) (front_at ds i within) so_far
 
@@ -50,7 +52,8 @@ chosen false P value None d h = refl
 chosen false P value (Some x) d h = let wrong = d.1 h.0 in cc
 
 -- one answer by facts is the answer by tests
-pub upto_chosen : (most : ℕ) (ds : List ℕ) (r : Option ℕ) → SomeIff r (IsNumeral 10 ds × (digits_value 10 ds ≤ most)) (digits_value 10 ds) → r ≡ number_upto most ds
+pub upto_chosen : (most : ℕ) (ds : List ℕ) (r : Option ℕ) → SomeIff r (IsNumeral 10 ds × (digits_value 10 ds ≤ most)) (digits_value 10 ds)
+    → r ≡ number_upto most ds
 upto_chosen most ds r h =
     chosen ((nat_lt 0 (length ds) && are_digits 10 ds) && nat_le (digits_value 10 ds) most) (IsNumeral 10 ds × (digits_value 10 ds ≤ most)) (digits_value 10 ds) r
     (Decides-and (nat_lt 0 (length ds) && are_digits 10 ds) (nat_le (digits_value 10 ds) most)
@@ -78,7 +81,9 @@ lt_le : {a b : ℕ} → a < b → a ≤ b
 lt_le h = omega (arith, h)
 
 -- a number past 64 bits on the way
-pub past : (radix : ℕ) (ds : List ℕ) (i number m : ℕ) (r : Option ℕ) → r ≡ None → 1 ≤ radix → i < length ds → digits_value_after radix number (drop i ds) ≡ digits_value radix ds → m ≤ number * radix + digit_value (get_or ds i 0) → (m < 2 ^ 64 → ⊥) → SomeIff r (IsNumeral radix ds × (digits_value radix ds < 2 ^ 64)) (digits_value radix ds)
+pub past : (radix : ℕ) (ds : List ℕ) (i number m : ℕ) (r : Option ℕ) → r ≡ None → 1 ≤ radix → i < length ds
+    → digits_value_after radix number (drop i ds) ≡ digits_value radix ds → m ≤ number * radix + digit_value (get_or ds i 0) → (m < 2 ^ 64 → ⊥)
+    → SomeIff r (IsNumeral radix ds × (digits_value radix ds < 2 ^ 64)) (digits_value radix ds)
 past radix ds i number m None none low within value upto big =
     let worth = digit_value (get_or ds i 0) in
     let on = value_on radix ds i number (digits_value radix ds) within value in
@@ -87,7 +92,9 @@ past radix ds i number m None none low within value upto big =
 past radix ds i number m (Some x) none low within value upto big = cc
 
 -- all digits are read
-pub all_read : (radix : ℕ) (ds : List ℕ) (i number : ℕ) → 0 < length ds → length ds ≤ i → number < 2 ^ 64 → AllDigits radix (drop i ds) ↔ AllDigits radix ds → digits_value_after radix number (drop i ds) ≡ digits_value radix ds → (IsNumeral radix ds × (digits_value radix ds < 2 ^ 64)) × (number ≡ digits_value radix ds)
+pub all_read : (radix : ℕ) (ds : List ℕ) (i number : ℕ) → 0 < length ds → length ds ≤ i → number < 2 ^ 64
+    → AllDigits radix (drop i ds) ↔ AllDigits radix ds → digits_value_after radix number (drop i ds) ≡ digits_value radix ds
+    → (IsNumeral radix ds × (digits_value radix ds < 2 ^ 64)) × (number ≡ digits_value radix ds)
 all_read radix ds i number some past fits digits value =
     let none = drop_all i ds past in
     let all = (subst (λ (xs : List ℕ). AllDigits radix xs ↔ AllDigits radix ds) none digits).0 tt in
@@ -95,7 +102,8 @@ all_read radix ds i number some past fits digits value =
     (((some, all), subst (λ (n : ℕ). n < 2 ^ 64) same fits), same)
 
 -- the answers of `number_of` and `hex_of`
-pub upto_none : (most : ℕ) (ds : List ℕ) (r : Option ℕ) → r ≡ None → most < 2 ^ 64 → (IsNumeral 10 ds × (digits_value 10 ds < 2 ^ 64) → ⊥) → r ≡ number_upto most ds
+pub upto_none : (most : ℕ) (ds : List ℕ) (r : Option ℕ) → r ≡ None → most < 2 ^ 64 → (IsNumeral 10 ds × (digits_value 10 ds < 2 ^ 64) → ⊥)
+    → r ≡ number_upto most ds
 upto_none most ds r none small not =
     let no : IsNumeral 10 ds × (digits_value 10 ds ≤ most) → ⊥ = λ p. not (p.0, le_lt p.1 small) in
     none ∙ upto_chosen most ds None no

@@ -22,7 +22,8 @@ named_is : (tree : Tree) (buses : ℕ) (r : Result Planned NameFault) → Resolv
 named_is tree buses (Ok plan) h = well_named tree h.0
 named_is tree buses (Err fault) h = tt
 
-fault_is : (tree : Tree) (buses : ℕ) (r : Result Planned NameFault) → Resolves tree buses r → IfErr r (λ fault. IsMemoryOrTellsLeast tree.text (IsFault tree) fault)
+fault_is : (tree : Tree) (buses : ℕ) (r : Result Planned NameFault) → Resolves tree buses r
+    → IfErr r (λ fault. IsMemoryOrTellsLeast tree.text (IsFault tree) fault)
 fault_is tree buses (Ok plan) h = tt
 fault_is tree buses (Err fault) h = tells_least tree fault h
 
