@@ -1,6 +1,6 @@
 use Rattle.std.proofs.Common.{◌≤◌, length, arith}
 use Rattle.iltext.specs.declared.parser.TheConstants.{MAX_BYTES}
-use Rattle.iltext.proofs.Sources.{is_found, is_only, is_fault, is_one}
+use Rattle.iltext.proofs.Sources.{is_found, is_only, is_fault, is_one, is_one_fault, is_no_fault}
 use Rattle.iltext.proofs.parser.parse.Goals as goal
 
 pub returns-in-Ok-clause-found : goal.returns-in-Ok-clause-found
@@ -21,3 +21,15 @@ returns-in-Ok-clause-one c = is_one c.args.text.now
 
 pub returns-in-Err-clause-one : goal.returns-in-Err-clause-one
 returns-in-Err-clause-one c = is_one c.args.text.now
+
+pub returns-in-Ok-clause-one_fault : goal.returns-in-Ok-clause-one_fault
+returns-in-Ok-clause-one_fault c = is_one_fault c.args.text.now
+
+pub returns-in-Err-clause-one_fault : goal.returns-in-Err-clause-one_fault
+returns-in-Err-clause-one_fault c = is_one_fault c.args.text.now
+
+pub returns-in-Ok-clause-apart : goal.returns-in-Ok-clause-apart
+returns-in-Ok-clause-apart c = is_no_fault c.args.text.now
+
+pub returns-in-Err-clause-apart : goal.returns-in-Err-clause-apart
+returns-in-Err-clause-apart c = is_no_fault c.args.text.now
