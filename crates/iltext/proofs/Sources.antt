@@ -61,7 +61,7 @@ pub is_one_fault : (bytes : List ℕ) (a b : TextFault) → IsFirstFault bytes a
 is_one_fault bytes a b f g =
     let same : f.tokens ≡ g.tokens = one_cut bytes 0 (omega arith) f.tokens g.tokens f.cut g.cut in
     let rests : f.rest ≡ g.rest =
-        one_fault _ _ _ _ Lawful-text g.tokens f.rest g.rest (subst (λ (z : List Token). FaultAt text z f.rest) same f.stops) g.stops in
+    one_fault _ _ _ _ Lawful-text g.tokens f.rest g.rest (subst (λ (z : List Token). FaultAt text z f.rest) same f.stops) g.stops in
     subst (λ (z : List Token). Tells bytes z a) rests f.tells ∙ sym g.tells
 
 pub is_no_fault : (bytes : List ℕ) (tree : Tree) (fault : TextFault) → IsText bytes tree → IsFirstFault bytes fault → ⊥
