@@ -3,10 +3,6 @@ use Rattle.std.proofs.Common.{◌≡◌, List, [], ◌∷◌, ◌++◌, Result, 
 use Rattle.std.proofs.lemmas.List.{append-nil}
 use Rattle.ilgrammar.specs.Items.{Item}
 use Rattle.ilgrammar.specs.Stops.{StopsBefore, FaultAt, ended, whole_read}
-use Rattle.ilgrammar.specs.Results.{Gives, OnFault}
-use Rattle.std.specs.Prelude.{IfOk}
-use Rattle.ilgrammar.specs.declared.ReadError.{ReadError}
-use Rattle.ilgrammar.specs.declared.ReadError.TheVariants as errors
 use Rattle.ilgrammar.proofs.Laws.{bind_ok, bind_err, ok_is, Refused, Lawful}
 
 -- of two ways to part a list, the front of one goes past that of the other by some elements, or the rests are one
@@ -156,16 +152,3 @@ module _ (T A : Type 0) (a : Item T A) (s : T → Type 0) (la : Lawful T A a s) 
   no_fault ts [] x h w = h.1.2 x (subst (λ (z : List T). a.whole z x) h.1.0 w)
   no_fault ts (t ∷ v) x h w =
       h.1.2 (front_of_whole (h.0 ++ t ∷ []) v x (subst (λ (z : List T). a.whole z x) (h.1.0 ∙ sym (append_assoc h.0 (t ∷ []) v)) w))
-
-  -- the same, of what a function returned
-  pub is_found : (X : Type 0) (view : X → A) (ts : List T) (r : Result X (ReadError T)) → Gives view r (whole_read a ts) → IfOk r (λ x. a.whole ts (view x))
-  is_found X view ts (Ok x) g = whole_found ts (view x) g
-  is_found X view ts (Err e) g = tt
-
-  pub is_only : (X : Type 0) (view : X → A) (ts : List T) (r : Result X (ReadError T)) → Gives view r (whole_read a ts) → (y : A) → a.whole ts y → Gives view r (Ok y)
-  is_only X view ts r g y h = subst (λ (z : Result A (List T)). Gives view r z) (whole_only ts y h) g
-
-  pub is_fault : (X : Type 0) (view : X → A) (ts : List T) (r : Result X (ReadError T)) → Gives view r (whole_read a ts) → OnFault r (λ rest. FaultAt a ts rest)
-  is_fault X view ts (Ok x) g = tt
-  is_fault X view ts (Err errors.Memory) g = tt
-  is_fault X view ts (Err (errors.Fault f)) g = whole_fault ts f.now g

@@ -41,11 +41,3 @@ module _ (T A : Type 0) (a : Item T A) (s : T → Type 0) (law : Firm T A a s) w
       go : (u : List T) → ts ≡ u ++ after → a.whole u x → length after < length ts
       go [] p w = absurd (law.solid.none x w)
       go (t ∷ u) p w = omega (arith, ap length p, length-append u after)
-
-pub no_front : {T A : Type 0} → (r : Result (List A × List T) (List T)) → with_front [] r ≡ r
-no_front (Ok q) = refl
-no_front (Err d) = refl
-
-pub fails_then : {T A B : Type 0} → (e : ReadError T) (r : Result A (List T)) (f : A → Result B (List T)) → Fails e r → Fails e (r >>= f)
-fails_then errors.Memory r f h = tt
-fails_then (errors.Fault d) r f h = rw h refl

@@ -12,9 +12,3 @@ Fails (errors.Fault f) read = read ≡ Err f.now
 abbrev pub Gives : {T X Y : Type 0} → (X → Y) → Result X (ReadError T) → Result Y (List T) → Type 0
 Gives view (Ok x) read = read ≡ Ok (view x)
 Gives view (Err e) read = Fails e read
-
--- P of the tokens that are left, where a fault was told
-abbrev pub OnFault : {T X : Type 0} → Result X (ReadError T) → (List T → Type 0) → Type 0
-OnFault (Ok x) P = Unit {0}
-OnFault (Err errors.Memory) P = Unit {0}
-OnFault (Err (errors.Fault f)) P = P f.now

@@ -1,5 +1,5 @@
 -- What the tokens of a text are read as is what the text spells, or its first fault.
-use Rattle.std.proofs.Common.{◌≡◌, ℕ, suc, ◌≤◌, List, [], ◌∷◌, ◌++◌, length, Result, Ok, Err, IfOk, All, inr, sym, subst, ◌∙◌, arith}
+use Rattle.std.proofs.Common.{◌≡◌, ℕ, suc, ◌≤◌, List, [], ◌∷◌, ◌++◌, length, Result, Ok, Err, IfOk, All, inl, inr, sym, subst, ◌∙◌, arith}
 use Rattle.std.specs.Prelude.{IfErr}
 use Rattle.ilgrammar.specs.Stops.{FaultAt, whole_read}
 use Rattle.ilgrammar.proofs.Exact.{whole_found, whole_only, whole_fault, one_fault, no_fault}
@@ -11,7 +11,7 @@ use Rattle.iltext.specs.Cutting.{Cuts}
 use Rattle.iltext.specs.Faults.{Tells, place_at}
 use Rattle.iltext.specs.Texts.{text}
 use Rattle.iltext.specs.declared.parser.TheConstants.{MAX_BYTES}
-use Rattle.iltext.specs.Parsing.{IsText, IsReadAs, IsFault, IsFirstFault, IsParsed}
+use Rattle.iltext.specs.Parsing.{IsText, IsReadAs, IsFault, IsTooLong, IsFirstFault, IsTextFault, IsParsed}
 use Rattle.iltext.proofs.Cut.{one_cut}
 use Rattle.iltext.proofs.Laws.{Lawful-text}
 
@@ -57,15 +57,22 @@ is_one bytes a b s t =
     let two = reads bytes t.tokens b t.cut t in
     same_tree a b (s.same ∙ sym t.same) (same_programs a.programs b.programs (sym one ∙ two))
 
-pub is_one_fault : (bytes : List ℕ) (a b : TextFault) → IsFirstFault bytes a → IsFirstFault bytes b → a ≡ b
-is_one_fault bytes a b f g =
+first_one : (bytes : List ℕ) (a b : TextFault) → IsFirstFault bytes a → IsFirstFault bytes b → a ≡ b
+first_one bytes a b f g =
     let same : f.tokens ≡ g.tokens = one_cut bytes 0 (omega arith) f.tokens g.tokens f.cut g.cut in
     let rests : f.rest ≡ g.rest =
     one_fault _ _ _ _ Lawful-text g.tokens f.rest g.rest (subst (λ (z : List Token). FaultAt text z f.rest) same f.stops) g.stops in
     subst (λ (z : List Token). Tells bytes z a) rests f.tells ∙ sym g.tells
 
-pub is_no_fault : (bytes : List ℕ) (tree : Tree) (fault : TextFault) → IsText bytes tree → IsFirstFault bytes fault → ⊥
-is_no_fault bytes tree fault t f =
+pub is_one_fault : (bytes : List ℕ) (a b : TextFault) → IsTextFault bytes a → IsTextFault bytes b → a ≡ b
+is_one_fault bytes a b (inl f) (inl g) = f.1 ∙ sym g.1
+is_one_fault bytes a b (inl f) (inr g) = absurd (omega (arith, f.0, g.short))
+is_one_fault bytes a b (inr f) (inl g) = absurd (omega (arith, g.0, f.short))
+is_one_fault bytes a b (inr f) (inr g) = first_one bytes a b f g
+
+pub is_no_fault : (bytes : List ℕ) (tree : Tree) (fault : TextFault) → IsText bytes tree → IsTextFault bytes fault → ⊥
+is_no_fault bytes tree fault t (inl f) = omega (arith, f.0, t.short)
+is_no_fault bytes tree fault t (inr f) =
     let same : t.tokens ≡ f.tokens = one_cut bytes 0 (omega arith) t.tokens f.tokens t.cut f.cut in
     no_fault _ _ _ _ Lawful-text f.tokens f.rest tree.programs f.stops (subst (λ (z : List Token). text.whole z tree.programs) same t.whole)
 

@@ -38,9 +38,13 @@ pub record IsFirstFault (bytes : List ℕ) (fault : TextFault) : Type 0 where
 abbrev pub IsTooLong : List ℕ → TextFault → Type 0
 IsTooLong bytes fault = (MAX_BYTES < length bytes) × (fault ≡ faults.At 1 1 TooLong)
 
+-- a fault of the text
+abbrev pub IsTextFault : List ℕ → TextFault → Type 0
+IsTextFault bytes fault = IsTooLong bytes fault ⊎ IsFirstFault bytes fault
+
 abbrev pub IsFault : List ℕ → TextFault → Type 0
 IsFault bytes faults.Memory = Unit {0}
-IsFault bytes (faults.At line col cause) = IsTooLong bytes (faults.At line col cause) ⊎ IsFirstFault bytes (faults.At line col cause)
+IsFault bytes (faults.At line col cause) = IsTextFault bytes (faults.At line col cause)
 
 -- what reading the tokens gives, of bytes that they were cut from
 abbrev pub IsParsed : List ℕ → List Token → Result Tree TextFault → Type 0

@@ -2,7 +2,7 @@
 
 ghost use Rattle.std.specs.Prelude.{◌≡◌, ◌≤◌, length, IfOk, IfErr, All};
 ghost use Rattle.ilsource.specs.Trees.{Tree};
-ghost use Rattle.iltext.specs.Parsing.{IsText, IsReadAs, IsFault, IsFirstFault, IsParsed, IsSourceOf};
+ghost use Rattle.iltext.specs.Parsing.{IsText, IsReadAs, IsTextFault, IsFault, IsParsed, IsSourceOf};
 ghost use Rattle.iltext.specs.declared.fault.TextFault.{TextFault};
 
 use crate::cutting::tokens;
@@ -28,10 +28,10 @@ pub fn parse(alloc: Global, text: &[u8]) -> Result<Source, TextFault>
     ensures fault { IfErr result (λ fault. IsFault text.now fault) }
     // A text has at most one source program.
     ensures one { (a b : Tree) → IsText text.now a → IsText text.now b → a ≡ b }
-    // Any bytes have at most one first fault,
-    ensures one_fault { (a b : TextFault) → IsFirstFault text.now a → IsFirstFault text.now b → a ≡ b }
+    // Any bytes have at most one fault,
+    ensures one_fault { (a b : TextFault) → IsTextFault text.now a → IsTextFault text.now b → a ≡ b }
     // and those of a source program have none.
-    ensures apart { (tree : Tree) (fault : TextFault) → IsText text.now tree → IsFirstFault text.now fault → ⊥ }
+    ensures apart { (tree : Tree) (fault : TextFault) → IsText text.now tree → IsTextFault text.now fault → ⊥ }
 {
     if text.len() > MAX_BYTES {
         return Err(TextFault::At {
