@@ -12,8 +12,6 @@ use Rattle.transact.specs.declared.marks.Sent.{Sent}
 use Rattle.transact.specs.Marks.{IsBroken, outcome_of}
 use Rattle.transact.specs.FrameLists.{FrameList}
 use Rattle.transact.specs.Attempts.{Attempt, IsAttempt, IsReport, ReportParts, Spells, marks_of, all_marks, sent_with, all_sent, last_mark}
-use Rattle.transact.proofs.AttemptLemmas.{same_reading}
-use Rattle.transact.proofs.ReadingLemmas.{sent_with_none}
 use Rattle.buslink.specs.declared.faults.Fault.{Fault}
 use Rattle.buslink.specs.BusLog.{BusLog, mark_of_send, after_send, with_spare}
 use Rattle.buslink.specs.Performing.{failures_after, after_report, failures_with, after_frames, IsTriedOnce, IsTried}
@@ -57,6 +55,16 @@ joined xs ys m last log h =
 pub not_true : IsTrue false → ⊥
 not_true h = let e : false ≡ true = h in cc
 
+-- nothing is sent with no marks
+nothing_sent : (frames : List Frame) (first : ℕ) → sent_with frames first [] ≡ []
+nothing_sent [] first = refl
+nothing_sent (f ∷ frames) first = refl
+
+-- no retry is left where not even one is
+pub none_left : (retries : ℕ) → (0 < retries → ⊥) → retries ≡ 0
+none_left zero none = refl
+none_left (suc retries) none = absurd (none (omega arith))
+
 -- a frame with no frame behind it
 pub one_left : (frames : List Frame) → 0 < length frames → true ≡ (length (take (length frames - 1) (drop 1 frames)) == 0) → length frames ≡ 1
 one_left [] some empty = absurd (omega arith)
@@ -81,7 +89,7 @@ once_last (f ∷ frames) frame priority before after old new mark r some is mark
   bus = sends ∙ after_one frame priority r old
       ∙ ap (λ (m : Mark). after_frames (frame_sent frame priority m ∷ []) m old) (sym marked)
       ∙ ap (λ (one : Frame). after_frames (frame_sent one priority mark ∷ []) mark old) is
-      ∙ ap (λ (xs : List Sent). after_frames (frame_sent f priority mark ∷ xs) mark old) (sym (sent_with_none frames 1));
+      ∙ ap (λ (xs : List Sent). after_frames (frame_sent f priority mark ∷ xs) mark old) (sym (nothing_sent frames 1));
 }
 
 -- the frames behind the first were tried too
@@ -166,12 +174,25 @@ failures_of_last Failed failures = refl
 record IsReported (list : FrameList) (r : ReportParts) (start new : BusLog) : Type 0 where
   pub bus : new ≡ record start { sent = start.sent ++ r.attempts; spare = start.spare - length r.attempts; failures = failures_after r.outcome start.failures }
 
+-- the marks spell one report
+abbrev pub SpellOne : FrameList → List Mark → Type 0
+SpellOne list marks = (a b : ReportParts) → Spells list marks a → Spells list marks b → a ≡ b
+
 reported : (list : FrameList) (marks : List Mark) (r : ReportParts) (start new : BusLog)
-    → IsTried list 2 [] marks start new → Spells list marks r → IsReported list r start new
-reported list marks r start new t s =
-    let same : t.attempts ≡ s.attempts = same_reading 2 (length list.frames) t.attempts s.attempts t.legal s.legal (sym t.marks ∙ s.spelled) in
-    let sent : all_sent list t.attempts ≡ r.attempts = ap (all_sent list) same ∙ sym s.sent in
-    let outcome : outcome_of (last_mark t.attempts) ≡ r.outcome = ap (λ (xs : List Attempt). outcome_of (last_mark xs)) same ∙ sym s.outcome in
+    → SpellOne list marks → IsTried list 2 [] marks start new → Spells list marks r → IsReported list r start new
+reported list marks r start new one t s =
+    let own : ReportParts = record { transaction = list; attempts = all_sent list t.attempts; outcome = outcome_of (last_mark t.attempts) } in
+    let spells : Spells list marks own = record {
+      attempts = t.attempts;
+      legal = t.legal;
+      spelled = t.marks;
+      transaction = refl;
+      sent = refl;
+      outcome = refl;
+    } in
+    let same : own ≡ r = one own r spells s in
+    let sent : all_sent list t.attempts ≡ r.attempts = ap (λ (x : ReportParts). x.attempts) same in
+    let outcome : outcome_of (last_mark t.attempts) ≡ r.outcome = ap (λ (x : ReportParts). x.outcome) same in
     let failures : failures_with (last_mark t.attempts) start.failures ≡ failures_after r.outcome start.failures =
     failures_of_last (last_mark t.attempts) start.failures ∙ ap (λ o. failures_after o start.failures) outcome in
     record {
@@ -179,16 +200,16 @@ reported list marks r start new t s =
           ∙ ap (λ (n : ℕ). record start { sent = start.sent ++ r.attempts; spare = start.spare - length r.attempts; failures = n }) failures;
     }
 
-pub performed : (list : FrameList) (marks : List Mark) (r : ReportParts) (old start new : BusLog) (spare : ℕ)
+pub performed : (list : FrameList) (marks : List Mark) (r : ReportParts) (old start new : BusLog) (spare : ℕ) → SpellOne list marks
     → start ≡ with_spare spare old → IsTried list 2 [] marks start new → Spells list marks r → new ≡ after_report r new.spare old
-performed list marks r old start new spare roomed t s =
-    let told : new ≡ record start { sent = start.sent ++ r.attempts; spare = start.spare - length r.attempts; failures = failures_after r.outcome start.failures } = (reported list marks r start new t s).bus in
+performed list marks r old start new spare one roomed t s =
+    let told : new ≡ record start { sent = start.sent ++ r.attempts; spare = start.spare - length r.attempts; failures = failures_after r.outcome start.failures } = (reported list marks r start new one t s).bus in
     let left : start.spare - length r.attempts ≡ new.spare = sym (ap (λ (log : BusLog). log.spare) told) in
     told ∙ ap (λ (n : ℕ). record start { sent = start.sent ++ r.attempts; spare = n; failures = failures_after r.outcome start.failures }) left
     ∙ ap (λ (log : BusLog). after_report r new.spare log) roomed
 
-pub spare_kept : (list : FrameList) (marks : List Mark) (r : ReportParts) (start new : BusLog)
+pub spare_kept : (list : FrameList) (marks : List Mark) (r : ReportParts) (start new : BusLog) → SpellOne list marks
     → 9 ≤ start.spare → IsTried list 2 [] marks start new → Spells list marks r → 9 ≤ new.spare + length r.attempts
-spare_kept list marks r start new nine t s =
-    let left : new.spare ≡ start.spare - length r.attempts = ap (λ (log : BusLog). log.spare) (reported list marks r start new t s).bus in
+spare_kept list marks r start new one nine t s =
+    let left : new.spare ≡ start.spare - length r.attempts = ap (λ (log : BusLog). log.spare) (reported list marks r start new one t s).bus in
     omega arith

@@ -10,6 +10,7 @@ pub mod Listed
 pub mod ListedConstants
 pub mod ListedFaults
 pub mod Lookups
+pub mod OneFault
 pub mod Paired
 pub mod Scans
 pub mod Scopes

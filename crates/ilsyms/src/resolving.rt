@@ -6,7 +6,8 @@ ghost use Rattle.ilsyms.specs.Declarations.{slots_of};
 ghost use Rattle.ilsyms.specs.Resolving.{least_fault, the_task, the_plan};
 ghost use Rattle.ilsyms.specs.Faults.{IsFault, IsWellNamed};
 ghost use Rattle.ilsyms.specs.Resolved.{IsPlanOf};
-ghost use Rattle.ilsyms.specs.Told.{IsMemoryOrTold, IsMemoryOrTellsLeast};
+ghost use Rattle.ilsyms.specs.Told.{IsMemoryOrTold, IsMemoryOrTellsLeast, TellsLeast};
+ghost use Rattle.ilsyms.specs.declared.fault.NameFault.{NameFault};
 
 use crate::binding::Binding;
 use crate::constants::different_constants;
@@ -28,6 +29,9 @@ pub fn resolve(alloc: Global, source: &Source, binding: &Binding) -> Result<Plan
     ensures plan { IfOk result (λ plan. IsPlanOf source.now binding.now.buses plan) }
     ensures named { OnOk result (IsWellNamed source.now) }
     ensures fault { IfErr result (λ fault. IsMemoryOrTellsLeast source.now.text (IsFault source.now) fault) }
+    // A source program has at most one fault to tell.
+    ensures one_fault { (a b : NameFault) → TellsLeast source.now.text (IsFault source.now) a
+        → TellsLeast source.now.text (IsFault source.now) b → a ≡ b }
 {
     resolved(alloc, source, binding)
 }

@@ -44,6 +44,7 @@ impl<'a> Scope<'a> {
     ghost use Rattle.ilsyms.specs.Told.{IsOptionTold, TellsLeast};
     ghost use Rattle.ilsyms.specs.Faults.{IsFaultOfDeclarations};
     ghost use Rattle.ilsyms.specs.declared.fault.NameCause.{NameCause};
+    ghost use Rattle.ilsyms.specs.declared.fault.NameFault.{NameFault};
     ghost use Rattle.ilsyms.specs.Gathering.{lowered, scoping, table_of};
 
     /// The tables of the names that `source` declares.
@@ -74,9 +75,12 @@ impl<'a> Scope<'a> {
 
     /// The least fault that stands in a declaration; limits and names in instructions are looked at when names are resolved.
     pub fn fault(&self) -> Option<NameFault>
-        ensures { MatchOption result
+        ensures fault { MatchOption result
             ((place : ℕ) (cause : NameCause) → IsFaultOfDeclarations self.now place cause → ⊥)
             (λ fault. TellsLeast self.now.text (IsFaultOfDeclarations self.now) fault) }
+        // It is one at most.
+        ensures one { (a b : NameFault) → TellsLeast self.now.text (IsFaultOfDeclarations self.now) a
+            → TellsLeast self.now.text (IsFaultOfDeclarations self.now) b → a ≡ b }
     {
         self.gathered_fault()
     }

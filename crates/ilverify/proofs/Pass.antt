@@ -22,7 +22,7 @@ use Rattle.ilverify.proofs.Order.{into_arriving, arriving_into, arriving_none, a
 
 -- ---- certificates
 
-below : (code : Listing) (certificate : Certificate) (m n : ℕ) → m ≤ n → IsConsistentBelow code certificate n → IsConsistentBelow code certificate m
+pub below : (code : Listing) (certificate : Certificate) (m n : ℕ) → m ≤ n → IsConsistentBelow code certificate n → IsConsistentBelow code certificate m
 below code certificate m n le k = record {
   long = k.long;
   first = k.first;

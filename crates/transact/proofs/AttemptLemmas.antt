@@ -3,8 +3,11 @@ use Rattle.std.proofs.Common.{◌≡◌, ℕ, zero, suc, ◌+◌, ◌<◌, List,
 use Rattle.std.specs.Prelude.{All}
 use Rattle.transact.specs.declared.marks.Mark.{Mark}
 use Rattle.transact.specs.declared.marks.Mark.TheVariants.{Lost}
-use Rattle.transact.specs.Marks.{IsBroken}
-use Rattle.transact.specs.Attempts.{Attempt, IsAttempt, IsReport, marks_of, all_marks}
+use Rattle.transact.specs.declared.marks.Sent.{Sent}
+use Rattle.transact.specs.declared.marks.Outcome.{Outcome}
+use Rattle.transact.specs.FrameLists.{FrameList}
+use Rattle.transact.specs.Marks.{IsBroken, outcome_of}
+use Rattle.transact.specs.Attempts.{Attempt, IsAttempt, IsReport, ReportParts, Spells, most_retries, marks_of, all_marks, all_sent, last_mark}
 
 -- a front of count frames with these marks before its last one
 record Front (count : ℕ) (xs : List Mark) (x : Mark) : Type 0 where
@@ -74,3 +77,14 @@ same_reading (suc retries) count (a ∷ b ∷ xs) (c ∷ d ∷ ys) f g e =
     let first : a ≡ c = firsts.0 in
     let rest : b ∷ xs ≡ d ∷ ys = same_reading retries count (b ∷ xs) (d ∷ ys) f.2 g.2 firsts.1 in
     cc
+
+-- marks spell one report of a transaction
+pub same_report : (list : FrameList) (marks : List Mark) (a b : ReportParts) → Spells list marks a → Spells list marks b → a ≡ b
+same_report list marks a b s t =
+    let same : s.attempts ≡ t.attempts =
+    same_reading most_retries (length list.frames) s.attempts t.attempts s.legal t.legal (sym s.spelled ∙ t.spelled) in
+    let sent : a.attempts ≡ b.attempts = s.sent ∙ ap (all_sent list) same ∙ sym t.sent in
+    let outcome : a.outcome ≡ b.outcome = s.outcome ∙ ap (λ (xs : List Attempt). outcome_of (last_mark xs)) same ∙ sym t.outcome in
+    ap (λ (l : FrameList). record a { transaction = l }) (s.transaction ∙ sym t.transaction)
+    ∙ ap (λ (xs : List Sent). record a { transaction = b.transaction; attempts = xs }) sent
+    ∙ ap (λ (o : Outcome). record b { outcome = o }) outcome

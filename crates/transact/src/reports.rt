@@ -1,7 +1,7 @@
 //! Reports: what became of a transaction, attempt by attempt.
 ghost use Rattle.std.specs.Prelude.{◌≡◌, ◌+◌, ◌*◌, ◌<◌, ◌≤◌, ◌++◌, length, MatchOption};
 ghost use Rattle.arrayvec.specs.ArrayVec.{array_vec_len};
-ghost use Rattle.transact.specs.Attempts.{sent_with, Spells, SpellsNone, IsReportParts};
+ghost use Rattle.transact.specs.Attempts.{sent_with, ReportParts, Spells, SpellsNone, IsReportParts};
 ghost use Rattle.transact.specs.Readings.{EndsAt, HasNoAttempt, IsRead, ReadsNone};
 
 use crate::{Mark, Outcome, Sent, Transaction};
@@ -33,7 +33,10 @@ impl Model for Report {
 impl Report {
     /// The report of a transaction whose frames got these marks, in order, where the marks spell one.
     pub fn of(transaction: &Transaction, marks: &[Mark]) -> Option<Self>
-        ensures { MatchOption result (SpellsNone transaction.now marks.now) (λ r. Spells transaction.now marks.now r) }
+        ensures report { MatchOption result (SpellsNone transaction.now marks.now) (λ r. Spells transaction.now marks.now r) }
+
+        // Marks spell one report at most.
+        ensures one { (a b : ReportParts) → Spells transaction.now marks.now a → Spells transaction.now marks.now b → a ≡ b }
     {
         let mut attempts = ArrayVec::new();
         let last = read_attempts(transaction, MOST_RETRIES, marks, &mut attempts)?;

@@ -1,8 +1,7 @@
 use Rattle.std.proofs.Common.{◌≡◌, ◌<◌, ◌↔◌, true, false, refl}
 use Rattle.std.specs.Prelude.{IsTrue}
 use Rattle.transact.specs.declared.marks.Mark.TheVariants.{Lost}
-use Rattle.transact.proofs.ReadingLemmas.{none_left}
-use Rattle.buslink.proofs.Trying.{tried_last, tried_more}
+use Rattle.buslink.proofs.Trying.{none_left, not_true, tried_last, tried_more}
 use Rattle.buslink.proofs.performing.+try_again.Goals as goal
 
 pub returns-then-is_retried : goal.returns-then-is_retried
@@ -18,4 +17,4 @@ returns-else-is_retried g t c =
     tried_last c.args.transaction.now c.frames.result.now c.first.result c.args.retries c.args.marks.now.items c.try_once-last.new.marks.items
     (g.B.Bus.log c.args.bus.now) (g.B.Bus.log c.try_once-last.new.bus) c.try_once-last.result
     c.frames.ensures.value c.first.ensures c.try_once-last.ensures
-    (none_left c.args.retries (c.try_once-last.result ≡ Lost) told.1)
+    (λ lost. none_left c.args.retries (λ some. not_true (told.1 (lost, some))))

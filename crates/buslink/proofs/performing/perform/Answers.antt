@@ -1,27 +1,29 @@
 use Rattle.std.proofs.Common.{[]}
 use Rattle.transact.specs.Attempts.{Spells}
 use Rattle.buslink.specs.Performing.{IsTried}
-use Rattle.buslink.proofs.Trying.{performed, spare_kept}
+use Rattle.buslink.proofs.Trying.{SpellOne, performed, spare_kept}
 use Rattle.buslink.proofs.Failures.{failed_where_risen}
 use Rattle.buslink.proofs.performing.perform.Goals as goal
 
 pub returns-clause-bus : goal.returns-clause-bus
 returns-clause-bus g c =
-    let spells : Spells c.args.transaction.now c.try_again.new.marks.items c.in-Some.report = rw c.as_slice.ensures.value at c.in-Some.ensures in
+    let spells : Spells c.args.transaction.now c.try_again.new.marks.items c.in-Some.report = rw c.as_slice.ensures.value at c.in-Some.ensures.report in
     let tried : IsTried c.args.transaction.now 2 [] c.try_again.new.marks.items (g.B.Bus.log c.room.new.self) (g.B.Bus.log c.try_again.new.bus) =
     rw c.new-marks.ensures at c.try_again.ensures in
+    let one : SpellOne c.args.transaction.now c.try_again.new.marks.items = rw c.as_slice.ensures.value at c.in-Some.ensures.one in
     performed c.args.transaction.now c.try_again.new.marks.items c.in-Some.report (g.B.Bus.log c.args.bus.now) (g.B.Bus.log c.room.new.self) (g.B.Bus.log c.try_again.new.bus) (g.B.Bus.log c.room.new.self).spare
-    c.room.ensures.same tried spells
+    one c.room.ensures.same tried spells
 
 pub returns-clause-spare : goal.returns-clause-spare
 returns-clause-spare g c =
-    let spells : Spells c.args.transaction.now c.try_again.new.marks.items c.in-Some.report = rw c.as_slice.ensures.value at c.in-Some.ensures in
+    let spells : Spells c.args.transaction.now c.try_again.new.marks.items c.in-Some.report = rw c.as_slice.ensures.value at c.in-Some.ensures.report in
     let tried : IsTried c.args.transaction.now 2 [] c.try_again.new.marks.items (g.B.Bus.log c.room.new.self) (g.B.Bus.log c.try_again.new.bus) =
     rw c.new-marks.ensures at c.try_again.ensures in
+    let one : SpellOne c.args.transaction.now c.try_again.new.marks.items = rw c.as_slice.ensures.value at c.in-Some.ensures.one in
     spare_kept c.args.transaction.now c.try_again.new.marks.items c.in-Some.report (g.B.Bus.log c.room.new.self) (g.B.Bus.log c.try_again.new.bus)
-    c.in_ok-room.ensures.made tried spells
+    one c.in_ok-room.ensures.made tried spells
 
 pub returns-clause-failed : goal.returns-clause-failed
 returns-clause-failed g c =
-    let spells : Spells c.args.transaction.now c.try_again.new.marks.items c.in-Some.report = rw c.as_slice.ensures.value at c.in-Some.ensures in
+    let spells : Spells c.args.transaction.now c.try_again.new.marks.items c.in-Some.report = rw c.as_slice.ensures.value at c.in-Some.ensures.report in
     failed_where_risen c.args.transaction.now c.try_again.new.marks.items c.in-Some.report (g.B.Bus.log c.args.bus.now) (g.B.Bus.log c.try_again.new.bus) spells (returns-clause-bus g c)

@@ -9,6 +9,7 @@ use Rattle.ilsyms.specs.Told.{IsMemoryOrTold, IsMemoryOrTellsLeast}
 use Rattle.ilsyms.specs.declared.fault.NameFault.{NameFault}
 use Rattle.ilsyms.proofs.ThePlan.{the_plan_is}
 use Rattle.ilsyms.proofs.LeastFault.{well_named, tells_least}
+use Rattle.ilsyms.proofs.OneFault.{one_told}
 use Rattle.ilsyms.proofs.resolving.resolve.Goals as goal
 
 abbrev Resolves : Tree → ℕ → Result Planned NameFault → Type 0
@@ -35,3 +36,6 @@ returns-clause-named c = named_is c.args.source.now c.args.binding.now.buses c.r
 
 pub returns-clause-fault : goal.returns-clause-fault
 returns-clause-fault c = fault_is c.args.source.now c.args.binding.now.buses c.resolved.result c.resolved.ensures
+
+pub returns-clause-one_fault : goal.returns-clause-one_fault
+returns-clause-one_fault c = one_told c.args.source.now.text (IsFault c.args.source.now)

@@ -1,3 +1,4 @@
+use Rattle.transact.proofs.AttemptLemmas.{same_report}
 use Rattle.transact.proofs.ReadingLemmas.{report_of_read}
 use Rattle.transact.proofs.reports.Report.of.Goals as goal
 
@@ -7,3 +8,6 @@ invariant_of-result c = (
   report_of_read c.args.transaction.now c.copied.result c.args.marks.now c.new-attempts.result.items c.read_attempts.new.sent.items c.in_ok-last.last c.of.result
       c.in_ok-last.ensures c.new-attempts.ensures c.copied.ensures c.of.ensures,
 )
+
+pub returns-clause-one : goal.returns-clause-one
+returns-clause-one c = same_report c.args.transaction.now c.args.marks.now
