@@ -1,0 +1,41 @@
+-- The limits of this project's profile. Definitions cite these numbers; code has constants of its own, which meet them.
+use Rattle.std.specs.Prelude.{ℕ}
+
+-- bytes of a text, a binding or a scenario
+abbrev pub most_bytes : ℕ
+most_bytes = 1048576
+
+-- buses, and event sources of a bus
+abbrev pub most_buses : ℕ
+most_buses = 16
+
+abbrev pub most_sources : ℕ
+most_sources = 64
+
+-- tasks and program instances
+abbrev pub most_tasks : ℕ
+most_tasks = 16
+
+abbrev pub most_instances : ℕ
+most_instances = 64
+
+-- slots, different constants, block instances and words of a task
+abbrev pub most_slots : ℕ
+most_slots = 4096
+
+abbrev pub most_constants : ℕ
+most_constants = 4096
+
+abbrev pub most_blocks : ℕ
+most_blocks = 256
+
+abbrev pub most_words : ℕ
+most_words = 65536
+
+-- parentheses that are open at one place
+abbrev pub most_nesting : ℕ
+most_nesting = 32
+
+-- requests of a scan
+abbrev pub most_requests : ℕ
+most_requests = 16

@@ -1,0 +1,52 @@
+//! The limits of this project's profile, each once for all crates.
+//!
+//! What crosses the boundary: constants for code, and [`is_too_long`] for the bytes of a file. The numbers that contracts cite
+//! stand in specs/Limits.antt as literals, apart from the constants, so that a constant that is changed is refused wherever a
+//! contract speaks of its limit: `is_too_long(text)` is the question that texts, bindings and scenarios ask first.
+#![tactic(auto)]
+
+ghost use Rattle.std.specs.Prelude.{◌↔◌, ◌<◌, length, IsTrue};
+ghost use Rattle.limits.specs.Limits.{most_bytes};
+
+/// The greatest number of bytes of a text, a binding or a scenario.
+pub const MOST_BYTES: usize = 1_048_576;
+
+/// The greatest number of buses.
+pub const MOST_BUSES: u8 = 16;
+
+/// The greatest number of event sources of a bus.
+pub const MOST_SOURCES: u8 = 64;
+
+/// The greatest number of tasks.
+pub const MOST_TASKS: usize = 16;
+
+/// The greatest number of program instances, which is also that of starts in a task's code.
+pub const MOST_INSTANCES: usize = 64;
+
+/// The greatest number of slots of a task.
+pub const MOST_SLOTS: usize = 4096;
+
+/// The greatest number of different constants of a task.
+pub const MOST_CONSTANTS: usize = 4096;
+
+/// The greatest number of block instances of a task.
+pub const MOST_BLOCKS: usize = 256;
+
+/// The greatest number of words of a task.
+pub const MOST_WORDS: usize = 65_536;
+
+/// The greatest number of parentheses that are open at one place.
+pub const MOST_NESTING: usize = 32;
+
+/// The greatest number of requests of a scan.
+pub const MOST_REQUESTS: usize = 16;
+
+/// Whether a file has more bytes than the limit.
+pub fn is_too_long(bytes: &[u8]) -> bool
+    ensures { IsTrue result ↔ (most_bytes < length bytes.now) }
+{
+    bytes.len() > MOST_BYTES
+}
+
+#[cfg(test)]
+mod tests;
