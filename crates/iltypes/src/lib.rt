@@ -9,7 +9,7 @@ pub mod operator;
 pub mod range;
 pub mod value;
 
-pub use operator::BooleanOperator;
+pub use operator::{BooleanOperator, opposite_if};
 pub use range::Range;
 pub use value::{IlType, Value};
 

@@ -1,7 +1,7 @@
 //! The Boolean operators of the standard's table of operators (IEC 61131-3, 3.2.2).
 
 ghost use Rattle.std.specs.Prelude.{◌≡◌};
-ghost use Rattle.iltypes.specs.Operators.{result_of};
+ghost use Rattle.iltypes.specs.Operators.{opposite_if, result_of};
 
 /// An operator on two truth values.
 #[derive(Clone, Copy, PartialEq, Eq, Debug)]
@@ -22,4 +22,11 @@ impl BooleanOperator {
             BooleanOperator::Xor => left ^ right,
         }
     }
+}
+
+/// The opposite of a truth value under the modifier N (IEC 61131-3, 3.2.2), and else the value itself.
+pub fn opposite_if(negated: bool, truth: bool) -> bool
+    ensures { result ≡ opposite_if negated truth }
+{
+    negated ^ truth
 }

@@ -1,6 +1,6 @@
 //! Printed values, and each call once.
 
-use crate::{BooleanOperator, IlType, Range, Value};
+use crate::{BooleanOperator, IlType, Range, Value, opposite_if};
 use std::test::Fail;
 
 #[test]
@@ -48,5 +48,17 @@ fn operators_follow_their_truth_tables(rt: HostRuntime) {
         assert_eq!(rt; BooleanOperator::And.apply(left, right), and);
         assert_eq!(rt; BooleanOperator::Or.apply(left, right), or);
         assert_eq!(rt; BooleanOperator::Xor.apply(left, right), xor);
+    }
+}
+
+#[test]
+fn the_modifier_takes_the_opposite(rt: HostRuntime) {
+    for (negated, truth, outcome) in [
+        (false, false, false),
+        (false, true, true),
+        (true, false, true),
+        (true, true, false),
+    ] {
+        assert_eq!(rt; opposite_if(negated, truth), outcome);
     }
 }

@@ -16,7 +16,7 @@ pub enum IlType {
 }
 
 /// A value of a variable or of the current result.
-#[derive(Clone, Copy, PartialEq, Eq, Debug)]
+#[derive(Clone, Copy, PartialEq, Eq, Hash, Debug)]
 pub enum Value {
     Bool(bool),
     /// A whole number; a TIME counts milliseconds.
