@@ -6,16 +6,12 @@ pub mod Gathered
 pub mod Keys
 pub mod LeastFault
 pub mod Limits
-pub mod Listed
-pub mod ListedConstants
-pub mod ListedFaults
 pub mod Lookups
 pub mod OneFault
 pub mod Paired
 pub mod Scans
 pub mod Scopes
 pub mod Simulation
-pub mod StoredValues
 pub mod Tables
 pub mod ThePlan
 pub mod WordsPast

@@ -5,9 +5,7 @@ pub mod Counting
 pub mod Declarations
 pub mod Faults
 pub mod Gathering
-pub mod InitialStores
 pub mod Keys
-pub mod Listing
 pub mod Meaning
 pub mod PlanMeaning
 pub mod Planning

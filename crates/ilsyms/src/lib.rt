@@ -6,8 +6,7 @@
 //! which of them have their place in a declaration is `IsFaultOfDeclarations` (specs/Faults.antt). Which bytes are a binding, what
 //! it says and which line is at fault in others are `IsBinding` and `IsBadBinding` (specs/BindingLines.antt). What a source program
 //! means is `source_scan` (specs/Meaning.antt), over names; what a plan means is `plan_scan` (specs/PlanMeaning.antt), over slot
-//! numbers: the two agree, by the clause of `resolve`. [`scan`] is `source_scan` as a plain slow program, over a [`Store`] of values
-//! under names.
+//! numbers: the two agree, by the clause of `resolve`.
 #![tactic(auto)]
 
 pub mod binding;
@@ -17,31 +16,21 @@ pub(crate) mod excess;
 pub mod fault;
 pub(crate) mod found;
 pub(crate) mod names;
-pub mod plain_scan;
 pub mod plan;
 pub mod planned;
 pub(crate) mod planning;
 pub(crate) mod resolving;
 pub mod scope;
 pub(crate) mod slots;
-pub mod stores;
 pub(crate) mod uses;
 pub(crate) mod values;
 
 pub use binding::{BindCause, BindFault, Binding};
 pub use fault::{NameCause, NameFault};
-pub use plain_scan::scan;
 pub use plan::{DeclaredName, Plan, SlotName, Task};
 pub use planned::{Instance, PlannedInstruction, PlannedLine, PlannedOperand, Slot};
 pub use resolving::resolve;
 pub use scope::Scope;
-pub use stores::Store;
 
-#[cfg(test)]
-mod generated;
-#[cfg(test)]
-mod plain;
-#[cfg(test)]
-mod plain_tables;
 #[cfg(test)]
 mod tests;
