@@ -2,5 +2,4 @@ pub mod Exact
 pub mod Firm
 pub mod Laws
 pub mod Loops
-pub mod Recognising
 pub mod Repeats

@@ -1,4 +1,3 @@
 pub mod Items
-pub mod Recognising
 pub mod Results
 pub mod Stops

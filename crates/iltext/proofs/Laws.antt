@@ -100,10 +100,6 @@ semicolon_apart : (t : Token) → (mark marks.Semicolon).starts t ≡ true → N
 unfolding mark
 semicolon_apart t e = (apart_mark marks.Semicolon (mark marks.LineEnd).starts (λ f g. refl) t.kind t.from t.to e, apart_mark marks.Semicolon (mark marks.Assign).starts (λ f g. refl) t.kind t.from t.to e)
 
-assign_no_end : (t : Token) → (mark marks.Assign).starts t ≡ true → NoEnd t
-unfolding mark
-assign_no_end t e = apart_mark marks.Assign (mark marks.LineEnd).starts (λ f g. refl) t.kind t.from t.to e
-
 end_var_apart : (t : Token) → (word words.EndVar).starts t ≡ true → NoEnd t × NoName t
 unfolding name
 end_var_apart t e = (word_no_end words.EndVar t e, apart_word words.EndVar name.starts (λ f g. refl) t.kind t.from t.to e)

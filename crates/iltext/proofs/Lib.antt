@@ -3,7 +3,5 @@ pub mod Flat
 pub mod Laws
 pub mod LineEnds
 pub mod Marks
-pub mod Operations
 pub mod Sources
 pub mod Table
-pub mod Trials

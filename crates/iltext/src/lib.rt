@@ -5,8 +5,7 @@
 //! (specs/Cutting.antt, specs/Keywords.antt); the grammar is a set of items over tokens (specs/Texts.antt), whose reading is
 //! exact by the laws of `ilgrammar`; a fault stands at the first token that goes on as no text (specs/Parsing.antt).
 //!
-//! Beside it, for tests: a recogniser that tries each cut of the tokens, whose contracts are the items of the grammar and the
-//! first fault as they are defined (src/recogniser.rt), and a plain table of which token goes on where (src/plain.rt).
+//! Beside it, for tests: a plain table of which token goes on where (src/plain.rt).
 #![tactic(auto)]
 
 mod cutting;
@@ -19,8 +18,6 @@ mod parser;
 mod plain;
 mod programs;
 mod reading;
-#[cfg(test)]
-mod recogniser;
 mod token;
 
 pub use fault::{TextCause, TextFault};

@@ -26,7 +26,7 @@ enum Place {
     Line,
 }
 
-pub const WORDS: [&str; 16] = [
+const WORDS: [&str; 16] = [
     "PROGRAM",
     "p",
     "VAR",
@@ -85,7 +85,7 @@ fn front(words: &[&str]) -> (usize, bool) {
 }
 
 /// A text of these words, each after a blank.
-pub fn text_of(alloc: Global, words: &[&str]) -> Result<Vec<u8>, AllocError> {
+fn text_of(alloc: Global, words: &[&str]) -> Result<Vec<u8>, AllocError> {
     let mut text = Vec::new(alloc);
     for word in words {
         text.push(b' ')?;
@@ -134,7 +134,7 @@ fn parsed(alloc: Global, words: &[&str]) -> Result<Option<(usize, usize)>, Fail>
     }
 }
 
-pub const FRONTS: [&[&str]; 15] = [
+const FRONTS: [&[&str]; 15] = [
     &[],
     &["\n", "PROGRAM"],
     &["PROGRAM", "p", "\n"],

@@ -12,11 +12,4 @@ pub mod Telling
 pub mod TimeLaws
 pub mod TimesAgain
 pub mod TokenLaws
-pub mod TrialAddresses
-pub mod TrialBlanks
-pub mod TrialDigits
-pub mod TrialNumbers
-pub mod TrialSplits
-pub mod TrialTimes
-pub mod TrialTokens
 pub mod WordsAgain

@@ -14,9 +14,6 @@ use Rattle.iltokens.specs.Spellings.{Spells, Reads, IsUnsigned}
 use Rattle.iltokens.proofs.Comments.{both}
 use Rattle.iltokens.proofs.DigitLaws.{capped, Found, digits_found, plain_found}
 
-abbrev Shaped : (List ℕ → ℕ → Type 0) → List ℕ → ℕ × List ℕ → Type 0
-Shaped P bs read = (v : List ℕ) × (value : ℕ) × (bs ≡ v ++ read.1) × P v value × (read.0 ≡ capped value)
-
 -- ---- numbers
 
 lifted : (P Q : List ℕ → ℕ → Type 0) (w bs : List ℕ) → ((u : List ℕ) (n : ℕ) → P u n → Q (w ++ u) n) → (o : Option (ℕ × List ℕ)) → Found P bs o

@@ -9,5 +9,4 @@ pub mod Spelling
 pub mod Spellings
 pub mod Times
 pub mod Tokens
-pub mod Trials
 pub mod Views

@@ -24,7 +24,3 @@ pub use lexer::token;
 
 #[cfg(test)]
 mod tests;
-#[cfg(test)]
-mod told;
-#[cfg(test)]
-mod trial;

@@ -1,6 +1,5 @@
-//! Tokens of small texts, and those of a slow reader beside them.
+//! Tokens of small texts.
 
-use crate::told::told_by_trial;
 use crate::{AddressKind, Cause, Lexed, What, token};
 use std::test::Fail;
 
@@ -81,60 +80,89 @@ fn each_fault(rt: HostRuntime) {
     }
 }
 
-/// Whether a slow reader tells what `token` does, at each place of the text.
-fn told_alike(text: &[u8]) -> bool {
-    for at in 0..text.len() {
-        if token(text, at) != told_by_trial(text, at) {
-            return false;
-        }
-    }
-    token(text, text.len()) == told_by_trial(text, text.len())
-}
-
+/// The tokens of a text, one after the other, each as its bytes and the kind that the rules give it.
 #[test]
-fn a_slow_reader_reads_alike(rt: HostRuntime) {
-    let texts: [&[u8]; 25] = [
-        b"PROGRAM p\nVAR a : BOOL := TRUE; b, c : BOOL; END_VAR\nLD a\nANDN b\nST c\nSTN a\nEND_PROGRAM\n",
-        b"CAL t(PT := T#250ms)\r\n",
-        b"g AT %QB0.5 : SINT(0..254) := 16#Fe;",
-        b"TASK t2 (INTERVAL := T#1s, PRIORITY := 2);",
-        b"1_ 1__2 1_2_ _1 12abc 2# 2#2 2#12 8#78 16# 16#G 16#1g +16#_1 - + -+1 --1 +1_000-1",
-        b"9223372036854775807 9223372036854775808",
-        b"-9223372036854775808-9223372036854775809",
-        b"-16#8000_0000_0000_0000 16#8000_0000_0000_0000",
-        b"2#1111111111111111111111111111111111111111111111111111111111111111111",
-        b"T#5 t5 T#5m T#5ms T#5m3s T#5m3 T#5m_3s T#5m__3s T#5m_ T#5s3m T#5m3m T#5ms5ms time#5h time#",
-        b"TIME#1d25h TIME#1d_2h_3m_4s_5ms TIME#_1d T#1_0d1__h T#d T#1dh T_#1d TI#1d T##1d T#1ds T#1hs1ms",
-        b"T#4294967295ms T#4294967296ms",
-        b"T#49d17h2m47s295ms T#49d17h2m47s296ms",
-        b"T#18446744073709551616d",
-        b"%QB0.5 %qb1.22x %Iw01.2 %ix3.4.5 %IX3.4_5",
-        b"%QW1.2",
-        b"%QB1",
-        b"%QB1.",
-        b"%QB1_0.2",
-        b"%QB9223372036854775807.9223372036854775807 %QB9223372036854775808.1",
-        b"&NIGHT &n&N&& :=:: =",
-        b"...(.)..;,:(*) *)a(**)b",
-        b"\r\n\n\r",
-        b"a\x80",
-        b" \t(**)(*)(*) (*) *)a(* (* *)*)\t\x80 (***)(* *",
+fn tokens_of_whole_texts(rt: HostRuntime) {
+    let texts: [(&[u8], &[(&[u8], What)]); 6] = [
+        // An underscore stands between two digits only.
+        (
+            b"1_ 1__2",
+            &[
+                (b"1", What::Number(1)),
+                (b"_", What::Word),
+                (b"1", What::Number(1)),
+                (b"__2", What::Word),
+            ],
+        ),
+        // A base is exactly 2, 8 or 16, and its digits are below it.
+        (
+            b"2#12 8#78 16#1g",
+            &[
+                (b"2#1", What::Number(1)),
+                (b"2", What::Number(2)),
+                (b"8#7", What::Number(7)),
+                (b"8", What::Number(8)),
+                (b"16#1", What::Number(1)),
+                (b"g", What::Word),
+            ],
+        ),
+        // Units fall, and an underscore stands between two parts only.
+        (
+            b"T#5m3s T#5s3m T#5m__3s T#5ms5ms",
+            &[
+                (b"T#5m3s", What::Time(303_000)),
+                (b"T#5s", What::Time(5_000)),
+                (b"3", What::Number(3)),
+                (b"m", What::Word),
+                (b"T#5m", What::Time(300_000)),
+                (b"__3s", What::Word),
+                (b"T#5ms", What::Time(5)),
+                (b"5", What::Number(5)),
+                (b"ms", What::Word),
+            ],
+        ),
+        (
+            b"T#49d17h2m47s295ms TIME#1d_2h",
+            &[
+                (b"T#49d17h2m47s295ms", What::Time(4_294_967_295)),
+                (b"TIME#1d_2h", What::Time(93_600_000)),
+            ],
+        ),
+        // The longest mark is meant.
+        (
+            b":=:: =",
+            &[(b":=", What::Assign), (b":", What::Colon), (b":", What::Colon)],
+        ),
+        (
+            b"...;&n&\r\n\n",
+            &[
+                (b"..", What::Range),
+                (b".", What::Dot),
+                (b";", What::Semicolon),
+                (b"&n", What::AmpersandNot),
+                (b"&", What::Ampersand),
+                (b"\r\n", What::LineEnd),
+                (b"\n", What::LineEnd),
+            ],
+        ),
     ];
-    for text in texts {
-        assert!(rt; told_alike(text));
-    }
-}
-
-#[test]
-fn a_slow_reader_reads_all_short_durations_alike(rt: HostRuntime) {
-    let letters = b"1_dhmsMS";
-    for number in 0..32_768_u32 {
-        let mut text = *b"T#2     ";
-        let mut number = number;
-        for byte in text.iter_mut().skip(3) {
-            *byte = letters[(number % 8) as usize];
-            number /= 8;
+    for (text, tokens) in texts {
+        let mut at = 0;
+        for (bytes, wanted) in tokens {
+            match text.get(at..) {
+                None => assert!(rt; false, "past the end of {text:?}"),
+                Some(_) => {
+                    assert!(rt; at <= text.len());
+                    match token(text, at) {
+                        Lexed::Token { what, from, to } => {
+                            assert_eq!(rt; what, *wanted);
+                            assert_eq!(rt; text.get(from..to).unwrap_or_default(), *bytes);
+                            at = to;
+                        }
+                        _ => assert!(rt; false, "no token in {text:?} at {at}"),
+                    }
+                }
+            }
         }
-        assert_eq!(rt; token(&text, 0), told_by_trial(&text, 0));
     }
 }

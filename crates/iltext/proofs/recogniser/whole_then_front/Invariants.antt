@@ -1,6 +1,0 @@
-use Rattle.ilgrammar.specs.Recognising.{Spells}
-use Rattle.ilgrammar.proofs.Recognising.{NoCut}
-use Rattle.iltext.proofs.recogniser.whole_then_front.Given as goal
-
-abbrev pub invariant-cuts : goal.invariant-cuts
-invariant-cuts g l = NoCut (Spells (g.A.Recogniser.item l.first)) (g.B.Recogniser.item l.second).part l.tokens 0 l.cut
