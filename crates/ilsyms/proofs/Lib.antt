@@ -7,8 +7,11 @@ pub mod Keys
 pub mod LeastFault
 pub mod Limits
 pub mod Lookups
+pub mod Numbers
 pub mod OneFault
+pub mod OnePlan
 pub mod Paired
+pub mod SameMeaning
 pub mod Scans
 pub mod Scopes
 pub mod Simulation

@@ -104,7 +104,7 @@ pub fold_append : {A B : Type 0} (f : B → A → B) (a : B) (xs ys : List A) �
 fold_append f a [] ys = refl
 fold_append f a (x ∷ xs) ys = fold_append f (f a x) xs ys
 
-programs_counted : (ps : List Written) (c : Counted) → (with_programs c ps).constants ≡ fold with_constant c.constants (constants_of (lines_of ps))
+pub programs_counted : (ps : List Written) (c : Counted) → (with_programs c ps).constants ≡ fold with_constant c.constants (constants_of (lines_of ps))
 programs_counted [] c = refl
 programs_counted (p ∷ ps) c =
     programs_counted ps (with_lines c p)

@@ -1,26 +1,31 @@
--- A scan of a source program without fault is a scan of its plan.
-use Rattle.std.proofs.Common.{◌≡◌, ℕ, suc, ◌+◌, List, [], ◌∷◌, ◌++◌, map, length, Bool, true, false, refl, ap, sym, ◌∙◌, arith, subst, append_assoc, length-append}
+-- The instances that are planned for a source program without fault are those of its programs.
+use Rattle.std.proofs.Common.{◌≡◌, ℕ, suc, ◌+◌, List, [], ◌∷◌, ◌++◌, map, length, Bool, true, false, refl, ap, sym, ◌∙◌, arith, append_assoc, length-append}
 use Rattle.std.proofs.lemmas.List.{length-map, take-map, drop-map, append-nil}
 use Rattle.std.proofs.lemmas.Slice.Eq.{bytes_eq-Decides}
 use Rattle.std.specs.Prelude.{Option, Some, None, IsSome, flat_map, option_map, is_some, slice_get, unwrap_or, bytes_eq, if◌then◌else◌}
 use Rattle.std.specs.Char.{to_ascii_lowercase}
 use Rattle.iltypes.specs.declared.value.Value.{Value}
 use Rattle.ilsource.specs.declared.name.Name.{Name}
+use Rattle.ilsource.specs.declared.instruction.Operand.{Operand}
+use Rattle.ilsource.specs.declared.instruction.Operand.TheVariants.{Variable, Constant}
+use Rattle.ilsource.specs.declared.instruction.Instruction.{Instruction}
+use Rattle.ilsource.specs.declared.instruction.Instruction.TheVariants.{Load, Apply, Not, Store, Set, Reset}
+use Rattle.ilsource.specs.declared.instruction.Line.{Line}
 use Rattle.ilsource.specs.Names.{folded, text_of}
 use Rattle.ilsource.specs.Trees.{Variables, Written, Tree}
-use Rattle.ilsyms.specs.Declarations.{initial_value, slot, slots_of_declaration, slots_of_program, slots_of, variables_of}
+use Rattle.ilsyms.specs.Declarations.{name_in, name_in_operand, initial_value, slot, slots_of_declaration, slots_of_program, slots_of, variables_of}
 use Rattle.ilsyms.specs.Gathering.{Gathered, gathered, first_at, number_in, with_name, with_names, with_declaration, with_declarations, with_initial, Scoping, scoping_of, with_program, with_programs, table_of, lowered, lesser}
-use Rattle.ilsyms.specs.Meaning.{programs_scan, source_scan}
-use Rattle.ilsyms.specs.PlanMeaning.{Standing, instances_scan, plan_scan, paired}
-use Rattle.ilsyms.specs.Planning.{planning, planning_of, planned_line, slot_number, AreKnown}
-use Rattle.ilsyms.specs.Resolving.{least_fault, the_task}
+use Rattle.ilsyms.specs.Planning.{planning, planning_of, planned_operand, planned_instruction, planned_line, slot_number, IsKnownName, AreKnown}
+use Rattle.ilsyms.specs.Resolved.{Pairwise, IsInstanceOf}
+use Rattle.ilsyms.specs.Resolving.{least_fault}
+use Rattle.ilsyms.specs.SlotLines.{IsNumberOf, IsOperandOf, IsInstructionOf, IsLineOf}
 use Rattle.ilsyms.specs.declared.found.Found.{Found}
 use Rattle.ilsyms.specs.declared.planned.Slot.{Slot}
 use Rattle.ilsyms.proofs.Clean.{clean, names_none, declarations_none, none_lesser, programs_none, UsesKnown}
 use Rattle.ilsyms.proofs.Limits.{instances_from, instances_are}
-use Rattle.ilsyms.proofs.Paired.{has_name, AreBool}
+use Rattle.ilsyms.proofs.Numbers.{found_number}
+use Rattle.ilsyms.proofs.Paired.{has_name}
 use Rattle.ilsyms.proofs.Scopes.{declarations_alone}
-use Rattle.ilsyms.proofs.Simulation.{up, both, runs_same, runs_keep}
 
 -- a name's key in the lower text is the name in lower case
 pub key_is : (text : List ℕ) (n : Name) → text_of (lowered text) n ≡ folded text n
@@ -96,20 +101,6 @@ other_programs text i v (p ∷ ps) h =
 is_same : (xs : List ℕ) → bytes_eq xs xs ≡ true
 is_same xs = (bytes_eq-Decides xs xs).1 refl
 
--- all slots are of BOOL
-bool_names : (name : Name) (initial : Value) (ns : List Name) (rest : List Slot) → AreBool rest → AreBool (map (slot name initial) ns ++ rest)
-bool_names name initial [] rest h = h
-bool_names name initial (n ∷ ns) rest h = (refl, bool_names name initial ns rest h)
-
-bool_program : (name : Name) (ds : List Variables) (rest : List Slot) → AreBool rest → AreBool (flat_map (slots_of_declaration name) ds ++ rest)
-bool_program name [] rest h = h
-bool_program name (d ∷ ds) rest h =
-    rw (append_assoc (slots_of_declaration name d) (flat_map (slots_of_declaration name) ds) rest) (bool_names name _ d.names _ (bool_program name ds rest h))
-
-are_bool : (ps : List Written) → AreBool (slots_of ps)
-are_bool [] = tt
-are_bool (p ∷ ps) = bool_program p.name p.declarations (slots_of ps) (are_bool ps)
-
 slots_append : (ps qs : List Written) → slots_of (ps ++ qs) ≡ slots_of ps ++ slots_of qs
 slots_append [] qs = refl
 slots_append (p ∷ ps) qs = rw (slots_append ps qs) (sym (append_assoc (slots_of_program p) (slots_of ps) (slots_of qs)))
@@ -155,22 +146,37 @@ found_slot text front p ps apart table n known =
         (other_programs text (folded text p.name) (folded text n) front apart)
         (first_there (has_name text (folded text p.name) (folded text n)) (slots_of_program p) (slots_of ps) k inside))
 
--- the programs from here on do the same, over names and over slot numbers
-scans_same : (text : List ℕ) (all : List Slot) (ps front : List Written) (base : ℕ) → all ≡ slots_of (front ++ ps) → base ≡ length (slots_of front) →
-    AreSound text front ps → (xs : List Value) → length xs ≡ length all →
-    programs_scan text ps (paired text all xs) ≡ option_map (paired text all) (instances_scan (map (λ s. s.value_type) all) (instances_from text (lowered text) base ps) xs)
-scans_same text all [] front base e b sound xs h = refl
-scans_same text all (p ∷ ps) front base e b sound xs h =
-    let start : Standing = record { result = None; values = xs } in
-    let kinds = map (λ s. s.value_type) all in
-    let names = table_of (lowered text) p in
-    let bools : AreBool all = subst AreBool (sym e) (are_bool (front ++ p ∷ ps)) in
-    let slot_is : (n : Name) → IsSome (number_in (table_of (lowered text) p) (text_of (lowered text) n)) →
-    first_at (has_name text (folded text p.name) (folded text n)) all ≡ Some (slot_number (lowered text) (table_of (lowered text) p) base n) =
-    λ n k. rw (e, b) (found_slot text front p ps sound.0 sound.1 n k)
+-- lines over the slots of a program where no fault was found
+module _ (text : List ℕ) (all : List Slot) (instance : Name) (names : List (List ℕ)) (base : ℕ)
+    (number_is : (n : Name) → IsSome (number_in names (text_of (lowered text) n)) → IsNumberOf text all instance n (slot_number (lowered text) names base n)) where
+  operand_is : (o : Operand) → IsKnownName (lowered text) names (name_in_operand o) →
+      IsOperandOf (IsNumberOf text all instance) o (planned_operand (lowered text) names base o)
+  operand_is (Variable n) k = (_, number_is n k, refl)
+  operand_is (Constant c) k = refl
+
+  instruction_is : (i : Instruction) → IsKnownName (lowered text) names (name_in i) →
+      IsInstructionOf (IsNumberOf text all instance) i (planned_instruction (lowered text) names base i)
+  instruction_is (Load g o) k = (_, operand_is o k, refl)
+  instruction_is (Apply op g o) k = (_, operand_is o k, refl)
+  instruction_is Not k = refl
+  instruction_is (Store g n) k = (_, number_is n k, refl)
+  instruction_is (Set n) k = (_, number_is n k, refl)
+  instruction_is (Reset n) k = (_, number_is n k, refl)
+
+  lines_are : (ls : List Line) → AreKnown (lowered text) names ls → Pairwise (IsLineOf text all instance) ls (map (planned_line text (lowered text) names base) ls)
+  lines_are [] k = tt
+  lines_are (l ∷ ls) k =
+      (record { line = refl; instruction = instruction_is l.instruction (k 0 l (omega arith)) }, lines_are ls (λ j d b. k (suc j) d (omega arith)))
+
+-- the instances of the programs from here on
+pub planned_from : (text : List ℕ) (all : List Slot) (ps front : List Written) (base : ℕ) → all ≡ slots_of (front ++ ps) → base ≡ length (slots_of front) →
+    AreSound text front ps → Pairwise (IsInstanceOf text all) ps (instances_from text (lowered text) base ps)
+planned_from text all [] front base e b sound = tt
+planned_from text all (p ∷ ps) front base e b sound =
+    let number_is : (n : Name) → IsSome (number_in (table_of (lowered text) p) (text_of (lowered text) n)) →
+    IsNumberOf text all p.name n (slot_number (lowered text) (table_of (lowered text) p) base n) =
+    λ n k. found_number text p.name n all _ (rw (e, b) (found_slot text front p ps sound.0 sound.1 n k))
     in
-    let same = runs_same text (lowered text) (folded text p.name) all (table_of (lowered text) p) base bools slot_is p.lines sound.2 start h in
-    let kept = runs_keep (map (λ s. s.value_type) all) (map (planned_line text (lowered text) (table_of (lowered text) p) base) p.lines) start (length all) h in
     let next : all ≡ slots_of ((front ++ p ∷ []) ++ ps) = rw (append_assoc front (p ∷ []) ps) e in
     let further : base + length (table_of (lowered text) p) ≡ length (slots_of (front ++ p ∷ [])) =
     let t = ap length sound.1 in
@@ -179,10 +185,10 @@ scans_same text all (p ∷ ps) front base e b sound xs h =
     let a = ap length (slots_append front (p ∷ [])) in
     let d : length (slots_of front ++ slots_of (p ∷ [])) ≡ length (slots_of front) + length (slots_of_program p) = simp (length-append, append-nil) refl in
     omega (arith, t, m, c, a, d, b)
-    in
-    rw same
-    (both (λ t. length t.values ≡ length all) (λ z. programs_scan text ps z.store) (λ t. instances_scan (map (λ s. s.value_type) all) (instances_from text (lowered text) (base + length (table_of (lowered text) p)) ps) t.values)
-    (up text all) (paired text all) _ kept (λ t k. scans_same text all ps (front ++ p ∷ []) _ next further sound.3 t.values k))
+    in (
+      record { name = refl; lines = lines_are text all p.name (table_of (lowered text) p) base number_is p.lines sound.2 },
+      planned_from text all ps (front ++ p ∷ []) _ next further sound.3,
+    )
 
 -- without fault each name was added
 one_added : (b : Bool) (names : List (List ℕ)) (key : List ℕ) (l : Option Found) (f : Found) →
@@ -243,11 +249,10 @@ sound text (p ∷ ps) front s e h k =
     let rest : UsesKnown (lowered text) ps = λ i q b. k (suc i) q (omega (arith, b)) in
     (apart, sym t ∙ all, k 0 p (omega arith), sound text ps (front ++ p ∷ []) (with_program (lowered text) s p) next h rest)
 
--- a scan over names is a scan of the plan
-pub law : (tree : Tree) → least_fault tree ≡ None → (xs : List Value) → length xs ≡ length (slots_of tree.programs) →
-    source_scan tree (paired tree.text (slots_of tree.programs) xs) ≡ option_map (paired tree.text (slots_of tree.programs)) (plan_scan (the_task tree) xs)
-law tree h xs n =
+-- where no fault was found, each program has its instance
+pub instances_of : (tree : Tree) → least_fault tree ≡ None → Pairwise (IsInstanceOf tree.text (slots_of tree.programs)) tree.programs (planning_of tree).instances
+instances_of tree h =
     let e : (planning_of tree).instances ≡ instances_from tree.text (lowered tree.text) 0 tree.programs = instances_are tree.text (lowered tree.text) tree.programs (planning [] 0) in
     rw e
-    (scans_same tree.text (slots_of tree.programs) tree.programs [] 0 refl refl
-    (sound tree.text tree.programs [] (scoping_of [] [] None) refl (clean tree h).declarations (clean tree h).uses) xs n)
+    (planned_from tree.text (slots_of tree.programs) tree.programs [] 0 refl refl
+    (sound tree.text tree.programs [] (scoping_of [] [] None) refl (clean tree h).declarations (clean tree h).uses))

@@ -1,34 +1,32 @@
 -- An instance's lines do the same over names and over slot numbers.
-use Rattle.std.proofs.Common.{◌≡◌, ℕ, suc, List, [], ◌∷◌, map, length, Bool, true, false, refl, ap, ◌∙◌, arith, subst}
+use Rattle.std.proofs.Common.{◌≡◌, ℕ, List, [], ◌∷◌, map, length, Bool, true, false, refl, ap, ◌∙◌, subst}
 use Rattle.std.proofs.lemmas.List.{length-set}
-use Rattle.std.specs.Prelude.{Option, Some, None, IfSome, IsSome, option_map, option_and_then, slice_get, slice_set}
+use Rattle.std.specs.Prelude.{Option, Some, None, IfSome, option_map, option_and_then, slice_get, slice_set}
 use Rattle.iltypes.specs.declared.operator.BooleanOperator.{BooleanOperator}
 use Rattle.iltypes.specs.declared.value.IlType.{IlType}
 use Rattle.iltypes.specs.declared.value.IlType.TheVariants as types
 use Rattle.iltypes.specs.declared.value.Value.{Value}
 use Rattle.iltypes.specs.declared.value.Value.TheVariants as values
+use Rattle.iltypes.specs.Operators.{opposite_if}
 use Rattle.ilsource.specs.declared.name.Name.{Name}
 use Rattle.ilsource.specs.declared.instruction.Operand.{Operand}
 use Rattle.ilsource.specs.declared.instruction.Operand.TheVariants as sources
 use Rattle.ilsource.specs.declared.instruction.Instruction.{Instruction}
 use Rattle.ilsource.specs.declared.instruction.Instruction.TheVariants.{Load, Apply, Not, Store, Set, Reset}
 use Rattle.ilsource.specs.declared.instruction.Line.{Line}
-use Rattle.ilsource.specs.Names.{folded, text_of}
-use Rattle.ilsyms.specs.Declarations.{name_in, name_in_operand}
-use Rattle.ilsyms.specs.Gathering.{first_at, number_in}
-use Rattle.ilsyms.specs.Meaning.{Between, operand_value, perhaps_opposite, loads, applies, inverts, stores, sets, does, runs}
-use Rattle.ilsyms.specs.PlanMeaning.{Standing, value_of, modified, load, apply, invert, store, write, effect, instance_run, paired}
-use Rattle.ilsyms.specs.Planning.{slot_number, planned_operand, planned_instruction, planned_line, IsKnownName, AreKnown}
+use Rattle.ilsource.specs.Names.{folded}
+use Rattle.ilsyms.specs.Meaning.{Between, operand_value, loads, applies, inverts, stores, sets, does, runs}
+use Rattle.ilsyms.specs.PlanMeaning.{Standing, value_of, load, apply, invert, store, write, effect, instance_run, paired}
+use Rattle.ilsyms.specs.Resolved.{Pairwise}
+use Rattle.ilsyms.specs.SlotLines.{IsNumberOf, IsOperandOf, IsInstructionOf, IsLineOf}
 use Rattle.ilsyms.specs.Stores.{value_under, with_value}
+use Rattle.ilsyms.specs.declared.planned.PlannedOperand.{PlannedOperand}
 use Rattle.ilsyms.specs.declared.planned.PlannedInstruction.{PlannedInstruction}
 use Rattle.ilsyms.specs.declared.planned.PlannedInstruction.TheVariants as planned
 use Rattle.ilsyms.specs.declared.planned.PlannedLine.{PlannedLine}
 use Rattle.ilsyms.specs.declared.planned.Slot.{Slot}
+use Rattle.ilsyms.proofs.Numbers.{number_found}
 use Rattle.ilsyms.proofs.Paired.{has_name, value_paired, with_paired, AreBool, bool_at, value_there}
-
-negated_same : (n b : Bool) → perhaps_opposite n b ≡ modified n b
-negated_same true b = refl
-negated_same false b = refl
 
 -- the state over names that a state over slots stands for
 abbrev pub up : List ℕ → List Slot → Standing → Between
@@ -37,7 +35,7 @@ up text slots s = record { result = s.result; store = paired text slots s.values
 loads_same : (text : List ℕ) (slots : List Slot) (n : Bool) (xs : List Value) (o : Option Value) →
     loads n o (paired text slots xs) ≡ option_map (up text slots) (load n xs o)
 loads_same text slots n xs None = refl
-loads_same text slots n xs (Some (values.Bool b)) = rw (negated_same n b) refl
+loads_same text slots n xs (Some (values.Bool b)) = refl
 loads_same text slots n xs (Some (values.Int k)) = refl
 
 applies_same : (text : List ℕ) (slots : List Slot) (op : BooleanOperator) (n : Bool) (xs : List Value) (r o : Option Value) →
@@ -46,7 +44,7 @@ applies_same text slots op n xs None o = refl
 applies_same text slots op n xs (Some (values.Int k)) o = refl
 applies_same text slots op n xs (Some (values.Bool r)) None = refl
 applies_same text slots op n xs (Some (values.Bool r)) (Some (values.Int k)) = refl
-applies_same text slots op n xs (Some (values.Bool r)) (Some (values.Bool b)) = rw (negated_same n b) refl
+applies_same text slots op n xs (Some (values.Bool r)) (Some (values.Bool b)) = refl
 
 inverts_same : (text : List ℕ) (slots : List Slot) (xs : List Value) (r : Option Value) →
     inverts r (paired text slots xs) ≡ option_map (up text slots) (invert xs r)
@@ -59,7 +57,7 @@ stores_same : (text i v : List ℕ) (slots : List Slot) (n : Bool) (xs : List Va
     stores i v n r (Some old) (paired text slots xs) ≡ option_map (up text slots) (store n k xs r (Some types.Bool))
 stores_same text i v slots n xs None old k h = refl
 stores_same text i v slots n xs (Some (values.Int z)) old k h = refl
-stores_same text i v slots n xs (Some (values.Bool b)) old k h = rw (h (values.Bool (perhaps_opposite n b)), negated_same n b) refl
+stores_same text i v slots n xs (Some (values.Bool b)) old k h = rw (h (values.Bool (opposite_if n b))) refl
 
 sets_same : (text i v : List ℕ) (slots : List Slot) (w : Bool) (xs : List Value) (r : Option Value) (old : Value) (k : ℕ) →
     ((x : Value) → with_value i v x (paired text slots xs) ≡ paired text slots (slice_set xs k x)) →
@@ -126,56 +124,65 @@ pub keeps_both : {B D : Type 0} (P : B → Type 0) (Q : D → Type 0) (g : B →
 keeps_both P Q g None p h = tt
 keeps_both P Q g (Some b) p h = h b p
 
--- the names of one instance, whose slots begin at `base`
-module _ (text lower i : List ℕ) (slots : List Slot) (names : List (List ℕ)) (base : ℕ) (bools : AreBool slots)
-    (slot_is : (n : Name) → IsSome (number_in names (text_of lower n)) → first_at (has_name text i (folded text n)) slots ≡ Some (slot_number lower names base n)) where
-  looked : (xs : List Value) → length xs ≡ length slots → (n : Name) → IsSome (number_in names (text_of lower n)) →
-      value_under i (folded text n) (paired text slots xs) ≡ slice_get xs (slot_number lower names base n)
-  looked xs h n k = value_paired text i (folded text n) slots xs h ∙ ap (λ (o : Option ℕ). option_and_then (slice_get xs) o) (slot_is n k)
+-- an instance of this name
+module _ (text : List ℕ) (instance : Name) (slots : List Slot) (bools : AreBool slots) where
+  looked : (xs : List Value) → length xs ≡ length slots → (n : Name) (k : ℕ) → IsNumberOf text slots instance n k →
+      value_under (folded text instance) (folded text n) (paired text slots xs) ≡ slice_get xs k
+  looked xs h n k is =
+      value_paired text (folded text instance) (folded text n) slots xs h
+      ∙ ap (λ (o : Option ℕ). option_and_then (slice_get xs) o) (number_found text instance n slots k is)
 
-  operand_same : (xs : List Value) → length xs ≡ length slots → (o : Operand) → IsKnownName lower names (name_in_operand o) →
-      operand_value text i (paired text slots xs) o ≡ value_of xs (planned_operand lower names base o)
-  operand_same xs h (sources.Variable n) k = looked xs h n k
-  operand_same xs h (sources.Constant c) k = refl
+  operand_same : (xs : List Value) → length xs ≡ length slots → (o : Operand) (it : PlannedOperand) → IsOperandOf (IsNumberOf text slots instance) o it →
+      operand_value text (folded text instance) (paired text slots xs) o ≡ value_of xs it
+  operand_same xs h (sources.Variable n) it w = rw w.2 (looked xs h n w.0 w.1)
+  operand_same xs h (sources.Constant c) it w = rw w refl
 
-  writes : (xs : List Value) → length xs ≡ length slots → (n : Name) → IsSome (number_in names (text_of lower n)) → (x : Value) →
-      with_value i (folded text n) x (paired text slots xs) ≡ paired text slots (slice_set xs (slot_number lower names base n) x)
-  writes xs h n k x = with_paired text i (folded text n) x slots xs _ h (slot_is n k)
+  writes : (xs : List Value) → length xs ≡ length slots → (n : Name) (k : ℕ) → IsNumberOf text slots instance n k → (x : Value) →
+      with_value (folded text instance) (folded text n) x (paired text slots xs) ≡ paired text slots (slice_set xs k x)
+  writes xs h n k is x = with_paired text (folded text instance) (folded text n) x slots xs k h (number_found text instance n slots k is)
 
-  old_value : (xs : List Value) → length xs ≡ length slots → (n : Name) → IsSome (number_in names (text_of lower n)) →
-      (y : Value) × (slice_get xs (slot_number lower names base n) ≡ Some y)
-  old_value xs h n k = value_there (has_name text i (folded text n)) slots xs _ h (slot_is n k)
+  old_value : (xs : List Value) → length xs ≡ length slots → (n : Name) (k : ℕ) → IsNumberOf text slots instance n k →
+      (y : Value) × (slice_get xs k ≡ Some y)
+  old_value xs h n k is = value_there (has_name text (folded text instance) (folded text n)) slots xs k h (number_found text instance n slots k is)
 
-  is_bool : (n : Name) → IsSome (number_in names (text_of lower n)) → slice_get (map (λ s. s.value_type) slots) (slot_number lower names base n) ≡ Some types.Bool
-  is_bool n k = bool_at (has_name text i (folded text n)) slots _ bools (slot_is n k)
+  is_bool : (n : Name) (k : ℕ) → IsNumberOf text slots instance n k → slice_get (map (λ s. s.value_type) slots) k ≡ Some types.Bool
+  is_bool n k is = bool_at (has_name text (folded text instance) (folded text n)) slots k bools (number_found text instance n slots k is)
 
-  does_same : (ins : Instruction) → IsKnownName lower names (name_in ins) → (s : Standing) → length s.values ≡ length slots →
-      does text i ins (up text slots s) ≡ option_map (up text slots) (effect (map (λ t. t.value_type) slots) (planned_instruction lower names base ins) s)
-  does_same (Load g o) k s h = rw (operand_same s.values h o k) (loads_same text slots g s.values _)
-  does_same (Apply op g o) k s h = rw (operand_same s.values h o k) (applies_same text slots op g s.values s.result _)
-  does_same Not k s h = inverts_same text slots s.values s.result
-  does_same (Store g n) k s h =
-      let y = old_value s.values h n k in
-      rw (looked s.values h n k, y.1, is_bool n k) (stores_same text i (folded text n) slots g s.values s.result y.0 (slot_number lower names base n) (writes s.values h n k))
-  does_same (Set n) k s h =
-      let y = old_value s.values h n k in
-      rw (looked s.values h n k, y.1, is_bool n k) (sets_same text i (folded text n) slots true s.values s.result y.0 (slot_number lower names base n) (writes s.values h n k))
-  does_same (Reset n) k s h =
-      let y = old_value s.values h n k in
-      rw (looked s.values h n k, y.1, is_bool n k) (sets_same text i (folded text n) slots false s.values s.result y.0 (slot_number lower names base n) (writes s.values h n k))
+  does_same : (i : Instruction) (it : PlannedInstruction) → IsInstructionOf (IsNumberOf text slots instance) i it → (s : Standing) → length s.values ≡ length slots →
+      does text (folded text instance) i (up text slots s) ≡ option_map (up text slots) (effect (map (λ t. t.value_type) slots) it s)
+  does_same (Load g o) it w s h = rw w.2 (rw (operand_same s.values h o w.0 w.1) (loads_same text slots g s.values _))
+  does_same (Apply op g o) it w s h = rw w.2 (rw (operand_same s.values h o w.0 w.1) (applies_same text slots op g s.values s.result _))
+  does_same Not it w s h = rw w (inverts_same text slots s.values s.result)
+  does_same (Store g n) it w s h =
+      let y = old_value s.values h n w.0 w.1 in
+      rw w.2
+      (rw (looked s.values h n w.0 w.1, y.1, is_bool n w.0 w.1)
+      (stores_same text (folded text instance) (folded text n) slots g s.values s.result y.0 w.0 (writes s.values h n w.0 w.1)))
+  does_same (Set n) it w s h =
+      let y = old_value s.values h n w.0 w.1 in
+      rw w.2
+      (rw (looked s.values h n w.0 w.1, y.1, is_bool n w.0 w.1)
+      (sets_same text (folded text instance) (folded text n) slots true s.values s.result y.0 w.0 (writes s.values h n w.0 w.1)))
+  does_same (Reset n) it w s h =
+      let y = old_value s.values h n w.0 w.1 in
+      rw w.2
+      (rw (looked s.values h n w.0 w.1, y.1, is_bool n w.0 w.1)
+      (sets_same text (folded text instance) (folded text n) slots false s.values s.result y.0 w.0 (writes s.values h n w.0 w.1)))
 
   -- an instance's lines do the same
-  pub runs_same : (ls : List Line) → AreKnown lower names ls → (s : Standing) → length s.values ≡ length slots →
-      runs text i ls (up text slots s) ≡ option_map (up text slots) (instance_run (map (λ t. t.value_type) slots) (map (planned_line text lower names base) ls) s)
-  runs_same [] k s h = refl
-  runs_same (l ∷ ls) k s h =
-      let o : Option Standing = effect (map (λ t. t.value_type) slots) (planned_instruction lower names base l.instruction) s in
+  pub runs_same : (ls : List Line) (its : List PlannedLine) → Pairwise (IsLineOf text slots instance) ls its → (s : Standing) → length s.values ≡ length slots →
+      runs text (folded text instance) ls (up text slots s) ≡ option_map (up text slots) (instance_run (map (λ t. t.value_type) slots) its s)
+  runs_same [] [] w s h = refl
+  runs_same [] (it ∷ its) w s h = absurd w
+  runs_same (l ∷ ls) [] w s h = absurd w
+  runs_same (l ∷ ls) (it ∷ its) w s h =
+      let o : Option Standing = effect (map (λ t. t.value_type) slots) it.instruction s in
       let kept : IfSome o (λ t. length t.values ≡ length slots) =
-      subst (λ (n : ℕ). IfSome o (λ t. length t.values ≡ n)) h (effect_keeps (map (λ t. t.value_type) slots) (planned_instruction lower names base l.instruction) s)
+      subst (λ (n : ℕ). IfSome o (λ t. length t.values ≡ n)) h (effect_keeps (map (λ t. t.value_type) slots) it.instruction s)
       in
-      rw (does_same l.instruction (k 0 l (omega arith)) s h)
-      (both (λ t. length t.values ≡ length slots) (runs text i ls) (instance_run (map (λ t. t.value_type) slots) (map (planned_line text lower names base) ls))
-      (up text slots) (up text slots) o kept (λ t e. runs_same ls (λ j d b. k (suc j) d (omega arith)) t e))
+      rw (does_same l.instruction it.instruction w.0.instruction s h)
+      (both (λ t. length t.values ≡ length slots) (runs text (folded text instance) ls) (instance_run (map (λ t. t.value_type) slots) its)
+      (up text slots) (up text slots) o kept (λ t e. runs_same ls its w.1 t e))
 
 pub runs_keep : (kinds : List IlType) (ls : List PlannedLine) (s : Standing) (n : ℕ) → length s.values ≡ n →
     IfSome (instance_run kinds ls s) (λ t. length t.values ≡ n)

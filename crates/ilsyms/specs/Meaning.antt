@@ -4,7 +4,7 @@ use Rattle.std.specs.Prelude.{ℕ, List, [], ◌∷◌, Option, Some, None, Bool
 use Rattle.iltypes.specs.declared.operator.BooleanOperator.{BooleanOperator}
 use Rattle.iltypes.specs.declared.value.Value.{Value}
 use Rattle.iltypes.specs.declared.value.Value.TheVariants as values
-use Rattle.iltypes.specs.Operators.{opposite, result_of}
+use Rattle.iltypes.specs.Operators.{opposite, opposite_if, result_of}
 use Rattle.ilsource.specs.declared.instruction.Operand.{Operand}
 use Rattle.ilsource.specs.declared.instruction.Operand.TheVariants.{Variable, Constant}
 use Rattle.ilsource.specs.declared.instruction.Instruction.{Instruction}
@@ -25,24 +25,19 @@ abbrev pub operand_value : List ℕ → List ℕ → List Entry → Operand → 
 operand_value text instance store (Variable name) = value_under instance (folded text name) store
 operand_value text instance store (Constant constant) = Some (constant_value constant)
 
--- with the modifier N the opposite
-abbrev pub perhaps_opposite : Bool → Bool → Bool
-perhaps_opposite true truth = opposite truth
-perhaps_opposite false truth = truth
-
 -- on with a truth value as the current result
 abbrev pub goes_on : Bool → List Entry → Option Between
 goes_on truth store = Some (record { result = Some (values.Bool truth); store = store })
 
 -- LD, LDN
 abbrev pub loads : Bool → Option Value → List Entry → Option Between
-loads negated (Some (values.Bool truth)) store = goes_on (perhaps_opposite negated truth) store
+loads negated (Some (values.Bool truth)) store = goes_on (opposite_if negated truth) store
 loads negated _ store = None
 
 -- AND, OR, XOR, ANDN, ORN, XORN
 abbrev pub applies : BooleanOperator → Bool → Option Value → Option Value → List Entry → Option Between
 applies operator negated (Some (values.Bool result)) (Some (values.Bool truth)) store =
-    goes_on (result_of operator result (perhaps_opposite negated truth)) store
+    goes_on (result_of operator result (opposite_if negated truth)) store
 applies operator negated _ _ store = None
 
 -- NOT
@@ -53,7 +48,7 @@ inverts _ store = None
 -- ST, STN: a BOOL variable that has a value takes the current result, which stays
 abbrev pub stores : List ℕ → List ℕ → Bool → Option Value → Option Value → List Entry → Option Between
 stores instance variable negated (Some (values.Bool result)) (Some old) store =
-    goes_on result (with_value instance variable (values.Bool (perhaps_opposite negated result)) store)
+    goes_on result (with_value instance variable (values.Bool (opposite_if negated result)) store)
 stores instance variable negated _ _ store = None
 
 -- S, R: where the current result is TRUE, a BOOL variable that has a value takes TRUE or FALSE; the current result stays

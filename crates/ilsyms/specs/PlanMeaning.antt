@@ -5,7 +5,7 @@ use Rattle.iltypes.specs.declared.value.IlType.{IlType}
 use Rattle.iltypes.specs.declared.value.IlType.TheVariants as types
 use Rattle.iltypes.specs.declared.value.Value.{Value}
 use Rattle.iltypes.specs.declared.value.Value.TheVariants as values
-use Rattle.iltypes.specs.Operators.{opposite, result_of}
+use Rattle.iltypes.specs.Operators.{opposite, opposite_if, result_of}
 use Rattle.ilsource.specs.Names.{folded}
 use Rattle.ilsyms.specs.declared.planned.Slot.{Slot}
 use Rattle.ilsyms.specs.declared.planned.PlannedOperand.{PlannedOperand}
@@ -26,18 +26,13 @@ abbrev pub value_of : List Value → PlannedOperand → Option Value
 value_of slots (operands.Slot slot) = slice_get slots slot
 value_of slots (operands.Constant value) = Some value
 
--- under the modifier N the opposite
-abbrev pub modified : Bool → Bool → Bool
-modified true truth = opposite truth
-modified false truth = truth
-
 abbrev pub load : Bool → List Value → Option Value → Option Standing
-load negated slots (Some (values.Bool operand)) = Some (record { result = Some (values.Bool (modified negated operand)); values = slots })
+load negated slots (Some (values.Bool operand)) = Some (record { result = Some (values.Bool (opposite_if negated operand)); values = slots })
 load negated slots _ = None
 
 abbrev pub apply : BooleanOperator → Bool → List Value → Option Value → Option Value → Option Standing
 apply operator negated slots (Some (values.Bool truth)) (Some (values.Bool operand)) =
-    Some (record { result = Some (values.Bool (result_of operator truth (modified negated operand))); values = slots })
+    Some (record { result = Some (values.Bool (result_of operator truth (opposite_if negated operand))); values = slots })
 apply operator negated slots _ _ = None
 
 abbrev pub invert : List Value → Option Value → Option Standing
@@ -47,7 +42,7 @@ invert slots _ = None
 -- ST, STN, to the slot of this number and type
 abbrev pub store : Bool → ℕ → List Value → Option Value → Option IlType → Option Standing
 store negated number slots (Some (values.Bool truth)) (Some types.Bool) =
-    Some (record { result = Some (values.Bool truth); values = slice_set slots number (values.Bool (modified negated truth)) })
+    Some (record { result = Some (values.Bool truth); values = slice_set slots number (values.Bool (opposite_if negated truth)) })
 store negated number slots _ _ = None
 
 -- S, R, which write TRUE or FALSE to the slot where the current result is TRUE

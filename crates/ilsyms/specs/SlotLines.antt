@@ -1,9 +1,9 @@
--- Lines over slots: when one stands for a line over names (IEC 61131-3, 2.4.3 and 3.2).
-use Rattle.std.specs.Prelude.{◌≡◌, ℕ, List, Option, IsSomeAnd, slice_get, take}
+-- Lines over slots: a planned line is a line of the source with each name replaced by its slot's number
+-- (IEC 61131-3, 2.4.3 and 3.2).
+use Rattle.std.specs.Prelude.{◌≡◌, ℕ, List, IsSomeAnd, slice_get, take}
 use Rattle.ilsource.specs.declared.name.Name.{Name}
 use Rattle.ilsource.specs.declared.instruction.Operand.{Operand}
-use Rattle.ilsource.specs.declared.instruction.Operand.TheVariants.{Variable}
-use Rattle.ilsource.specs.declared.instruction.Operand.TheVariants as operands
+use Rattle.ilsource.specs.declared.instruction.Operand.TheVariants.{Variable, Constant}
 use Rattle.ilsource.specs.declared.instruction.Instruction.{Instruction}
 use Rattle.ilsource.specs.declared.instruction.Instruction.TheVariants.{Load, Apply, Not, Store, Set, Reset}
 use Rattle.ilsource.specs.declared.instruction.Line.{Line}
@@ -15,39 +15,37 @@ use Rattle.ilsyms.specs.declared.planned.Slot.{Slot}
 use Rattle.ilsyms.specs.declared.planned.PlannedOperand.{PlannedOperand}
 use Rattle.ilsyms.specs.declared.planned.PlannedOperand.TheVariants as slots
 use Rattle.ilsyms.specs.declared.planned.PlannedInstruction.{PlannedInstruction}
-use Rattle.ilsyms.specs.declared.planned.PlannedInstruction.TheVariants as planned
+use Rattle.ilsyms.specs.declared.planned.PlannedInstruction.TheVariants as over_slots
 use Rattle.ilsyms.specs.declared.planned.PlannedLine.{PlannedLine}
 
--- the slot is that of the instance's variable of this name
+-- the slot is that of this variable of this instance
 abbrev pub IsUnder : List ℕ → Name → Name → Slot → Type 0
-IsUnder text instance name slot = (slot.instance ≡ instance) × SameName text slot.variable name
+IsUnder text instance variable slot = SameName text slot.instance instance × SameName text slot.variable variable
 
--- the name, if there is one, has no slot
-abbrev pub HasNoSlot : List ℕ → List Slot → Name → Option Name → Type 0
-HasNoSlot text all instance name = IsSomeAnd name (λ n. SomeOf (IsUnder text instance n) all → ⊥)
-
--- the slot of this number is the first that is that of the instance's variable of this name
+-- the slot of this number is that of the variable, and the first such
 abbrev pub IsNumberOf : List ℕ → List Slot → Name → Name → ℕ → Type 0
-IsNumberOf text all instance name number =
-    IsSomeAnd (slice_get all number) (IsUnder text instance name) × (SomeOf (IsUnder text instance name) (take number all) → ⊥)
+IsNumberOf text all instance variable number =
+    IsSomeAnd (slice_get all number) (IsUnder text instance variable)
+    × ¬ SomeOf (IsUnder text instance variable) (take number all)
 
--- the operand over slots stands for the one over names
-abbrev pub IsOperandOf : List ℕ → List Slot → Name → Operand → PlannedOperand → Type 0
-IsOperandOf text all instance (Variable name) (slots.Slot number) = IsNumberOf text all instance name number
-IsOperandOf text all instance (operands.Constant constant) (slots.Constant value) = value ≡ constant_value constant
-IsOperandOf text all instance _ _ = ⊥
+-- the operand with its name replaced by a number that stands for it
+abbrev pub IsOperandOf : (Name → ℕ → Type 0) → Operand → PlannedOperand → Type 0
+IsOperandOf StandsFor (Variable name) it = (number : ℕ) × StandsFor name number × (it ≡ slots.Slot number)
+IsOperandOf StandsFor (Constant constant) it = it ≡ slots.Constant (constant_value constant)
 
--- the instruction over slots stands for the one over names
-abbrev pub IsInstructionOf : List ℕ → List Slot → Name → Instruction → PlannedInstruction → Type 0
-IsInstructionOf text all instance (Load negated operand) (planned.Load its over) = (its ≡ negated) × IsOperandOf text all instance operand over
-IsInstructionOf text all instance (Apply operator negated operand) (planned.Apply other its over) =
-    (other ≡ operator) × (its ≡ negated) × IsOperandOf text all instance operand over
-IsInstructionOf text all instance Not planned.Not = Unit {0}
-IsInstructionOf text all instance (Store negated name) (planned.Store its number) = (its ≡ negated) × IsNumberOf text all instance name number
-IsInstructionOf text all instance (Set name) (planned.Set number) = IsNumberOf text all instance name number
-IsInstructionOf text all instance (Reset name) (planned.Reset number) = IsNumberOf text all instance name number
-IsInstructionOf text all instance _ _ = ⊥
+-- the instruction with its name, if it has one, replaced by a number that stands for it
+abbrev pub IsInstructionOf : (Name → ℕ → Type 0) → Instruction → PlannedInstruction → Type 0
+IsInstructionOf StandsFor (Load negated operand) it =
+    (over : PlannedOperand) × IsOperandOf StandsFor operand over × (it ≡ over_slots.Load negated over)
+IsInstructionOf StandsFor (Apply operator negated operand) it =
+    (over : PlannedOperand) × IsOperandOf StandsFor operand over × (it ≡ over_slots.Apply operator negated over)
+IsInstructionOf StandsFor Not it = it ≡ over_slots.Not
+IsInstructionOf StandsFor (Store negated name) it =
+    (number : ℕ) × StandsFor name number × (it ≡ over_slots.Store negated number)
+IsInstructionOf StandsFor (Set name) it = (number : ℕ) × StandsFor name number × (it ≡ over_slots.Set number)
+IsInstructionOf StandsFor (Reset name) it = (number : ℕ) × StandsFor name number × (it ≡ over_slots.Reset number)
 
--- the line over slots stands for the one over names
-abbrev pub IsLineOf : List ℕ → List Slot → Name → Line → PlannedLine → Type 0
-IsLineOf text all instance line over = (over.line ≡ line_at text line.at) × IsInstructionOf text all instance line.instruction over.instruction
+-- the line over these slots, of an instance of this name: its line number, and its instruction over slot numbers
+pub record IsLineOf (text : List ℕ) (all : List Slot) (instance : Name) (written : Line) (planned : PlannedLine) : Type 0 where
+  pub line : planned.line ≡ line_at text written.at
+  pub instruction : IsInstructionOf (IsNumberOf text all instance) written.instruction planned.instruction

@@ -1,11 +1,12 @@
 //! Resolving the names of a source program.
 
-ghost use Rattle.std.specs.Prelude.{◌≡◌, IfOk, IfErr, OnOk, MatchResult, None};
+ghost use Rattle.std.specs.Prelude.{◌≡◌, ℕ, IfOk, IfErr, OnOk, MatchResult, None};
 ghost use Rattle.ilsyms.specs.Counting.{counting};
 ghost use Rattle.ilsyms.specs.Declarations.{slots_of};
 ghost use Rattle.ilsyms.specs.Resolving.{least_fault, the_task, the_plan};
 ghost use Rattle.ilsyms.specs.Faults.{IsFault, IsWellNamed};
-ghost use Rattle.ilsyms.specs.Resolved.{IsPlanOf};
+ghost use Rattle.ilsyms.specs.Plans.{Planned, PlannedTask};
+ghost use Rattle.ilsyms.specs.Resolved.{IsPlanOf, IsTaskOf, MeansTheSame};
 ghost use Rattle.ilsyms.specs.Told.{IsMemoryOrTold, IsMemoryOrTellsLeast, TellsLeast};
 ghost use Rattle.ilsyms.specs.declared.fault.NameFault.{NameFault};
 
@@ -27,6 +28,10 @@ use std::alloc::{AllocError, Global};
 /// The plan of a source program, or the least place at which a fault of names stands and the least cause there.
 pub fn resolve(alloc: Global, source: &Source, binding: &Binding) -> Result<Plan, NameFault>
     ensures plan { IfOk result (λ plan. IsPlanOf source.now binding.now.buses plan) }
+    // A source program and a number of buses have at most one plan.
+    ensures one_plan { (buses : ℕ) (a b : Planned) → IsPlanOf source.now buses a → IsPlanOf source.now buses b → a ≡ b }
+    // A scan of its task does what a scan over names does.
+    ensures same_meaning { (task : PlannedTask) → IsTaskOf source.now task → MeansTheSame source.now task }
     ensures named { OnOk result (IsWellNamed source.now) }
     ensures fault { IfErr result (λ fault. IsMemoryOrTellsLeast source.now.text (IsFault source.now) fault) }
     // A source program has at most one fault to tell.

@@ -10,6 +10,8 @@ use Rattle.ilsyms.specs.declared.fault.NameFault.{NameFault}
 use Rattle.ilsyms.proofs.ThePlan.{the_plan_is}
 use Rattle.ilsyms.proofs.LeastFault.{well_named, tells_least}
 use Rattle.ilsyms.proofs.OneFault.{one_told}
+use Rattle.ilsyms.proofs.OnePlan.{one_plan}
+use Rattle.ilsyms.proofs.SameMeaning.{means_the_same}
 use Rattle.ilsyms.proofs.resolving.resolve.Goals as goal
 
 abbrev Resolves : Tree → ℕ → Result Planned NameFault → Type 0
@@ -30,6 +32,12 @@ fault_is tree buses (Err fault) h = tells_least tree fault h
 
 pub returns-clause-plan : goal.returns-clause-plan
 returns-clause-plan c = plan_is c.args.source.now c.args.binding.now.buses c.resolved.result c.resolved.ensures
+
+pub returns-clause-one_plan : goal.returns-clause-one_plan
+returns-clause-one_plan c = one_plan c.args.source.now
+
+pub returns-clause-same_meaning : goal.returns-clause-same_meaning
+returns-clause-same_meaning c = means_the_same c.args.source.now
 
 pub returns-clause-named : goal.returns-clause-named
 returns-clause-named c = named_is c.args.source.now c.args.binding.now.buses c.resolved.result c.resolved.ensures
