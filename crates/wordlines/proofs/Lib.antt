@@ -1,2 +1,3 @@
 pub mod CutParts
+pub mod LineReading
 pub mod SpelledNumbers

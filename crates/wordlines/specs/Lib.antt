@@ -1,1 +1,2 @@
+pub mod LineRules
 pub mod WordLines

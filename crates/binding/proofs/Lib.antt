@@ -1,0 +1,2 @@
+pub mod BindingJudged
+pub mod BindingReading

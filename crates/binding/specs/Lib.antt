@@ -1,0 +1,4 @@
+pub mod Bindings
+pub mod Causes
+pub mod Printed
+pub mod Wirings
