@@ -14,7 +14,7 @@ use Rattle.ilsyms.specs.Planning.{IsKnownName, AreKnown}
 use Rattle.ilsyms.specs.Resolving.{least_fault}
 use Rattle.ilsyms.specs.Uses.{with_use, with_line, with_lines, with_uses_in, with_uses}
 use Rattle.ilsyms.specs.declared.found.Found.{Found}
-use Rattle.ilsyms.specs.declared.planned.TheConstants.{MAX_INSTANCES, MAX_SLOTS, MAX_WORDS}
+use Rattle.limits.specs.Limits.{most_instances, most_slots, most_words}
 
 pub none_lesser : (l : Option Found) (f : Found) → lesser l f ≡ None → ⊥
 none_lesser None f h = cc
@@ -98,9 +98,9 @@ uses_known lower (p ∷ ps) least h =
 pub record IsClean (tree : Tree) : Type 0 where
   pub declarations : (scoping tree).least ≡ None
   pub uses : UsesKnown (lowered tree.text) tree.programs
-  pub instances : slice_get (map (λ p. p.name.from) tree.programs) MAX_INSTANCES ≡ None
-  pub slots : slice_get (map (λ s. s.variable.from) (slots_of tree.programs)) MAX_SLOTS ≡ None
-  pub words : slice_get (map (λ l. l.at) (lines_of tree.programs)) MAX_WORDS ≡ None
+  pub instances : slice_get (map (λ p. p.name.from) tree.programs) most_instances ≡ None
+  pub slots : slice_get (map (λ s. s.variable.from) (slots_of tree.programs)) most_slots ≡ None
+  pub words : slice_get (map (λ l. l.at) (lines_of tree.programs)) most_words ≡ None
   pub constants : (counting tree.programs).excess ≡ None
 
 pub clean : (tree : Tree) → least_fault tree ≡ None → IsClean tree

@@ -17,7 +17,7 @@ use Rattle.ilsyms.specs.declared.fault.NameCause.TheVariants.{Unknown, Twice, To
 use Rattle.ilsyms.specs.declared.fault.NameFault.{NameFault}
 use Rattle.ilsyms.specs.declared.fault.NameFault.TheVariants.{Memory, At}
 use Rattle.ilsyms.specs.declared.found.Found.{Found}
-use Rattle.ilsyms.specs.declared.planned.TheConstants.{MAX_INSTANCES, MAX_SLOTS, MAX_WORDS, MAX_CONSTANTS}
+use Rattle.limits.specs.Limits.{most_instances, most_slots, most_words, most_constants}
 use Rattle.ilsyms.proofs.Exact.{of_declarations_to, of_declarations_from, unknown_to, unknown_from}
 use Rattle.ilsyms.proofs.Gathered.{IsBest, best_with, best_same, or_else, programs_best, uses_best}
 use Rattle.ilsyms.proofs.Limits.{fold_append, constants_append, lines_counted}
@@ -46,7 +46,7 @@ one_constant k None c at e = e
 one_constant k (Some v) c at e = added (list_any (same_value v) c.constants) refl
   where
     added : (b : Bool) → list_any (same_value v) c.constants ≡ b →
-        ((if b then c else counted (c.constants ++ v ∷ []) (if length c.constants == MAX_CONSTANTS then Some at else c.excess)).constants) ≡ (if list_any (same_value v) k then k else k ++ v ∷ [])
+        ((if b then c else counted (c.constants ++ v ∷ []) (if length c.constants == most_constants then Some at else c.excess)).constants) ≡ (if list_any (same_value v) k then k else k ++ v ∷ [])
     added true h = let g : list_any (same_value v) k ≡ true = rw (← e) h in rw g e
     added false h = let g : list_any (same_value v) k ≡ false = rw (← e) h in rw g (ap (λ (vs : List Value). vs ++ v ∷ []) e)
 
@@ -56,64 +56,64 @@ line_constants before l c e =
     ∙ sym (fold_append with_constant [] (constants_of before) (cons_option (constant_in l.instruction) []))
     ∙ ap (λ (vs : List Value). each_once vs) (sym (constants_append before (l ∷ [])))
 
-max_is : (n : ℕ) (b : Bool) → (n == MAX_CONSTANTS) ≡ b → n ≡ MAX_CONSTANTS → b ≡ true
+max_is : (n : ℕ) (b : Bool) → (n == most_constants) ≡ b → n ≡ most_constants → b ≡ true
 max_is n true e h = refl
 max_is n false e h = absurd (no n e h)
   where
-    no : (n : ℕ) → (n == MAX_CONSTANTS) ≡ false → n ≡ MAX_CONSTANTS → ⊥
+    no : (n : ℕ) → (n == most_constants) ≡ false → n ≡ most_constants → ⊥
     no n e h = grind (arith, common_steps)
 
-is_max : (n : ℕ) → (n == MAX_CONSTANTS) ≡ true → n ≡ MAX_CONSTANTS
+is_max : (n : ℕ) → (n == most_constants) ≡ true → n ≡ most_constants
 is_max n e = grind (arith, common_steps)
 
 -- where a line's place becomes the excess
 excess_from : (o : Option Value) (c : Counted) (at place : ℕ) → (with_one c at o).excess ≡ Some place →
-    (c.excess ≡ Some place) ⊎ ((length c.constants ≡ MAX_CONSTANTS) × (length ((with_one c at o).constants) ≡ MAX_CONSTANTS + 1) × (place ≡ at))
+    (c.excess ≡ Some place) ⊎ ((length c.constants ≡ most_constants) × (length ((with_one c at o).constants) ≡ most_constants + 1) × (place ≡ at))
 excess_from None c at place h = inl h
 excess_from (Some v) c at place h = known (list_any (same_value v) c.constants) h
   where
-    full : (b : Bool) → (length c.constants == MAX_CONSTANTS) ≡ b → (if b then Some at else c.excess) ≡ Some place →
-        (c.excess ≡ Some place) ⊎ ((length c.constants ≡ MAX_CONSTANTS) × (length (c.constants ++ v ∷ []) ≡ MAX_CONSTANTS + 1) × (place ≡ at))
+    full : (b : Bool) → (length c.constants == most_constants) ≡ b → (if b then Some at else c.excess) ≡ Some place →
+        (c.excess ≡ Some place) ⊎ ((length c.constants ≡ most_constants) × (length (c.constants ++ v ∷ []) ≡ most_constants + 1) × (place ≡ at))
     full true e h =
-        let m : length c.constants ≡ MAX_CONSTANTS = is_max (length c.constants) e in
+        let m : length c.constants ≡ most_constants = is_max (length c.constants) e in
         let a = length-append c.constants (v ∷ []) in
         let p : place ≡ at = cc in
         inr (m, omega (arith, m, a), p)
     full false e h = inl h
 
-    known : (b : Bool) → (if b then c else counted (c.constants ++ v ∷ []) (if length c.constants == MAX_CONSTANTS then Some at else c.excess)).excess ≡ Some place →
+    known : (b : Bool) → (if b then c else counted (c.constants ++ v ∷ []) (if length c.constants == most_constants then Some at else c.excess)).excess ≡ Some place →
         (c.excess ≡ Some place)
-        ⊎ ((length c.constants ≡ MAX_CONSTANTS) × (length ((if b then c else counted (c.constants ++ v ∷ []) (if length c.constants == MAX_CONSTANTS then Some at else c.excess)).constants) ≡ MAX_CONSTANTS + 1) × (place ≡ at))
+        ⊎ ((length c.constants ≡ most_constants) × (length ((if b then c else counted (c.constants ++ v ∷ []) (if length c.constants == most_constants then Some at else c.excess)).constants) ≡ most_constants + 1) × (place ≡ at))
     known true h = inl h
     known false h = full _ refl h
 
-excess_to : (o : Option Value) (c : Counted) (at : ℕ) → length c.constants ≡ MAX_CONSTANTS → length ((with_one c at o).constants) ≡ MAX_CONSTANTS + 1 →
+excess_to : (o : Option Value) (c : Counted) (at : ℕ) → length c.constants ≡ most_constants → length ((with_one c at o).constants) ≡ most_constants + 1 →
     (with_one c at o).excess ≡ Some at
 excess_to None c at m n = absurd (omega (arith, m, n))
 excess_to (Some v) c at m n = known (list_any (same_value v) c.constants) n
   where
-    known : (b : Bool) → length ((if b then c else counted (c.constants ++ v ∷ []) (if length c.constants == MAX_CONSTANTS then Some at else c.excess)).constants) ≡ MAX_CONSTANTS + 1 →
-        (if b then c else counted (c.constants ++ v ∷ []) (if length c.constants == MAX_CONSTANTS then Some at else c.excess)).excess ≡ Some at
+    known : (b : Bool) → length ((if b then c else counted (c.constants ++ v ∷ []) (if length c.constants == most_constants then Some at else c.excess)).constants) ≡ most_constants + 1 →
+        (if b then c else counted (c.constants ++ v ∷ []) (if length c.constants == most_constants then Some at else c.excess)).excess ≡ Some at
     known true n = absurd (omega (arith, m, n))
-    known false n = let t : (length c.constants == MAX_CONSTANTS) ≡ true = max_is (length c.constants) _ refl m in rw t refl
+    known false n = let t : (length c.constants == most_constants) ≡ true = max_is (length c.constants) _ refl m in rw t refl
 
 -- past the limit the excess stays
 abbrev IsPast : Counted → Counted → Type 0
-IsPast c d = (MAX_CONSTANTS < length d.constants) × (d.excess ≡ c.excess)
+IsPast c d = (most_constants < length d.constants) × (d.excess ≡ c.excess)
 
-past_one : (o : Option Value) (c : Counted) (at : ℕ) → MAX_CONSTANTS < length c.constants → IsPast c (with_one c at o)
+past_one : (o : Option Value) (c : Counted) (at : ℕ) → most_constants < length c.constants → IsPast c (with_one c at o)
 past_one None c at m = (m, refl)
 past_one (Some v) c at m = known (list_any (same_value v) c.constants)
   where
-    not_max : (b : Bool) → (length c.constants == MAX_CONSTANTS) ≡ b → (if b then Some at else c.excess) ≡ c.excess
-    not_max true e = let n : length c.constants ≡ MAX_CONSTANTS = is_max (length c.constants) e in absurd (omega (arith, m, n))
+    not_max : (b : Bool) → (length c.constants == most_constants) ≡ b → (if b then Some at else c.excess) ≡ c.excess
+    not_max true e = let n : length c.constants ≡ most_constants = is_max (length c.constants) e in absurd (omega (arith, m, n))
     not_max false e = refl
 
-    known : (b : Bool) → IsPast c (if b then c else counted (c.constants ++ v ∷ []) (if length c.constants == MAX_CONSTANTS then Some at else c.excess))
+    known : (b : Bool) → IsPast c (if b then c else counted (c.constants ++ v ∷ []) (if length c.constants == most_constants then Some at else c.excess))
     known true = (m, refl)
     known false = let a = length-append c.constants (v ∷ []) in (omega (arith, m, a), not_max _ refl)
 
-past_lines : (ls : List Line) (c : Counted) → MAX_CONSTANTS < length c.constants → (fold with_line c ls).excess ≡ c.excess
+past_lines : (ls : List Line) (c : Counted) → most_constants < length c.constants → (fold with_line c ls).excess ≡ c.excess
 past_lines [] c m = refl
 past_lines (l ∷ ls) c m =
     let p = past_one (constant_in l.instruction) c l.at m in
@@ -136,8 +136,8 @@ makes_to place ls m =
     let c : Counted = fold with_line (counted [] None) m.before in
     let e : c.constants ≡ different m.before = lines_counted m.before (counted [] None) in
     let k = line_constants m.before m.line c e in
-    let full : length c.constants ≡ MAX_CONSTANTS = ap length e ∙ m.full in
-    let more : length ((with_line c m.line).constants) ≡ MAX_CONSTANTS + 1 = ap length k ∙ m.more in
+    let full : length c.constants ≡ most_constants = ap length e ∙ m.full in
+    let more : length ((with_line c m.line).constants) ≡ most_constants + 1 = ap length k ∙ m.more in
     ap (λ (lines : List Line). (fold with_line (counted [] None) lines).excess) m.is
     ∙ ap (λ (d : Counted). d.excess) (fold_append with_line (counted [] None) m.before (m.line ∷ m.after))
     ∙ past_lines m.after (with_line c m.line) (omega (arith, more))
@@ -191,9 +191,9 @@ names_to tree place cause h = or_else (λ d. wider tree place cause d) (λ u. su
 abbrev InParts : Tree → ℕ → NameCause → Type 0
 InParts tree place cause =
     (((OfNames tree place cause
-    ⊎ ((cause ≡ TooMany) × (slice_get (map (λ p. p.name.from) tree.programs) MAX_INSTANCES ≡ Some place)))
-    ⊎ ((cause ≡ TooMany) × (slice_get (map (λ s. s.variable.from) (slots_of tree.programs)) MAX_SLOTS ≡ Some place)))
-    ⊎ ((cause ≡ TooMany) × (slice_get (map (λ l. l.at) (lines_of tree.programs)) MAX_WORDS ≡ Some place)))
+    ⊎ ((cause ≡ TooMany) × (slice_get (map (λ p. p.name.from) tree.programs) most_instances ≡ Some place)))
+    ⊎ ((cause ≡ TooMany) × (slice_get (map (λ s. s.variable.from) (slots_of tree.programs)) most_slots ≡ Some place)))
+    ⊎ ((cause ≡ TooMany) × (slice_get (map (λ l. l.at) (lines_of tree.programs)) most_words ≡ Some place)))
     ⊎ ((cause ≡ TooMany) × ((counting tree.programs).excess ≡ Some place))
 
 parts_to : (tree : Tree) (place : ℕ) (cause : NameCause) → InParts tree place cause → IsFault tree place cause
@@ -218,9 +218,9 @@ pub all_best : (tree : Tree) → IsBest (IsFault tree) (least_fault tree)
 all_best tree =
     best_same (InParts tree) (IsFault tree) (least_fault tree) (parts_to tree) (parts_from tree)
     (excess_best ((counting tree.programs).excess) _ _
-    (excess_best (slice_get (map (λ l. l.at) (lines_of tree.programs)) MAX_WORDS) _ _
-    (excess_best (slice_get (map (λ s. s.variable.from) (slots_of tree.programs)) MAX_SLOTS) _ _
-    (excess_best (slice_get (map (λ p. p.name.from) tree.programs) MAX_INSTANCES) (OfNames tree) (least_of_names tree) (names_best tree)))))
+    (excess_best (slice_get (map (λ l. l.at) (lines_of tree.programs)) most_words) _ _
+    (excess_best (slice_get (map (λ s. s.variable.from) (slots_of tree.programs)) most_slots) _ _
+    (excess_best (slice_get (map (λ p. p.name.from) tree.programs) most_instances) (OfNames tree) (least_of_names tree) (names_best tree)))))
 
 none_best : (F : ℕ → NameCause → Type 0) (o : Option Found) → IsBest F o → o ≡ None → (place : ℕ) (cause : NameCause) → F place cause → ⊥
 none_best F None l e = l

@@ -21,7 +21,7 @@ use Rattle.ilsyms.specs.Plans.{PlannedInstance, KeepsLimits, NamesSlotsBelow, al
 use Rattle.ilsyms.specs.Plans as plans
 use Rattle.ilsyms.specs.Resolving.{least_fault, the_task}
 use Rattle.ilsyms.specs.declared.planned.PlannedLine.{PlannedLine}
-use Rattle.ilsyms.specs.declared.planned.TheConstants.{MAX_CONSTANTS}
+use Rattle.limits.specs.Limits.{most_constants}
 use Rattle.ilsyms.proofs.Clean.{clean, none_length, all_cons, all_nil}
 use Rattle.ilsyms.proofs.Tables.{table_le}
 
@@ -114,21 +114,21 @@ programs_counted (p ∷ ps) c =
 
 -- while no line exceeds the limit, there are at most as many
 abbrev IsFine : Counted → Type 0
-IsFine c = c.excess ≡ None → length c.constants ≤ MAX_CONSTANTS
+IsFine c = c.excess ≡ None → length c.constants ≤ most_constants
 
-full_fine : (c : Counted) (at : ℕ) (v : Value) (b : Bool) → (length c.constants == MAX_CONSTANTS) ≡ b → IsFine c →
-    (if b then Some at else c.excess) ≡ None → length (c.constants ++ v ∷ []) ≤ MAX_CONSTANTS
+full_fine : (c : Counted) (at : ℕ) (v : Value) (b : Bool) → (length c.constants == most_constants) ≡ b → IsFine c →
+    (if b then Some at else c.excess) ≡ None → length (c.constants ++ v ∷ []) ≤ most_constants
 full_fine c at v true e h n = absurd cc
 full_fine c at v false e h n =
-    let l : length c.constants ≤ MAX_CONSTANTS = h n in
+    let l : length c.constants ≤ most_constants = h n in
     let d : length (c.constants ++ v ∷ []) ≡ length c.constants + 1 = length-append c.constants (v ∷ []) in
     rw d (below_full (length c.constants) e l)
   where
-    below_full : (n : ℕ) → (n == MAX_CONSTANTS) ≡ false → n ≤ MAX_CONSTANTS → n + 1 ≤ MAX_CONSTANTS
+    below_full : (n : ℕ) → (n == most_constants) ≡ false → n ≤ most_constants → n + 1 ≤ most_constants
     below_full n e l = grind (arith, common_steps)
 
 known_fine : (c : Counted) (at : ℕ) (v : Value) (b : Bool) → IsFine c →
-    IsFine (if b then c else counted (c.constants ++ v ∷ []) (if length c.constants == MAX_CONSTANTS then Some at else c.excess))
+    IsFine (if b then c else counted (c.constants ++ v ∷ []) (if length c.constants == most_constants then Some at else c.excess))
 known_fine c at v true h = h
 known_fine c at v false h = full_fine c at v _ refl h
 

@@ -5,7 +5,7 @@ use Rattle.iltypes.specs.declared.value.Value.{Value}
 use Rattle.ilsource.specs.declared.instruction.Line.{Line}
 use Rattle.ilsource.specs.Trees.{Written}
 use Rattle.ilsyms.specs.Declarations.{constant_in, same_value}
-use Rattle.ilsyms.specs.declared.planned.TheConstants.{MAX_CONSTANTS}
+use Rattle.limits.specs.Limits.{most_constants}
 
 -- the different constants so far, and the place of the line that exceeds the limit
 pub record Counted : Type 0 where
@@ -20,7 +20,7 @@ abbrev pub with_one : Counted → ℕ → Option Value → Counted
 with_one c at None = c
 with_one c at (Some value) =
     if list_any (same_value value) c.constants then c
-    else counted (c.constants ++ value ∷ []) (if length c.constants == MAX_CONSTANTS then Some at else c.excess)
+    else counted (c.constants ++ value ∷ []) (if length c.constants == most_constants then Some at else c.excess)
 
 -- after one more line, a program's lines, and all programs
 abbrev pub with_line : Counted → Line → Counted

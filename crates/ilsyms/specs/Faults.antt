@@ -9,7 +9,7 @@ use Rattle.ilsyms.specs.Causes.{number_of}
 use Rattle.ilsyms.specs.Declarations.{initial_value, variables_of, slots_of, lines_of, name_in, constants_of, each_once}
 use Rattle.ilsyms.specs.declared.fault.NameCause.{NameCause}
 use Rattle.ilsyms.specs.declared.fault.NameCause.TheVariants.{Unknown, Twice, TooMany, BadDeclaration}
-use Rattle.ilsyms.specs.declared.planned.TheConstants.{MAX_INSTANCES, MAX_SLOTS, MAX_CONSTANTS, MAX_WORDS}
+use Rattle.limits.specs.Limits.{most_instances, most_slots, most_constants, most_words}
 
 -- some element has the property
 abbrev pub SomeOf : {X : Type 0} → (X → Type 0) → List X → Type 0
@@ -50,16 +50,16 @@ pub record MakesTooManyConstants (lines : List Line) (place : ℕ) : Type 0 wher
   pub line : Line
   pub after : List Line
   pub is : lines ≡ before ++ line ∷ after
-  pub full : length (each_once (constants_of before)) ≡ MAX_CONSTANTS
-  pub more : length (each_once (constants_of (before ++ line ∷ []))) ≡ MAX_CONSTANTS + 1
+  pub full : length (each_once (constants_of before)) ≡ most_constants
+  pub more : length (each_once (constants_of (before ++ line ∷ []))) ≡ most_constants + 1
   pub stands : place ≡ line.at
 
 -- the program, the variable or the instruction that exceeds its limit stands at the place
 abbrev pub IsTooMany : Tree → ℕ → Type 0
 IsTooMany tree place =
-    (slice_get (map (λ p. p.name.from) tree.programs) MAX_INSTANCES ≡ Some place)
-    ⊎ (slice_get (map (λ s. s.variable.from) (slots_of tree.programs)) MAX_SLOTS ≡ Some place)
-    ⊎ (slice_get (map (λ l. l.at) (lines_of tree.programs)) MAX_WORDS ≡ Some place)
+    (slice_get (map (λ p. p.name.from) tree.programs) most_instances ≡ Some place)
+    ⊎ (slice_get (map (λ s. s.variable.from) (slots_of tree.programs)) most_slots ≡ Some place)
+    ⊎ (slice_get (map (λ l. l.at) (lines_of tree.programs)) most_words ≡ Some place)
     ⊎ MakesTooManyConstants (lines_of tree.programs) place
 
 -- a fault with this cause stands at the place

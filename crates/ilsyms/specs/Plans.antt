@@ -1,5 +1,6 @@
 -- Plans as contracts see them, and the limits of each task (profile).
 use Rattle.std.specs.Prelude.{◌≡◌, ℕ, ◌<◌, ◌≤◌, List, [], ◌∷◌, flat_map, filter_map, length, Bool, All, Option, Some, None, slice_get, option_and_then}
+use Rattle.limits.specs.Limits as limits
 use Rattle.iltypes.specs.declared.value.Value.{Value}
 use Rattle.ilsource.specs.declared.name.Name.{Name}
 use Rattle.ilsyms.specs.Declarations.{each_once}
@@ -9,7 +10,6 @@ use Rattle.ilsyms.specs.declared.planned.PlannedOperand.TheVariants as operands
 use Rattle.ilsyms.specs.declared.planned.PlannedInstruction.{PlannedInstruction}
 use Rattle.ilsyms.specs.declared.planned.PlannedInstruction.TheVariants.{Load, Apply, Not, Store, Set, Reset}
 use Rattle.ilsyms.specs.declared.planned.PlannedLine.{PlannedLine}
-use Rattle.ilsyms.specs.declared.planned.TheConstants.{MAX_INSTANCES, MAX_SLOTS, MAX_CONSTANTS, MAX_WORDS, MAX_TASKS}
 
 -- a program instance: its name and its lines
 pub record PlannedInstance : Type 0 where
@@ -79,18 +79,18 @@ NamesSlotsBelow slots lines = All (λ line. All (λ slot. slot < slots) (slots_i
 
 -- what holds of each task
 pub record KeepsLimits (task : PlannedTask) : Type 0 where
-  pub most_instances : length task.instances ≤ MAX_INSTANCES
-  pub most_slots : length task.slots ≤ MAX_SLOTS
-  pub most_constants : length task.constants ≤ MAX_CONSTANTS
-  pub most_words : length (all_lines task.instances) ≤ MAX_WORDS
+  pub most_instances : length task.instances ≤ limits.most_instances
+  pub most_slots : length task.slots ≤ limits.most_slots
+  pub most_constants : length task.constants ≤ limits.most_constants
+  pub most_words : length (all_lines task.instances) ≤ limits.most_words
   pub slots : NamesSlotsBelow (length task.slots) (all_lines task.instances)
   pub constants : task.constants ≡ each_once (constants_in (all_lines task.instances))
 
 -- what holds of each plan
 pub record IsLawful (plan : Planned) : Type 0 where
   pub first_bus : 1 ≤ plan.buses
-  pub last_bus : plan.buses ≤ 16
-  pub most_tasks : length plan.tasks ≤ MAX_TASKS
+  pub last_bus : plan.buses ≤ limits.most_buses
+  pub most_tasks : length plan.tasks ≤ limits.most_tasks
 
 -- a task's slot, where there is one
 abbrev pub slot_at : Planned → ℕ → ℕ → Option Slot

@@ -8,7 +8,7 @@ use Rattle.ilsyms.specs.Planning.{planning_of}
 use Rattle.ilsyms.specs.Plans.{PlannedTask, Planned, task_of, plan_of}
 use Rattle.ilsyms.specs.Uses.{with_uses}
 use Rattle.ilsyms.specs.declared.found.Found.{Found}
-use Rattle.ilsyms.specs.declared.planned.TheConstants.{MAX_INSTANCES, MAX_SLOTS, MAX_WORDS}
+use Rattle.limits.specs.Limits.{most_instances, most_slots, most_words}
 
 -- the least fault of declarations and of names in lines
 abbrev pub least_of_names : Tree → Option Found
@@ -20,9 +20,9 @@ least_fault tree =
     with_excess
     (with_excess
     (with_excess
-    (with_excess (least_of_names tree) (slice_get (map (λ p. p.name.from) tree.programs) MAX_INSTANCES))
-    (slice_get (map (λ s. s.variable.from) (slots_of tree.programs)) MAX_SLOTS))
-    (slice_get (map (λ l. l.at) (lines_of tree.programs)) MAX_WORDS))
+    (with_excess (least_of_names tree) (slice_get (map (λ p. p.name.from) tree.programs) most_instances))
+    (slice_get (map (λ s. s.variable.from) (slots_of tree.programs)) most_slots))
+    (slice_get (map (λ l. l.at) (lines_of tree.programs)) most_words))
     (counting tree.programs).excess
 
 -- the one task, `main`

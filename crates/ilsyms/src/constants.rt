@@ -6,11 +6,11 @@ ghost use Rattle.ilsyms.specs.Declarations.{constant_in, same_value};
 ghost use Rattle.ilsyms.specs.Counting.{counted, counting, with_line};
 ghost use Rattle.ilsyms.specs.Keys.{key_of, value_at, values_at};
 
-use crate::planned::MAX_CONSTANTS;
 use crate::values::value_of;
 use ilsource::{Instruction, Line, Operand, Program};
 use iltypes::Value;
 use indexmap::IndexSet;
+use limits::MOST_CONSTANTS;
 use std::alloc::{AllocError, Global};
 use std::marker::Model;
 
@@ -111,7 +111,7 @@ impl Constants {
         if self.contains(value) {
             return Ok(());
         }
-        let excess = if self.len() == MAX_CONSTANTS {
+        let excess = if self.len() == MOST_CONSTANTS {
             Some(at)
         } else {
             self.excess

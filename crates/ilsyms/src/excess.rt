@@ -3,34 +3,35 @@
 ghost use Rattle.std.specs.Prelude.{◌≡◌, map, slice_get};
 ghost use Rattle.ilsyms.specs.Declarations.{lines_of};
 ghost use Rattle.ilsyms.specs.Gathering.{with_excess};
-ghost use Rattle.ilsyms.specs.declared.planned.TheConstants.{MAX_INSTANCES, MAX_SLOTS, MAX_WORDS};
+ghost use Rattle.limits.specs.Limits.{most_instances, most_slots, most_words};
 
 use crate::fault::NameCause;
 use crate::found::{Found, lesser_of};
-use crate::planned::{MAX_INSTANCES, MAX_SLOTS, MAX_WORDS, Slot};
+use crate::planned::Slot;
 use ilsource::Program;
+use limits::{MOST_INSTANCES, MOST_SLOTS, MOST_WORDS};
 
 /// The place of the program that exceeds the greatest number of instances.
 pub(crate) fn instance_past(programs: &[Program]) -> Option<usize>
-    ensures { result ≡ slice_get (map (λ p. p.name.from) programs.now) MAX_INSTANCES }
+    ensures { result ≡ slice_get (map (λ p. p.name.from) programs.now) most_instances }
 {
-    let program = programs.get(MAX_INSTANCES)?;
+    let program = programs.get(MOST_INSTANCES)?;
     Some(program.name().from)
 }
 
 /// The place of the variable that exceeds the greatest number of slots.
 pub(crate) fn slot_past(slots: &[Slot]) -> Option<usize>
-    ensures { result ≡ slice_get (map (λ s. s.variable.from) slots.now) MAX_SLOTS }
+    ensures { result ≡ slice_get (map (λ s. s.variable.from) slots.now) most_slots }
 {
-    let slot = slots.get(MAX_SLOTS)?;
+    let slot = slots.get(MOST_SLOTS)?;
     Some(slot.variable.from)
 }
 
 /// The place of the line that exceeds the greatest number of words.
 pub(crate) fn word_past(programs: &[Program]) -> Option<usize>
-    ensures { result ≡ slice_get (map (λ l. l.at) (lines_of programs.now)) MAX_WORDS }
+    ensures { result ≡ slice_get (map (λ l. l.at) (lines_of programs.now)) most_words }
 {
-    let mut left = MAX_WORDS;
+    let mut left = MOST_WORDS;
     for program in programs {
         let lines = program.lines();
         if left < lines.len() {

@@ -65,7 +65,7 @@ impl Task {
         self.event
     }
 
-    /// The variables of its instances, in declared order: at most [`crate::planned::MAX_SLOTS`].
+    /// The variables of its instances, in declared order: at most [`limits::MOST_SLOTS`].
     pub fn slots(&self) -> &[Slot]
         ensures slots { result.now ≡ self.now.slots }
         ensures limits { KeepsLimits self.now }
@@ -73,7 +73,7 @@ impl Task {
         &self.slots
     }
 
-    /// The different constants of its lines, in order of first use: at most [`crate::planned::MAX_CONSTANTS`].
+    /// The different constants of its lines, in order of first use: at most [`limits::MOST_CONSTANTS`].
     pub fn constants(&self) -> &[Value]
         ensures constants { result.now ≡ self.now.constants }
         ensures limits { KeepsLimits self.now }
@@ -175,7 +175,7 @@ impl Plan {
         self.buses
     }
 
-    /// How many tasks there are: at most [`crate::planned::MAX_TASKS`].
+    /// How many tasks there are: at most [`limits::MOST_TASKS`].
     pub fn tasks(&self) -> usize
         ensures count { result ≡ length self.now.tasks }
         ensures lawful { IsLawful self.now }

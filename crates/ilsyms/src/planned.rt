@@ -4,21 +4,6 @@ use ilsource::Name;
 use iltypes::{BooleanOperator, IlType, Value};
 use std::marker::Model;
 
-/// The greatest number of tasks.
-pub const MAX_TASKS: usize = 16;
-
-/// The greatest number of program instances.
-pub const MAX_INSTANCES: usize = 64;
-
-/// The greatest number of slots of a task.
-pub const MAX_SLOTS: usize = 4096;
-
-/// The greatest number of different constants of a task.
-pub const MAX_CONSTANTS: usize = 4096;
-
-/// The greatest number of words of a task.
-pub const MAX_WORDS: usize = 65_536;
-
 /// What an instruction takes its value from.
 #[derive(Clone, Copy, PartialEq, Eq, Debug)]
 pub enum PlannedOperand {

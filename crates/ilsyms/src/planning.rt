@@ -5,7 +5,7 @@ ghost use Rattle.ilsource.specs.Names.{text_of};
 ghost use Rattle.ilsyms.specs.Declarations.{name_in, name_in_operand, slots_of};
 ghost use Rattle.ilsyms.specs.Gathering.{number_in, lowered, table_of};
 ghost use Rattle.ilsyms.specs.Planning.{slot_number, planned_operand, planned_instruction, planned_line, IsKnownName, AreKnown, planning_of};
-ghost use Rattle.ilsyms.specs.declared.planned.TheConstants.{MAX_SLOTS};
+ghost use Rattle.limits.specs.Limits.{most_slots};
 
 use crate::names::Names;
 use crate::planned::{Instance, PlannedInstruction, PlannedLine, PlannedOperand};
@@ -103,7 +103,7 @@ fn plan_lines(
 /// The instances of the task, one of each program.
 pub(crate) fn plan_instances(alloc: Global, scope: &Scope<'_>) -> Result<Vec<Instance>, AllocError>
     requires known { All (λ p. AreKnown (lowered scope.now.text) (table_of (lowered scope.now.text) p) p.lines) scope.now.programs }
-    requires few { length (slots_of scope.now.programs) ≤ MAX_SLOTS }
+    requires few { length (slots_of scope.now.programs) ≤ most_slots }
     ensures { IfOk result (λ v. v.items ≡ (planning_of scope.now).instances) }
 {
     let source = scope.source();
