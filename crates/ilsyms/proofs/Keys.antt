@@ -1,38 +1,24 @@
 -- Constants as keys of a set.
-use Rattle.std.proofs.Common.{◌≡◌, List, [], ◌∷◌, ◌++◌, Bool, false, refl, ap, ◌∙◌}
+use Rattle.std.proofs.Common.{◌≡◌, List, [], ◌∷◌, ◌++◌, false, refl}
 use Rattle.std.specs.List.{list_any}
 use Rattle.std.specs.Prelude.{if◌then◌else◌}
 use Rattle.iltypes.specs.declared.value.Value.{Value}
 use Rattle.iltypes.specs.declared.value.Value.TheVariants.{Bool as OfBool, Int}
 use Rattle.ilsyms.specs.Declarations.{same_value}
-use Rattle.ilsyms.specs.Keys.{key_of, value_at, values_at}
-use Rattle.ilsyms.specs.declared.constants.Key.{Key}
-use Rattle.ilsyms.specs.declared.constants.Key.TheVariants.{Truth, Number}
-use Rattle.ilsyms.specs.contracts.constants.KeyPartialEq.TheImpl.{eq-value}
+use Rattle.iltypes.specs.contracts.value.ValuePartialEq.TheImpl.{eq-value}
 
-pub same_key : (v : Value) (k : Key) → eq-value.it (key_of v) k ≡ same_value v (value_at k)
-same_key (OfBool b) (Truth d) = refl
-same_key (OfBool b) (Number d) = refl
-same_key (Int b) (Truth d) = refl
-same_key (Int b) (Number d) = refl
+same_key : (v w : Value) → eq-value.it v w ≡ same_value v w
+same_key (OfBool b) (OfBool d) = refl
+same_key (OfBool b) (Int d) = refl
+same_key (Int b) (OfBool d) = refl
+same_key (Int b) (Int d) = refl
 
-value_of_key : (v : Value) → value_at (key_of v) ≡ v
-value_of_key (OfBool b) = refl
-value_of_key (Int n) = refl
-
--- a value is among the keys' values where its key passes
-pub any_same : (test : Key → Bool) (value : Value) → ((k : Key) → test k ≡ same_value value (value_at k)) → (keys : List Key) →
-    list_any test keys ≡ list_any (same_value value) (values_at keys)
-any_same test value h [] = refl
-any_same test value h (k ∷ keys) = rw (h k, any_same test value h keys) refl
-
-values_more : (keys : List Key) (key : Key) → values_at (keys ++ key ∷ []) ≡ values_at keys ++ value_at key ∷ []
-values_more [] key = refl
-values_more (k ∷ keys) key = rw (values_more keys key) refl
+-- a value is among the keys where it passes the set's test
+pub any_same : (value : Value) (keys : List Value) → list_any (eq-value.it value) keys ≡ list_any (same_value value) keys
+any_same value [] = refl
+any_same value (k ∷ keys) = rw (same_key value k, any_same value keys) refl
 
 -- a new value goes last
-pub inserted : (value : Value) (keys : List Key) → list_any (same_value value) (values_at keys) ≡ false →
-    values_at (if list_any (eq-value.it (key_of value)) keys then keys else keys ++ key_of value ∷ []) ≡ values_at keys ++ value ∷ []
-inserted value keys e =
-    rw (any_same (eq-value.it (key_of value)) value (same_key value) keys, e)
-    (values_more keys (key_of value) ∙ ap (λ (v : Value). values_at keys ++ v ∷ []) (value_of_key value))
+pub inserted : (value : Value) (keys : List Value) → list_any (same_value value) keys ≡ false →
+    (if list_any (eq-value.it value) keys then keys else keys ++ value ∷ []) ≡ keys ++ value ∷ []
+inserted value keys e = rw (any_same value keys, e) refl

@@ -1,5 +1,3 @@
-pub mod BindingJudged
-pub mod BindingTold
 pub mod Clean
 pub mod Exact
 pub mod Gathered

@@ -1,11 +1,8 @@
-pub mod BindingLines
-pub mod BindingParts
 pub mod Causes
 pub mod Counting
 pub mod Declarations
 pub mod Faults
 pub mod Gathering
-pub mod Keys
 pub mod Meaning
 pub mod PlanMeaning
 pub mod Planning
@@ -17,4 +14,3 @@ pub mod SlotLines
 pub mod Stores
 pub mod Told
 pub mod Uses
-pub mod Wirings

@@ -1,10 +1,8 @@
 -- How names and faults are printed (profile).
 use Rattle.std.specs.Prelude.{ℕ, List, ◌∷◌, ◌++◌, codes, flat_map, encode_utf8}
 use Rattle.std.specs.Fmt.{decimal}
-use Rattle.ilsyms.specs.declared.binding.BindFault.{BindFault}
-use Rattle.ilsyms.specs.declared.binding.BindFault.TheVariants as bindings
 use Rattle.ilsyms.specs.declared.fault.NameFault.{NameFault}
-use Rattle.ilsyms.specs.declared.fault.NameFault.TheVariants as names
+use Rattle.ilsyms.specs.declared.fault.NameFault.TheVariants.{Memory, At}
 use Rattle.ilsyms.specs.Causes.{number_of}
 
 -- the bytes of a name, each as the character of its code
@@ -17,10 +15,5 @@ printed_slot instance variable = printed_name instance ++ 46 ∷ printed_name va
 
 -- the cause's number, and line and column, both counted from 1
 abbrev pub printed_name_fault : NameFault → List ℕ
-printed_name_fault names.Memory = codes "no memory"
-printed_name_fault (names.At line col cause) = codes "name fault " ++ decimal (number_of cause) ++ codes " at " ++ decimal line ++ codes ":" ++ decimal col
-
--- the line, counted from 1
-abbrev pub printed_bind_fault : BindFault → List ℕ
-printed_bind_fault bindings.Memory = codes "no memory"
-printed_bind_fault (bindings.At line cause) = codes "bind fault at " ++ decimal line
+printed_name_fault Memory = codes "no memory"
+printed_name_fault (At line col cause) = codes "name fault " ++ decimal (number_of cause) ++ codes " at " ++ decimal line ++ codes ":" ++ decimal col

@@ -4,7 +4,6 @@ ghost use Rattle.std.specs.Prelude.{◌≡◌, ◌∷◌, ◌++◌, [], IfOk, On
 ghost use Rattle.std.specs.List.{list_any};
 ghost use Rattle.ilsyms.specs.Declarations.{constant_in, same_value};
 ghost use Rattle.ilsyms.specs.Counting.{counted, counting, with_line};
-ghost use Rattle.ilsyms.specs.Keys.{key_of, value_at, values_at};
 
 use crate::values::value_of;
 use ilsource::{Instruction, Line, Operand, Program};
@@ -14,53 +13,19 @@ use limits::MOST_CONSTANTS;
 use std::alloc::{AllocError, Global};
 use std::marker::Model;
 
-/// A value as the key of a set.
-#[derive(Clone, Copy, PartialEq, Eq, Hash, Debug)]
-enum Key {
-    Truth(bool),
-    Number(i64),
-}
-
-/// The key of a value.
-fn as_key(value: Value) -> Key
-    ensures { result ≡ key_of value }
+/// Adds a value that isn't there.
+fn insert(keys: &mut IndexSet<Value>, value: Value) -> Result<(), AllocError>
+    requires { list_any (same_value value) keys.old.keys ≡ false }
+    ensures { OnOk result (keys.new.keys ≡ keys.old.keys ++ value ∷ []) }
 {
-    match value {
-        Value::Bool(truth) => Key::Truth(truth),
-        Value::Int(number) => Key::Number(number),
-    }
-}
-
-/// The value of a key.
-fn as_value(key: Key) -> Value
-    ensures { result ≡ value_at key }
-{
-    match key {
-        Key::Truth(truth) => Value::Bool(truth),
-        Key::Number(number) => Value::Int(number),
-    }
-}
-
-/// The values of keys.
-fn as_values(alloc: Global, keys: &[Key]) -> Result<Vec<Value>, AllocError>
-    ensures { IfOk result (λ v. v.items ≡ values_at keys.now) }
-{
-    keys.iter().map(|key| as_value(*key)).collect(alloc)
-}
-
-/// Adds the key of a value that isn't there.
-fn insert(keys: &mut IndexSet<Key>, value: Value) -> Result<(), AllocError>
-    requires { list_any (same_value value) (values_at keys.old.keys) ≡ false }
-    ensures { OnOk result (values_at keys.new.keys ≡ values_at keys.old.keys ++ value ∷ []) }
-{
-    keys.insert(as_key(value))?;
+    keys.insert(value)?;
     Ok(())
 }
 
 /// The different constants so far, in order of first use.
 #[derive(Drop)]
 struct Constants {
-    keys: IndexSet<Key>,
+    keys: IndexSet<Value>,
     excess: Option<usize>,
 }
 
@@ -69,9 +34,7 @@ impl Model for Constants {
 
     ghost Value = { Counted };
 
-    ghost use Rattle.ilsyms.specs.Keys.{values_at};
-
-    ghost view = { λ c. counted (values_at c.keys.keys) c.excess };
+    ghost view = { λ c. counted c.keys.keys c.excess };
 }
 
 impl Constants {
@@ -94,7 +57,7 @@ impl Constants {
     fn contains(&self, value: Value) -> bool
         ensures { result ≡ list_any (same_value value) self.now.constants }
     {
-        self.keys.contains(&as_key(value))
+        self.keys.contains(&value)
     }
 
     /// How many there are.
@@ -125,7 +88,7 @@ impl Constants {
     fn list(&self, alloc: Global) -> Result<Vec<Value>, AllocError>
         ensures { IfOk result (λ v. v.items ≡ self.now.constants) }
     {
-        as_values(alloc, self.keys.as_slice())
+        Vec::from_slice(alloc, self.keys.as_slice())
     }
 
     /// The place of the line that exceeds the greatest number.

@@ -10,7 +10,6 @@ ghost use Rattle.ilsyms.specs.Resolved.{IsPlanOf, IsTaskOf, MeansTheSame};
 ghost use Rattle.ilsyms.specs.Told.{IsMemoryOrTold, IsMemoryOrTellsLeast, TellsLeast};
 ghost use Rattle.ilsyms.specs.declared.fault.NameFault.{NameFault};
 
-use crate::binding::Binding;
 use crate::constants::different_constants;
 use crate::excess::{instance_past, limited, slot_past, word_past};
 use crate::fault::NameFault;
@@ -21,6 +20,7 @@ use crate::planning::plan_instances;
 use crate::scope::{Scope, told};
 use crate::slots::all_slots;
 use crate::uses::unknown_uses;
+use binding::Binding;
 use ilsource::Source;
 use iltypes::Value;
 use std::alloc::{AllocError, Global};

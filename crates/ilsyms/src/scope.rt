@@ -9,11 +9,11 @@ ghost use Rattle.ilsyms.specs.Gathering.{Gathered, gathered, with_name, with_nam
 ghost use Rattle.ilsyms.specs.Gathering.{with_declarations, lowered};
 ghost use Rattle.ilsyms.specs.Told.{IsTold};
 
-use crate::binding::Binding;
 use crate::fault::{NameCause, NameFault};
 use crate::found::{Found, lesser_of};
 use crate::names::Names;
 use crate::values::initial_of;
+use binding::Binding;
 use ilsource::{Declaration, Name, Place, Program, Source};
 use std::alloc::{AllocError, Global};
 use std::marker::Model;

@@ -1,7 +1,7 @@
 //! Printed names and faults, and each public call once.
 
-use crate::binding::MAX_BYTES;
-use crate::{BindCause, BindFault, Binding, NameCause, NameFault, Scope, resolve};
+use crate::{NameCause, NameFault, Scope, resolve};
+use binding::Binding;
 use ilsource::{Constant, Declaration, Instruction, Line, Name, Operand, Program, Source};
 use iltypes::Value;
 use std::alloc::{AllocError, Global};
@@ -161,69 +161,4 @@ fn a_declaration_is_told_before_a_later_use(rt: HostRuntime) -> Result<(), Fail>
         "name fault 3 at 2:8",
         "name fault 3 at 2:8",
     )
-}
-
-#[test]
-fn bindings_are_read(rt: HostRuntime) -> Result<(), Fail> {
-    let good: [(&[u8], u8); 6] = [
-        (b"buses 1", 1),
-        (b"# here\r\n\r\nbuses 16\r\n", 16),
-        (b"buses 007\n#buses 2\n\n", 7),
-        (b"\nbuses 10\n", 10),
-        (b"#\xff\t any bytes \r\r\nbuses 2\n", 2),
-        (b"buses 000000000000000000000000000003", 3),
-    ];
-    for (bytes, buses) in good {
-        assert_eq!(rt; Binding::parse(rt.alloc(), bytes)?.buses(), buses);
-    }
-    let bad: [(&[u8], usize); 19] = [
-        (b"", 1),
-        (b"# none\n\n", 1),
-        (b"buses 17\n", 1),
-        (b"buses 0", 1),
-        (b"buses 65537", 1),
-        (b"\nbuses  1\n", 2),
-        (b"buses 1\nbuses 1\n", 2),
-        (b"buses 1\r", 1),
-        (b"\n\nbuses 1\r\r\n", 3),
-        (b"buses 1\n#\n source 0.0\n", 3),
-        (b"source 0.0\nbuses 1\n", 1),
-        (b"#\n\nBuses 1", 3),
-        (b"buses", 1),
-        (b"buses ", 1),
-        (b"buses +1", 1),
-        (b"buses 1_0", 1),
-        (b"buses 1 ", 1),
-        (b"\n buses 1", 2),
-        (b"buses\t1", 1),
-    ];
-    for (bytes, wanted) in bad {
-        match Binding::parse(rt.alloc(), bytes) {
-            Err(BindFault::At { line, cause }) => {
-                assert_eq!(rt; line, wanted);
-                assert_eq!(rt; cause, BindCause::BadLine);
-            }
-            _ => assert!(rt; false, "a fault at {wanted}"),
-        }
-    }
-    Ok(())
-}
-
-#[test]
-fn a_binding_is_refused_over_a_mebibyte(rt: HostRuntime) -> Result<(), Fail> {
-    for (len, wanted) in [
-        (MAX_BYTES, BindCause::BadLine),
-        (MAX_BYTES + 1, BindCause::TooLong),
-    ] {
-        let bytes = vec![in rt.alloc(); b'\n'; len]?;
-        match Binding::parse(rt.alloc(), &bytes) {
-            Err(fault) => {
-                let told = fault.to_string(rt.alloc())?;
-                assert_eq!(rt; told.as_str(), "bind fault at 1");
-                assert_eq!(rt; fault.number(), wanted.number());
-            }
-            Ok(_) => assert!(rt; false, "a fault at {len} bytes"),
-        }
-    }
-    Ok(())
 }
