@@ -6,9 +6,9 @@ use Rattle.daliframe.specs.declared.forward.Frame.{Frame}
 use Rattle.transact.specs.declared.marks.Mark.{Mark}
 use Rattle.transact.specs.declared.marks.Mark.TheVariants.{Lost, Failed}
 use Rattle.transact.specs.declared.marks.Sent.{Sent}
-use Rattle.transact.specs.FrameLists.{FrameList}
+use Rattle.gearcmd.specs.FrameLists.{FrameList}
 use Rattle.transact.specs.Marks.{outcome_of}
-use Rattle.transact.specs.Attempts.{Attempt, IsAttempt, IsReport, ReportParts, Spells, marks_of, sent_with, all_sent, last_mark}
+use Rattle.transact.specs.Attempts.{most_retries, Attempt, IsAttempt, IsReport, ReportParts, Spells, marks_of, sent_with, all_sent, last_mark}
 use Rattle.buslink.specs.BusLog.{BusLog, one_more_failure}
 use Rattle.buslink.specs.Performing.{failures_after, after_report}
 
@@ -32,13 +32,13 @@ in_report : (list : FrameList) (retries : ℕ) (attempts : List Attempt) (Q : Ty
     → (last_mark attempts ≡ Failed → Q) → All (λ (s : Sent). s.mark ≡ Failed → Q) (all_sent list attempts)
 in_report list retries [] Q h last = absurd h
 in_report list retries (a ∷ []) Q h last =
-    All-append (λ (s : Sent). s.mark ≡ Failed → Q) (sent_with list.frames list.first (marks_of a)) []
-    (all_frames (λ (m : Mark). m ≡ Failed → Q) list.frames list.first (marks_of a) (in_attempt (length list.frames) a Q h.0 last))
+    All-append (λ (s : Sent). s.mark ≡ Failed → Q) (sent_with list.frames list.first_priority (marks_of a)) []
+    (all_frames (λ (m : Mark). m ≡ Failed → Q) list.frames list.first_priority (marks_of a) (in_attempt (length list.frames) a Q h.0 last))
     (λ k d lt. absurd (omega arith))
 in_report list zero (a ∷ b ∷ more) Q h last = absurd h
 in_report list (suc retries) (a ∷ b ∷ more) Q h last =
-    All-append (λ (s : Sent). s.mark ≡ Failed → Q) (sent_with list.frames list.first (marks_of a)) (all_sent list (b ∷ more))
-    (all_frames (λ (m : Mark). m ≡ Failed → Q) list.frames list.first (marks_of a) (in_attempt (length list.frames) a Q h.0 (λ failed. absurd (apart h.1 failed))))
+    All-append (λ (s : Sent). s.mark ≡ Failed → Q) (sent_with list.frames list.first_priority (marks_of a)) (all_sent list (b ∷ more))
+    (all_frames (λ (m : Mark). m ≡ Failed → Q) list.frames list.first_priority (marks_of a) (in_attempt (length list.frames) a Q h.0 (λ failed. absurd (apart h.1 failed))))
     (in_report list retries (b ∷ more) Q h.2 last)
   where
     apart : a.last ≡ Lost → a.last ≡ Failed → ⊥
@@ -49,4 +49,4 @@ pub failed_where_risen : (list : FrameList) (marks : List Mark) (r : ReportParts
 failed_where_risen list marks r old new s told =
     let risen : last_mark s.attempts ≡ Failed → new.failures ≡ one_more_failure old.failures = λ failed.
     ap (λ (log : BusLog). log.failures) told ∙ ap (λ o. failures_after o old.failures) (s.outcome ∙ ap outcome_of failed) in
-    rw s.sent (in_report list 2 s.attempts (new.failures ≡ one_more_failure old.failures) s.legal risen)
+    rw s.sent (in_report list most_retries s.attempts (new.failures ≡ one_more_failure old.failures) s.legal risen)

@@ -10,8 +10,8 @@ use Rattle.transact.specs.declared.marks.Reply.{Reply}
 use Rattle.transact.specs.declared.marks.Reply.TheVariants as reply
 use Rattle.transact.specs.declared.marks.Sent.{Sent}
 use Rattle.transact.specs.Marks.{IsBroken, outcome_of}
-use Rattle.transact.specs.FrameLists.{FrameList}
-use Rattle.transact.specs.Attempts.{Attempt, IsAttempt, IsReport, ReportParts, Spells, marks_of, all_marks, sent_with, all_sent, last_mark}
+use Rattle.gearcmd.specs.FrameLists.{FrameList}
+use Rattle.transact.specs.Attempts.{most_retries, Attempt, IsAttempt, IsReport, ReportParts, Spells, marks_of, all_marks, sent_with, all_sent, last_mark}
 use Rattle.buslink.specs.declared.faults.Fault.{Fault}
 use Rattle.buslink.specs.BusLog.{BusLog, mark_of_send, after_send, with_spare}
 use Rattle.buslink.specs.Performing.{failures_after, after_report, failures_with, after_frames, IsTriedOnce, IsTried}
@@ -127,22 +127,22 @@ once_more (f ∷ frames) rest frame priority before middle after old mid new mar
 -- ---- all attempts
 -- the last attempt
 pub tried_last : (list : FrameList) (frames : List Frame) (first retries : ℕ) (before after : List Mark) (old new : BusLog) (last : Mark)
-    → frames ≡ list.frames → first ≡ list.first → IsTriedOnce frames first before after old new last → (last ≡ Lost → retries ≡ 0)
+    → frames ≡ list.frames → first ≡ list.first_priority → IsTriedOnce frames first before after old new last → (last ≡ Lost → retries ≡ 0)
     → IsTried list retries before after old new
 tried_last list frames first retries before after old new _ same priority t settled = record {
   attempts = t.attempt ∷ [];
   legal = (rw same at t.legal, λ lost. settled (t.ends ∙ lost));
   marks = t.marks ∙ ap (λ (xs : List Mark). before ++ xs) (sym (append-nil (marks_of t.attempt)));
-  bus = t.bus ∙ cc_sent same priority ∙ ap (λ (xs : List Sent). after_frames xs t.attempt.last old) (sym (append-nil (sent_with list.frames list.first (marks_of t.attempt))));
+  bus = t.bus ∙ cc_sent same priority ∙ ap (λ (xs : List Sent). after_frames xs t.attempt.last old) (sym (append-nil (sent_with list.frames list.first_priority (marks_of t.attempt))));
 }
   where
-    cc_sent : frames ≡ list.frames → first ≡ list.first
-        → after_frames (sent_with frames first (marks_of t.attempt)) t.attempt.last old ≡ after_frames (sent_with list.frames list.first (marks_of t.attempt)) t.attempt.last old
+    cc_sent : frames ≡ list.frames → first ≡ list.first_priority
+        → after_frames (sent_with frames first (marks_of t.attempt)) t.attempt.last old ≡ after_frames (sent_with list.frames list.first_priority (marks_of t.attempt)) t.attempt.last old
     cc_sent a b = cc
 
 -- an attempt that was lost, and those behind it
 pub tried_more : (list : FrameList) (frames : List Frame) (first retries : ℕ) (before middle after : List Mark) (old mid new : BusLog) (last : Mark)
-    → frames ≡ list.frames → first ≡ list.first → IsTriedOnce frames first before middle old mid last → last ≡ Lost → 0 < retries
+    → frames ≡ list.frames → first ≡ list.first_priority → IsTriedOnce frames first before middle old mid last → last ≡ Lost → 0 < retries
     → IsTried list (retries - 1) middle after mid new → IsTried list retries before after old new
 tried_more list frames first zero before middle after old mid new _ same priority t lost left u = absurd (omega arith)
 tried_more list frames first (suc retries) before middle after old mid new _ same priority t lost left u =
@@ -154,13 +154,13 @@ tried_more list frames first (suc retries) before middle after old mid new _ sam
     behind [] legal marks bus = absurd legal
     behind (b ∷ more) legal marks bus =
         let ends : t.attempt.last ≡ Lost = sym t.ends ∙ lost in
-        let one : mid ≡ after_frames (sent_with list.frames list.first (marks_of t.attempt)) t.attempt.last old = rw same at (rw priority at t.bus) in
+        let one : mid ≡ after_frames (sent_with list.frames list.first_priority (marks_of t.attempt)) t.attempt.last old = rw same at (rw priority at t.bus) in
         record {
           attempts = t.attempt ∷ b ∷ more;
           legal = (rw same at t.legal, ends, legal);
           marks = marks ∙ ap (λ (xs : List Mark). xs ++ all_marks (b ∷ more)) t.marks ∙ append_assoc before (marks_of t.attempt) (all_marks (b ∷ more));
           bus = bus ∙ ap (after_frames (all_sent list (b ∷ more)) (last_mark (b ∷ more))) one
-              ∙ joined (sent_with list.frames list.first (marks_of t.attempt)) (all_sent list (b ∷ more)) t.attempt.last (last_mark (b ∷ more)) old (lost_not_failed t.attempt.last ends);
+              ∙ joined (sent_with list.frames list.first_priority (marks_of t.attempt)) (all_sent list (b ∷ more)) t.attempt.last (last_mark (b ∷ more)) old (lost_not_failed t.attempt.last ends);
         }
 
 -- ---- the report
@@ -179,7 +179,7 @@ abbrev pub SpellOne : FrameList → List Mark → Type 0
 SpellOne list marks = (a b : ReportParts) → Spells list marks a → Spells list marks b → a ≡ b
 
 reported : (list : FrameList) (marks : List Mark) (r : ReportParts) (start new : BusLog)
-    → SpellOne list marks → IsTried list 2 [] marks start new → Spells list marks r → IsReported list r start new
+    → SpellOne list marks → IsTried list most_retries [] marks start new → Spells list marks r → IsReported list r start new
 reported list marks r start new one t s =
     let own : ReportParts = record { transaction = list; attempts = all_sent list t.attempts; outcome = outcome_of (last_mark t.attempts) } in
     let spells : Spells list marks own = record {
@@ -201,15 +201,16 @@ reported list marks r start new one t s =
     }
 
 pub performed : (list : FrameList) (marks : List Mark) (r : ReportParts) (old start new : BusLog) (spare : ℕ) → SpellOne list marks
-    → start ≡ with_spare spare old → IsTried list 2 [] marks start new → Spells list marks r → new ≡ after_report r new.spare old
+    → start ≡ with_spare spare old → IsTried list most_retries [] marks start new → Spells list marks r → new ≡ after_report r new.spare old
 performed list marks r old start new spare one roomed t s =
     let told : new ≡ record start { sent = start.sent ++ r.attempts; spare = start.spare - length r.attempts; failures = failures_after r.outcome start.failures } = (reported list marks r start new one t s).bus in
     let left : start.spare - length r.attempts ≡ new.spare = sym (ap (λ (log : BusLog). log.spare) told) in
     told ∙ ap (λ (n : ℕ). record start { sent = start.sent ++ r.attempts; spare = n; failures = failures_after r.outcome start.failures }) left
     ∙ ap (λ (log : BusLog). after_report r new.spare log) roomed
 
-pub spare_kept : (list : FrameList) (marks : List Mark) (r : ReportParts) (start new : BusLog) → SpellOne list marks
-    → 9 ≤ start.spare → IsTried list 2 [] marks start new → Spells list marks r → 9 ≤ new.spare + length r.attempts
-spare_kept list marks r start new one nine t s =
+-- a spare place is taken by a frame of the report alone
+pub spare_kept : (places : ℕ) (list : FrameList) (marks : List Mark) (r : ReportParts) (start new : BusLog) → SpellOne list marks
+    → places ≤ start.spare → IsTried list most_retries [] marks start new → Spells list marks r → places ≤ new.spare + length r.attempts
+spare_kept places list marks r start new one fits t s =
     let left : new.spare ≡ start.spare - length r.attempts = ap (λ (log : BusLog). log.spare) (reported list marks r start new one t s).bus in
     omega arith

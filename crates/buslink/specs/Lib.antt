@@ -1,2 +1,3 @@
 pub mod BusLog
+pub mod ClockLog
 pub mod Performing

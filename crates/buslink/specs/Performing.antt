@@ -7,7 +7,7 @@ use Rattle.transact.specs.declared.marks.Outcome.{Outcome}
 use Rattle.transact.specs.declared.marks.Outcome.TheVariants as outcome
 use Rattle.transact.specs.declared.marks.Reply.{Reply}
 use Rattle.transact.specs.declared.marks.Sent.{Sent}
-use Rattle.transact.specs.FrameLists.{FrameList}
+use Rattle.gearcmd.specs.FrameLists.{FrameList}
 use Rattle.transact.specs.Attempts.{Attempt, IsAttempt, IsReport, ReportParts, marks_of, all_marks, sent_with, all_sent, last_mark}
 use Rattle.buslink.specs.declared.faults.Fault.{Fault}
 use Rattle.buslink.specs.BusLog.{BusLog, one_more_failure, mark_of_send, after_send}

@@ -1,7 +1,8 @@
 //! Transactions on a bus.
 ghost use Rattle.std.specs.Prelude.{◌≡◌, ◌+◌, ◌*◌, ◌<◌, ◌≤◌, length, All, IfOk, IfErr, IsOk};
 ghost use Rattle.arrayvec.specs.ArrayVec.{array_vec_len};
-ghost use Rattle.transact.specs.Attempts.{IsReportParts};
+ghost use Rattle.gearcmd.specs.FrameLists.{most_frames};
+ghost use Rattle.transact.specs.Attempts.{IsReportParts, most_sent};
 ghost use Rattle.buslink.specs.BusLog.{one_more_failure, with_spare};
 ghost use Rattle.buslink.specs.Performing.{after_report, IsSent, IsTriedOnce, IsTried};
 
@@ -9,10 +10,7 @@ use crate::{Bus, Fault};
 use arrayvec::ArrayVec;
 use daliframe::Frame;
 use std::alloc::AllocError;
-use transact::{MOST_RETRIES, Mark, Report, Transaction};
-
-/// A transaction has at most so many frames, in all of its attempts.
-const MOST_FRAMES: usize = 9;
+use transact::{MOST_RETRIES, MOST_SENT, Mark, Report, Transaction};
 
 /// Sends the frames of a transaction, and all of them again where one is lost, in three attempts at most. A fault of the
 /// bus interface ends it at once, with the outcome `Failed`.
@@ -23,13 +21,17 @@ const MOST_FRAMES: usize = 9;
 pub fn perform<B: Bus>(bus: &mut B, transaction: &Transaction) -> Result<Report, AllocError>
     ensures report { IfOk result (λ r. (r.transaction ≡ transaction.now) × IsReportParts r) }
     ensures bus { IfOk result (λ r. B.log bus.new ≡ after_report r (B.log bus.new).spare (B.log bus.old)) }
-    ensures spare { IfOk result (λ r. 9 ≤ (B.log bus.new).spare + length r.attempts) }
+    ensures spare { IfOk result (λ r. most_sent ≤ (B.log bus.new).spare + length r.attempts) }
+
+    // No spare place is lost: the frames that were sent take one each at most, and a refusal takes none.
+    ensures spare_kept { IfOk result (λ r. (B.log bus.old).spare ≤ (B.log bus.new).spare + length r.attempts) }
+    ensures spare_kept_refused { IfErr result (λ _. (B.log bus.old).spare ≤ (B.log bus.new).spare) }
     ensures failed { IfOk result (λ r. All
         (λ frame. frame.mark ≡ Mark.Failed → (B.log bus.new).failures ≡ one_more_failure (B.log bus.old).failures) r.attempts) }
     ensures refused { IfErr result (λ _. B.log bus.new ≡ with_spare (B.log bus.new).spare (B.log bus.old)) }
-    ensures enough { 9 ≤ (B.log bus.old).spare → IsOk result }
+    ensures enough { most_sent ≤ (B.log bus.old).spare → IsOk result }
 {
-    bus.room(MOST_FRAMES)?;
+    bus.room(MOST_SENT)?;
     let mut marks = ArrayVec::new();
     try_again(bus, transaction, MOST_RETRIES, &mut marks);
     match Report::of(transaction, marks.as_slice()) {
@@ -43,13 +45,18 @@ fn try_again<B: Bus>(
     bus: &mut B,
     transaction: &Transaction,
     retries: u8,
-    marks: &mut ArrayVec<Mark, 9>,
+    marks: &mut ArrayVec<Mark, MOST_SENT>,
 )
-    requires spare { 3 * retries + 3 ≤ (B.log bus.old).spare }
-    requires room { array_vec_len marks.old + 3 * retries + 3 ≤ 9 }
+    requires spare { most_frames * (retries + 1) ≤ (B.log bus.old).spare }
+    requires room { array_vec_len marks.old + most_frames * (retries + 1) ≤ most_sent }
     ensures { IsTried transaction.now retries marks.old.items marks.new.items (B.log bus.old) (B.log bus.new) }
 {
-    let last = try_once(bus, transaction.frames(), transaction.first(), marks);
+    let last = try_once(
+        bus,
+        transaction.frames(),
+        transaction.first_priority(),
+        marks,
+    );
     if last.is_retried(retries) {
         try_again(bus, transaction, retries - 1, marks);
     }
@@ -60,11 +67,11 @@ fn try_once<B: Bus>(
     bus: &mut B,
     frames: &[Frame],
     priority: u8,
-    marks: &mut ArrayVec<Mark, 9>,
+    marks: &mut ArrayVec<Mark, MOST_SENT>,
 ) -> Mark
     requires some { 0 < length frames.now }
     requires spare { length frames.now ≤ (B.log bus.old).spare }
-    requires room { array_vec_len marks.old + length frames.now ≤ 9 }
+    requires room { array_vec_len marks.old + length frames.now ≤ most_sent }
     ensures { IsTriedOnce frames.now priority marks.old.items marks.new.items (B.log bus.old) (B.log bus.new) result }
 {
     let mark = send(bus, frames[0], priority);

@@ -1,11 +1,11 @@
-//! Transactions on a bus that answers by a script.
-ghost use Rattle.std.specs.Prelude.{◌≡◌, ◌+◌, ◌-◌, ◌<◌, ◌≤◌, ◌++◌, ◌∷◌, []};
+//! Transactions on a bus that answers by a script, and moments of a clock.
+ghost use Rattle.std.specs.Prelude.{◌≡◌, ◌+◌, ◌-◌, ◌*◌, ◌<◌, ◌≤◌, ◌++◌, ◌∷◌, [], All};
 ghost use Rattle.arrayvec.specs.ArrayVec.{array_vec_len};
 
-use crate::{Bus, Fault, perform};
+use crate::{Bus, Clock, Fault, perform};
 use arrayvec::ArrayVec;
-use daliframe::{Address, Frame, Frame24};
-use gearcmd::{GearSetCommand, Request, TaskKind};
+use daliframe::{Address, BusNumber, Frame, Frame24};
+use gearcmd::{Command, GearSetCommand, Request, TaskKind};
 use std::alloc::{AllocError, Global};
 use std::test::Fail;
 use transact::{Mark, Outcome, Reply, Sent, Transaction};
@@ -18,16 +18,19 @@ enum Script {
     FaultAtSecond,
 }
 
-/// A bus with nine places that answers by a script.
+/// The places of a bus for frames.
+const PLACES: usize = 1008;
+
+/// A bus with these places that answers by a script.
 #[derive(Drop)]
 struct ScriptedBus {
     script: Script,
-    sent: ArrayVec<Sent, 9>,
+    sent: ArrayVec<Sent, PLACES>,
     spare: usize,
     failures: u64,
     hears: u64,
     heard_none: bool,
-    ghost fits: { array_vec_len sent + spare ≤ 9 },
+    ghost fits: { array_vec_len sent + spare ≤ 1008 },
 }
 
 impl ScriptedBus {
@@ -58,7 +61,7 @@ impl Bus for ScriptedBus {
         if frames <= self.spare {
             return Ok(());
         }
-        if frames > 9 - self.sent.len() {
+        if frames > PLACES - self.sent.len() {
             return Err(AllocError);
         }
         self.spare = frames;
@@ -99,10 +102,13 @@ impl Bus for ScriptedBus {
 
 /// SET SCENE 2 of short address 5, to level 100.
 fn scene() -> Option<Transaction> {
-    let request = Request::GearSet {
-        address: Address::from_number(5)?,
-        command: GearSetCommand::new(9)?,
-        value: 100,
+    let request = Request {
+        bus: BusNumber::new(15)?,
+        command: Command::GearSet {
+            address: Address::from_number(5)?,
+            command: GearSetCommand::new(9)?,
+            value: 100,
+        },
     };
     Some(Transaction::of(&request, TaskKind::Cyclic))
 }
@@ -157,9 +163,22 @@ fn performed_as_scripted(rt: HostRuntime) -> Result<(), Fail> {
         assert_eq!(rt; attempts.as_str(), text);
         assert!(rt; report.outcome() == outcome);
         assert_eq!(rt; bus.failures == 1, outcome == Outcome::Failed);
-        let full = perform(&mut bus, &transaction).is_err();
-        assert!(rt; full);
     }
+    Ok(())
+}
+
+#[test]
+fn a_thousand_frames_on_one_bus(rt: HostRuntime) -> Result<(), Fail> {
+    let transaction = scene().ok_or("a request")?;
+    let mut bus = ScriptedBus::new(Script::Quiet);
+    for _ in 0..334 {
+        let report = perform(&mut bus, &transaction)?;
+        assert!(rt; report.outcome() == Outcome::Done(Reply::Quiet));
+    }
+    assert_eq!(rt; bus.sent.len(), 1002);
+    let full = perform(&mut bus, &transaction).is_err();
+    assert!(rt; full);
+    assert_eq!(rt; bus.sent.len(), 1002);
     Ok(())
 }
 
@@ -172,5 +191,44 @@ fn performed_in_a_box(rt: HostRuntime) -> Result<(), Fail> {
     bus.room(1)?;
     let heard = bus.hear();
     assert!(rt; heard == Ok(None));
+    Ok(())
+}
+
+/// A clock that comes on by 10 milliseconds with each call, four times, and then stands at its end.
+#[derive(Drop)]
+struct TenthClock {
+    given: ArrayVec<u64, 4>,
+    asks: u64,
+    gave_none: bool,
+    ghost in_order: { All (λ earlier. earlier ≤ 10 * array_vec_len given) given.items },
+}
+
+impl Clock for TenthClock {
+    ghost log = { λ c. record { given = c.given.items; asks = c.asks; gave_none = c.gave_none } };
+
+    fn now(&mut self) -> Option<u64> {
+        self.asks = self.asks.saturating_add(1);
+        self.gave_none = self.given.is_full();
+        if self.given.is_full() {
+            return None;
+        }
+        let moment = 10 * self.given.len() as u64;
+        self.given.push(moment);
+        Some(moment)
+    }
+}
+
+#[test]
+fn moments_of_a_clock_in_a_box(rt: HostRuntime) -> Result<(), Fail> {
+    let clock = TenthClock {
+        given: ArrayVec::new(),
+        asks: 0,
+        gave_none: false,
+    };
+    let mut clock: Box<dyn Clock + Send> = Box::new(rt.alloc(), clock)?;
+    for moment in [Some(0), Some(10), Some(20), Some(30), None, None] {
+        let now = clock.now();
+        assert_eq!(rt; now, moment);
+    }
     Ok(())
 }

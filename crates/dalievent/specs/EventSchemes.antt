@@ -1,23 +1,15 @@
 -- The event messages of control devices: one equation on the frame's number for each scheme (profile).
 use Rattle.std.specs.Prelude.{◌≡◌, ℕ, ◌+◌, ◌*◌, ◌<◌, ◌^◌}
 use Rattle.daliframe.specs.Frames.{IsCommand24}
-use Rattle.dalievent.specs.declared.messages.Scheme.{Scheme}
-use Rattle.dalievent.specs.declared.messages.Scheme.TheVariants.{Instance, Device, DeviceInstance, DeviceGroup, InstanceGroup}
-use Rattle.dalievent.specs.declared.messages.Event.{Event as EventMessage}
+use Rattle.daliframe.specs.declared.schemes.EventScheme.{EventScheme}
+use Rattle.daliframe.specs.declared.schemes.EventScheme.TheVariants.{Instance, Device, DeviceInstance, DeviceGroup, InstanceGroup}
+use Rattle.dalievent.specs.declared.messages.EventMessage.{EventMessage}
 use Rattle.dalievent.specs.declared.messages.Source.{Source}
 use Rattle.dalievent.specs.declared.messages.Heard.{Heard}
 use Rattle.dalievent.specs.declared.messages.Heard.TheVariants.{Event, Command, Other}
 
--- the numbers of the schemes
-abbrev pub scheme_number : Scheme → ℕ
-scheme_number Instance = 0
-scheme_number Device = 1
-scheme_number DeviceInstance = 2
-scheme_number DeviceGroup = 3
-scheme_number InstanceGroup = 4
-
 -- what the scheme adds to a frame: bits 23 and 22 are `10` or `11` where no short address is, bit 15 tells two schemes apart
-abbrev pub scheme_bits : Scheme → ℕ
+abbrev pub scheme_bits : EventScheme → ℕ
 scheme_bits Instance = 2 ^ 23 + 2 ^ 15
 scheme_bits Device = 0
 scheme_bits DeviceInstance = 2 ^ 15
@@ -25,7 +17,7 @@ scheme_bits DeviceGroup = 2 ^ 23
 scheme_bits InstanceGroup = 2 ^ 23 + 2 ^ 22
 
 -- short addresses have six bits, all other parts five
-abbrev pub a_limit : Scheme → ℕ
+abbrev pub a_limit : EventScheme → ℕ
 a_limit Instance = 32
 a_limit Device = 64
 a_limit DeviceInstance = 64
@@ -40,13 +32,13 @@ Solves e frame =
 
 -- a frame that solves no equation
 abbrev pub HasNoEvent : ℕ → Type 0
-HasNoEvent frame = (e : EventMessage) → Solves e frame → ⊥
+HasNoEvent frame = (e : EventMessage) → ¬ Solves e frame
 
 -- a frame with bit 16 set is a command, and one that solves no equation is none of these
 abbrev pub IsHeard : Heard → ℕ → Type 0
 IsHeard (Event e) frame = Solves e frame
 IsHeard Command frame = IsCommand24 frame
-IsHeard Other frame = (IsCommand24 frame → ⊥) × HasNoEvent frame
+IsHeard Other frame = (¬ IsCommand24 frame) × HasNoEvent frame
 
 -- a frame has one event at most
 abbrev pub IsOnlyEvent : Heard → ℕ → Type 0

@@ -1,10 +1,10 @@
 //! Event messages of DALI-2 control devices. A 24-bit forward frame comes in; what it says goes out, as one of five event
-//! schemes with its two address parts and its information, and whether an event is one of a source. It meets the five
-//! equations of `specs/EventSchemes.antt` (profile).
+//! schemes with its two address parts and its information, and whether a message comes from a source. The definition to
+//! read first is `Solves` in `specs/EventSchemes.antt`: five equations on the frame's number (profile).
 #![tactic(auto)]
 
 mod messages;
 #[cfg(test)]
 mod tests;
 
-pub use messages::{Event, Heard, Scheme, Source, decode, matches};
+pub use messages::{EventMessage, Heard, Source, decode, matches};

@@ -1,45 +1,15 @@
-//! Events, their sources, and how a frame is read as one.
+//! Event messages, their sources, and how a frame is read as one.
 ghost use Rattle.std.specs.Prelude.{◌≡◌, ◌↔◌, ◌<◌, ◌^◌, IsTrue, MatchOption};
 ghost use Rattle.daliframe.specs.Frames.{IsCommand24};
-ghost use Rattle.dalievent.specs.EventSchemes.{Solves, HasNoEvent, IsHeard, IsOnlyEvent, IsFrom, scheme_number};
+ghost use Rattle.dalievent.specs.EventSchemes.{Solves, HasNoEvent, IsHeard, IsOnlyEvent, IsFrom};
 
-use daliframe::Frame24;
-
-/// By what an event message names its sender.
-#[derive(Clone, Copy, Debug, PartialEq, Eq)]
-pub enum Scheme {
-    /// Instance type and instance number.
-    Instance,
-    /// Short address and instance type.
-    Device,
-    /// Short address and instance number.
-    DeviceInstance,
-    /// Device group and instance type.
-    DeviceGroup,
-    /// Instance group and instance type.
-    InstanceGroup,
-}
-
-impl Scheme {
-    /// The number of the scheme, 0 to 4, as SET EVENT SCHEME takes it.
-    pub fn number(self) -> u8
-        ensures { result ≡ scheme_number self }
-    {
-        match self {
-            Scheme::Instance => 0,
-            Scheme::Device => 1,
-            Scheme::DeviceInstance => 2,
-            Scheme::DeviceGroup => 3,
-            Scheme::InstanceGroup => 4,
-        }
-    }
-}
+use daliframe::{EventScheme, Frame24};
 
 /// An event message.
 #[derive(Clone, Copy, Debug, PartialEq, Eq)]
-pub struct Event {
+pub struct EventMessage {
     /// What `a` and `b` mean.
-    pub scheme: Scheme,
+    pub scheme: EventScheme,
     /// The part from bit 17 on: a short address 0 to 63, else an instance type or group 0 to 31.
     pub a: u8,
     /// The part in bits 14 to 10: an instance number or type, 0 to 31.
@@ -48,11 +18,14 @@ pub struct Event {
     pub info: u16,
 }
 
-/// Where events come from: all that have this scheme and these two parts.
+/// Where event messages come from: all that have this scheme and these two parts.
 #[derive(Clone, Copy, Debug, PartialEq, Eq)]
 pub struct Source {
-    pub scheme: Scheme,
+    /// What `a` and `b` mean.
+    pub scheme: EventScheme,
+    /// As that of an event message.
     pub a: u8,
+    /// As that of an event message.
     pub b: u8,
 }
 
@@ -60,7 +33,7 @@ pub struct Source {
 #[derive(Clone, Copy, Debug, PartialEq, Eq)]
 pub enum Heard {
     /// An event message.
-    Event(Event),
+    Event(EventMessage),
     /// A command to control devices.
     Command,
     /// An event message of none of the five schemes.
@@ -76,13 +49,13 @@ pub fn decode(frame: Frame24) -> Heard
         return Heard::Command;
     }
     match event_of(frame.number()) {
-        Some(event) => Heard::Event(event),
+        Some(message) => Heard::Event(message),
         None => Heard::Other,
     }
 }
 
-/// The event that solves its scheme's equation for this frame, which is no command.
-fn event_of(number: u32) -> Option<Event>
+/// The event message that solves its scheme's equation for this frame, which is no command.
+fn event_of(number: u32) -> Option<EventMessage>
     requires fits { number < 2 ^ 24 }
     requires no_command { IsCommand24 number → ⊥ }
     ensures { MatchOption result (HasNoEvent number) (λ e. Solves e number) }
@@ -92,19 +65,19 @@ fn event_of(number: u32) -> Option<Event>
     let has_bit_15 = (number >> 15) & 1 == 1;
     let short = (number >> 17) as u8;
     let (scheme, a) = match (short >> 5, has_bit_15) {
-        (0 | 1, false) => (Scheme::Device, short),
-        (0 | 1, true) => (Scheme::DeviceInstance, short),
-        (2, false) => (Scheme::DeviceGroup, short & 0x1F),
-        (2, true) => (Scheme::Instance, short & 0x1F),
-        (3, false) => (Scheme::InstanceGroup, short & 0x1F),
+        (0 | 1, false) => (EventScheme::Device, short),
+        (0 | 1, true) => (EventScheme::DeviceInstance, short),
+        (2, false) => (EventScheme::DeviceGroup, short & 0x1F),
+        (2, true) => (EventScheme::Instance, short & 0x1F),
+        (3, false) => (EventScheme::InstanceGroup, short & 0x1F),
         _ => return None,
     };
-    Some(Event { scheme, a, b, info })
+    Some(EventMessage { scheme, a, b, info })
 }
 
-/// Whether an event comes from a source.
-pub fn matches(source: Source, event: Event) -> bool
-    ensures { IsTrue result ↔ IsFrom source event }
+/// Whether an event message comes from a source.
+pub fn matches(source: Source, message: EventMessage) -> bool
+    ensures { IsTrue result ↔ IsFrom source message }
 {
-    source.scheme == event.scheme && source.a == event.a && source.b == event.b
+    source.scheme == message.scheme && source.a == message.a && source.b == message.b
 }

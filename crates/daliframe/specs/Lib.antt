@@ -1,4 +1,5 @@
 pub mod Addresses
+pub mod EventSchemes
 pub mod Frames
 pub mod Opcodes
 pub mod Printed

@@ -1,126 +1,8 @@
 //! Addresses, and the address byte of a 16-bit forward frame.
-ghost use Rattle.std.specs.Prelude.{◌≡◌, ◌≤◌, ◌<◌, IsSome, IfSome, ◌↔◌};
-ghost use Rattle.std.specs.Option.{SomeIff};
+ghost use Rattle.std.specs.Prelude.{◌≡◌, ◌≤◌, IsSome, IfSome, ◌↔◌};
 ghost use Rattle.daliframe.specs.Addresses.{IsAddress, address_number, address_byte, IsAddressClass};
 
-use std::marker::Model;
-
-/// A short address, 0 to 63, of one control gear or control device.
-#[derive(Clone, Copy, Debug, PartialEq, Eq)]
-pub struct ShortAddress {
-    number: u8,
-}
-
-impl Model for ShortAddress {
-    ghost use Rattle.std.specs.Prelude.{ℕ, ◌<◌};
-
-    ghost Value = { ℕ };
-
-    ghost view = { λ a. a.number };
-
-    ghost invariant = { λ a. a.number < 64 };
-
-    ghost inverse = { λ n. record { number = n } };
-}
-
-impl ShortAddress {
-    /// The short address of this number, where it is at most 63.
-    pub fn new(number: u8) -> Option<Self>
-        ensures { SomeIff result (number < 64) number }
-    {
-        if number < 64 {
-            Some(ShortAddress { number })
-        } else {
-            None
-        }
-    }
-
-    /// The number, 0 to 63.
-    pub fn number(self) -> u8
-        ensures value { result ≡ self }
-        ensures range { self < 64 }
-    {
-        self.number
-    }
-}
-
-/// A group of control gear, 0 to 15.
-#[derive(Clone, Copy, Debug, PartialEq, Eq)]
-pub struct GroupAddress {
-    number: u8,
-}
-
-impl Model for GroupAddress {
-    ghost use Rattle.std.specs.Prelude.{ℕ, ◌<◌};
-
-    ghost Value = { ℕ };
-
-    ghost view = { λ g. g.number };
-
-    ghost invariant = { λ g. g.number < 16 };
-
-    ghost inverse = { λ n. record { number = n } };
-}
-
-impl GroupAddress {
-    /// The group of this number, where it is at most 15.
-    pub fn new(number: u8) -> Option<Self>
-        ensures { SomeIff result (number < 16) number }
-    {
-        if number < 16 {
-            Some(GroupAddress { number })
-        } else {
-            None
-        }
-    }
-
-    /// The number, 0 to 15.
-    pub fn number(self) -> u8
-        ensures value { result ≡ self }
-        ensures range { self < 16 }
-    {
-        self.number
-    }
-}
-
-/// The number of an instance of a control device, 0 to 31.
-#[derive(Clone, Copy, Debug, PartialEq, Eq)]
-pub struct InstanceNumber {
-    number: u8,
-}
-
-impl Model for InstanceNumber {
-    ghost use Rattle.std.specs.Prelude.{ℕ, ◌<◌};
-
-    ghost Value = { ℕ };
-
-    ghost view = { λ i. i.number };
-
-    ghost invariant = { λ i. i.number < 32 };
-
-    ghost inverse = { λ n. record { number = n } };
-}
-
-impl InstanceNumber {
-    /// The instance of this number, where it is at most 31.
-    pub fn new(number: u8) -> Option<Self>
-        ensures { SomeIff result (number < 32) number }
-    {
-        if number < 32 {
-            Some(InstanceNumber { number })
-        } else {
-            None
-        }
-    }
-
-    /// The number, 0 to 31.
-    pub fn number(self) -> u8
-        ensures value { result ≡ self }
-        ensures range { self < 32 }
-    {
-        self.number
-    }
-}
+use crate::{GroupAddress, ShortAddress};
 
 /// Whom a 16-bit forward frame is for (IEC 62386-102, clause 7).
 #[derive(Clone, Copy, Debug, PartialEq, Eq)]
@@ -140,10 +22,8 @@ impl Address {
         ensures value { IfSome result (λ a. IsAddress a × (address_number a ≡ number)) }
     {
         match number {
-            0..=63 => Some(Address::Short(ShortAddress { number })),
-            64..=79 => Some(Address::Group(GroupAddress {
-                number: number - 64,
-            })),
+            0..=63 => Some(Address::Short(ShortAddress::below(number))),
+            64..=79 => Some(Address::Group(GroupAddress::below(number - 64))),
             80 => Some(Address::Broadcast),
             _ => None,
         }
@@ -199,10 +79,8 @@ impl AddressClass {
         ensures { IsAddressClass result byte }
     {
         let address = match byte >> 1 {
-            number @ 0..=63 => Address::Short(ShortAddress { number }),
-            half @ 64..=79 => Address::Group(GroupAddress {
-                number: half & 0x0F,
-            }),
+            number @ 0..=63 => Address::Short(ShortAddress::below(number)),
+            half @ 64..=79 => Address::Group(GroupAddress::below(half & 0x0F)),
             127 => Address::Broadcast,
             _ => return AddressClass::Special,
         };

@@ -8,12 +8,17 @@ mod addressing;
 mod forward;
 mod forward16;
 mod forward24;
+pub mod kinds;
+mod numbers;
 mod opcodes;
+mod schemes;
 #[cfg(test)]
 mod tests;
 
-pub use addressing::{Address, AddressClass, GroupAddress, InstanceNumber, ShortAddress};
+pub use addressing::{Address, AddressClass};
 pub use forward::Frame;
 pub use forward16::{Fields16, Frame16};
 pub use forward24::{Fields24, Frame24};
+pub use numbers::{BusNumber, GroupAddress, InstanceNumber, InstanceType, Number, ShortAddress};
 pub use opcodes::{DeviceOpcodeClass, OpcodeClass};
+pub use schemes::EventScheme;

@@ -1,7 +1,7 @@
 //! Worked frames, their printed form, and the fields of every frame and the class of every opcode by plain sums and lists.
 use crate::{
-    Address, AddressClass, DeviceOpcodeClass, Fields16, Fields24, Frame, Frame16, Frame24,
-    InstanceNumber, OpcodeClass, ShortAddress,
+    Address, AddressClass, BusNumber, DeviceOpcodeClass, EventScheme, Fields16, Fields24, Frame,
+    Frame16, Frame24, GroupAddress, InstanceNumber, InstanceType, OpcodeClass, ShortAddress,
 };
 use std::test::Fail;
 
@@ -177,4 +177,19 @@ fn every_opcode(rt: HostRuntime) {
             "{opcode:02X}"
         );
     }
+}
+
+#[test]
+fn numbers_up_to_their_limits(rt: HostRuntime) {
+    for number in 0..=u8::MAX {
+        assert_eq!(rt; ShortAddress::new(number).is_some(), number <= 63);
+        assert_eq!(rt; GroupAddress::new(number).is_some(), number <= 15);
+        assert_eq!(rt; InstanceNumber::new(number).is_some(), number <= 31);
+        assert_eq!(rt; InstanceType::new(number).is_some(), number <= 31);
+        assert_eq!(rt; BusNumber::new(number).is_some(), number <= 15);
+        assert_eq!(rt; EventScheme::new(number).is_some(), number <= 4);
+    }
+    assert!(rt; BusNumber::new(15).map(|bus| bus.number()) == Some(15));
+    assert!(rt; EventScheme::new(4) == Some(EventScheme::InstanceGroup));
+    assert!(rt; EventScheme::new(3).map(|scheme| scheme.number()) == Some(3));
 }

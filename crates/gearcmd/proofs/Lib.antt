@@ -1,1 +1,2 @@
+pub mod Spellings
 pub mod Tables

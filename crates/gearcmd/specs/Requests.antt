@@ -1,13 +1,18 @@
--- What a request of a program is to the bus: its class, and the frames that it spells.
-use Rattle.std.specs.Prelude.{ℕ, ◌<◌, ◌^◌, List, [], ◌∷◌, slice_index}
+-- What a request of a program is to the bus: its class, the frames that it spells, and whose answer it brings.
+use Rattle.std.specs.Prelude.{ℕ, ◌<◌, ◌^◌, List, [], ◌∷◌, slice_index, Option, Some, None}
+use Rattle.limits.specs.Limits.{most_buses}
 use Rattle.daliframe.specs.declared.forward.Frame.{Frame}
 use Rattle.daliframe.specs.declared.forward.Frame.TheVariants.{Forward16, Forward24}
 use Rattle.daliframe.specs.declared.addressing.Address.TheVariants.{Short}
 use Rattle.daliframe.specs.Addresses.{IsAddress}
+use Rattle.daliframe.specs.EventSchemes.{scheme_number}
 use Rattle.daliframe.specs.Frames.{level_frame, command_frame, dtr0_frame, dtr1_frame, device_frame, device_dtr0_frame}
 use Rattle.gearcmd.specs.Commands.{gear_do_opcodes, gear_set_opcodes, gear_pair_opcodes, gear_ask_opcodes, dev_do_opcodes, dev_ask_opcodes}
+use Rattle.gearcmd.specs.declared.requests.Answerer.{Answerer}
+use Rattle.gearcmd.specs.declared.requests.Answerer.TheVariants.{Gear, Instance}
 use Rattle.gearcmd.specs.declared.requests.Request.{Request}
-use Rattle.gearcmd.specs.declared.requests.Request.TheVariants.{Output, GearLevel, GearDo, GearSet, GearPair, GearAsk, GearRead, DevDo, DevScheme, DevAsk}
+use Rattle.gearcmd.specs.declared.requests.Command.{Command}
+use Rattle.gearcmd.specs.declared.requests.Command.TheVariants.{GearLevel, GearDo, GearSet, GearPair, GearAsk, GearRead, DevDo, DevScheme, DevAsk}
 use Rattle.gearcmd.specs.declared.requests.TaskKind.{TaskKind}
 use Rattle.gearcmd.specs.declared.requests.TaskKind.TheVariants.{Cyclic, Event}
 
@@ -17,8 +22,7 @@ task_class Event = 2
 task_class Cyclic = 4
 
 -- 3 for what is sent twice, 5 for queries and memory reads, else that of the task (profile)
-abbrev pub class_of : Request → TaskKind → ℕ
-class_of (Output _ _) task = task_class task
+abbrev pub class_of : Command → TaskKind → ℕ
 class_of (GearLevel _ _) task = task_class task
 class_of (GearDo _ _) task = task_class task
 class_of (GearSet _ _ _) _ = 3
@@ -42,8 +46,7 @@ abbrev pub set_event_scheme_opcode : ℕ
 set_event_scheme_opcode = 0x67
 
 -- the frames that a request spells, first to last (profile)
-abbrev pub frames_of : Request → List Frame
-frames_of (Output address level) = Forward16 (level_frame address level) ∷ []
+abbrev pub frames_of : Command → List Frame
 frames_of (GearLevel address level) = Forward16 (level_frame address level) ∷ []
 frames_of (GearDo address cmd) = Forward16 (command_frame address (slice_index gear_do_opcodes cmd)) ∷ []
 frames_of (GearSet address cmd value) =
@@ -54,18 +57,32 @@ frames_of (GearRead address bank offset) =
     Forward16 (dtr1_frame bank) ∷ Forward16 (dtr0_frame offset) ∷ Forward16 (command_frame (Short address) read_opcode) ∷ []
 frames_of (DevDo address instance cmd) = twice (Forward24 (device_frame address instance (slice_index dev_do_opcodes cmd)))
 frames_of (DevScheme address instance scheme) =
-    Forward24 (device_dtr0_frame scheme) ∷ twice (Forward24 (device_frame address instance set_event_scheme_opcode))
+    Forward24 (device_dtr0_frame (scheme_number scheme)) ∷ twice (Forward24 (device_frame address instance set_event_scheme_opcode))
 frames_of (DevAsk address instance cmd) = Forward24 (device_frame address instance (slice_index dev_ask_opcodes cmd)) ∷ []
 
 -- each part in the range of its port: CMD is the index of a command, and bytes are below 256 (profile)
+abbrev pub IsCommand : Command → Type 0
+IsCommand (GearLevel address level) = IsAddress address × (level < 2 ^ 8)
+IsCommand (GearDo address cmd) = IsAddress address × (cmd < 26)
+IsCommand (GearSet address cmd value) = IsAddress address × (cmd < 23) × (value < 2 ^ 8)
+IsCommand (GearPair address cmd) = IsAddress address × (cmd < 50)
+IsCommand (GearAsk address cmd) = (address < 64) × (cmd < 43)
+IsCommand (GearRead address bank offset) = (address < 64) × (bank < 2 ^ 8) × (offset < 2 ^ 8)
+IsCommand (DevDo address instance cmd) = (address < 64) × (instance < 32) × (cmd < 2)
+IsCommand (DevScheme address instance scheme) = (address < 64) × (instance < 32)
+IsCommand (DevAsk address instance cmd) = (address < 64) × (instance < 32) × (cmd < 3)
+
 abbrev pub IsRequest : Request → Type 0
-IsRequest (Output address level) = IsAddress address × (level < 2 ^ 8)
-IsRequest (GearLevel address level) = IsAddress address × (level < 2 ^ 8)
-IsRequest (GearDo address cmd) = IsAddress address × (cmd < 26)
-IsRequest (GearSet address cmd value) = IsAddress address × (cmd < 23) × (value < 2 ^ 8)
-IsRequest (GearPair address cmd) = IsAddress address × (cmd < 50)
-IsRequest (GearAsk address cmd) = (address < 64) × (cmd < 43)
-IsRequest (GearRead address bank offset) = (address < 64) × (bank < 2 ^ 8) × (offset < 2 ^ 8)
-IsRequest (DevDo address instance cmd) = (address < 64) × (instance < 32) × (cmd < 2)
-IsRequest (DevScheme address instance scheme) = (address < 64) × (instance < 32) × (scheme < 5)
-IsRequest (DevAsk address instance cmd) = (address < 64) × (instance < 32) × (cmd < 3)
+IsRequest r = (r.bus < most_buses) × IsCommand r.command
+
+-- whose answer it brings: queries and memory reads are answered, and nothing else is (profile)
+abbrev pub answerer_of : Command → Option Answerer
+answerer_of (GearAsk address _) = Some (Gear address)
+answerer_of (GearRead address _ _) = Some (Gear address)
+answerer_of (DevAsk address instance _) = Some (Instance address instance)
+answerer_of (GearLevel _ _) = None
+answerer_of (GearDo _ _) = None
+answerer_of (GearSet _ _ _) = None
+answerer_of (GearPair _ _) = None
+answerer_of (DevDo _ _ _) = None
+answerer_of (DevScheme _ _ _) = None

@@ -1,17 +1,25 @@
-//! Requests of programs to control gear and control devices. What a program's block or level output asks for goes in,
-//! within its ports' ranges; a request that is legal by its type goes out, with the opcode of its command and its class,
-//! and the status byte of control gear. It meets the tables of `specs/Commands.antt` and the spelling and classes of
-//! `specs/Requests.antt` (IEC 62386-102, and profile for control devices and classes).
+//! Requests of programs to control gear and control devices. A request's parts are the port values of the block that
+//! makes it, each within its port's range by its type. Out of it come its class, the frames that it spells, and whose
+//! answer it brings; beside them stands the status byte of control gear. The definition to read first is `frames_of` in
+//! `specs/Requests.antt`, over the tables of `specs/Commands.antt`; `specs/FrameLists.antt` has the lists of frames that are
+//! legal (IEC 62386-102; profile for control devices and classes).
 #![tactic(auto)]
 
-mod device_commands;
-mod gear_commands;
+pub mod blocks;
+mod commands;
+mod lines;
 mod requests;
+mod spelling;
 mod statuses;
 #[cfg(test)]
 mod tests;
 
-pub use device_commands::{DevAskCommand, DevDoCommand, SchemeNumber};
-pub use gear_commands::{GearAskCommand, GearDoCommand, GearPairCommand, GearSetCommand};
-pub use requests::{READ_MEMORY_LOCATION, Request, SET_EVENT_SCHEME, TaskKind};
+pub use commands::{
+    DevAskCommand, DevDoCommand, GearAskCommand, GearDoCommand, GearPairCommand, GearSetCommand,
+    dev_ask_opcode, dev_do_opcode, gear_ask_opcode, gear_do_opcode, gear_pair_opcode,
+    gear_set_opcode,
+};
+pub use lines::RequestLine;
+pub use requests::{Answerer, Command, Request, TaskKind};
+pub use spelling::MOST_FRAMES;
 pub use statuses::Status;

@@ -1,18 +1,12 @@
 //! Requests, their classes and the kinds of tasks that they come from.
-ghost use Rattle.std.specs.Prelude.{◌≡◌};
-ghost use Rattle.gearcmd.specs.Requests.{class_of};
+ghost use Rattle.std.specs.Prelude.{◌≡◌, ◌⊎◌, ◌≤◌};
+ghost use Rattle.gearcmd.specs.Requests.{class_of, task_class, answerer_of};
+ghost use Rattle.gearcmd.specs.declared.requests.TaskKind.{TaskKind as Kind};
 
 use crate::{
     DevAskCommand, DevDoCommand, GearAskCommand, GearDoCommand, GearPairCommand, GearSetCommand,
-    SchemeNumber,
 };
-use daliframe::{Address, InstanceNumber, ShortAddress};
-
-/// READ MEMORY LOCATION: the byte at offset DTR0 of bank DTR1 (IEC 62386-102, clause 11).
-pub const READ_MEMORY_LOCATION: u8 = 0xC5;
-
-/// SET EVENT SCHEME: the scheme that was put in DTR0 of control devices (profile).
-pub const SET_EVENT_SCHEME: u8 = 0x67;
+use daliframe::{Address, BusNumber, EventScheme, InstanceNumber, ShortAddress};
 
 /// What starts a task (IEC 61131-3, clause 2.7).
 #[derive(Clone, Copy, Debug, PartialEq, Eq)]
@@ -23,15 +17,22 @@ pub enum TaskKind {
     Event,
 }
 
-/// What a program asks of a bus, by the block that asked, or a level that it stored to an output.
+impl TaskKind {
+    /// The class of what a task of this kind sends once and isn't answered: 2 of an event task, 4 of a cyclic one (profile).
+    pub fn class(self) -> u8
+        ensures { result ≡ task_class self }
+    {
+        match self {
+            TaskKind::Event => 2,
+            TaskKind::Cyclic => 4,
+        }
+    }
+}
+
+/// What a block asks for, by its ports but for the bus.
 #[derive(Clone, Copy, Debug, PartialEq, Eq)]
-pub enum Request {
-    /// The level of an output: 0 off, 1 to 254, 255 no new level.
-    Output {
-        address: Address,
-        level: u8,
-    },
-    /// GEAR_LEVEL: the same, from a block.
+pub enum Command {
+    /// GEAR_LEVEL: a level, 0 off, 1 to 254, 255 no new level.
     GearLevel {
         address: Address,
         level: u8,
@@ -73,7 +74,7 @@ pub enum Request {
     DevScheme {
         address: ShortAddress,
         instance: InstanceNumber,
-        scheme: SchemeNumber,
+        scheme: EventScheme,
     },
     /// DEV_ASK: a query to an instance of a control device.
     DevAsk {
@@ -83,24 +84,81 @@ pub enum Request {
     },
 }
 
+/// What a program asks of a bus: the values of all ports of the block that asks.
+#[derive(Clone, Copy, Debug, PartialEq, Eq)]
+pub struct Request {
+    /// The port BUS.
+    pub bus: BusNumber,
+    /// The other ports.
+    pub command: Command,
+}
+
+/// No new level for all control gear of bus 0, which fills the unused places of a collection of fixed capacity.
+impl Default for Request {
+    ghost use Rattle.daliframe.specs.declared.addressing.Address.TheVariants.{Broadcast};
+    ghost use Rattle.gearcmd.specs.declared.requests.Command.TheVariants.{GearLevel};
+
+    ghost is_default = { λ r. r ≡ record { bus = 0; command = GearLevel Broadcast 255 } };
+
+    fn default() -> Self {
+        Request {
+            bus: BusNumber::default(),
+            command: Command::GearLevel {
+                address: Address::Broadcast,
+                level: 255,
+            },
+        }
+    }
+}
+
+/// Whose answer a request brings.
+#[derive(Clone, Copy, Debug, PartialEq, Eq)]
+pub enum Answerer {
+    /// The control gear of this short address.
+    Gear(ShortAddress),
+    /// This instance of the control device of this short address.
+    Instance {
+        address: ShortAddress,
+        instance: InstanceNumber,
+    },
+}
+
 impl Request {
     /// The class of a request from a task of this kind, 2 to 5, which is also its first frame's priority: 3 for what is
     /// sent twice, 5 for queries and memory reads, else 2 from an event task and 4 from a cyclic one (profile).
     pub fn class(&self, task: TaskKind) -> u8
-        ensures { result ≡ class_of self.now task }
+        ensures value { result ≡ class_of self.now.command task }
+
+        // Classes 3 and 5 don't depend on the kind of task; 2 comes from event tasks alone, and 4 from cyclic ones.
+        ensures same { (result ≡ 3) ⊎ (result ≡ 5) → (other : Kind) → class_of self.now.command other ≡ result }
+        ensures from_event { result ≡ 2 → task ≡ TaskKind.Event }
+        ensures from_cyclic { result ≡ 4 → task ≡ TaskKind.Cyclic }
+        ensures range { (2 ≤ result) × (result ≤ 5) }
     {
-        match self {
-            Request::GearSet { .. }
-            | Request::GearPair { .. }
-            | Request::DevDo { .. }
-            | Request::DevScheme { .. } => 3,
-            Request::GearAsk { .. } | Request::GearRead { .. } | Request::DevAsk { .. } => 5,
-            Request::Output { .. } | Request::GearLevel { .. } | Request::GearDo { .. } => {
-                match task {
-                    TaskKind::Event => 2,
-                    TaskKind::Cyclic => 4,
-                }
+        match self.command {
+            Command::GearSet { .. }
+            | Command::GearPair { .. }
+            | Command::DevDo { .. }
+            | Command::DevScheme { .. } => 3,
+            Command::GearAsk { .. } | Command::GearRead { .. } | Command::DevAsk { .. } => 5,
+            Command::GearLevel { .. } | Command::GearDo { .. } => task.class(),
+        }
+    }
+
+    /// Whose answer the request brings, where it is a query or a memory read.
+    pub fn asked(&self) -> Option<Answerer>
+        ensures { result ≡ answerer_of self.now.command }
+    {
+        match self.command {
+            Command::GearAsk { address, .. } | Command::GearRead { address, .. } => {
+                Some(Answerer::Gear(address))
             }
+            Command::DevAsk {
+                address,
+                instance,
+                ..
+            } => Some(Answerer::Instance { address, instance }),
+            _ => None,
         }
     }
 }

@@ -5,7 +5,7 @@ use Rattle.transact.specs.declared.marks.Mark.{Mark}
 use Rattle.transact.specs.declared.marks.Mark.TheVariants.{Lost}
 use Rattle.transact.specs.declared.marks.Sent.{Sent}
 use Rattle.transact.specs.declared.marks.Outcome.{Outcome}
-use Rattle.transact.specs.FrameLists.{FrameList}
+use Rattle.gearcmd.specs.FrameLists.{FrameList}
 use Rattle.transact.specs.Marks.{IsBroken, outcome_of}
 use Rattle.transact.specs.Attempts.{Attempt, IsAttempt, IsReport, ReportParts, Spells, most_retries, marks_of, all_marks, all_sent, last_mark}
 

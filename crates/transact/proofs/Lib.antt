@@ -1,3 +1,2 @@
-pub mod Spellings
 pub mod AttemptLemmas
 pub mod ReadingLemmas

@@ -8,9 +8,9 @@ use Rattle.transact.specs.declared.marks.Mark.{Mark}
 use Rattle.transact.specs.declared.marks.Mark.TheVariants.{Quiet, Lost}
 use Rattle.transact.specs.declared.marks.Sent.{Sent}
 use Rattle.transact.specs.declared.marks.Outcome.{Outcome}
-use Rattle.transact.specs.FrameLists.{FrameList}
+use Rattle.gearcmd.specs.FrameLists.{FrameList}
 use Rattle.transact.specs.Marks.{outcome_of}
-use Rattle.transact.specs.Attempts.{Spells, Attempt, IsAttempt, IsReport, marks_of, all_marks, sent_with, all_sent, last_mark}
+use Rattle.transact.specs.Attempts.{most_retries, Spells, Attempt, IsAttempt, IsReport, marks_of, all_marks, sent_with, all_sent, last_mark}
 use Rattle.transact.specs.Readings.{EndsAt, IsRead, ReadsNone, HasNoAttempt}
 use Rattle.transact.proofs.AttemptLemmas.{same_attempt}
 
@@ -36,12 +36,12 @@ reads_none list retries marks none (a ∷ more) h e =
 
 -- an attempt that is the last, with nothing behind it
 pub reads_last : (list : FrameList) (retries : ℕ) (marks : List Mark) (before : List Sent) (a : Attempt) → IsAttempt (length list.frames) a
-    → (a.last ≡ Lost → retries ≡ 0) → marks ≡ marks_of a ++ [] → IsRead list retries marks before (before ++ sent_with list.frames list.first (marks_of a)) a.last
+    → (a.last ≡ Lost → retries ≡ 0) → marks ≡ marks_of a ++ [] → IsRead list retries marks before (before ++ sent_with list.frames list.first_priority (marks_of a)) a.last
 reads_last list retries marks before a is settled e = record {
   attempts = a ∷ [];
   legal = (is, settled);
   spelled = e;
-  sent = ap (λ xs. before ++ xs) (sym (append-nil (sent_with list.frames list.first (marks_of a))));
+  sent = ap (λ xs. before ++ xs) (sym (append-nil (sent_with list.frames list.first_priority (marks_of a))));
   ends = refl;
 }
 
@@ -60,7 +60,7 @@ reads_too_much list (suc retries) marks rest a is settled e more (b ∷ c ∷ ot
 -- an attempt that was lost, and then a report with one retry fewer
 pub reads_retried : (list : FrameList) (retries : ℕ) (marks rest : List Mark) (before middle after : List Sent) (last : Mark) (a : Attempt)
     → IsAttempt (length list.frames) a → a.last ≡ Lost → marks ≡ marks_of a ++ rest
-    → middle ≡ before ++ sent_with list.frames list.first (marks_of a)
+    → middle ≡ before ++ sent_with list.frames list.first_priority (marks_of a)
     → IsRead list retries rest middle after last → IsRead list (suc retries) marks before after last
 reads_retried list retries marks rest before middle after last a is lost e sends r =
     behind r.attempts r.legal r.spelled r.sent r.ends
@@ -73,7 +73,7 @@ reads_retried list retries marks rest before middle after last a is lost e sends
       legal = (is, lost, h);
       spelled = e ∙ ap (λ xs. marks_of a ++ xs) spelled;
       sent = sent ∙ ap (λ xs. xs ++ all_sent list (b ∷ more)) sends
-          ∙ regroup before (sent_with list.frames list.first (marks_of a)) (all_sent list (b ∷ more));
+          ∙ regroup before (sent_with list.frames list.first_priority (marks_of a)) (all_sent list (b ∷ more));
       ends = ends;
     }
 
@@ -91,7 +91,7 @@ reads_none_retried list retries marks rest a is lost e none (b ∷ c ∷ more) h
 -- ---- a step of reading: the attempt at the front of the marks, what it sent, and the marks behind it
 pub record Step (list : FrameList) (marks : List Mark) (end : ℕ) (frames : List Frame) (first : ℕ) (front rest : List Mark) (before middle : List Sent) : Type 0 where
   pub frames_are : frames ≡ list.frames
-  pub first_is : first ≡ list.first
+  pub first_is : first ≡ list.first_priority
   pub ends : EndsAt (length frames) marks end
   pub front_is : front ≡ take (end + 1) marks
   pub rest_is : rest ≡ drop (end + 1) marks
@@ -100,7 +100,7 @@ pub record Step (list : FrameList) (marks : List Mark) (end : ℕ) (frames : Lis
 record Taken (list : FrameList) (marks rest : List Mark) (before middle : List Sent) (a : Attempt) : Type 0 where
   pub is : IsAttempt (length list.frames) a
   pub parts : marks ≡ marks_of a ++ rest
-  pub sends : middle ≡ before ++ sent_with list.frames list.first (marks_of a)
+  pub sends : middle ≡ before ++ sent_with list.frames list.first_priority (marks_of a)
 
 attempt_at : List Mark → ℕ → Attempt
 attempt_at marks end = record { before = take end marks; last = slice_index_or marks end Quiet }
@@ -169,7 +169,7 @@ filled_at marks e empty = let e' : false ≡ true = e ∙ ap (λ (xs : List Mark
 
 -- what was read from the start is a report
 pub report_of_read : (list kept : FrameList) (marks : List Mark) (before after : List Sent) (final : Mark) (o : Outcome)
-    → IsRead list 2 marks before after final → before ≡ [] → kept ≡ list → o ≡ outcome_of final
+    → IsRead list most_retries marks before after final → before ≡ [] → kept ≡ list → o ≡ outcome_of final
     → Spells kept marks (record { transaction = kept; attempts = after; outcome = o })
 report_of_read list kept marks before after final o r empty same ends = rw same (record {
   attempts = r.attempts;

@@ -1,11 +1,11 @@
 -- The attempts at a transaction, and the reports of them (profile).
-use Rattle.std.specs.Prelude.{◌≡◌, ℕ, zero, suc, ◌+◌, ◌<◌, List, [], ◌∷◌, ◌++◌, length, All}
+use Rattle.std.specs.Prelude.{◌≡◌, ℕ, zero, suc, ◌+◌, ◌-◌, ◌*◌, ◌<◌, List, [], ◌∷◌, ◌++◌, length, All}
 use Rattle.daliframe.specs.declared.forward.Frame.{Frame}
 use Rattle.transact.specs.declared.marks.Mark.{Mark}
 use Rattle.transact.specs.declared.marks.Mark.TheVariants.{Quiet, Lost}
 use Rattle.transact.specs.declared.marks.Sent.{Sent}
 use Rattle.transact.specs.declared.marks.Outcome.{Outcome}
-use Rattle.transact.specs.FrameLists.{FrameList}
+use Rattle.gearcmd.specs.FrameLists.{FrameList, most_frames}
 use Rattle.transact.specs.Marks.{IsBroken, outcome_of}
 
 -- an attempt by the marks of its frames: those before the last, and the last
@@ -29,9 +29,16 @@ IsReport retries count (a ∷ []) = IsAttempt count a × (a.last ≡ Lost → re
 IsReport zero count (a ∷ b ∷ more) = ⊥
 IsReport (suc retries) count (a ∷ b ∷ more) = IsAttempt count a × (a.last ≡ Lost) × IsReport retries count (b ∷ more)
 
--- a transaction is tried three times at most
+-- a transaction is tried three times at most (profile)
+abbrev pub most_attempts : ℕ
+most_attempts = 3
+
+-- so it is tried again twice at most, and so many frames are sent for it at most
 abbrev pub most_retries : ℕ
-most_retries = 2
+most_retries = most_attempts - 1
+
+abbrev pub most_sent : ℕ
+most_sent = most_attempts * most_frames
 
 -- the marks of all attempts, in order
 abbrev pub all_marks : List Attempt → List Mark
@@ -47,7 +54,7 @@ sent_with (f ∷ frames) first (m ∷ marks) = record { frame = f; priority = fi
 -- each attempt sends the whole transaction anew
 abbrev pub all_sent : FrameList → List Attempt → List Sent
 all_sent list [] = []
-all_sent list (a ∷ more) = sent_with list.frames list.first (marks_of a) ++ all_sent list more
+all_sent list (a ∷ more) = sent_with list.frames list.first_priority (marks_of a) ++ all_sent list more
 
 abbrev pub last_mark : List Attempt → Mark
 last_mark [] = Quiet

@@ -1,4 +1,4 @@
-pub mod FrameLists
 pub mod Marks
 pub mod Attempts
 pub mod Readings
+pub mod Printed

@@ -2,7 +2,7 @@
 use Rattle.std.specs.Prelude.{◌≡◌, ℕ, ◌<◌, List, ◌++◌, length, slice_index_or, take}
 use Rattle.transact.specs.declared.marks.Mark.{Mark}
 use Rattle.transact.specs.declared.marks.Sent.{Sent}
-use Rattle.transact.specs.FrameLists.{FrameList}
+use Rattle.gearcmd.specs.FrameLists.{FrameList}
 use Rattle.transact.specs.Attempts.{Attempt, IsAttempt, IsReport, marks_of, all_marks, all_sent, last_mark}
 
 -- the marks up to the one at end, that one included, are those of an attempt at count frames

@@ -1,8 +1,7 @@
 //! Transactions on a DALI-2 bus. A request of a program and the kind of its task go in; the frames that it spells come
 //! out, with their priorities, as a transaction that is legal by its type. The marks that its frames got go in; a report
-//! of its attempts comes out exactly where they spell one, with its outcome. It meets the legal lists of frames of
-//! `specs/FrameLists.antt` and the attempts and reports of `specs/Attempts.antt` (IEC 62386-101 and -102, and profile for
-//! priorities and retries).
+//! of its attempts comes out exactly where they spell one, with its outcome. The definition to read first is `Spells` in
+//! `specs/Attempts.antt` (IEC 62386-101 and -102, and profile for priorities and retries).
 #![tactic(auto)]
 
 mod marks;
@@ -13,7 +12,6 @@ mod reports;
 mod tests;
 mod transactions;
 
-pub use gearcmd::TaskKind;
 pub use marks::{Mark, Outcome, Reply, Sent};
-pub use reports::{MOST_RETRIES, Report};
+pub use reports::{MOST_ATTEMPTS, MOST_RETRIES, MOST_SENT, Report};
 pub use transactions::Transaction;

@@ -3,6 +3,7 @@ ghost use Rattle.std.specs.Prelude.{◌≡◌, ◌<◌, ◌↔◌, IsTrue};
 ghost use Rattle.transact.specs.Marks.{IsBroken, outcome_of, mark_of};
 
 use daliframe::Frame;
+use std::fmt;
 
 /// What the bus answered to a frame.
 #[derive(Clone, Copy, Debug, PartialEq, Eq)]
@@ -52,6 +53,22 @@ impl Mark {
     }
 }
 
+impl fmt::Display for Reply {
+    ghost use Rattle.std.specs.Prelude.{Some};
+    ghost use Rattle.transact.specs.Printed.{printed_reply};
+
+    ghost output = { λ reply. Some (printed_reply reply) };
+
+    fn fmt<W: fmt::Write>(&self, f: &mut fmt::Formatter<W>) -> fmt::Result {
+        match self {
+            Reply::Quiet => write!(f, "quiet"),
+            Reply::Answer(byte) => write!(f, "answer {byte}"),
+            Reply::Damaged => write!(f, "damaged"),
+            Reply::Lost => write!(f, "lost"),
+        }
+    }
+}
+
 impl From<Reply> for Mark {
     ghost from_gives = { λ reply mark. mark ≡ mark_of reply };
 
@@ -69,8 +86,9 @@ impl From<Reply> for Mark {
 #[derive(Clone, Copy, Debug, Default, PartialEq, Eq)]
 pub struct Sent {
     pub frame: Frame,
-    /// 1 to 5, 1 first.
+    /// 1 to 5, of which 1 is the highest (IEC 62386-101, clause 9).
     pub priority: u8,
+    /// What became of it.
     pub mark: Mark,
 }
 
@@ -96,6 +114,21 @@ impl Outcome {
             Mark::Damaged => Outcome::Done(Reply::Damaged),
             Mark::Lost => Outcome::GaveUp,
             Mark::Failed => Outcome::Failed,
+        }
+    }
+}
+
+impl fmt::Display for Outcome {
+    ghost use Rattle.std.specs.Prelude.{Some};
+    ghost use Rattle.transact.specs.Printed.{printed_outcome};
+
+    ghost output = { λ outcome. Some (printed_outcome outcome) };
+
+    fn fmt<W: fmt::Write>(&self, f: &mut fmt::Formatter<W>) -> fmt::Result {
+        match self {
+            Outcome::Done(reply) => write!(f, "{reply}"),
+            Outcome::GaveUp => write!(f, "gave up"),
+            Outcome::Failed => write!(f, "failed"),
         }
     }
 }

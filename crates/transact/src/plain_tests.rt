@@ -1,9 +1,9 @@
 //! Every kind of request by sums, and every short list of marks by all its splits.
-use crate::{Mark, Outcome, Reply, Report, TaskKind, Transaction};
-use daliframe::{Address, Frame, InstanceNumber, ShortAddress};
+use crate::{Mark, Outcome, Reply, Report, Transaction};
+use daliframe::{Address, BusNumber, EventScheme, Frame, InstanceNumber, ShortAddress};
 use gearcmd::{
-    DevAskCommand, DevDoCommand, GearAskCommand, GearDoCommand, GearPairCommand, GearSetCommand,
-    Request, SchemeNumber,
+    Command, DevAskCommand, DevDoCommand, GearAskCommand, GearDoCommand, GearPairCommand,
+    GearSetCommand, Request, TaskKind,
 };
 use std::test::Fail;
 
@@ -17,21 +17,20 @@ fn bits(frame: &Frame) -> Bits {
     }
 }
 
-/// The request of a kind, 0 to 9 in the order of the blocks, where its parts are in range: a is its address, c its command,
-/// bank or event scheme, d its level, value, offset or instance.
-fn request_of(kind: u8, a: u8, c: u8, d: u8) -> Option<Request> {
+/// What a block of a kind asks, 1 to 9 in the order of the blocks, where its parts are in range: a is its address, c its
+/// command, bank or event scheme, d its level, value, offset or instance.
+fn command_of(kind: u8, a: u8, c: u8, d: u8) -> Option<Command> {
     let address = Address::from_number(a)?;
     if kind < 5 {
         return Some(match kind {
-            0 => Request::Output { address, level: d },
-            1 => Request::GearLevel { address, level: d },
+            1 => Command::GearLevel { address, level: d },
             2 => {
                 let command = GearDoCommand::new(c)?;
-                Request::GearDo { address, command }
+                Command::GearDo { address, command }
             }
             3 => {
                 let (command, value) = (GearSetCommand::new(c)?, d);
-                Request::GearSet {
+                Command::GearSet {
                     address,
                     command,
                     value,
@@ -39,18 +38,18 @@ fn request_of(kind: u8, a: u8, c: u8, d: u8) -> Option<Request> {
             }
             _ => {
                 let command = GearPairCommand::new(c)?;
-                Request::GearPair { address, command }
+                Command::GearPair { address, command }
             }
         });
     }
     let address = ShortAddress::new(a)?;
     if kind == 5 {
         let command = GearAskCommand::new(c)?;
-        return Some(Request::GearAsk { address, command });
+        return Some(Command::GearAsk { address, command });
     }
     if kind == 6 {
         let (bank, offset) = (c, d);
-        return Some(Request::GearRead {
+        return Some(Command::GearRead {
             address,
             bank,
             offset,
@@ -60,15 +59,15 @@ fn request_of(kind: u8, a: u8, c: u8, d: u8) -> Option<Request> {
     Some(match kind {
         7 => {
             let command = DevDoCommand::new(c)?;
-            Request::DevDo {
+            Command::DevDo {
                 address,
                 instance,
                 command,
             }
         }
         8 => {
-            let scheme = SchemeNumber::new(c)?;
-            Request::DevScheme {
+            let scheme = EventScheme::new(c)?;
+            Command::DevScheme {
                 address,
                 instance,
                 scheme,
@@ -76,13 +75,25 @@ fn request_of(kind: u8, a: u8, c: u8, d: u8) -> Option<Request> {
         }
         _ => {
             let command = DevAskCommand::new(c)?;
-            Request::DevAsk {
+            Command::DevAsk {
                 address,
                 instance,
                 command,
             }
         }
     })
+}
+
+/// The transaction of a level, kind 0, or of what a block asks.
+fn transaction_of(kind: u8, a: u8, c: u8, d: u8, task: TaskKind) -> Option<Transaction> {
+    if kind == 0 {
+        return Some(Transaction::of_level(Address::from_number(a)?, d, task));
+    }
+    let request = Request {
+        bus: BusNumber::new(15)?,
+        command: command_of(kind, a, c, d)?,
+    };
+    Some(Transaction::of(&request, task))
 }
 
 fn plain_opcode(kind: u8, c: u8) -> u16 {
@@ -142,23 +153,22 @@ fn every_kind_of_request(rt: HostRuntime) {
         for a in [0, 1, 5, 31, 32, 62, 63, 64, 70, 79, 80, 81] {
             for c in 0..52 {
                 for d in [0, 1, 2, 30, 31, 32, 100, 254, 255] {
-                    if let Some(request) = request_of(kind, a, c, d) {
-                        for task in [TaskKind::Event, TaskKind::Cyclic] {
-                            let transaction = Transaction::of(&request, task);
+                    for task in [TaskKind::Event, TaskKind::Cyclic] {
+                        if let Some(transaction) = transaction_of(kind, a, c, d, task) {
                             let frames = plain_frames(kind, a, c, d);
-                            assert_eq!(rt; transaction.first(), plain_class(kind, task));
+                            assert_eq!(rt; transaction.first_priority(), plain_class(kind, task));
                             assert!(rt;
                                 has_frames(&transaction, &frames),
                                 "kind {kind} for {a} {c} {d}"
                             );
+                            requests = requests.saturating_add(1);
                         }
-                        requests = requests.saturating_add(1);
                     }
                 }
             }
         }
     }
-    assert_eq!(rt; requests, 26_432);
+    assert_eq!(rt; requests, 52_864);
 }
 
 fn has_frames(transaction: &Transaction, frames: &[Option<Bits>]) -> bool {
@@ -222,7 +232,7 @@ fn says(report: &Report, transaction: &Transaction, marks: &[Mark], split: (usiz
         };
         let frame = transaction.frames().get(place - start).copied();
         let priority = if place == start {
-            transaction.first()
+            transaction.first_priority()
         } else {
             1
         };
@@ -265,8 +275,7 @@ fn marks_of(code: u32) -> [Mark; 9] {
 fn every_list_of_marks(rt: HostRuntime) -> Result<(), Fail> {
     let mut reports = 0u32;
     for kind in [1, 4, 3] {
-        let request = request_of(kind, 5, 9, 100).ok_or("a request")?;
-        let transaction = Transaction::of(&request, TaskKind::Event);
+        let transaction = transaction_of(kind, 5, 9, 100, TaskKind::Event).ok_or("a request")?;
         for count in 0..=9 {
             for code in 0..1u32 << (2 * count) {
                 let nine = marks_of(code);

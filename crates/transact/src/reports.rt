@@ -1,22 +1,31 @@
 //! Reports: what became of a transaction, attempt by attempt.
 ghost use Rattle.std.specs.Prelude.{◌≡◌, ◌+◌, ◌*◌, ◌<◌, ◌≤◌, ◌++◌, length, MatchOption};
 ghost use Rattle.arrayvec.specs.ArrayVec.{array_vec_len};
-ghost use Rattle.transact.specs.Attempts.{sent_with, ReportParts, Spells, SpellsNone, IsReportParts};
+ghost use Rattle.gearcmd.specs.FrameLists.{most_frames};
+ghost use Rattle.transact.specs.Attempts.{sent_with, most_sent, ReportParts, Spells, SpellsNone, IsReportParts};
 ghost use Rattle.transact.specs.Readings.{EndsAt, HasNoAttempt, IsRead, ReadsNone};
 
 use crate::{Mark, Outcome, Sent, Transaction};
 use arrayvec::ArrayVec;
 use daliframe::Frame;
+use gearcmd::MOST_FRAMES;
+use std::alloc::AllocError;
 use std::marker::Model;
 
-/// A transaction is tried again at most so often (profile).
-pub const MOST_RETRIES: u8 = 2;
+/// A transaction is tried at most so often (profile).
+pub const MOST_ATTEMPTS: u8 = 3;
+
+/// A transaction is tried again at most so often.
+pub const MOST_RETRIES: u8 = MOST_ATTEMPTS - 1;
+
+/// At most so many frames are sent for a transaction, in all of its attempts.
+pub const MOST_SENT: usize = MOST_ATTEMPTS as usize * MOST_FRAMES;
 
 /// What became of a transaction: its attempts, one after another, and how it ended.
-#[derive(Debug, Drop)]
+#[derive(Debug, Drop, PartialEq, Eq)]
 pub struct Report {
     transaction: Transaction,
-    attempts: ArrayVec<Sent, 9>,
+    attempts: ArrayVec<Sent, MOST_SENT>,
     outcome: Outcome,
 }
 
@@ -28,6 +37,29 @@ impl Model for Report {
     ghost view = { λ r. record { transaction = r.transaction; attempts = r.attempts.items; outcome = r.outcome } };
 
     ghost invariant = { λ r. IsReportParts (record { transaction = r.transaction; attempts = r.attempts.items; outcome = r.outcome }) };
+
+    ghost inverse = { λ r. record { transaction = r.transaction; attempts = record { items = r.attempts }; outcome = r.outcome } };
+}
+
+/// It takes no memory, and never fails.
+impl Clone for Report {
+    ghost use Rattle.std.specs.Prelude.{⊤, ◌≡◌};
+
+    ghost is_clone = { λ report copy. copy ≡ report };
+
+    ghost is_infallible = { λ _. ⊤ };
+
+    fn clone(&self) -> Result<Self, AllocError> {
+        let mut attempts = ArrayVec::new();
+        attempts
+            .try_extend_from_slice(self.attempts.as_slice())
+            .unwrap();
+        Ok(Report {
+            transaction: self.transaction.copied(),
+            attempts,
+            outcome: self.outcome,
+        })
+    }
 }
 
 impl Report {
@@ -77,16 +109,16 @@ fn read_attempts(
     transaction: &Transaction,
     retries: u8,
     marks: &[Mark],
-    sent: &mut ArrayVec<Sent, 9>,
+    sent: &mut ArrayVec<Sent, MOST_SENT>,
 ) -> Option<Mark>
-    requires { array_vec_len sent.old + 3 * retries + 3 ≤ 9 }
+    requires { array_vec_len sent.old + most_frames * (retries + 1) ≤ most_sent }
     ensures { MatchOption result (ReadsNone transaction.now retries marks.now)
         (λ last. IsRead transaction.now retries marks.now sent.old.items sent.new.items last) }
 {
     let frames = transaction.frames();
     let end = attempt_end(frames.len(), marks)?;
     let (attempt, rest) = marks.split_at(end + 1);
-    push_attempt(frames, transaction.first(), attempt, sent);
+    push_attempt(frames, transaction.first_priority(), attempt, sent);
     if marks[end].is_retried(retries) {
         return read_attempts(transaction, retries - 1, rest, sent);
     }
@@ -110,13 +142,18 @@ fn attempt_end(count: usize, marks: &[Mark]) -> Option<usize>
     None
 }
 
-/// Appends the front of `frames` that has these marks.
-fn push_attempt(frames: &[Frame], first: u8, marks: &[Mark], sent: &mut ArrayVec<Sent, 9>)
+/// Appends the front of `frames` that has these marks: its first frame with this priority, each later one with 1.
+fn push_attempt(
+    frames: &[Frame],
+    first_priority: u8,
+    marks: &[Mark],
+    sent: &mut ArrayVec<Sent, MOST_SENT>,
+)
     requires front { length marks.now ≤ length frames.now }
-    requires room { array_vec_len sent.old + length marks.now ≤ 9 }
-    ensures { sent.new.items ≡ sent.old.items ++ sent_with frames.now first marks.now }
+    requires room { array_vec_len sent.old + length marks.now ≤ most_sent }
+    ensures { sent.new.items ≡ sent.old.items ++ sent_with frames.now first_priority marks.now }
 {
-    let mut priority = first;
+    let mut priority = first_priority;
     for (i, mark) in marks.iter().enumerate() {
         let frame = frames[i];
         sent.push(Sent {

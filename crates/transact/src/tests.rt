@@ -1,16 +1,16 @@
 //! Worked transactions, and reports of them.
-use crate::{Mark, Outcome, Reply, Report, TaskKind, Transaction};
-use daliframe::{Address, InstanceNumber, ShortAddress};
-use gearcmd::{GearSetCommand, Request, SchemeNumber};
+use crate::{Mark, Outcome, Reply, Report, Transaction};
+use daliframe::{Address, BusNumber, EventScheme, InstanceNumber, ShortAddress};
+use gearcmd::{Command, GearSetCommand, Request, TaskKind};
 use std::alloc::{AllocError, Global};
 use std::test::Fail;
 
-/// The frames with their priorities, each followed by a blank.
+/// The first priority, and the frames, each followed by a blank.
 fn frames(alloc: Global, transaction: &Transaction) -> Result<String, AllocError> {
-    let mut text = String::new(alloc);
-    for (place, frame) in transaction.frames().iter().enumerate() {
-        let priority = transaction.priority(place);
-        let part = format!(in alloc; "{frame}/{priority} ")?;
+    let priority = transaction.first_priority();
+    let mut text = format!(in alloc; "{priority} ")?;
+    for frame in transaction.frames() {
+        let part = format!(in alloc; "{frame} ")?;
         text.push_str(part.as_str())?;
     }
     Ok(text)
@@ -28,37 +28,44 @@ fn sent(alloc: Global, report: &Report) -> Result<String, AllocError> {
     Ok(text)
 }
 
+fn on_bus_0(command: Command) -> Request {
+    Request {
+        bus: BusNumber::default(),
+        command,
+    }
+}
+
 /// SET SCENE 2 of short address 5, to level 100.
 fn scene() -> Option<Request> {
-    Some(Request::GearSet {
+    Some(on_bus_0(Command::GearSet {
         address: Address::from_number(5)?,
         command: GearSetCommand::new(9)?,
         value: 100,
-    })
+    }))
 }
 
 fn memory_byte() -> Option<Request> {
-    Some(Request::GearRead {
+    Some(on_bus_0(Command::GearRead {
         address: ShortAddress::new(63)?,
         bank: 0,
         offset: 3,
-    })
+    }))
 }
 
 fn event_scheme() -> Option<Request> {
-    Some(Request::DevScheme {
+    Some(on_bus_0(Command::DevScheme {
         address: ShortAddress::new(5)?,
         instance: InstanceNumber::new(2)?,
-        scheme: SchemeNumber::new(2)?,
-    })
+        scheme: EventScheme::new(2)?,
+    }))
 }
 
 #[test]
 fn worked_transactions(rt: HostRuntime) -> Result<(), Fail> {
     for (request, text) in [
-        (scene(), "A364/3 0B42/1 0B42/1 "),
-        (memory_byte(), "C300/5 A303/1 7FC5/1 "),
-        (event_scheme(), "C13002/3 0B0267/1 0B0267/1 "),
+        (scene(), "3 A364 0B42 0B42 "),
+        (memory_byte(), "5 C300 A303 7FC5 "),
+        (event_scheme(), "3 C13002 0B0267 0B0267 "),
     ] {
         let request = request.ok_or("a request")?;
         let transaction = Transaction::of(&request, TaskKind::Event);
@@ -80,10 +87,12 @@ fn reports(rt: HostRuntime) -> Result<(), Fail> {
         Mark::Quiet,
     ];
     let report = Report::of(&transaction, &lost_once).ok_or("lost once")?;
+    let copy = report.clone()?;
+    assert!(rt; copy == report && *copy.transaction() == transaction);
     let text = sent(rt.alloc(), &report)?;
     assert_eq!(rt; text.as_str(), "A364/3 0B42/1 0B42/1 A364/3 0B42/1 0B42/1 ");
     assert!(rt; report.outcome() == Outcome::Done(Reply::Quiet));
-    assert_eq!(rt; report.transaction().first(), 3);
+    assert_eq!(rt; report.transaction().first_priority(), 3);
     let report = Report::of(&transaction, &[Mark::Lost; 3]).ok_or("lost three times")?;
     let text = sent(rt.alloc(), &report)?;
     assert_eq!(rt; text.as_str(), "A364/3 A364/3 A364/3 ");
@@ -94,5 +103,30 @@ fn reports(rt: HostRuntime) -> Result<(), Fail> {
     assert!(rt; Report::of(&transaction, &[Mark::Lost; 4]).is_none());
     assert!(rt; Report::of(&transaction, &lost_once[..3]).is_none());
     assert!(rt; Mark::from(Reply::Answer(7)) == Mark::Answer(7));
+    Ok(())
+}
+
+#[test]
+fn printed_outcomes(rt: HostRuntime) -> Result<(), Fail> {
+    for (outcome, text) in [
+        (Outcome::Done(Reply::Quiet), "quiet"),
+        (Outcome::Done(Reply::Answer(128)), "answer 128"),
+        (Outcome::Done(Reply::Damaged), "damaged"),
+        (Outcome::GaveUp, "gave up"),
+        (Outcome::Failed, "failed"),
+    ] {
+        let printed = outcome.to_string(rt.alloc())?;
+        assert_eq!(rt; printed.as_str(), text);
+    }
+    Ok(())
+}
+
+#[test]
+fn told_apart(rt: HostRuntime) -> Result<(), Fail> {
+    let handed_out = Transaction::of(&scene().ok_or("a request")?, TaskKind::Cyclic);
+    let other = Transaction::of(&memory_byte().ok_or("a request")?, TaskKind::Cyclic);
+    let copy = handed_out.clone()?;
+    assert!(rt; copy == handed_out);
+    assert!(rt; copy != other);
     Ok(())
 }

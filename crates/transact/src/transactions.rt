@@ -1,51 +1,82 @@
-//! Transactions: the frames that a request spells.
+//! Transactions: the frames that a request spells, or a level.
 ghost use Rattle.std.specs.Prelude.{◌≡◌, ◌∷◌, []};
-ghost use Rattle.gearcmd.specs.Requests.{frames_of, class_of, IsRequest};
-ghost use Rattle.transact.specs.FrameLists.{IsLegal, priority_at};
+ghost use Rattle.daliframe.specs.declared.forward.Frame.TheVariants as frame;
+ghost use Rattle.daliframe.specs.Frames.{level_frame};
+ghost use Rattle.gearcmd.specs.Requests.{frames_of, class_of, task_class, IsRequest};
+ghost use Rattle.gearcmd.specs.FrameLists.{IsLegal};
 
 use arrayvec::ArrayVec;
-use daliframe::Frame::{Forward16, Forward24};
-use daliframe::{Address, Frame, Frame16, Frame24};
-use gearcmd::{READ_MEMORY_LOCATION, Request, SET_EVENT_SCHEME, TaskKind};
+use daliframe::{Address, Frame, Frame16};
+use gearcmd::{MOST_FRAMES, Request, TaskKind};
+use std::alloc::AllocError;
 use std::marker::Model;
 
 /// One to three frames that are sent one after another, with no other frame of this controller between.
-#[derive(Debug, Drop)]
+#[derive(Debug, Drop, PartialEq, Eq)]
 pub struct Transaction {
-    frames: ArrayVec<Frame, 3>,
-    first: u8,
+    frames: ArrayVec<Frame, MOST_FRAMES>,
+    first_priority: u8,
 }
 
 impl Model for Transaction {
-    ghost use Rattle.transact.specs.FrameLists.{FrameList, IsLegal};
+    ghost use Rattle.gearcmd.specs.FrameLists.{FrameList, IsLegal};
 
     ghost Value = { FrameList };
 
-    ghost view = { λ t. record { frames = t.frames.items; first = t.first } };
+    ghost view = { λ t. record { frames = t.frames.items; first_priority = t.first_priority } };
 
-    ghost invariant = { λ t. IsLegal t.frames.items t.first };
+    ghost invariant = { λ t. IsLegal t.frames.items t.first_priority };
+
+    ghost inverse = { λ t. record { frames = record { items = t.frames }; first_priority = t.first_priority } };
+}
+
+/// It takes no memory, and never fails.
+impl Clone for Transaction {
+    ghost use Rattle.std.specs.Prelude.{⊤, ◌≡◌};
+
+    ghost is_clone = { λ transaction copy. copy ≡ transaction };
+
+    ghost is_infallible = { λ _. ⊤ };
+
+    fn clone(&self) -> Result<Self, AllocError> {
+        Ok(self.copied())
+    }
 }
 
 impl Transaction {
     /// The frames that a request from a task of this kind spells.
     pub fn of(request: &Request, task: TaskKind) -> Self
-        ensures frames { result.frames ≡ frames_of request.now }
-        ensures first { result.first ≡ class_of request.now task }
-        ensures legal { IsLegal result.frames result.first }
+        ensures frames { result.frames ≡ frames_of request.now.command }
+        ensures first_priority { result.first_priority ≡ class_of request.now.command task }
+        ensures legal { IsLegal result.frames result.first_priority }
 
         // The request is within the ranges of its ports, since its type keeps it there.
         ensures in_range { IsRequest request.now }
     {
         Transaction {
-            frames: spelled(*request),
-            first: request.class(task),
+            frames: request.frames(),
+            first_priority: request.class(task),
+        }
+    }
+
+    /// The level of an output that a task of this kind stored: 0 off, 1 to 254, 255 no new level.
+    pub fn of_level(address: Address, level: u8, task: TaskKind) -> Self
+        ensures frames { result.frames ≡ frame.Forward16 (level_frame address level) ∷ [] }
+        ensures first_priority { result.first_priority ≡ task_class task }
+        ensures legal { IsLegal result.frames result.first_priority }
+    {
+        let mut frames = ArrayVec::new();
+        frames.push(Frame::Forward16(Frame16::level(address, level)));
+        Transaction {
+            frames,
+            first_priority: task.class(),
         }
     }
 
     /// The frames, first to last.
     pub fn frames(&self) -> &[Frame]
         ensures value { result.now ≡ self.now.frames }
-        ensures legal { IsLegal self.now.frames self.now.first }
+        ensures legal { IsLegal self.now.frames self.now.first_priority }
     {
         self.frames.as_slice()
     }
@@ -60,106 +91,14 @@ impl Transaction {
             .unwrap();
         Transaction {
             frames,
-            first: self.first,
+            first_priority: self.first_priority,
         }
     }
 
-    /// The priority of the first frame, 2 to 5.
-    pub fn first(&self) -> u8
-        ensures { result ≡ self.now.first }
+    /// The priority of the first frame, 2 to 5. Each later one has priority 1, the highest (IEC 62386-101, clause 9; profile).
+    pub fn first_priority(&self) -> u8
+        ensures { result ≡ self.now.first_priority }
     {
-        self.first
-    }
-
-    /// The priority of the frame at this place: the first has its own, each later one has 1, the highest.
-    pub fn priority(&self, place: usize) -> u8
-        ensures { result ≡ priority_at self.now place }
-    {
-        if place == 0 { self.first } else { 1 }
-    }
-}
-
-fn one(frame: Frame) -> ArrayVec<Frame, 3>
-    ensures { result.items ≡ frame ∷ [] }
-{
-    let mut frames = ArrayVec::new();
-    frames.push(frame);
-    frames
-}
-
-fn pair(frame: &Frame) -> ArrayVec<Frame, 3>
-    ensures { result.items ≡ frame.now ∷ frame.now ∷ [] }
-{
-    let mut frames = one(*frame);
-    frames.push(*frame);
-    frames
-}
-
-/// A frame that sets DTR0, then twice the one that takes it.
-fn after_dtr0(dtr0: Frame, frame: &Frame) -> ArrayVec<Frame, 3>
-    ensures { result.items ≡ dtr0 ∷ frame.now ∷ frame.now ∷ [] }
-{
-    let mut frames = one(dtr0);
-    frames.push(*frame);
-    frames.push(*frame);
-    frames
-}
-
-/// The frames of a request.
-fn spelled(request: Request) -> ArrayVec<Frame, 3>
-    ensures frames { result.items ≡ frames_of request }
-    ensures legal { IsRequest request }
-{
-    match request {
-        Request::Output { address, level } | Request::GearLevel { address, level } => {
-            one(Forward16(Frame16::level(address, level)))
-        }
-        Request::GearDo { address, command } => {
-            one(Forward16(Frame16::command(address, command.opcode())))
-        }
-        Request::GearSet {
-            address,
-            command,
-            value,
-        } => {
-            let frame = Forward16(Frame16::command(address, command.opcode()));
-            after_dtr0(Forward16(Frame16::dtr0(value)), &frame)
-        }
-        Request::GearPair { address, command } => {
-            pair(&Forward16(Frame16::command(address, command.opcode())))
-        }
-        Request::GearAsk { address, command } => {
-            let address = Address::Short(address);
-            one(Forward16(Frame16::command(address, command.opcode())))
-        }
-        Request::GearRead {
-            address,
-            bank,
-            offset,
-        } => {
-            let mut frames = one(Forward16(Frame16::dtr1(bank)));
-            frames.push(Forward16(Frame16::dtr0(offset)));
-            let address = Address::Short(address);
-            frames.push(Forward16(Frame16::command(address, READ_MEMORY_LOCATION)));
-            frames
-        }
-        Request::DevDo {
-            address,
-            instance,
-            command,
-        } => pair(&Forward24(Frame24::command(address, instance, command.opcode()))),
-        Request::DevScheme {
-            address,
-            instance,
-            scheme,
-        } => {
-            let frame = Forward24(Frame24::command(address, instance, SET_EVENT_SCHEME));
-            after_dtr0(Forward24(Frame24::dtr0(scheme.number())), &frame)
-        }
-        Request::DevAsk {
-            address,
-            instance,
-            command,
-        } => one(Forward24(Frame24::command(address, instance, command.opcode()))),
+        self.first_priority
     }
 }

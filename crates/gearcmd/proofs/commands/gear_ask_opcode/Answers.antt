@@ -1,0 +1,16 @@
+use Rattle.std.proofs.Common.{◌≡◌, ◌<◌, slice_index, ap, arith}
+use Rattle.gearcmd.specs.Commands.{gear_ask_opcodes}
+use Rattle.gearcmd.proofs.Tables.{gear_ask_class, gear_ask_rule}
+use Rattle.gearcmd.proofs.commands.gear_ask_opcode.Goals as goal
+
+pub returns-clause-value : goal.returns-clause-value
+unfolding gear_ask_opcodes
+returns-clause-value c =
+    let e : c.from.result ≡ c.args.command = omega arith in ap (λ k. slice_index gear_ask_opcodes k) e
+
+pub returns-clause-class : goal.returns-clause-class
+unfolding gear_ask_opcodes
+returns-clause-class c = let lt : c.from.result < 43 = omega arith in gear_ask_class c.from.result lt
+
+pub returns-clause-all_of_class : goal.returns-clause-all_of_class
+returns-clause-all_of_class c = gear_ask_rule
