@@ -1,25 +1,8 @@
 //! Codes.
 
-ghost use Rattle.std.specs.Prelude.{◌≡◌};
-
 use crate::instruction::Instruction;
 use iltypes::{IlType, Value};
 use std::marker::Model;
-
-/// The greatest number of buses.
-pub const MAX_BUSES: u8 = 16;
-
-/// The greatest number of instructions.
-pub const MAX_INSTRUCTIONS: usize = 65_536;
-
-/// The greatest number of constants.
-pub const MAX_CONSTANTS: usize = 4096;
-
-/// The greatest number of slots.
-pub const MAX_SLOTS: usize = 4096;
-
-/// The greatest number of starts.
-pub const MAX_STARTS: usize = 64;
 
 /// The code of one task: its programs' instructions one after another, with what they name.
 #[derive(Debug, Drop)]
@@ -68,7 +51,7 @@ impl Code {
         }
     }
 
-    /// The number of buses, 1 to [`MAX_BUSES`].
+    /// The number of buses, 1 to 16.
     pub fn buses(&self) -> u8
         ensures same { result ≡ self.now.buses }
         ensures lawful { IsLawful self.now }

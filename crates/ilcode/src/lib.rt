@@ -1,14 +1,13 @@
 //! Code of one task, as the list of its instructions.
 //!
 //! What crosses the boundary: [`Code`], which the compiler makes, the verifier judges and the machine runs, with its
-//! [`Instruction`]s, one a word, and their [`Operand`]s. Contracts see a code as a `Listing` (specs/Listings.antt). What
-//! a word does is `step` (specs/Steps.antt), how words follow one another is `IsNext` (specs/Paths.antt): the verifier
-//! and the machine meet these. [`reference`] has each of these definitions as a plain slow program, to compare with.
+//! [`Instruction`]s, one a word, and their [`Operand`]s. Contracts see a code as a `Listing` (specs/Listings.antt): read
+//! that first. What a word does is `step` (specs/Steps.antt), how words follow one another is `IsNext`
+//! (specs/Paths.antt): the machine meets the first, the verifier both.
 #![tactic(auto)]
 
 pub mod code;
 pub mod instruction;
-pub mod reference;
 
 pub use code::Code;
 pub use instruction::{Instruction, Operand};

@@ -1,7 +1,7 @@
-//! Each call once.
+//! Each call once, and a code as long as the limits allow.
 
-use crate::code::MAX_BUSES;
-use crate::reference::{State, longest_path, run, step};
+ghost use Rattle.std.specs.Prelude.{◌≤◌, length};
+
 use crate::{Code, Instruction, Operand};
 use iltypes::{IlType, Value};
 use std::alloc::{AllocError, Global};
@@ -17,21 +17,17 @@ const STORE: Instruction = Instruction::Store {
     slot: 0,
 };
 
-// The first word, and a store of the opposite to the slot.
-fn code(alloc: Global, first: Instruction) -> Result<Code, AllocError> {
-    Ok(Code::new(
-        MAX_BUSES,
+#[test]
+fn a_code_gives_back_its_parts(rt: HostRuntime) -> Result<(), Fail> {
+    let alloc = rt.alloc();
+    let code = Code::new(
+        16,
         vec![in alloc; Value::Bool(true)]?,
         vec![in alloc; IlType::Bool]?,
         vec![in alloc; 0usize]?,
-        vec![in alloc; first, STORE]?,
+        vec![in alloc; LOAD, STORE]?,
         vec![in alloc; 3usize, 4]?,
-    ))
-}
-
-#[test]
-fn a_code_gives_back_its_parts(rt: HostRuntime) -> Result<(), Fail> {
-    let code = code(rt.alloc(), LOAD)?;
+    );
     assert_eq!(rt; code.buses(), 16);
     assert!(rt; code.constants() == [Value::Bool(true)].as_slice());
     assert!(rt; code.slots() == [IlType::Bool].as_slice());
@@ -41,41 +37,35 @@ fn a_code_gives_back_its_parts(rt: HostRuntime) -> Result<(), Fail> {
     Ok(())
 }
 
-#[test]
-fn a_run_goes_word_by_word(rt: HostRuntime) -> Result<(), Fail> {
-    let alloc = rt.alloc();
-    let code = code(alloc, LOAD)?;
-    let first = State {
-        place: 0,
-        slots: vec![in alloc; Value::Bool(true)]?,
-        result: None,
-    };
-    let second = step(&code, first).ok_or("LD is defined")?;
-    assert_eq!(rt; second.place, 1);
-    assert_eq!(rt; second.result, Some(Value::Bool(true)));
-    let last = step(&code, second).ok_or("STN is defined")?;
-    assert_eq!(rt; last.place, 2);
-    assert!(rt; last.slots.as_slice() == [Value::Bool(false)].as_slice());
-    assert!(rt; step(&code, last).is_none());
-    Ok(())
+// The code of these lists, with one start.
+fn code_of(
+    alloc: Global,
+    constants: Vec<Value>,
+    slots: Vec<IlType>,
+    words: Vec<Instruction>,
+) -> Result<Code, AllocError>
+    requires constants { length constants.items ≤ 4096 }
+    requires slots { length slots.items ≤ 4096 }
+    requires words { length words.items ≤ 65536 }
+{
+    let lines = vec![in alloc; 1usize; words.len()]?;
+    let starts = vec![in alloc; 0usize]?;
+    Ok(Code::new(16, constants, slots, starts, words, lines))
 }
 
 #[test]
-fn a_run_comes_to_its_end(rt: HostRuntime) -> Result<(), Fail> {
+fn the_longest_lists(rt: HostRuntime) -> Result<(), Fail> {
     let alloc = rt.alloc();
-    let code = code(alloc, LOAD)?;
-    let (steps, values) = run(&code, vec![in alloc; Value::Bool(true)]?).ok_or("it ends")?;
-    assert_eq!(rt; steps, 2);
-    assert!(rt; values.as_slice() == [Value::Bool(false)].as_slice());
-
-    assert_eq!(rt; longest_path(code.instructions()), 2);
-    Ok(())
-}
-
-#[test]
-fn an_undefined_step_stops_a_run(rt: HostRuntime) -> Result<(), Fail> {
-    let alloc = rt.alloc();
-    let code = code(alloc, Instruction::Not)?;
-    assert!(rt; run(&code, vec![in alloc; Value::Bool(true)]?).is_none());
+    let constants = vec![in alloc; Value::Bool(true); 4096]?;
+    let slots = vec![in alloc; IlType::Bool; 4096]?;
+    let words = vec![in alloc; LOAD; 65_536]?;
+    assert_eq!(rt; constants.len(), 4096);
+    assert_eq!(rt; slots.len(), 4096);
+    assert_eq!(rt; words.len(), 65_536);
+    let code = code_of(alloc, constants, slots, words)?;
+    assert_eq!(rt; code.constants().len(), 4096);
+    assert_eq!(rt; code.slots().len(), 4096);
+    assert_eq!(rt; code.instructions().len(), 65_536);
+    assert_eq!(rt; code.lines().len(), 65_536);
     Ok(())
 }

@@ -1,14 +1,14 @@
-//! Words against truth tables, and scans against their codes' runs by the definition.
+//! Words and whole programs against truth tables, and each call once.
 
-ghost use Rattle.std.specs.Prelude.{◌<◌, ◌≤◌, length};
+ghost use Rattle.std.specs.Prelude.{◌<◌, ◌≤◌, length, IsTrue};
+ghost use Rattle.iltypes.specs.Values.{AreOf};
 ghost use Rattle.ilcode.specs.Listings.{AreStarts};
 
 use crate::{ScanResult, Snapshot, Work, scan, scan_into};
-use ilcode::reference::run;
 use ilcode::{Code, Instruction, Operand};
 use iltypes::{BooleanOperator, IlType, Value};
 use ilverify::verify;
-use std::alloc::Global;
+use std::alloc::{AllocError, Global};
 use std::process::Abort;
 use std::sync::Arc;
 use std::test::Fail;
@@ -48,8 +48,8 @@ fn store(negated: bool, slot: usize) -> Instruction {
     Instruction::Store { negated, slot }
 }
 
-// A scan of the code of these words over three slots, whose values and steps are those of the run by the definition.
-fn scan_as_defined(
+// A scan of the code of these words over three slots, which takes a step a word.
+fn scan_of(
     rt: &impl Abort,
     alloc: Global,
     words: &[Instruction],
@@ -73,14 +73,9 @@ fn scan_as_defined(
         Value::Bool(slots[1]),
         Value::Bool(slots[2]),
     ];
-    let (steps, at_end) = run(&code, Vec::from_slice(alloc, &values)?).ok_or("it ends")?;
     let verified = Arc::new(alloc, verify(alloc, code)?)?;
     let scanned = scan(Snapshot::new(alloc, verified, &values, 250)?)?;
-    assert_eq!(rt; scanned.steps(), steps, "{words:?} {values:?}");
-    assert!(rt;
-        scanned.values() == at_end.as_slice(),
-        "{words:?} {values:?}"
-    );
+    assert_eq!(rt; scanned.steps() as usize, words.len(), "{words:?}");
     Ok(scanned)
 }
 
@@ -88,6 +83,34 @@ fn bit(column: u8, case: u8) -> bool
     requires { case < 8 }
 {
     column >> case & 1 == 1
+}
+
+// Scans the code from all values of its three slots; afterwards these columns stand in them.
+fn scans_as_tabled(
+    rt: &impl Abort,
+    alloc: Global,
+    words: &[Instruction],
+    starts: &[usize],
+    after: [u8; 3],
+) -> Result<(), Fail>
+    requires few { length words.now ≤ 6 }
+    requires few_starts { length starts.now ≤ 3 }
+    requires starts { AreStarts starts.now words.now }
+{
+    for case in 0..8 {
+        let slots = [bit(SLOT, case), bit(OPERAND, case), bit(CURRENT, case)];
+        let scanned = scan_of(rt, alloc, words, starts, slots)?;
+        let expected = [
+            Value::Bool(bit(after[0], case)),
+            Value::Bool(bit(after[1], case)),
+            Value::Bool(bit(after[2], case)),
+        ];
+        assert!(rt;
+            scanned.values() == expected.as_slice(),
+            "{words:?} {slots:?}"
+        );
+    }
+    Ok(())
 }
 
 // Loads the current result from slot 2, does the word, whose operand is slot 1 or slot 0, and stores the current
@@ -100,20 +123,7 @@ fn word_as_tabled(
     slot: u8,
 ) -> Result<(), Fail> {
     let words = [load(false, 2), word, store(false, 2)];
-    for case in 0..8 {
-        let slots = [bit(SLOT, case), bit(OPERAND, case), bit(CURRENT, case)];
-        let scanned = scan_as_defined(rt, alloc, &words, &[0], slots)?;
-        let expected = [
-            Value::Bool(bit(slot, case)),
-            Value::Bool(bit(OPERAND, case)),
-            Value::Bool(bit(current, case)),
-        ];
-        assert!(rt;
-            scanned.values() == expected.as_slice(),
-            "{word:?} {slots:?}"
-        );
-    }
-    Ok(())
+    scans_as_tabled(rt, alloc, &words, &[0], [slot, OPERAND, current])
 }
 
 #[test]
@@ -163,36 +173,32 @@ fn words_do_what_the_standard_says(rt: HostRuntime) -> Result<(), Fail> {
     Ok(())
 }
 
-// The code of these words from all values of its three slots.
-fn scans_as_defined(
-    rt: &impl Abort,
-    alloc: Global,
-    words: &[Instruction],
-    starts: &[usize],
-) -> Result<(), Fail>
-    requires few { length words.now ≤ 6 }
-    requires few_starts { length starts.now ≤ 3 }
-    requires starts { AreStarts starts.now words.now }
-{
-    for case in 0..8 {
-        let slots = [bit(SLOT, case), bit(OPERAND, case), bit(CURRENT, case)];
-        scan_as_defined(rt, alloc, words, starts, slots)?;
-    }
-    Ok(())
-}
-
 #[test]
-fn programs_of_one_start_scan_as_defined(rt: HostRuntime) -> Result<(), Fail> {
+fn programs_of_one_start_scan_as_tabled(rt: HostRuntime) -> Result<(), Fail> {
     let alloc = rt.alloc();
+    let both = [SLOT, OPERAND, SLOT & OPERAND];
     let and = apply(BooleanOperator::And, false, 1);
-    scans_as_defined(&rt, alloc, &[load(false, 0), and, store(false, 2)], &[0])?;
+    scans_as_tabled(
+        &rt,
+        alloc,
+        &[load(false, 0), and, store(false, 2)],
+        &[0],
+        both,
+    )?;
     let orn = apply(BooleanOperator::Or, true, 1);
-    scans_as_defined(&rt, alloc, &[load(true, 0), orn, store(true, 2)], &[0])?;
+    scans_as_tabled(
+        &rt,
+        alloc,
+        &[load(true, 0), orn, store(true, 2)],
+        &[0],
+        both,
+    )?;
     let xor = apply(BooleanOperator::Xor, false, 0);
     let xorn = apply(BooleanOperator::Xor, true, 2);
-    scans_as_defined(&rt, alloc, &[constant(1), xor, xorn, store(false, 1)], &[0])?;
+    let words = [constant(1), xor, xorn, store(false, 1)];
+    scans_as_tabled(&rt, alloc, &words, &[0], [SLOT, SLOT ^ CURRENT, CURRENT])?;
     let words = [load(false, 2), NOT, store(false, 0), store(true, 1), NOT];
-    scans_as_defined(&rt, alloc, &words, &[0])?;
+    scans_as_tabled(&rt, alloc, &words, &[0], [!CURRENT, CURRENT, CURRENT])?;
     let words = [
         constant(0),
         Instruction::Reset(0),
@@ -201,11 +207,11 @@ fn programs_of_one_start_scan_as_defined(rt: HostRuntime) -> Result<(), Fail> {
         and,
         Instruction::Reset(2),
     ];
-    scans_as_defined(&rt, alloc, &words, &[0])
+    scans_as_tabled(&rt, alloc, &words, &[0], [SLOT, 0xFF, 0])
 }
 
 #[test]
-fn programs_of_several_starts_scan_as_defined(rt: HostRuntime) -> Result<(), Fail> {
+fn programs_of_two_starts_scan_as_tabled(rt: HostRuntime) -> Result<(), Fail> {
     let alloc = rt.alloc();
     let words = [
         load(false, 0),
@@ -213,14 +219,15 @@ fn programs_of_several_starts_scan_as_defined(rt: HostRuntime) -> Result<(), Fai
         load(false, 1),
         store(true, 0),
     ];
-    scans_as_defined(&rt, alloc, &words, &[0, 2])?;
+    scans_as_tabled(&rt, alloc, &words, &[0, 2], [!SLOT, SLOT, CURRENT])?;
     let words = [
         load(false, 0),
         Instruction::Set(2),
         load(true, 1),
         Instruction::Reset(2),
     ];
-    scans_as_defined(&rt, alloc, &words, &[0, 2])?;
+    let last = (CURRENT | SLOT) & OPERAND;
+    scans_as_tabled(&rt, alloc, &words, &[0, 2], [SLOT, OPERAND, last])?;
     let words = [
         load(false, 0),
         Instruction::Set(1),
@@ -228,7 +235,8 @@ fn programs_of_several_starts_scan_as_defined(rt: HostRuntime) -> Result<(), Fai
         Instruction::Reset(0),
         Instruction::Set(2),
     ];
-    scans_as_defined(&rt, alloc, &words, &[0, 2])?;
+    let either = OPERAND | SLOT;
+    scans_as_tabled(&rt, alloc, &words, &[0, 2], [0, either, CURRENT | either])?;
     let andn = apply(BooleanOperator::And, true, 1);
     let or = apply(BooleanOperator::Or, false, 0);
     let words = [
@@ -239,7 +247,12 @@ fn programs_of_several_starts_scan_as_defined(rt: HostRuntime) -> Result<(), Fai
         or,
         store(true, 1),
     ];
-    scans_as_defined(&rt, alloc, &words, &[0, 3])?;
+    scans_as_tabled(&rt, alloc, &words, &[0, 3], [SLOT, !SLOT, SLOT & !OPERAND])
+}
+
+#[test]
+fn programs_of_three_starts_scan_as_tabled(rt: HostRuntime) -> Result<(), Fail> {
+    let alloc = rt.alloc();
     let words = [
         constant(0),
         Instruction::Set(0),
@@ -248,11 +261,17 @@ fn programs_of_several_starts_scan_as_defined(rt: HostRuntime) -> Result<(), Fai
         load(false, 1),
         Instruction::Reset(2),
     ];
-    scans_as_defined(&rt, alloc, &words, &[0, 2, 4])?;
+    scans_as_tabled(
+        &rt,
+        alloc,
+        &words,
+        &[0, 2, 4],
+        [SLOT, !SLOT, CURRENT & SLOT],
+    )?;
 
     // The last program has no words, and so has the first.
     let words = [load(false, 0), store(false, 1), store(true, 2)];
-    scans_as_defined(&rt, alloc, &words, &[0, 0, 3])?;
+    scans_as_tabled(&rt, alloc, &words, &[0, 0, 3], [SLOT, SLOT, !SLOT])?;
     let xor = apply(BooleanOperator::Xor, false, 2);
     let words = [
         load(false, 1),
@@ -262,7 +281,13 @@ fn programs_of_several_starts_scan_as_defined(rt: HostRuntime) -> Result<(), Fai
         xor,
         store(false, 0),
     ];
-    scans_as_defined(&rt, alloc, &words, &[0, 1, 3])
+    scans_as_tabled(
+        &rt,
+        alloc,
+        &words,
+        &[0, 1, 3],
+        [!SLOT ^ CURRENT, OPERAND, CURRENT],
+    )
 }
 
 #[test]
@@ -284,5 +309,56 @@ fn a_scan_keeps_what_it_began_from(rt: HostRuntime) -> Result<(), Fail> {
     assert_eq!(rt; scanned.snapshot().moment(), 250);
     assert_eq!(rt; scanned.snapshot().values().len(), 0);
     assert_eq!(rt; scanned.snapshot().verified().bound(), 0);
+    Ok(())
+}
+
+// The code of these words on BOOL slots, with one start and the constant TRUE.
+fn code_of(alloc: Global, slots: Vec<IlType>, words: Vec<Instruction>) -> Result<Code, AllocError>
+    requires slots { length slots.items ≤ 4096 }
+    requires words { length words.items ≤ 65536 }
+{
+    let constants = vec![in alloc; Value::Bool(true)]?;
+    let lines = vec![in alloc; 1usize; words.len()]?;
+    let starts = vec![in alloc; 0usize]?;
+    Ok(Code::new(16, constants, slots, starts, words, lines))
+}
+
+// The values stand in their types. Checked at run time, for values that a test has made.
+fn are_of(values: &[Value], slots: &[IlType]) -> bool
+    ensures { IsTrue result → AreOf values.now slots.now }
+{
+    match (values, slots) {
+        ([], []) => true,
+        ([value, values @ ..], [slot, slots @ ..]) => slot.holds(*value) && are_of(values, slots),
+        _ => false,
+    }
+}
+
+// A load of TRUE, and then a store to each slot in turn.
+fn stores(alloc: Global, count: usize) -> Result<Vec<Instruction>, AllocError> {
+    let mut words = Vec::new(alloc);
+    words.push(constant(0))?;
+    for place in 1..count {
+        words.push(store(false, place % 4096))?;
+    }
+    Ok(words)
+}
+
+#[test]
+fn the_longest_code_is_scanned_to_its_end(rt: HostRuntime) -> Result<(), Fail> {
+    let alloc = rt.alloc();
+    let slots = vec![in alloc; IlType::Bool; 4096]?;
+    let words = stores(alloc, 65_536)?;
+    assert_eq!(rt; slots.len(), 4096);
+    assert_eq!(rt; words.len(), 65_536);
+    let verified = Arc::new(alloc, verify(alloc, code_of(alloc, slots, words)?)?)?;
+    let values = vec![in alloc; Value::Bool(false); 4096]?;
+    assert!(rt; are_of(&values, verified.code().slots()));
+    let scanned = scan(Snapshot::new(alloc, verified, &values, 0)?)?;
+    assert_eq!(rt; scanned.steps(), 65_536);
+    assert_eq!(rt; scanned.values().len(), 4096);
+    for value in scanned.values() {
+        assert_eq!(rt; *value, Value::Bool(true));
+    }
     Ok(())
 }

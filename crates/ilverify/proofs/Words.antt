@@ -6,14 +6,14 @@ use Rattle.iltypes.specs.declared.value.IlType.{IlType}
 use Rattle.iltypes.specs.declared.value.IlType.TheVariants as types
 use Rattle.iltypes.specs.declared.value.Value.{Value}
 use Rattle.iltypes.specs.declared.value.Value.TheVariants as values
-use Rattle.iltypes.specs.Operators.{opposite, result_of}
+use Rattle.iltypes.specs.Operators.{opposite, opposite_if, result_of}
 use Rattle.iltypes.specs.Values.{AreOf}
 use Rattle.ilcode.specs.declared.instruction.Operand.{Operand}
 use Rattle.ilcode.specs.declared.instruction.Operand.TheVariants.{Slot, Constant}
 use Rattle.ilcode.specs.declared.instruction.Instruction.{Instruction}
 use Rattle.ilcode.specs.declared.instruction.Instruction.TheVariants.{Load, Apply, Not, Store, Set, Reset}
 use Rattle.ilcode.specs.Listings.{Listing}
-use Rattle.ilcode.specs.Steps.{Configuration, value_of, modified, load, apply, invert, store, write, effect}
+use Rattle.ilcode.specs.Steps.{Configuration, value_of, load, apply, invert, store, write, effect}
 use Rattle.ilverify.specs.declared.rules.Kind.{Kind}
 use Rattle.ilverify.specs.declared.rules.Kind.TheVariants as kinds
 use Rattle.ilverify.specs.declared.rules.Entry.{Entry}
@@ -102,18 +102,18 @@ pub word_goes : (code : Listing) (entry : Entry) (c : Configuration) (word : Ins
     → NoneArises code entry word → Goes code c (effect code c word)
 word_goes code entry c (Load negated operand) a h l =
     let v = found code c.slots operand a (is_truth (kind_of code operand) (λ n. l WrongType (inl n)) (l BadSlot)) in
-    goes_to code c _ c.slots (modified negated v.0) (ap (load c negated) v.1) a
+    goes_to code c _ c.slots (opposite_if negated v.0) (ap (load c negated) v.1) a
 word_goes code entry c (Apply operator negated operand) a h l =
     let v = found code c.slots operand a (is_truth (kind_of code operand) (λ n. l WrongType (inl n)) (l BadSlot)) in
     let r = known_truth code entry c h (λ n. l WrongType (inr n)) (l NoResult) in
-    goes_to code c _ c.slots (result_of operator r.0 (modified negated v.0)) (λ j. apply c operator negated (r.1 j) (v.1 j)) a
+    goes_to code c _ c.slots (result_of operator r.0 (opposite_if negated v.0)) (λ j. apply c operator negated (r.1 j) (v.1 j)) a
 word_goes code entry c Not a h l =
     let r = known_truth code entry c h (λ n. l WrongType (inr n)) (l NoResult) in
     goes_to code c _ c.slots (opposite r.0) (ap (invert c) r.1) a
 word_goes code entry c (Store negated i) a h l =
     let t = truth_type (slice_get code.slots i) (is_truth (kind_of code (Slot i)) (λ n. l WrongType (inl n)) (l BadSlot)) in
     let r = known_truth code entry c h (λ n. l WrongType (inr n)) (l NoResult) in
-    goes_to code c _ (slice_set c.slots i (values.Bool (modified negated r.0))) r.0 (λ j. store c negated i (r.1 j) (t j)) (set_of c.slots code.slots i (modified negated r.0) a t)
+    goes_to code c _ (slice_set c.slots i (values.Bool (opposite_if negated r.0))) r.0 (λ j. store c negated i (r.1 j) (t j)) (set_of c.slots code.slots i (opposite_if negated r.0) a t)
 word_goes code entry c (Set i) a h l =
     let t = truth_type (slice_get code.slots i) (is_truth (kind_of code (Slot i)) (λ n. l WrongType (inl n)) (l BadSlot)) in
     let r = known_truth code entry c h (λ n. l WrongType (inr n)) (l NoResult) in

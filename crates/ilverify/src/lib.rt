@@ -16,8 +16,4 @@ pub use verified::Verified;
 pub use verifier::{Refusal, VerifyError, verify};
 
 #[cfg(test)]
-mod certificates;
-#[cfg(test)]
-mod plain;
-#[cfg(test)]
 mod tests;

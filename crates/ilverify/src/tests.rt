@@ -1,5 +1,7 @@
 //! What is printed, and each call once.
 
+ghost use Rattle.std.specs.Prelude.{◌≤◌, length};
+
 use crate::{VerifyError, verify};
 use ilcode::{Code, Instruction, Operand};
 use iltypes::{IlType, Range, Value};
@@ -99,4 +101,41 @@ fn a_start_has_no_current_result(rt: HostRuntime) -> Result<(), Fail> {
         }
         _ => Err("it is refused".into()),
     }
+}
+
+// The code of these words on BOOL slots, with one start and the constant TRUE.
+fn code_of(alloc: Global, slots: Vec<IlType>, words: Vec<Instruction>) -> Result<Code, AllocError>
+    requires slots { length slots.items ≤ 4096 }
+    requires words { length words.items ≤ 65536 }
+{
+    let constants = vec![in alloc; Value::Bool(true)]?;
+    let lines = vec![in alloc; 1usize; words.len()]?;
+    let starts = vec![in alloc; 0usize]?;
+    Ok(Code::new(16, constants, slots, starts, words, lines))
+}
+
+// A load, and then a store to each slot in turn.
+fn stores(alloc: Global, count: usize) -> Result<Vec<Instruction>, AllocError> {
+    let mut words = Vec::new(alloc);
+    words.push(LOAD)?;
+    for place in 1..count {
+        words.push(Instruction::Store {
+            negated: false,
+            slot: place % 4096,
+        })?;
+    }
+    Ok(words)
+}
+
+#[test]
+fn the_longest_code_is_verified(rt: HostRuntime) -> Result<(), Fail> {
+    let alloc = rt.alloc();
+    let slots = vec![in alloc; IlType::Bool; 4096]?;
+    let words = stores(alloc, 65_536)?;
+    assert_eq!(rt; slots.len(), 4096);
+    assert_eq!(rt; words.len(), 65_536);
+    let verified = verify(alloc, code_of(alloc, slots, words)?)?;
+    assert_eq!(rt; verified.bound(), 65_536);
+    assert_eq!(rt; verified.code().instructions().len(), 65_536);
+    Ok(())
 }
