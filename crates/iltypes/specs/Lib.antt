@@ -1,4 +1,6 @@
+pub mod Arithmetic
 pub mod Operators
 pub mod Printed
+pub mod RangeSteps
 pub mod Ranges
 pub mod Values

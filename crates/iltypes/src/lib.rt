@@ -1,13 +1,20 @@
-//! Values and types of Instruction List, and the Boolean operators on them.
+//! Values and types of Instruction List, the Boolean operators on them, and ranges of integers.
 //!
-//! What crosses the boundary: [`Value`], [`IlType`] and [`Range`], which every crate of the language speaks of, and
-//! [`BooleanOperator`]. A value lies in a type by `IsOf` (specs/Values.antt), and an operator gives what `result_of`
-//! (specs/Operators.antt) says. The crate stands on nothing.
+//! What crosses the boundary: [`Value`], [`IlType`] and [`Range`], which every crate of the
+//! language speaks of, [`BooleanOperator`], and [`opposite_if`], which is the modifier N. A value
+//! lies in a type by `IsOf` (specs/Values.antt, to be read first), an operator gives `result_of`
+//! (specs/Operators.antt), and a sum of ranges is the least range of all sums: `IsLeast`
+//! (specs/Arithmetic.antt). The crate stands on nothing.
+//!
+//! ```text
+//! let dimmed = level.sub(steps)?.max(least);
+//! ```
 #![tactic(auto)]
 
-pub mod operator;
-pub mod range;
-pub mod value;
+mod operator;
+mod range;
+mod value;
+mod wide;
 
 pub use operator::{BooleanOperator, opposite_if};
 pub use range::Range;

@@ -24,7 +24,8 @@ impl BooleanOperator {
     }
 }
 
-/// The opposite of a truth value under the modifier N (IEC 61131-3, 3.2.2), and else the value itself.
+/// The opposite of a truth value under the modifier N (IEC 61131-3, 3.2.2), and else the value
+/// itself.
 pub fn opposite_if(negated: bool, truth: bool) -> bool
     ensures { result ≡ opposite_if negated truth }
 {

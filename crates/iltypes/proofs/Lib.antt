@@ -1,0 +1,6 @@
+pub mod Corners
+pub mod Fitting
+pub mod Limits
+pub mod Magnitudes
+pub mod Quotients
+pub mod Remainders
