@@ -31,14 +31,17 @@ unfolding places_from
 length-places_from place zero = refl
 length-places_from place (suc n) = let h = length-places_from (place + 1) n in omega arith
 
-all_next : (instructions : List Instruction) (place n : ℕ) → place + n < length instructions → AreNext instructions place (places_from place n)
+all_next : (instructions : List Instruction) (place n : ℕ) → place + n < length instructions
+    → AreNext instructions place (places_from place n)
 unfolding places_from
 all_next instructions place zero lt = tt
 all_next instructions place (suc n) lt =
     let w = get instructions place (omega arith) in
-    (record { word = w.0; is = w.1; leads = leads_next w.0 place; within = omega arith }, all_next instructions (place + 1) n (omega arith))
+    (record { word = w.0; is = w.1; leads = leads_next w.0 place; within = omega arith }, all_next instructions
+        (place + 1) n (omega arith))
 
-few_next : (instructions : List Instruction) (place : ℕ) (more : List ℕ) → place < length instructions → AreNext instructions place more
+few_next : (instructions : List Instruction) (place : ℕ) (more : List ℕ) → place < length instructions
+    → AreNext instructions place more
     → length more + place < length instructions
 few_next instructions place [] lt h = omega arith
 few_next instructions place (to ∷ more) lt h =
@@ -46,7 +49,8 @@ few_next instructions place (to ∷ more) lt h =
     let f = few_next instructions to more h.0.within h.1 in
     omega arith
 
-few_places : (instructions : List Instruction) (places : List ℕ) → IsPath instructions places → length places ≤ length instructions
+few_places : (instructions : List Instruction) (places : List ℕ) → IsPath instructions places
+    → length places ≤ length instructions
 few_places instructions [] h = omega arith
 few_places instructions (place ∷ more) h =
     let e = h.0 in

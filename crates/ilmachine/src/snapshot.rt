@@ -6,7 +6,8 @@ use std::alloc::{AllocError, Global};
 use std::marker::Model;
 use std::sync::Arc;
 
-/// What a scan begins from: the verified code of a task, a value for each of its slots, and a moment in milliseconds.
+/// What a scan begins from: the verified code of a task, a value for each of its slots, and a moment
+/// in milliseconds.
 #[derive(Drop)]
 pub struct Snapshot {
     verified: Arc<Verified, Global>,
@@ -21,7 +22,11 @@ impl Model for Snapshot {
 
     ghost Value = { Image };
 
-    ghost view = { λ s. record { verified = arc_value s.verified; values = s.values.items; moment = s.moment } };
+    ghost view = { λ s. record {
+      verified = arc_value s.verified;
+      values = s.values.items;
+      moment = s.moment;
+    } };
 
     ghost invariant = { λ s. AreOf s.values.items (arc_value s.verified).code.slots };
 }
@@ -40,7 +45,8 @@ impl Snapshot {
         moment: u64,
     ) -> Result<Snapshot, AllocError>
         requires { AreOf values.now (arc_value verified).code.slots }
-        ensures { IfOk result (λ snapshot. snapshot ≡ image_of (arc_value verified) values.now moment) }
+        ensures { IfOk result (λ snapshot.
+            snapshot ≡ image_of (arc_value verified) values.now moment) }
     {
         let values = Vec::from_slice(alloc, values)?;
         Ok(Snapshot {
@@ -50,7 +56,7 @@ impl Snapshot {
         })
     }
 
-    // A copy of the values, in the same allocator.
+    /// A copy of the values, in the same allocator.
     pub(crate) fn copy_values(&self) -> Result<Vec<Value>, AllocError>
         ensures { IfOk result (λ values. values.items ≡ self.now.values) }
     {
@@ -59,14 +65,14 @@ impl Snapshot {
 
     /// The verified code.
     pub fn verified(&self) -> &Verified
-        ensures { result.now ≡ self.now.verified }
+        ensures value { result.now ≡ self.now.verified }
     {
         &self.verified
     }
 
     /// A value for each slot of the code.
     pub fn values(&self) -> &[Value]
-        ensures same { result.now ≡ self.now.values }
+        ensures value { result.now ≡ self.now.values }
         ensures in_types { AreOf self.now.values self.now.verified.code.slots }
     {
         &self.values
@@ -74,7 +80,7 @@ impl Snapshot {
 
     /// The moment of the snapshot in milliseconds.
     pub fn moment(&self) -> u64
-        ensures { result ≡ self.now.moment }
+        ensures value { result ≡ self.now.moment }
     {
         self.moment
     }

@@ -13,7 +13,7 @@ use std::process::Abort;
 use std::sync::Arc;
 use std::test::Fail;
 
-// The columns of a truth table of eight cases: bit n is the value in case n.
+/// The columns of a truth table of eight cases: bit n is the value in case n.
 const CURRENT: u8 = 0b1010_1010;
 
 const SLOT: u8 = 0b1100_1100;
@@ -48,7 +48,7 @@ fn store(negated: bool, slot: usize) -> Instruction {
     Instruction::Store { negated, slot }
 }
 
-// A scan of the code of these words over three slots, which takes a step a word.
+/// A scan of the code of these words over three slots, which takes a step a word.
 fn scan_of(
     rt: &impl Abort,
     alloc: Global,
@@ -85,7 +85,7 @@ fn bit(column: u8, case: u8) -> bool
     column >> case & 1 == 1
 }
 
-// Scans the code from all values of its three slots; afterwards these columns stand in them.
+/// Scans the code from all values of its three slots; afterwards these columns stand in them.
 fn scans_as_tabled(
     rt: &impl Abort,
     alloc: Global,
@@ -113,8 +113,8 @@ fn scans_as_tabled(
     Ok(())
 }
 
-// Loads the current result from slot 2, does the word, whose operand is slot 1 or slot 0, and stores the current
-// result to slot 2.
+/// Loads the current result from slot 2, does the word, whose operand is slot 1 or slot 0, and
+/// stores the current result to slot 2.
 fn word_as_tabled(
     rt: &impl Abort,
     alloc: Global,
@@ -312,7 +312,7 @@ fn a_scan_keeps_what_it_began_from(rt: HostRuntime) -> Result<(), Fail> {
     Ok(())
 }
 
-// The code of these words on BOOL slots, with one start and the constant TRUE.
+/// The code of these words on BOOL slots, with one start and the constant TRUE.
 fn code_of(alloc: Global, slots: Vec<IlType>, words: Vec<Instruction>) -> Result<Code, AllocError>
     requires slots { length slots.items ≤ 4096 }
     requires words { length words.items ≤ 65536 }
@@ -323,7 +323,7 @@ fn code_of(alloc: Global, slots: Vec<IlType>, words: Vec<Instruction>) -> Result
     Ok(Code::new(16, constants, slots, starts, words, lines))
 }
 
-// The values stand in their types. Checked at run time, for values that a test has made.
+/// The values stand in their types. Checked at run time, for values that a test has made.
 fn are_of(values: &[Value], slots: &[IlType]) -> bool
     ensures { IsTrue result → AreOf values.now slots.now }
 {
@@ -334,7 +334,7 @@ fn are_of(values: &[Value], slots: &[IlType]) -> bool
     }
 }
 
-// A load of TRUE, and then a store to each slot in turn.
+/// A load of TRUE, and then a store to each slot in turn.
 fn stores(alloc: Global, count: usize) -> Result<Vec<Instruction>, AllocError> {
     let mut words = Vec::new(alloc);
     words.push(constant(0))?;

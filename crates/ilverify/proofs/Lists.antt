@@ -12,7 +12,8 @@ same_set [] i v w e = absurd (cc)
 same_set (x ∷ xs) zero v w e = cc
 same_set (x ∷ xs) (suc i) v w e = same_set xs i v w e
 
-pub other_set : {A : Type 0} (xs : List A) (i j : ℕ) (v : A) → (j ≡ i → ⊥) → slice_get (slice_set xs i v) j ≡ slice_get xs j
+pub other_set : {A : Type 0} (xs : List A) (i j : ℕ) (v : A) → (j ≡ i → ⊥)
+    → slice_get (slice_set xs i v) j ≡ slice_get xs j
 other_set [] i j v n = refl
 other_set (x ∷ xs) zero zero v n = absurd (n refl)
 other_set (x ∷ xs) zero (suc j) v n = refl

@@ -21,7 +21,8 @@ into_arriving true entry = record { result = tt }
 into_arriving false entry = record { result = into_self entry.result }
 
 -- it is within each entry that holds it, where at a start that entry knows nothing
-pub arriving_into : (t : Bool) (entry wider : Entry) → (IsTrue t → wider.result ≡ None) → IsInto entry wider → IsInto (cond t opening entry) wider
+pub arriving_into : (t : Bool) (entry wider : Entry) → (IsTrue t → wider.result ≡ None) → IsInto entry wider
+    → IsInto (cond t opening entry) wider
 arriving_into true entry wider n h = record { result = subst (IsResultInto None) (sym (n refl)) tt }
 arriving_into false entry wider n h = h
 
@@ -49,15 +50,19 @@ taken_number : (t : Bool) (known wider : Option Kind) → IsResultInto known wid
 taken_number true known wider i h = number_into known wider i h
 taken_number false known wider i h = absurd h
 
-taken_absent : (t : Bool) (known wider : Option Kind) → IsResultInto known wider → IsTaken t (IsAbsent known) → IsTaken t (IsAbsent wider)
+taken_absent : (t : Bool) (known wider : Option Kind) → IsResultInto known wider → IsTaken t (IsAbsent known)
+    → IsTaken t (IsAbsent wider)
 taken_absent true known wider i h = absent_into known wider i h
 taken_absent false known wider i h = h
 
--- a word at which a cause arises isn't lawful by any entry that holds this one
-pub unlawful : (code : Listing) (entry wider : Entry) (word : Instruction) (cause : Cause) → IsInto entry wider → Arises code entry word cause
+-- a word at which a cause arises is not lawful by any entry that holds this one
+pub unlawful : (code : Listing) (entry wider : Entry) (word : Instruction) (cause : Cause) → IsInto entry wider
+    → Arises code entry word cause
     → NoneArises code wider word → ⊥
 unlawful code entry wider word WrongType i (inl h) l = l WrongType (inl h)
 unlawful code entry wider word WrongType i (inr h) l =
-    elim (taken_number (takes_result word) entry.result wider.result i.result h) [ inl n ↦ l WrongType (inr n) | inr a ↦ l NoResult a ]
-unlawful code entry wider word NoResult i h l = l NoResult (taken_absent (takes_result word) entry.result wider.result i.result h)
+    elim (taken_number (takes_result word) entry.result wider.result i.result h)
+    [ inl n ↦ l WrongType (inr n) | inr a ↦ l NoResult a ]
+unlawful code entry wider word NoResult i h l =
+    l NoResult (taken_absent (takes_result word) entry.result wider.result i.result h)
 unlawful code entry wider word BadSlot i h l = l BadSlot h

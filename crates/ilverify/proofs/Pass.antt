@@ -1,5 +1,6 @@
 -- One pass forward.
-use Rattle.std.proofs.Common.{◌≡◌, ℕ, zero, suc, ◌+◌, ◌<◌, ◌≤◌, length, Option, Some, None, sym, ap, ◌∙◌, subst, arith, length-set, inl, inr}
+use Rattle.std.proofs.Common.{◌≡◌, ℕ, zero, suc, ◌+◌, ◌<◌, ◌≤◌, length, Option, Some, None, sym, ap, ◌∙◌, subst, arith}
+use Rattle.std.proofs.Common.{length-set, inl, inr}
 use Rattle.std.specs.Prelude.{IsTrue, replicate, slice_get, slice_set}
 use Rattle.std.proofs.lemmas.Bool.{cases_eq}
 use Rattle.std.proofs.lemmas.Option.{slice_get_within}
@@ -11,7 +12,8 @@ use Rattle.ilcode.specs.Steps.{is_start}
 use Rattle.ilverify.specs.declared.rules.Entry.{Entry}
 use Rattle.ilverify.specs.declared.rules.Cause.{Cause}
 use Rattle.ilverify.specs.Rules.{NoneArises, IsLeastCause, leaves}
-use Rattle.ilverify.specs.Certificates.{Certificate, Leads, IsFine, IsConsistentBelow, IsCertified, IsClosest, IsRefusal}
+use Rattle.ilverify.specs.Certificates.{Certificate, Leads, IsFine, IsConsistentBelow, IsCertified, IsClosest}
+use Rattle.ilverify.specs.Certificates.{IsRefusal}
 use Rattle.ilverify.specs.Entries.{opening, arriving}
 use Rattle.ilverify.specs.Verdicts.{IsVerified}
 use Rattle.ilcode.proofs.Bounds.{leads_next, next_is, whole_path}
@@ -22,7 +24,8 @@ use Rattle.ilverify.proofs.Order.{into_arriving, arriving_into, arriving_none, a
 
 -- ---- certificates
 
-pub below : (code : Listing) (certificate : Certificate) (m n : ℕ) → m ≤ n → IsConsistentBelow code certificate n → IsConsistentBelow code certificate m
+pub below : (code : Listing) (certificate : Certificate) (m n : ℕ) → m ≤ n → IsConsistentBelow code certificate n
+    → IsConsistentBelow code certificate m
 below code certificate m n le k = record {
   long = k.long;
   first = k.first;
@@ -36,17 +39,20 @@ get_replicate (suc n) zero x y e = cc
 get_replicate (suc n) (suc k) x y e = get_replicate n k x y e
 
 -- before the first word is judged
-pub opened : (code : Listing) → IsClosest code (slice_set (replicate (length code.instructions) None) 0 (Some (arriving code 0 opening))) 0
+pub opened : (code : Listing)
+    → IsClosest code (slice_set (replicate (length code.instructions) None) 0 (Some (arriving code 0 opening))) 0
 opened code =
     let n = length code.instructions in
     let blank : Option Entry = None in
     let none = replicate n blank in
     let first = Some (arriving code 0 opening) in
     let same : arriving code 0 opening ≡ opening = arriving_opening (is_start code 0) in
-    let only : (place : ℕ) (entry : Entry) → slice_get (slice_set none 0 first) place ≡ Some (Some entry) → (place ≡ 0) × (opening ≡ entry) = (λ place entry e.
+    let only : (place : ℕ) (entry : Entry) → slice_get (slice_set none 0 first) place ≡ Some (Some entry) → (place ≡ 0)
+    × (opening ≡ entry) = (λ place entry e.
     elim (cases_eq place 0) [
       | inl q ↦
-          let f = same_set none 0 first (Some entry) (subst (λ (k : ℕ). slice_get (slice_set none 0 first) k ≡ Some (Some entry)) q e) in
+          let f = same_set none 0 first (Some entry)
+          (subst (λ (k : ℕ). slice_get (slice_set none 0 first) k ≡ Some (Some entry)) q e) in
           let g : arriving code 0 opening ≡ entry = cc in
           (q, sym same ∙ g)
       | inr d ↦
@@ -71,8 +77,9 @@ opened code =
           subst (λ (p : ℕ). Leads other p entry) (sym o.0) (subst (Leads other 0) o.1 l);
     }
 
--- a word that isn't reached
-pub skipped : (code : Listing) (certificate : Certificate) (n : ℕ) → IsClosest code certificate n → slice_get certificate n ≡ Some None
+-- a word that is not reached
+pub skipped : (code : Listing) (certificate : Certificate) (n : ℕ) → IsClosest code certificate n
+    → slice_get certificate n ≡ Some None
     → IsClosest code certificate (n + 1)
 skipped code certificate n c e = record {
   consistent = record {
@@ -90,32 +97,47 @@ skipped code certificate n c e = record {
 
 -- ---- a word that is passed
 
-leads_kept : (certificate : Certificate) (to at : ℕ) (x : Option Entry) (entry : Entry) → (to ≡ at → ⊥) → Leads certificate to entry
+leads_kept : (certificate : Certificate) (to at : ℕ) (x : Option Entry) (entry : Entry) → (to ≡ at → ⊥)
+    → Leads certificate to entry
     → Leads (slice_set certificate at x) to entry
-leads_kept certificate to at x entry d l = record { wider = l.wider; is = other_set certificate at to x d ∙ l.is; into = l.into }
+leads_kept certificate to at x entry d l =
+    record { wider = l.wider; is = other_set certificate at to x d ∙ l.is; into = l.into }
 
-fine_kept : (code : Listing) (certificate : Certificate) (place n : ℕ) (x : Option Entry) (entry : Entry) (word : Instruction) → place < n
+fine_kept : (code : Listing) (certificate : Certificate) (place n : ℕ) (x : Option Entry) (entry : Entry)
+    (word : Instruction) → place < n
     → IsFine code certificate place entry word → IsFine code (slice_set certificate (n + 1) x) place entry word
 fine_kept code certificate place n x entry word lt f = record {
   lawful = f.lawful;
-  leads = λ to h. let e = next_is h.word place to h.leads in leads_kept certificate to (n + 1) x (leaves entry) (λ q. omega arith) (f.leads to h);
+  leads = λ to h. let e = next_is h.word place to h.leads in leads_kept certificate to (n + 1) x (leaves entry)
+      (λ q. omega arith) (f.leads to h);
 }
 
-fine_here : (code : Listing) (certificate : Certificate) (n : ℕ) (entry : Entry) (word : Instruction) → length certificate ≡ length code.instructions
-    → NoneArises code entry word → IsFine code (slice_set certificate (n + 1) (Some (arriving code (n + 1) (leaves entry)))) n entry word
+fine_here : (code : Listing) (certificate : Certificate) (n : ℕ) (entry : Entry) (word : Instruction)
+    → length certificate ≡ length code.instructions
+    → NoneArises code entry word → IsFine code (slice_set certificate (n + 1)
+    (Some (arriving code (n + 1) (leaves entry)))) n entry word
 fine_here code certificate n entry word long l = record {
   lawful = l;
   leads = λ to h.
       let e = next_is h.word n to h.leads in
       let lt : n + 1 < length certificate = omega (arith, h.within) in
-      let here : Leads (slice_set certificate (n + 1) (Some (arriving code (n + 1) (leaves entry)))) (n + 1) (leaves entry) =
-      record { wider = arriving code (n + 1) (leaves entry); is = set_there certificate (n + 1) (Some (arriving code (n + 1) (leaves entry))) lt; into = into_arriving (is_start code (n + 1)) (leaves entry) } in
-      subst (λ (p : ℕ). Leads (slice_set certificate (n + 1) (Some (arriving code (n + 1) (leaves entry)))) p (leaves entry)) (sym e) here;
+      let here : Leads (slice_set certificate (n + 1) (Some (arriving code (n + 1) (leaves entry)))) (n + 1)
+      (leaves entry) =
+      record {
+        wider = arriving code (n + 1) (leaves entry);
+        is = set_there certificate (n + 1)
+            (Some (arriving code (n + 1) (leaves entry))) lt;
+        into = into_arriving (is_start code (n + 1)) (leaves entry);
+      } in
+      subst (λ (p : ℕ). Leads (slice_set certificate (n + 1) (Some (arriving code (n + 1) (leaves entry)))) p
+      (leaves entry)) (sym e) here;
 }
 
 -- the word's entry in another certificate leads on too
-covers_next : (code : Listing) (certificate other : Certificate) (n : ℕ) (entry : Entry) (word : Instruction) → IsClosest code certificate n
-    → IsConsistentBelow code other (n + 1) → slice_get code.instructions n ≡ Some word → slice_get certificate n ≡ Some (Some entry)
+covers_next : (code : Listing) (certificate other : Certificate) (n : ℕ) (entry : Entry) (word : Instruction)
+    → IsClosest code certificate n
+    → IsConsistentBelow code other (n + 1) → slice_get code.instructions n ≡ Some word → slice_get certificate n ≡ Some
+    (Some entry)
     → n + 1 < length code.instructions → Leads other (n + 1) (arriving code (n + 1) (leaves entry))
 covers_next code certificate other n entry word c k w e lt =
     let o = c.covers other (below code other n (n + 1) (omega arith) k) n entry e in
@@ -127,8 +149,10 @@ covers_next code certificate other n entry word c k w e lt =
       into = arriving_into (is_start code (n + 1)) (leaves entry) l.wider (λ t. k.starts (n + 1) l.wider t l.is) l.into;
     }
 
-pub passed : (code : Listing) (certificate : Certificate) (n : ℕ) (entry : Entry) (word : Instruction) → IsClosest code certificate n
-    → slice_get code.instructions n ≡ Some word → slice_get certificate n ≡ Some (Some entry) → NoneArises code entry word
+pub passed : (code : Listing) (certificate : Certificate) (n : ℕ) (entry : Entry) (word : Instruction)
+    → IsClosest code certificate n
+    → slice_get code.instructions n ≡ Some word → slice_get certificate n ≡ Some (Some entry) → NoneArises code entry
+    word
     → IsClosest code (slice_set certificate (n + 1) (Some (arriving code (n + 1) (leaves entry)))) (n + 1)
 passed code certificate n entry word c w e l =
     let x = Some (arriving code (n + 1) (leaves entry)) in
@@ -140,9 +164,11 @@ passed code certificate n entry word c w e l =
         starts = λ place known t g.
             elim (cases_eq place (n + 1)) [
               | inl q ↦
-                  let f = same_set certificate (n + 1) x (Some known) (subst (λ (p : ℕ). slice_get (slice_set certificate (n + 1) x) p ≡ Some (Some known)) q g) in
+                  let f = same_set certificate (n + 1) x (Some known)
+                  (subst (λ (p : ℕ). slice_get (slice_set certificate (n + 1) x) p ≡ Some (Some known)) q g) in
                   let h : arriving code (n + 1) (leaves entry) ≡ known = cc in
-                  ap (λ (y : Entry). y.result) (sym h) ∙ arriving_none (is_start code (n + 1)) (leaves entry) (subst (λ (p : ℕ). IsTrue (is_start code p)) q t)
+                  ap (λ (y : Entry). y.result) (sym h) ∙ arriving_none (is_start code (n + 1)) (leaves entry)
+                  (subst (λ (p : ℕ). IsTrue (is_start code p)) q t)
               | inr d ↦ k.starts place known t (sym (other_set certificate (n + 1) place x d) ∙ g)
             ];
         each = λ place known instruction lt ws es.
@@ -155,10 +181,12 @@ passed code certificate n entry word c w e l =
                   let b : entry ≡ known = cc in
                   subst (λ (p : ℕ). IsFine code (slice_set certificate (n + 1) x) p known instruction) (sym q)
                   (subst (λ (y : Entry). IsFine code (slice_set certificate (n + 1) x) n y instruction) b
-                  (subst (IsFine code (slice_set certificate (n + 1) x) n entry) a (fine_here code certificate n entry word k.long l)))
+                  (subst (IsFine code (slice_set certificate (n + 1) x) n entry) a
+                  (fine_here code certificate n entry word k.long l)))
               | inr d ↦
                   let below_n : place < n = omega arith in
-                  fine_kept code certificate place n x known instruction below_n (k.each place known instruction below_n ws old)
+                  fine_kept code certificate place n x known instruction below_n
+                  (k.each place known instruction below_n ws old)
             ];
       };
       covers = λ other o place known g.
@@ -167,15 +195,26 @@ passed code certificate n entry word c w e l =
                 let g' = subst (λ (p : ℕ). slice_get (slice_set certificate (n + 1) x) p ≡ Some (Some known)) q g in
                 let f = same_set certificate (n + 1) x (Some known) g' in
                 let h : arriving code (n + 1) (leaves entry) ≡ known = cc in
-                let lt : n + 1 < length code.instructions = omega (arith, slice_get_within (slice_set certificate (n + 1) x) (n + 1) (Some known) g', length-set certificate (n + 1) x, k.long) in
-                subst (λ (p : ℕ). Leads other p known) (sym q) (subst (Leads other (n + 1)) h (covers_next code certificate other n entry word c o w e lt))
-            | inr d ↦ c.covers other (below code other n (n + 1) (omega arith) o) place known (sym (other_set certificate (n + 1) place x d) ∙ g)
+                let lt : n + 1 < length code.instructions = omega (
+                  arith,
+                  slice_get_within (slice_set certificate (n + 1) x) (n + 1) (Some known) g',
+                  length-set
+                      certificate (n + 1) x,
+                  k.long,
+                ) in
+                subst (λ (p : ℕ). Leads other p known) (sym q)
+                (subst (Leads other (n + 1)) h (covers_next code certificate other n entry word c o w e lt))
+            | inr d ↦ c.covers other (below code other n (n + 1) (omega arith) o) place known
+                (sym (other_set certificate (n + 1) place x d) ∙ g)
           ];
     }
 
 -- ---- a word that is refused
 
-pub refused : (code : Listing) (certificate : Certificate) (n line : ℕ) (cause : Cause) (entry : Entry) (word : Instruction) → IsClosest code certificate n → slice_get code.instructions n ≡ Some word → slice_get certificate n ≡ Some (Some entry) → slice_get code.lines n ≡ Some line → IsLeastCause code entry word cause → IsRefusal code (record { word = n; line = line; cause = cause })
+pub refused : (code : Listing) (certificate : Certificate) (n line : ℕ) (cause : Cause) (entry : Entry)
+    (word : Instruction) → IsClosest code certificate n → slice_get code.instructions n ≡ Some word → slice_get
+    certificate n ≡ Some (Some entry) → slice_get code.lines n ≡ Some line → IsLeastCause code entry word cause
+    → IsRefusal code (record { word = n; line = line; cause = cause })
 refused code certificate n line cause entry word c w e li h =
     let none : (other : Certificate) → IsConsistentBelow code other (n + 1) → ⊥ = (λ other k.
     let o = c.covers other (below code other n (n + 1) (omega arith) k) n entry e in
@@ -190,12 +229,14 @@ refused code certificate n line cause entry word c w e li h =
       cause = h;
       line = li;
       none_further = none;
-      uncertified = λ k. none k.certificate (below code k.certificate (n + 1) (length code.instructions) (omega (arith, slice_get_within code.instructions n word w)) k.consistent);
+      uncertified = λ k. none k.certificate (below code k.certificate (n + 1) (length code.instructions)
+          (omega (arith, slice_get_within code.instructions n word w)) k.consistent);
     }
 
 -- ---- the verdict
 
-pub certified : (code : Listing) (certificate : Certificate) → IsClosest code certificate (length code.instructions) → IsCertified code
+pub certified : (code : Listing) (certificate : Certificate) → IsClosest code certificate (length code.instructions)
+    → IsCertified code
 certified code certificate c = record { certificate = certificate; consistent = c.consistent }
 
 pub verified : (code : Listing) (bound : ℕ) → IsCertified code → IsBound code.instructions bound → IsVerified code bound

@@ -25,7 +25,8 @@ same_entry : (a b : Entry) → IsInto a b → IsInto b a → a ≡ b
 same_entry a b h g = ap (λ (r : Option Kind). record a { result = r }) (same_result a.result b.result h.result g.result)
 
 -- two closest certificates reach a word with the same entry
-same_reached : (code : Listing) (c d : Certificate) (place : ℕ) (a b : Entry) → IsClosest code c place → IsClosest code d place
+same_reached : (code : Listing) (c d : Certificate) (place : ℕ) (a b : Entry) → IsClosest code c place
+    → IsClosest code d place
     → slice_get c place ≡ Some (Some a) → slice_get d place ≡ Some (Some b) → a ≡ b
 same_reached code c d place a b h g e f =
     let to : Leads d place a = h.covers d g.consistent place a e in
@@ -46,7 +47,8 @@ same_cause BadSlot NoResult e = absurd (omega (arith, e))
 same_cause BadSlot BadSlot e = refl
 
 -- the least cause at a word
-least_cause : (code : Listing) (entry : Entry) (word : Instruction) (a b : Cause) → IsLeastCause code entry word a → IsLeastCause code entry word b → a ≡ b
+least_cause : (code : Listing) (entry : Entry) (word : Instruction) (a b : Cause) → IsLeastCause code entry word a
+    → IsLeastCause code entry word b → a ≡ b
 least_cause code entry word a b h g =
     elim (cases_lt (number_of a) (number_of b)) as (λ _. a ≡ b) [
       | inl lt ↦ absurd (g.least a lt h.arises)
@@ -60,26 +62,32 @@ least_cause code entry word a b h g =
 same_word : (code : Listing) (a b : Refusal) → IsRefusal code a → IsRefusal code b → a.word ≡ b.word
 same_word code a b h g =
     elim (cases_lt a.word b.word) as (λ _. a.word ≡ b.word) [
-      | inl lt ↦ absurd (h.none_further g.certificate (below code g.certificate (a.word + 1) b.word (omega (arith, lt)) g.closest.consistent))
+      | inl lt ↦ absurd (h.none_further g.certificate
+          (below code g.certificate (a.word + 1) b.word (omega (arith, lt)) g.closest.consistent))
       | inr ge ↦ elim (cases_lt b.word a.word) as (λ _. a.word ≡ b.word) [
-        | inl gt ↦ absurd (g.none_further h.certificate (below code h.certificate (b.word + 1) a.word (omega (arith, gt)) h.closest.consistent))
+        | inl gt ↦ absurd (g.none_further h.certificate
+            (below code h.certificate (b.word + 1) a.word (omega (arith, gt)) h.closest.consistent))
         | inr le ↦ omega (arith, ge, le)
       ]
     ]
 
-same_at : (code : Listing) (word line other : ℕ) (cause its : Cause) → IsRefusal code (record { word = word; line = line; cause = cause })
+same_at : (code : Listing) (word line other : ℕ) (cause its : Cause)
+    → IsRefusal code (record { word = word; line = line; cause = cause })
     → IsRefusal code (record { word = word; line = other; cause = its }) → (line ≡ other) × (cause ≡ its)
 same_at code word line other cause its h g =
-    let entry : h.entry ≡ g.entry = same_reached code h.certificate g.certificate word h.entry g.entry h.closest g.closest h.reached g.reached in
+    let entry : h.entry ≡ g.entry = same_reached code h.certificate g.certificate word h.entry g.entry h.closest
+    g.closest h.reached g.reached in
     let instruction : h.word ≡ g.word = let a = h.is in let b = g.is in cc in
     let there : IsLeastCause code g.entry g.word cause =
-    subst (λ (w : Instruction). IsLeastCause code g.entry w cause) instruction (subst (λ (e : Entry). IsLeastCause code e h.word cause) entry h.cause) in
+    subst (λ (w : Instruction). IsLeastCause code g.entry w cause) instruction
+    (subst (λ (e : Entry). IsLeastCause code e h.word cause) entry h.cause) in
     (let a = h.line in let b = g.line in cc, least_cause code g.entry g.word cause its there g.cause)
 
 pub same_refusal : (code : Listing) (a b : Refusal) → IsRefusal code a → IsRefusal code b → a ≡ b
 same_refusal code a b h g =
     let word : b.word ≡ a.word = sym (same_word code a b h g) in
-    let there : IsRefusal code (record b { word = a.word }) = subst (λ (w : ℕ). IsRefusal code (record b { word = w })) word g in
+    let there : IsRefusal code (record b { word = a.word }) = subst (λ (w : ℕ). IsRefusal code (record b { word = w }))
+    word g in
     let rest : (a.line ≡ b.line) × (a.cause ≡ b.cause) = same_at code a.word a.line b.line a.cause b.cause h there in
     ap (λ (w : ℕ). record a { word = w }) (sym word)
     ∙ ap (λ (l : ℕ). record a { word = b.word; line = l }) rest.0

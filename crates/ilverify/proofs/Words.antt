@@ -1,5 +1,6 @@
 -- What a lawful word does: the rules hold each value that it finds and leaves.
-use Rattle.std.proofs.Common.{◌≡◌, ℕ, zero, suc, ◌+◌, List, [], ◌∷◌, Bool, true, false, Option, Some, None, refl, ap, subst, inl, inr}
+use Rattle.std.proofs.Common.{◌≡◌, ℕ, zero, suc, ◌+◌, List, [], ◌∷◌, Bool, true, false, Option, Some, None, refl, ap}
+use Rattle.std.proofs.Common.{subst, inl, inr}
 use Rattle.std.specs.Prelude.{slice_get, slice_set}
 use Rattle.std.specs.Option.{option_map}
 use Rattle.iltypes.specs.declared.value.IlType.{IlType}
@@ -46,12 +47,14 @@ truth_type None e = absurd (cc)
 truth_type (Some types.Bool) e = refl
 truth_type (Some (types.Int r)) e = absurd (cc)
 
-truth_constant : (v : Option Value) → option_map kind_of_value v ≡ Some kinds.Bool → (b : Bool) × (v ≡ Some (values.Bool b))
+truth_constant : (v : Option Value) → option_map kind_of_value v ≡ Some kinds.Bool
+    → (b : Bool) × (v ≡ Some (values.Bool b))
 truth_constant None e = absurd (cc)
 truth_constant (Some (values.Bool b)) e = (b, refl)
 truth_constant (Some (values.Int n)) e = absurd (cc)
 
-truth_slot : (slots : List Value) (declared : List IlType) (i : ℕ) → AreOf slots declared → slice_get declared i ≡ Some types.Bool
+truth_slot : (slots : List Value) (declared : List IlType) (i : ℕ) → AreOf slots declared
+    → slice_get declared i ≡ Some types.Bool
     → (b : Bool) × (slice_get slots i ≡ Some (values.Bool b))
 truth_slot [] [] i a e = absurd (cc)
 truth_slot [] (t ∷ ts) i a e = absurd a
@@ -61,13 +64,15 @@ truth_slot (values.Int n ∷ vs) (types.Bool ∷ ts) zero a e = absurd a.0
 truth_slot (values.Int n ∷ vs) (types.Int r ∷ ts) zero a e = absurd (cc)
 truth_slot (v ∷ vs) (t ∷ ts) (suc i) a e = truth_slot vs ts i a.1 e
 
-found : (code : Listing) (slots : List Value) (operand : Operand) → AreOf slots code.slots → kind_of code operand ≡ Some kinds.Bool
+found : (code : Listing) (slots : List Value) (operand : Operand) → AreOf slots code.slots
+    → kind_of code operand ≡ Some kinds.Bool
     → (b : Bool) × (value_of code slots operand ≡ Some (values.Bool b))
 found code slots (Slot i) a e = truth_slot slots code.slots i a (truth_type (slice_get code.slots i) e)
 found code slots (Constant k) a e = truth_constant (slice_get code.constants k) e
 
 -- a truth value written to a BOOL slot
-set_of : (slots : List Value) (declared : List IlType) (i : ℕ) (b : Bool) → AreOf slots declared → slice_get declared i ≡ Some types.Bool
+set_of : (slots : List Value) (declared : List IlType) (i : ℕ) (b : Bool) → AreOf slots declared
+    → slice_get declared i ≡ Some types.Bool
     → AreOf (slice_set slots i (values.Bool b)) declared
 set_of [] [] i b a e = tt
 set_of [] (t ∷ ts) i b a e = absurd a
@@ -86,19 +91,34 @@ pub record Goes (code : Listing) (c : Configuration) (o : Option Configuration) 
   pub slots : AreOf to.slots code.slots
   pub result : IsResult (Some kinds.Bool) to.result
 
-goes_to : (code : Listing) (c : Configuration) (o : Option Configuration) (slots : List Value) (b : Bool) → o ≡ Some (record { place = c.place + 1; slots = slots; result = Some (values.Bool b) }) → AreOf slots code.slots → Goes code c o
-goes_to code c o slots b e a = record { to = record { place = c.place + 1; slots = slots; result = Some (values.Bool b) }; is = e; place = refl; slots = a; result = refl }
+goes_to : (code : Listing) (c : Configuration) (o : Option Configuration) (slots : List Value) (b : Bool)
+    → o ≡ Some (record { place = c.place + 1; slots = slots; result = Some (values.Bool b) }) → AreOf slots code.slots
+    → Goes code c o
+goes_to code c o slots b e a =
+    record {
+      to = record { place = c.place + 1; slots = slots; result = Some (values.Bool b) };
+      is = e;
+      place = refl;
+      slots = a;
+      result = refl;
+    }
 
-write_goes : (code : Listing) (c : Configuration) (written : Bool) (i : ℕ) (b : Bool) → AreOf c.slots code.slots → c.result ≡ Some (values.Bool b)
+write_goes : (code : Listing) (c : Configuration) (written : Bool) (i : ℕ) (b : Bool) → AreOf c.slots code.slots
+    → c.result ≡ Some (values.Bool b)
     → slice_get code.slots i ≡ Some types.Bool → Goes code c (write c written i c.result (slice_get code.slots i))
-write_goes code c written i true a r t = goes_to code c _ (slice_set c.slots i (values.Bool written)) true (λ j. write c written i (r j) (t j)) (set_of c.slots code.slots i written a t)
+write_goes code c written i true a r t =
+    goes_to code c _ (slice_set c.slots i (values.Bool written)) true (λ j. write c written i (r j) (t j))
+    (set_of c.slots code.slots i written a t)
 write_goes code c written i false a r t = goes_to code c _ c.slots false (λ j. write c written i (r j) (t j)) a
 
-known_truth : (code : Listing) (entry : Entry) (c : Configuration) → IsResult entry.result c.result → (IsNumber entry.result → ⊥)
+known_truth : (code : Listing) (entry : Entry) (c : Configuration) → IsResult entry.result c.result
+    → (IsNumber entry.result → ⊥)
     → (IsAbsent entry.result → ⊥) → (b : Bool) × (c.result ≡ Some (values.Bool b))
-known_truth code entry c h n a = truth_result c.result (subst (λ (k : Option Kind). IsResult k c.result) (is_truth entry.result n a) h)
+known_truth code entry c h n a =
+    truth_result c.result (subst (λ (k : Option Kind). IsResult k c.result) (is_truth entry.result n a) h)
 
-pub word_goes : (code : Listing) (entry : Entry) (c : Configuration) (word : Instruction) → AreOf c.slots code.slots → IsResult entry.result c.result
+pub word_goes : (code : Listing) (entry : Entry) (c : Configuration) (word : Instruction) → AreOf c.slots code.slots
+    → IsResult entry.result c.result
     → NoneArises code entry word → Goes code c (effect code c word)
 word_goes code entry c (Load negated operand) a h l =
     let v = found code c.slots operand a (is_truth (kind_of code operand) (λ n. l WrongType (inl n)) (l BadSlot)) in
@@ -106,19 +126,24 @@ word_goes code entry c (Load negated operand) a h l =
 word_goes code entry c (Apply operator negated operand) a h l =
     let v = found code c.slots operand a (is_truth (kind_of code operand) (λ n. l WrongType (inl n)) (l BadSlot)) in
     let r = known_truth code entry c h (λ n. l WrongType (inr n)) (l NoResult) in
-    goes_to code c _ c.slots (result_of operator r.0 (opposite_if negated v.0)) (λ j. apply c operator negated (r.1 j) (v.1 j)) a
+    goes_to code c _ c.slots (result_of operator r.0 (opposite_if negated v.0))
+    (λ j. apply c operator negated (r.1 j) (v.1 j)) a
 word_goes code entry c Not a h l =
     let r = known_truth code entry c h (λ n. l WrongType (inr n)) (l NoResult) in
     goes_to code c _ c.slots (opposite r.0) (ap (invert c) r.1) a
 word_goes code entry c (Store negated i) a h l =
-    let t = truth_type (slice_get code.slots i) (is_truth (kind_of code (Slot i)) (λ n. l WrongType (inl n)) (l BadSlot)) in
+    let t = truth_type (slice_get code.slots i) (is_truth (kind_of code (Slot i)) (λ n. l WrongType (inl n))
+    (l BadSlot)) in
     let r = known_truth code entry c h (λ n. l WrongType (inr n)) (l NoResult) in
-    goes_to code c _ (slice_set c.slots i (values.Bool (opposite_if negated r.0))) r.0 (λ j. store c negated i (r.1 j) (t j)) (set_of c.slots code.slots i (opposite_if negated r.0) a t)
+    goes_to code c _ (slice_set c.slots i (values.Bool (opposite_if negated r.0))) r.0
+    (λ j. store c negated i (r.1 j) (t j)) (set_of c.slots code.slots i (opposite_if negated r.0) a t)
 word_goes code entry c (Set i) a h l =
-    let t = truth_type (slice_get code.slots i) (is_truth (kind_of code (Slot i)) (λ n. l WrongType (inl n)) (l BadSlot)) in
+    let t = truth_type (slice_get code.slots i) (is_truth (kind_of code (Slot i)) (λ n. l WrongType (inl n))
+    (l BadSlot)) in
     let r = known_truth code entry c h (λ n. l WrongType (inr n)) (l NoResult) in
     write_goes code c true i r.0 a r.1 t
 word_goes code entry c (Reset i) a h l =
-    let t = truth_type (slice_get code.slots i) (is_truth (kind_of code (Slot i)) (λ n. l WrongType (inl n)) (l BadSlot)) in
+    let t = truth_type (slice_get code.slots i) (is_truth (kind_of code (Slot i)) (λ n. l WrongType (inl n))
+    (l BadSlot)) in
     let r = known_truth code entry c h (λ n. l WrongType (inr n)) (l NoResult) in
     write_goes code c false i r.0 a r.1 t

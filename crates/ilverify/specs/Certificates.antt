@@ -11,7 +11,7 @@ use Rattle.ilverify.specs.declared.verifier.VerifyError.TheVariants.{Memory, Ref
 use Rattle.ilverify.specs.Entries.{IsInto, opening}
 use Rattle.ilverify.specs.Rules.{number_of, NoneArises, IsLeastCause, leaves}
 
--- an entry for each word: none where the word isn't reached
+-- an entry for each word: none where the word is not reached
 abbrev pub Certificate : Type 0
 Certificate = List (Option Entry)
 
@@ -22,16 +22,20 @@ pub record Leads (certificate : Certificate) (place : ℕ) (entry : Entry) : Typ
   pub into : IsInto entry wider
 
 -- no cause arises at the word, and what it leaves leads into the entry of each successor
-pub record IsFine (code : Listing) (certificate : Certificate) (place : ℕ) (entry : Entry) (word : Instruction) : Type 0 where
+pub record IsFine (code : Listing) (certificate : Certificate) (place : ℕ) (entry : Entry) (word : Instruction)
+    : Type 0 where
   pub lawful : NoneArises code entry word
   pub leads : (to : ℕ) → IsNext code.instructions place to → Leads certificate to (leaves entry)
 
--- consistent at the words below a place: the first word is reached, a start has no current result, and each reached word is fine
+-- consistent at the words below a place: the first word is reached, a start has no current result, and each reached
+-- word is fine
 pub record IsConsistentBelow (code : Listing) (certificate : Certificate) (end : ℕ) : Type 0 where
   pub long : length certificate ≡ length code.instructions
   pub first : 0 < length code.instructions → Leads certificate 0 opening
-  pub starts : (place : ℕ) (entry : Entry) → IsTrue (is_start code place) → slice_get certificate place ≡ Some (Some entry) → entry.result ≡ None
-  pub each : (place : ℕ) (entry : Entry) (word : Instruction) → place < end → slice_get code.instructions place ≡ Some word
+  pub starts : (place : ℕ) (entry : Entry) → IsTrue (is_start code place)
+      → slice_get certificate place ≡ Some (Some entry) → entry.result ≡ None
+  pub each : (place : ℕ) (entry : Entry) (word : Instruction) → place < end
+      → slice_get code.instructions place ≡ Some word
       → slice_get certificate place ≡ Some (Some entry) → IsFine code certificate place entry word
 
 -- some certificate is consistent at all words
@@ -41,14 +45,16 @@ pub record IsCertified (code : Listing) : Type 0 where
 
 -- each entry of the first certificate is within the second's
 abbrev pub Covers : Certificate → Certificate → Type 0
-Covers certificate wider = (place : ℕ) (entry : Entry) → slice_get certificate place ≡ Some (Some entry) → Leads wider place entry
+Covers certificate wider =
+    (place : ℕ) (entry : Entry) → slice_get certificate place ≡ Some (Some entry) → Leads wider place entry
 
 -- of the certificates that are consistent below the place, this one says most
 pub record IsClosest (code : Listing) (certificate : Certificate) (end : ℕ) : Type 0 where
   pub consistent : IsConsistentBelow code certificate end
   pub covers : (other : Certificate) → IsConsistentBelow code other end → Covers certificate other
 
--- the word is the least at which no certificate goes on, and the cause the least that arises there; no certificate is consistent
+-- the word is the least at which no certificate goes on, and the cause the least that arises there; no certificate is
+-- consistent
 pub record IsRefusal (code : Listing) (refusal : Refusal) : Type 0 where
   pub certificate : Certificate
   pub closest : IsClosest code certificate refusal.word
@@ -61,12 +67,12 @@ pub record IsRefusal (code : Listing) (refusal : Refusal) : Type 0 where
   pub none_further : (other : Certificate) → IsConsistentBelow code other (refusal.word + 1) → ⊥
   pub uncertified : IsCertified code → ⊥
 
--- the number under which an error is told
+-- the number under which an error is reported
 abbrev pub number_of_error : VerifyError → ℕ
 number_of_error (Memory error) = 1
 number_of_error (Refused refusal) = number_of refusal.cause
 
--- an error that isn't want of memory is a refusal
+-- an error that is not out of memory is a refusal
 abbrev pub IsError : Listing → VerifyError → Type 0
 IsError code (Refused refusal) = IsRefusal code refusal
 IsError code (Memory error) = Unit {0}

@@ -6,4 +6,6 @@ use Rattle.ilverify.specs.Rules.{number_of}
 
 -- the cause's number, the word counted from 0, and its line
 abbrev pub printed : Refusal → List ℕ
-printed refusal = codes "refused " ++ decimal (number_of refusal.cause) ++ codes " at word " ++ decimal refusal.word ++ codes " line " ++ decimal refusal.line
+printed refusal =
+    codes "refused " ++ decimal (number_of refusal.cause) ++ codes " at word " ++ decimal refusal.word
+    ++ codes " line " ++ decimal refusal.line

@@ -47,7 +47,7 @@ takes_result (Store negated slot) = true
 takes_result (Set slot) = true
 takes_result (Reset slot) = true
 
--- the number under which a cause is told
+-- the number under which a cause is reported
 abbrev pub number_of : Cause → ℕ
 number_of WrongType = 2
 number_of NoResult = 3
@@ -75,7 +75,8 @@ IsTaken false fact = ⊥
 
 -- the cause arises at the word before which this entry holds; causes arise independently of one another
 abbrev pub Arises : Listing → Entry → Instruction → Cause → Type 0
-Arises code entry word WrongType = IsOperand code (operand_of word) IsNumber ⊎ IsTaken (takes_result word) (IsNumber entry.result)
+Arises code entry word WrongType =
+    IsOperand code (operand_of word) IsNumber ⊎ IsTaken (takes_result word) (IsNumber entry.result)
 Arises code entry word NoResult = IsTaken (takes_result word) (IsAbsent entry.result)
 Arises code entry word BadSlot = IsOperand code (operand_of word) IsAbsent
 

@@ -21,7 +21,8 @@ pub record Terminates (code : Listing) (from : List Value) : Type 0 where
 -- has more steps than the bound, which is the greatest number of words on a path
 pub record IsVerified (code : Listing) (bound : ℕ) : Type 0 where
   pub safe : IsSafe code
-  pub kept : (from : List Value) (steps : ℕ) (c : Configuration) → AreOf from code.slots → Runs code (start from) steps c → AreOf c.slots code.slots
+  pub kept : (from : List Value) (steps : ℕ) (c : Configuration) → AreOf from code.slots
+      → Runs code (start from) steps c → AreOf c.slots code.slots
   pub ends : (from : List Value) → AreOf from code.slots → Terminates code from
   pub few : (from : List Value) (steps : ℕ) (c : Configuration) → Runs code (start from) steps c → steps ≤ bound
   pub greatest : IsBound code.instructions bound

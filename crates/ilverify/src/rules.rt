@@ -1,7 +1,8 @@
 //! What the verifier knows before a word, and the rules by which a word is refused or leads on.
 
 ghost use Rattle.std.specs.Prelude.{◌≡◌, ◌↔◌, IsTrue, MatchOption, MatchResult};
-ghost use Rattle.ilverify.specs.Rules.{kind_of_type, kind_of_value, kind_of, operand_of, takes_result, number_of, Arises, IsLeastCause, IsRule};
+ghost use Rattle.ilverify.specs.Rules.{kind_of_type, kind_of_value, kind_of, operand_of};
+ghost use Rattle.ilverify.specs.Rules.{takes_result, number_of, Arises, IsLeastCause, IsRule};
 
 use ilcode::{Code, Instruction, Operand};
 use iltypes::{IlType, Value};
@@ -29,12 +30,12 @@ pub enum Cause {
     WrongType,
     /// The word takes the current result, and there may be none.
     NoResult,
-    /// The word names a slot or a constant that isn't in its table.
+    /// The word names a slot or a constant that its table does not have.
     BadSlot,
 }
 
 impl Cause {
-    /// The number under which the cause is told.
+    /// The number under which the cause is reported: 2, 3 or 11.
     pub fn number(self) -> u8
         ensures { result ≡ number_of self }
     {
@@ -46,6 +47,7 @@ impl Cause {
     }
 }
 
+/// The kind of a type's values.
 fn type_kind(of: IlType) -> Kind
     ensures { result ≡ kind_of_type of }
 {
@@ -55,6 +57,7 @@ fn type_kind(of: IlType) -> Kind
     }
 }
 
+/// The kind of a value.
 fn value_kind(of: Value) -> Kind
     ensures { result ≡ kind_of_value of }
 {
@@ -64,7 +67,7 @@ fn value_kind(of: Value) -> Kind
     }
 }
 
-// The kind of an operand, where its table has it.
+/// The kind of an operand, where its table has it.
 fn operand_kind(code: &Code, operand: Operand) -> Option<Kind>
     ensures { result ≡ kind_of code.now operand }
 {
@@ -74,7 +77,7 @@ fn operand_kind(code: &Code, operand: Operand) -> Option<Kind>
     }
 }
 
-// The operand that a word names.
+/// The operand that a word names.
 fn operand(word: Instruction) -> Option<Operand>
     ensures { result ≡ operand_of word }
 {
@@ -87,14 +90,14 @@ fn operand(word: Instruction) -> Option<Operand>
     }
 }
 
-// Whether a word takes the current result.
+/// Whether a word takes the current result.
 fn needs_result(word: Instruction) -> bool
     ensures { result ≡ takes_result word }
 {
     !matches!(word, Instruction::Load { .. })
 }
 
-// Whether the word names or takes a whole number.
+/// Whether the word names or takes a whole number.
 fn takes_number(code: &Code, entry: Entry, word: Instruction) -> bool
     ensures { IsTrue result ↔ Arises code.now entry word Cause.WrongType }
 {
@@ -106,14 +109,14 @@ fn takes_number(code: &Code, entry: Entry, word: Instruction) -> bool
     needs_result(word) && matches!(entry.result, Some(Kind::Int))
 }
 
-// Whether the word takes the current result where there may be none.
+/// Whether the word takes the current result where there may be none.
 fn lacks_result(code: &Code, entry: Entry, word: Instruction) -> bool
     ensures { IsTrue result ↔ Arises code.now entry word Cause.NoResult }
 {
     needs_result(word) && entry.result.is_none()
 }
 
-// Whether the word names what its table hasn't.
+/// Whether the word names what its table does not have.
 fn names_nothing(code: &Code, entry: Entry, word: Instruction) -> bool
     ensures { IsTrue result ↔ Arises code.now entry word Cause.BadSlot }
 {
@@ -124,8 +127,10 @@ fn names_nothing(code: &Code, entry: Entry, word: Instruction) -> bool
 }
 
 /// What is known after the word, or the least cause that arises at it.
-pub fn after_word(code: &Code, entry: Entry, word: Instruction) -> Result<Entry, Cause>
-    ensures { MatchResult result (λ after. IsRule code.now entry word after) (λ cause. IsLeastCause code.now entry word cause) }
+pub(crate) fn after_word(code: &Code, entry: Entry, word: Instruction) -> Result<Entry, Cause>
+    ensures { MatchResult result
+        (λ after. IsRule code.now entry word after)
+        (λ cause. IsLeastCause code.now entry word cause) }
 {
     if takes_number(code, entry, word) {
         return Err(Cause::WrongType);

@@ -13,7 +13,7 @@ const LOAD: Instruction = Instruction::Load {
     operand: Operand::Constant(0),
 };
 
-// The code of these words, with a BOOL slot, a slot of whole numbers, and a constant of each kind.
+/// The code of these words, with a BOOL slot, a slot of whole numbers, and a constant of each kind.
 fn code(alloc: Global, words: [Instruction; 2]) -> Result<Code, AllocError> {
     let number = IlType::Int(Range { lo: 0, hi: 9 });
     Ok(Code::new(
@@ -36,7 +36,7 @@ fn lawful_words_are_verified(rt: HostRuntime) -> Result<(), Fail> {
 }
 
 #[test]
-fn the_least_word_and_cause_are_told(rt: HostRuntime) -> Result<(), Fail> {
+fn the_least_word_and_cause_are_reported(rt: HostRuntime) -> Result<(), Fail> {
     let table = [
         (
             [LOAD, Instruction::Reset(1)],
@@ -103,7 +103,7 @@ fn a_start_has_no_current_result(rt: HostRuntime) -> Result<(), Fail> {
     }
 }
 
-// The code of these words on BOOL slots, with one start and the constant TRUE.
+/// The code of these words on BOOL slots, with one start and the constant TRUE.
 fn code_of(alloc: Global, slots: Vec<IlType>, words: Vec<Instruction>) -> Result<Code, AllocError>
     requires slots { length slots.items ≤ 4096 }
     requires words { length words.items ≤ 65536 }
@@ -114,7 +114,7 @@ fn code_of(alloc: Global, slots: Vec<IlType>, words: Vec<Instruction>) -> Result
     Ok(Code::new(16, constants, slots, starts, words, lines))
 }
 
-// A load, and then a store to each slot in turn.
+/// A load, and then a store to each slot in turn.
 fn stores(alloc: Global, count: usize) -> Result<Vec<Instruction>, AllocError> {
     let mut words = Vec::new(alloc);
     words.push(LOAD)?;
