@@ -22,6 +22,6 @@ returns c =
       code = arc_value c.index-codes-task.result;
       coded = coded_at c.args.codes.now c.args.task c.index-codes-task.result below c.index-codes-task.is;
       run = rw (c.deref-2.ensures.value, c.in_ok-initial.ensures, c.slots.ensures.slots) at c.in_ok-made.ensures;
-      bound_is = sym (c.bound-bound.ensures.same ∙ ap (λ (a : Accepted). a.bound) c.deref.ensures);
+      bound_is = sym (c.bound-bound.ensures.value ∙ ap (λ (a : Accepted). a.bound) c.deref.ensures);
       greatest = rw c.deref.ensures at c.bound-bound.ensures.greatest;
     }
