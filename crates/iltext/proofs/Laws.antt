@@ -10,10 +10,11 @@ use Rattle.ilsource.specs.declared.instruction.Operand.{Operand}
 use Rattle.ilsource.specs.declared.instruction.Operand.TheVariants as operands
 use Rattle.ilsource.specs.declared.instruction.Line.{Line}
 use Rattle.ilsource.specs.Trees.{Variables, Written}
-use Rattle.iltext.specs.declared.keyword.Keyword.{Keyword}
-use Rattle.iltext.specs.declared.keyword.Keyword.TheVariants as words
-use Rattle.iltext.specs.declared.token.Mark.TheVariants as marks
+use Rattle.iltokens.specs.declared.keyword.Keyword.{Keyword}
+use Rattle.iltokens.specs.declared.keyword.Keyword.TheVariants as words
+use Rattle.iltokens.specs.declared.lexed.Mark.TheVariants as marks
 use Rattle.iltext.specs.declared.token.Kind.{Kind}
+use Rattle.iltokens.specs.declared.lexed.What.TheVariants as whats
 use Rattle.iltext.specs.declared.token.Kind.TheVariants as kinds
 use Rattle.iltext.specs.declared.token.Token.{Token}
 use Rattle.iltext.specs.declared.instructions.Class.{Class}
@@ -52,15 +53,15 @@ NoProgram t = (word words.Program).starts t ≡ false
 
 pub Firm-name : Firm Token Name name Anything
 unfolding name
-Firm-name = Firm-one _ (token_of kinds.Name 0 0) (record { from = 0; to = 0 }) refl
+Firm-name = Firm-one _ (token_of (kinds.Good whats.Name) 0 0) (record { from = 0; to = 0 }) refl
 
 pub Firm-constant : Firm Token Constant constant Anything
 unfolding constant
-Firm-constant = Firm-one _ (token_of (kinds.Keyword words.True) 0 0) (constants.Bool true) refl
+Firm-constant = Firm-one _ (token_of (kinds.Good (whats.Keyword words.True)) 0 0) (constants.Bool true) refl
 
 pub Firm-operand : Firm Token Operand operand Anything
 unfolding operand
-Firm-operand = Firm-one _ (token_of (kinds.Keyword words.True) 0 0) (operands.Constant (constants.Bool true)) refl
+Firm-operand = Firm-one _ (token_of (kinds.Good (whats.Keyword words.True)) 0 0) (operands.Constant (constants.Bool true)) refl
 
 pub Firm-line_end : Firm Token Seen (mark marks.LineEnd) Anything
 Firm-line_end = Firm-mark marks.LineEnd
@@ -80,12 +81,12 @@ word_no_end w t e = apart_word w (mark marks.LineEnd).starts (λ f g. refl) t.ki
 
 name_no_end : (k : Kind) (f g : ℕ) → name.starts (token_of k f g) ≡ true → NoEnd (token_of k f g)
 unfolding name mark
-name_no_end kinds.Name f g e = refl
+name_no_end (kinds.Good whats.Name) f g e = refl
 name_no_end _ f g e = absurd cc
 
 constant_no_end : (k : Kind) (f g : ℕ) → constant.starts (token_of k f g) ≡ true → NoEnd (token_of k f g)
 unfolding constant mark
-constant_no_end (kinds.Mark m) f g e = absurd cc
+constant_no_end (kinds.Good (whats.Mark m)) f g e = absurd cc
 constant_no_end _ f g e = refl
 
 colon_apart : (t : Token) → (mark marks.Colon).starts t ≡ true → NoEnd t × NoComma t
@@ -127,7 +128,7 @@ unfolding initial mark
 begins_value t e = go t.kind t.from t.to e
   where
     go : (k : Kind) (f g : ℕ) → (lead initial (spaced (mark marks.Semicolon))).starts (token_of k f g) ≡ true → NoEnd (token_of k f g)
-    go (kinds.Mark marks.LineEnd) f g e = absurd cc
+    go (kinds.Good (whats.Mark marks.LineEnd)) f g e = absurd cc
     go _ f g e = refl
 
 pub Firm-declaration : Firm Token Variables declaration NoEnd
@@ -146,7 +147,7 @@ unfolding declarations declaration names name word mark
 inside_no_end t e = go t.kind t.from t.to e
   where
     go : (k : Kind) (f g : ℕ) → (lead declarations (spaced (word words.EndVar))).starts (token_of k f g) ≡ true → NoEnd (token_of k f g)
-    go (kinds.Mark m) f g e = absurd cc
+    go (kinds.Good (whats.Mark m)) f g e = absurd cc
     go _ f g e = refl
 
 pub Firm-vars : Firm Token (List Variables) vars NoEnd
@@ -167,9 +168,9 @@ not_apart _ at e = absurd cc
 pub Firm-instruction : Firm Token Line instruction Anything
 unfolding instruction
 Firm-instruction = Firm-fewer Anything (λ t e. (tt, (tt, tt)))
-    (Firm-alt (Firm-map _ (Firm-seq (Firm-one _ (token_of (kinds.Keyword words.Ld) 0 0) (takers.Load false, 0) refl) (λ t e. tt) Firm-operand)) (λ t e. rest_apart (class_of t.kind) t.from e)
-    (Firm-alt (Firm-map _ (Firm-seq (Firm-one _ (token_of (kinds.Keyword words.S) 0 0) (writers.Set, 0) refl) (λ t e. tt) Firm-name)) (λ t e. not_apart (class_of t.kind) t.from e)
-    (Firm-map _ (Firm-one _ (token_of (kinds.Keyword words.Not) 0 0) 0 refl))))
+    (Firm-alt (Firm-map _ (Firm-seq (Firm-one _ (token_of (kinds.Good (whats.Keyword words.Ld)) 0 0) (takers.Load false, 0) refl) (λ t e. tt) Firm-operand)) (λ t e. rest_apart (class_of t.kind) t.from e)
+    (Firm-alt (Firm-map _ (Firm-seq (Firm-one _ (token_of (kinds.Good (whats.Keyword words.S)) 0 0) (writers.Set, 0) refl) (λ t e. tt) Firm-name)) (λ t e. not_apart (class_of t.kind) t.from e)
+    (Firm-map _ (Firm-one _ (token_of (kinds.Good (whats.Keyword words.Not)) 0 0) 0 refl))))
 
 pub Firm-line : Firm Token Line line NoEnd
 unfolding line
@@ -179,7 +180,7 @@ Firm-line = Firm-map _ (Firm-fewer NoEnd (λ t e. e) (Firm-seq Firm-instruction 
 
 line_no_end : (k : Kind) (f g : ℕ) → line.starts (token_of k f g) ≡ true → NoEnd (token_of k f g)
 unfolding line instruction mark
-line_no_end (kinds.Mark marks.LineEnd) f g e = absurd cc
+line_no_end (kinds.Good (whats.Mark marks.LineEnd)) f g e = absurd cc
 line_no_end _ f g e = refl
 
 end_program_apart : (t : Token) → (word words.EndProgram).starts t ≡ true → NoEnd t × NoLine t
@@ -198,8 +199,8 @@ Lawful-blocks : Lawful Token (List (List Variables)) blocks (λ t. NoEnd t × No
 unfolding blocks vars
 Lawful-blocks = from_many (λ t e. word_no_end words.Var t e) Firm-vars
 
-body_word_apart : (w : Keyword) (f g : ℕ) → (lead lines (spaced (word words.EndProgram))).starts (token_of (kinds.Keyword w) f g) ≡ true
-    → NoVar (token_of (kinds.Keyword w) f g)
+body_word_apart : (w : Keyword) (f g : ℕ) → (lead lines (spaced (word words.EndProgram))).starts (token_of (kinds.Good (whats.Keyword w)) f g) ≡ true
+    → NoVar (token_of (kinds.Good (whats.Keyword w)) f g)
 unfolding lines line instruction word
 body_word_apart words.Var f g e = absurd cc
 body_word_apart _ f g e = refl
@@ -207,8 +208,8 @@ body_word_apart _ f g e = refl
 body_apart : (k : Kind) (f g : ℕ) → (lead lines (spaced (word words.EndProgram))).starts (token_of k f g) ≡ true
     → NoEnd (token_of k f g) × NoVar (token_of k f g)
 unfolding lines line instruction word mark
-body_apart (kinds.Keyword w) f g e = (refl, body_word_apart w f g e)
-body_apart (kinds.Mark marks.LineEnd) f g e = absurd cc
+body_apart (kinds.Good (whats.Keyword w)) f g e = (refl, body_word_apart w f g e)
+body_apart (kinds.Good (whats.Mark marks.LineEnd)) f g e = absurd cc
 body_apart _ f g e = (refl, refl)
 
 Firm-inside : Firm Token (List (List Variables) × (List Line × Seen)) (lead blocks (lead lines (spaced (word words.EndProgram)))) NoEnd
@@ -217,7 +218,7 @@ Firm-inside = Firm-lead {b = lead lines (spaced (word words.EndProgram))} Lawful
 
 inside_apart : (k : Kind) (f g : ℕ) → (lead blocks (lead lines (spaced (word words.EndProgram)))).starts (token_of k f g) ≡ true → NoEnd (token_of k f g)
 unfolding blocks vars lines line instruction word mark
-inside_apart (kinds.Mark marks.LineEnd) f g e = absurd cc
+inside_apart (kinds.Good (whats.Mark marks.LineEnd)) f g e = absurd cc
 inside_apart _ f g e = refl
 
 pub Firm-program : Firm Token Written program NoEnd

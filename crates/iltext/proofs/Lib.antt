@@ -4,4 +4,3 @@ pub mod Laws
 pub mod LineEnds
 pub mod Marks
 pub mod Sources
-pub mod Table

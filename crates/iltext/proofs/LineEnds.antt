@@ -2,9 +2,9 @@
 use Rattle.std.proofs.Common.{◌≡◌, true, false, List, [], ◌∷◌, drop, Option, Some, None, Result, Ok, Err, refl, sym}
 use Rattle.ilgrammar.specs.Items.{◌>>=◌, begins, many, one_read, one_read_at, is_in}
 use Rattle.ilgrammar.proofs.Repeats.{none_more, one_more}
-use Rattle.iltext.specs.declared.token.Mark.TheVariants as marks
+use Rattle.iltokens.specs.declared.lexed.Mark.TheVariants as marks
 use Rattle.iltext.specs.declared.token.Token.{Token}
-use Rattle.iltext.specs.Terminals.{Seen, mark_number, mark_at, mark, line_ends}
+use Rattle.iltext.specs.Terminals.{Seen, mark_at, mark, line_ends}
 use Rattle.iltext.proofs.Laws.{Firm-line_end}
 
 one_goes : (class : Token → Option Seen) (t : Token) (ts : List Token) → is_in (class t) ≡ true → one_read class (t ∷ ts) ≡ Ok (tt, ts)
@@ -16,7 +16,7 @@ one_goes class t ts is = go (class t) is
 
 end_goes : (t : Token) (ts : List Token) → (mark marks.LineEnd).starts t ≡ true → (mark marks.LineEnd).read (t ∷ ts) ≡ Ok (tt, ts)
 unfolding mark
-end_goes t ts is = one_goes (λ t. mark_at (mark_number marks.LineEnd) t.kind) t ts is
+end_goes t ts is = one_goes (λ t. mark_at marks.LineEnd t.kind) t ts is
 
 abbrev marked : List Seen × List Token → Result (Seen × List Token) (List Token)
 marked p = Ok (tt, p.1)

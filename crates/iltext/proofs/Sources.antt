@@ -11,7 +11,7 @@ use Rattle.iltext.specs.Cutting.{Cuts}
 use Rattle.iltext.specs.Faults.{Tells, place_at}
 use Rattle.iltext.specs.Texts.{text}
 use Rattle.iltext.specs.declared.parser.TheConstants.{MAX_BYTES}
-use Rattle.iltext.specs.Parsing.{IsText, IsReadAs, IsFault, IsTooLong, IsFirstFault, IsTextFault, IsParsed}
+use Rattle.iltext.specs.Parsing.{IsText, IsReadAs, IsFault, IsFirstFault, IsTextFault, IsParsed}
 use Rattle.iltext.proofs.Cut.{one_cut}
 use Rattle.iltext.proofs.Laws.{Lawful-text}
 

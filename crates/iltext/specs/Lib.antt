@@ -1,6 +1,5 @@
 pub mod Cutting
 pub mod Faults
-pub mod Keywords
 pub mod Operators
 pub mod Printed
 pub mod Parsing

@@ -5,11 +5,12 @@ use Rattle.ilsource.specs.declared.name.Name.{Name}
 use Rattle.ilsource.specs.declared.instruction.Operand.{Operand}
 use Rattle.ilsource.specs.declared.instruction.Instruction.{Instruction}
 use Rattle.ilsource.specs.declared.instruction.Instruction.TheVariants as instructions
-use Rattle.iltext.specs.declared.keyword.Keyword.{Keyword}
-use Rattle.iltext.specs.declared.keyword.Keyword.TheVariants as words
-use Rattle.iltext.specs.declared.token.Mark.{Mark}
-use Rattle.iltext.specs.declared.token.Mark.TheVariants as marks
+use Rattle.iltokens.specs.declared.keyword.Keyword.{Keyword}
+use Rattle.iltokens.specs.declared.keyword.Keyword.TheVariants as words
+use Rattle.iltokens.specs.declared.lexed.Mark.{Mark}
+use Rattle.iltokens.specs.declared.lexed.Mark.TheVariants as marks
 use Rattle.iltext.specs.declared.token.Kind.{Kind}
+use Rattle.iltokens.specs.declared.lexed.What.TheVariants as whats
 use Rattle.iltext.specs.declared.token.Kind.TheVariants as kinds
 use Rattle.iltext.specs.declared.instructions.Taker.{Taker}
 use Rattle.iltext.specs.declared.instructions.Taker.TheVariants as takers
@@ -42,8 +43,8 @@ class_of_mark marks.AmpersandNot = Takes (takers.Apply And true)
 class_of_mark _ = Other
 
 abbrev pub class_of : Kind → Class
-class_of (kinds.Keyword w) = class_of_word w
-class_of (kinds.Mark m) = class_of_mark m
+class_of (kinds.Good (whats.Keyword w)) = class_of_word w
+class_of (kinds.Good (whats.Mark m)) = class_of_mark m
 class_of _ = Other
 
 -- the instruction of an operator and its operand

@@ -1,57 +1,54 @@
 -- Single tokens as items of the grammar, and the line ends after them. Line ends matter only between instructions, so
 -- elsewhere each word, name or mark takes those that follow it.
-use Rattle.std.specs.Prelude.{ℕ, Option, Some, None, true, false, nat_eq, if◌then◌else◌}
+use Rattle.std.specs.Prelude.{Option, Some, None, Bool, true, false, if◌then◌else◌}
+use denote.Enum.Bare.{sameb}
+use Rattle.iltokens.specs.contracts.keyword.Keyword.{the_type as all_words}
+use Rattle.iltokens.specs.contracts.lexed.Mark.{the_type as all_marks}
 use Rattle.ilgrammar.specs.Items.{Item, one, map, seq, many}
 use Rattle.ilsource.specs.declared.name.Name.{Name}
 use Rattle.ilsource.specs.declared.declaration.Constant.{Constant}
 use Rattle.ilsource.specs.declared.declaration.Constant.TheVariants as constants
 use Rattle.ilsource.specs.declared.instruction.Operand.{Operand}
 use Rattle.ilsource.specs.declared.instruction.Operand.TheVariants as operands
-use Rattle.iltext.specs.declared.keyword.Keyword.{Keyword}
-use Rattle.iltext.specs.declared.keyword.Keyword.TheVariants as words
-use Rattle.iltext.specs.declared.token.Mark.{Mark}
-use Rattle.iltext.specs.declared.token.Mark.TheVariants as marks
+use Rattle.iltokens.specs.declared.keyword.Keyword.{Keyword}
+use Rattle.iltokens.specs.declared.keyword.Keyword.TheVariants as words
+use Rattle.iltokens.specs.declared.lexed.Mark.{Mark}
+use Rattle.iltokens.specs.declared.lexed.Mark.TheVariants as marks
 use Rattle.iltext.specs.declared.token.Kind.{Kind}
+use Rattle.iltokens.specs.declared.lexed.What.TheVariants as whats
 use Rattle.iltext.specs.declared.token.Kind.TheVariants as kinds
 use Rattle.iltext.specs.declared.token.Token.{Token}
-use Rattle.iltext.specs.Keywords.{number}
 
 -- the value of what has none
 abbrev pub Seen : Type 0
 Seen = Unit {0}
 
--- the place of a mark in the list of marks
-abbrev pub mark_number : Mark → ℕ
-mark_number marks.Comma = 0
-mark_number marks.Colon = 1
-mark_number marks.Semicolon = 2
-mark_number marks.Assign = 3
-mark_number marks.Dot = 4
-mark_number marks.Range = 5
-mark_number marks.Open = 6
-mark_number marks.Close = 7
-mark_number marks.Ampersand = 8
-mark_number marks.AmpersandNot = 9
-mark_number marks.LineEnd = 10
+-- whether two reserved words are the same
+abbrev pub same_word : Keyword → Keyword → Bool
+same_word = sameb all_words
 
-abbrev pub word_at : ℕ → Kind → Option Seen
-word_at n (kinds.Keyword w) = if nat_eq (number w) n then Some tt else None
-word_at n _ = None
+abbrev pub word_at : Keyword → Kind → Option Seen
+word_at w (kinds.Good (whats.Keyword v)) = if same_word v w then Some tt else None
+word_at w _ = None
 
 -- this reserved word
 unfoldable pub word : Keyword → Item Token Seen
-word w = one (λ t. word_at (number w) t.kind)
+word w = one (λ t. word_at w t.kind)
 
-abbrev pub mark_at : ℕ → Kind → Option Seen
-mark_at n (kinds.Mark m) = if nat_eq (mark_number m) n then Some tt else None
-mark_at n _ = None
+-- whether two marks are the same
+abbrev pub same_mark : Mark → Mark → Bool
+same_mark = sameb all_marks
+
+abbrev pub mark_at : Mark → Kind → Option Seen
+mark_at m (kinds.Good (whats.Mark n)) = if same_mark n m then Some tt else None
+mark_at m _ = None
 
 -- this mark
 unfoldable pub mark : Mark → Item Token Seen
-mark m = one (λ t. mark_at (mark_number m) t.kind)
+mark m = one (λ t. mark_at m t.kind)
 
 abbrev pub name_at : Kind → Token → Option Name
-name_at kinds.Name t = Some (record { from = t.from; to = t.to })
+name_at (kinds.Good whats.Name) t = Some (record { from = t.from; to = t.to })
 name_at _ t = None
 
 -- a word that isn't reserved
@@ -64,9 +61,9 @@ constant_word words.False = Some (constants.Bool false)
 constant_word _ = None
 
 abbrev pub constant_at : Kind → Option Constant
-constant_at (kinds.Keyword w) = constant_word w
-constant_at (kinds.Number n) = Some (constants.Number n)
-constant_at (kinds.Time n) = Some (constants.Time n)
+constant_at (kinds.Good (whats.Keyword w)) = constant_word w
+constant_at (kinds.Good (whats.Number n)) = Some (constants.Number n)
+constant_at (kinds.Good (whats.Time n)) = Some (constants.Time n)
 constant_at _ = None
 
 -- TRUE, FALSE, a number or a duration
@@ -79,8 +76,8 @@ operand_word words.False = Some (operands.Constant (constants.Bool false))
 operand_word _ = None
 
 abbrev pub operand_at : Kind → Token → Option Operand
-operand_at (kinds.Keyword w) t = operand_word w
-operand_at kinds.Name t = Some (operands.Variable (record { from = t.from; to = t.to }))
+operand_at (kinds.Good (whats.Keyword w)) t = operand_word w
+operand_at (kinds.Good whats.Name) t = Some (operands.Variable (record { from = t.from; to = t.to }))
 operand_at _ t = None
 
 -- a variable, TRUE or FALSE

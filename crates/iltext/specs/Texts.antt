@@ -7,8 +7,8 @@ use Rattle.ilsource.specs.declared.declaration.Constant.{Constant}
 use Rattle.ilsource.specs.declared.instruction.Line.{Line}
 use Rattle.ilsource.specs.declared.instruction.Instruction.TheVariants as instructions
 use Rattle.ilsource.specs.Trees.{Variables, Written}
-use Rattle.iltext.specs.declared.keyword.Keyword.TheVariants as words
-use Rattle.iltext.specs.declared.token.Mark.TheVariants as marks
+use Rattle.iltokens.specs.declared.keyword.Keyword.TheVariants as words
+use Rattle.iltokens.specs.declared.lexed.Mark.TheVariants as marks
 use Rattle.iltext.specs.declared.token.Token.{Token}
 use Rattle.iltext.specs.declared.instructions.Taker.{Taker}
 use Rattle.iltext.specs.declared.instructions.Writer.{Writer}

@@ -5,11 +5,11 @@ ghost use Rattle.ilgrammar.specs.Items.{begins};
 ghost use Rattle.ilgrammar.specs.Results.{Gives};
 ghost use Rattle.iltext.specs.Texts.{next_name, names, initial, declaration, declarations, vars};
 
-use crate::keyword::Keyword;
 use crate::reading::{spaced_constant, spaced_mark, spaced_name, spaced_word};
-use crate::token::{Kind, Mark, Token};
+use crate::token::{Kind, Token};
 use ilgrammar::ReadError;
 use ilsource::{Constant, Declaration, Name};
+use iltokens::{Keyword, Mark, What};
 use std::alloc::Global;
 
 #[tactic(auto, unfolding(crate::specs::Texts::next_name, crate::specs::Terminals::mark))]
@@ -20,7 +20,7 @@ fn begins_next_name(ts: &[Token]) -> bool
         ts,
         [
             Token {
-                kind: Kind::Mark(Mark::Comma),
+                kind: Kind::Good(What::Mark(Mark::Comma)),
                 ..
             },
             ..
@@ -65,7 +65,7 @@ fn initial<'a>(ts: &'a [Token]) -> Result<(Option<Constant>, &'a [Token]), ReadE
     match ts {
         [
             Token {
-                kind: Kind::Mark(Mark::Assign),
+                kind: Kind::Good(What::Mark(Mark::Assign)),
                 ..
             },
             ..
@@ -86,7 +86,7 @@ fn begins_declaration(ts: &[Token]) -> bool
         ts,
         [
             Token {
-                kind: Kind::Name,
+                kind: Kind::Good(What::Name),
                 ..
             },
             ..

@@ -6,11 +6,11 @@ ghost use Rattle.ilgrammar.specs.Results.{Gives};
 ghost use Rattle.iltext.specs.Operators.{class_of_word, class_of, taken, written};
 ghost use Rattle.iltext.specs.Texts.{instruction, line, lines};
 
-use crate::keyword::Keyword;
 use crate::reading::{line_ends, mark, name, operand};
-use crate::token::{Kind, Mark, Token};
+use crate::token::{Kind, Token};
 use ilgrammar::ReadError;
 use ilsource::{Instruction, Line, Name, Operand};
+use iltokens::{Keyword, Mark, What};
 use iltypes::BooleanOperator;
 use std::alloc::Global;
 
@@ -66,9 +66,15 @@ pub fn class_of(kind: Kind) -> Class
     ensures { result ≡ class_of kind }
 {
     match kind {
-        Kind::Keyword(word) => class_of_word(word),
-        Kind::Mark(Mark::Ampersand) => Class::Takes(Taker::Apply(BooleanOperator::And, false)),
-        Kind::Mark(Mark::AmpersandNot) => Class::Takes(Taker::Apply(BooleanOperator::And, true)),
+        Kind::Good(What::Keyword(word)) => class_of_word(word),
+        Kind::Good(What::Mark(Mark::Ampersand)) => Class::Takes(Taker::Apply(
+            BooleanOperator::And,
+            false,
+        )),
+        Kind::Good(What::Mark(Mark::AmpersandNot)) => Class::Takes(Taker::Apply(
+            BooleanOperator::And,
+            true,
+        )),
         _ => Class::Other,
     }
 }

@@ -12,7 +12,6 @@ mod cutting;
 mod declarations;
 mod fault;
 mod instructions;
-mod keyword;
 mod parser;
 #[cfg(test)]
 mod plain;

@@ -8,11 +8,11 @@ ghost use Rattle.iltext.specs.Texts.{vars, blocks, program, programs, text, flat
 
 use crate::declarations::vars;
 use crate::instructions::lines;
-use crate::keyword::Keyword;
 use crate::reading::{line_ends, spaced_name, spaced_word};
 use crate::token::{Kind, Token};
 use ilgrammar::ReadError;
 use ilsource::{Declaration, Program};
+use iltokens::{Keyword, What};
 use std::alloc::{AllocError, Global};
 
 #[tactic(auto, unfolding(crate::specs::Texts::vars, crate::specs::Terminals::word))]
@@ -23,7 +23,7 @@ fn begins_vars(ts: &[Token]) -> bool
         ts,
         [
             Token {
-                kind: Kind::Keyword(Keyword::Var),
+                kind: Kind::Good(What::Keyword(Keyword::Var)),
                 ..
             },
             ..
@@ -39,7 +39,7 @@ fn begins_program(ts: &[Token]) -> bool
         ts,
         [
             Token {
-                kind: Kind::Keyword(Keyword::Program),
+                kind: Kind::Good(What::Keyword(Keyword::Program)),
                 ..
             },
             ..

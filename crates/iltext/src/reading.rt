@@ -1,21 +1,14 @@
 //! Single tokens, and the line ends after them.
 
-ghost use Rattle.std.specs.Prelude.{◌≡◌, ◌<◌, List, length, nat_eq, IsTrue, Ok};
+ghost use Rattle.std.specs.Prelude.{◌≡◌, ◌<◌, List, length, IsTrue, Ok};
 ghost use Rattle.ilgrammar.specs.Items.{begins};
 ghost use Rattle.ilgrammar.specs.Results.{Gives};
-ghost use Rattle.iltext.specs.Terminals.{mark_number, word, mark, name, constant, operand, line_ends, spaced};
+ghost use Rattle.iltext.specs.Terminals.{word, mark, name, constant, operand, line_ends, spaced};
 
-use crate::keyword::{self, Keyword};
-use crate::token::{Kind, Mark, Token};
+use crate::token::{Kind, Token};
 use ilgrammar::ReadError;
 use ilsource::{Constant, Name, Operand};
-
-/// The place of a mark in the list of marks.
-pub fn mark_number(mark: Mark) -> u8
-    ensures { result ≡ mark_number mark }
-{
-    mark as u8
-}
+use iltokens::{Keyword, Mark, What};
 
 /// This reserved word.
 #[tactic(auto, unfolding(crate::specs::Terminals::word))]
@@ -25,12 +18,12 @@ pub fn word<'a>(ts: &'a [Token], wanted: Keyword) -> Result<&'a [Token], ReadErr
     match ts {
         [
             Token {
-                kind: Kind::Keyword(found),
+                kind: Kind::Good(What::Keyword(found)),
                 ..
             },
             rest @ ..,
         ] => {
-            if keyword::number(*found) == keyword::number(wanted) {
+            if *found == wanted {
                 Ok(rest)
             } else {
                 Err(ReadError::Fault(ts))
@@ -48,12 +41,12 @@ pub fn mark<'a>(ts: &'a [Token], wanted: Mark) -> Result<&'a [Token], ReadError<
     match ts {
         [
             Token {
-                kind: Kind::Mark(found),
+                kind: Kind::Good(What::Mark(found)),
                 ..
             },
             rest @ ..,
         ] => {
-            if mark_number(*found) == mark_number(wanted) {
+            if *found == wanted {
                 Ok(rest)
             } else {
                 Err(ReadError::Fault(ts))
@@ -70,7 +63,7 @@ pub fn name<'a>(ts: &'a [Token]) -> Result<(Name, &'a [Token]), ReadError<'a, To
 {
     match ts {
         [first, rest @ ..] => match first.kind {
-            Kind::Name => Ok((
+            Kind::Good(What::Name) => Ok((
                 Name {
                     from: first.from,
                     to: first.to,
@@ -90,10 +83,10 @@ pub fn constant<'a>(ts: &'a [Token]) -> Result<(Constant, &'a [Token]), ReadErro
 {
     match ts {
         [first, rest @ ..] => match first.kind {
-            Kind::Keyword(Keyword::True) => Ok((Constant::Bool(true), rest)),
-            Kind::Keyword(Keyword::False) => Ok((Constant::Bool(false), rest)),
-            Kind::Number(number) => Ok((Constant::Number(number), rest)),
-            Kind::Time(milliseconds) => Ok((Constant::Time(milliseconds), rest)),
+            Kind::Good(What::Keyword(Keyword::True)) => Ok((Constant::Bool(true), rest)),
+            Kind::Good(What::Keyword(Keyword::False)) => Ok((Constant::Bool(false), rest)),
+            Kind::Good(What::Number(number)) => Ok((Constant::Number(number), rest)),
+            Kind::Good(What::Time(milliseconds)) => Ok((Constant::Time(milliseconds), rest)),
             _ => Err(ReadError::Fault(ts)),
         },
         [] => Err(ReadError::Fault(ts)),
@@ -107,9 +100,15 @@ pub fn operand<'a>(ts: &'a [Token]) -> Result<(Operand, &'a [Token]), ReadError<
 {
     match ts {
         [first, rest @ ..] => match first.kind {
-            Kind::Keyword(Keyword::True) => Ok((Operand::Constant(Constant::Bool(true)), rest)),
-            Kind::Keyword(Keyword::False) => Ok((Operand::Constant(Constant::Bool(false)), rest)),
-            Kind::Name => Ok((
+            Kind::Good(What::Keyword(Keyword::True)) => Ok((
+                Operand::Constant(Constant::Bool(true)),
+                rest,
+            )),
+            Kind::Good(What::Keyword(Keyword::False)) => Ok((
+                Operand::Constant(Constant::Bool(false)),
+                rest,
+            )),
+            Kind::Good(What::Name) => Ok((
                 Operand::Variable(Name {
                     from: first.from,
                     to: first.to,
@@ -132,7 +131,7 @@ fn begins_line_end(ts: &[Token]) -> bool
         ts,
         [
             Token {
-                kind: Kind::Mark(Mark::LineEnd),
+                kind: Kind::Good(What::Mark(Mark::LineEnd)),
                 ..
             },
             ..

@@ -1,35 +1,11 @@
 //! Tokens as the grammar sees them.
 
-use crate::keyword::Keyword;
-use iltokens::Cause;
+use iltokens::{Cause, What};
 
-/// A mark between words.
-#[derive(Clone, Copy, PartialEq, Eq, Debug)]
-pub enum Mark {
-    Comma,
-    Colon,
-    Semicolon,
-    Assign,
-    Dot,
-    Range,
-    Open,
-    Close,
-    Ampersand,
-    AmpersandNot,
-    LineEnd,
-}
-
-/// What a token is.
+/// What stands at a place of a text.
 #[derive(Clone, Copy, PartialEq, Eq, Debug)]
 pub enum Kind {
-    Keyword(Keyword),
-    /// A word that isn't reserved.
-    Name,
-    Number(i64),
-    /// A duration in milliseconds.
-    Time(u32),
-    Address,
-    Mark(Mark),
+    Good(What),
     /// What begins no token, and why.
     Bad(Cause),
 }

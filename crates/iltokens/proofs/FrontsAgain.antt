@@ -6,6 +6,7 @@ use Rattle.std.specs.Char.{to_ascii_lowercase}
 use Rattle.std.proofs.lemmas.Bool.{leb-true, leb-false, ltb-true, ltb-false}
 use Rattle.iltokens.specs.declared.lexed.AddressKind.{AddressKind}
 use Rattle.iltokens.specs.declared.lexed.AddressKind.TheVariants as kinds
+use Rattle.iltokens.specs.declared.lexed.Mark.TheVariants as marks
 use Rattle.iltokens.specs.declared.lexed.What.{What}
 use Rattle.iltokens.specs.declared.lexed.What.TheVariants as whats
 use Rattle.iltokens.specs.declared.lexed.Cause.TheVariants.{BadNumber}
@@ -14,12 +15,13 @@ use Rattle.iltokens.specs.Numbers.{unsigned, signed}
 use Rattle.iltokens.specs.Times.{time}
 use Rattle.iltokens.specs.Addresses.{Place, address}
 use Rattle.iltokens.specs.Spelling.{is_letter, after_name}
-use Rattle.iltokens.specs.Fronts.{Front, end, taken, fault, in_limits, number_front, number_at, time_front, word_at, address_front, address_at, colon_at, dot_at, ampersand_at, mark_at, front_at}
+use Rattle.iltokens.specs.Fronts.{Front, end, taken, fault, in_limits, number_front, number_at, word_kind, word_front, time_front, word_at, address_front, address_at, colon_at, dot_at, ampersand_at, mark_at, front_at}
 use Rattle.iltokens.specs.Spellings as forms
 use Rattle.iltokens.specs.Spellings.{Reads, Spells, IsUnsigned, IsNumber, IsTime, IsAddress}
 use Rattle.iltokens.specs.Longest.{IsWithin}
 use Rattle.iltokens.proofs.DigitLaws.{capped, Found}
 use Rattle.iltokens.proofs.DigitsAgain.{ReadTo}
+use Rattle.iltokens.proofs.ReservedWords.{keyword_kind, name_kind, front_taken}
 use Rattle.iltokens.proofs.WordsAgain.{lower_is, lower_mark, letter_in_name, name_again, hash_last, before_hash}
 use Rattle.iltokens.proofs.NumbersAgain.{unsigned_to, unsigned_begins, AddressTo, address_to}
 use Rattle.iltokens.proofs.TimesAgain.{time_to}
@@ -167,16 +169,21 @@ name_short u rest read name f = go f.3.reads
     go (inl h) = let k = hash_last (codes "t") f.3.prefix h in hashed k.0 k.1
     go (inr h) = let k = hash_last (codes "time") f.3.prefix h in hashed k.0 k.1
 
-word_reaches : (b : ℕ) (w rest : List ℕ) → is_letter b ≡ true → forms.AreNameBytes w
-    → Reaches whats.Word rest (word_at (b ∷ w ++ rest)) (Some (word_rest (time (b ∷ w ++ rest)) (b ∷ w ++ rest)))
+word_reaches : (what : What) (b : ℕ) (w rest : List ℕ) → IsWithin what → is_letter b ≡ true → forms.AreNameBytes w → word_kind (b ∷ w) ≡ what
+    → Reaches what rest (word_at (b ∷ w ++ rest)) (Some (word_rest (time (b ∷ w ++ rest)) (b ∷ w ++ rest)))
 unfolding word_at
-word_reaches b w rest is name = go (time (b ∷ w ++ rest)) (time_found (b ∷ w ++ rest))
+word_reaches what b w rest within is name kind = go (time (b ∷ w ++ rest)) (time_found (b ∷ w ++ rest))
   where
     none_left : rest ≡ [] → after_name (w ++ rest) ≡ []
     none_left z = nothing rest (after_name (w ++ rest)) (name_again w rest name) z
 
-    go : (o : Option (ℕ × List ℕ)) → Found IsTime (b ∷ w ++ rest) o → Reaches whats.Word rest (time_front o (b ∷ w ++ rest)) (Some (word_rest o (b ∷ w ++ rest)))
-    go None f = (name_again w rest name, λ z. inl (tt, ap (λ (r : List ℕ). taken whats.Word r) (none_left z)))
+    whole : rest ≡ [] → word_front (b ∷ w ++ rest) (after_name (w ++ rest)) ≡ taken what []
+    whole z =
+        let all : b ∷ w ++ rest ≡ (b ∷ w) ++ after_name (w ++ rest) = rw (none_left z, z) refl in
+        rw (front_taken (b ∷ w ++ rest) (b ∷ w) (after_name (w ++ rest)) all, kind, none_left z) refl
+
+    go : (o : Option (ℕ × List ℕ)) → Found IsTime (b ∷ w ++ rest) o → Reaches what rest (time_front o (b ∷ w ++ rest)) (Some (word_rest o (b ∷ w ++ rest)))
+    go None f = (name_again w rest name, λ z. inl (within, whole z))
     go (Some read) f =
         let lt = name_short (b ∷ w) rest read (letter_in_name b is, name) f in
         (omega arith, λ z. absurd (let none : length rest ≡ 0 = ap length z in omega arith))
@@ -267,17 +274,17 @@ either_mark : (what longer : What) (rest : List ℕ) (t : Bool) (b : ℕ) (bs : 
 either_mark what longer rest true b bs w e = (let size = ap length e in omega arith, λ z. absurd (let bad = sym z ∙ e in cc))
 either_mark what longer rest false b bs w e = simple what rest w
 
-colon_reaches : (rest : List ℕ) → Reaches whats.Colon rest (colon_at rest) (front_rest (colon_at rest))
-colon_reaches [] = simple whats.Colon [] tt
-colon_reaches (b ∷ bs) = either_mark whats.Colon whats.Assign (b ∷ bs) (eqb b 61) b bs tt refl
+colon_reaches : (rest : List ℕ) → Reaches (whats.Mark marks.Colon) rest (colon_at rest) (front_rest (colon_at rest))
+colon_reaches [] = simple (whats.Mark marks.Colon) [] tt
+colon_reaches (b ∷ bs) = either_mark (whats.Mark marks.Colon) (whats.Mark marks.Assign) (b ∷ bs) (eqb b 61) b bs tt refl
 
-dot_reaches : (rest : List ℕ) → Reaches whats.Dot rest (dot_at rest) (front_rest (dot_at rest))
-dot_reaches [] = simple whats.Dot [] tt
-dot_reaches (b ∷ bs) = either_mark whats.Dot whats.Range (b ∷ bs) (eqb b 46) b bs tt refl
+dot_reaches : (rest : List ℕ) → Reaches (whats.Mark marks.Dot) rest (dot_at rest) (front_rest (dot_at rest))
+dot_reaches [] = simple (whats.Mark marks.Dot) [] tt
+dot_reaches (b ∷ bs) = either_mark (whats.Mark marks.Dot) (whats.Mark marks.Range) (b ∷ bs) (eqb b 46) b bs tt refl
 
-ampersand_reaches : (rest : List ℕ) → Reaches whats.Ampersand rest (ampersand_at rest) (front_rest (ampersand_at rest))
-ampersand_reaches [] = simple whats.Ampersand [] tt
-ampersand_reaches (b ∷ bs) = either_mark whats.Ampersand whats.AmpersandNot (b ∷ bs) ((eqb b 78) || (eqb b 110)) b bs tt refl
+ampersand_reaches : (rest : List ℕ) → Reaches (whats.Mark marks.Ampersand) rest (ampersand_at rest) (front_rest (ampersand_at rest))
+ampersand_reaches [] = simple (whats.Mark marks.Ampersand) [] tt
+ampersand_reaches (b ∷ bs) = either_mark (whats.Mark marks.Ampersand) (whats.Mark marks.AmpersandNot) (b ∷ bs) ((eqb b 78) || (eqb b 110)) b bs tt refl
 
 ampersand_not : (u : List ℕ) → Reads (codes "&n") u → (n : ℕ) × (u ≡ 38 ∷ n ∷ []) × (((eqb n 78) || (eqb n 110)) ≡ true)
 ampersand_not [] h = absurd cc
@@ -293,27 +300,30 @@ ampersand_not (b ∷ c ∷ []) h =
     go (inr k) = let x : c ≡ 78 = (let f = k.0 in omega arith) in rw x refl
 
 ampersand_not_at : (n : ℕ) (rest : List ℕ) → ((eqb n 78) || (eqb n 110)) ≡ true
-    → Reaches whats.AmpersandNot rest (ampersand_at (n ∷ rest)) (front_rest (ampersand_at (n ∷ rest)))
-ampersand_not_at n rest is = rw is (simple whats.AmpersandNot rest tt)
+    → Reaches (whats.Mark marks.AmpersandNot) rest (ampersand_at (n ∷ rest)) (front_rest (ampersand_at (n ∷ rest)))
+ampersand_not_at n rest is = rw is (simple (whats.Mark marks.AmpersandNot) rest tt)
 
 -- ---- all tokens
 
 pub reaches : (what : What) (u : List ℕ) → Spells what u → (rest : List ℕ) → Reaches what rest (front_at (u ++ rest)) (rest_at (u ++ rest))
 unfolding front_at mark_at is_digit
-reaches whats.Word [] h rest = absurd h
-reaches whats.Word (b ∷ w) h rest = at_letter whats.Word rest b (w ++ rest) h.0 (word_reaches b w rest h.0 h.1)
+reaches (whats.Keyword k) [] h rest = absurd h.0
+reaches (whats.Keyword k) (b ∷ w) h rest =
+    at_letter (whats.Keyword k) rest b (w ++ rest) h.0.0 (word_reaches (whats.Keyword k) b w rest tt h.0.0 h.0.1 (keyword_kind (b ∷ w) k h.1))
+reaches whats.Name [] h rest = absurd h.0
+reaches whats.Name (b ∷ w) h rest = at_letter whats.Name rest b (w ++ rest) h.0.0 (word_reaches whats.Name b w rest tt h.0.0 h.0.1 (name_kind (b ∷ w) h.1))
 reaches (whats.Number n) u h rest = number_reaches u n h rest
 reaches (whats.Time n) u h rest = time_reaches u n h rest
 reaches (whats.Address kind bus place) u h rest = address_reaches u kind bus place h rest
-reaches whats.Comma u h rest = rw h (simple whats.Comma rest tt)
-reaches whats.Colon u h rest = rw h (colon_reaches rest)
-reaches whats.Semicolon u h rest = rw h (simple whats.Semicolon rest tt)
-reaches whats.Assign u h rest = rw h (simple whats.Assign rest tt)
-reaches whats.Dot u h rest = rw h (dot_reaches rest)
-reaches whats.Range u h rest = rw h (simple whats.Range rest tt)
-reaches whats.Open u h rest = rw h (simple whats.Open rest tt)
-reaches whats.Close u h rest = rw h (simple whats.Close rest tt)
-reaches whats.Ampersand u h rest = rw h (ampersand_reaches rest)
-reaches whats.AmpersandNot u h rest = let k = ampersand_not u h in let e = k.1 in rw e (ampersand_not_at k.0 rest k.2)
-reaches whats.LineEnd u (inl h) rest = rw h (simple whats.LineEnd rest tt)
-reaches whats.LineEnd u (inr h) rest = rw h (simple whats.LineEnd rest tt)
+reaches (whats.Mark marks.Comma) u h rest = rw h (simple (whats.Mark marks.Comma) rest tt)
+reaches (whats.Mark marks.Colon) u h rest = rw h (colon_reaches rest)
+reaches (whats.Mark marks.Semicolon) u h rest = rw h (simple (whats.Mark marks.Semicolon) rest tt)
+reaches (whats.Mark marks.Assign) u h rest = rw h (simple (whats.Mark marks.Assign) rest tt)
+reaches (whats.Mark marks.Dot) u h rest = rw h (dot_reaches rest)
+reaches (whats.Mark marks.Range) u h rest = rw h (simple (whats.Mark marks.Range) rest tt)
+reaches (whats.Mark marks.Open) u h rest = rw h (simple (whats.Mark marks.Open) rest tt)
+reaches (whats.Mark marks.Close) u h rest = rw h (simple (whats.Mark marks.Close) rest tt)
+reaches (whats.Mark marks.Ampersand) u h rest = rw h (ampersand_reaches rest)
+reaches (whats.Mark marks.AmpersandNot) u h rest = let k = ampersand_not u h in let e = k.1 in rw e (ampersand_not_at k.0 rest k.2)
+reaches (whats.Mark marks.LineEnd) u (inl h) rest = rw h (simple (whats.Mark marks.LineEnd) rest tt)
+reaches (whats.Mark marks.LineEnd) u (inr h) rest = rw h (simple (whats.Mark marks.LineEnd) rest tt)

@@ -7,6 +7,7 @@ pub mod FrontsAgain
 pub mod NumbersAgain
 pub mod OverBlanks
 pub mod OverDigits
+pub mod ReservedWords
 pub mod Spelled
 pub mod Telling
 pub mod TimeLaws

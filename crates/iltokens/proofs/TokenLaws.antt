@@ -1,5 +1,5 @@
 -- What is told at the front of some bytes is spelled there, in its limits or outside them.
-use Rattle.std.proofs.Common.{◌≡◌, pos, neg_ℤ, ℕ, suc, ◌-◌, ◌^◌, ◌<◌, ◌≤◌, Bool, true, false, cond, eqb, leb, ltb, List, [], ◌∷◌, ◌++◌, Option, Some, None, ◌&&◌, ◌||◌, ◌⊎◌, inl, inr, refl, sym, ap, subst, ◌∙◌, append_assoc, arith, eqb-true}
+use Rattle.std.proofs.Common.{◌≡◌, pos, neg_ℤ, ℕ, suc, ◌-◌, ◌^◌, ◌<◌, ◌≤◌, Bool, true, false, cond, eqb, leb, ltb, List, [], ◌∷◌, ◌++◌, length, take, Option, Some, None, ◌&&◌, ◌||◌, ◌⊎◌, inl, inr, refl, sym, ap, subst, ◌∙◌, append_assoc, arith, eqb-true}
 use Rattle.std.specs.Prelude.{codes}
 use Rattle.std.proofs.lemmas.Bool.{leb-true, leb-false, ltb-true, ltb-false}
 use Rattle.iltokens.specs.declared.lexed.What.{What}
@@ -9,13 +9,14 @@ use Rattle.iltokens.specs.Digits.{is_digit}
 use Rattle.iltokens.specs.Numbers.{unsigned, signed}
 use Rattle.iltokens.specs.Times.{time}
 use Rattle.iltokens.specs.Addresses.{Place, address}
-use Rattle.iltokens.specs.Spelling.{is_letter}
-use Rattle.iltokens.specs.Fronts.{Front, end, taken, fault, in_limits, number_front, number_at, time_front, word_at, address_front, address_at, colon_at, dot_at, ampersand_at, return_at, mark_at, front_at}
+use Rattle.iltokens.specs.Spelling.{is_letter, after_name}
+use Rattle.iltokens.specs.Fronts.{Front, end, taken, fault, in_limits, number_front, number_at, word_front, time_front, word_at, address_front, address_at, colon_at, dot_at, ampersand_at, return_at, mark_at, front_at}
 use Rattle.iltokens.specs.Spellings.{Spells, IsUnsigned, IsNumber, IsTime, IsAddress}
 use Rattle.iltokens.specs.Spellings as forms
 use Rattle.iltokens.specs.Longest.{IsWithin}
 use Rattle.iltokens.proofs.Comments.{either}
 use Rattle.iltokens.proofs.DigitLaws.{capped, Found}
+use Rattle.iltokens.proofs.ReservedWords.{word_spelled, word_within, front_taken}
 use Rattle.iltokens.proofs.Spelled.{unsigned_found, name_found, AddressAt, address_found}
 use Rattle.iltokens.proofs.TimeLaws.{time_found}
 use Rattle.iltokens.proofs.FrontsAgain.{rest_of, place_rest, word_rest, front_rest, rest_at, fits_pos, pos_fits, fits_neg, neg_fits}
@@ -101,6 +102,11 @@ minus_number bs = negative_front (codes "-") bs (λ u n h. IsNumber.negative u n
 
 -- ---- words and durations
 
+told_word : (bs u rest : List ℕ) → bs ≡ u ++ rest → forms.IsName u → Told bs (word_front bs rest) (Some rest)
+told_word bs u rest parts name =
+    let same : take (length bs - length rest) bs ≡ u = front_taken bs u rest parts in
+    (u, refl, parts, rw same (word_spelled u name), rw same (word_within u))
+
 word_told : (b : ℕ) (bs : List ℕ) → is_letter b ≡ true → Told (b ∷ bs) (word_at (b ∷ bs)) (Some (word_rest (time (b ∷ bs)) (b ∷ bs)))
 unfolding word_at
 word_told b bs letter = go (time (b ∷ bs)) (time_found (b ∷ bs))
@@ -116,7 +122,10 @@ word_told b bs letter = go (time (b ∷ bs)) (time_found (b ∷ bs))
         (h.0, whats.Time h.1, h.2, h.3, λ fits. omega arith)
 
     go : (o : Option (ℕ × List ℕ)) → Found IsTime (b ∷ bs) o → Told (b ∷ bs) (time_front o (b ∷ bs)) (Some (word_rest o (b ∷ bs)))
-    go None h = let n = name_found bs in (b ∷ n.0, refl, ap (λ (z : List ℕ). b ∷ z) n.1, (letter, n.2), tt)
+    go None h =
+        let n = name_found bs in
+        let parts : b ∷ bs ≡ (b ∷ n.0) ++ after_name bs = ap (λ (z : List ℕ). b ∷ z) n.1 in
+        told_word (b ∷ bs) (b ∷ n.0) (after_name bs) parts (letter, n.2)
     go (Some read) h = limited read h (leb read.0 4294967295) refl
 
 -- ---- addresses

@@ -1,5 +1,7 @@
 -- The token at the front of some bytes, where no blank stands.
-use Rattle.std.specs.Prelude.{ℕ, ℤ, ◌^◌, List, [], ◌∷◌, drop, Option, Some, None, Bool, true, false, ◌&&◌, ◌||◌, ◌==◌, nat_le, nat_lt, if◌then◌else◌}
+use Rattle.std.specs.Prelude.{ℕ, ℤ, ◌-◌, ◌^◌, List, [], ◌∷◌, length, take, drop, Option, Some, None, Bool, true, false, ◌&&◌, ◌||◌, ◌==◌, nat_le, nat_lt, if◌then◌else◌}
+use Rattle.iltokens.specs.declared.keyword.Keyword.{Keyword}
+use Rattle.iltokens.specs.declared.lexed.Mark.TheVariants as marks
 use Rattle.iltokens.specs.declared.lexed.What.{What}
 use Rattle.iltokens.specs.declared.lexed.What.TheVariants as whats
 use Rattle.iltokens.specs.declared.lexed.Cause.{Cause}
@@ -7,6 +9,7 @@ use Rattle.iltokens.specs.declared.lexed.Cause.TheVariants.{NotAscii, BadToken, 
 use Rattle.iltokens.specs.Digits.{is_digit}
 use Rattle.iltokens.specs.Numbers.{unsigned, signed}
 use Rattle.iltokens.specs.Times.{time}
+use Rattle.iltokens.specs.Keywords.{keyword}
 use Rattle.iltokens.specs.Spelling.{is_letter, after_name}
 use Rattle.iltokens.specs.Addresses.{Place, address}
 
@@ -27,8 +30,19 @@ number_front negative (Some read) = in_limits (signed negative read.0) read.1
 unfoldable pub number_at : Bool → List ℕ → Front
 number_at negative bs = number_front negative (unsigned bs)
 
+abbrev pub kind_of_word : Option Keyword → What
+kind_of_word None = whats.Name
+kind_of_word (Some w) = whats.Keyword w
+
+-- what a word is: reserved, or a name
+unfoldable pub word_kind : List ℕ → What
+word_kind u = kind_of_word (keyword u)
+
+abbrev pub word_front : List ℕ → List ℕ → Front
+word_front bs rest = taken (word_kind (take (length bs - length rest) bs)) rest
+
 abbrev pub time_front : Option (ℕ × List ℕ) → List ℕ → Front
-time_front None bs = taken whats.Word (after_name (drop 1 bs))
+time_front None bs = word_front bs (after_name (drop 1 bs))
 time_front (Some read) bs = if nat_le read.0 4294967295 then taken (whats.Time read.0) read.1 else fault BadNumber
 
 -- a duration, or else a word
@@ -47,36 +61,36 @@ address_at bs = address_front (address bs)
 
 -- after `:`
 abbrev pub colon_at : List ℕ → Front
-colon_at [] = taken whats.Colon []
-colon_at (b ∷ bs) = if b == 61 then taken whats.Assign bs else taken whats.Colon (b ∷ bs)
+colon_at [] = taken (whats.Mark marks.Colon) []
+colon_at (b ∷ bs) = if b == 61 then taken (whats.Mark marks.Assign) bs else taken (whats.Mark marks.Colon) (b ∷ bs)
 
 -- after `.`
 abbrev pub dot_at : List ℕ → Front
-dot_at [] = taken whats.Dot []
-dot_at (b ∷ bs) = if b == 46 then taken whats.Range bs else taken whats.Dot (b ∷ bs)
+dot_at [] = taken (whats.Mark marks.Dot) []
+dot_at (b ∷ bs) = if b == 46 then taken (whats.Mark marks.Range) bs else taken (whats.Mark marks.Dot) (b ∷ bs)
 
 -- after `&`
 abbrev pub ampersand_at : List ℕ → Front
-ampersand_at [] = taken whats.Ampersand []
-ampersand_at (b ∷ bs) = if (b == 78) || (b == 110) then taken whats.AmpersandNot bs else taken whats.Ampersand (b ∷ bs)
+ampersand_at [] = taken (whats.Mark marks.Ampersand) []
+ampersand_at (b ∷ bs) = if (b == 78) || (b == 110) then taken (whats.Mark marks.AmpersandNot) bs else taken (whats.Mark marks.Ampersand) (b ∷ bs)
 
 -- after a carriage return
 abbrev pub return_at : List ℕ → Front
 return_at [] = fault BadToken
-return_at (b ∷ bs) = if b == 10 then taken whats.LineEnd bs else fault BadToken
+return_at (b ∷ bs) = if b == 10 then taken (whats.Mark marks.LineEnd) bs else fault BadToken
 
 -- a mark, a line end or what begins no token
 unfoldable pub mark_at : List ℕ → Front
 mark_at [] = end
 mark_at (b ∷ bs) =
-    if b == 44 then taken whats.Comma bs
-    else (if b == 59 then taken whats.Semicolon bs
-    else (if b == 40 then taken whats.Open bs
-    else (if b == 41 then taken whats.Close bs
+    if b == 44 then taken (whats.Mark marks.Comma) bs
+    else (if b == 59 then taken (whats.Mark marks.Semicolon) bs
+    else (if b == 40 then taken (whats.Mark marks.Open) bs
+    else (if b == 41 then taken (whats.Mark marks.Close) bs
     else (if b == 58 then colon_at bs
     else (if b == 46 then dot_at bs
     else (if b == 38 then ampersand_at bs
-    else (if b == 10 then taken whats.LineEnd bs
+    else (if b == 10 then taken (whats.Mark marks.LineEnd) bs
     else (if b == 13 then return_at bs
     else (if nat_le 128 b then fault NotAscii
     else fault BadToken)))))))))

@@ -3,6 +3,7 @@ pub mod Blanks
 pub mod Digits
 pub mod Faults
 pub mod Fronts
+pub mod Keywords
 pub mod Longest
 pub mod Numbers
 pub mod Spelling

@@ -4,11 +4,15 @@ use Rattle.std.specs.Prelude.{◌≡◌, ◌⊎◌, ℕ, ◌+◌, ◌*◌, ◌<�
 use Rattle.std.specs.Char.{to_ascii_lowercase}
 use Rattle.iltokens.specs.declared.lexed.AddressKind.{AddressKind}
 use Rattle.iltokens.specs.declared.lexed.AddressKind.TheVariants as kinds
+use Rattle.iltokens.specs.declared.keyword.Keyword.{Keyword}
+use Rattle.iltokens.specs.declared.lexed.Mark.{Mark}
+use Rattle.iltokens.specs.declared.lexed.Mark.TheVariants as marks
 use Rattle.iltokens.specs.declared.lexed.What.{What}
 use Rattle.iltokens.specs.declared.lexed.What.TheVariants as whats
 use Rattle.iltokens.specs.declared.time.Unit.{Unit}
 use Rattle.iltokens.specs.declared.time.Unit.TheVariants as units
 use Rattle.iltokens.specs.Digits.{digit_of, is_digit}
+use Rattle.iltokens.specs.Keywords.{IsSpelled}
 use Rattle.iltokens.specs.Spelling.{is_letter, is_name_byte}
 use Rattle.iltokens.specs.Times.{milliseconds}
 
@@ -106,21 +110,28 @@ pub record IsAddress (u : List ℕ) (kind : AddressKind) (bus place : ℕ) : Typ
   pub on_bus : PlainDigits first bus
   pub at_place : PlainDigits second place
 
+-- ---- marks
+
+abbrev pub IsMark : Mark → List ℕ → Type 0
+IsMark marks.Comma u = u ≡ codes ","
+IsMark marks.Colon u = u ≡ codes ":"
+IsMark marks.Semicolon u = u ≡ codes ";"
+IsMark marks.Assign u = u ≡ codes ":="
+IsMark marks.Dot u = u ≡ codes "."
+IsMark marks.Range u = u ≡ codes ".."
+IsMark marks.Open u = u ≡ codes "("
+IsMark marks.Close u = u ≡ codes ")"
+IsMark marks.Ampersand u = u ≡ codes "&"
+IsMark marks.AmpersandNot u = Reads (codes "&n") u
+-- LF, or CR and LF
+IsMark marks.LineEnd u = (u ≡ 10 ∷ []) ⊎ (u ≡ 13 ∷ 10 ∷ [])
+
 -- ---- all kinds
 
 abbrev pub Spells : What → List ℕ → Type 0
-Spells whats.Word u = IsName u
+Spells (whats.Keyword w) u = IsName u × IsSpelled u w
+Spells whats.Name u = IsName u × ((w : Keyword) → IsSpelled u w → ⊥)
 Spells (whats.Number n) u = IsNumber u n
 Spells (whats.Time n) u = IsTime u n
 Spells (whats.Address kind bus place) u = IsAddress u kind bus place
-Spells whats.Comma u = u ≡ codes ","
-Spells whats.Colon u = u ≡ codes ":"
-Spells whats.Semicolon u = u ≡ codes ";"
-Spells whats.Assign u = u ≡ codes ":="
-Spells whats.Dot u = u ≡ codes "."
-Spells whats.Range u = u ≡ codes ".."
-Spells whats.Open u = u ≡ codes "("
-Spells whats.Close u = u ≡ codes ")"
-Spells whats.Ampersand u = u ≡ codes "&"
-Spells whats.AmpersandNot u = Reads (codes "&n") u
-Spells whats.LineEnd u = (u ≡ 10 ∷ []) ⊎ (u ≡ 13 ∷ 10 ∷ [])
+Spells (whats.Mark m) u = IsMark m u

@@ -1,12 +1,13 @@
 //! The token at the front of some bytes.
 
 ghost use Rattle.std.specs.Prelude.{◌≡◌, ◌<◌, length};
-ghost use Rattle.iltokens.specs.Fronts.{number_at, word_at, address_at, mark_at, front_at};
+ghost use Rattle.iltokens.specs.Fronts.{number_at, word_kind, word_at, address_at, mark_at, front_at};
 ghost use Rattle.iltokens.specs.Views.{front_view, IsShorter};
 
 use crate::address::direct_address;
 use crate::digits::is_digit;
-use crate::lexed::{Cause, What};
+use crate::keyword::reserved;
+use crate::lexed::{Cause, Mark, What};
 use crate::number::{signed, unsigned};
 use crate::spelling::{after_name, is_letter};
 use crate::time::time;
@@ -33,6 +34,16 @@ fn number_at(negative: bool, magnitude: &[u8]) -> Front<'_>
     }
 }
 
+/// What a word is: reserved, or a name.
+fn word_kind(word: &[u8]) -> What
+    ensures { result ≡ word_kind word.now }
+{
+    match reserved(word) {
+        Some(keyword) => What::Keyword(keyword),
+        None => What::Name,
+    }
+}
+
 /// A duration, or else a word.
 #[tactic(auto, unfolding(crate::specs::Fronts::word_at))]
 fn word_at(bytes: &[u8]) -> Front<'_>
@@ -50,7 +61,9 @@ fn word_at(bytes: &[u8]) -> Front<'_>
         }
         None => {
             let (_, others) = bytes.split_at(1);
-            Front::Token(What::Word, after_name(others))
+            let rest = after_name(others);
+            let (word, _) = bytes.split_at(bytes.len() - rest.len());
+            Front::Token(word_kind(word), rest)
         }
     }
 }
@@ -85,18 +98,18 @@ fn mark_at(bytes: &[u8]) -> Front<'_>
 {
     match bytes {
         [] => Front::End,
-        [b',', rest @ ..] => Front::Token(What::Comma, rest),
-        [b';', rest @ ..] => Front::Token(What::Semicolon, rest),
-        [b'(', rest @ ..] => Front::Token(What::Open, rest),
-        [b')', rest @ ..] => Front::Token(What::Close, rest),
-        [b':', b'=', rest @ ..] => Front::Token(What::Assign, rest),
-        [b':', rest @ ..] => Front::Token(What::Colon, rest),
-        [b'.', b'.', rest @ ..] => Front::Token(What::Range, rest),
-        [b'.', rest @ ..] => Front::Token(What::Dot, rest),
-        [b'&', b'N' | b'n', rest @ ..] => Front::Token(What::AmpersandNot, rest),
-        [b'&', rest @ ..] => Front::Token(What::Ampersand, rest),
-        [b'\n', rest @ ..] => Front::Token(What::LineEnd, rest),
-        [b'\r', b'\n', rest @ ..] => Front::Token(What::LineEnd, rest),
+        [b',', rest @ ..] => Front::Token(What::Mark(Mark::Comma), rest),
+        [b';', rest @ ..] => Front::Token(What::Mark(Mark::Semicolon), rest),
+        [b'(', rest @ ..] => Front::Token(What::Mark(Mark::Open), rest),
+        [b')', rest @ ..] => Front::Token(What::Mark(Mark::Close), rest),
+        [b':', b'=', rest @ ..] => Front::Token(What::Mark(Mark::Assign), rest),
+        [b':', rest @ ..] => Front::Token(What::Mark(Mark::Colon), rest),
+        [b'.', b'.', rest @ ..] => Front::Token(What::Mark(Mark::Range), rest),
+        [b'.', rest @ ..] => Front::Token(What::Mark(Mark::Dot), rest),
+        [b'&', b'N' | b'n', rest @ ..] => Front::Token(What::Mark(Mark::AmpersandNot), rest),
+        [b'&', rest @ ..] => Front::Token(What::Mark(Mark::Ampersand), rest),
+        [b'\n', rest @ ..] => Front::Token(What::Mark(Mark::LineEnd), rest),
+        [b'\r', b'\n', rest @ ..] => Front::Token(What::Mark(Mark::LineEnd), rest),
         [byte, ..] => {
             if *byte >= 0x80 {
                 Front::Fault(Cause::NotAscii)

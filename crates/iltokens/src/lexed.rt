@@ -3,6 +3,8 @@
 ghost use Rattle.std.specs.Prelude.{◌≡◌};
 ghost use Rattle.iltokens.specs.Faults.{number_of};
 
+use crate::keyword::Keyword;
+
 /// The location and size prefix of a direct address (IEC 61131-3, 2.4.1.1).
 #[derive(Clone, Copy, PartialEq, Eq, Debug)]
 pub enum AddressKind {
@@ -14,21 +16,9 @@ pub enum AddressKind {
     InputBit,
 }
 
-/// What a token is.
+/// A mark between words, or the end of a line.
 #[derive(Clone, Copy, PartialEq, Eq, Debug)]
-pub enum What {
-    /// A name or a reserved word: a letter or underscore, then letters, digits and underscores.
-    Word,
-    /// A number with its sign, decimal or of base 2, 8 or 16.
-    Number(i64),
-    /// A duration `T#..` or `TIME#..`, in milliseconds.
-    Time(u32),
-    /// A direct address `%QB bus.place`, without blanks. Both numbers are below 2^63.
-    Address {
-        kind: AddressKind,
-        bus: u64,
-        place: u64,
-    },
+pub enum Mark {
     Comma,
     Colon,
     Semicolon,
@@ -46,6 +36,25 @@ pub enum What {
     AmpersandNot,
     /// LF or CR LF.
     LineEnd,
+}
+
+/// What a token is.
+#[derive(Clone, Copy, PartialEq, Eq, Debug)]
+pub enum What {
+    Keyword(Keyword),
+    /// A word that isn't reserved: a letter or underscore, then letters, digits and underscores.
+    Name,
+    /// A number with its sign, decimal or of base 2, 8 or 16.
+    Number(i64),
+    /// A duration `T#..` or `TIME#..`, in milliseconds.
+    Time(u32),
+    /// A direct address `%QB bus.place`, without blanks. Both numbers are below 2^63.
+    Address {
+        kind: AddressKind,
+        bus: u64,
+        place: u64,
+    },
+    Mark(Mark),
 }
 
 /// Why no token stands somewhere.

@@ -13,13 +13,15 @@ mod address;
 mod blanks;
 mod digits;
 mod front;
+mod keyword;
 mod lexed;
 mod lexer;
 mod number;
 mod spelling;
 mod time;
 
-pub use lexed::{AddressKind, Cause, Lexed, What};
+pub use keyword::{Keyword, reserved};
+pub use lexed::{AddressKind, Cause, Lexed, Mark, What};
 pub use lexer::token;
 
 #[cfg(test)]

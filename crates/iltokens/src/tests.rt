@@ -1,6 +1,6 @@
 //! Tokens of small texts.
 
-use crate::{AddressKind, Cause, Lexed, What, token};
+use crate::{AddressKind, Cause, Keyword, Lexed, Mark, What, reserved, token};
 use std::test::Fail;
 
 fn kind_at(text: &[u8]) -> Result<What, Fail> {
@@ -13,8 +13,8 @@ fn kind_at(text: &[u8]) -> Result<What, Fail> {
 #[test]
 fn each_kind_of_token(rt: HostRuntime) -> Result<(), Fail> {
     let texts: [(&[u8], What); 16] = [
-        (b"_end1 x", What::Word),
-        (b"T", What::Word),
+        (b"_end1 x", What::Name),
+        (b"T", What::Name),
         (b"-12", What::Number(-12)),
         (b"+1_000", What::Number(1000)),
         (b"16#fF", What::Number(255)),
@@ -23,12 +23,12 @@ fn each_kind_of_token(rt: HostRuntime) -> Result<(), Fail> {
         (b"t#1d2h_3m4s5ms", What::Time(93_784_005)),
         (b"TIME#4294967295MS", What::Time(u32::MAX)),
         (b"T#1d25h", What::Time(176_400_000)),
-        (b":=", What::Assign),
-        (b"..5", What::Range),
-        (b"&NIGHT", What::AmpersandNot),
-        (b"&(", What::Ampersand),
-        (b"\r\n", What::LineEnd),
-        (b" \t(**)(*)*)\n", What::LineEnd),
+        (b":=", What::Mark(Mark::Assign)),
+        (b"..5", What::Mark(Mark::Range)),
+        (b"&NIGHT", What::Mark(Mark::AmpersandNot)),
+        (b"&(", What::Mark(Mark::Ampersand)),
+        (b"\r\n", What::Mark(Mark::LineEnd)),
+        (b" \t(**)(*)*)\n", What::Mark(Mark::LineEnd)),
     ];
     for (text, what) in texts {
         assert_eq!(rt; kind_at(text)?, what);
@@ -42,13 +42,56 @@ fn each_kind_of_token(rt: HostRuntime) -> Result<(), Fail> {
     Ok(())
 }
 
+/// The reserved words of the profile.
+const WORDS: &str = "\
+    LD LDN ST STN S R AND ANDN OR ORN XOR XORN NOT ADD SUB MUL DIV MOD GT GE EQ NE LE LT JMP \
+    JMPC JMPCN CAL CALC CALCN RET RETC RETCN MIN MAX LIMIT ABS SINT_TO_INT SINT_TO_DINT \
+    SINT_TO_USINT SINT_TO_UINT SINT_TO_UDINT INT_TO_SINT INT_TO_DINT INT_TO_USINT INT_TO_UINT \
+    INT_TO_UDINT DINT_TO_SINT DINT_TO_INT DINT_TO_USINT DINT_TO_UINT DINT_TO_UDINT USINT_TO_SINT \
+    USINT_TO_INT USINT_TO_DINT USINT_TO_UINT USINT_TO_UDINT UINT_TO_SINT UINT_TO_INT \
+    UINT_TO_DINT UINT_TO_USINT UINT_TO_UDINT UDINT_TO_SINT UDINT_TO_INT UDINT_TO_DINT \
+    UDINT_TO_USINT UDINT_TO_UINT BOOL TIME SINT INT DINT USINT UINT UDINT R_TRIG CTU TON \
+    GEAR_LEVEL GEAR_DO GEAR_SET GEAR_PAIR GEAR_ASK GEAR_READ DEV_DO DEV_SCHEME DEV_ASK PROGRAM \
+    END_PROGRAM VAR END_VAR TRUE FALSE TYPE END_TYPE VAR_EXTERNAL VAR_GLOBAL CONFIGURATION \
+    END_CONFIGURATION RESOURCE END_RESOURCE ON AT TASK SINGLE INTERVAL PRIORITY WITH";
+
+/// Whether `name`, as `EndVar`, has the letters of `word`, as `END_VAR`.
+fn has_letters_of(name: &[u8], word: &[u8]) -> bool {
+    let mut letters = name.iter();
+    for byte in word {
+        if *byte != b'_' && letters.next().map(|letter| letter.to_ascii_uppercase()) != Some(*byte) {
+            return false;
+        }
+    }
+    letters.next().is_none()
+}
+
+#[test]
+fn each_reserved_word(rt: HostRuntime) -> Result<(), Fail> {
+    let mut count = 0u32;
+    for word in WORDS.split(' ') {
+        match kind_at(word.as_bytes())? {
+            What::Keyword(keyword) => {
+                let name = format!(in rt.alloc(); "{keyword:?}")?;
+                assert!(rt; has_letters_of(name.as_str().as_bytes(), word.as_bytes()), "{word} is {name}");
+            }
+            _ => assert!(rt; false, "{word} isn't reserved"),
+        }
+        count = count.saturating_add(1);
+    }
+    assert_eq!(rt; count, 108);
+    assert_eq!(rt; reserved(b"end_Var"), Some(Keyword::EndVar));
+    assert_eq!(rt; reserved(b"end_va"), None);
+    Ok(())
+}
+
 #[test]
 fn places_of_tokens(rt: HostRuntime) {
     let text = b"12abc (* ) *) T#5";
     let tokens = [
         (0, What::Number(12), 0, 2),
-        (2, What::Word, 2, 5),
-        (5, What::Word, 14, 15),
+        (2, What::Name, 2, 5),
+        (5, What::Name, 14, 15),
     ];
     for (at, what, from, to) in tokens {
         if at <= text.len() {
@@ -89,9 +132,9 @@ fn tokens_of_whole_texts(rt: HostRuntime) {
             b"1_ 1__2",
             &[
                 (b"1", What::Number(1)),
-                (b"_", What::Word),
+                (b"_", What::Name),
                 (b"1", What::Number(1)),
-                (b"__2", What::Word),
+                (b"__2", What::Name),
             ],
         ),
         // A base is exactly 2, 8 or 16, and its digits are below it.
@@ -103,7 +146,7 @@ fn tokens_of_whole_texts(rt: HostRuntime) {
                 (b"8#7", What::Number(7)),
                 (b"8", What::Number(8)),
                 (b"16#1", What::Number(1)),
-                (b"g", What::Word),
+                (b"g", What::Name),
             ],
         ),
         // Units fall, and an underscore stands between two parts only.
@@ -113,12 +156,12 @@ fn tokens_of_whole_texts(rt: HostRuntime) {
                 (b"T#5m3s", What::Time(303_000)),
                 (b"T#5s", What::Time(5_000)),
                 (b"3", What::Number(3)),
-                (b"m", What::Word),
+                (b"m", What::Name),
                 (b"T#5m", What::Time(300_000)),
-                (b"__3s", What::Word),
+                (b"__3s", What::Name),
                 (b"T#5ms", What::Time(5)),
                 (b"5", What::Number(5)),
-                (b"ms", What::Word),
+                (b"ms", What::Name),
             ],
         ),
         (
@@ -131,18 +174,22 @@ fn tokens_of_whole_texts(rt: HostRuntime) {
         // The longest mark is meant.
         (
             b":=:: =",
-            &[(b":=", What::Assign), (b":", What::Colon), (b":", What::Colon)],
+            &[
+                (b":=", What::Mark(Mark::Assign)),
+                (b":", What::Mark(Mark::Colon)),
+                (b":", What::Mark(Mark::Colon)),
+            ],
         ),
         (
             b"...;&n&\r\n\n",
             &[
-                (b"..", What::Range),
-                (b".", What::Dot),
-                (b";", What::Semicolon),
-                (b"&n", What::AmpersandNot),
-                (b"&", What::Ampersand),
-                (b"\r\n", What::LineEnd),
-                (b"\n", What::LineEnd),
+                (b"..", What::Mark(Mark::Range)),
+                (b".", What::Mark(Mark::Dot)),
+                (b";", What::Mark(Mark::Semicolon)),
+                (b"&n", What::Mark(Mark::AmpersandNot)),
+                (b"&", What::Mark(Mark::Ampersand)),
+                (b"\r\n", What::Mark(Mark::LineEnd)),
+                (b"\n", What::Mark(Mark::LineEnd)),
             ],
         ),
     ];

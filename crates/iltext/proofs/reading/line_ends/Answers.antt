@@ -1,6 +1,6 @@
 use Rattle.std.proofs.Common.{◌≡◌, true, false}
 use Rattle.ilgrammar.specs.Items.{begins}
-use Rattle.iltext.specs.declared.token.Mark.TheVariants as marks
+use Rattle.iltokens.specs.declared.lexed.Mark.TheVariants as marks
 use Rattle.iltext.specs.Terminals.{mark}
 use Rattle.iltext.proofs.LineEnds.{goes_over, stays_there}
 use Rattle.iltext.proofs.reading.line_ends.Goals as goal

@@ -1,0 +1,270 @@
+//! Reserved words (IEC 61131-3, 2.1.3 and table 52; which there are is this project's profile).
+
+ghost use Rattle.std.specs.Prelude.{◌≡◌, MatchOption, map};
+ghost use Rattle.std.specs.Str.{str_eq_ignore_ascii_case};
+ghost use Rattle.iltokens.specs.declared.keyword.Keyword.{Keyword};
+ghost use Rattle.iltokens.specs.Keywords.{IsSpelled, lookup, keyword};
+
+/// A reserved word, in any letter case. None is a name.
+#[derive(Clone, Copy, PartialEq, Eq, Debug)]
+pub enum Keyword {
+    // Operators with their modifiers (3.2.2).
+    Ld,
+    Ldn,
+    St,
+    Stn,
+    S,
+    R,
+    And,
+    Andn,
+    Or,
+    Orn,
+    Xor,
+    Xorn,
+    Not,
+    Add,
+    Sub,
+    Mul,
+    Div,
+    Mod,
+    Gt,
+    Ge,
+    Eq,
+    Ne,
+    Le,
+    Lt,
+    Jmp,
+    Jmpc,
+    Jmpcn,
+    Cal,
+    Calc,
+    Calcn,
+    Ret,
+    Retc,
+    Retcn,
+    // Functions (2.5.1.5).
+    Min,
+    Max,
+    Limit,
+    Abs,
+    // Conversions of integers (2.5.1.5.1).
+    SintToInt,
+    SintToDint,
+    SintToUsint,
+    SintToUint,
+    SintToUdint,
+    IntToSint,
+    IntToDint,
+    IntToUsint,
+    IntToUint,
+    IntToUdint,
+    DintToSint,
+    DintToInt,
+    DintToUsint,
+    DintToUint,
+    DintToUdint,
+    UsintToSint,
+    UsintToInt,
+    UsintToDint,
+    UsintToUint,
+    UsintToUdint,
+    UintToSint,
+    UintToInt,
+    UintToDint,
+    UintToUsint,
+    UintToUdint,
+    UdintToSint,
+    UdintToInt,
+    UdintToDint,
+    UdintToUsint,
+    UdintToUint,
+    // Types (2.3.1).
+    Bool,
+    Time,
+    Sint,
+    Int,
+    Dint,
+    Usint,
+    Uint,
+    Udint,
+    // Blocks (2.5.2.3, and request blocks of the profile).
+    RTrig,
+    Ctu,
+    Ton,
+    GearLevel,
+    GearDo,
+    GearSet,
+    GearPair,
+    GearAsk,
+    GearRead,
+    DevDo,
+    DevScheme,
+    DevAsk,
+    // Words of constants, declarations and configurations.
+    True,
+    False,
+    Type,
+    EndType,
+    Program,
+    EndProgram,
+    Var,
+    EndVar,
+    VarExternal,
+    VarGlobal,
+    Configuration,
+    EndConfiguration,
+    Resource,
+    EndResource,
+    On,
+    At,
+    Task,
+    Single,
+    Interval,
+    Priority,
+    With,
+}
+
+/// How each reserved word is spelled.
+pub const RESERVED_WORDS: [(&[u8], Keyword); 108] = [
+    (b"LD", Keyword::Ld),
+    (b"LDN", Keyword::Ldn),
+    (b"ST", Keyword::St),
+    (b"STN", Keyword::Stn),
+    (b"S", Keyword::S),
+    (b"R", Keyword::R),
+    (b"AND", Keyword::And),
+    (b"ANDN", Keyword::Andn),
+    (b"OR", Keyword::Or),
+    (b"ORN", Keyword::Orn),
+    (b"XOR", Keyword::Xor),
+    (b"XORN", Keyword::Xorn),
+    (b"NOT", Keyword::Not),
+    (b"ADD", Keyword::Add),
+    (b"SUB", Keyword::Sub),
+    (b"MUL", Keyword::Mul),
+    (b"DIV", Keyword::Div),
+    (b"MOD", Keyword::Mod),
+    (b"GT", Keyword::Gt),
+    (b"GE", Keyword::Ge),
+    (b"EQ", Keyword::Eq),
+    (b"NE", Keyword::Ne),
+    (b"LE", Keyword::Le),
+    (b"LT", Keyword::Lt),
+    (b"JMP", Keyword::Jmp),
+    (b"JMPC", Keyword::Jmpc),
+    (b"JMPCN", Keyword::Jmpcn),
+    (b"CAL", Keyword::Cal),
+    (b"CALC", Keyword::Calc),
+    (b"CALCN", Keyword::Calcn),
+    (b"RET", Keyword::Ret),
+    (b"RETC", Keyword::Retc),
+    (b"RETCN", Keyword::Retcn),
+    (b"MIN", Keyword::Min),
+    (b"MAX", Keyword::Max),
+    (b"LIMIT", Keyword::Limit),
+    (b"ABS", Keyword::Abs),
+    (b"SINT_TO_INT", Keyword::SintToInt),
+    (b"SINT_TO_DINT", Keyword::SintToDint),
+    (b"SINT_TO_USINT", Keyword::SintToUsint),
+    (b"SINT_TO_UINT", Keyword::SintToUint),
+    (b"SINT_TO_UDINT", Keyword::SintToUdint),
+    (b"INT_TO_SINT", Keyword::IntToSint),
+    (b"INT_TO_DINT", Keyword::IntToDint),
+    (b"INT_TO_USINT", Keyword::IntToUsint),
+    (b"INT_TO_UINT", Keyword::IntToUint),
+    (b"INT_TO_UDINT", Keyword::IntToUdint),
+    (b"DINT_TO_SINT", Keyword::DintToSint),
+    (b"DINT_TO_INT", Keyword::DintToInt),
+    (b"DINT_TO_USINT", Keyword::DintToUsint),
+    (b"DINT_TO_UINT", Keyword::DintToUint),
+    (b"DINT_TO_UDINT", Keyword::DintToUdint),
+    (b"USINT_TO_SINT", Keyword::UsintToSint),
+    (b"USINT_TO_INT", Keyword::UsintToInt),
+    (b"USINT_TO_DINT", Keyword::UsintToDint),
+    (b"USINT_TO_UINT", Keyword::UsintToUint),
+    (b"USINT_TO_UDINT", Keyword::UsintToUdint),
+    (b"UINT_TO_SINT", Keyword::UintToSint),
+    (b"UINT_TO_INT", Keyword::UintToInt),
+    (b"UINT_TO_DINT", Keyword::UintToDint),
+    (b"UINT_TO_USINT", Keyword::UintToUsint),
+    (b"UINT_TO_UDINT", Keyword::UintToUdint),
+    (b"UDINT_TO_SINT", Keyword::UdintToSint),
+    (b"UDINT_TO_INT", Keyword::UdintToInt),
+    (b"UDINT_TO_DINT", Keyword::UdintToDint),
+    (b"UDINT_TO_USINT", Keyword::UdintToUsint),
+    (b"UDINT_TO_UINT", Keyword::UdintToUint),
+    (b"BOOL", Keyword::Bool),
+    (b"TIME", Keyword::Time),
+    (b"SINT", Keyword::Sint),
+    (b"INT", Keyword::Int),
+    (b"DINT", Keyword::Dint),
+    (b"USINT", Keyword::Usint),
+    (b"UINT", Keyword::Uint),
+    (b"UDINT", Keyword::Udint),
+    (b"R_TRIG", Keyword::RTrig),
+    (b"CTU", Keyword::Ctu),
+    (b"TON", Keyword::Ton),
+    (b"GEAR_LEVEL", Keyword::GearLevel),
+    (b"GEAR_DO", Keyword::GearDo),
+    (b"GEAR_SET", Keyword::GearSet),
+    (b"GEAR_PAIR", Keyword::GearPair),
+    (b"GEAR_ASK", Keyword::GearAsk),
+    (b"GEAR_READ", Keyword::GearRead),
+    (b"DEV_DO", Keyword::DevDo),
+    (b"DEV_SCHEME", Keyword::DevScheme),
+    (b"DEV_ASK", Keyword::DevAsk),
+    (b"TRUE", Keyword::True),
+    (b"FALSE", Keyword::False),
+    (b"TYPE", Keyword::Type),
+    (b"END_TYPE", Keyword::EndType),
+    (b"PROGRAM", Keyword::Program),
+    (b"END_PROGRAM", Keyword::EndProgram),
+    (b"VAR", Keyword::Var),
+    (b"END_VAR", Keyword::EndVar),
+    (b"VAR_EXTERNAL", Keyword::VarExternal),
+    (b"VAR_GLOBAL", Keyword::VarGlobal),
+    (b"CONFIGURATION", Keyword::Configuration),
+    (b"END_CONFIGURATION", Keyword::EndConfiguration),
+    (b"RESOURCE", Keyword::Resource),
+    (b"END_RESOURCE", Keyword::EndResource),
+    (b"ON", Keyword::On),
+    (b"AT", Keyword::At),
+    (b"TASK", Keyword::Task),
+    (b"SINGLE", Keyword::Single),
+    (b"INTERVAL", Keyword::Interval),
+    (b"PRIORITY", Keyword::Priority),
+    (b"WITH", Keyword::With),
+];
+
+/// Whether both are spelled alike, without regard to letter case.
+fn is_alike(one: &[u8], other: &[u8]) -> bool
+    ensures { result ≡ str_eq_ignore_ascii_case one.now other.now }
+{
+    one.eq_ignore_ascii_case(other)
+}
+
+/// The word that the table has for `text`.
+fn lookup(mut table: &[(&[u8], Keyword)], text: &[u8]) -> Option<Keyword>
+    ensures { result ≡ lookup (map (λ k. (k.0.now, k.1)) table.entry.now) text.now }
+{
+    'table: while let [entry, rest @ ..] = table {
+        if is_alike(entry.0, text) {
+            return Some(entry.1);
+        }
+        table = rest;
+    }
+    None
+}
+
+fn word_of(text: &[u8]) -> Option<Keyword>
+    ensures { result ≡ keyword text.now }
+{
+    lookup(&RESERVED_WORDS, text)
+}
+
+/// The reserved word that a text is, in any letter case.
+pub fn reserved(text: &[u8]) -> Option<Keyword>
+    ensures { MatchOption result ((w : Keyword) → IsSpelled text.now w → ⊥) (λ w. IsSpelled text.now w) }
+{
+    word_of(text)
+}
