@@ -1,7 +1,8 @@
 -- Items of a grammar over tokens of any type: what an item spells, what is a front of it, and how it is read.
 -- `whole` and `part` are the definitions, by cases on how an item is built; `read` is what a parser with one token of
 -- look-ahead does, which the laws in proofs/ tie to them.
-use Rattle.std.specs.Prelude.{◌≡◌, ℕ, zero, suc, List, [], ◌∷◌, ◌++◌, length, Option, Some, None, Result, Ok, Err, Bool, true, false, if◌then◌else◌, ◌⊎◌, ◌||◌}
+use Rattle.std.specs.Prelude.{◌≡◌, ◌⊎◌, ◌||◌, ℕ, zero, suc, Bool, true, false, if◌then◌else◌}
+use Rattle.std.specs.Prelude.{List, [], ◌∷◌, ◌++◌, length, Option, Some, None, Result, Ok, Err}
 
 -- an error, which holds the tokens that are left, ends the reading
 infixl 10 ◌>>=◌
@@ -17,7 +18,7 @@ pub record Item (T A : Type 0) : Type 1 where
   pub part : List T → Type 0
   -- this token may begin it
   pub starts : T → Bool
-  -- the value and the tokens after it, or the tokens from the first that doesn't go on
+  -- the value and the tokens after it, or the tokens from the first that does not go on
   pub read : List T → Result (A × List T) (List T)
 
 -- ---- one token of a class
@@ -44,7 +45,12 @@ one_read class [] = Err []
 one_read class (t ∷ ts) = one_read_at (class t) t ts
 
 abbrev pub one : {T A : Type 0} → (T → Option A) → Item T A
-one class = record { whole = one_whole class; part = one_part class; starts = λ t. is_in (class t); read = one_read class }
+one class = record {
+  whole = one_whole class;
+  part = one_part class;
+  starts = λ t. is_in (class t);
+  read = one_read class;
+}
 
 -- ---- an item, and its value by f
 
@@ -73,7 +79,12 @@ seq a b = record { whole = seq_whole a b; part = seq_part a b; starts = a.starts
 
 -- the same, where the first may be nothing
 abbrev pub lead : {T A B : Type 0} → Item T A → Item T B → Item T (A × B)
-lead a b = record { whole = seq_whole a b; part = seq_part a b; starts = λ t. a.starts t || b.starts t; read = seq_read a b }
+lead a b = record {
+  whole = seq_whole a b;
+  part = seq_part a b;
+  starts = λ t. a.starts t || b.starts t;
+  read = seq_read a b;
+}
 
 -- ---- an item or nothing
 
@@ -103,7 +114,12 @@ abbrev pub alt_read : {T A : Type 0} → Item T A → Item T A → List T → Re
 alt_read a b ts = if begins a ts then a.read ts else b.read ts
 
 abbrev pub alt : {T A : Type 0} → Item T A → Item T A → Item T A
-alt a b = record { whole = alt_whole a b; part = alt_part a b; starts = λ t. a.starts t || b.starts t; read = alt_read a b }
+alt a b = record {
+  whole = alt_whole a b;
+  part = alt_part a b;
+  starts = λ t. a.starts t || b.starts t;
+  read = alt_read a b;
+}
 
 -- ---- an item any number of times
 
@@ -117,7 +133,10 @@ many_part {T} {A} a ts = (u v : List T) × (xs : List A) × (ts ≡ u ++ v) × m
 -- at most n of them
 unfoldable pub many_read : {T A : Type 0} → Item T A → ℕ → List T → Result (List A × List T) (List T)
 many_read a zero ts = Ok ([], ts)
-many_read a (suc n) ts = if begins a ts then (a.read ts >>= λ p. many_read a n p.1 >>= λ q. Ok (p.0 ∷ q.0, q.1)) else Ok ([], ts)
+many_read a (suc n) ts =
+    if begins a ts
+    then (a.read ts >>= λ p. many_read a n p.1 >>= λ q. Ok (p.0 ∷ q.0, q.1))
+    else Ok ([], ts)
 
 abbrev pub many : {T A : Type 0} → Item T A → Item T (List A)
 many a = record { whole = many_whole a; part = many_part a; starts = a.starts; read = λ ts. many_read a (length ts) ts }

@@ -2,7 +2,8 @@
 use Rattle.std.specs.Prelude.{◌≡◌, List, [], ◌∷◌, ◌++◌, Result, Ok, Err}
 use Rattle.ilgrammar.specs.Items.{◌>>=◌, Item}
 
--- The tokens before rest are a front of what the item derives. With the first of rest they are not; where nothing is left, they are not whole.
+-- The tokens before rest are a front of what the item derives. With the first of rest they are not; where nothing is
+-- left, they are not whole.
 abbrev pub StopsBefore : {T A : Type 0} → Item T A → List T → List T → List T → Type 0
 StopsBefore {A} a ts front [] = (ts ≡ front) × a.part front × ((x : A) → a.whole front x → ⊥)
 StopsBefore a ts front (t ∷ v) = (ts ≡ front ++ t ∷ v) × a.part front × (a.part (front ++ t ∷ []) → ⊥)

@@ -1,4 +1,3 @@
 pub mod Names
 pub mod Places
 pub mod Trees
-pub use Rattle.iltypes.specs.Operators

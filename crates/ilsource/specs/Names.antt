@@ -1,4 +1,4 @@
--- Names and how they are compared (IEC 61131-3, 2.1.2: letter case doesn't matter in identifiers).
+-- Names and how they are compared (IEC 61131-3, 2.1.2: letter case does not matter in identifiers).
 use Rattle.std.specs.Prelude.{◌≡◌, ℕ, ◌-◌, List, take, drop, map}
 use Rattle.std.specs.Char.{to_ascii_lowercase}
 use Rattle.ilsource.specs.declared.name.Name.{Name}

@@ -38,7 +38,7 @@ pub enum Instruction {
     Reset(Name),
 }
 
-/// A line that isn't empty.
+/// A line that is not empty.
 #[derive(Clone, Copy, PartialEq, Eq, Debug)]
 pub struct Line {
     /// The place of the operator's first byte.

@@ -1,9 +1,10 @@
 //! Source programs: what a text spells, as a tree with the places of its words.
 //!
-//! What crosses the boundary: [`Source`], which the parser makes and the names are resolved on, with its programs, their
-//! declarations and their lines; a [`Name`] is a word of the text, and [`Place`] tells line and column of a byte. Contracts see
-//! a `Source` and its parts as the records of specs/Trees.antt. Two names are the same where they are spelled so without regard
-//! to letter case (specs/Names.antt), and a place is counted as specs/Places.antt says.
+//! What crosses the boundary: [`Source`], which the parser makes and names are resolved on, with its
+//! programs, their declarations and their lines. A [`Name`] is a word of the text, and [`Place`]
+//! gives line and column of a byte. Contracts see a `Source` as a record of specs/Trees.antt, to be
+//! read first; specs/Names.antt says when two names are the same.
+
 #![tactic(auto)]
 
 pub mod declaration;

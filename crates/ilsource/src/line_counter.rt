@@ -5,7 +5,7 @@ ghost use Rattle.ilsource.specs.Places.{line_at};
 
 use crate::place::line_feeds;
 
-/// Tells the lines of places in a text, in one pass over it where the places rise.
+/// Gives the lines of places in a text, in one pass over it where the places rise.
 #[derive(Drop)]
 pub struct LineCounter<'a> {
     text: &'a [u8],
@@ -45,7 +45,7 @@ impl<'a> LineCounter<'a> {
     }
 }
 
-/// The line of the byte `to`, from that of a byte that isn't behind it.
+/// The line of the byte `to`, from that of a byte that is not behind it.
 fn line_further(text: &[u8], from: usize, line: usize, to: usize) -> usize
     requires forward { from ≤ to }
     requires known { line ≡ line_at text.now from }

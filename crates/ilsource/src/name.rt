@@ -13,7 +13,8 @@ impl Name {
     ghost use Rattle.std.specs.Prelude.{◌≡◌, ◌↔◌, IsTrue};
     ghost use Rattle.ilsource.specs.Names.{text_of, SameName};
 
-    /// The bytes of the name in `text`, as they are written there; those that the text has, where it is too short.
+    /// The bytes of the name in `text`, as they are written there; those that the text has, where
+    /// it is too short.
     pub fn text(self, text: &[u8]) -> &[u8]
         ensures { result.now ≡ text_of text.now self }
     {
@@ -24,7 +25,8 @@ impl Name {
         word
     }
 
-    /// Whether both names are spelled alike in `text`, without regard to letter case (IEC 61131-3, 2.1.2).
+    /// Whether both names are spelled alike in `text`, without regard to letter case
+    /// (IEC 61131-3, 2.1.2).
     pub fn is_same(self, other: Name, text: &[u8]) -> bool
         ensures { IsTrue result ↔ SameName text.now self other }
     {

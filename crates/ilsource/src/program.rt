@@ -52,7 +52,7 @@ impl Program {
         &self.declarations
     }
 
-    /// Its lines that aren't empty, in order.
+    /// Its lines that are not empty, in order.
     pub fn lines(&self) -> &[Line]
         ensures { result.now ≡ self.now.lines }
     {

@@ -1,8 +1,11 @@
 -- What the tokens of a text are read as is what the text spells, or its first fault.
 use Rattle.std.proofs.Common.{◌≡◌, ℕ, suc, ◌≤◌, List, [], ◌∷◌, ◌++◌, length, Result, Ok, Err, IfOk, All, inl, inr, sym, subst, ◌∙◌, arith}
-use Rattle.std.specs.Prelude.{IfErr}
+use Rattle.std.proofs.Math.Decide.{dec_le}
+use Rattle.std.proofs.Math.Nat.{lt_of_not-le}
+use Rattle.std.specs.Prelude.{◌<◌, ◌↔◌, Bool, false, IsTrue, IfErr}
 use Rattle.ilgrammar.specs.Stops.{FaultAt, whole_read}
 use Rattle.ilgrammar.proofs.Exact.{whole_found, whole_only, whole_fault, one_fault, no_fault}
+use Rattle.limits.specs.Limits.{most_bytes}
 use Rattle.ilsource.specs.Trees.{Tree, Written}
 use Rattle.iltext.specs.declared.fault.TextFault.{TextFault}
 use Rattle.iltext.specs.declared.fault.TextFault.TheVariants as faults
@@ -10,12 +13,19 @@ use Rattle.iltext.specs.declared.token.Token.{Token}
 use Rattle.iltext.specs.Cutting.{Cuts}
 use Rattle.iltext.specs.Faults.{Tells, place_at}
 use Rattle.iltext.specs.Texts.{text}
-use Rattle.iltext.specs.declared.parser.TheConstants.{MAX_BYTES}
 use Rattle.iltext.specs.Parsing.{IsText, IsReadAs, IsFault, IsFirstFault, IsTextFault, IsParsed}
 use Rattle.iltext.proofs.Cut.{one_cut}
 use Rattle.iltext.proofs.Laws.{Lawful-text}
 
-pub is_found : (bytes : List ℕ) (ts : List Token) (r : Result Tree TextFault) → length bytes ≤ MAX_BYTES → Cuts bytes 0 ts → IsParsed bytes ts r
+-- a text that is not too long is short
+pub short_of : (is_long : Bool) (most count : ℕ) → IsTrue is_long ↔ (most < count) → is_long ≡ false → count ≤ most
+short_of is_long most count known isnt =
+    elim (dec_le count most) [
+      | yes short ↦ short
+      | no long ↦ let so = known.1 (lt_of_not-le long) in absurd cc
+    ]
+
+pub is_found : (bytes : List ℕ) (ts : List Token) (r : Result Tree TextFault) → length bytes ≤ most_bytes → Cuts bytes 0 ts → IsParsed bytes ts r
     → IfOk r (λ tree. IsText bytes tree)
 is_found bytes ts (Ok tree) short cut p = record { short = short; same = p.0; tokens = ts; cut = cut; whole = whole_found _ _ _ _ Lawful-text ts tree.programs p.1 }
 is_found bytes ts (Err e) short cut p = tt
@@ -44,7 +54,7 @@ is_only bytes ts (Ok source) cut p tree t =
 is_only bytes ts (Err faults.Memory) cut p tree t = tt
 is_only bytes ts (Err (faults.At line col cause)) cut p tree t = let bad = sym p.1 ∙ reads bytes ts tree cut t in cc
 
-pub is_fault : (bytes : List ℕ) (ts : List Token) (r : Result Tree TextFault) → length bytes ≤ MAX_BYTES → Cuts bytes 0 ts → IsParsed bytes ts r
+pub is_fault : (bytes : List ℕ) (ts : List Token) (r : Result Tree TextFault) → length bytes ≤ most_bytes → Cuts bytes 0 ts → IsParsed bytes ts r
     → IfErr r (λ fault. IsFault bytes fault)
 is_fault bytes ts (Ok source) short cut p = tt
 is_fault bytes ts (Err faults.Memory) short cut p = tt

@@ -4,7 +4,8 @@ use Rattle.ilsource.specs.Places.{line_at, col_at}
 use Rattle.iltokens.specs.declared.lexed.Cause.{Cause}
 use Rattle.iltokens.specs.declared.lexed.Cause.TheVariants as lexical
 use Rattle.iltext.specs.declared.fault.TextCause.{TextCause}
-use Rattle.iltext.specs.declared.fault.TextCause.TheVariants.{NotAscii, BadToken, Unexpected, BadNumber, CommentOpen, TooLong}
+use Rattle.iltext.specs.declared.fault.TextCause.TheVariants.{NotAscii, BadToken, Unexpected}
+use Rattle.iltext.specs.declared.fault.TextCause.TheVariants.{BadNumber, CommentOpen, TooLong}
 use Rattle.iltext.specs.declared.fault.TextFault.{TextFault}
 use Rattle.iltext.specs.declared.fault.TextFault.TheVariants as faults
 use Rattle.iltext.specs.declared.token.Kind.{Kind}
@@ -45,4 +46,5 @@ place_at text (t ∷ ts) = t.from
 
 -- the fault is that of the first of the tokens
 abbrev pub Tells : List ℕ → List Token → TextFault → Type 0
-Tells text rest fault = fault ≡ faults.At (line_at text (place_at text rest)) (col_at text (place_at text rest)) (cause_at rest)
+Tells text rest fault =
+    let at = place_at text rest in fault ≡ faults.At (line_at text at) (col_at text at) (cause_at rest)

@@ -1,8 +1,8 @@
 -- Texts and their source programs.
 use Rattle.std.specs.Prelude.{◌≡◌, ℕ, ◌≤◌, ◌<◌, List, ◌⊎◌, length, Result, Ok, Err}
 use Rattle.ilgrammar.specs.Stops.{FaultAt, whole_read}
+use Rattle.limits.specs.Limits.{most_bytes}
 use Rattle.ilsource.specs.Trees.{Tree, Written}
-use Rattle.iltext.specs.declared.parser.TheConstants.{MAX_BYTES}
 use Rattle.iltext.specs.declared.fault.TextFault.{TextFault}
 use Rattle.iltext.specs.declared.fault.TextFault.TheVariants as faults
 use Rattle.iltext.specs.declared.fault.TextCause.TheVariants.{TooLong}
@@ -13,7 +13,7 @@ use Rattle.iltext.specs.Texts.{text}
 
 -- the bytes spell the source program: their tokens are those of its programs
 pub record IsText (bytes : List ℕ) (tree : Tree) : Type 0 where
-  pub short : length bytes ≤ MAX_BYTES
+  pub short : length bytes ≤ most_bytes
   pub same : tree.text ≡ bytes
   pub tokens : List Token
   pub cut : Cuts bytes 0 tokens
@@ -25,9 +25,9 @@ IsReadAs tree (Ok source) = source ≡ tree
 IsReadAs tree (Err faults.Memory) = Unit {0}
 IsReadAs tree (Err (faults.At line col cause)) = ⊥
 
--- the fault is told of the first token such that the tokens up to and including it are no front of a text
+-- the fault is that of the first token such that the tokens up to and including it are no front of a text
 pub record IsFirstFault (bytes : List ℕ) (fault : TextFault) : Type 0 where
-  pub short : length bytes ≤ MAX_BYTES
+  pub short : length bytes ≤ most_bytes
   pub tokens : List Token
   pub cut : Cuts bytes 0 tokens
   pub rest : List Token
@@ -36,7 +36,7 @@ pub record IsFirstFault (bytes : List ℕ) (fault : TextFault) : Type 0 where
 
 -- a text that is too long is refused at its first byte
 abbrev pub IsTooLong : List ℕ → TextFault → Type 0
-IsTooLong bytes fault = (MAX_BYTES < length bytes) × (fault ≡ faults.At 1 1 TooLong)
+IsTooLong bytes fault = (most_bytes < length bytes) × (fault ≡ faults.At 1 1 TooLong)
 
 -- a fault of the text
 abbrev pub IsTextFault : List ℕ → TextFault → Type 0
@@ -50,7 +50,8 @@ IsFault bytes (faults.At line col cause) = IsTextFault bytes (faults.At line col
 abbrev pub IsParsed : List ℕ → List Token → Result Tree TextFault → Type 0
 IsParsed bytes tokens (Ok tree) = (tree.text ≡ bytes) × (whole_read text tokens ≡ Ok tree.programs)
 IsParsed bytes tokens (Err faults.Memory) = Unit {0}
-IsParsed bytes tokens (Err (faults.At line col cause)) = (rest : List Token) × (whole_read text tokens ≡ Err rest) × Tells bytes rest (faults.At line col cause)
+IsParsed bytes tokens (Err (faults.At line col cause)) =
+    (rest : List Token) × (whole_read text tokens ≡ Err rest) × Tells bytes rest (faults.At line col cause)
 
 abbrev pub IsSourceOf : List ℕ → List Written → Result Tree TextFault → Type 0
 IsSourceOf bytes programs (Ok tree) = (tree.text ≡ bytes) × (tree.programs ≡ programs)

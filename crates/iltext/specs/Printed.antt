@@ -8,4 +8,5 @@ use Rattle.iltext.specs.Faults.{number_of_cause}
 -- the cause's number, and line and column, both counted from 1
 abbrev pub printed : TextFault → List ℕ
 printed Memory = codes "no memory"
-printed (At line col cause) = codes "text fault " ++ decimal (number_of_cause cause) ++ codes " at " ++ decimal line ++ codes ":" ++ decimal col
+printed (At line col cause) =
+    codes "text fault " ++ decimal (number_of_cause cause) ++ codes " at " ++ decimal line ++ codes ":" ++ decimal col

@@ -51,7 +51,7 @@ abbrev pub name_at : Kind → Token → Option Name
 name_at (kinds.Good whats.Name) t = Some (record { from = t.from; to = t.to })
 name_at _ t = None
 
--- a word that isn't reserved
+-- a word that is not reserved
 unfoldable pub name : Item Token Name
 name = one (λ t. name_at t.kind t)
 

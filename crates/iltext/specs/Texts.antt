@@ -37,7 +37,8 @@ initial = opt (map (λ x. x.1) (seq (spaced (mark marks.Assign)) (spaced constan
 -- name {"," name} ":" BOOL [":=" constant] ";"
 unfoldable pub declaration : Item Token Variables
 declaration = map (λ x. record { names = x.0; initial = x.1.1.1.0 })
-    (seq names (seq (spaced (mark marks.Colon)) (seq (spaced (word words.Bool)) (lead initial (spaced (mark marks.Semicolon))))))
+    (seq names (seq (spaced (mark marks.Colon)) (seq (spaced (word words.Bool))
+    (lead initial (spaced (mark marks.Semicolon))))))
 
 unfoldable pub declarations : Item Token (List Variables)
 declarations = many declaration
@@ -63,8 +64,10 @@ not_of _ at = None
 -- an operator with its operand, or with the variable that it writes, or NOT; a line begins at its operator
 unfoldable pub instruction : Item Token Line
 instruction =
-    alt (map (λ x. record { at = x.0.1; instruction = taken x.0.0 x.1 }) (seq (one (λ t. taker_of (class_of t.kind) t.from)) operand))
-    (alt (map (λ x. record { at = x.0.1; instruction = written x.0.0 x.1 }) (seq (one (λ t. writer_of (class_of t.kind) t.from)) name))
+    alt (map (λ x. record { at = x.0.1; instruction = taken x.0.0 x.1 })
+    (seq (one (λ t. taker_of (class_of t.kind) t.from)) operand))
+    (alt (map (λ x. record { at = x.0.1; instruction = written x.0.0 x.1 })
+    (seq (one (λ t. writer_of (class_of t.kind) t.from)) name))
     (map (λ at. record { at = at; instruction = instructions.Not }) (one (λ t. not_of (class_of t.kind) t.from))))
 
 -- instruction end-of-line, and empty lines

@@ -45,7 +45,7 @@ impl TextCause {
 /// Why a text was refused.
 #[derive(Debug, Drop, Error)]
 pub enum TextFault {
-    /// A growth was refused.
+    /// Out of memory.
     Memory,
     /// The first fault of the text; line and column count from 1, the column in bytes.
     At {
@@ -98,7 +98,8 @@ fn cause_at(rest: &[Token]) -> TextCause
     }
 }
 
-/// The place of the first of these tokens in a text; the end of a text counts as a token just past its last byte.
+/// The place of the first of these tokens in a text; the end of a text counts as a token just past
+/// its last byte.
 fn place_at(text: &[u8], rest: &[Token]) -> usize
     ensures { result ≡ place_at text.now rest.now }
 {

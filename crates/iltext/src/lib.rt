@@ -1,11 +1,11 @@
-//! The grammar of Instruction List: from a text's bytes to its source program, or to its first fault.
+//! The grammar of Instruction List: from a text's bytes to its source program, or its first fault.
 //!
-//! What crosses the boundary: [`parse`], which gives a [`Source`] exactly where the bytes spell it, or a [`TextFault`] with line,
-//! column and cause. The tokens of a text are what `iltokens` cuts from its bytes, with the reserved words told apart
-//! (specs/Cutting.antt, specs/Keywords.antt); the grammar is a set of items over tokens (specs/Texts.antt), whose reading is
-//! exact by the laws of `ilgrammar`; a fault stands at the first token that goes on as no text (specs/Parsing.antt).
-//!
-//! Beside it, for tests: a plain table of which token goes on where (src/plain.rt).
+//! What crosses the boundary: [`parse`], which gives a [`Source`] exactly where the bytes spell it,
+//! or a [`TextFault`] with line, column and cause. Read specs/Parsing.antt first: a text's tokens
+//! (specs/Cutting.antt) are those of `iltokens`; the grammar is a set of items over them
+//! (specs/Texts.antt), whose reading is exact by the laws of `ilgrammar`; a fault stands at the first
+//! token that goes on as no text. For tests, src/plain.rt has a table of which token goes on where.
+
 #![tactic(auto)]
 
 mod cutting;

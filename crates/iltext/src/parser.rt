@@ -2,7 +2,8 @@
 
 ghost use Rattle.std.specs.Prelude.{◌≡◌, ◌≤◌, length, IfOk, IfErr, All};
 ghost use Rattle.ilsource.specs.Trees.{Tree};
-ghost use Rattle.iltext.specs.Parsing.{IsText, IsReadAs, IsTextFault, IsFault, IsParsed, IsSourceOf};
+ghost use Rattle.iltext.specs.Parsing.{IsText, IsReadAs, IsTextFault, IsFault};
+ghost use Rattle.iltext.specs.Parsing.{IsParsed, IsSourceOf};
 ghost use Rattle.iltext.specs.declared.fault.TextFault.{TextFault};
 
 use crate::cutting::tokens;
@@ -11,14 +12,13 @@ use crate::programs::whole_text;
 use crate::token::Token;
 use ilgrammar::ReadError;
 use ilsource::{Program, Source};
+use limits::is_too_long;
 use std::alloc::Global;
 
-/// The greatest number of bytes of a text.
-pub const MAX_BYTES: usize = 1_048_576;
-
-/// The source program that `text` spells, or its first fault: the place is that of the first token (or byte that begins none)
-/// such that the tokens up to and including it are no front of a text, and the cause is what stands there. The end of a text
-/// counts as a token just past its last byte. A text of more than 1,048,576 bytes is refused at 1:1.
+/// The source program that `text` spells, or its first fault: the place is that of the first token
+/// (or byte that begins none) such that the tokens up to and including it are no front of a text,
+/// and the cause is what stands there. The end of a text counts as a token just past its last byte.
+/// A text of more than 1,048,576 bytes is refused at 1:1.
 pub fn parse(alloc: Global, text: &[u8]) -> Result<Source, TextFault>
     // What is read is spelled so.
     ensures found { IfOk result (λ source. IsText text.now source) }
@@ -31,9 +31,9 @@ pub fn parse(alloc: Global, text: &[u8]) -> Result<Source, TextFault>
     // Any bytes have at most one fault,
     ensures one_fault { (a b : TextFault) → IsTextFault text.now a → IsTextFault text.now b → a ≡ b }
     // and those of a source program have none.
-    ensures apart { (tree : Tree) (fault : TextFault) → IsText text.now tree → IsTextFault text.now fault → ⊥ }
+    ensures apart { (tree : Tree) (fault : TextFault) → IsText text.now tree → ¬ IsTextFault text.now fault }
 {
-    if text.len() > MAX_BYTES {
+    if is_too_long(text) {
         return Err(TextFault::At {
             line: 1,
             col: 1,

@@ -1,4 +1,5 @@
-//! Which token of a text goes on, by a plain table of what may stand where; `parse` finds the same first fault.
+//! Which token of a text goes on, by a plain table of what may stand where; `parse` finds the same
+//! first fault.
 
 use crate::{TextCause, TextFault, parse};
 use std::alloc::{AllocError, Global};
@@ -45,7 +46,7 @@ const WORDS: [&str; 16] = [
     "END_PROGRAM",
 ];
 
-/// Where the next token is wanted once this one stands here; `None` where it can't.
+/// Where the next token is wanted once this one stands here; `None` where it cannot.
 fn next(place: Place, word: &str) -> Option<Place> {
     match (place, word) {
         (Place::Program, "PROGRAM") => Some(Place::ProgramName),

@@ -56,7 +56,7 @@ pub fn mark<'a>(ts: &'a [Token], wanted: Mark) -> Result<&'a [Token], ReadError<
     }
 }
 
-/// A word that isn't reserved.
+/// A word that is not reserved.
 #[tactic(auto, unfolding(crate::specs::Terminals::name))]
 pub fn name<'a>(ts: &'a [Token]) -> Result<(Name, &'a [Token]), ReadError<'a, Token>>
     ensures { Gives (λ x. (x.0, x.1.now)) result (name.read ts.now) }

@@ -48,13 +48,37 @@ fn texts_and_their_first_faults(rt: HostRuntime) {
     }
 }
 
+/// The number of programs and of lines of a text that is parsed.
+fn count_of(alloc: Global, text: &[u8]) -> Result<(usize, usize), TextFault> {
+    let source = parse(alloc, text)?;
+    let mut lines = 0usize;
+    for program in source.programs() {
+        lines = lines.saturating_add(program.lines().len());
+    }
+    Ok((source.programs().len(), lines))
+}
+
 #[test]
 fn the_longest_text(rt: HostRuntime) -> Result<(), Fail> {
-    let mut text = Vec::new(rt.alloc());
+    let mut text = b"PROGRAM p\n".to_vec(rt.alloc())?;
+    for _ in 0..8_000 {
+        text.extend_from_slice(b"LD a\nST b\n")?;
+    }
+    text.extend_from_slice(b"END_PROGRAM\n")?;
     text.resize(1_048_576, b' ')?;
-    assert_eq!(rt; fault_of(rt.alloc(), &text), (0, 0, 0));
+    assert_eq!(rt; count_of(rt.alloc(), &text)?, (1, 16_000));
     text.push(b' ')?;
     assert_eq!(rt; fault_of(rt.alloc(), &text), (9, 1, 1));
+    Ok(())
+}
+
+#[test]
+fn sixty_four_programs(rt: HostRuntime) -> Result<(), Fail> {
+    let mut text = Vec::new(rt.alloc());
+    for _ in 0..64 {
+        text.extend_from_slice(b"PROGRAM p VAR a : BOOL; END_VAR\nLD a\nEND_PROGRAM\n")?;
+    }
+    assert_eq!(rt; count_of(rt.alloc(), &text)?, (64, 64));
     Ok(())
 }
 

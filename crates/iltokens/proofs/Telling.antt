@@ -12,7 +12,7 @@ use Rattle.iltokens.specs.Longest.{IsWithin, IsLongest, SpellsNone}
 use Rattle.iltokens.specs.Digits.{is_digit}
 use Rattle.iltokens.specs.Spelling.{is_letter}
 use Rattle.iltokens.specs.Fronts.{Front, end, taken, fault, mark_at, front_at}
-use Rattle.iltokens.specs.Tokens.{lexed_front, lexed_blanks, token_at, BeginsWith, TokenStands, OutsideStands, IsTold}
+use Rattle.iltokens.specs.Tokens.{lexed_front, lexed_blanks, token_at, BeginsWith, TokenStands, OutsideStands, StandsNext}
 use Rattle.iltokens.proofs.Comments.{Passed, AllBlanks, blanks_are}
 use Rattle.iltokens.proofs.BlanksAgain.{blanks_end, blanks_open}
 use Rattle.iltokens.proofs.Fallen.{Fits, front_nil, front_fits, after_blanks, shorter, begins}
@@ -37,7 +37,7 @@ spells_none bs is u after any e s = subst (λ (o : Option (List ℕ)). Reaches a
 
 after_front : (bytes : List ℕ) (at : ℕ) (rest : List ℕ) (f : Front) (o : Option (List ℕ)) → at ≤ length bytes
     → Passed (drop at bytes) rest BeginsNoBlank → ((b : ℕ) (bs : List ℕ) → rest ≡ b ∷ bs → Fits b f) → (rest ≡ [] → f ≡ end)
-    → rest_at rest ≡ o → Told rest f o → IsTold bytes at (lexed_front (length bytes) rest f)
+    → rest_at rest ≡ o → Told rest f o → StandsNext bytes at (lexed_front (length bytes) rest f)
 after_front bytes at rest end None le p fits nil is t =
     after_blanks bytes at rest p.0 (λ r. r ≡ []) (length bytes) le p.1 p.2 t (rw t (omega arith))
 after_front bytes at rest end (Some r) le p fits nil is t = absurd t
@@ -64,11 +64,11 @@ after_front bytes at rest (fault NotAscii) (Some r) le p fits nil is t = absurd 
 after_front bytes at rest (fault BadToken) (Some r) le p fits nil is t = absurd t
 after_front bytes at rest (fault BadNumber) None le p fits nil is t = absurd t
 
-pub token_told : (bytes : List ℕ) (at : ℕ) → at ≤ length bytes → IsTold bytes at (token_at bytes at)
+pub token_told : (bytes : List ℕ) (at : ℕ) → at ≤ length bytes → StandsNext bytes at (token_at bytes at)
 unfolding token_at
 token_told bytes at le = go (blanks (drop at bytes)) (blanks_are (drop at bytes))
   where
-    go : (r : Result (List ℕ) (List ℕ)) → AllBlanks (drop at bytes) r → IsTold bytes at (lexed_blanks (length bytes) r)
+    go : (r : Result (List ℕ) (List ℕ)) → AllBlanks (drop at bytes) r → StandsNext bytes at (lexed_blanks (length bytes) r)
     go (Ok rest) p =
         after_front bytes at rest (front_at rest) (rest_at rest) le p (λ b bs e. subst (λ (z : List ℕ). Fits b (front_at z)) (sym e) (front_fits b bs)) (λ e. ap front_at e ∙ front_nil) refl (front_told rest)
     go (Err rest) p = after_blanks bytes at rest p.0 OpensComment (length bytes - length rest) le p.1 p.2 p.3 (shorter bytes at rest p.0 p.1)
@@ -237,7 +237,7 @@ module _ (bytes : List ℕ) (at : ℕ) (le : at ≤ length bytes) where
   low_front [] h none = absurd h
   low_front (b ∷ rest) h none = (is_bad b rest none (front_at (b ∷ rest)) (rest_at (b ∷ rest)) (front_told (b ∷ rest)) (front_fits b rest)).0 h
 
-  pub token_only : (l : Lexed) → IsTold bytes at l → l ≡ token_at bytes at
+  pub token_only : (l : Lexed) → StandsNext bytes at l → l ≡ token_at bytes at
   token_only (lexed.Token what from to) h =
       let t = h.ahead.1 in
       let begun = there from h.before h.rest h.parts h.here in
@@ -261,11 +261,11 @@ module _ (bytes : List ℕ) (at : ℕ) (le : at ≤ length bytes) where
       sym (at_rest h.before h.rest h.parts h.blanks h.ahead.0 ∙ ap (lexed_front (length bytes) h.rest) front ∙ ap (λ (n : ℕ). lexed.Fault BadNumber n) (there place h.before h.rest h.parts h.here))
 
 -- one answer is told of a place
-pub one_told : (bytes : List ℕ) (at : ℕ) → at ≤ length bytes → (a b : Lexed) → IsTold bytes at a → IsTold bytes at b → a ≡ b
+pub one_told : (bytes : List ℕ) (at : ℕ) → at ≤ length bytes → (a b : Lexed) → StandsNext bytes at a → StandsNext bytes at b → a ≡ b
 one_told bytes at le a b h k = token_only bytes at le a h ∙ sym (token_only bytes at le b k)
 
 -- a token ends within the bytes
-pub ends_within : (bytes : List ℕ) (at : ℕ) (what : What) (from to : ℕ) → at ≤ length bytes → IsTold bytes at (lexed.Token what from to) → to ≤ length bytes
+pub ends_within : (bytes : List ℕ) (at : ℕ) (what : What) (from to : ℕ) → at ≤ length bytes → StandsNext bytes at (lexed.Token what from to) → to ≤ length bytes
 ends_within bytes at what from to le h =
     let t = h.ahead.1 in
     let here = h.here in

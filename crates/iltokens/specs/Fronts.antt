@@ -1,5 +1,6 @@
 -- The token at the front of some bytes, where no blank stands.
-use Rattle.std.specs.Prelude.{ℕ, ℤ, ◌-◌, ◌^◌, List, [], ◌∷◌, length, take, drop, Option, Some, None, Bool, true, false, ◌&&◌, ◌||◌, ◌==◌, nat_le, nat_lt, if◌then◌else◌}
+use Rattle.std.specs.Prelude.{ℕ, ℤ, ◌-◌, ◌^◌, List, [], ◌∷◌, length, take, drop, Option, Some, None}
+use Rattle.std.specs.Prelude.{Bool, true, false, ◌&&◌, ◌||◌, ◌==◌, nat_le, nat_lt, if◌then◌else◌}
 use Rattle.iltokens.specs.declared.keyword.Keyword.{Keyword}
 use Rattle.iltokens.specs.declared.lexed.Mark.TheVariants as marks
 use Rattle.iltokens.specs.declared.lexed.What.{What}
@@ -72,7 +73,10 @@ dot_at (b ∷ bs) = if b == 46 then taken (whats.Mark marks.Range) bs else taken
 -- after `&`
 abbrev pub ampersand_at : List ℕ → Front
 ampersand_at [] = taken (whats.Mark marks.Ampersand) []
-ampersand_at (b ∷ bs) = if (b == 78) || (b == 110) then taken (whats.Mark marks.AmpersandNot) bs else taken (whats.Mark marks.Ampersand) (b ∷ bs)
+ampersand_at (b ∷ bs) =
+    if (b == 78) || (b == 110)
+    then taken (whats.Mark marks.AmpersandNot) bs
+    else taken (whats.Mark marks.Ampersand) (b ∷ bs)
 
 -- after a carriage return
 abbrev pub return_at : List ℕ → Front

@@ -17,7 +17,8 @@ pub record IsLongest (bytes front : List ℕ) (what : What) : Type 0 where
   pub after : List ℕ
   pub parts : bytes ≡ front ++ after
   pub spells : Spells what front
-  pub longest : (other after : List ℕ) (any : What) → bytes ≡ other ++ after → Spells any other → length other ≤ length front
+  pub longest : (other after : List ℕ) (any : What)
+      → bytes ≡ other ++ after → Spells any other → length other ≤ length front
 
 -- no front of the bytes spells a token, be it in its limits or not
 abbrev pub SpellsNone : List ℕ → Type 0

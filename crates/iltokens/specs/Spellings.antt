@@ -1,5 +1,5 @@
--- What each kind of token spells, by itself (IEC 61131-3, 2.1.2, 2.2.1, 2.2.3.1 and 2.4.1.1, with this project's profile).
--- Values are whole numbers without limit.
+-- What each kind of token spells, by itself (IEC 61131-3, 2.1.2, 2.2.1, 2.2.3.1 and 2.4.1.1, with this project's
+-- profile). Values are whole numbers without limit.
 use Rattle.std.specs.Prelude.{◌≡◌, ◌⊎◌, ℕ, ◌+◌, ◌*◌, ◌<◌, ℤ, pos, neg_ℤ, List, [], ◌∷◌, ◌++◌, true, map, codes}
 use Rattle.std.specs.Char.{to_ascii_lowercase}
 use Rattle.iltokens.specs.declared.lexed.AddressKind.{AddressKind}
@@ -36,8 +36,10 @@ IsName (b ∷ bs) = (is_letter b ≡ true) × AreNameBytes bs
 -- digits of a base, each but the first with one underscore (95) before it or none, and their value
 pub data Digits (base : ℕ) : List ℕ → ℕ → Type 0 where
   one : (d : ℕ) → is_digit base d ≡ true → Digits base (d ∷ []) (digit_of d)
-  next : (u : List ℕ) (n d : ℕ) → Digits base u n → is_digit base d ≡ true → Digits base (u ++ d ∷ []) (n * base + digit_of d)
-  marked : (u : List ℕ) (n d : ℕ) → Digits base u n → is_digit base d ≡ true → Digits base (u ++ 95 ∷ d ∷ []) (n * base + digit_of d)
+  next : (u : List ℕ) (n d : ℕ)
+      → Digits base u n → is_digit base d ≡ true → Digits base (u ++ d ∷ []) (n * base + digit_of d)
+  marked : (u : List ℕ) (n d : ℕ)
+      → Digits base u n → is_digit base d ≡ true → Digits base (u ++ 95 ∷ d ∷ []) (n * base + digit_of d)
 
 -- decimal, or `2#`, `8#`, `16#` and digits of that base
 pub data IsUnsigned : List ℕ → ℕ → Type 0 where
@@ -71,13 +73,15 @@ pub record IsPart (unit : Unit) (u : List ℕ) (n : ℕ) : Type 0 where
   pub reads : Reads (letters unit) word
   pub scaled : n ≡ count * milliseconds unit
 
--- parts in falling order of their units, the last of which is worth `least` milliseconds; an underscore may stand between two
+-- parts in falling order of their units, the last of which is worth `least` milliseconds; an underscore may stand
+-- between two
 pub data AreParts : ℕ → List ℕ → ℕ → Type 0 where
   first : (unit : Unit) (u : List ℕ) (n : ℕ) → IsPart unit u n → AreParts (milliseconds unit) u n
   then : (least : ℕ) (v : List ℕ) (m : ℕ) (unit : Unit) (u : List ℕ) (n : ℕ)
       → AreParts least v m → milliseconds unit < least → IsPart unit u n → AreParts (milliseconds unit) (v ++ u) (m + n)
   apart : (least : ℕ) (v : List ℕ) (m : ℕ) (unit : Unit) (u : List ℕ) (n : ℕ)
-      → AreParts least v m → milliseconds unit < least → IsPart unit u n → AreParts (milliseconds unit) (v ++ 95 ∷ u) (m + n)
+      → AreParts least v m → milliseconds unit < least → IsPart unit u n
+      → AreParts (milliseconds unit) (v ++ 95 ∷ u) (m + n)
 
 -- `T#` or `TIME#` and parts (profile: neither a sign nor a fraction)
 pub record IsTime (u : List ℕ) (n : ℕ) : Type 0 where
@@ -93,7 +97,8 @@ pub record IsTime (u : List ℕ) (n : ℕ) : Type 0 where
 -- decimal digits without underscores
 pub data PlainDigits : List ℕ → ℕ → Type 0 where
   one : (d : ℕ) → is_digit 10 d ≡ true → PlainDigits (d ∷ []) (digit_of d)
-  next : (u : List ℕ) (n d : ℕ) → PlainDigits u n → is_digit 10 d ≡ true → PlainDigits (u ++ d ∷ []) (n * 10 + digit_of d)
+  next : (u : List ℕ) (n d : ℕ)
+      → PlainDigits u n → is_digit 10 d ≡ true → PlainDigits (u ++ d ∷ []) (n * 10 + digit_of d)
 
 abbrev pub prefix_of : AddressKind → List ℕ
 prefix_of kinds.OutputByte = codes "%qb"
@@ -130,7 +135,7 @@ IsMark marks.LineEnd u = (u ≡ 10 ∷ []) ⊎ (u ≡ 13 ∷ 10 ∷ [])
 
 abbrev pub Spells : What → List ℕ → Type 0
 Spells (whats.Keyword w) u = IsName u × IsSpelled u w
-Spells whats.Name u = IsName u × ((w : Keyword) → IsSpelled u w → ⊥)
+Spells whats.Name u = IsName u × ((w : Keyword) → ¬ IsSpelled u w)
 Spells (whats.Number n) u = IsNumber u n
 Spells (whats.Time n) u = IsTime u n
 Spells (whats.Address kind bus place) u = IsAddress u kind bus place

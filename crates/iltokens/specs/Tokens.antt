@@ -44,19 +44,23 @@ BeginsWith P (b ∷ bs) = P b
 
 -- a token stands here: the longest, in its limits
 abbrev pub TokenStands : What → ℕ → ℕ → List ℕ → Type 0
-TokenStands what from to rest = (front : List ℕ) × (to ≡ from + length front) × IsLongest rest front what × IsWithin what
+TokenStands what from to rest =
+    (front : List ℕ) × (to ≡ from + length front) × IsLongest rest front what × IsWithin what
 
 -- what stands here is the longest token, outside its limits
 abbrev pub OutsideStands : List ℕ → Type 0
-OutsideStands rest = (front : List ℕ) × (what : What) × IsLongest rest front what × (IsWithin what → ⊥)
+OutsideStands rest = (front : List ℕ) × (what : What) × IsLongest rest front what × ¬ IsWithin what
 
--- Nothing but blanks and comments stands before what is told, and no blank where it stands: the longest token, in its limits;
--- the end of the bytes; or a fault, which is a comment without end, a byte of 80 hex or more, another byte where no token
--- begins, or the longest token, outside its limits.
-abbrev pub IsTold : List ℕ → ℕ → Lexed → Type 0
-IsTold bytes at (lexed.Token what from to) = IsAfterBlanks bytes at from (λ rest. BeginsNoBlank rest × TokenStands what from to rest)
-IsTold bytes at lexed.End = IsAfterBlanks bytes at (length bytes) (λ rest. rest ≡ [])
-IsTold bytes at (lexed.Fault CommentOpen place) = IsAfterBlanks bytes at place OpensComment
-IsTold bytes at (lexed.Fault NotAscii place) = IsAfterBlanks bytes at place (BeginsWith (λ b. 128 ≤ b))
-IsTold bytes at (lexed.Fault BadToken place) = IsAfterBlanks bytes at place (λ rest. BeginsNoBlank rest × BeginsWith (λ b. b < 128) rest × SpellsNone rest)
-IsTold bytes at (lexed.Fault BadNumber place) = IsAfterBlanks bytes at place (λ rest. BeginsNoBlank rest × OutsideStands rest)
+-- Nothing but blanks and comments stands before what is next, and no blank where it stands: the longest token, in its
+-- limits; the end of the bytes; or a fault, which is a comment without end, a byte of 80 hex or more, another byte where
+-- no token begins, or the longest token, outside its limits.
+abbrev pub StandsNext : List ℕ → ℕ → Lexed → Type 0
+StandsNext bytes at (lexed.Token what from to) =
+    IsAfterBlanks bytes at from (λ rest. BeginsNoBlank rest × TokenStands what from to rest)
+StandsNext bytes at lexed.End = IsAfterBlanks bytes at (length bytes) (λ rest. rest ≡ [])
+StandsNext bytes at (lexed.Fault CommentOpen place) = IsAfterBlanks bytes at place OpensComment
+StandsNext bytes at (lexed.Fault NotAscii place) = IsAfterBlanks bytes at place (BeginsWith (λ b. 128 ≤ b))
+StandsNext bytes at (lexed.Fault BadToken place) =
+    IsAfterBlanks bytes at place (λ rest. BeginsNoBlank rest × BeginsWith (λ b. b < 128) rest × SpellsNone rest)
+StandsNext bytes at (lexed.Fault BadNumber place) =
+    IsAfterBlanks bytes at place (λ rest. BeginsNoBlank rest × OutsideStands rest)

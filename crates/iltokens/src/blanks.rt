@@ -10,7 +10,7 @@ enum Blank<'a> {
     Here,
     /// What stands after it.
     Past(&'a [u8]),
-    /// A comment begins and doesn't end.
+    /// A comment begins and does not end.
     OpenComment,
 }
 
@@ -42,10 +42,13 @@ fn blank_at(bytes: &[u8]) -> Blank<'_>
     }
 }
 
-/// What stands after the blanks at the front; an `Err` has what stands from the `(*` on of a comment without end.
+/// What stands after the blanks at the front; an `Err` has what stands from the `(*` on of a
+/// comment without end.
 pub fn blanks(bytes: &[u8]) -> Result<&[u8], &[u8]>
     ensures exact { both_views result ≡ blanks bytes.now }
-    ensures within { MatchResult result (λ rest. length rest.now ≤ length bytes.now) (λ rest. length rest.now ≤ length bytes.now) }
+    ensures within { MatchResult result
+        (λ rest. length rest.now ≤ length bytes.now)
+        (λ rest. length rest.now ≤ length bytes.now) }
 {
     let mut rest = bytes;
     'blanks: loop {

@@ -1,7 +1,8 @@
 //! Digits of numbers, with their value. A value past 64 bits is kept at the greatest of them.
 
 ghost use Rattle.std.specs.Prelude.{◌≡◌, ◌<◌, ◌≤◌, length, IfSome};
-ghost use Rattle.iltokens.specs.Digits.{digit_of, is_digit, add_digit, next_digit, digits_from, digits, plain_from, plain};
+ghost use Rattle.iltokens.specs.Digits.{digit_of, is_digit, add_digit, next_digit};
+ghost use Rattle.iltokens.specs.Digits.{digits_from, digits, plain_from, plain};
 ghost use Rattle.iltokens.specs.Views.{valued, value_view};
 
 /// The value of a digit of any base up to 16, in either letter case; 16 for another byte.
@@ -82,7 +83,8 @@ fn digits_from(base: u8, value: u64, bytes: &[u8]) -> (u64, &[u8])
     }
 }
 
-/// The value of the digits at the front, with single underscores between them, and what stands after them.
+/// The value of the digits at the front, with single underscores between them, and what stands
+/// after them.
 pub fn digits(base: u8, bytes: &[u8]) -> Option<(u64, &[u8])>
     ensures exact { valued result ≡ digits base bytes.now }
     ensures within { IfSome result (λ x. length x.1.now < length bytes.now) }

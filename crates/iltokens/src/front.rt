@@ -1,7 +1,8 @@
 //! The token at the front of some bytes.
 
 ghost use Rattle.std.specs.Prelude.{◌≡◌, ◌<◌, length};
-ghost use Rattle.iltokens.specs.Fronts.{number_at, word_kind, word_at, address_at, mark_at, front_at};
+ghost use Rattle.iltokens.specs.Fronts.{number_at, word_kind, word_at, address_at};
+ghost use Rattle.iltokens.specs.Fronts.{mark_at, front_at};
 ghost use Rattle.iltokens.specs.Views.{front_view, IsShorter};
 
 use crate::address::direct_address;

@@ -256,6 +256,7 @@ fn lookup(mut table: &[(&[u8], Keyword)], text: &[u8]) -> Option<Keyword>
     None
 }
 
+/// The reserved word that is spelled like `text`.
 fn word_of(text: &[u8]) -> Option<Keyword>
     ensures { result ≡ keyword text.now }
 {
@@ -264,7 +265,9 @@ fn word_of(text: &[u8]) -> Option<Keyword>
 
 /// The reserved word that a text is, in any letter case.
 pub fn reserved(text: &[u8]) -> Option<Keyword>
-    ensures { MatchOption result ((w : Keyword) → IsSpelled text.now w → ⊥) (λ w. IsSpelled text.now w) }
+    ensures { MatchOption result
+        ((word : Keyword) → ¬ IsSpelled text.now word)
+        (λ word. IsSpelled text.now word) }
 {
     word_of(text)
 }

@@ -42,7 +42,7 @@ pub enum Mark {
 #[derive(Clone, Copy, PartialEq, Eq, Debug)]
 pub enum What {
     Keyword(Keyword),
-    /// A word that isn't reserved: a letter or underscore, then letters, digits and underscores.
+    /// A word that is not reserved: a letter or underscore, then letters, digits and underscores.
     Name,
     /// A number with its sign, decimal or of base 2, 8 or 16.
     Number(i64),

@@ -1,27 +1,28 @@
 //! The next token of a text.
 
 ghost use Rattle.std.specs.Prelude.{◌≡◌, ◌≤◌, length};
-ghost use Rattle.iltokens.specs.Tokens.{token_at, IsAhead, IsTold};
+ghost use Rattle.iltokens.specs.Tokens.{token_at, IsAhead, StandsNext};
 
 use crate::blanks::blanks;
 use crate::front::{Front, front_at};
 use crate::lexed::{Cause, Lexed};
 
-/// The longest token after the blanks and comments at the byte `at` of `bytes`, or the end of the text, or the fault there:
-/// a byte of 80 hex or more, a byte that begins no token, a number or time outside its limit, or a comment without end, whose
-/// place is its `(*`.
+/// The longest token after the blanks and comments at the byte `at` of `bytes`, or the end of the
+/// text, or the fault there: a byte of 80 hex or more, a byte that begins no token, a number or
+/// time outside its limit, or a comment without end, whose place is its `(*`.
 pub fn token(bytes: &[u8], at: usize) -> Lexed
     requires { at ≤ length bytes.now }
     // It stands at `at` or behind it, and a token has a byte.
     ensures ahead { IsAhead result at (length bytes.now) }
-    // It is what stands after the blanks and comments: the longest token, the end of the bytes, or the fault,
-    ensures told { IsTold bytes.now at result }
+    // It is what stands after the blanks and comments: the longest token, the end, or the fault,
+    ensures next { StandsNext bytes.now at result }
     // and nothing else is.
-    ensures only { (other : Lexed) → IsTold bytes.now at other → other ≡ result }
+    ensures only { (other : Lexed) → StandsNext bytes.now at other → other ≡ result }
 {
     next_token(bytes, at)
 }
 
+/// The same, read as far as each kind of token goes.
 #[tactic(auto, unfolding(crate::specs::Tokens::token_at))]
 fn next_token(bytes: &[u8], at: usize) -> Lexed
     requires { at ≤ length bytes.now }

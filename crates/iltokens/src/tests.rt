@@ -59,7 +59,8 @@ const WORDS: &str = "\
 fn has_letters_of(name: &[u8], word: &[u8]) -> bool {
     let mut letters = name.iter();
     for byte in word {
-        if *byte != b'_' && letters.next().map(|letter| letter.to_ascii_uppercase()) != Some(*byte) {
+        let is_letter = *byte != b'_';
+        if is_letter && letters.next().map(|next| next.to_ascii_uppercase()) != Some(*byte) {
             return false;
         }
     }
@@ -73,9 +74,10 @@ fn each_reserved_word(rt: HostRuntime) -> Result<(), Fail> {
         match kind_at(word.as_bytes())? {
             What::Keyword(keyword) => {
                 let name = format!(in rt.alloc(); "{keyword:?}")?;
-                assert!(rt; has_letters_of(name.as_str().as_bytes(), word.as_bytes()), "{word} is {name}");
+                let is_it = has_letters_of(name.as_str().as_bytes(), word.as_bytes());
+                assert!(rt; is_it, "{word} is {name}");
             }
-            _ => assert!(rt; false, "{word} isn't reserved"),
+            _ => assert!(rt; false, "{word} is not reserved"),
         }
         count = count.saturating_add(1);
     }
@@ -123,7 +125,7 @@ fn each_fault(rt: HostRuntime) {
     }
 }
 
-/// The tokens of a text, one after the other, each as its bytes and the kind that the rules give it.
+/// The tokens of a text, each as its bytes and the kind that the rules give it.
 #[test]
 fn tokens_of_whole_texts(rt: HostRuntime) {
     let texts: [(&[u8], &[(&[u8], What)]); 6] = [

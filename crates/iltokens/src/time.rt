@@ -1,7 +1,8 @@
 //! Durations (IEC 61131-3, 2.2.3.1).
 
 ghost use Rattle.std.specs.Prelude.{◌≡◌, ◌≤◌, ◌<◌, length, IfSome};
-ghost use Rattle.iltokens.specs.Times.{milliseconds, after_unit, part, with_part, parts_begin, parts, after_prefix, time};
+ghost use Rattle.iltokens.specs.Times.{milliseconds, after_unit, part, with_part, parts_begin};
+ghost use Rattle.iltokens.specs.Times.{parts, after_prefix, time};
 ghost use Rattle.iltokens.specs.Views.{seen, valued, parts_view};
 
 use crate::digits::digits;
@@ -29,7 +30,7 @@ pub fn milliseconds(unit: Unit) -> u64
     }
 }
 
-/// What stands after the unit's letters; `m` before `s` isn't a minute.
+/// What stands after the unit's letters; `m` before `s` is not a minute.
 #[tactic(auto, unfolding(crate::specs::Times::after_unit))]
 fn after_unit(unit: Unit, bytes: &[u8]) -> Option<&[u8]>
     ensures exact { seen result ≡ after_unit unit bytes.now }
