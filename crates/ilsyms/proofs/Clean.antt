@@ -6,14 +6,19 @@ use Rattle.ilsource.specs.declared.name.Name.{Name}
 use Rattle.ilsource.specs.declared.instruction.Line.{Line}
 use Rattle.ilsource.specs.Names.{text_of}
 use Rattle.ilsource.specs.Trees.{Variables, Written, Tree}
-use Rattle.ilsyms.specs.Counting.{counting}
-use Rattle.ilsyms.specs.Declarations.{initial_value, slots_of, lines_of, name_in}
-use Rattle.ilsyms.specs.Gathering.{Gathered, gathered, number_in, with_name, with_names, with_initial, with_declaration, with_declarations}
-use Rattle.ilsyms.specs.Gathering.{Scoping, with_program, with_programs, scoping, lesser, with_excess, table_of, lowered}
-use Rattle.ilsyms.specs.Planning.{IsKnownName, AreKnown}
-use Rattle.ilsyms.specs.Resolving.{least_fault}
-use Rattle.ilsyms.specs.Uses.{with_use, with_line, with_lines, with_uses_in, with_uses}
-use Rattle.ilsyms.specs.declared.found.Found.{Found}
+use Rattle.ilsyms.specs.CountingSteps.{counting}
+use Rattle.ilscope.specs.Declarations.{initial_value}
+use Rattle.ilsyms.specs.Declarations.{slots_of, lines_of, name_in}
+use Rattle.ilscope.specs.GatheringSteps.{Gathered, gathered, with_name, with_names, with_initial, with_declaration, with_declarations}
+use Rattle.ilscope.specs.Tables.{number_in}
+use Rattle.ilscope.specs.GatheringSteps.{Scoping, with_program, with_programs, scoping, table_of}
+use Rattle.ilscope.specs.Order.{lesser}
+use Rattle.ilscope.specs.Tables.{lowered}
+use Rattle.ilsyms.specs.ResolvingSteps.{with_excess}
+use Rattle.ilsyms.specs.PlanningSteps.{IsKnownName, AreKnown}
+use Rattle.ilsyms.specs.ResolvingSteps.{least_fault}
+use Rattle.ilsyms.specs.UsesSteps.{with_use, with_line, with_lines, with_uses_in, with_uses}
+use Rattle.ilscope.specs.declared.found.Found.{Found}
 use Rattle.limits.specs.Limits.{most_instances, most_slots, most_words}
 
 pub none_lesser : (l : Option Found) (f : Found) → lesser l f ≡ None → ⊥

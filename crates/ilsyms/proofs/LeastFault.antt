@@ -1,30 +1,36 @@
 -- The least fault that is gathered is the least of all that stand in the source program, those of limits too.
 use Rattle.std.proofs.Common.{◌≡◌, ℕ, ◌+◌, ◌<◌, List, [], ◌∷◌, ◌++◌, map, length, Bool, true, false, refl, ap, sym, ◌∙◌, arith, subst, ◌⊎◌, inl, inr, append_assoc, length-append}
-use Rattle.std.specs.Prelude.{Option, Some, None, MatchOption, ◌==◌, fold, slice_get, if◌then◌else◌}
+use Rattle.std.specs.Prelude.{Option, Some, None, ◌==◌, fold, slice_get, if◌then◌else◌}
 use Rattle.std.specs.List.{list_any, cons_option}
 use Rattle.std.proofs.lemmas.Grind.{common_steps}
 use Rattle.iltypes.specs.declared.value.Value.{Value}
 use Rattle.ilsource.specs.declared.instruction.Line.{Line}
 use Rattle.ilsource.specs.Trees.{Written, Tree}
-use Rattle.ilsyms.specs.Counting.{Counted, counted, counting, with_one, with_line, with_lines, with_programs}
+use Rattle.ilsyms.specs.CountingSteps.{Counted, counted, counting, with_one, with_line, with_lines, with_programs}
 use Rattle.ilsyms.specs.Declarations.{slots_of, lines_of, constant_in, constants_of, with_constant, each_once, same_value}
-use Rattle.ilsyms.specs.Faults.{IsFault, IsFaultOfDeclarations, IsUnknown, MakesTooManyConstants, IsWellNamed, IsLeast}
-use Rattle.ilsyms.specs.Gathering.{scoping, scoping_of, found, with_excess, lowered}
-use Rattle.ilsyms.specs.Resolving.{least_of_names, least_fault}
-use Rattle.ilsyms.specs.Told.{IsTold, IsMemoryOrTold, IsOptionTold, TellsLeast, IsMemoryOrTellsLeast}
-use Rattle.ilsyms.specs.declared.fault.NameCause.{NameCause}
-use Rattle.ilsyms.specs.declared.fault.NameCause.TheVariants.{Unknown, Twice, TooMany, BadDeclaration}
-use Rattle.ilsyms.specs.declared.fault.NameFault.{NameFault}
-use Rattle.ilsyms.specs.declared.fault.NameFault.TheVariants.{Memory, At}
-use Rattle.ilsyms.specs.declared.found.Found.{Found}
+use Rattle.ilsyms.specs.Faults.{IsFault, IsUnknown, MakesTooManyConstants, IsWellNamed}
+use Rattle.ilscope.specs.Faults.{IsFaultOfDeclarations}
+use Rattle.ilscope.specs.GatheringSteps.{scoping}
+use Rattle.ilscope.specs.Order.{found}
+use Rattle.ilscope.specs.Tables.{lowered}
+use Rattle.ilsyms.specs.ResolvingSteps.{with_excess}
+use Rattle.ilsyms.specs.ResolvingSteps.{least_of_names, least_fault}
+use Rattle.ilscope.specs.Told.{IsMemoryOrTold, IsMemoryOrTellsLeast}
+use Rattle.ilscope.specs.declared.fault.NameCause.{NameCause}
+use Rattle.ilscope.specs.declared.fault.NameCause.TheVariants.{Unknown, Twice, TooMany, BadDeclaration}
+use Rattle.ilscope.specs.declared.fault.NameFault.{NameFault}
+use Rattle.ilscope.specs.declared.found.Found.{Found}
 use Rattle.limits.specs.Limits.{most_instances, most_slots, most_words, most_constants}
-use Rattle.ilsyms.proofs.Exact.{of_declarations_to, of_declarations_from, unknown_to, unknown_from}
-use Rattle.ilsyms.proofs.Gathered.{IsBest, best_with, best_same, or_else, programs_best, uses_best}
+use Rattle.ilsyms.proofs.UnknownNames.{unknown_to, unknown_from}
+use Rattle.ilscope.specs.Faults.{IsLeastOf}
+use Rattle.ilscope.proofs.Gathered.{best_with, best_same, or_else}
+use Rattle.ilsyms.proofs.UnknownNames.{uses_best}
 use Rattle.ilsyms.proofs.Limits.{fold_append, constants_append, lines_counted}
+use Rattle.ilscope.proofs.LeastOfDeclarations.{scope_best, none_best, memory_or}
 
 -- what exceeds a limit
-excess_best : (e : Option ℕ) (P : ℕ → NameCause → Type 0) (o : Option Found) → IsBest P o →
-    IsBest (λ place cause. P place cause ⊎ ((cause ≡ TooMany) × (e ≡ Some place))) (with_excess o e)
+excess_best : (e : Option ℕ) (P : ℕ → NameCause → Type 0) (o : Option Found) → IsLeastOf P o →
+    IsLeastOf (λ place cause. P place cause ⊎ ((cause ≡ TooMany) × (e ≡ Some place))) (with_excess o e)
 excess_best None P o l = best_same P _ o (λ place cause p. inl p) (λ place cause q. or_else (λ p. p) (λ y. absurd (no place y.1)) q) l
   where
     no : (place : ℕ) → None ≡ Some place → ⊥
@@ -159,19 +165,11 @@ constants_to tree place h =
 constants_from : (tree : Tree) (place : ℕ) → MakesTooManyConstants (lines_of tree.programs) place → (counting tree.programs).excess ≡ Some place
 constants_from tree place m = ap (λ (c : Counted). c.excess) (all_lines_counted tree.programs (counted [] None)) ∙ makes_to place (lines_of tree.programs) m
 
--- the faults of declarations
-pub scope_best : (tree : Tree) → IsBest (IsFaultOfDeclarations tree) ((scoping tree).least)
-scope_best tree =
-    best_same _ (IsFaultOfDeclarations tree) ((scoping tree).least)
-    (λ place cause q. or_else absurd (λ f. of_declarations_to tree place cause f) q)
-    (λ place cause q. inr (of_declarations_from tree place cause q))
-    (programs_best (lowered tree.text) tree.programs (scoping_of [] [] None) (λ place cause. ⊥) (λ place cause p. p))
-
 -- the faults but those of limits
 abbrev OfNames : Tree → ℕ → NameCause → Type 0
 OfNames tree place cause = IsFaultOfDeclarations tree place cause ⊎ ((cause ≡ Unknown) × IsUnknown tree place)
 
-names_best : (tree : Tree) → IsBest (OfNames tree) (least_of_names tree)
+names_best : (tree : Tree) → IsLeastOf (OfNames tree) (least_of_names tree)
 names_best tree =
     best_same _ (OfNames tree) (least_of_names tree)
     (λ place cause q. or_else inl (λ u. inr (u.0, unknown_to tree place u.1)) q)
@@ -214,7 +212,7 @@ parts_from tree place TooMany (inr (inl s)) = inl (inl (inr (refl, s)))
 parts_from tree place TooMany (inr (inr (inl w))) = inl (inr (refl, w))
 parts_from tree place TooMany (inr (inr (inr m))) = inr (refl, constants_from tree place m)
 
-pub all_best : (tree : Tree) → IsBest (IsFault tree) (least_fault tree)
+pub all_best : (tree : Tree) → IsLeastOf (IsFault tree) (least_fault tree)
 all_best tree =
     best_same (InParts tree) (IsFault tree) (least_fault tree) (parts_to tree) (parts_from tree)
     (excess_best ((counting tree.programs).excess) _ _
@@ -222,38 +220,10 @@ all_best tree =
     (excess_best (slice_get (map (λ s. s.variable.from) (slots_of tree.programs)) most_slots) _ _
     (excess_best (slice_get (map (λ p. p.name.from) tree.programs) most_instances) (OfNames tree) (least_of_names tree) (names_best tree)))))
 
-none_best : (F : ℕ → NameCause → Type 0) (o : Option Found) → IsBest F o → o ≡ None → (place : ℕ) (cause : NameCause) → F place cause → ⊥
-none_best F None l e = l
-none_best F (Some f) l e = absurd cc
-
 -- no fault stands where none was gathered
 pub well_named : (tree : Tree) → least_fault tree ≡ None → IsWellNamed tree
 well_named tree h = none_best (IsFault tree) (least_fault tree) (all_best tree) h
 
-told_least : (text : List ℕ) (F : ℕ → NameCause → Type 0) (f : Found) (fault : NameFault) → IsLeast F f.at f.cause → IsTold text f fault
-    → TellsLeast text F fault
-told_least text F f Memory l h = absurd h
-told_least text F f (At line col cause) l h = (f.at, subst (λ (k : NameCause). IsLeast F f.at k) (sym h.2) l, h.0, h.1)
-
-memory_or : (text : List ℕ) (F : ℕ → NameCause → Type 0) (o : Option Found) (fault : NameFault) → IsBest F o → IsMemoryOrTold text o fault
-    → IsMemoryOrTellsLeast text F fault
-memory_or text F o Memory l h = tt
-memory_or text F None (At line col cause) l h = absurd h
-memory_or text F (Some f) (At line col cause) l h = told_least text F f (At line col cause) l h
-
 -- what is told is the least fault
 pub tells_least : (tree : Tree) (fault : NameFault) → IsMemoryOrTold tree.text (least_fault tree) fault → IsMemoryOrTellsLeast tree.text (IsFault tree) fault
 tells_least tree fault h = memory_or tree.text (IsFault tree) (least_fault tree) fault (all_best tree) h
-
-option_or : (text : List ℕ) (F : ℕ → NameCause → Type 0) (o : Option Found) (r : Option NameFault) → IsBest F o → IsOptionTold text o r →
-    MatchOption r ((place : ℕ) (cause : NameCause) → F place cause → ⊥) (λ fault. TellsLeast text F fault)
-option_or text F None None l h = l
-option_or text F None (Some fault) l h = absurd h
-option_or text F (Some f) None l h = absurd h
-option_or text F (Some f) (Some fault) l h = told_least text F f fault l h
-
--- what a scope tells is the least fault of its declarations
-pub scope_tells : (tree : Tree) (r : Option NameFault) → IsOptionTold tree.text ((scoping tree).least) r →
-    MatchOption r ((place : ℕ) (cause : NameCause) → IsFaultOfDeclarations tree place cause → ⊥)
-    (λ fault. TellsLeast tree.text (IsFaultOfDeclarations tree) fault)
-scope_tells tree r h = option_or tree.text (IsFaultOfDeclarations tree) ((scoping tree).least) r (scope_best tree) h

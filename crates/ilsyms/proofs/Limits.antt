@@ -13,13 +13,14 @@ use Rattle.ilsource.specs.declared.instruction.Instruction.TheVariants.{Load, Ap
 use Rattle.ilsource.specs.declared.instruction.Line.{Line}
 use Rattle.ilsource.specs.Names.{text_of}
 use Rattle.ilsource.specs.Trees.{Written, Tree}
-use Rattle.ilsyms.specs.Counting.{Counted, counted, with_one, with_line, with_lines, with_programs}
+use Rattle.ilsyms.specs.CountingSteps.{Counted, counted, with_one, with_line, with_lines, with_programs}
 use Rattle.ilsyms.specs.Declarations.{slots_of, slots_of_program, lines_of, name_in, name_in_operand, constant_in, constant_in_operand, constants_of, with_constant, same_value}
-use Rattle.ilsyms.specs.Gathering.{number_in, first_at, table_of, lowered}
-use Rattle.ilsyms.specs.Planning.{Planning, planning, with_instance, with_instances, planning_of, planned_instance, planned_operand, planned_instruction, planned_line, slot_number, IsKnownName, AreKnown}
+use Rattle.ilscope.specs.Tables.{number_in, first_at, lowered}
+use Rattle.ilscope.specs.GatheringSteps.{table_of}
+use Rattle.ilsyms.specs.PlanningSteps.{Planning, planning, with_instance, with_instances, planning_of, planned_instance, planned_operand, planned_instruction, planned_line, slot_number, IsKnownName, AreKnown}
 use Rattle.ilsyms.specs.Plans.{PlannedInstance, KeepsLimits, NamesSlotsBelow, all_lines, constants_in, slots_in}
 use Rattle.ilsyms.specs.Plans as plans
-use Rattle.ilsyms.specs.Resolving.{least_fault, the_task}
+use Rattle.ilsyms.specs.ResolvingSteps.{least_fault, the_task}
 use Rattle.ilsyms.specs.declared.planned.PlannedLine.{PlannedLine}
 use Rattle.limits.specs.Limits.{most_constants}
 use Rattle.ilsyms.proofs.Clean.{clean, none_length, all_cons, all_nil}

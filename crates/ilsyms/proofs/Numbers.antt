@@ -4,8 +4,8 @@ use Rattle.std.specs.Prelude.{Option, Some, None, IsSomeAnd, option_map, slice_g
 use Rattle.std.proofs.lemmas.Slice.Eq.{bytes_eq-Decides}
 use Rattle.ilsource.specs.declared.name.Name.{Name}
 use Rattle.ilsource.specs.Names.{folded}
-use Rattle.ilsyms.specs.Faults.{SomeOf}
-use Rattle.ilsyms.specs.Gathering.{first_at}
+use Rattle.ilscope.specs.Faults.{SomeOf}
+use Rattle.ilscope.specs.Tables.{first_at}
 use Rattle.ilsyms.specs.SlotLines.{IsUnder, IsNumberOf}
 use Rattle.ilsyms.specs.declared.planned.Slot.{Slot}
 use Rattle.ilsyms.proofs.Paired.{has_name}

@@ -5,7 +5,7 @@ use Rattle.iltypes.specs.declared.value.IlType.{IlType}
 use Rattle.iltypes.specs.declared.value.IlType.TheVariants as types
 use Rattle.iltypes.specs.declared.value.Value.{Value}
 use Rattle.ilsource.specs.Names.{folded}
-use Rattle.ilsyms.specs.Gathering.{first_at}
+use Rattle.ilscope.specs.Tables.{first_at}
 use Rattle.ilsyms.specs.PlanMeaning.{paired}
 use Rattle.ilsyms.specs.Stores.{Entry, value_under, with_value}
 use Rattle.ilsyms.specs.declared.planned.Slot.{Slot}

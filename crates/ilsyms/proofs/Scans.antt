@@ -1,9 +1,8 @@
 -- The instances that are planned for a source program without fault are those of its programs.
 use Rattle.std.proofs.Common.{◌≡◌, ℕ, suc, ◌+◌, List, [], ◌∷◌, ◌++◌, map, length, Bool, true, false, refl, ap, sym, ◌∙◌, arith, append_assoc, length-append}
-use Rattle.std.proofs.lemmas.List.{length-map, take-map, drop-map, append-nil}
+use Rattle.std.proofs.lemmas.List.{length-map, append-nil}
 use Rattle.std.proofs.lemmas.Slice.Eq.{bytes_eq-Decides}
 use Rattle.std.specs.Prelude.{Option, Some, None, IsSome, flat_map, option_map, is_some, slice_get, unwrap_or, bytes_eq, if◌then◌else◌}
-use Rattle.std.specs.Char.{to_ascii_lowercase}
 use Rattle.iltypes.specs.declared.value.Value.{Value}
 use Rattle.ilsource.specs.declared.name.Name.{Name}
 use Rattle.ilsource.specs.declared.instruction.Operand.{Operand}
@@ -13,23 +12,23 @@ use Rattle.ilsource.specs.declared.instruction.Instruction.TheVariants.{Load, Ap
 use Rattle.ilsource.specs.declared.instruction.Line.{Line}
 use Rattle.ilsource.specs.Names.{folded, text_of}
 use Rattle.ilsource.specs.Trees.{Variables, Written, Tree}
-use Rattle.ilsyms.specs.Declarations.{name_in, name_in_operand, initial_value, slot, slots_of_declaration, slots_of_program, slots_of, variables_of}
-use Rattle.ilsyms.specs.Gathering.{Gathered, gathered, first_at, number_in, with_name, with_names, with_declaration, with_declarations, with_initial, Scoping, scoping_of, with_program, with_programs, table_of, lowered, lesser}
-use Rattle.ilsyms.specs.Planning.{planning, planning_of, planned_operand, planned_instruction, planned_line, slot_number, IsKnownName, AreKnown}
+use Rattle.ilsyms.specs.Declarations.{name_in, name_in_operand, slot, slots_of_declaration, slots_of_program, slots_of}
+use Rattle.ilscope.specs.Declarations.{initial_value, variables_of}
+use Rattle.ilscope.specs.GatheringSteps.{Gathered, gathered, with_name, with_names, with_declaration, with_declarations, with_initial, Scoping, scoping_of, with_program, with_programs, table_of}
+use Rattle.ilscope.specs.Tables.{first_at, number_in, lowered}
+use Rattle.ilscope.specs.Order.{lesser}
+use Rattle.ilsyms.specs.PlanningSteps.{planning, planning_of, planned_operand, planned_instruction, planned_line, slot_number, IsKnownName, AreKnown}
 use Rattle.ilsyms.specs.Resolved.{Pairwise, IsInstanceOf}
-use Rattle.ilsyms.specs.Resolving.{least_fault}
+use Rattle.ilsyms.specs.ResolvingSteps.{least_fault}
 use Rattle.ilsyms.specs.SlotLines.{IsNumberOf, IsOperandOf, IsInstructionOf, IsLineOf}
-use Rattle.ilsyms.specs.declared.found.Found.{Found}
+use Rattle.ilscope.specs.declared.found.Found.{Found}
 use Rattle.ilsyms.specs.declared.planned.Slot.{Slot}
+use Rattle.ilscope.proofs.Spelling.{key_is}
 use Rattle.ilsyms.proofs.Clean.{clean, names_none, declarations_none, none_lesser, programs_none, UsesKnown}
 use Rattle.ilsyms.proofs.Limits.{instances_from, instances_are}
 use Rattle.ilsyms.proofs.Numbers.{found_number}
 use Rattle.ilsyms.proofs.Paired.{has_name}
-use Rattle.ilsyms.proofs.Scopes.{declarations_alone}
-
--- a name's key in the lower text is the name in lower case
-pub key_is : (text : List ℕ) (n : Name) → text_of (lowered text) n ≡ folded text n
-key_is text n = rw (drop-map to_ascii_lowercase n.from text, take-map to_ascii_lowercase) refl
+use Rattle.ilscope.proofs.Scopes.{declarations_alone}
 
 -- found in the first or in the second of two lists
 first_there : {X : Type 0} (test : X → Bool) (xs ys : List X) (k : ℕ) → first_at test xs ≡ Some k → first_at test (xs ++ ys) ≡ Some k

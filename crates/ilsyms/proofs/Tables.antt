@@ -8,9 +8,10 @@ use Rattle.ilsource.specs.declared.name.Name.{Name}
 use Rattle.ilsource.specs.Names.{text_of}
 use Rattle.ilsource.specs.Trees.{Variables, Written}
 use Rattle.ilsyms.specs.Declarations.{slots_of_declaration, slots_of_program, slots_of}
-use Rattle.ilsyms.specs.Gathering.{Gathered, gathered, number_in, with_name, with_names, with_declaration, with_declarations, table_of}
-use Rattle.ilsyms.specs.Planning.{Planning, planning, with_instance, with_instances, AreKnown}
-use Rattle.ilsyms.specs.declared.found.Found.{Found}
+use Rattle.ilscope.specs.GatheringSteps.{Gathered, gathered, with_name, with_names, with_declaration, with_declarations, table_of}
+use Rattle.ilscope.specs.Tables.{number_in}
+use Rattle.ilsyms.specs.PlanningSteps.{Planning, planning, with_instance, with_instances, AreKnown}
+use Rattle.ilscope.specs.declared.found.Found.{Found}
 
 one_more : (b : Bool) (names : List (List ℕ)) (key : List ℕ) (l m : Option Found) →
     length ((if b then gathered names m else gathered (names ++ key ∷ []) l).names) ≤ length names + 1

@@ -2,9 +2,9 @@
 use Rattle.std.proofs.Common.{◌≡◌, ℕ, [], refl}
 use Rattle.std.specs.Prelude.{None}
 use Rattle.ilsource.specs.Trees.{Tree}
-use Rattle.ilsyms.specs.Counting.{counted}
+use Rattle.ilsyms.specs.CountingSteps.{counted}
 use Rattle.ilsyms.specs.Resolved.{IsTaskOf, IsPlanOf}
-use Rattle.ilsyms.specs.Resolving.{least_fault, the_task, the_plan}
+use Rattle.ilsyms.specs.ResolvingSteps.{least_fault, the_task, the_plan}
 use Rattle.ilsyms.proofs.Limits.{programs_counted}
 use Rattle.ilsyms.proofs.Scans.{instances_of}
 

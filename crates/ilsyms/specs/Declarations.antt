@@ -1,6 +1,6 @@
 -- What a source program declares and holds, in its order (IEC 61131-3, 2.4.3 and 3.2). Without a configuration there is one
 -- task with one instance of each program, under its own name (profile).
-use Rattle.std.specs.Prelude.{pos, List, [], ◌∷◌, ◌++◌, Option, Some, None, Bool, true, false, fold, map, flat_map, filter_map, if◌then◌else◌, unwrap_or}
+use Rattle.std.specs.Prelude.{pos, List, [], ◌∷◌, ◌++◌, Option, Some, None, Bool, false, fold, map, flat_map, filter_map, if◌then◌else◌, unwrap_or}
 use Rattle.std.specs.List.{list_any}
 use Rattle.std.specs.Bool.{beq}
 use Rattle.std.specs.Ordering.{int_eq}
@@ -17,6 +17,7 @@ use Rattle.ilsource.specs.declared.instruction.Instruction.{Instruction}
 use Rattle.ilsource.specs.declared.instruction.Instruction.TheVariants.{Load, Apply, Not, Store, Set, Reset}
 use Rattle.ilsource.specs.declared.instruction.Line.{Line}
 use Rattle.ilsource.specs.Trees.{Variables, Written}
+use Rattle.ilscope.specs.Declarations.{initial_value}
 use Rattle.ilsyms.specs.declared.planned.Slot.{Slot}
 
 -- what a constant in an instruction means: a duration is the whole number of its milliseconds
@@ -24,18 +25,6 @@ abbrev pub constant_value : Constant → Value
 constant_value (constants.Bool truth) = values.Bool truth
 constant_value (constants.Number number) = values.Int number
 constant_value (constants.Time milliseconds) = values.Int (pos milliseconds)
-
--- the initial value of a BOOL variable: 0 and 1 mean FALSE and TRUE, and FALSE where nothing is written; none for another constant
-abbrev pub initial_value : Option Constant → Option Value
-initial_value None = Some (values.Bool false)
-initial_value (Some (constants.Bool truth)) = Some (values.Bool truth)
-initial_value (Some (constants.Number number)) =
-    if int_eq number (pos 0) then Some (values.Bool false) else if int_eq number (pos 1) then Some (values.Bool true) else None
-initial_value (Some (constants.Time milliseconds)) = None
-
--- a program's variables, in declared order
-abbrev pub variables_of : Written → List Name
-variables_of program = flat_map (λ d. d.names) program.declarations
 
 -- the slot of a variable of an instance
 abbrev pub slot : Name → Value → Name → Slot

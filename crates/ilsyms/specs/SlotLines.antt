@@ -10,7 +10,7 @@ use Rattle.ilsource.specs.declared.instruction.Line.{Line}
 use Rattle.ilsource.specs.Names.{SameName}
 use Rattle.ilsource.specs.Places.{line_at}
 use Rattle.ilsyms.specs.Declarations.{constant_value}
-use Rattle.ilsyms.specs.Faults.{SomeOf}
+use Rattle.ilscope.specs.Faults.{SomeOf}
 use Rattle.ilsyms.specs.declared.planned.Slot.{Slot}
 use Rattle.ilsyms.specs.declared.planned.PlannedOperand.{PlannedOperand}
 use Rattle.ilsyms.specs.declared.planned.PlannedOperand.TheVariants as slots

@@ -3,7 +3,7 @@
 ghost use Rattle.std.specs.Prelude.{◌≡◌, ◌∷◌, ◌++◌, [], IfOk, OnOk, fold, false};
 ghost use Rattle.std.specs.List.{list_any};
 ghost use Rattle.ilsyms.specs.Declarations.{constant_in, same_value};
-ghost use Rattle.ilsyms.specs.Counting.{counted, counting, with_line};
+ghost use Rattle.ilsyms.specs.CountingSteps.{counted, counting, with_line};
 
 use crate::values::value_of;
 use ilsource::{Instruction, Line, Operand, Program};
@@ -30,7 +30,7 @@ struct Constants {
 }
 
 impl Model for Constants {
-    ghost use Rattle.ilsyms.specs.Counting.{Counted, counted};
+    ghost use Rattle.ilsyms.specs.CountingSteps.{Counted, counted};
 
     ghost Value = { Counted };
 
@@ -41,7 +41,7 @@ impl Constants {
     ghost use Rattle.std.specs.Prelude.{◌≡◌, None, [], OnOk, IfOk, length};
     ghost use Rattle.std.specs.List.{list_any};
     ghost use Rattle.ilsyms.specs.Declarations.{same_value};
-    ghost use Rattle.ilsyms.specs.Counting.{counted, with_one};
+    ghost use Rattle.ilsyms.specs.CountingSteps.{counted, with_one};
 
     /// No constants.
     fn new(alloc: Global) -> Constants

@@ -2,12 +2,11 @@
 
 ghost use Rattle.std.specs.Prelude.{◌≡◌, map, slice_get};
 ghost use Rattle.ilsyms.specs.Declarations.{lines_of};
-ghost use Rattle.ilsyms.specs.Gathering.{with_excess};
+ghost use Rattle.ilsyms.specs.ResolvingSteps.{with_excess};
 ghost use Rattle.limits.specs.Limits.{most_instances, most_slots, most_words};
 
-use crate::fault::NameCause;
-use crate::found::{Found, lesser_of};
 use crate::planned::Slot;
+use ilscope::{Found, NameCause, lesser_of};
 use ilsource::Program;
 use limits::{MOST_INSTANCES, MOST_SLOTS, MOST_WORDS};
 

@@ -10,23 +10,18 @@
 
 pub(crate) mod constants;
 pub(crate) mod excess;
-pub mod fault;
-pub(crate) mod found;
-pub(crate) mod names;
 pub mod plan;
 pub mod planned;
 pub(crate) mod planning;
 pub(crate) mod resolving;
-pub mod scope;
 pub(crate) mod slots;
 pub(crate) mod uses;
 pub(crate) mod values;
 
-pub use fault::{NameCause, NameFault};
+pub use ilscope::{NameCause, NameFault, Scope};
 pub use plan::{DeclaredName, Plan, SlotName, Task};
 pub use planned::{Instance, PlannedInstruction, PlannedLine, PlannedOperand, Slot};
 pub use resolving::resolve;
-pub use scope::Scope;
 
 #[cfg(test)]
 mod tests;

@@ -3,14 +3,14 @@
 ghost use Rattle.std.specs.Prelude.{◌≡◌, ◌+◌, ◌<◌, ◌≤◌, ◌^◌, IfOk, IsSome, All, length, map};
 ghost use Rattle.ilsource.specs.Names.{text_of};
 ghost use Rattle.ilsyms.specs.Declarations.{name_in, name_in_operand, slots_of};
-ghost use Rattle.ilsyms.specs.Gathering.{number_in, lowered, table_of};
-ghost use Rattle.ilsyms.specs.Planning.{slot_number, planned_operand, planned_instruction, planned_line, IsKnownName, AreKnown, planning_of};
+ghost use Rattle.ilscope.specs.Tables.{number_in, lowered};
+ghost use Rattle.ilscope.specs.GatheringSteps.{table_of};
+ghost use Rattle.ilsyms.specs.PlanningSteps.{slot_number, planned_operand, planned_instruction, planned_line, IsKnownName, AreKnown, planning_of};
 ghost use Rattle.limits.specs.Limits.{most_slots};
 
-use crate::names::Names;
 use crate::planned::{Instance, PlannedInstruction, PlannedLine, PlannedOperand};
-use crate::scope::Scope;
 use crate::values::value_of;
+use ilscope::{Names, Scope};
 use ilsource::{Instruction, Line, LineCounter, Name, Operand};
 use std::alloc::{AllocError, Global};
 

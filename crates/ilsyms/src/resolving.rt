@@ -1,26 +1,24 @@
 //! Resolving the names of a source program.
 
 ghost use Rattle.std.specs.Prelude.{◌≡◌, ℕ, IfOk, IfErr, OnOk, MatchResult, None};
-ghost use Rattle.ilsyms.specs.Counting.{counting};
+ghost use Rattle.ilsyms.specs.CountingSteps.{counting};
 ghost use Rattle.ilsyms.specs.Declarations.{slots_of};
-ghost use Rattle.ilsyms.specs.Resolving.{least_fault, the_task, the_plan};
+ghost use Rattle.ilsyms.specs.ResolvingSteps.{least_fault, the_task, the_plan};
 ghost use Rattle.ilsyms.specs.Faults.{IsFault, IsWellNamed};
 ghost use Rattle.ilsyms.specs.Plans.{Planned, PlannedTask};
 ghost use Rattle.ilsyms.specs.Resolved.{IsPlanOf, IsTaskOf, MeansTheSame};
-ghost use Rattle.ilsyms.specs.Told.{IsMemoryOrTold, IsMemoryOrTellsLeast, TellsLeast};
-ghost use Rattle.ilsyms.specs.declared.fault.NameFault.{NameFault};
+ghost use Rattle.ilscope.specs.Told.{IsMemoryOrTold, IsMemoryOrTellsLeast, TellsLeast};
+ghost use Rattle.ilscope.specs.declared.fault.NameFault.{NameFault};
 
 use crate::constants::different_constants;
 use crate::excess::{instance_past, limited, slot_past, word_past};
-use crate::fault::NameFault;
-use crate::found::Found;
 use crate::plan::{Plan, Task};
 use crate::planned::Slot;
 use crate::planning::plan_instances;
-use crate::scope::{Scope, told};
 use crate::slots::all_slots;
 use crate::uses::unknown_uses;
 use binding::Binding;
+use ilscope::{Found, NameFault, Scope, told};
 use ilsource::Source;
 use iltypes::Value;
 use std::alloc::{AllocError, Global};

@@ -4,7 +4,7 @@ ghost use Rattle.std.specs.Prelude.{◌≡◌, ◌++◌, IfOk, OnOk};
 ghost use Rattle.ilsyms.specs.Declarations.{slots_of_declaration, slots_of_program, slots_of};
 
 use crate::planned::Slot;
-use crate::values::initial_of;
+use ilscope::initial_of;
 use ilsource::{Declaration, Name, Program};
 use iltypes::{IlType, Value};
 use std::alloc::{AllocError, Global};

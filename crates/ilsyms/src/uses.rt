@@ -2,13 +2,10 @@
 
 ghost use Rattle.std.specs.Prelude.{◌≡◌};
 ghost use Rattle.ilsyms.specs.Declarations.{name_in};
-ghost use Rattle.ilsyms.specs.Gathering.{lowered};
-ghost use Rattle.ilsyms.specs.Uses.{with_line, with_lines, with_uses};
+ghost use Rattle.ilscope.specs.Tables.{lowered};
+ghost use Rattle.ilsyms.specs.UsesSteps.{with_line, with_lines, with_uses};
 
-use crate::fault::NameCause;
-use crate::found::{Found, lesser_of};
-use crate::names::Names;
-use crate::scope::Scope;
+use ilscope::{Found, NameCause, Names, Scope, lesser_of};
 use ilsource::{Instruction, Line, Name, Operand};
 
 /// Takes in the faults of names that their programs don't declare.

@@ -1,6 +1,6 @@
 use Rattle.std.proofs.Common.{◌≡◌, take}
 use Rattle.std.specs.Prelude.{fold}
-use Rattle.ilsyms.specs.Counting.{with_line}
+use Rattle.ilsyms.specs.CountingSteps.{with_line}
 use Rattle.ilsyms.proofs.constants.add_lines.Given as goal
 
 abbrev pub invariant-loop-line : goal.invariant-loop-line

@@ -1,5 +1,5 @@
 use Rattle.std.proofs.Common.{◌≡◌, take}
-use Rattle.ilsyms.specs.Counting.{counting}
+use Rattle.ilsyms.specs.CountingSteps.{counting}
 use Rattle.ilsyms.proofs.constants.count.Given as goal
 
 abbrev pub invariant-loop-program : goal.invariant-loop-program

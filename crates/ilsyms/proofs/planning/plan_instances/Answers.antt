@@ -1,7 +1,9 @@
 use Rattle.std.proofs.Common.{◌≡◌, ◌+◌, ◌<◌, ap, ◌∙◌, arith, get_or, length, take, List, [], sym}
 use Rattle.ilsource.specs.Trees.{Tree, Written}
-use Rattle.ilsyms.specs.Gathering.{lowered, table_of}
-use Rattle.ilsyms.specs.Planning.{Planning, planning, with_instance, with_instances}
+use Rattle.ilscope.specs.Tables.{lowered, declared_names}
+use Rattle.ilscope.proofs.Exact.{declared_is}
+use Rattle.ilscope.specs.GatheringSteps.{table_of}
+use Rattle.ilsyms.specs.PlanningSteps.{Planning, planning, with_instance, with_instances}
 use Rattle.std.proofs.lemmas.List.Sums.{fold_more}
 use Rattle.ilsyms.proofs.Tables.{got, room, known_at}
 use Rattle.ilsyms.proofs.planning.plan_instances.Goals as goal
@@ -15,7 +17,8 @@ plan_lines-requires-clause-known c =
     in
     let below : c.loop-number.number < length c.args.scope.now.programs = rw (← ps) c.loop-number-test.true in
     let names : c.variables-names.result.now ≡ table_of (lowered c.args.scope.now.text) c.program-item.result =
-    got (table_of (lowered c.args.scope.now.text)) c.args.scope.now.programs c.loop-number.number c.program-item.result _ c.variables-names.ensures item below
+    got (declared_names c.args.scope.now.text) c.args.scope.now.programs c.loop-number.number c.program-item.result _ c.variables-names.ensures item below
+    ∙ declared_is c.args.scope.now.text c.program-item.result
     in
     rw (c.lower.ensures, names, c.lines.ensures)
     (known_at (lowered c.args.scope.now.text) c.args.scope.now.programs c.loop-number.number c.program-item.result item below c.requires.known)
@@ -28,7 +31,8 @@ plan_lines-requires-clause-fits c =
     in
     let below : c.loop-number.number < length c.args.scope.now.programs = rw (← ps) c.loop-number-test.true in
     let names : c.variables-names.result.now ≡ table_of (lowered c.args.scope.now.text) c.program-item.result =
-    got (table_of (lowered c.args.scope.now.text)) c.args.scope.now.programs c.loop-number.number c.program-item.result _ c.variables-names.ensures item below
+    got (declared_names c.args.scope.now.text) c.args.scope.now.programs c.loop-number.number c.program-item.result _ c.variables-names.ensures item below
+    ∙ declared_is c.args.scope.now.text c.program-item.result
     in
     let base = ap (λ (p : Planning). p.base) c.loop-number.invariant.planned in
     let fits = room c.args.scope.now.text (lowered c.args.scope.now.text) c.args.scope.now.programs c.loop-number.number c.program-item.result item below in
@@ -42,7 +46,8 @@ overflow_add-base c =
     in
     let below : c.loop-number.number < length c.args.scope.now.programs = rw (← ps) c.loop-number-test.true in
     let names : c.variables-names.result.now ≡ table_of (lowered c.args.scope.now.text) c.program-item.result =
-    got (table_of (lowered c.args.scope.now.text)) c.args.scope.now.programs c.loop-number.number c.program-item.result _ c.variables-names.ensures item below
+    got (declared_names c.args.scope.now.text) c.args.scope.now.programs c.loop-number.number c.program-item.result _ c.variables-names.ensures item below
+    ∙ declared_is c.args.scope.now.text c.program-item.result
     in
     let base = ap (λ (p : Planning). p.base) c.loop-number.invariant.planned in
     let fits = room c.args.scope.now.text (lowered c.args.scope.now.text) c.args.scope.now.programs c.loop-number.number c.program-item.result item below in
@@ -56,7 +61,8 @@ loop-number-preserved c =
     in
     let below : c.loop-number.number < length c.args.scope.now.programs = rw (← ps) c.loop-number-test.true in
     let names : c.variables-names.result.now ≡ table_of (lowered c.args.scope.now.text) c.program-item.result =
-    got (table_of (lowered c.args.scope.now.text)) c.args.scope.now.programs c.loop-number.number c.program-item.result _ c.variables-names.ensures item below
+    got (declared_names c.args.scope.now.text) c.args.scope.now.programs c.loop-number.number c.program-item.result _ c.variables-names.ensures item below
+    ∙ declared_is c.args.scope.now.text c.program-item.result
     in
     let step : Planning → Written → Planning = with_instance c.args.scope.now.text (lowered c.args.scope.now.text) in
     let next = fold_more step (planning [] 0) c.args.scope.now.programs c.loop-number.number c.program-item.result below in

@@ -1,6 +1,6 @@
 use Rattle.std.proofs.Common.{◌≡◌, take, []}
-use Rattle.ilsyms.specs.Gathering.{lowered}
-use Rattle.ilsyms.specs.Planning.{planning, with_instances}
+use Rattle.ilscope.specs.Tables.{lowered}
+use Rattle.ilsyms.specs.PlanningSteps.{planning, with_instances}
 use Rattle.ilsyms.proofs.planning.plan_instances.Given as goal
 
 abbrev pub invariant-loop-number : goal.invariant-loop-number

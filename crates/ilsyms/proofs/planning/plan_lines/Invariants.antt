@@ -1,5 +1,5 @@
 use Rattle.std.proofs.Common.{◌≡◌, take, map}
-use Rattle.ilsyms.specs.Planning.{planned_line}
+use Rattle.ilsyms.specs.PlanningSteps.{planned_line}
 use Rattle.ilsyms.proofs.planning.plan_lines.Given as goal
 
 abbrev pub invariant-loop-line : goal.invariant-loop-line

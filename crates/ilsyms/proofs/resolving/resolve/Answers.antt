@@ -4,12 +4,12 @@ use Rattle.ilsource.specs.Trees.{Tree}
 use Rattle.ilsyms.specs.Faults.{IsFault, IsWellNamed}
 use Rattle.ilsyms.specs.Plans.{Planned}
 use Rattle.ilsyms.specs.Resolved.{IsPlanOf}
-use Rattle.ilsyms.specs.Resolving.{least_fault, the_plan}
-use Rattle.ilsyms.specs.Told.{IsMemoryOrTold, IsMemoryOrTellsLeast}
-use Rattle.ilsyms.specs.declared.fault.NameFault.{NameFault}
+use Rattle.ilsyms.specs.ResolvingSteps.{least_fault, the_plan}
+use Rattle.ilscope.specs.Told.{IsMemoryOrTold, IsMemoryOrTellsLeast}
+use Rattle.ilscope.specs.declared.fault.NameFault.{NameFault}
 use Rattle.ilsyms.proofs.ThePlan.{the_plan_is}
 use Rattle.ilsyms.proofs.LeastFault.{well_named, tells_least}
-use Rattle.ilsyms.proofs.OneFault.{one_told}
+use Rattle.ilscope.proofs.OneFault.{one_told}
 use Rattle.ilsyms.proofs.OnePlan.{one_plan}
 use Rattle.ilsyms.proofs.SameMeaning.{means_the_same}
 use Rattle.ilsyms.proofs.resolving.resolve.Goals as goal

@@ -1,5 +1,5 @@
 use Rattle.std.proofs.Common.{◌≡◌, take}
-use Rattle.ilsyms.specs.Uses.{with_lines}
+use Rattle.ilsyms.specs.UsesSteps.{with_lines}
 use Rattle.ilsyms.proofs.uses.unknown_names.Given as goal
 
 abbrev pub invariant-loop-line : goal.invariant-loop-line

@@ -1,9 +1,11 @@
 use Rattle.std.proofs.Common.{◌≡◌, ◌<◌, ap, ◌∙◌, get_or, length, take, List, sym}
 use Rattle.std.specs.Prelude.{Option}
 use Rattle.ilsource.specs.Trees.{Tree, Written}
-use Rattle.ilsyms.specs.Gathering.{lowered, table_of}
-use Rattle.ilsyms.specs.Uses.{with_uses_in, with_uses}
-use Rattle.ilsyms.specs.declared.found.Found.{Found}
+use Rattle.ilscope.specs.Tables.{lowered, declared_names}
+use Rattle.ilscope.proofs.Exact.{declared_is}
+use Rattle.ilscope.specs.GatheringSteps.{table_of}
+use Rattle.ilsyms.specs.UsesSteps.{with_uses_in, with_uses}
+use Rattle.ilscope.specs.declared.found.Found.{Found}
 use Rattle.std.proofs.lemmas.List.Sums.{fold_more}
 use Rattle.ilsyms.proofs.Tables.{got}
 use Rattle.ilsyms.proofs.uses.unknown_uses.Goals as goal
@@ -17,7 +19,8 @@ loop-number-preserved c =
     in
     let below : c.loop-number.number < length c.args.scope.now.programs = rw (← ps) c.loop-number-test.true in
     let names : c.variables-names.result.now ≡ table_of (lowered c.args.scope.now.text) c.program-item.result =
-    got (table_of (lowered c.args.scope.now.text)) c.args.scope.now.programs c.loop-number.number c.program-item.result _ c.variables-names.ensures item below
+    got (declared_names c.args.scope.now.text) c.args.scope.now.programs c.loop-number.number c.program-item.result _ c.variables-names.ensures item below
+    ∙ declared_is c.args.scope.now.text c.program-item.result
     in
     let next = fold_more step c.args.least c.args.scope.now.programs c.loop-number.number c.program-item.result below in
     rw (c.lower.ensures, names, c.lines.ensures, c.loop-number.invariant) at c.unknown_names-least.ensures

@@ -1,6 +1,6 @@
 use Rattle.std.proofs.Common.{◌≡◌, take}
-use Rattle.ilsyms.specs.Gathering.{lowered}
-use Rattle.ilsyms.specs.Uses.{with_uses}
+use Rattle.ilscope.specs.Tables.{lowered}
+use Rattle.ilsyms.specs.UsesSteps.{with_uses}
 use Rattle.ilsyms.proofs.uses.unknown_uses.Given as goal
 
 abbrev pub invariant-loop-number : goal.invariant-loop-number

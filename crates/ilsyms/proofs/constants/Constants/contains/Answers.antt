@@ -1,6 +1,6 @@
 use Rattle.std.proofs.Common.{◌∙◌, ap}
 use Rattle.std.specs.List.{list_any}
-use Rattle.ilsyms.specs.Counting.{Counted}
+use Rattle.ilsyms.specs.CountingSteps.{Counted}
 use Rattle.ilsyms.specs.Declarations.{same_value}
 use Rattle.ilsyms.proofs.Keys.{any_same}
 use Rattle.ilsyms.proofs.constants.Constants.contains.Goals as goal

@@ -1,0 +1,7 @@
+pub mod Exact
+pub mod Gathered
+pub mod LeastOfDeclarations
+pub mod Lookups
+pub mod OneFault
+pub mod Scopes
+pub mod Spelling

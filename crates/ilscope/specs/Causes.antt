@@ -1,0 +1,17 @@
+-- Numbers of the causes of faults (profile).
+use Rattle.std.specs.Prelude.{ℕ}
+use Rattle.ilscope.specs.declared.fault.NameCause.{NameCause}
+use Rattle.ilscope.specs.declared.fault.NameCause.TheVariants.{Unknown, Twice, TooMany, BadDeclaration}
+use Rattle.ilscope.specs.declared.fault.NameFault.{NameFault}
+use Rattle.ilscope.specs.declared.fault.NameFault.TheVariants.{Memory, At}
+
+abbrev pub number_of : NameCause → ℕ
+number_of Unknown = 2
+number_of Twice = 3
+number_of TooMany = 11
+number_of BadDeclaration = 12
+
+-- 1 for want of memory
+abbrev pub fault_number : NameFault → ℕ
+fault_number Memory = 1
+fault_number (At line col cause) = number_of cause

@@ -1,0 +1,100 @@
+//! Faults of names.
+
+ghost use Rattle.std.specs.Prelude.{◌≡◌};
+ghost use Rattle.ilscope.specs.Causes.{number_of, fault_number};
+
+use std::alloc::{AllocError, AllocFailed};
+use std::fmt;
+use thiserror::Error;
+
+/// What is wrong with a name or a declaration.
+#[derive(Clone, Copy, PartialEq, Eq, Debug)]
+pub enum NameCause {
+    /// A name that isn't declared.
+    Unknown,
+    /// A name that is declared again.
+    Twice,
+    /// A declaration or an instruction that exceeds a limit.
+    TooMany,
+    /// An initial value that isn't of the variable's type.
+    BadDeclaration,
+}
+
+impl NameCause {
+    /// The number that is printed.
+    pub fn number(self) -> u8
+        ensures { result ≡ number_of self }
+    {
+        match self {
+            NameCause::Unknown => 2,
+            NameCause::Twice => 3,
+            NameCause::TooMany => 11,
+            NameCause::BadDeclaration => 12,
+        }
+    }
+}
+
+/// Why a source program has no plan.
+#[derive(Debug, Drop, Error)]
+pub enum NameFault {
+    /// Memory was refused.
+    Memory,
+    /// The least place at which a fault stands, and the least cause there.
+    At {
+        /// Counted from 1.
+        line: usize,
+        /// Counted from 1, in bytes.
+        col: usize,
+        cause: NameCause,
+    },
+}
+
+impl fmt::Display for NameFault {
+    ghost use Rattle.std.specs.Prelude.{Some};
+    ghost use Rattle.ilscope.specs.Printed.{printed_name_fault};
+
+    ghost output = { λ fault. Some (printed_name_fault fault) };
+
+    fn fmt<W: fmt::Write>(&self, f: &mut fmt::Formatter<W>) -> fmt::Result {
+        match self {
+            NameFault::Memory => write!(f, "no memory"),
+            NameFault::At { line, col, cause } => {
+                write!(f, "name fault {} at {line}:{col}", cause.number())
+            }
+        }
+    }
+}
+
+impl From<AllocError> for NameFault {
+    ghost use Rattle.std.specs.Prelude.{◌≡◌};
+    ghost use Rattle.ilscope.specs.declared.fault.NameFault.TheVariants.{Memory};
+
+    ghost from_gives = { λ _ fault. fault ≡ Memory };
+
+    fn from(_refused: AllocError) -> Self {
+        NameFault::Memory
+    }
+}
+
+impl<T: Drop> From<AllocFailed<T>> for NameFault {
+    ghost use Rattle.std.specs.Prelude.{◌≡◌};
+    ghost use Rattle.ilscope.specs.declared.fault.NameFault.TheVariants.{Memory};
+
+    ghost from_gives = { λ _ fault. fault ≡ Memory };
+
+    fn from(_refused: AllocFailed<T>) -> Self {
+        NameFault::Memory
+    }
+}
+
+impl NameFault {
+    /// The number that is printed: 1 for want of memory, else that of the cause.
+    pub fn number(&self) -> u8
+        ensures { result ≡ fault_number self.now }
+    {
+        match self {
+            NameFault::Memory => 1,
+            NameFault::At { cause, .. } => cause.number(),
+        }
+    }
+}

@@ -1,0 +1,39 @@
+//! The least of the faults that were found.
+
+ghost use Rattle.std.specs.Prelude.{◌≡◌};
+ghost use Rattle.ilscope.specs.Order.{lesser};
+
+use crate::fault::NameCause;
+
+/// A fault that stands at a byte of the text.
+#[derive(Clone, Copy, Debug)]
+pub struct Found {
+    pub at: usize,
+    pub cause: NameCause,
+}
+
+impl Found {
+    ghost use Rattle.std.specs.Prelude.{◌≡◌};
+    ghost use Rattle.ilscope.specs.Order.{comes_before};
+
+    /// Whether this one is told before `other`: at a lesser place, or there with a lesser cause.
+    fn comes_before(self, other: Found) -> bool
+        ensures { result ≡ comes_before self other }
+    {
+        self.at < other.at || (self.at == other.at && self.cause.number() < other.cause.number())
+    }
+}
+
+/// The one that is told of two, where the first may be missing.
+pub fn lesser_of(least: Option<Found>, found: Found) -> Option<Found>
+    ensures { result ≡ lesser least found }
+{
+    match least {
+        None => Some(found),
+        Some(other) => Some(if found.comes_before(other) {
+            found
+        } else {
+            other
+        }),
+    }
+}

@@ -1,0 +1,225 @@
+//! Scopes: the tables of declared names, with the least fault of declarations.
+//!
+//! Neither limits nor names in instructions are looked at here: their faults are told when names are resolved.
+
+ghost use Rattle.std.specs.Prelude.{◌≡◌, OnOk, IfOk, slice_get};
+ghost use Rattle.ilsource.specs.Names.{text_of};
+ghost use Rattle.ilscope.specs.Declarations.{initial_value};
+ghost use Rattle.ilscope.specs.GatheringSteps.{Gathered, gathered, with_name, with_names, with_initial, with_declaration};
+ghost use Rattle.ilscope.specs.GatheringSteps.{with_declarations};
+ghost use Rattle.ilscope.specs.Tables.{lowered};
+ghost use Rattle.ilscope.specs.Told.{IsTold, IsOptionTold};
+
+use crate::fault::{NameCause, NameFault};
+use crate::found::{Found, lesser_of};
+use crate::names::Names;
+use crate::values::initial_of;
+use binding::Binding;
+use ilsource::{Declaration, Name, Place, Program, Source};
+use std::alloc::{AllocError, Global};
+use std::marker::Model;
+
+/// The declared names of a source program.
+#[derive(Drop)]
+pub struct Scope<'a> {
+    source: &'a Source,
+    lower: Vec<u8>,
+    variables: Vec<Names>,
+    least: Option<Found>,
+}
+
+impl<'a> Model for Scope<'a> {
+    ghost use Rattle.ilsource.specs.Trees.{Tree};
+
+    ghost Value = { Tree };
+
+    ghost use Rattle.ilscope.specs.Tables.{IsScopeOf};
+
+    ghost view = { λ s. s.source.now };
+
+    ghost invariant = { λ s. IsScopeOf s.source.now s.lower.items s.variables.items s.least };
+}
+
+impl<'a> Scope<'a> {
+    ghost use Rattle.std.specs.Prelude.{◌≡◌, ◌<◌, ℕ, IfOk, MatchOption, length, map, slice_get, Some};
+    ghost use Rattle.ilscope.specs.Tables.{lowered, declared_names};
+    ghost use Rattle.ilscope.specs.Told.{TellsLeast};
+    ghost use Rattle.ilscope.specs.Faults.{IsFaultOfDeclarations, IsLeastOf};
+    ghost use Rattle.ilscope.specs.declared.fault.NameCause.{NameCause};
+    ghost use Rattle.ilscope.specs.declared.fault.NameFault.{NameFault};
+
+    /// The tables of the names that `source` declares.
+    pub fn of(
+        alloc: Global,
+        source: &'a Source,
+        _binding: &Binding,
+    ) -> Result<Scope<'a>, AllocError>
+        ensures { IfOk result (λ scope. scope ≡ source.now) }
+    {
+        let lower = lower_case(alloc, source.text())?;
+        let mut programs = Names::new(alloc);
+        let mut variables = Vec::new(alloc);
+        let mut least = None;
+        for program in source.programs() {
+            least = declare(alloc, &lower, &mut programs, program.name(), least)?;
+            let mut names = Names::new(alloc);
+            least = declare_all(alloc, &lower, &mut names, program.declarations(), least)?;
+            variables.push(names)?;
+        }
+        Ok(Scope {
+            source,
+            lower,
+            variables,
+            least,
+        })
+    }
+
+    /// The least fault that stands in a declaration; limits and names in instructions are looked at when names are resolved.
+    pub fn fault(&self) -> Option<NameFault>
+        ensures fault { MatchOption result
+            ((place : ℕ) (cause : NameCause) → IsFaultOfDeclarations self.now place cause → ⊥)
+            (λ fault. TellsLeast self.now.text (IsFaultOfDeclarations self.now) fault) }
+        // It is one at most.
+        ensures one { (a b : NameFault) → TellsLeast self.now.text (IsFaultOfDeclarations self.now) a
+            → TellsLeast self.now.text (IsFaultOfDeclarations self.now) b → a ≡ b }
+    {
+        reported(self.source.text(), self.least())
+    }
+
+    /// The least fault that stands in a declaration, at its place in the text.
+    pub fn least(&self) -> Option<Found>
+        ensures { IsLeastOf (IsFaultOfDeclarations self.now) result }
+    {
+        self.least
+    }
+
+    /// The source program.
+    pub fn source(&self) -> &'a Source
+        ensures { result.now ≡ self.now }
+    {
+        self.source
+    }
+
+    /// The text with letters in lower case.
+    pub fn lower(&self) -> &[u8]
+        ensures { result.now ≡ lowered self.now.text }
+    {
+        &self.lower
+    }
+
+    /// The table of the different names of a program's variables, by the program's number.
+    pub fn variables(&self, program: usize) -> &Names
+        requires { program < length self.now.programs }
+        ensures { slice_get (map (declared_names self.now.text) self.now.programs) program ≡ Some result.now }
+    {
+        &self.variables[program]
+    }
+}
+
+/// The fault with its line and column in `text`.
+pub fn told(text: &[u8], found: Found) -> NameFault
+    ensures { IsTold text.now found result }
+{
+    let Place { line, col } = Place::of(text, found.at);
+    NameFault::At {
+        line,
+        col,
+        cause: found.cause,
+    }
+}
+
+/// What was found, with its line and column in `text`.
+fn reported(text: &[u8], least: Option<Found>) -> Option<NameFault>
+    ensures { IsOptionTold text.now least result }
+{
+    match least {
+        None => None,
+        Some(found) => Some(told(text, found)),
+    }
+}
+
+/// The bytes with letters in lower case.
+fn lower_case(alloc: Global, text: &[u8]) -> Result<Vec<u8>, AllocError>
+    ensures { IfOk result (λ v. v.items ≡ lowered text.now) }
+{
+    text.iter()
+        .map(|byte| byte.to_ascii_lowercase())
+        .collect(alloc)
+}
+
+/// Adds a name, or takes in the fault that it is there already.
+fn declare(
+    alloc: Global,
+    lower: &[u8],
+    names: &mut Names,
+    name: Name,
+    least: Option<Found>,
+) -> Result<Option<Found>, AllocError>
+    ensures names { OnOk result (names.new ≡ (with_name lower.now (gathered names.old least) name).names) }
+    ensures least { IfOk result (λ r. r ≡ (with_name lower.now (gathered names.old least) name).least) }
+{
+    let key = name.text(lower);
+    if names.number_of(key).is_some() {
+        let found = Found {
+            at: name.from,
+            cause: NameCause::Twice,
+        };
+        return Ok(lesser_of(least, found));
+    }
+    names.add(alloc, key)?;
+    Ok(least)
+}
+
+/// Adds the names of one declaration, and takes in its faults.
+fn declare_names(
+    alloc: Global,
+    lower: &[u8],
+    names: &mut Names,
+    declared: &[Name],
+    mut least: Option<Found>,
+) -> Result<Option<Found>, AllocError>
+    ensures names { OnOk result (names.new ≡ (with_names lower.now (gathered names.old least) declared.now).names) }
+    ensures least { IfOk result (λ r. r ≡ (with_names lower.now (gathered names.old least) declared.now).least) }
+{
+    for name in declared {
+        least = declare(alloc, lower, names, *name, least)?;
+    }
+    Ok(least)
+}
+
+/// Takes in the fault of an initial value that BOOL hasn't.
+fn bad_initial(declaration: &Declaration, least: Option<Found>) -> Option<Found>
+    ensures { result ≡ with_initial least (initial_value declaration.now.initial) (slice_get declaration.now.names 0) }
+{
+    match (
+        initial_of(declaration.initial()),
+        declaration.names().first(),
+    ) {
+        (None, Some(name)) => lesser_of(
+            least,
+            Found {
+                at: name.from,
+                cause: NameCause::BadDeclaration,
+            },
+        ),
+        _ => least,
+    }
+}
+
+/// Adds the names of all declarations, and takes in their faults.
+fn declare_all(
+    alloc: Global,
+    lower: &[u8],
+    names: &mut Names,
+    declarations: &[Declaration],
+    mut least: Option<Found>,
+) -> Result<Option<Found>, AllocError>
+    ensures names { OnOk result (names.new ≡ (with_declarations lower.now (gathered names.old least) declarations.now).names) }
+    ensures least { IfOk result (λ r. r ≡ (with_declarations lower.now (gathered names.old least) declarations.now).least) }
+{
+    for declaration in declarations {
+        least = bad_initial(declaration, least);
+        least = declare_names(alloc, lower, names, declaration.names(), least)?;
+    }
+    Ok(least)
+}
