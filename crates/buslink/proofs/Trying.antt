@@ -14,7 +14,8 @@ use Rattle.gearcmd.specs.FrameLists.{FrameList}
 use Rattle.transact.specs.Attempts.{most_retries, Attempt, IsAttempt, IsReport, ReportParts, Spells, marks_of, all_marks, sent_with, all_sent, last_mark}
 use Rattle.buslink.specs.declared.faults.Fault.{Fault}
 use Rattle.buslink.specs.BusLog.{BusLog, mark_of_send, after_send, with_spare}
-use Rattle.buslink.specs.Performing.{failures_after, after_report, failures_with, after_frames, IsTriedOnce, IsTried}
+use Rattle.buslink.specs.Performing.{failures_after, after_report}
+use Rattle.buslink.specs.PerformingSteps.{failures_with, after_frames, IsTriedOnce, IsTried}
 
 -- ---- frames, one after another
 abbrev frame_sent : Frame → ℕ → Mark → Sent

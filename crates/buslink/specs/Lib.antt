@@ -1,3 +1,4 @@
 pub mod BusLog
 pub mod ClockLog
 pub mod Performing
+pub mod PerformingSteps

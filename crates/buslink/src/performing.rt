@@ -4,7 +4,8 @@ ghost use Rattle.arrayvec.specs.ArrayVec.{array_vec_len};
 ghost use Rattle.gearcmd.specs.FrameLists.{most_frames};
 ghost use Rattle.transact.specs.Attempts.{IsReportParts, most_sent};
 ghost use Rattle.buslink.specs.BusLog.{one_more_failure, with_spare};
-ghost use Rattle.buslink.specs.Performing.{after_report, IsSent, IsTriedOnce, IsTried};
+ghost use Rattle.buslink.specs.Performing.{after_report};
+ghost use Rattle.buslink.specs.PerformingSteps.{IsSent, IsTriedOnce, IsTried};
 
 use crate::{Bus, Fault};
 use arrayvec::ArrayVec;

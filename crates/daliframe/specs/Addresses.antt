@@ -1,5 +1,5 @@
 -- Addresses of control gear, their numbers in a program, and the address byte of a 16-bit forward frame.
-use Rattle.std.specs.Prelude.{◌≡◌, ℕ, ◌+◌, ◌*◌, ◌<◌}
+use Rattle.std.specs.Prelude.{⊤, ◌≡◌, ℕ, ◌+◌, ◌*◌, ◌<◌}
 use Rattle.daliframe.specs.declared.addressing.Address.{Address}
 use Rattle.daliframe.specs.declared.addressing.Address.TheVariants.{Short, Group, Broadcast}
 use Rattle.daliframe.specs.declared.addressing.AddressClass.{AddressClass}
@@ -9,7 +9,7 @@ use Rattle.daliframe.specs.declared.addressing.AddressClass.TheVariants.{Level, 
 abbrev pub IsAddress : Address → Type 0
 IsAddress (Short address) = address < 64
 IsAddress (Group group) = group < 16
-IsAddress Broadcast = Unit {0}
+IsAddress Broadcast = ⊤
 
 -- the address byte with selector bit s: `0AAAAAAS`, `100AAAAS` or `1111111S` (IEC 62386-102, clause 7)
 abbrev pub address_byte : Address → ℕ → ℕ

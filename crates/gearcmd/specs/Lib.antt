@@ -1,3 +1,4 @@
 pub mod Commands
 pub mod FrameLists
+pub mod Printed
 pub mod Requests

@@ -11,7 +11,7 @@ use Rattle.transact.specs.declared.marks.Outcome.{Outcome}
 use Rattle.gearcmd.specs.FrameLists.{FrameList}
 use Rattle.transact.specs.Marks.{outcome_of}
 use Rattle.transact.specs.Attempts.{most_retries, Spells, Attempt, IsAttempt, IsReport, marks_of, all_marks, sent_with, all_sent, last_mark}
-use Rattle.transact.specs.Readings.{EndsAt, IsRead, ReadsNone, HasNoAttempt}
+use Rattle.transact.specs.ReadingSteps.{EndsAt, IsRead, ReadsNone, HasNoAttempt}
 use Rattle.transact.proofs.AttemptLemmas.{same_attempt}
 
 -- nothing is sent with no marks

@@ -1,4 +1,4 @@
-pub mod Marks
 pub mod Attempts
-pub mod Readings
+pub mod Marks
 pub mod Printed
+pub mod ReadingSteps

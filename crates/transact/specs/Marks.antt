@@ -1,4 +1,5 @@
 -- What became of a frame that was sent, and what that says of its transaction.
+use Rattle.std.specs.Prelude.{⊤}
 use Rattle.transact.specs.declared.marks.Mark.{Mark}
 use Rattle.transact.specs.declared.marks.Mark.TheVariants.{Quiet, Answer, Damaged, Lost, Failed}
 use Rattle.transact.specs.declared.marks.Reply.{Reply}
@@ -18,8 +19,8 @@ abbrev pub IsBroken : Mark → Type 0
 IsBroken Quiet = ⊥
 IsBroken (Answer byte) = ⊥
 IsBroken Damaged = ⊥
-IsBroken Lost = Unit {0}
-IsBroken Failed = Unit {0}
+IsBroken Lost = ⊤
+IsBroken Failed = ⊤
 
 -- the outcome of a transaction by its very last mark: an answer to a frame that is not the last changes nothing (profile)
 abbrev pub outcome_of : Mark → Outcome

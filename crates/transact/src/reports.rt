@@ -3,7 +3,7 @@ ghost use Rattle.std.specs.Prelude.{◌≡◌, ◌+◌, ◌*◌, ◌<◌, ◌≤
 ghost use Rattle.arrayvec.specs.ArrayVec.{array_vec_len};
 ghost use Rattle.gearcmd.specs.FrameLists.{most_frames};
 ghost use Rattle.transact.specs.Attempts.{sent_with, most_sent, ReportParts, Spells, SpellsNone, IsReportParts};
-ghost use Rattle.transact.specs.Readings.{EndsAt, HasNoAttempt, IsRead, ReadsNone};
+ghost use Rattle.transact.specs.ReadingSteps.{EndsAt, HasNoAttempt, IsRead, ReadsNone};
 
 use crate::{Mark, Outcome, Sent, Transaction};
 use arrayvec::ArrayVec;

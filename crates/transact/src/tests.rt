@@ -126,7 +126,7 @@ fn told_apart(rt: HostRuntime) -> Result<(), Fail> {
     let handed_out = Transaction::of(&scene().ok_or("a request")?, TaskKind::Cyclic);
     let other = Transaction::of(&memory_byte().ok_or("a request")?, TaskKind::Cyclic);
     let copy = handed_out.clone()?;
-    assert!(rt; copy == handed_out);
-    assert!(rt; copy != other);
+    assert!(rt; copy.is_same(&handed_out));
+    assert!(rt; !other.is_same(&handed_out));
     Ok(())
 }

@@ -1,5 +1,5 @@
 //! Transactions: the frames that a request spells, or a level.
-ghost use Rattle.std.specs.Prelude.{◌≡◌, ◌∷◌, []};
+ghost use Rattle.std.specs.Prelude.{◌≡◌, ◌↔◌, ◌∷◌, [], IsTrue};
 ghost use Rattle.daliframe.specs.declared.forward.Frame.TheVariants as frame;
 ghost use Rattle.daliframe.specs.Frames.{level_frame};
 ghost use Rattle.gearcmd.specs.Requests.{frames_of, class_of, task_class, IsRequest};
@@ -93,6 +93,13 @@ impl Transaction {
             frames,
             first_priority: self.first_priority,
         }
+    }
+
+    /// Whether this is the same transaction, as where it is told whether it is the one that was handed out.
+    pub fn is_same(&self, other: &Self) -> bool
+        ensures { IsTrue result ↔ (self.now ≡ other.now) }
+    {
+        self == other
     }
 
     /// The priority of the first frame, 2 to 5. Each later one has priority 1, the highest (IEC 62386-101, clause 9; profile).

@@ -1,6 +1,6 @@
 use Rattle.std.proofs.Common.{[]}
 use Rattle.transact.specs.Attempts.{most_retries, most_sent, Spells}
-use Rattle.buslink.specs.Performing.{IsTried}
+use Rattle.buslink.specs.PerformingSteps.{IsTried}
 use Rattle.buslink.proofs.Trying.{SpellOne, performed, spare_kept}
 use Rattle.buslink.proofs.Failures.{failed_where_risen}
 use Rattle.buslink.proofs.performing.perform.Goals as goal

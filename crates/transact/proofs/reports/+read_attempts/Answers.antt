@@ -1,7 +1,7 @@
 use Rattle.std.proofs.Common.{◌≡◌, ◌<◌, ◌↔◌, length, true, false, slice_index_or, refl}
 use Rattle.std.specs.Prelude.{IsTrue}
 use Rattle.transact.specs.declared.marks.Mark.TheVariants.{Quiet, Lost}
-use Rattle.transact.specs.Readings.{HasNoAttempt}
+use Rattle.transact.specs.ReadingSteps.{HasNoAttempt}
 use Rattle.transact.proofs.ReadingLemmas.{Step, reads_none, step_last, step_none, step_retried, none_left, empty_at, filled_at}
 use Rattle.transact.proofs.reports.+read_attempts.Goals as goal
 
