@@ -1,5 +1,6 @@
 -- What a bus is to a contract: what was sent and heard on it so far, and its counts.
-use Rattle.std.specs.Prelude.{ℕ, ◌+◌, ◌-◌, ◌%◌, ◌^◌, min, Bool, true, false, Option, Some, None, Result, Ok, Err, List, [], ◌∷◌, ◌++◌}
+use Rattle.std.specs.Prelude.{ℕ, ◌+◌, ◌-◌, ◌%◌, ◌^◌, min, Bool, true, false, Option, Some, None, Result, Ok, Err}
+use Rattle.std.specs.Prelude.{List, [], ◌∷◌, ◌++◌}
 use Rattle.daliframe.specs.declared.forward.Frame.{Frame}
 use Rattle.transact.specs.declared.marks.Mark.{Mark}
 use Rattle.transact.specs.declared.marks.Mark.TheVariants.{Failed}
@@ -48,7 +49,8 @@ after_send frame priority (Ok reply) log = with_sent frame priority (mark_of rep
 after_send frame priority (Err fault) log =
     record (with_sent frame priority Failed log) { failures = one_more_failure log.failures }
 
--- the bus after a call that heard: only a frame is added and takes one of the spare places, and only a fault counts as a failure
+-- the bus after a call that heard: only a frame is added and takes one of the spare places, and only a fault counts as
+-- a failure
 abbrev pub after_hear : Result (Option ℕ) Fault → BusLog → BusLog
 after_hear (Ok (Some frame)) log = record log {
   heard = log.heard ++ frame ∷ [];

@@ -33,14 +33,16 @@ pub record IsSent (frame : Frame) (priority : ℕ) (mark : Mark) (old new : BusL
   pub bus : new ≡ after_send frame priority reply old
 
 -- these frames were tried once: what became of them, up to the last mark, goes behind the marks from before
-pub record IsTriedOnce (frames : List Frame) (first : ℕ) (before after : List Mark) (old new : BusLog) (last : Mark) : Type 0 where
+pub record IsTriedOnce (frames : List Frame) (first : ℕ) (before after : List Mark) (old new : BusLog) (last : Mark)
+    : Type 0 where
   pub attempt : Attempt
   pub legal : IsAttempt (length frames) attempt
   pub ends : last ≡ attempt.last
   pub marks : after ≡ before ++ marks_of attempt
   pub bus : new ≡ after_frames (sent_with frames first (marks_of attempt)) attempt.last old
 
--- the transaction was tried, and tried again after each loss while retries were left: the marks go behind those from before
+-- the transaction was tried, and tried again after each loss while retries were left: the marks go behind those from
+-- before
 pub record IsTried (list : FrameList) (retries : ℕ) (before after : List Mark) (old new : BusLog) : Type 0 where
   pub attempts : List Attempt
   pub legal : IsReport retries (length list.frames) attempts

@@ -7,14 +7,15 @@ use daliframe::{Frame, Frame24};
 use std::alloc::AllocError;
 use transact::Reply;
 
-/// A bus interface, with what became of it so far: the frames that were sent and heard, and how often it failed and heard.
-/// The two lists grow in `room` alone; `send` and `hear` take no memory.
+/// A bus interface, with what became of it so far: the frames that were sent and heard, and how
+/// often it failed and heard. The two lists grow in `room` alone; `send` and `hear` take no memory.
 pub trait Bus: Drop {
     ghost use Rattle.buslink.specs.BusLog.{BusLog};
 
     ghost log: { Self → BusLog };
 
-    /// Makes room for so many frames more, sent or heard. Where there is room already it succeeds, and room is never given up.
+    /// Makes room for so many frames more, sent or heard. Where there is room already it succeeds,
+    /// and room is never given up.
     ///
     /// # Errors
     ///
@@ -25,8 +26,8 @@ pub trait Bus: Drop {
         ensures keeps { (log self.old).spare ≤ (log self.new).spare }
         ensures same { log self.new ≡ with_spare (log self.new).spare (log self.old) };
 
-    /// Sends a frame with a priority, 1 to 5, of which 1 is the highest (IEC 62386-101, clause 9), and tells what it was
-    /// answered.
+    /// Sends a frame with a priority, 1 to 5, of which 1 is the highest (IEC 62386-101, clause 9),
+    /// and tells what it was answered.
     ///
     /// # Errors
     ///

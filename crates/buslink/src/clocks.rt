@@ -8,8 +8,9 @@ pub trait Clock: Drop {
 
     ghost log: { Self → ClockLog };
 
-    /// The moment that it is, in milliseconds, never below one that was given before; or none, where the clock has come to
-    /// its end. It takes no memory: a clock makes the room that it needs when it is made.
+    /// The moment that it is, in milliseconds, never below one that was given before; or none,
+    /// where the clock has come to its end. It takes no memory: a clock makes the room that it
+    /// needs when it is made.
     fn now(&mut self) -> Option<u64>
         ensures logged { log self.new ≡ after_now result (log self.old) }
         ensures never_falls { IfSome result (λ moment. IsNotBefore moment (log self.old)) };

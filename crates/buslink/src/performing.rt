@@ -13,23 +13,29 @@ use daliframe::Frame;
 use std::alloc::AllocError;
 use transact::{MOST_RETRIES, MOST_SENT, Mark, Report, Transaction};
 
-/// Sends the frames of a transaction, and all of them again where one is lost, in three attempts at most. A fault of the
-/// bus interface ends it at once, with the outcome `Failed`.
+/// Sends the frames of a transaction, and all of them again where one is lost, in three attempts at
+/// most. A fault of the bus interface ends it at once, with the outcome `Failed`.
 ///
 /// # Errors
 ///
 /// The bus had no room for the frames of three attempts and got none. Then nothing was sent.
 pub fn perform<B: Bus>(bus: &mut B, transaction: &Transaction) -> Result<Report, AllocError>
     ensures report { IfOk result (λ r. (r.transaction ≡ transaction.now) × IsReportParts r) }
-    ensures bus { IfOk result (λ r. B.log bus.new ≡ after_report r (B.log bus.new).spare (B.log bus.old)) }
+    ensures bus { IfOk result
+        (λ r. B.log bus.new ≡ after_report r (B.log bus.new).spare (B.log bus.old)) }
     ensures spare { IfOk result (λ r. most_sent ≤ (B.log bus.new).spare + length r.attempts) }
 
-    // No spare place is lost: the frames that were sent take one each at most, and a refusal takes none.
-    ensures spare_kept { IfOk result (λ r. (B.log bus.old).spare ≤ (B.log bus.new).spare + length r.attempts) }
+    // No spare place is lost: the frames that were sent take one each at most, and a refusal takes
+    // none.
+    ensures spare_kept { IfOk result
+        (λ r. (B.log bus.old).spare ≤ (B.log bus.new).spare + length r.attempts) }
     ensures spare_kept_refused { IfErr result (λ _. (B.log bus.old).spare ≤ (B.log bus.new).spare) }
     ensures failed { IfOk result (λ r. All
-        (λ frame. frame.mark ≡ Mark.Failed → (B.log bus.new).failures ≡ one_more_failure (B.log bus.old).failures) r.attempts) }
-    ensures refused { IfErr result (λ _. B.log bus.new ≡ with_spare (B.log bus.new).spare (B.log bus.old)) }
+        (λ frame. frame.mark ≡ Mark.Failed
+        → (B.log bus.new).failures ≡ one_more_failure (B.log bus.old).failures)
+        r.attempts) }
+    ensures refused { IfErr result
+        (λ _. B.log bus.new ≡ with_spare (B.log bus.new).spare (B.log bus.old)) }
     ensures enough { most_sent ≤ (B.log bus.old).spare → IsOk result }
 {
     bus.room(MOST_SENT)?;
@@ -41,7 +47,8 @@ pub fn perform<B: Bus>(bus: &mut B, transaction: &Transaction) -> Result<Report,
     }
 }
 
-/// Tries the transaction, and again after each loss while retries are left. The marks go behind those of `marks`.
+/// Tries the transaction, and again after each loss while retries are left. The marks go behind
+/// those of `marks`.
 fn try_again<B: Bus>(
     bus: &mut B,
     transaction: &Transaction,
@@ -50,7 +57,8 @@ fn try_again<B: Bus>(
 )
     requires spare { most_frames * (retries + 1) ≤ (B.log bus.old).spare }
     requires room { array_vec_len marks.old + most_frames * (retries + 1) ≤ most_sent }
-    ensures { IsTried transaction.now retries marks.old.items marks.new.items (B.log bus.old) (B.log bus.new) }
+    ensures { IsTried transaction.now retries marks.old.items marks.new.items
+        (B.log bus.old) (B.log bus.new) }
 {
     let last = try_once(
         bus,
@@ -63,7 +71,8 @@ fn try_again<B: Bus>(
     }
 }
 
-/// Sends the frames, up to one that is lost or fails, and gives the last mark. The first has this priority, each later one 1.
+/// Sends the frames, up to one that is lost or fails, and gives the last mark. The first has this
+/// priority, each later one 1.
 fn try_once<B: Bus>(
     bus: &mut B,
     frames: &[Frame],
@@ -73,7 +82,8 @@ fn try_once<B: Bus>(
     requires some { 0 < length frames.now }
     requires spare { length frames.now ≤ (B.log bus.old).spare }
     requires room { array_vec_len marks.old + length frames.now ≤ most_sent }
-    ensures { IsTriedOnce frames.now priority marks.old.items marks.new.items (B.log bus.old) (B.log bus.new) result }
+    ensures { IsTriedOnce frames.now priority marks.old.items marks.new.items
+        (B.log bus.old) (B.log bus.new) result }
 {
     let mark = send(bus, frames[0], priority);
     marks.push(mark);

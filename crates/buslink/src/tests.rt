@@ -55,7 +55,14 @@ impl ScriptedBus {
 }
 
 impl Bus for ScriptedBus {
-    ghost log = { λ b. record { sent = b.sent.items; heard = []; spare = b.spare; failures = b.failures; hears = b.hears; heard_none = b.heard_none } };
+    ghost log = { λ b. record {
+      sent = b.sent.items;
+      heard = [];
+      spare = b.spare;
+      failures = b.failures;
+      hears = b.hears;
+      heard_none = b.heard_none;
+    } };
 
     fn room(&mut self, frames: usize) -> Result<(), AllocError> {
         if frames <= self.spare {

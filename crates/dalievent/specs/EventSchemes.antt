@@ -2,13 +2,15 @@
 use Rattle.std.specs.Prelude.{◌≡◌, ℕ, ◌+◌, ◌*◌, ◌<◌, ◌^◌}
 use Rattle.daliframe.specs.Frames.{IsCommand24}
 use Rattle.daliframe.specs.declared.schemes.EventScheme.{EventScheme}
-use Rattle.daliframe.specs.declared.schemes.EventScheme.TheVariants.{Instance, Device, DeviceInstance, DeviceGroup, InstanceGroup}
+use Rattle.daliframe.specs.declared.schemes.EventScheme.TheVariants.{Instance, Device, DeviceInstance}
+use Rattle.daliframe.specs.declared.schemes.EventScheme.TheVariants.{DeviceGroup, InstanceGroup}
 use Rattle.dalievent.specs.declared.messages.EventMessage.{EventMessage}
 use Rattle.dalievent.specs.declared.messages.Source.{Source}
 use Rattle.dalievent.specs.declared.messages.Heard.{Heard}
 use Rattle.dalievent.specs.declared.messages.Heard.TheVariants.{Event, Command, Other}
 
--- what the scheme adds to a frame: bits 23 and 22 are `10` or `11` where no short address is, bit 15 tells two schemes apart
+-- what the scheme adds to a frame: bits 23 and 22 are `10` or `11` where no short address is, bit 15 tells two schemes
+-- apart
 abbrev pub scheme_bits : EventScheme → ℕ
 scheme_bits Instance = 2 ^ 23 + 2 ^ 15
 scheme_bits Device = 0

@@ -27,4 +27,5 @@ address_number Broadcast = 80
 abbrev pub IsAddressClass : AddressClass → ℕ → Type 0
 IsAddressClass (Level address) byte = IsAddress address × (byte ≡ address_byte address 0)
 IsAddressClass (Command address) byte = IsAddress address × (byte ≡ address_byte address 1)
-IsAddressClass Special byte = (address : Address) (s : ℕ) → IsAddress address → s < 2 → byte ≡ address_byte address s → ⊥
+IsAddressClass Special byte =
+    (address : Address) (s : ℕ) → IsAddress address → s < 2 → byte ≡ address_byte address s → ⊥

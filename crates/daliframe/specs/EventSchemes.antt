@@ -1,7 +1,8 @@
 -- The event schemes of control devices by their numbers.
 use Rattle.std.specs.Prelude.{ℕ}
 use Rattle.daliframe.specs.declared.schemes.EventScheme.{EventScheme}
-use Rattle.daliframe.specs.declared.schemes.EventScheme.TheVariants.{Instance, Device, DeviceInstance, DeviceGroup, InstanceGroup}
+use Rattle.daliframe.specs.declared.schemes.EventScheme.TheVariants.{Instance, Device, DeviceInstance}
+use Rattle.daliframe.specs.declared.schemes.EventScheme.TheVariants.{DeviceGroup, InstanceGroup}
 
 -- the numbers of the schemes, as SET EVENT SCHEME takes them (IEC 62386-103, clause 9)
 abbrev pub scheme_number : EventScheme → ℕ

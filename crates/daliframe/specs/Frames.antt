@@ -51,7 +51,8 @@ HasFields16 (gear.Command address opcode) frame =
 HasFields16 (gear.Dtr0 value) frame = (value < 2 ^ 8) × (frame ≡ dtr0_frame value)
 HasFields16 (gear.Dtr1 value) frame = (value < 2 ^ 8) × (frame ≡ dtr1_frame value)
 HasFields16 gear.Other frame =
-    ((address : Address) (s value : ℕ) → IsAddress address → s < 2 → value < 2 ^ 8 → frame ≡ frame16 (address_byte address s) value → ⊥)
+    ((address : Address) (s value : ℕ) → IsAddress address → s < 2 → value < 2 ^ 8
+    → frame ≡ frame16 (address_byte address s) value → ⊥)
     × ((value : ℕ) → value < 2 ^ 8 → frame ≡ dtr0_frame value → ⊥)
     × ((value : ℕ) → value < 2 ^ 8 → frame ≡ dtr1_frame value → ⊥)
 
@@ -63,5 +64,6 @@ HasFields24 (device.Command address instance opcode) frame =
 HasFields24 (device.Dtr0 value) frame = (value < 2 ^ 8) × (frame ≡ device_dtr0_frame value)
 HasFields24 device.OtherCommand frame =
     IsCommand24 frame
-    × ((address instance opcode : ℕ) → address < 64 → instance < 32 → opcode < 2 ^ 8 → frame ≡ device_frame address instance opcode → ⊥)
+    × ((address instance opcode : ℕ) → address < 64 → instance < 32 → opcode < 2 ^ 8
+    → frame ≡ device_frame address instance opcode → ⊥)
     × ((value : ℕ) → value < 2 ^ 8 → frame ≡ device_dtr0_frame value → ⊥)

@@ -1,6 +1,7 @@
 //! Addresses, and the address byte of a 16-bit forward frame.
 ghost use Rattle.std.specs.Prelude.{◌≡◌, ◌≤◌, IsSome, IfSome, ◌↔◌};
-ghost use Rattle.daliframe.specs.Addresses.{IsAddress, address_number, address_byte, IsAddressClass};
+ghost use Rattle.daliframe.specs.Addresses.{IsAddress, address_number, address_byte};
+ghost use Rattle.daliframe.specs.Addresses.{IsAddressClass};
 
 use crate::{GroupAddress, ShortAddress};
 
@@ -16,7 +17,8 @@ pub enum Address {
 }
 
 impl Address {
-    /// The address of a program's number: 0 to 63 a short address, 64 to 79 the groups 0 to 15, 80 broadcast.
+    /// The address of a program's number: 0 to 63 a short address, 64 to 79 the groups 0 to 15, 80
+    /// broadcast.
     pub fn from_number(number: u8) -> Option<Self>
         ensures known { IsSome result ↔ (number ≤ 80) }
         ensures value { IfSome result (λ a. IsAddress a × (address_number a ≡ number)) }

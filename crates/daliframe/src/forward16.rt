@@ -1,7 +1,8 @@
 //! 16-bit forward frames, which control gear takes (IEC 62386-102, clause 7).
 ghost use Rattle.std.specs.Prelude.{◌≡◌, ◌+◌, ◌*◌, ◌/◌, ◌%◌, ◌^◌, ◌<◌};
 ghost use Rattle.daliframe.specs.Addresses.{IsAddress};
-ghost use Rattle.daliframe.specs.Frames.{level_frame, command_frame, dtr0_frame, dtr1_frame, HasFields16};
+ghost use Rattle.daliframe.specs.Frames.{level_frame, command_frame, dtr0_frame, dtr1_frame};
+ghost use Rattle.daliframe.specs.Frames.{HasFields16};
 
 use crate::{Address, AddressClass};
 use std::fmt;

@@ -1,7 +1,8 @@
 //! 24-bit forward frames, which control devices take and send (IEC 62386-103, clause 7).
 ghost use Rattle.std.specs.Prelude.{◌≡◌, ◌^◌, ◌<◌, ◌↔◌, IsTrue};
 ghost use Rattle.std.specs.Option.{SomeIff};
-ghost use Rattle.daliframe.specs.Frames.{frame24, device_frame, device_dtr0_frame, IsCommand24, HasFields24};
+ghost use Rattle.daliframe.specs.Frames.{frame24, device_frame, device_dtr0_frame};
+ghost use Rattle.daliframe.specs.Frames.{IsCommand24, HasFields24};
 
 use crate::{Address, InstanceNumber, ShortAddress};
 use std::fmt;

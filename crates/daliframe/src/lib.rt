@@ -1,7 +1,8 @@
-//! The forward frames of a DALI-2 bus: 16 bits for control gear, 24 bits for control devices. Across the boundary go
-//! frames, which contracts see as their numbers, and what their bits mean: addresses, levels, opcodes and the classes of
-//! these. They meet the bit equations of `specs/Addresses.antt` and `specs/Frames.antt` and the sets of opcodes of
-//! `specs/Opcodes.antt` (IEC 62386-101, -102 and -103).
+//! The forward frames of a DALI-2 bus: 16 bits for control gear, 24 bits for control devices.
+//! Across the boundary go frames, which contracts see as their numbers, and what their bits mean:
+//! addresses, levels, opcodes and the classes of these. They meet the bit equations of
+//! `specs/Addresses.antt` and `specs/Frames.antt` and the sets of opcodes of `specs/Opcodes.antt`
+//! (IEC 62386-101, -102 and -103).
 #![tactic(auto)]
 
 mod addressing;

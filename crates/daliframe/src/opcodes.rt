@@ -20,7 +20,8 @@ pub enum OpcodeClass {
 impl OpcodeClass {
     /// The class of an opcode of control gear, or `None` where this profile has no such opcode.
     pub fn of(opcode: u8) -> Option<Self>
-        ensures { MatchOption result ((c : OpcodeClass) → IsOfClass c opcode → ⊥) (λ c. IsOfClass c opcode) }
+        ensures { MatchOption result ((c : OpcodeClass) → ¬ IsOfClass c opcode)
+            (λ c. IsOfClass c opcode) }
     {
         match opcode {
             0x00..=0x08 | 0x0A | 0x10..=0x1F => Some(OpcodeClass::Once),
@@ -47,7 +48,8 @@ pub enum DeviceOpcodeClass {
 impl DeviceOpcodeClass {
     /// The class of an opcode of control devices, or `None` where this profile has no such opcode.
     pub fn of(opcode: u8) -> Option<Self>
-        ensures { MatchOption result ((c : DeviceOpcodeClass) → IsOfDeviceClass c opcode → ⊥) (λ c. IsOfDeviceClass c opcode) }
+        ensures { MatchOption result ((c : DeviceOpcodeClass) → ¬ IsOfDeviceClass c opcode)
+            (λ c. IsOfDeviceClass c opcode) }
     {
         match opcode {
             0x62..=0x63 => Some(DeviceOpcodeClass::Twice),

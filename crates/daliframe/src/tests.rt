@@ -1,4 +1,5 @@
-//! Worked frames, their printed form, and the fields of every frame and the class of every opcode by plain sums and lists.
+//! Worked frames, their printed form, and the fields of every frame and the class of every opcode
+//! by plain sums and lists.
 use crate::{
     Address, AddressClass, BusNumber, DeviceOpcodeClass, EventScheme, Fields16, Fields24, Frame,
     Frame16, Frame24, GroupAddress, InstanceNumber, InstanceType, OpcodeClass, ShortAddress,

@@ -1,4 +1,5 @@
--- The opcodes of the request blocks, by their port CMD (profile; the commands of control gear are those of IEC 62386-102, clause 11).
+-- The opcodes of the request blocks, by their port CMD (profile; the commands of control gear are those of IEC
+-- 62386-102, clause 11).
 use Rattle.std.specs.Prelude.{ℕ, ◌+◌, List, [], ◌∷◌, ◌++◌, zero, suc}
 
 -- count opcodes one after another
@@ -11,7 +12,8 @@ opcodes_from first (suc count) = first ∷ opcodes_from (first + 1) count
 unfoldable pub gear_do_opcodes : List ℕ
 gear_do_opcodes = opcodes_from 0x00 9 ++ 0x0A ∷ opcodes_from 0x10 16
 
--- SET MAX LEVEL, MIN LEVEL, SYSTEM FAILURE LEVEL, POWER ON LEVEL, FADE TIME, FADE RATE, EXTENDED FADE TIME; SET SCENE 0 to 15
+-- SET MAX LEVEL, MIN LEVEL, SYSTEM FAILURE LEVEL, POWER ON LEVEL, FADE TIME, FADE RATE, EXTENDED FADE TIME; SET SCENE 0
+-- to 15
 unfoldable pub gear_set_opcodes : List ℕ
 gear_set_opcodes = opcodes_from 0x2A 7 ++ opcodes_from 0x40 16
 
@@ -19,7 +21,8 @@ gear_set_opcodes = opcodes_from 0x2A 7 ++ opcodes_from 0x40 16
 unfoldable pub gear_pair_opcodes : List ℕ
 gear_pair_opcodes = opcodes_from 0x20 2 ++ opcodes_from 0x50 48
 
--- QUERY STATUS on, QUERY ACTUAL LEVEL on; the queries A8 and AA; QUERY SCENE LEVEL 0 to 15, QUERY GROUPS 0 TO 7, 8 TO 15
+-- QUERY STATUS on, QUERY ACTUAL LEVEL on; the queries A8 and AA; QUERY SCENE LEVEL 0 to 15, QUERY GROUPS 0 TO 7, 8 TO
+-- 15
 unfoldable pub gear_ask_opcodes : List ℕ
 gear_ask_opcodes = opcodes_from 0x90 23 ++ 0xA8 ∷ 0xAA ∷ opcodes_from 0xB0 18
 

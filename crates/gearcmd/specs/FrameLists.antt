@@ -15,19 +15,22 @@ use Rattle.daliframe.specs.Frames.{level_frame, command_frame, dtr0_frame, dtr1_
 abbrev pub most_frames : ℕ
 most_frames = 3
 
--- frames in the order of sending, with the first one's priority; each later one has priority 1, the highest (IEC 62386-101, clause 9; profile)
+-- frames in the order of sending, with the first one's priority; each later one has priority 1, the highest (IEC
+-- 62386-101, clause 9; profile)
 pub record FrameList : Type 0 where
   pub frames : List Frame
   pub first_priority : ℕ
 
 -- a direct level to some address
 abbrev pub IsLevel : Frame → Type 0
-IsLevel frame = (address : Address) × (level : ℕ) × IsAddress address × (level < 2 ^ 8) × (frame ≡ Forward16 (level_frame address level))
+IsLevel frame =
+    (address : Address) × (level : ℕ) × IsAddress address × (level < 2 ^ 8) × (frame ≡ Forward16 (level_frame address level))
 
 -- a command of this class to some control gear
 abbrev pub IsGearCommand : OpcodeClass → Frame → Type 0
 IsGearCommand kind frame =
-    (address : Address) × (opcode : ℕ) × IsAddress address × IsOfClass kind opcode × (frame ≡ Forward16 (command_frame address opcode))
+    (address : Address) × (opcode : ℕ) × IsAddress address × IsOfClass kind opcode
+    × (frame ≡ Forward16 (command_frame address opcode))
 
 -- a command of this class to an instance of some control device
 abbrev pub IsDeviceCommand : DeviceOpcodeClass → Frame → Type 0

@@ -14,4 +14,5 @@ printed_frames list = flat_map (λ frame. codes " " ++ frames.printed frame) lis
 -- its bus, its class and its frames
 abbrev pub printed_request : Request → TaskKind → List ℕ
 printed_request r task =
-    codes "bus " ++ decimal r.bus ++ codes " class " ++ decimal (class_of r.command task) ++ printed_frames (frames_of r.command)
+    codes "bus " ++ decimal r.bus ++ codes " class " ++ decimal (class_of r.command task)
+    ++ printed_frames (frames_of r.command)

@@ -7,12 +7,14 @@ use Rattle.daliframe.specs.declared.addressing.Address.TheVariants.{Short}
 use Rattle.daliframe.specs.Addresses.{IsAddress}
 use Rattle.daliframe.specs.EventSchemes.{scheme_number}
 use Rattle.daliframe.specs.Frames.{level_frame, command_frame, dtr0_frame, dtr1_frame, device_frame, device_dtr0_frame}
-use Rattle.gearcmd.specs.Commands.{gear_do_opcodes, gear_set_opcodes, gear_pair_opcodes, gear_ask_opcodes, dev_do_opcodes, dev_ask_opcodes}
+use Rattle.gearcmd.specs.Commands.{gear_do_opcodes, gear_set_opcodes, gear_pair_opcodes, gear_ask_opcodes}
+use Rattle.gearcmd.specs.Commands.{dev_do_opcodes, dev_ask_opcodes}
 use Rattle.gearcmd.specs.declared.requests.Answerer.{Answerer}
 use Rattle.gearcmd.specs.declared.requests.Answerer.TheVariants.{Gear, Instance}
 use Rattle.gearcmd.specs.declared.requests.Request.{Request}
 use Rattle.gearcmd.specs.declared.requests.Command.{Command}
-use Rattle.gearcmd.specs.declared.requests.Command.TheVariants.{GearLevel, GearDo, GearSet, GearPair, GearAsk, GearRead, DevDo, DevScheme, DevAsk}
+use Rattle.gearcmd.specs.declared.requests.Command.TheVariants.{GearLevel, GearDo, GearSet, GearPair, GearAsk, GearRead}
+use Rattle.gearcmd.specs.declared.requests.Command.TheVariants.{DevDo, DevScheme, DevAsk}
 use Rattle.gearcmd.specs.declared.requests.TaskKind.{TaskKind}
 use Rattle.gearcmd.specs.declared.requests.TaskKind.TheVariants.{Cyclic, Event}
 
@@ -54,11 +56,17 @@ frames_of (GearSet address cmd value) =
 frames_of (GearPair address cmd) = twice (Forward16 (command_frame address (slice_index gear_pair_opcodes cmd)))
 frames_of (GearAsk address cmd) = Forward16 (command_frame (Short address) (slice_index gear_ask_opcodes cmd)) ∷ []
 frames_of (GearRead address bank offset) =
-    Forward16 (dtr1_frame bank) ∷ Forward16 (dtr0_frame offset) ∷ Forward16 (command_frame (Short address) read_opcode) ∷ []
-frames_of (DevDo address instance cmd) = twice (Forward24 (device_frame address instance (slice_index dev_do_opcodes cmd)))
+    Forward16 (dtr1_frame bank)
+    ∷ Forward16 (dtr0_frame offset)
+    ∷ Forward16 (command_frame (Short address) read_opcode)
+    ∷ []
+frames_of (DevDo address instance cmd) =
+    twice (Forward24 (device_frame address instance (slice_index dev_do_opcodes cmd)))
 frames_of (DevScheme address instance scheme) =
-    Forward24 (device_dtr0_frame (scheme_number scheme)) ∷ twice (Forward24 (device_frame address instance set_event_scheme_opcode))
-frames_of (DevAsk address instance cmd) = Forward24 (device_frame address instance (slice_index dev_ask_opcodes cmd)) ∷ []
+    Forward24 (device_dtr0_frame (scheme_number scheme))
+    ∷ twice (Forward24 (device_frame address instance set_event_scheme_opcode))
+frames_of (DevAsk address instance cmd) =
+    Forward24 (device_frame address instance (slice_index dev_ask_opcodes cmd)) ∷ []
 
 -- each part in the range of its port: CMD is the index of a command, and bytes are below 256 (profile)
 abbrev pub IsCommand : Command → Type 0

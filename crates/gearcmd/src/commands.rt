@@ -1,9 +1,11 @@
-//! The commands of the request blocks: each is its port CMD, a place in its block's table of opcodes.
+//! The commands of the request blocks: each is its port CMD, a place in its block's table of
+//! opcodes.
 ghost use Rattle.std.specs.Prelude.{◌≡◌, ℕ, ◌<◌, ◌↔◌, Contains, slice_index};
 ghost use Rattle.daliframe.specs.Opcodes.{IsOfClass, IsOfDeviceClass};
 ghost use Rattle.daliframe.specs.declared.opcodes.OpcodeClass.TheVariants as gear;
 ghost use Rattle.daliframe.specs.declared.opcodes.DeviceOpcodeClass.TheVariants as device;
-ghost use Rattle.gearcmd.specs.Commands.{gear_do_opcodes, gear_set_opcodes, gear_pair_opcodes, gear_ask_opcodes};
+ghost use Rattle.gearcmd.specs.Commands.{gear_do_opcodes, gear_set_opcodes};
+ghost use Rattle.gearcmd.specs.Commands.{gear_pair_opcodes, gear_ask_opcodes};
 ghost use Rattle.gearcmd.specs.Commands.{dev_do_opcodes, dev_ask_opcodes};
 
 use crate::blocks;
@@ -39,7 +41,8 @@ static GEAR_SET: [u8; 23] = [
     0x49, 0x4A, 0x4B, 0x4C, 0x4D, 0x4E, 0x4F,
 ];
 
-/// RESET, STORE ACTUAL LEVEL IN DTR0, then REMOVE FROM SCENE, ADD TO GROUP and REMOVE FROM GROUP, 0 to 15 each.
+/// RESET, STORE ACTUAL LEVEL IN DTR0, then REMOVE FROM SCENE, ADD TO GROUP and REMOVE FROM GROUP, 0
+/// to 15 each.
 static GEAR_PAIR: [u8; 50] = [
     0x20, 0x21, 0x50, 0x51, 0x52, 0x53, 0x54, 0x55, 0x56, 0x57, 0x58, 0x59, 0x5A, 0x5B, 0x5C, 0x5D,
     0x5E, 0x5F, 0x60, 0x61, 0x62, 0x63, 0x64, 0x65, 0x66, 0x67, 0x68, 0x69, 0x6A, 0x6B, 0x6C, 0x6D,

@@ -1,8 +1,9 @@
-//! Requests of programs to control gear and control devices. A request's parts are the port values of the block that
-//! makes it, each within its port's range by its type. Out of it come its class, the frames that it spells, and whose
-//! answer it brings; beside them stands the status byte of control gear. The definition to read first is `frames_of` in
-//! `specs/Requests.antt`, over the tables of `specs/Commands.antt`; `specs/FrameLists.antt` has the lists of frames that are
-//! legal (IEC 62386-102; profile for control devices and classes).
+//! Requests of programs to control gear and control devices. A request's parts are the port values
+//! of the block that makes it, each within its port's range by its type. Out of it come its class,
+//! the frames that it spells, and whose answer it brings; beside them stands the status byte of
+//! control gear. The definition to read first is `frames_of` in `specs/Requests.antt`, over the
+//! tables of `specs/Commands.antt`; `specs/FrameLists.antt` has the lists of frames that are legal
+//! (IEC 62386-102; profile for control devices and classes).
 #![tactic(auto)]
 
 pub mod blocks;

@@ -4,8 +4,8 @@ use crate::{Request, TaskKind};
 use daliframe::Frame;
 use std::fmt;
 
-/// A request from a task of this kind as a line: `bus 0 class 4 FF05`, its frames in upper hexadecimal digits with one
-/// blank between.
+/// A request from a task of this kind as a line: `bus 0 class 4 FF05`, its frames in upper
+/// hexadecimal digits with one blank between.
 #[derive(Clone, Copy, Debug, PartialEq, Eq)]
 pub struct RequestLine {
     pub request: Request,

@@ -18,7 +18,8 @@ pub enum TaskKind {
 }
 
 impl TaskKind {
-    /// The class of what a task of this kind sends once and isn't answered: 2 of an event task, 4 of a cyclic one (profile).
+    /// The class of what a task of this kind sends once and isn't answered: 2 of an event task, 4
+    /// of a cyclic one (profile).
     pub fn class(self) -> u8
         ensures { result ≡ task_class self }
     {
@@ -93,7 +94,8 @@ pub struct Request {
     pub command: Command,
 }
 
-/// No new level for all control gear of bus 0, which fills the unused places of a collection of fixed capacity.
+/// No new level for all control gear of bus 0, which fills the unused places of a collection of
+/// fixed capacity.
 impl Default for Request {
     ghost use Rattle.daliframe.specs.declared.addressing.Address.TheVariants.{Broadcast};
     ghost use Rattle.gearcmd.specs.declared.requests.Command.TheVariants.{GearLevel};
@@ -124,13 +126,16 @@ pub enum Answerer {
 }
 
 impl Request {
-    /// The class of a request from a task of this kind, 2 to 5, which is also its first frame's priority: 3 for what is
-    /// sent twice, 5 for queries and memory reads, else 2 from an event task and 4 from a cyclic one (profile).
+    /// The class of a request from a task of this kind, 2 to 5, which is also its first frame's
+    /// priority: 3 for what is sent twice, 5 for queries and memory reads, else 2 from an event
+    /// task and 4 from a cyclic one (profile).
     pub fn class(&self, task: TaskKind) -> u8
         ensures value { result ≡ class_of self.now.command task }
 
-        // Classes 3 and 5 don't depend on the kind of task; 2 comes from event tasks alone, and 4 from cyclic ones.
-        ensures same { (result ≡ 3) ⊎ (result ≡ 5) → (other : Kind) → class_of self.now.command other ≡ result }
+        // Classes 3 and 5 don't depend on the kind of task; 2 comes from event tasks alone, and 4
+        // from cyclic ones.
+        ensures same { (result ≡ 3) ⊎ (result ≡ 5)
+            → (other : Kind) → class_of self.now.command other ≡ result }
         ensures from_event { result ≡ 2 → task ≡ TaskKind.Event }
         ensures from_cyclic { result ≡ 4 → task ≡ TaskKind.Cyclic }
         ensures range { (2 ≤ result) × (result ≤ 5) }

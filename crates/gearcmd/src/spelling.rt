@@ -30,7 +30,8 @@ impl Request {
     pub fn frames(&self) -> ArrayVec<Frame, MOST_FRAMES>
         ensures spelled { result.items ≡ frames_of self.now.command }
 
-        // The request is within the ranges of its ports and its frames are a legal list, since its type keeps them there.
+        // The request is within the ranges of its ports and its frames are a legal list, since its
+        // type keeps them there.
         ensures in_range { IsRequest self.now }
         ensures legal { (task : TaskKind) → IsLegal result.items (class_of self.now.command task) }
         ensures count { (1 ≤ length result.items) × (length result.items ≤ most_frames) }
@@ -133,7 +134,8 @@ fn after_dtr0(dtr0: Frame, frame: &Frame) -> ArrayVec<Frame, MOST_FRAMES>
 
 /// DTR1 the bank, DTR0 the offset, then READ MEMORY LOCATION.
 fn memory_read(address: ShortAddress, bank: u8, offset: u8) -> ArrayVec<Frame, MOST_FRAMES>
-    ensures value { result.items ≡ frame.Forward16 (dtr1_frame bank) ∷ frame.Forward16 (dtr0_frame offset)
+    ensures value { result.items ≡ frame.Forward16 (dtr1_frame bank)
+        ∷ frame.Forward16 (dtr0_frame offset)
         ∷ frame.Forward16 (command_frame (Address.Short address) read_opcode) ∷ [] }
     ensures legal { address < 64 }
 {

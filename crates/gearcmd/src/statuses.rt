@@ -25,8 +25,15 @@ impl Flags for Status {
 
     ghost exact = { ⊤ };
 
-    ghost table = { (codes "GEAR_FAILURE", 1) ∷ (codes "LAMP_FAILURE", 2) ∷ (codes "LAMP_ON", 4) ∷ (codes "LIMIT_ERROR", 8)
-        ∷ (codes "FADE_RUNNING", 16) ∷ (codes "RESET_STATE", 32) ∷ (codes "MISSING_SHORT_ADDRESS", 64) ∷ (codes "POWER_CYCLE_SEEN", 128) ∷ [] };
+    ghost table = { (codes "GEAR_FAILURE", 1)
+        ∷ (codes "LAMP_FAILURE", 2)
+        ∷ (codes "LAMP_ON", 4)
+        ∷ (codes "LIMIT_ERROR", 8)
+        ∷ (codes "FADE_RUNNING", 16)
+        ∷ (codes "RESET_STATE", 32)
+        ∷ (codes "MISSING_SHORT_ADDRESS", 64)
+        ∷ (codes "POWER_CYCLE_SEEN", 128)
+        ∷ [] };
 
     ghost set_of = { λ s. s.0 };
 

@@ -1,4 +1,5 @@
-//! Commands by their CMD, each against a plain list, a scan's outbox, printed requests, and the status byte.
+//! Commands by their CMD, each against a plain list, a scan's outbox, printed requests, and the
+//! status byte.
 use crate::{
     Answerer, Command, DevAskCommand, DevDoCommand, GearAskCommand, GearDoCommand, GearPairCommand,
     GearSetCommand, Request, RequestLine, Status, TaskKind, dev_ask_opcode, dev_do_opcode,

@@ -16,13 +16,15 @@ pub record Attempt : Type 0 where
 abbrev pub marks_of : Attempt → List Mark
 marks_of a = a.before ++ a.last ∷ []
 
--- An attempt sends a front of count frames. No mark but the last is Lost or Failed, and where the front is not all frames the last is.
+-- An attempt sends a front of count frames. No mark but the last is Lost or Failed, and where the front is not all
+-- frames the last is.
 pub record IsAttempt (count : ℕ) (a : Attempt) : Type 0 where
   pub within : length a.before < count
   pub unbroken : All (λ mark. IsBroken mark → ⊥) a.before
   pub cut : length a.before + 1 < count → IsBroken a.last
 
--- A report is of at most one attempt more than retries. Each attempt but the last ends by Lost; the last only where no retry is left.
+-- A report is of at most one attempt more than retries. Each attempt but the last ends by Lost; the last only where no
+-- retry is left.
 abbrev pub IsReport : ℕ → ℕ → List Attempt → Type 0
 IsReport retries count [] = ⊥
 IsReport retries count (a ∷ []) = IsAttempt count a × (a.last ≡ Lost → retries ≡ 0)

@@ -22,7 +22,8 @@ IsBroken Damaged = ⊥
 IsBroken Lost = ⊤
 IsBroken Failed = ⊤
 
--- the outcome of a transaction by its very last mark: an answer to a frame that is not the last changes nothing (profile)
+-- the outcome of a transaction by its very last mark: an answer to a frame that is not the last changes nothing
+-- (profile)
 abbrev pub outcome_of : Mark → Outcome
 outcome_of Quiet = outcome.Done reply.Quiet
 outcome_of (Answer byte) = outcome.Done (reply.Answer byte)

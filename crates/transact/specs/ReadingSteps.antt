@@ -16,8 +16,10 @@ pub record EndsAt (count : ℕ) (marks : List Mark) (end : ℕ) : Type 0 where
 abbrev pub HasNoAttempt : ℕ → List Mark → Type 0
 HasNoAttempt count marks = (a : Attempt) (rest : List Mark) → IsAttempt count a → marks ≡ marks_of a ++ rest → ⊥
 
--- the marks are those of attempts that a report with so many retries has; what they sent goes behind before, and they end with last
-pub record IsRead (list : FrameList) (retries : ℕ) (marks : List Mark) (before after : List Sent) (last : Mark) : Type 0 where
+-- the marks are those of attempts that a report with so many retries has; what they sent goes behind before, and they
+-- end with last
+pub record IsRead (list : FrameList) (retries : ℕ) (marks : List Mark) (before after : List Sent) (last : Mark)
+    : Type 0 where
   pub attempts : List Attempt
   pub legal : IsReport retries (length list.frames) attempts
   pub spelled : marks ≡ all_marks attempts

@@ -17,8 +17,8 @@ fn bits(frame: &Frame) -> Bits {
     }
 }
 
-/// What a block of a kind asks, 1 to 9 in the order of the blocks, where its parts are in range: a is its address, c its
-/// command, bank or event scheme, d its level, value, offset or instance.
+/// What a block of a kind asks, 1 to 9 in the order of the blocks, where its parts are in range: a
+/// is its address, c its command, bank or event scheme, d its level, value, offset or instance.
 fn command_of(kind: u8, a: u8, c: u8, d: u8) -> Option<Command> {
     let address = Address::from_number(a)?;
     if kind < 5 {
@@ -200,8 +200,8 @@ fn is_lost(marks: &[Mark]) -> bool {
     marks.last() == Some(&Mark::Lost)
 }
 
-/// Where the second and the third attempt of a report with these marks begin, by trying all places. An attempt that there
-/// is not begins at the end.
+/// Where the second and the third attempt of a report with these marks begin, by trying all places.
+/// An attempt that there is not begins at the end.
 fn split(marks: &[Mark], count: usize) -> Option<(usize, usize)> {
     for second in 0..=marks.len() {
         for third in second..=marks.len() {
@@ -218,7 +218,8 @@ fn split(marks: &[Mark], count: usize) -> Option<(usize, usize)> {
     None
 }
 
-/// Whether the report says of each mark: which frame got it, with which priority, in attempts that begin at these places.
+/// Whether the report says of each mark: which frame got it, with which priority, in attempts that
+/// begin at these places.
 fn says(report: &Report, transaction: &Transaction, marks: &[Mark], split: (usize, usize)) -> bool {
     let (second, third) = split;
     let mut same = report.attempts().len() == marks.len();

@@ -2,7 +2,8 @@
 ghost use Rattle.std.specs.Prelude.{◌≡◌, ◌+◌, ◌*◌, ◌<◌, ◌≤◌, ◌++◌, length, MatchOption};
 ghost use Rattle.arrayvec.specs.ArrayVec.{array_vec_len};
 ghost use Rattle.gearcmd.specs.FrameLists.{most_frames};
-ghost use Rattle.transact.specs.Attempts.{sent_with, most_sent, ReportParts, Spells, SpellsNone, IsReportParts};
+ghost use Rattle.transact.specs.Attempts.{sent_with, most_sent};
+ghost use Rattle.transact.specs.Attempts.{ReportParts, Spells, SpellsNone, IsReportParts};
 ghost use Rattle.transact.specs.ReadingSteps.{EndsAt, HasNoAttempt, IsRead, ReadsNone};
 
 use crate::{Mark, Outcome, Sent, Transaction};
@@ -34,11 +35,23 @@ impl Model for Report {
 
     ghost Value = { ReportParts };
 
-    ghost view = { λ r. record { transaction = r.transaction; attempts = r.attempts.items; outcome = r.outcome } };
+    ghost view = { λ r. record {
+      transaction = r.transaction;
+      attempts = r.attempts.items;
+      outcome = r.outcome;
+    } };
 
-    ghost invariant = { λ r. IsReportParts (record { transaction = r.transaction; attempts = r.attempts.items; outcome = r.outcome }) };
+    ghost invariant = { λ r. IsReportParts (record {
+      transaction = r.transaction;
+      attempts = r.attempts.items;
+      outcome = r.outcome;
+    }) };
 
-    ghost inverse = { λ r. record { transaction = r.transaction; attempts = record { items = r.attempts }; outcome = r.outcome } };
+    ghost inverse = { λ r. record {
+      transaction = r.transaction;
+      attempts = record { items = r.attempts };
+      outcome = r.outcome;
+    } };
 }
 
 /// It takes no memory, and never fails.
@@ -63,12 +76,15 @@ impl Clone for Report {
 }
 
 impl Report {
-    /// The report of a transaction whose frames got these marks, in order, where the marks spell one.
+    /// The report of a transaction whose frames got these marks, in order, where the marks spell
+    /// one.
     pub fn of(transaction: &Transaction, marks: &[Mark]) -> Option<Self>
-        ensures report { MatchOption result (SpellsNone transaction.now marks.now) (λ r. Spells transaction.now marks.now r) }
+        ensures report { MatchOption result (SpellsNone transaction.now marks.now)
+            (λ r. Spells transaction.now marks.now r) }
 
         // Marks spell one report at most.
-        ensures one { (a b : ReportParts) → Spells transaction.now marks.now a → Spells transaction.now marks.now b → a ≡ b }
+        ensures one { (a b : ReportParts)
+            → Spells transaction.now marks.now a → Spells transaction.now marks.now b → a ≡ b }
     {
         let mut attempts = ArrayVec::new();
         let last = read_attempts(transaction, MOST_RETRIES, marks, &mut attempts)?;
@@ -132,7 +148,8 @@ fn read_attempts(
 /// Where the attempt at `count` frames ends with which the marks begin.
 fn attempt_end(count: usize, marks: &[Mark]) -> Option<usize>
     requires { 0 < count }
-    ensures { MatchOption result (HasNoAttempt count marks.now) (λ end. EndsAt count marks.now end) }
+    ensures { MatchOption result (HasNoAttempt count marks.now)
+        (λ end. EndsAt count marks.now end) }
 {
     for (i, mark) in marks.iter().enumerate() {
         if mark.is_broken() || i + 1 == count {
@@ -142,7 +159,8 @@ fn attempt_end(count: usize, marks: &[Mark]) -> Option<usize>
     None
 }
 
-/// Appends the front of `frames` that has these marks: its first frame with this priority, each later one with 1.
+/// Appends the front of `frames` that has these marks: its first frame with this priority, each
+/// later one with 1.
 fn push_attempt(
     frames: &[Frame],
     first_priority: u8,

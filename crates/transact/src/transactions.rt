@@ -11,7 +11,8 @@ use gearcmd::{MOST_FRAMES, Request, TaskKind};
 use std::alloc::AllocError;
 use std::marker::Model;
 
-/// One to three frames that are sent one after another, with no other frame of this controller between.
+/// One to three frames that are sent one after another, with no other frame of this controller
+/// between.
 #[derive(Debug, Drop, PartialEq, Eq)]
 pub struct Transaction {
     frames: ArrayVec<Frame, MOST_FRAMES>,
@@ -27,7 +28,10 @@ impl Model for Transaction {
 
     ghost invariant = { λ t. IsLegal t.frames.items t.first_priority };
 
-    ghost inverse = { λ t. record { frames = record { items = t.frames }; first_priority = t.first_priority } };
+    ghost inverse = { λ t. record {
+      frames = record { items = t.frames };
+      first_priority = t.first_priority;
+    } };
 }
 
 /// It takes no memory, and never fails.
@@ -95,14 +99,16 @@ impl Transaction {
         }
     }
 
-    /// Whether this is the same transaction, as where it is told whether it is the one that was handed out.
+    /// Whether this is the same transaction, as where it is told whether it is the one that was
+    /// handed out.
     pub fn is_same(&self, other: &Self) -> bool
         ensures { IsTrue result ↔ (self.now ≡ other.now) }
     {
         self == other
     }
 
-    /// The priority of the first frame, 2 to 5. Each later one has priority 1, the highest (IEC 62386-101, clause 9; profile).
+    /// The priority of the first frame, 2 to 5. Each later one has priority 1, the highest (IEC
+    /// 62386-101, clause 9; profile).
     pub fn first_priority(&self) -> u8
         ensures { result ≡ self.now.first_priority }
     {
