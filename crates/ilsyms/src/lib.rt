@@ -1,11 +1,10 @@
-//! Names of a source program: what each word of a line means, and the plan of its tasks.
+//! Names of a source program: what each name in a line means, and the plan of its tasks.
 //!
-//! What crosses the boundary: [`resolve`], which takes a
-//! [`ilsource::Source`] to a [`Plan`], where each name is the number of a slot, or tells the least [`NameFault`]; and
-//! [`Scope`], the tables of the declared names with the least fault of declarations. Which faults there are is `IsFault`, and
-//! which of them have their place in a declaration is `IsFaultOfDeclarations` (specs/Faults.antt). What a source program
-//! means is `source_scan` (specs/Meaning.antt), over names; what a plan means is `plan_scan` (specs/PlanMeaning.antt), over slot
-//! numbers: the two agree, by the clause of `resolve`.
+//! What crosses the boundary: [`resolve`], which takes an [`ilsource::Source`] to its one [`Plan`], where each name is the number
+//! of a slot, or reports the least [`NameFault`]. What a plan is says `IsPlanOf` (specs/Resolved.antt), what stands against one
+//! `IsFault` (specs/Faults.antt). A source program means `source_scan` (specs/Meaning.antt), over names, and a plan `plan_scan`
+//! (specs/PlanMeaning.antt), over slot numbers: they agree, by a clause of `resolve`. Definitions in modules named `..Steps` are
+//! cited by private functions alone.
 #![tactic(auto)]
 
 pub(crate) mod constants;

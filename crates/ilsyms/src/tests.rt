@@ -1,5 +1,6 @@
 //! Printed names and faults, and each public call once.
 
+use crate::plan::Plan;
 use crate::{NameCause, NameFault, Scope, resolve};
 use binding::Binding;
 use ilsource::{Constant, Declaration, Instruction, Line, Name, Operand, Program, Source};
@@ -7,6 +8,8 @@ use iltypes::Value;
 use std::alloc::{AllocError, Global};
 use std::process::Abort;
 use std::test::Fail;
+
+mod largest;
 
 const TEXT: &[u8] =
     b"PROGRAM Two\nVAR a : BOOL := TRUE; B : BOOL; END_VAR\nLD A\nST b\nEND_PROGRAM\n";
@@ -161,4 +164,16 @@ fn a_declaration_is_told_before_a_later_use(rt: HostRuntime) -> Result<(), Fail>
         "name fault 3 at 2:8",
         "name fault 3 at 2:8",
     )
+}
+
+#[test]
+fn the_name_of_a_global(rt: HostRuntime) -> Result<(), Fail> {
+    let alloc = rt.alloc();
+    let text = Vec::from_slice(alloc, b"VAR_GLOBAL Night : BOOL;")?;
+    let mut globals = Vec::new(alloc);
+    globals.push(Name { from: 11, to: 16 })?;
+    let plan = Plan::new(text, 1, globals, Vec::new(alloc));
+    assert_eq!(rt; plan.globals(), 1);
+    assert_eq!(rt; plan.global_name(0).to_string(alloc)?.as_str(), "Night");
+    Ok(())
 }
