@@ -1,0 +1,3 @@
+pub mod KeptMeaning
+pub mod KeptSizes
+pub mod Spelled

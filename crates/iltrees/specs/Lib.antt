@@ -1,0 +1,7 @@
+pub mod Meaning
+pub mod Passes
+pub mod Renaming
+pub mod TreeSteps
+pub mod Trees
+pub mod Words
+pub mod Rows

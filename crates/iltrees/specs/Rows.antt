@@ -1,0 +1,109 @@
+-- Worked programs, over variables with numbers for names. Each is a truth value or a number from 0 to 254, and a call
+-- makes the variable TRUE that it names.
+use Rattle.std.specs.Prelude.{◌≡◌, ℕ, ◌==◌, pos, int_le, Bool, true, false, ◌&&◌, if◌then◌else◌}
+use Rattle.std.specs.Prelude.{List, [], ◌∷◌, Some, None}
+use Rattle.std.specs.Prelude.{slice_get, slice_set}
+use Rattle.iltypes.specs.declared.value.Value.{Value}
+use Rattle.iltypes.specs.declared.value.Value.TheVariants.{Bool as truth, Int}
+use Rattle.iloperators.specs.declared.operator.Operator.TheVariants.{Add, Sub, Div, Eq, Min}
+use Rattle.iltrees.specs.declared.operand.Operand.{Operand}
+use Rattle.iltrees.specs.declared.operand.Operand.TheVariants.{Name, Constant}
+use Rattle.iltrees.specs.declared.instruction.Condition.TheVariants.{Always, IfTrue}
+use Rattle.iltrees.specs.declared.instruction.Condition.{Condition}
+use Rattle.iltrees.specs.declared.instruction.Instruction.{Instruction}
+use Rattle.iltrees.specs.declared.instruction.Instruction.TheVariants as instructions
+use Rattle.iltrees.specs.declared.instruction.Line.{Line}
+use Rattle.iltrees.specs.Trees as trees
+use Rattle.iltrees.specs.Meaning.{Access, On}
+use Rattle.iltrees.specs.Passes.{passes, scan}
+
+abbrev pub allowed : Value → Bool
+allowed (truth b) = true
+allowed (Int z) = int_le (pos 0) z && int_le z (pos 254)
+
+abbrev pub variables : Access ℕ (List Value)
+variables =
+    record {
+      read = λ s n. slice_get s n;
+      write = λ s n v. if allowed v then Some (slice_set s n v) else None;
+      call = λ s n. Some (slice_set s n (truth true));
+    }
+
+abbrev pub same : ℕ → ℕ → Bool
+same l m = m == l
+
+abbrev pub line : Instruction ℕ ℕ → Line ℕ ℕ
+line i = record { at = 0; label = None; instruction = Some i }
+
+abbrev pub marked : ℕ → Line ℕ ℕ
+marked l = record { at = 0; label = Some l; instruction = None }
+
+abbrev pub ld : ℕ → Line ℕ ℕ
+ld n = line (instructions.Load false (Name n))
+
+abbrev pub st : ℕ → Line ℕ ℕ
+st n = line (instructions.Store false n)
+
+abbrev pub whole : ℕ → Value
+whole n = Int (pos n)
+
+abbrev pub number : ℕ → Operand ℕ
+number n = Constant (whole n)
+
+-- LD x, ADD 10, MIN 254, ST x; and the same without MIN
+abbrev pub sum : List (Line ℕ ℕ)
+sum = ld 0 ∷ line (instructions.Apply Add (number 10)) ∷ line (instructions.Apply Min (number 254)) ∷ st 0 ∷ []
+
+abbrev pub sum_unbounded : List (Line ℕ ℕ)
+sum_unbounded = ld 0 ∷ line (instructions.Apply Add (number 10)) ∷ st 0 ∷ []
+
+-- LD n, EQ 0, JMPC skip, LD 100, DIV n, ST q, skip:
+abbrev pub guarded : List (Line ℕ ℕ)
+guarded =
+    ld 0 ∷ line (instructions.Apply Eq (number 0)) ∷ line (instructions.Jump IfTrue 7)
+    ∷ line (instructions.Load false (number 100)) ∷ line (instructions.Apply Div (Name 0)) ∷ st 1 ∷ marked 7 ∷ []
+
+-- up: LD a, JMP up
+abbrev pub backward : List (Line ℕ ℕ)
+backward = marked 7 ∷ ld 0 ∷ line (instructions.Jump Always 7) ∷ []
+
+-- LD a, SUB( b, SUB c, ), ST a
+abbrev pub nested : List (Line ℕ ℕ)
+nested = ld 0 ∷ line (instructions.Deferred Sub (trees.Apply (trees.Load false (Name 1)) Sub (Name 2))) ∷ st 0 ∷ []
+
+-- LD a, LIMIT 3, 254, ST a
+abbrev pub limited : List (Line ℕ ℕ)
+limited = ld 0 ∷ line (instructions.Limit (number 3) (number 254)) ∷ st 0 ∷ []
+
+-- LD a, S b, R c, STN a
+abbrev pub sets : List (Line ℕ ℕ)
+sets = ld 0 ∷ line (instructions.Set 1) ∷ line (instructions.Reset 2) ∷ line (instructions.Store true 0) ∷ []
+
+-- LD a, RETC, LD TRUE, ST a
+abbrev pub returning : List (Line ℕ ℕ)
+returning =
+    ld 0 ∷ line (instructions.Return IfTrue) ∷ line (instructions.Load false (Constant (truth true))) ∷ st 0 ∷ []
+
+-- LD a, CAL block(port := 5) with a condition, ST d
+abbrev pub calling : Condition → List (Line ℕ ℕ)
+calling condition =
+    ld 0 ∷ line (instructions.Call condition 1 (record { port = 2; operand = number 5 } ∷ [])) ∷ st 3 ∷ []
+
+-- the variables a to d of a call, before it, where the last is this truth value
+abbrev pub before_call : Bool → List Value
+before_call d = truth true ∷ truth false ∷ whole 0 ∷ truth d ∷ []
+
+-- from these values the program ends with those
+abbrev pub Ends : List (Line ℕ ℕ) → List Value → List Value → Type 0
+Ends lines from to = passes same variables lines On None from ≡ Some to
+
+-- from these values the program has no meaning
+abbrev pub IsStuck : List (Line ℕ ℕ) → List Value → Type 0
+IsStuck lines from = passes same variables lines On None from ≡ None
+
+-- the programs, one after another
+abbrev pub EndInTurn : List (List (Line ℕ ℕ)) → List Value → List Value → Type 0
+EndInTurn programs from to = scan same variables programs from ≡ Some to
+
+abbrev pub AreStuck : List (List (Line ℕ ℕ)) → List Value → Type 0
+AreStuck programs from = scan same variables programs from ≡ None

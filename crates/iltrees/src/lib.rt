@@ -1,0 +1,23 @@
+//! Instruction List as a tree over any kind of name, and what it means.
+//!
+//! What crosses the boundary: [`Line`] with its [`Instruction`], [`Operand`] and [`Nested`] (what
+//! stands in parentheses), which source and plan share: the one with the words of the text for
+//! names and labels, the other with numbers. Read specs/Meaning.antt first: the value of a tree and
+//! what an instruction does; then specs/Passes.antt: what a program's lines leave. The law
+//! `renaming_keeps_the_meaning` says all that resolving names has to show.
+#![tactic(auto)]
+
+pub mod arguments;
+pub mod instruction;
+pub mod nested;
+pub mod operand;
+pub mod renaming;
+
+pub use arguments::{Argument, Arguments};
+pub use instruction::{Condition, Instruction, Line};
+pub use nested::{Nested, Piece};
+pub use operand::Operand;
+pub use renaming::renaming_keeps_the_meaning;
+
+#[cfg(test)]
+mod tests;

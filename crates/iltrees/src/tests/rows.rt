@@ -1,0 +1,41 @@
+//! The definitions on worked programs: each clause is one, proved by computing it.
+
+ghost use Rattle.std.specs.Prelude.{[], ◌∷◌, true, false};
+ghost use Rattle.iltypes.specs.declared.value.Value.TheVariants.{Bool as truth};
+ghost use Rattle.iltrees.specs.declared.instruction.Condition.TheVariants.{Always, IfTrue, IfFalse};
+ghost use Rattle.iltrees.specs.Rows.{Ends, IsStuck, EndInTurn, AreStuck, whole, before_call};
+ghost use Rattle.iltrees.specs.Rows.{sum, sum_unbounded, guarded};
+ghost use Rattle.iltrees.specs.Rows.{backward, nested, limited, sets, returning, calling, ld, st};
+
+/// Results, stores outside a type and uses of no result.
+fn sums()
+    ensures bounded { Ends sum (whole 250 ∷ []) (whole 254 ∷ []) }
+    ensures outside { IsStuck sum_unbounded (whole 250 ∷ []) }
+    ensures no_result { IsStuck (st 0 ∷ []) (whole 250 ∷ []) }
+    ensures limited { Ends limited (whole 0 ∷ []) (whole 3 ∷ []) }
+    ensures nested { Ends nested (whole 9 ∷ whole 5 ∷ whole 2 ∷ [])
+        (whole 6 ∷ whole 5 ∷ whole 2 ∷ []) }
+{}
+
+/// Jumps and returns: a jump over a division by 0, one back, and the end of a program.
+fn ways()
+    ensures jumped { Ends guarded (whole 0 ∷ whole 9 ∷ []) (whole 0 ∷ whole 9 ∷ []) }
+    ensures passed { Ends guarded (whole 4 ∷ whole 9 ∷ []) (whole 4 ∷ whole 25 ∷ []) }
+    ensures back { IsStuck backward (whole 0 ∷ []) }
+    ensures returned { Ends returning (truth true ∷ []) (truth true ∷ []) }
+    ensures not_returned { Ends returning (truth false ∷ []) (truth true ∷ []) }
+    ensures in_turn { EndInTurn (returning ∷ returning ∷ []) (truth false ∷ []) (truth true ∷ []) }
+    ensures anew { AreStuck ((ld 0 ∷ []) ∷ (st 0 ∷ []) ∷ []) (truth false ∷ []) }
+{}
+
+/// S, R and STN, and calls: one that isn't carried out keeps the result, the others leave none.
+fn stores()
+    ensures sets { Ends sets (truth true ∷ truth false ∷ truth true ∷ [])
+        (truth false ∷ truth true ∷ truth false ∷ []) }
+    ensures unset { Ends sets (truth false ∷ truth false ∷ truth true ∷ [])
+        (truth true ∷ truth false ∷ truth true ∷ []) }
+    ensures skipped { Ends (calling IfFalse) (before_call false)
+        (before_call true) }
+    ensures called { IsStuck (calling IfTrue) (before_call false) }
+    ensures always { IsStuck (calling Always) (before_call false) }
+{}
