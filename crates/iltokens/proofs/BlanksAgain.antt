@@ -1,6 +1,7 @@
 -- Blanks and comments are gone over, whatever follows them.
 use Rattle.std.proofs.Common.{◌≡◌, ◌≢◌, ℕ, Bool, true, false, eqb, List, [], ◌∷◌, ◌++◌, Some, None, Result, Ok, Err, ◌&&◌, inl, inr, refl, sym, ap, ◌∙◌, append_assoc, eqb-true}
-use Rattle.iltokens.specs.Blanks.{after_comment, here, past, open_comment, comment_past, blank_at, blanks, NoClose, IsBlank, AreBlanks, OpensComment, BeginsNoBlank}
+use Rattle.iltokens.specs.BlankSteps.{after_comment, here, past, open_comment, comment_past, blank_at, blanks}
+use Rattle.iltokens.specs.Blanks.{NoClose, IsBlank, AreBlanks, OpensComment, BeginsNoBlank}
 use Rattle.iltokens.proofs.Comments.{both}
 use Rattle.iltokens.proofs.OverBlanks.{goes_over, stops_there, fails_there}
 

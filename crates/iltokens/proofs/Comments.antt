@@ -1,6 +1,7 @@
 -- What is gone over as blanks are blanks, and a comment ends at the first place where it may.
 use Rattle.std.proofs.Common.{◌≡◌, ◌≢◌, ℕ, zero, suc, ◌≤◌, Bool, true, false, cond, eqb, List, [], ◌∷◌, ◌++◌, length, Option, Some, None, Result, Ok, Err, ◌&&◌, ◌||◌, ◌⊎◌, inl, inr, refl, sym, ap, ◌∙◌, append_assoc, arith, eqb-true, eq-eqb}
-use Rattle.iltokens.specs.Blanks.{after_comment, Blank, here, past, open_comment, comment_past, comment_at, blank_at, blank_then, blanks_read, blanks, NoClose, IsBlank, AreBlanks, none, more, OpensComment, BeginsNoBlank}
+use Rattle.iltokens.specs.BlankSteps.{after_comment, Blank, here, past, open_comment, comment_past, comment_at, blank_at, blank_then, blanks_read, blanks}
+use Rattle.iltokens.specs.Blanks.{NoClose, IsBlank, AreBlanks, none, more, OpensComment, BeginsNoBlank}
 use Rattle.iltokens.proofs.OverBlanks.{past_shorter}
 
 -- ---- two tests together

@@ -3,7 +3,8 @@ use Rattle.std.proofs.Common.{◌≡◌, ℕ, zero, suc, ◌+◌, ◌-◌, ◌*�
 use Rattle.std.proofs.lemmas.List.{append-nil}
 use Rattle.std.proofs.Math.Nat.{le-mul_of_pos_right}
 use Rattle.std.proofs.lemmas.Bool.{leb-true, leb-false}
-use Rattle.iltokens.specs.Digits.{digit_of, is_digit, add_digit, marked, next_digit, digit_then, digits_read, digits_from, digits, plain_from, plain}
+use Rattle.iltokens.specs.Digits.{digit_of, is_digit}
+use Rattle.iltokens.specs.DigitSteps.{add_digit, marked, next_digit, digit_then, digits_read, digits_from, digits, plain_from, plain}
 use Rattle.iltokens.specs.Spellings as forms
 use Rattle.iltokens.proofs.Comments.{both}
 

@@ -1,7 +1,8 @@
 -- Digits that stand at the front are read, whatever follows them.
 use Rattle.std.proofs.Common.{◌≡◌, ℕ, zero, suc, ◌+◌, ◌*◌, ◌<◌, ◌≤◌, Bool, true, false, cond, eqb, List, [], ◌∷◌, ◌++◌, length, Option, Some, None, refl, sym, ap, subst, ◌∙◌, append_assoc, arith}
 use Rattle.std.proofs.lemmas.List.{append-nil}
-use Rattle.iltokens.specs.Digits.{digit_of, is_digit, add_digit, next_digit, digits_read, digits_from, digits, plain_from, plain, digit_then}
+use Rattle.iltokens.specs.Digits.{digit_of, is_digit}
+use Rattle.iltokens.specs.DigitSteps.{add_digit, next_digit, digits_read, digits_from, digits, plain_from, plain, digit_then}
 use Rattle.iltokens.specs.Spellings as forms
 use Rattle.iltokens.proofs.OverDigits.{Shorter, digit_shorter, goes_on, stops}
 use Rattle.iltokens.proofs.DigitLaws.{capped, capped_digit, small}

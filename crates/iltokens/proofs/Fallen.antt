@@ -2,12 +2,12 @@
 use Rattle.std.proofs.Common.{◌≡◌, ℤ, ℕ, ◌+◌, ◌-◌, ◌^◌, ◌<◌, ◌≤◌, Bool, true, false, cond, eqb, leb, ltb, List, [], ◌∷◌, ◌++◌, length, drop, Option, Some, None, ◌&&◌, ◌||◌, refl, ap, arith, eqb-true, length-drop, length-append}
 use Rattle.iltokens.specs.declared.lexed.Cause.TheVariants.{NotAscii, BadToken, BadNumber, CommentOpen}
 use Rattle.iltokens.specs.Blanks.{AreBlanks}
-use Rattle.iltokens.specs.Numbers.{unsigned, signed}
-use Rattle.iltokens.specs.Times.{time}
-use Rattle.iltokens.specs.Addresses.{Place, address}
-use Rattle.iltokens.specs.Spelling.{is_letter}
+use Rattle.iltokens.specs.NumberSteps.{unsigned, signed}
+use Rattle.iltokens.specs.TimeSteps.{time}
+use Rattle.iltokens.specs.AddressSteps.{Place, address}
+use Rattle.iltokens.specs.Letters.{is_letter}
 use Rattle.iltokens.specs.Digits.{is_digit}
-use Rattle.iltokens.specs.Fronts.{Front, end, taken, fault, in_limits, number_front, number_at, time_front, word_at, address_front, address_at, colon_at, dot_at, ampersand_at, return_at, mark_at, front_at}
+use Rattle.iltokens.specs.FrontSteps.{Front, end, taken, fault, in_limits, number_front, number_at, time_front, word_at, address_front, address_at, colon_at, dot_at, ampersand_at, return_at, mark_at, front_at}
 use Rattle.iltokens.specs.Tokens.{IsAfterBlanks, BeginsWith}
 
 -- what a front that begins with a byte may be

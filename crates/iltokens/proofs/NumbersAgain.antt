@@ -4,9 +4,10 @@ use Rattle.std.specs.Prelude.{codes}
 use Rattle.std.specs.Option.{option_or}
 use Rattle.iltokens.specs.declared.lexed.AddressKind.{AddressKind}
 use Rattle.iltokens.specs.declared.lexed.AddressKind.TheVariants as kinds
-use Rattle.iltokens.specs.Digits.{is_digit, digits, plain_from, plain}
-use Rattle.iltokens.specs.Numbers.{hexadecimal, based, unsigned}
-use Rattle.iltokens.specs.Addresses.{Place, kind_at, with_place, with_bus, with_kind, address}
+use Rattle.iltokens.specs.Digits.{is_digit}
+use Rattle.iltokens.specs.DigitSteps.{digits, plain_from, plain}
+use Rattle.iltokens.specs.NumberSteps.{hexadecimal, based, unsigned}
+use Rattle.iltokens.specs.AddressSteps.{Place, kind_at, with_place, with_bus, with_kind, address}
 use Rattle.iltokens.specs.Spellings as forms
 use Rattle.iltokens.specs.Spellings.{Reads, IsUnsigned, IsAddress}
 use Rattle.iltokens.proofs.Comments.{both}

@@ -1,6 +1,6 @@
 -- Going over blanks.
 use Rattle.std.proofs.Common.{◌≡◌, ℕ, zero, suc, ◌<◌, ◌≤◌, Bool, true, false, cond, eqb, List, [], ◌∷◌, length, Option, Some, None, Ok, Err, ◌&&◌, ◌||◌, refl, sym, subst, arith}
-use Rattle.iltokens.specs.Blanks.{after_comment, Blank, here, past, open_comment, comment_past, comment_at, blank_at, blank_then, blanks_read, blanks}
+use Rattle.iltokens.specs.BlankSteps.{after_comment, Blank, here, past, open_comment, comment_past, comment_at, blank_at, blank_then, blanks_read, blanks}
 
 abbrev Behind : ℕ → Option (List ℕ) → Type 0
 Behind n None = Unit {0}

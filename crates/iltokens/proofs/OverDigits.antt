@@ -1,6 +1,7 @@
 -- Going over digits.
 use Rattle.std.proofs.Common.{◌≡◌, ℕ, zero, suc, ◌<◌, ◌≤◌, Bool, true, false, cond, eqb, List, [], ◌∷◌, length, Option, Some, None, ◌&&◌, refl, sym, subst, arith}
-use Rattle.iltokens.specs.Digits.{is_digit, add_digit, marked, next_digit, digit_then, digits_read, digits_from}
+use Rattle.iltokens.specs.Digits.{is_digit}
+use Rattle.iltokens.specs.DigitSteps.{add_digit, marked, next_digit, digit_then, digits_read, digits_from}
 
 abbrev pub Shorter : ℕ → Option (ℕ × List ℕ) → Type 0
 Shorter n None = Unit {0}

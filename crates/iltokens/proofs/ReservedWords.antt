@@ -9,8 +9,9 @@ use Rattle.std.proofs.lemmas.Slice.Eq.{bytes_eq-Decides}
 use Rattle.std.proofs.Math.Seq.{take-append_seam}
 use Rattle.iltokens.specs.declared.keyword.Keyword.{Keyword}
 use Rattle.iltokens.specs.declared.lexed.What.TheVariants as whats
-use Rattle.iltokens.specs.Keywords.{reserved_words, IsSpelled, lookup, keyword}
-use Rattle.iltokens.specs.Fronts.{kind_of_word, word_kind}
+use Rattle.iltokens.specs.Keywords.{reserved_words, IsSpelled}
+use Rattle.iltokens.specs.KeywordSteps.{lookup, keyword}
+use Rattle.iltokens.specs.FrontSteps.{kind_of_word, word_kind}
 use Rattle.iltokens.specs.Longest.{IsWithin}
 use Rattle.iltokens.specs.Spellings.{IsName, Spells}
 

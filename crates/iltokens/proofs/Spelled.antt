@@ -5,10 +5,11 @@ use Rattle.std.specs.Option.{option_or}
 use Rattle.std.specs.Char.{to_ascii_lowercase}
 use Rattle.iltokens.specs.declared.lexed.AddressKind.{AddressKind}
 use Rattle.iltokens.specs.declared.lexed.AddressKind.TheVariants as kinds
-use Rattle.iltokens.specs.Digits.{digits, plain}
-use Rattle.iltokens.specs.Numbers.{hexadecimal, based, unsigned}
-use Rattle.iltokens.specs.Spelling.{is_name_byte, after_name, after_word}
-use Rattle.iltokens.specs.Addresses.{Place, is_kind, kind_at, with_place, after_dot, with_bus, with_kind, address}
+use Rattle.iltokens.specs.DigitSteps.{digits, plain}
+use Rattle.iltokens.specs.NumberSteps.{hexadecimal, based, unsigned}
+use Rattle.iltokens.specs.Letters.{is_name_byte}
+use Rattle.iltokens.specs.WordSteps.{after_name, after_word}
+use Rattle.iltokens.specs.AddressSteps.{Place, is_kind, kind_at, with_place, after_dot, with_bus, with_kind, address}
 use Rattle.iltokens.specs.Spellings as forms
 use Rattle.iltokens.specs.Spellings.{Spells, Reads, IsUnsigned}
 use Rattle.iltokens.proofs.Comments.{both}

@@ -6,13 +6,15 @@ use Rattle.iltokens.specs.declared.lexed.What.{What}
 use Rattle.iltokens.specs.declared.lexed.Lexed.{Lexed}
 use Rattle.iltokens.specs.declared.lexed.Lexed.TheVariants as lexed
 use Rattle.iltokens.specs.declared.lexed.Cause.TheVariants.{NotAscii, BadToken, BadNumber, CommentOpen}
-use Rattle.iltokens.specs.Blanks.{blanks, AreBlanks, OpensComment, NoOpening, BeginsNoBlank}
+use Rattle.iltokens.specs.BlankSteps.{blanks}
+use Rattle.iltokens.specs.Blanks.{AreBlanks, OpensComment, NoOpening, BeginsNoBlank}
 use Rattle.iltokens.specs.Spellings.{Spells}
 use Rattle.iltokens.specs.Longest.{IsWithin, IsLongest, SpellsNone}
 use Rattle.iltokens.specs.Digits.{is_digit}
-use Rattle.iltokens.specs.Spelling.{is_letter}
-use Rattle.iltokens.specs.Fronts.{Front, end, taken, fault, mark_at, front_at}
-use Rattle.iltokens.specs.Tokens.{lexed_front, lexed_blanks, token_at, BeginsWith, TokenStands, OutsideStands, StandsNext}
+use Rattle.iltokens.specs.Letters.{is_letter}
+use Rattle.iltokens.specs.FrontSteps.{Front, end, taken, fault, mark_at, front_at}
+use Rattle.iltokens.specs.TokenSteps.{lexed_front, lexed_blanks, token_at}
+use Rattle.iltokens.specs.Tokens.{BeginsWith, TokenStands, OutsideStands, StandsNext}
 use Rattle.iltokens.proofs.Comments.{Passed, AllBlanks, blanks_are}
 use Rattle.iltokens.proofs.BlanksAgain.{blanks_end, blanks_open}
 use Rattle.iltokens.proofs.Fallen.{Fits, front_nil, front_fits, after_blanks, shorter, begins}

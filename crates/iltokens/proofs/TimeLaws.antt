@@ -6,9 +6,10 @@ use Rattle.std.proofs.Math.Nat.{le-mul_of_pos_right}
 use Rattle.std.proofs.lemmas.Bool.{leb-true, leb-false}
 use Rattle.iltokens.specs.declared.time.Unit.{Unit}
 use Rattle.iltokens.specs.declared.time.Unit.TheVariants as units
-use Rattle.iltokens.specs.Digits.{digits}
-use Rattle.iltokens.specs.Spelling.{after_word}
-use Rattle.iltokens.specs.Times.{milliseconds, nothing_after, after_unit, scaled, with_unit, part, Parts, after_mark, parts_begin, added, with_part, parts, after_prefix, if_some, time_after, time}
+use Rattle.iltokens.specs.DigitSteps.{digits}
+use Rattle.iltokens.specs.WordSteps.{after_word}
+use Rattle.iltokens.specs.Times.{milliseconds}
+use Rattle.iltokens.specs.TimeSteps.{nothing_after, after_unit, scaled, with_unit, part, Parts, after_mark, parts_begin, added, with_part, parts, after_prefix, if_some, time_after, time}
 use Rattle.iltokens.specs.Spellings as forms
 use Rattle.iltokens.specs.Spellings.{Reads, IsPart, AreParts, IsTime}
 use Rattle.iltokens.proofs.DigitLaws.{capped, Found, digits_found}

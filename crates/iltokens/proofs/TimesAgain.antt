@@ -5,8 +5,10 @@ use Rattle.std.specs.Char.{to_ascii_lowercase}
 use Rattle.std.proofs.lemmas.List.{append-nil}
 use Rattle.iltokens.specs.declared.time.Unit.{Unit}
 use Rattle.iltokens.specs.declared.time.Unit.TheVariants as units
-use Rattle.iltokens.specs.Digits.{is_digit, digits_from, digits}
-use Rattle.iltokens.specs.Times.{milliseconds, nothing_after, after_unit, scaled, with_unit, part, Parts, after_mark, parts_begin, added, with_part, parts, after_prefix, if_some, time}
+use Rattle.iltokens.specs.Digits.{is_digit}
+use Rattle.iltokens.specs.DigitSteps.{digits_from, digits}
+use Rattle.iltokens.specs.Times.{milliseconds}
+use Rattle.iltokens.specs.TimeSteps.{nothing_after, after_unit, scaled, with_unit, part, Parts, after_mark, parts_begin, added, with_part, parts, after_prefix, if_some, time}
 use Rattle.iltokens.specs.Spellings as forms
 use Rattle.iltokens.specs.Spellings.{Reads, IsPart, AreParts, IsTime}
 use Rattle.iltokens.proofs.OverDigits.{stops}

@@ -6,11 +6,12 @@ use Rattle.iltokens.specs.declared.lexed.What.{What}
 use Rattle.iltokens.specs.declared.lexed.What.TheVariants as whats
 use Rattle.iltokens.specs.declared.lexed.Cause.TheVariants.{BadNumber}
 use Rattle.iltokens.specs.Digits.{is_digit}
-use Rattle.iltokens.specs.Numbers.{unsigned, signed}
-use Rattle.iltokens.specs.Times.{time}
-use Rattle.iltokens.specs.Addresses.{Place, address}
-use Rattle.iltokens.specs.Spelling.{is_letter, after_name}
-use Rattle.iltokens.specs.Fronts.{Front, end, taken, fault, in_limits, number_front, number_at, word_front, time_front, word_at, address_front, address_at, colon_at, dot_at, ampersand_at, return_at, mark_at, front_at}
+use Rattle.iltokens.specs.NumberSteps.{unsigned, signed}
+use Rattle.iltokens.specs.TimeSteps.{time}
+use Rattle.iltokens.specs.AddressSteps.{Place, address}
+use Rattle.iltokens.specs.Letters.{is_letter}
+use Rattle.iltokens.specs.WordSteps.{after_name}
+use Rattle.iltokens.specs.FrontSteps.{Front, end, taken, fault, in_limits, number_front, number_at, word_front, time_front, word_at, address_front, address_at, colon_at, dot_at, ampersand_at, return_at, mark_at, front_at}
 use Rattle.iltokens.specs.Spellings.{Spells, IsUnsigned, IsNumber, IsTime, IsAddress}
 use Rattle.iltokens.specs.Spellings as forms
 use Rattle.iltokens.specs.Longest.{IsWithin}

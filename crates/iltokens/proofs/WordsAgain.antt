@@ -3,7 +3,8 @@ use Rattle.std.proofs.Common.{◌≡◌, ℕ, ◌+◌, ◌<◌, ◌≤◌, Bool,
 use Rattle.std.specs.Char.{to_ascii_lowercase}
 use Rattle.std.specs.Int.{is_in_range}
 use Rattle.std.proofs.lemmas.Bool.{ltb-true, ltb-false}
-use Rattle.iltokens.specs.Spelling.{is_letter, is_name_byte, after_name, after_word}
+use Rattle.iltokens.specs.Letters.{is_letter, is_name_byte}
+use Rattle.iltokens.specs.WordSteps.{after_name, after_word}
 use Rattle.iltokens.specs.Spellings as forms
 use Rattle.iltokens.specs.Spellings.{Reads}
 

@@ -1,45 +1,5 @@
 -- Blanks are spaces (32), tabs (9) and comments (IEC 61131-3, 2.1.5): `(*` up to the next `*)`, with any bytes inside.
-use Rattle.std.specs.Prelude.{◌≡◌, ◌≢◌, ◌⊎◌, ◌++◌, ℕ, zero, suc, List, [], ◌∷◌, length, Option, Some, None, Result, Ok, Err, ◌&&◌, ◌||◌, ◌==◌, if◌then◌else◌}
-
--- what stands after the next `*)`
-abbrev pub after_comment : List ℕ → Option (List ℕ)
-after_comment [] = None
-after_comment (b ∷ []) = None
-after_comment (b ∷ c ∷ bs) = if (b == 42) && (c == 41) then Some bs else after_comment (c ∷ bs)
-
--- what stands at the front: no blank, a blank and what is after it, or a comment without end
-pub data Blank : Type 0 where
-  here : Blank
-  past : List ℕ → Blank
-  open_comment : Blank
-
-abbrev pub comment_past : Option (List ℕ) → Blank
-comment_past (Some bs) = past bs
-comment_past None = open_comment
-
-abbrev pub comment_at : ℕ → List ℕ → Blank
-comment_at b [] = here
-comment_at b (c ∷ bs) = if (b == 40) && (c == 42) then comment_past (after_comment bs) else here
-
-abbrev pub blank_at : List ℕ → Blank
-blank_at [] = here
-blank_at (b ∷ bs) = if (b == 32) || (b == 9) then past bs else comment_at b bs
-
--- all blanks at the front; an error is at the comment without end
-abbrev pub blank_then : Blank → List ℕ → (List ℕ → Result (List ℕ) (List ℕ)) → Result (List ℕ) (List ℕ)
-blank_then here bs f = Ok bs
-blank_then (past rest) bs f = f rest
-blank_then open_comment bs f = Err bs
-
--- at most n blanks
-unfoldable pub blanks_read : ℕ → List ℕ → Result (List ℕ) (List ℕ)
-blanks_read zero bs = Ok bs
-blanks_read (suc n) bs = blank_then (blank_at bs) bs (λ rest. blanks_read n rest)
-
-abbrev pub blanks : List ℕ → Result (List ℕ) (List ℕ)
-blanks bs = blanks_read (length bs) bs
-
--- ---- as relations
+use Rattle.std.specs.Prelude.{◌≡◌, ◌≢◌, ◌⊎◌, ◌++◌, ℕ, List, [], ◌∷◌}
 
 -- no `*)` stands in the bytes
 abbrev pub NoClose : List ℕ → Type 0
@@ -47,7 +7,7 @@ NoClose [] = Unit {0}
 NoClose (b ∷ []) = Unit {0}
 NoClose (b ∷ c ∷ bs) = (b ≡ 42 → c ≡ 41 → ⊥) × NoClose (c ∷ bs)
 
--- `(*`, any bytes and the first `*)` after the opening; so comments don't nest, and `(*)` is none
+-- `(*`, any bytes and the first `*)` after the opening; so comments do not nest, and `(*)` is none
 abbrev pub IsComment : List ℕ → Type 0
 IsComment u = (inside : List ℕ) × (u ≡ 40 ∷ 42 ∷ inside ++ 42 ∷ 41 ∷ []) × NoClose (inside ++ 42 ∷ [])
 
@@ -60,7 +20,7 @@ pub data AreBlanks : List ℕ → Type 0 where
   none : AreBlanks []
   more : (u v : List ℕ) → IsBlank u → AreBlanks v → AreBlanks (u ++ v)
 
--- a comment opens and doesn't end
+-- a comment opens and does not end
 abbrev pub OpensComment : List ℕ → Type 0
 OpensComment bs = (inside : List ℕ) × (bs ≡ 40 ∷ 42 ∷ inside) × NoClose inside
 

@@ -1,8 +1,7 @@
 -- Reserved words, in any letter case (IEC 61131-3, 2.1.2 and 2.1.3; which there are is this project's profile).
-use Rattle.std.specs.Prelude.{◌≡◌, ℕ, List, [], ◌∷◌, Option, Some, None, map, if◌then◌else◌}
+use Rattle.std.specs.Prelude.{◌≡◌, ℕ, List, map}
 use Rattle.std.specs.List.{Contains}
 use Rattle.std.specs.Char.{to_ascii_lowercase}
-use Rattle.std.specs.Str.{str_eq_ignore_ascii_case}
 use Rattle.iltokens.specs.declared.keyword.Keyword.{Keyword}
 use Rattle.iltokens.specs.declared.keyword.TheConstants.{RESERVED_WORDS}
 
@@ -15,11 +14,3 @@ pub record IsSpelled (text : List ℕ) (word : Keyword) : Type 0 where
   pub spelling : List ℕ
   pub listed : Contains reserved_words (spelling, word)
   pub alike : map to_ascii_lowercase text ≡ map to_ascii_lowercase spelling
-
--- the first word of a table that is spelled like the text
-abbrev pub lookup : List (List ℕ × Keyword) → List ℕ → Option Keyword
-lookup [] text = None
-lookup (k ∷ ks) text = if str_eq_ignore_ascii_case k.0 text then Some k.1 else lookup ks text
-
-unfoldable pub keyword : List ℕ → Option Keyword
-keyword = lookup reserved_words

@@ -13,7 +13,7 @@ use Rattle.iltokens.specs.declared.time.Unit.{Unit}
 use Rattle.iltokens.specs.declared.time.Unit.TheVariants as units
 use Rattle.iltokens.specs.Digits.{digit_of, is_digit}
 use Rattle.iltokens.specs.Keywords.{IsSpelled}
-use Rattle.iltokens.specs.Spelling.{is_letter, is_name_byte}
+use Rattle.iltokens.specs.Letters.{is_letter, is_name_byte}
 use Rattle.iltokens.specs.Times.{milliseconds}
 
 -- the bytes are the word, in any letter case

@@ -8,10 +8,10 @@ use Rattle.iltokens.specs.declared.address.Address.{Address}
 use Rattle.iltokens.specs.declared.time.Parts.{Parts}
 use Rattle.iltokens.specs.declared.front.Front.{Front}
 use Rattle.iltokens.specs.declared.front.Front.TheVariants as fronts
-use Rattle.iltokens.specs.Blanks as bytes
-use Rattle.iltokens.specs.Times as times
-use Rattle.iltokens.specs.Addresses as addresses
-use Rattle.iltokens.specs.Fronts as front
+use Rattle.iltokens.specs.BlankSteps as bytes
+use Rattle.iltokens.specs.TimeSteps as times
+use Rattle.iltokens.specs.AddressSteps as addresses
+use Rattle.iltokens.specs.FrontSteps as front
 
 abbrev pub seen : Option (Bor (List ℕ)) → Option (List ℕ)
 seen (Some b) = Some b.now

@@ -1,7 +1,7 @@
 //! Direct addresses (IEC 61131-3, 2.4.1.1; which there are is this project's profile).
 
 ghost use Rattle.std.specs.Prelude.{◌≡◌, ◌<◌, length, IfSome};
-ghost use Rattle.iltokens.specs.Addresses.{kind_at, address};
+ghost use Rattle.iltokens.specs.AddressSteps.{kind_at, address};
 ghost use Rattle.iltokens.specs.Views.{kind_view, address_view};
 
 use crate::digits::plain;
@@ -9,7 +9,7 @@ use crate::lexed::AddressKind;
 use crate::spelling::after_word;
 
 /// The kind at the front, and what stands after it.
-#[tactic(auto, unfolding(crate::specs::Addresses::kind_at))]
+#[tactic(auto, unfolding(crate::specs::AddressSteps::kind_at))]
 fn kind_at(bytes: &[u8]) -> Option<(AddressKind, &[u8])>
     ensures exact { kind_view result ≡ kind_at bytes.now }
     ensures within { IfSome result (λ x. length x.1.now < length bytes.now) }
@@ -35,7 +35,7 @@ pub struct Address<'a> {
 }
 
 /// The address at the front.
-#[tactic(auto, unfolding(crate::specs::Addresses::address))]
+#[tactic(auto, unfolding(crate::specs::AddressSteps::address))]
 pub fn direct_address(bytes: &[u8]) -> Option<Address<'_>>
     ensures exact { address_view result ≡ address bytes.now }
     ensures within { IfSome result (λ x. length x.rest.now < length bytes.now) }

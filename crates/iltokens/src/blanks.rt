@@ -1,7 +1,7 @@
 //! Blanks: spaces, tabs and comments.
 
 ghost use Rattle.std.specs.Prelude.{◌≡◌, ◌≤◌, length, MatchResult};
-ghost use Rattle.iltokens.specs.Blanks.{after_comment, blank_at, blanks};
+ghost use Rattle.iltokens.specs.BlankSteps.{after_comment, blank_at, blanks};
 ghost use Rattle.iltokens.specs.Views.{seen, blank_view, both_views};
 
 /// One blank at the front.

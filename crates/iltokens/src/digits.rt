@@ -1,8 +1,9 @@
 //! Digits of numbers, with their value. A value past 64 bits is kept at the greatest of them.
 
 ghost use Rattle.std.specs.Prelude.{◌≡◌, ◌<◌, ◌≤◌, length, IfSome};
-ghost use Rattle.iltokens.specs.Digits.{digit_of, is_digit, add_digit, next_digit};
-ghost use Rattle.iltokens.specs.Digits.{digits_from, digits, plain_from, plain};
+ghost use Rattle.iltokens.specs.Digits.{digit_of, is_digit};
+ghost use Rattle.iltokens.specs.DigitSteps.{add_digit, next_digit};
+ghost use Rattle.iltokens.specs.DigitSteps.{digits_from, digits, plain_from, plain};
 ghost use Rattle.iltokens.specs.Views.{valued, value_view};
 
 /// The value of a digit of any base up to 16, in either letter case; 16 for another byte.
@@ -29,7 +30,7 @@ pub fn is_digit(base: u8, byte: u8) -> bool
 }
 
 /// The value with one more digit.
-#[tactic(auto, unfolding(crate::specs::Digits::add_digit))]
+#[tactic(auto, unfolding(crate::specs::DigitSteps::add_digit))]
 pub fn add_digit(base: u8, value: u64, byte: u8) -> u64
     ensures { result ≡ add_digit base value byte }
 {
@@ -39,7 +40,7 @@ pub fn add_digit(base: u8, value: u64, byte: u8) -> u64
 }
 
 /// The next digit, which may have one underscore before it, and what stands after it.
-#[tactic(auto, unfolding(crate::specs::Digits::next_digit))]
+#[tactic(auto, unfolding(crate::specs::DigitSteps::next_digit))]
 fn next_digit(base: u8, bytes: &[u8]) -> Option<(u8, &[u8])>
     ensures exact { valued result ≡ next_digit base bytes.now }
     ensures within { IfSome result (λ x. length x.1.now < length bytes.now) }
@@ -98,7 +99,7 @@ pub fn digits(base: u8, bytes: &[u8]) -> Option<(u64, &[u8])>
 }
 
 /// Goes on over decimal digits.
-#[tactic(auto, unfolding(crate::specs::Digits::plain_from))]
+#[tactic(auto, unfolding(crate::specs::DigitSteps::plain_from))]
 fn plain_from(value: u64, bytes: &[u8]) -> (u64, &[u8])
     ensures exact { value_view result ≡ plain_from value bytes.now }
     ensures within { length result.1.now ≤ length bytes.now }

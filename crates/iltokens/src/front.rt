@@ -1,8 +1,8 @@
 //! The token at the front of some bytes.
 
 ghost use Rattle.std.specs.Prelude.{◌≡◌, ◌<◌, length};
-ghost use Rattle.iltokens.specs.Fronts.{number_at, word_kind, word_at, address_at};
-ghost use Rattle.iltokens.specs.Fronts.{mark_at, front_at};
+ghost use Rattle.iltokens.specs.FrontSteps.{number_at, word_kind, word_at, address_at};
+ghost use Rattle.iltokens.specs.FrontSteps.{mark_at, front_at};
 ghost use Rattle.iltokens.specs.Views.{front_view, IsShorter};
 
 use crate::address::direct_address;
@@ -21,7 +21,7 @@ pub enum Front<'a> {
     Fault(Cause),
 }
 
-#[tactic(auto, unfolding(crate::specs::Fronts::number_at))]
+#[tactic(auto, unfolding(crate::specs::FrontSteps::number_at))]
 fn number_at(negative: bool, magnitude: &[u8]) -> Front<'_>
     ensures exact { front_view result ≡ number_at negative magnitude.now }
     ensures within { IsShorter result (length magnitude.now) }
@@ -46,7 +46,7 @@ fn word_kind(word: &[u8]) -> What
 }
 
 /// A duration, or else a word.
-#[tactic(auto, unfolding(crate::specs::Fronts::word_at))]
+#[tactic(auto, unfolding(crate::specs::FrontSteps::word_at))]
 fn word_at(bytes: &[u8]) -> Front<'_>
     requires { 0 < length bytes.now }
     ensures exact { front_view result ≡ word_at bytes.now }
@@ -69,7 +69,7 @@ fn word_at(bytes: &[u8]) -> Front<'_>
     }
 }
 
-#[tactic(auto, unfolding(crate::specs::Fronts::address_at))]
+#[tactic(auto, unfolding(crate::specs::FrontSteps::address_at))]
 fn address_at(bytes: &[u8]) -> Front<'_>
     ensures exact { front_view result ≡ address_at bytes.now }
     ensures within { IsShorter result (length bytes.now) }
@@ -92,7 +92,7 @@ fn address_at(bytes: &[u8]) -> Front<'_>
 }
 
 /// A mark, a line end or what begins no token.
-#[tactic(auto, unfolding(crate::specs::Fronts::mark_at))]
+#[tactic(auto, unfolding(crate::specs::FrontSteps::mark_at))]
 fn mark_at(bytes: &[u8]) -> Front<'_>
     ensures exact { front_view result ≡ mark_at bytes.now }
     ensures within { IsShorter result (length bytes.now) }
@@ -122,7 +122,7 @@ fn mark_at(bytes: &[u8]) -> Front<'_>
 }
 
 /// The token at the front, where no blank stands.
-#[tactic(auto, unfolding(crate::specs::Fronts::front_at))]
+#[tactic(auto, unfolding(crate::specs::FrontSteps::front_at))]
 pub fn front_at(bytes: &[u8]) -> Front<'_>
     ensures exact { front_view result ≡ front_at bytes.now }
     ensures within { IsShorter result (length bytes.now) }

@@ -1,7 +1,8 @@
 //! The next token of a text.
 
 ghost use Rattle.std.specs.Prelude.{◌≡◌, ◌≤◌, length};
-ghost use Rattle.iltokens.specs.Tokens.{token_at, IsAhead, StandsNext};
+ghost use Rattle.iltokens.specs.TokenSteps.{token_at};
+ghost use Rattle.iltokens.specs.Tokens.{IsAhead, StandsNext};
 
 use crate::blanks::blanks;
 use crate::front::{Front, front_at};
@@ -23,7 +24,7 @@ pub fn token(bytes: &[u8], at: usize) -> Lexed
 }
 
 /// The same, read as far as each kind of token goes.
-#[tactic(auto, unfolding(crate::specs::Tokens::token_at))]
+#[tactic(auto, unfolding(crate::specs::TokenSteps::token_at))]
 fn next_token(bytes: &[u8], at: usize) -> Lexed
     requires { at ≤ length bytes.now }
     ensures exact { result ≡ token_at bytes.now at }

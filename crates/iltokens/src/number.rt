@@ -1,13 +1,13 @@
 //! Numbers (IEC 61131-3, 2.2.1).
 
 ghost use Rattle.std.specs.Prelude.{◌≡◌, ◌<◌, length, IfSome};
-ghost use Rattle.iltokens.specs.Numbers.{based, unsigned, signed};
+ghost use Rattle.iltokens.specs.NumberSteps.{based, unsigned, signed};
 ghost use Rattle.iltokens.specs.Views.{valued};
 
 use crate::digits::digits;
 
 /// A number of base 2, 8 or 16.
-#[tactic(auto, unfolding(crate::specs::Numbers::based))]
+#[tactic(auto, unfolding(crate::specs::NumberSteps::based))]
 fn based(bytes: &[u8]) -> Option<(u64, &[u8])>
     ensures exact { valued result ≡ based bytes.now }
     ensures within { IfSome result (λ x. length x.1.now < length bytes.now) }
@@ -21,7 +21,7 @@ fn based(bytes: &[u8]) -> Option<(u64, &[u8])>
 }
 
 /// The number at the front, without a sign, and what stands after it.
-#[tactic(auto, unfolding(crate::specs::Numbers::unsigned))]
+#[tactic(auto, unfolding(crate::specs::NumberSteps::unsigned))]
 pub fn unsigned(bytes: &[u8]) -> Option<(u64, &[u8])>
     ensures exact { valued result ≡ unsigned bytes.now }
     ensures within { IfSome result (λ x. length x.1.now < length bytes.now) }
@@ -33,7 +33,7 @@ pub fn unsigned(bytes: &[u8]) -> Option<(u64, &[u8])>
 }
 
 /// The number with this sign, where it fits 64 signed bits.
-#[tactic(auto, unfolding(crate::specs::Numbers::signed))]
+#[tactic(auto, unfolding(crate::specs::NumberSteps::signed))]
 pub fn signed(negative: bool, magnitude: u64) -> Option<i64>
     ensures { result ≡ signed negative magnitude }
 {

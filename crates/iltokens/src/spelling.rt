@@ -1,7 +1,8 @@
 //! Words at the front of some bytes.
 
 ghost use Rattle.std.specs.Prelude.{◌≡◌, ◌≤◌, length, IfSome};
-ghost use Rattle.iltokens.specs.Spelling.{is_letter, is_name_byte, after_name, after_word};
+ghost use Rattle.iltokens.specs.Letters.{is_letter, is_name_byte};
+ghost use Rattle.iltokens.specs.WordSteps.{after_name, after_word};
 ghost use Rattle.iltokens.specs.Views.{seen};
 
 /// Whether a name may begin with `byte`.

@@ -1,8 +1,9 @@
 //! Durations (IEC 61131-3, 2.2.3.1).
 
 ghost use Rattle.std.specs.Prelude.{◌≡◌, ◌≤◌, ◌<◌, length, IfSome};
-ghost use Rattle.iltokens.specs.Times.{milliseconds, after_unit, part, with_part, parts_begin};
-ghost use Rattle.iltokens.specs.Times.{parts, after_prefix, time};
+ghost use Rattle.iltokens.specs.Times.{milliseconds};
+ghost use Rattle.iltokens.specs.TimeSteps.{after_unit, part, with_part, parts_begin};
+ghost use Rattle.iltokens.specs.TimeSteps.{parts, after_prefix, time};
 ghost use Rattle.iltokens.specs.Views.{seen, valued, parts_view};
 
 use crate::digits::digits;
@@ -31,7 +32,7 @@ pub fn milliseconds(unit: Unit) -> u64
 }
 
 /// What stands after the unit's letters; `m` before `s` is not a minute.
-#[tactic(auto, unfolding(crate::specs::Times::after_unit))]
+#[tactic(auto, unfolding(crate::specs::TimeSteps::after_unit))]
 fn after_unit(unit: Unit, bytes: &[u8]) -> Option<&[u8]>
     ensures exact { seen result ≡ after_unit unit bytes.now }
     ensures within { IfSome result (λ rest. length rest.now ≤ length bytes.now) }
@@ -49,7 +50,7 @@ fn after_unit(unit: Unit, bytes: &[u8]) -> Option<&[u8]>
 }
 
 /// A number with this unit, in milliseconds, and what stands after it.
-#[tactic(auto, unfolding(crate::specs::Times::part))]
+#[tactic(auto, unfolding(crate::specs::TimeSteps::part))]
 fn part(unit: Unit, bytes: &[u8]) -> Option<(u64, &[u8])>
     ensures exact { valued result ≡ part unit bytes.now }
     ensures within { IfSome result (λ x. length x.1.now < length bytes.now) }
@@ -73,7 +74,7 @@ struct Parts<'a> {
 }
 
 /// Where the next part begins: an underscore may stand between two parts.
-#[tactic(auto, unfolding(crate::specs::Times::parts_begin))]
+#[tactic(auto, unfolding(crate::specs::TimeSteps::parts_begin))]
 fn part_begin<'a>(parts: Parts<'a>) -> &'a [u8]
     ensures exact { result.now ≡ parts_begin (parts_view parts.entry) }
     ensures within { length result.now ≤ length parts.entry.rest.now }
@@ -85,7 +86,7 @@ fn part_begin<'a>(parts: Parts<'a>) -> &'a [u8]
 }
 
 /// The parts with that of this unit, where it stands next.
-#[tactic(auto, unfolding(crate::specs::Times::with_part))]
+#[tactic(auto, unfolding(crate::specs::TimeSteps::with_part))]
 fn with_part<'a>(unit: Unit, parts: Parts<'a>) -> Parts<'a>
     ensures exact { parts_view result ≡ with_part unit (parts_view parts.entry) }
     ensures within { length result.rest.now ≤ length parts.entry.rest.now }
@@ -101,7 +102,7 @@ fn with_part<'a>(unit: Unit, parts: Parts<'a>) -> Parts<'a>
 }
 
 /// The parts at the front.
-#[tactic(auto, unfolding(crate::specs::Times::parts))]
+#[tactic(auto, unfolding(crate::specs::TimeSteps::parts))]
 fn all_parts(bytes: &[u8]) -> Parts<'_>
     ensures exact { parts_view result ≡ parts bytes.now }
     ensures within { length result.rest.now ≤ length bytes.now }
@@ -119,7 +120,7 @@ fn all_parts(bytes: &[u8]) -> Parts<'_>
 }
 
 /// What stands after `T#` or `TIME#`.
-#[tactic(auto, unfolding(crate::specs::Times::after_prefix))]
+#[tactic(auto, unfolding(crate::specs::TimeSteps::after_prefix))]
 fn after_prefix(bytes: &[u8]) -> Option<&[u8]>
     ensures exact { seen result ≡ after_prefix bytes.now }
     ensures within { IfSome result (λ rest. length rest.now < length bytes.now) }
@@ -131,7 +132,7 @@ fn after_prefix(bytes: &[u8]) -> Option<&[u8]>
 }
 
 /// The duration at the front in milliseconds, and what stands after it.
-#[tactic(auto, unfolding(crate::specs::Times::time))]
+#[tactic(auto, unfolding(crate::specs::TimeSteps::time))]
 pub fn time(bytes: &[u8]) -> Option<(u64, &[u8])>
     ensures exact { valued result ≡ time bytes.now }
     ensures within { IfSome result (λ x. length x.1.now < length bytes.now) }

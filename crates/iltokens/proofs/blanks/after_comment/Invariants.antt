@@ -1,5 +1,5 @@
 use Rattle.std.proofs.Common.{◌≡◌, length}
-use Rattle.iltokens.specs.Blanks.{after_comment}
+use Rattle.iltokens.specs.BlankSteps.{after_comment}
 use Rattle.iltokens.proofs.blanks.after_comment.Given as goal
 
 abbrev pub invariant-inside : goal.invariant-inside

@@ -1,5 +1,5 @@
 use Rattle.std.proofs.Common.{◌≡◌, ◌≤◌, length}
-use Rattle.iltokens.specs.Blanks.{blanks}
+use Rattle.iltokens.specs.BlankSteps.{blanks}
 use Rattle.iltokens.proofs.blanks.blanks.Given as goal
 
 abbrev pub invariant-blanks : goal.invariant-blanks

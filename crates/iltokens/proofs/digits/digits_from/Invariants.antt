@@ -1,5 +1,5 @@
 use Rattle.std.proofs.Common.{◌≡◌, ◌≤◌, length}
-use Rattle.iltokens.specs.Digits.{digits_from}
+use Rattle.iltokens.specs.DigitSteps.{digits_from}
 use Rattle.iltokens.proofs.digits.digits_from.Given as goal
 
 abbrev pub invariant-digits : goal.invariant-digits

@@ -1,5 +1,5 @@
 use Rattle.std.proofs.Common.{◌≡◌, ◌≤◌, length}
-use Rattle.iltokens.specs.Digits.{plain_from}
+use Rattle.iltokens.specs.DigitSteps.{plain_from}
 use Rattle.iltokens.proofs.digits.plain_from.Given as goal
 
 abbrev pub invariant-digits : goal.invariant-digits

@@ -1,5 +1,5 @@
 use Rattle.std.proofs.Common.{◌≡◌, length, map}
-use Rattle.iltokens.specs.Keywords.{lookup}
+use Rattle.iltokens.specs.KeywordSteps.{lookup}
 use Rattle.iltokens.proofs.keyword.lookup.Given as goal
 
 abbrev pub invariant-table : goal.invariant-table

@@ -1,5 +1,5 @@
 use Rattle.std.proofs.Common.{◌≡◌, ◌≤◌, length}
-use Rattle.iltokens.specs.Spelling.{after_name}
+use Rattle.iltokens.specs.WordSteps.{after_name}
 use Rattle.iltokens.proofs.spelling.after_name.Given as goal
 
 abbrev pub invariant-name : goal.invariant-name

@@ -1,5 +1,5 @@
 use Rattle.std.proofs.Common.{◌≡◌, ℕ, ◌<◌, List, [], ◌∷◌, length, drop, None, refl, sym, ◌∙◌, arith, drop-cons}
-use Rattle.iltokens.specs.Spelling.{after_word}
+use Rattle.iltokens.specs.WordSteps.{after_word}
 use Rattle.iltokens.proofs.spelling.after_word.Goals as goal
 
 none_of : (word : List ℕ) (i : ℕ) (rest : List ℕ) → i < length word → length rest < 1 → after_word (drop i word) rest ≡ None

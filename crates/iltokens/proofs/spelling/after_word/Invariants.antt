@@ -1,5 +1,5 @@
 use Rattle.std.proofs.Common.{◌≡◌, ◌≤◌, length, drop}
-use Rattle.iltokens.specs.Spelling.{after_word}
+use Rattle.iltokens.specs.WordSteps.{after_word}
 use Rattle.iltokens.proofs.spelling.after_word.Given as goal
 
 abbrev pub invariant-loop-letter : goal.invariant-loop-letter

@@ -1,7 +1,7 @@
 -- Numbers (IEC 61131-3, 2.2.1): decimal, or `2#`, `8#`, `16#` and digits of that base.
 use Rattle.std.specs.Prelude.{ℕ, ℤ, pos, neg_ℤ, ◌^◌, List, [], ◌∷◌, Option, Some, None, Bool, true, false, ◌&&◌, ◌==◌, nat_lt, nat_le, if◌then◌else◌}
 use Rattle.std.specs.Option.{option_or}
-use Rattle.iltokens.specs.Digits.{digits}
+use Rattle.iltokens.specs.DigitSteps.{digits}
 
 -- what stands after `16` is `#` (35) and hexadecimal digits
 abbrev pub hexadecimal : List ℕ → Option (ℕ × List ℕ)

@@ -4,8 +4,8 @@ use Rattle.std.specs.Prelude.{ℕ, List, [], ◌∷◌, Option, Some, None, code
 use Rattle.std.specs.Option.{option_or}
 use Rattle.iltokens.specs.declared.lexed.AddressKind.{AddressKind}
 use Rattle.iltokens.specs.declared.lexed.AddressKind.TheVariants as kinds
-use Rattle.iltokens.specs.Digits.{plain}
-use Rattle.iltokens.specs.Spelling.{after_word}
+use Rattle.iltokens.specs.DigitSteps.{plain}
+use Rattle.iltokens.specs.WordSteps.{after_word}
 
 abbrev pub is_kind : AddressKind → Option (List ℕ) → Option (AddressKind × List ℕ)
 is_kind kind None = None

@@ -8,11 +8,12 @@ use Rattle.iltokens.specs.declared.lexed.What.TheVariants as whats
 use Rattle.iltokens.specs.declared.lexed.Cause.{Cause}
 use Rattle.iltokens.specs.declared.lexed.Cause.TheVariants.{NotAscii, BadToken, BadNumber}
 use Rattle.iltokens.specs.Digits.{is_digit}
-use Rattle.iltokens.specs.Numbers.{unsigned, signed}
-use Rattle.iltokens.specs.Times.{time}
-use Rattle.iltokens.specs.Keywords.{keyword}
-use Rattle.iltokens.specs.Spelling.{is_letter, after_name}
-use Rattle.iltokens.specs.Addresses.{Place, address}
+use Rattle.iltokens.specs.NumberSteps.{unsigned, signed}
+use Rattle.iltokens.specs.TimeSteps.{time}
+use Rattle.iltokens.specs.KeywordSteps.{keyword}
+use Rattle.iltokens.specs.Letters.{is_letter}
+use Rattle.iltokens.specs.WordSteps.{after_name}
+use Rattle.iltokens.specs.AddressSteps.{Place, address}
 
 -- the end, a token and what stands after it, or a fault
 pub data Front : Type 0 where
