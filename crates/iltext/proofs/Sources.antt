@@ -13,7 +13,8 @@ use Rattle.iltext.specs.declared.token.Token.{Token}
 use Rattle.iltext.specs.Cutting.{Cuts}
 use Rattle.iltext.specs.Faults.{Tells, place_at}
 use Rattle.iltext.specs.Texts.{text}
-use Rattle.iltext.specs.Parsing.{IsText, IsReadAs, IsFault, IsFirstFault, IsTextFault, IsParsed}
+use Rattle.iltext.specs.Parsing.{IsText, IsReadAs, IsFault, IsFirstFault, IsTextFault}
+use Rattle.iltext.specs.ParsingSteps.{IsParsed}
 use Rattle.iltext.proofs.Cut.{one_cut}
 use Rattle.iltext.proofs.Laws.{Lawful-text}
 

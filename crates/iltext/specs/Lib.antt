@@ -3,5 +3,6 @@ pub mod Faults
 pub mod Operators
 pub mod Printed
 pub mod Parsing
+pub mod ParsingSteps
 pub mod Terminals
 pub mod Texts

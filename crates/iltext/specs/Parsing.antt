@@ -1,8 +1,8 @@
 -- Texts and their source programs.
 use Rattle.std.specs.Prelude.{◌≡◌, ℕ, ◌≤◌, ◌<◌, List, ◌⊎◌, length, Result, Ok, Err}
-use Rattle.ilgrammar.specs.Stops.{FaultAt, whole_read}
+use Rattle.ilgrammar.specs.Stops.{FaultAt}
 use Rattle.limits.specs.Limits.{most_bytes}
-use Rattle.ilsource.specs.Trees.{Tree, Written}
+use Rattle.ilsource.specs.Trees.{Tree}
 use Rattle.iltext.specs.declared.fault.TextFault.{TextFault}
 use Rattle.iltext.specs.declared.fault.TextFault.TheVariants as faults
 use Rattle.iltext.specs.declared.fault.TextCause.TheVariants.{TooLong}
@@ -45,15 +45,3 @@ IsTextFault bytes fault = IsTooLong bytes fault ⊎ IsFirstFault bytes fault
 abbrev pub IsFault : List ℕ → TextFault → Type 0
 IsFault bytes faults.Memory = Unit {0}
 IsFault bytes (faults.At line col cause) = IsTextFault bytes (faults.At line col cause)
-
--- what reading the tokens gives, of bytes that they were cut from
-abbrev pub IsParsed : List ℕ → List Token → Result Tree TextFault → Type 0
-IsParsed bytes tokens (Ok tree) = (tree.text ≡ bytes) × (whole_read text tokens ≡ Ok tree.programs)
-IsParsed bytes tokens (Err faults.Memory) = Unit {0}
-IsParsed bytes tokens (Err (faults.At line col cause)) =
-    (rest : List Token) × (whole_read text tokens ≡ Err rest) × Tells bytes rest (faults.At line col cause)
-
-abbrev pub IsSourceOf : List ℕ → List Written → Result Tree TextFault → Type 0
-IsSourceOf bytes programs (Ok tree) = (tree.text ≡ bytes) × (tree.programs ≡ programs)
-IsSourceOf bytes programs (Err faults.Memory) = Unit {0}
-IsSourceOf bytes programs (Err (faults.At line col cause)) = ⊥

@@ -3,7 +3,7 @@
 ghost use Rattle.std.specs.Prelude.{◌≡◌, ◌≤◌, length, IfOk, IfErr, All};
 ghost use Rattle.ilsource.specs.Trees.{Tree};
 ghost use Rattle.iltext.specs.Parsing.{IsText, IsReadAs, IsTextFault, IsFault};
-ghost use Rattle.iltext.specs.Parsing.{IsParsed, IsSourceOf};
+ghost use Rattle.iltext.specs.ParsingSteps.{IsParsed, IsSourceOf};
 ghost use Rattle.iltext.specs.declared.fault.TextFault.{TextFault};
 
 use crate::cutting::tokens;

@@ -1,4 +1,4 @@
-use Rattle.std.proofs.Common.{◌≤◌, length, arith}
+use Rattle.std.proofs.Common.{◌≤◌, length}
 use Rattle.limits.specs.Limits.{most_bytes}
 use Rattle.iltext.proofs.Sources.{short_of, is_found, is_only, is_fault, is_one, is_one_fault, is_no_fault}
 use Rattle.iltext.proofs.parser.parse.Goals as goal
