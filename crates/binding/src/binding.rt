@@ -47,18 +47,20 @@ impl Binding {
         self.buses
     }
 
-    /// The binding that a file spells: lines of words between single spaces, of which `buses N` stands there once, and
-    /// first. Empty lines and lines that begin with `#` are skipped; a line ends with LF or CR LF, and the last needs no
-    /// end. No memory is taken.
+    /// The binding that a file spells: lines of words between single spaces, of which `buses N`
+    /// stands there once, and first. Empty lines and lines that begin with `#` are skipped; a line
+    /// ends with LF or CR LF, and the last needs no end. No memory is taken.
     ///
     /// # Errors
     ///
-    /// The first bad line; line 1 where none is bad and none tells the number of buses, or where there are more than
-    /// [`limits::MOST_BYTES`] bytes.
+    /// The first bad line; line 1 where none is bad and none tells the number of buses, or where
+    /// there are more than [`limits::MOST_BYTES`] bytes.
     pub fn parse(bytes: &[u8]) -> Result<Binding, BindFault>
         ensures binding { (wiring : Wiring) → (result ≡ Ok wiring) ↔ IsBinding bytes.now wiring }
-        ensures bad_line { (line : ℕ) → (result ≡ Err (BindFault.At line BindCause.BadLine)) ↔ IsBadBinding bytes.now line }
-        ensures too_long { (line : ℕ) → (result ≡ Err (BindFault.At line BindCause.TooLong)) ↔ IsTooLong bytes.now line }
+        ensures bad_line { (line : ℕ) → (result ≡ Err (BindFault.At line BindCause.BadLine))
+            ↔ IsBadBinding bytes.now line }
+        ensures too_long { (line : ℕ) → (result ≡ Err (BindFault.At line BindCause.TooLong))
+            ↔ IsTooLong bytes.now line }
         ensures memory { result ≢ Err BindFault.Memory }
     {
         if limits::is_too_long(bytes) {
@@ -80,7 +82,9 @@ impl Binding {
 /// The binding that lines tell, or the line at fault.
 fn wiring_of(bytes: &[u8]) -> Result<Binding, usize>
     requires { length bytes.now ≤ most_bytes }
-    ensures { MatchResult result (λ wiring. AllLead binding_rules None (lines bytes.now) (Some wiring)) (IsFaultAt (lines bytes.now)) }
+    ensures { MatchResult result
+        (λ wiring. AllLead binding_rules None (lines bytes.now) (Some wiring))
+        (IsFaultAt (lines bytes.now)) }
 {
     let mut rest = bytes;
     let mut line = 1;

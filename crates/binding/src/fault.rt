@@ -6,7 +6,8 @@ use thiserror::Error;
 /// What is wrong with a line of a binding.
 #[derive(Clone, Copy, PartialEq, Eq, Debug)]
 pub enum BindCause {
-    /// It is no line of a binding, or can't stand after those before it, or no line tells the number of buses.
+    /// It is no line of a binding, or can't stand after those before it, or no line tells the
+    /// number of buses.
     BadLine,
     /// There are more than [`limits::MOST_BYTES`] bytes.
     TooLong,
@@ -58,7 +59,8 @@ impl BindFault {
     ghost use Rattle.std.specs.Prelude.{◌≡◌};
     ghost use Rattle.binding.specs.Causes.{bind_fault_number};
 
-    /// The number of the fault: 1 where memory was refused, else that of the cause. It isn't printed.
+    /// The number of the fault: 1 where memory was refused, else that of the cause. It isn't
+    /// printed.
     pub fn number(&self) -> u8
         ensures { result ≡ bind_fault_number self.now }
     {

@@ -1,8 +1,9 @@
 //! Bindings: what a controller is connected to, as a file of lines says it.
 //!
-//! What crosses the boundary: [`Binding`], which [`Binding::parse`] reads from bytes, and [`BindFault`], which reports the
-//! line that is at fault. Which bytes are a binding, what it says and which line of others is at fault are `IsBinding` and
-//! `IsBadBinding` (specs/Bindings.antt), on the rules of files that are read line by line (`wordlines`).
+//! What crosses the boundary: [`Binding`], which [`Binding::parse`] reads from bytes, and
+//! [`BindFault`], which reports the line that is at fault. Which bytes are a binding, what it says
+//! and which line of others is at fault are `IsBinding` and `IsBadBinding` (specs/Bindings.antt),
+//! on the rules of files that are read line by line (`wordlines`).
 //!
 //! ```text
 //! let buses = Binding::parse(b"# the north wing\nbuses 2\n")?.buses();

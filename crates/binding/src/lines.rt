@@ -13,7 +13,9 @@ use wordlines::Words;
 /// The binding that a line and those before it tell, where it may stand after them.
 pub(crate) fn binding_after(told: &Option<Binding>, line: &[u8]) -> Option<Binding>
     requires { ¬ IsSkipped line.now }
-    ensures { MatchOption result ((next : Option Wiring) → ¬ Leads binding_rules told.now line.now next) (λ wiring. Leads binding_rules told.now line.now (Some wiring)) }
+    ensures { MatchOption result
+        ((next : Option Wiring) → ¬ Leads binding_rules told.now line.now next)
+        (λ wiring. Leads binding_rules told.now line.now (Some wiring)) }
 {
     let buses = buses_of(line)?;
     match told {
@@ -24,7 +26,8 @@ pub(crate) fn binding_after(told: &Option<Binding>, line: &[u8]) -> Option<Bindi
 
 /// The number of buses that a line tells.
 fn buses_of(line: &[u8]) -> Option<u8>
-    ensures { MatchOption result ((number : ℕ) → ¬ TellsBuses (words line.now) number) (TellsBuses (words line.now)) }
+    ensures { MatchOption result ((number : ℕ) → ¬ TellsBuses (words line.now) number)
+        (TellsBuses (words line.now)) }
 {
     let mut words = Words::of(line);
     let keyword = words.next()?;

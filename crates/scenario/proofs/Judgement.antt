@@ -1,12 +1,12 @@
--- A judgement of bytes by cases is the only one, but for want of memory.
+-- A judgement of bytes by cases is the only one, unless memory was refused.
 use Rattle.std.proofs.Common.{◌≡◌, ℕ, ◌≤◌, ◌↔◌, inl, inr, List, [], length, Result, Ok, Err, refl, ap, subst, arith}
 use Rattle.std.specs.Str.Lines.{lines}
 use Rattle.scenario.specs.Scenarios.{IsScenario, IsBadScenario, IsTooLong, AddsSome, IsJudged, GivesIfRoom}
 use Rattle.scenario.specs.declared.entries.Entry.{Entry}
-use Rattle.scenario.specs.declared.scenario.ScenarioCause.TheVariants.{BadLine, TooLong}
-use Rattle.scenario.specs.declared.scenario.ScenarioFault.{ScenarioFault}
-use Rattle.scenario.specs.declared.scenario.ScenarioFault.TheVariants.{Memory, At}
-use Rattle.scenario.proofs.TellingLines.{tell_one, told_not_bad, first_bad_one}
+use Rattle.scenario.specs.declared.fault.ScenarioCause.TheVariants.{BadLine, TooLong}
+use Rattle.scenario.specs.declared.fault.ScenarioFault.{ScenarioFault}
+use Rattle.scenario.specs.declared.fault.ScenarioFault.TheVariants.{Memory, At}
+use Rattle.scenario.proofs.ScenarioReading.{entries_one, led_not_bad, first_bad_one}
 
 pub scenario_judged : (bytes : List ℕ) (r : Result (List Entry) ScenarioFault) → IsJudged bytes r → (entries : List Entry) → r ≡ Ok entries
     → IsScenario bytes entries
@@ -16,9 +16,9 @@ scenario_judged bytes (Err (At line cause)) j entries e = cc
 
 pub is_told_judged : (bytes : List ℕ) (r : Result (List Entry) ScenarioFault) → IsJudged bytes r → (entries : List Entry) → IsScenario bytes entries
     → GivesIfRoom r (Ok entries)
-is_told_judged bytes (Ok es) j entries s = inl (ap Ok (tell_one [] (lines bytes) es entries j.tell s.tell))
+is_told_judged bytes (Ok es) j entries s = inl (ap Ok (entries_one (lines bytes) es entries j.lead s.lead))
 is_told_judged bytes (Err Memory) j entries s = inr refl
-is_told_judged bytes (Err (At line BadLine)) j entries s = absurd (told_not_bad (lines bytes) line entries j.bad s.tell)
+is_told_judged bytes (Err (At line BadLine)) j entries s = absurd (led_not_bad (lines bytes) line entries j.bad s.lead)
 is_told_judged bytes (Err (At line TooLong)) j entries s = absurd (omega (arith, j.long, s.short))
 
 pub bad_line_judged : (bytes : List ℕ) (r : Result (List Entry) ScenarioFault) → IsJudged bytes r → (line : ℕ) → r ≡ Err (At line BadLine)
@@ -30,7 +30,7 @@ bad_line_judged bytes (Err (At at TooLong)) j line e = cc
 
 pub bad_is_told_judged : (bytes : List ℕ) (r : Result (List Entry) ScenarioFault) → IsJudged bytes r → (line : ℕ) → IsBadScenario bytes line
     → GivesIfRoom r (Err (At line BadLine))
-bad_is_told_judged bytes (Ok es) j line b = absurd (told_not_bad (lines bytes) line es b.bad j.tell)
+bad_is_told_judged bytes (Ok es) j line b = absurd (led_not_bad (lines bytes) line es b.bad j.lead)
 bad_is_told_judged bytes (Err Memory) j line b = inr refl
 bad_is_told_judged bytes (Err (At at BadLine)) j line b =
     inl (ap (λ (n : ℕ). Err (At n BadLine)) (first_bad_one (lines bytes) at line j.bad b.bad))

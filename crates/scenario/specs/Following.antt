@@ -18,7 +18,7 @@ is_instance_at bus short number (Instance on at its kind scheme value) = ((on ==
 is_instance_at bus short number _ = false
 
 abbrev pub is_reply_to : ℕ → ℕ → Entry → Bool
-is_reply_to bus place (Reply on at upset) = (on == bus) && (at == place)
+is_reply_to bus place (Reply on at fate) = (on == bus) && (at == place)
 is_reply_to bus place _ = false
 
 -- what the entry names is declared before it, and what it declares is not
@@ -29,7 +29,7 @@ IsKnown before (Memory bus short bank offset value) = list_any (is_gear_at bus s
 IsKnown before (Device bus short) = list_any (is_device_at bus short) before ≡ false
 IsKnown before (Instance bus short number kind scheme value) =
     (list_any (is_device_at bus short) before ≡ true) × (list_any (is_instance_at bus short number) before ≡ false)
-IsKnown before (Reply bus place upset) = list_any (is_reply_to bus place) before ≡ false
+IsKnown before (Reply bus place fate) = list_any (is_reply_to bus place) before ≡ false
 IsKnown before _ = Unit {0}
 
 -- the clock stands at the last tick; before the first one it stands at 0 from the first event on, and before that nowhere

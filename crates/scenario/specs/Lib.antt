@@ -1,5 +1,6 @@
 pub mod Causes
 pub mod Following
+pub mod Happenings
 pub mod Printed
 pub mod Saying
 pub mod Scenarios

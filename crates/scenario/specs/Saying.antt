@@ -1,9 +1,10 @@
 -- What the words of a line say (profile): a keyword, then numbers, each in its range, and no word more. Numbers are decimal;
 -- the 24 bits of an event's frame are six hexadecimal digits.
-use Rattle.std.specs.Prelude.{ℕ, ◌==◌, List, [], ◌∷◌, Option, Some, None, option_map, codes, bytes_eq, if◌then◌else◌}
+use Rattle.std.specs.Prelude.{ℕ, ◌-◌, ◌==◌, List, [], ◌∷◌, Option, Some, None, option_map, codes, bytes_eq, if◌then◌else◌}
+use Rattle.limits.specs.Limits.{most_buses}
 use Rattle.wordlines.specs.WordLines.{number_in, hex_number}
-use Rattle.scenario.specs.declared.entries.Upset.{Upset}
-use Rattle.scenario.specs.declared.entries.Upset.TheVariants.{Lost, Damaged, Fault}
+use Rattle.scenario.specs.declared.entries.FrameFate.{FrameFate}
+use Rattle.scenario.specs.declared.entries.FrameFate.TheVariants.{Lost, Damaged, Fault}
 use Rattle.scenario.specs.declared.entries.Entry.{Entry}
 use Rattle.scenario.specs.declared.entries.Entry.TheVariants.{Gear, LampFailure, Memory, Device, Instance, Reply, HearFault, Tick, Event}
 
@@ -17,37 +18,41 @@ abbrev pub at_end : List (List ℕ) → Entry → Option Entry
 at_end [] entry = Some entry
 at_end (word ∷ rest) entry = None
 
-abbrev pub upset_of : List ℕ → Option Upset
-upset_of word =
+abbrev pub fate_of : List ℕ → Option FrameFate
+fate_of word =
     if bytes_eq word (codes "lost") then Some Lost
     else if bytes_eq word (codes "damaged") then Some Damaged
     else if bytes_eq word (codes "fault") then Some Fault
     else None
 
-abbrev pub upset_in : List (List ℕ) → Option (Upset × List (List ℕ))
-upset_in [] = None
-upset_in (word ∷ rest) = option_map (λ upset. (upset, rest)) (upset_of word)
+abbrev pub fate_in : List (List ℕ) → Option (FrameFate × List (List ℕ))
+fate_in [] = None
+fate_in (word ∷ rest) = option_map (λ fate. (fate, rest)) (fate_of word)
 
 abbrev pub frame_in : List (List ℕ) → Option (ℕ × List (List ℕ))
 frame_in [] = None
 frame_in (word ∷ rest) = option_map (λ frame. (frame, rest)) (hex_number word)
 
+-- the number of a bus, below that of the buses
+abbrev pub bus_in : List (List ℕ) → Option (ℕ × List (List ℕ))
+bus_in words = number_in (most_buses - 1) words
+
 -- `gear b s`
 abbrev pub gear_of : List (List ℕ) → Option Entry
 gear_of words =
-    first (number_in 15 words) (λ bus rest.
+    first (bus_in words) (λ bus rest.
     first (number_in 63 rest) (λ short rest. at_end rest (Gear bus short)))
 
 -- `lampfailure b s`
 abbrev pub lamp_failure_of : List (List ℕ) → Option Entry
 lamp_failure_of words =
-    first (number_in 15 words) (λ bus rest.
+    first (bus_in words) (λ bus rest.
     first (number_in 63 rest) (λ short rest. at_end rest (LampFailure bus short)))
 
 -- `memory b s bank offset value`
 abbrev pub memory_of : List (List ℕ) → Option Entry
 memory_of words =
-    first (number_in 15 words) (λ bus rest.
+    first (bus_in words) (λ bus rest.
     first (number_in 63 rest) (λ short rest.
     first (number_in 255 rest) (λ bank rest.
     first (number_in 255 rest) (λ offset rest.
@@ -56,13 +61,13 @@ memory_of words =
 -- `device b s`
 abbrev pub device_of : List (List ℕ) → Option Entry
 device_of words =
-    first (number_in 15 words) (λ bus rest.
+    first (bus_in words) (λ bus rest.
     first (number_in 63 rest) (λ short rest. at_end rest (Device bus short)))
 
 -- `instance b s i type scheme value`
 abbrev pub instance_of : List (List ℕ) → Option Entry
 instance_of words =
-    first (number_in 15 words) (λ bus rest.
+    first (bus_in words) (λ bus rest.
     first (number_in 63 rest) (λ short rest.
     first (number_in 31 rest) (λ number rest.
     first (number_in 31 rest) (λ kind rest.
@@ -72,13 +77,13 @@ instance_of words =
 -- `reply b n lost`, `damaged` or `fault`, where n counts from 1
 abbrev pub reply_of : List (List ℕ) → Option Entry
 reply_of words =
-    first (number_in 15 words) (λ bus rest.
+    first (bus_in words) (λ bus rest.
     first (number_in 18446744073709551615 rest) (λ place rest.
-    first (upset_in rest) (λ upset rest. if place == 0 then None else at_end rest (Reply bus place upset))))
+    first (fate_in rest) (λ fate rest. if place == 0 then None else at_end rest (Reply bus place fate))))
 
 -- `hearfault b`
 abbrev pub hear_fault_of : List (List ℕ) → Option Entry
-hear_fault_of words = first (number_in 15 words) (λ bus rest. at_end rest (HearFault bus))
+hear_fault_of words = first (bus_in words) (λ bus rest. at_end rest (HearFault bus))
 
 -- `tick m`
 abbrev pub tick_of : List (List ℕ) → Option Entry
@@ -87,7 +92,7 @@ tick_of words = first (number_in 18446744073709551615 words) (λ moment rest. at
 -- `event b HHHHHH`
 abbrev pub event_of : List (List ℕ) → Option Entry
 event_of words =
-    first (number_in 15 words) (λ bus rest.
+    first (bus_in words) (λ bus rest.
     first (frame_in rest) (λ frame rest. at_end rest (Event bus frame)))
 
 -- what the words after the keyword say

@@ -1,54 +1,32 @@
 -- Which bytes are a scenario, with its entries in order, and which line is at fault where they aren't one (profile).
-use Rattle.std.specs.Prelude.{◌≡◌, ℕ, ◌+◌, ◌<◌, ◌≤◌, ◌⊎◌, List, [], ◌∷◌, ◌++◌, length, Some, Result, Ok, Err}
+use Rattle.std.specs.Prelude.{◌≡◌, ℕ, ◌<◌, ◌≤◌, ◌⊎◌, List, [], ◌∷◌, ◌++◌, length, Some, Result, Ok, Err}
 use Rattle.std.specs.Str.Lines.{lines}
-use Rattle.wordlines.specs.WordLines.{words, IsSkipped}
+use Rattle.limits.specs.Limits.{most_bytes}
+use Rattle.wordlines.specs.LineRules.{LineRules, Adds, AllLead, IsFirstBad}
 use Rattle.scenario.specs.Saying.{said}
 use Rattle.scenario.specs.Following.{Follows}
 use Rattle.scenario.specs.declared.entries.Entry.{Entry}
-use Rattle.scenario.specs.declared.scenario.ScenarioCause.TheVariants.{BadLine, TooLong}
-use Rattle.scenario.specs.declared.scenario.ScenarioFault.{ScenarioFault}
-use Rattle.scenario.specs.declared.scenario.ScenarioFault.TheVariants.{Memory, At}
-use Rattle.scenario.specs.declared.scenario.TheConstants.{MAX_BYTES}
+use Rattle.scenario.specs.declared.fault.ScenarioCause.TheVariants.{BadLine, TooLong}
+use Rattle.scenario.specs.declared.fault.ScenarioFault.{ScenarioFault}
+use Rattle.scenario.specs.declared.fault.ScenarioFault.TheVariants.{Memory, At}
 
--- the line adds this entry to those of the lines before it
-pub record Adds (told : List Entry) (line : List ℕ) (entry : Entry) : Type 0 where
-  pub read : ¬ IsSkipped line
-  pub says : said (words line) ≡ Some entry
-  pub follows : Follows told entry
-
--- the line adds none
-abbrev pub AddsNothing : List Entry → List ℕ → Type 0
-AddsNothing told line = (entry : Entry) → Adds told line entry → ⊥
-
--- the line may stand after lines that told these entries, and leads on to the next: it is skipped, or adds an entry
-abbrev pub Leads : List Entry → List ℕ → List Entry → Type 0
-Leads told line next = (IsSkipped line × (next ≡ told)) ⊎ ((entry : Entry) × Adds told line entry × (next ≡ told ++ entry ∷ []))
-
--- after lines that told these entries, these lines, one after another, lead to those
-abbrev pub Tell : List Entry → List (List ℕ) → List Entry → Type 0
-Tell told [] whole = whole ≡ told
-Tell told (line ∷ more) whole = (next : List Entry) × Leads told line next × Tell next more whole
-
--- the first line that can't stand where it stands; its number counts from 1
-pub record IsFirstBad (all : List (List ℕ)) (number : ℕ) : Type 0 where
-  pub before : List (List ℕ)
-  pub line : List ℕ
-  pub after : List (List ℕ)
-  pub is : all ≡ before ++ line ∷ after
-  pub told : List Entry
-  pub good : Tell [] before told
-  pub bad : (next : List Entry) → Leads told line next → ⊥
-  pub counted : number ≡ length before + 1
+-- the rules of the lines of a scenario: the state is the entries so far
+abbrev pub scenario_rules : LineRules Entry (List Entry)
+scenario_rules = record {
+  Says = λ words entry. said words ≡ Some entry;
+  Follows = Follows;
+  after = λ entries entry. entries ++ entry ∷ [];
+}
 
 -- the bytes are a scenario of these entries
 pub record IsScenario (bytes : List ℕ) (entries : List Entry) : Type 0 where
-  pub short : length bytes ≤ MAX_BYTES
-  pub tell : Tell [] (lines bytes) entries
+  pub short : length bytes ≤ most_bytes
+  pub lead : AllLead scenario_rules [] (lines bytes) entries
 
 -- the bytes are no scenario, and this is the first bad line
 pub record IsBadScenario (bytes : List ℕ) (line : ℕ) : Type 0 where
-  pub short : length bytes ≤ MAX_BYTES
-  pub bad : IsFirstBad (lines bytes) line
+  pub short : length bytes ≤ most_bytes
+  pub bad : IsFirstBad scenario_rules [] (lines bytes) line
 
 -- some line adds an entry to those of the lines before it
 pub record AddsSome (all : List (List ℕ)) : Type 0 where
@@ -56,17 +34,17 @@ pub record AddsSome (all : List (List ℕ)) : Type 0 where
   pub line : List ℕ
   pub after : List (List ℕ)
   pub is : all ≡ before ++ line ∷ after
-  pub told : List Entry
-  pub good : Tell [] before told
+  pub entries : List Entry
+  pub good : AllLead scenario_rules [] before entries
   pub entry : Entry
-  pub adds : Adds told line entry
+  pub adds : Adds scenario_rules entries line entry
 
--- the bytes are too many, which is told at line 1
+-- the bytes are too many, which is reported at line 1
 pub record IsTooLong (bytes : List ℕ) (line : ℕ) : Type 0 where
-  pub long : MAX_BYTES < length bytes
+  pub long : most_bytes < length bytes
   pub first : line ≡ 1
 
--- what the bytes come to: a scenario, a fault with its line, or where an entry is to be kept want of memory
+-- what the bytes come to: a scenario, a fault with its line, or where an entry is to be kept out of memory
 abbrev pub IsJudged : List ℕ → Result (List Entry) ScenarioFault → Type 0
 IsJudged bytes (Ok entries) = IsScenario bytes entries
 IsJudged bytes (Err Memory) = AddsSome (lines bytes)

@@ -4,7 +4,7 @@ use daliframe::{Frame24, InstanceNumber, ShortAddress};
 
 /// What becomes of a frame that is sent.
 #[derive(Clone, Copy, Debug, PartialEq, Eq)]
-pub enum Upset {
+pub enum FrameFate {
     /// It is lost, and reaches nobody.
     Lost,
     /// It acts, and its answer is damaged.
@@ -56,7 +56,7 @@ pub enum Entry {
         bus: u8,
         /// Which of the frames that are sent there, from 1.
         place: u64,
-        upset: Upset,
+        fate: FrameFate,
     },
     /// The next hear on a bus fails.
     HearFault {
@@ -75,7 +75,8 @@ pub enum Entry {
 
 impl Entry {
     ghost use Rattle.std.specs.Prelude.{◌≡◌, IsTrue};
-    ghost use Rattle.scenario.specs.Following.{is_gear_at, is_device_at, is_instance_at, is_reply_to, clock_after};
+    ghost use Rattle.scenario.specs.Following.{is_gear_at, is_device_at, is_instance_at};
+    ghost use Rattle.scenario.specs.Following.{is_reply_to, clock_after};
 
     /// Whether it declares this control gear.
     pub(crate) fn is_gear_at(&self, bus: u8, short: ShortAddress) -> bool

@@ -2,7 +2,8 @@
 
 ghost use Rattle.std.specs.Prelude.{◌≡◌, ◌≤◌, ◌↔◌, IsTrue, IfSome, None};
 ghost use Rattle.std.specs.List.{list_any};
-ghost use Rattle.scenario.specs.Following.{is_gear_at, is_device_at, is_instance_at, is_reply_to, IsKnown, IsInTime, Follows, clock};
+ghost use Rattle.scenario.specs.Following.{is_gear_at, is_device_at, is_instance_at, is_reply_to};
+ghost use Rattle.scenario.specs.Following.{IsKnown, IsInTime, Follows, clock};
 
 use crate::entries::Entry;
 use daliframe::{InstanceNumber, ShortAddress};

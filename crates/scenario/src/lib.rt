@@ -1,16 +1,23 @@
-//! Scenarios: what happens on simulated buses, line by line. What crosses the boundary is [`Scenario`], which contracts see
-//! as the list of its entries, and [`ScenarioFault`], which tells the first bad line. What a line says stands in
-//! specs/Saying.antt, which entry may stand after which in specs/Following.antt, and which bytes are a scenario in
-//! specs/Scenarios.antt.
+//! Scenarios: what is on simulated buses and what happens there, as a file of lines says it.
+//!
+//! What crosses the boundary: [`parse`] reads a [`Scenario`], which contracts see as the list of
+//! its entries, or reports the first bad line by a [`ScenarioFault`]; [`Scenario::happenings`]
+//! gives its ticks and events in order. The definition to read first is `IsScenario`
+//! (specs/Scenarios.antt); what a line says stands in specs/Saying.antt, which entry may follow
+//! which in specs/Following.antt.
 #![tactic(auto)]
 
 mod entries;
+mod fault;
 mod follow;
+mod happenings;
 mod lines;
 mod scenario;
 
-pub use entries::{Entry, Upset};
-pub use scenario::{MAX_BYTES, Scenario, ScenarioCause, ScenarioFault, parse};
+pub use entries::{Entry, FrameFate};
+pub use fault::{ScenarioCause, ScenarioFault};
+pub use happenings::{Happening, Happenings};
+pub use scenario::{Scenario, parse};
 
 #[cfg(test)]
 mod tests;

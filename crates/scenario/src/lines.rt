@@ -1,16 +1,17 @@
 //! The lines of a scenario.
 
-ghost use Rattle.std.specs.Prelude.{◌≡◌, Some, None, MatchOption};
+ghost use Rattle.std.specs.Prelude.{◌≡◌, ◌-◌, Some, None, MatchOption};
+ghost use Rattle.limits.specs.Limits.{most_buses};
 ghost use Rattle.wordlines.specs.WordLines.{words, IsTaken};
-ghost use Rattle.scenario.specs.Saying.{said, said_after, gear_of, lamp_failure_of, memory_of, device_of, instance_of, reply_of};
-ghost use Rattle.scenario.specs.Saying.{hear_fault_of, tick_of, event_of, upset_of, upset_in, frame_in, at_end};
+ghost use Rattle.scenario.specs.Saying.{said, said_after, gear_of, lamp_failure_of, memory_of};
+ghost use Rattle.scenario.specs.Saying.{device_of, instance_of, reply_of};
+ghost use Rattle.scenario.specs.Saying.{hear_fault_of, tick_of, event_of, fate_of, fate_in};
+ghost use Rattle.scenario.specs.Saying.{frame_in, at_end};
 
-use crate::entries::{Entry, Upset};
+use crate::entries::{Entry, FrameFate};
 use daliframe::{Frame24, InstanceNumber, ShortAddress};
+use limits::MOST_BUSES;
 use wordlines::{Words, hex_of};
-
-/// The greatest number of a bus.
-const LAST_BUS: u8 = 15;
 
 /// What a line says that isn't skipped.
 pub(crate) fn entry_of(line: &[u8]) -> Option<Entry>
@@ -52,7 +53,7 @@ fn entry_after(keyword: &[u8], words: Words<'_>) -> Option<Entry>
 fn gear(mut words: Words<'_>) -> Option<Entry>
     ensures { result ≡ gear_of words.entry }
 {
-    let bus = words.byte(LAST_BUS)?;
+    let bus = bus_number(&mut words)?;
     let short = short_address(&mut words)?;
     ended(&words, Entry::Gear { bus, short })
 }
@@ -61,7 +62,7 @@ fn gear(mut words: Words<'_>) -> Option<Entry>
 fn lamp_failure(mut words: Words<'_>) -> Option<Entry>
     ensures { result ≡ lamp_failure_of words.entry }
 {
-    let bus = words.byte(LAST_BUS)?;
+    let bus = bus_number(&mut words)?;
     let short = short_address(&mut words)?;
     ended(&words, Entry::LampFailure { bus, short })
 }
@@ -70,7 +71,7 @@ fn lamp_failure(mut words: Words<'_>) -> Option<Entry>
 fn memory(mut words: Words<'_>) -> Option<Entry>
     ensures { result ≡ memory_of words.entry }
 {
-    let bus = words.byte(LAST_BUS)?;
+    let bus = bus_number(&mut words)?;
     let short = short_address(&mut words)?;
     let bank = words.byte(u8::MAX)?;
     let offset = words.byte(u8::MAX)?;
@@ -91,7 +92,7 @@ fn memory(mut words: Words<'_>) -> Option<Entry>
 fn device(mut words: Words<'_>) -> Option<Entry>
     ensures { result ≡ device_of words.entry }
 {
-    let bus = words.byte(LAST_BUS)?;
+    let bus = bus_number(&mut words)?;
     let short = short_address(&mut words)?;
     ended(&words, Entry::Device { bus, short })
 }
@@ -100,7 +101,7 @@ fn device(mut words: Words<'_>) -> Option<Entry>
 fn instance(mut words: Words<'_>) -> Option<Entry>
     ensures { result ≡ instance_of words.entry }
 {
-    let bus = words.byte(LAST_BUS)?;
+    let bus = bus_number(&mut words)?;
     let short = short_address(&mut words)?;
     let number = instance_number(&mut words)?;
     let kind = words.byte(31)?;
@@ -123,20 +124,20 @@ fn instance(mut words: Words<'_>) -> Option<Entry>
 fn reply(mut words: Words<'_>) -> Option<Entry>
     ensures { result ≡ reply_of words.entry }
 {
-    let bus = words.byte(LAST_BUS)?;
+    let bus = bus_number(&mut words)?;
     let place = words.number(u64::MAX)?;
-    let upset = upset(&mut words)?;
+    let fate = fate(&mut words)?;
     if place == 0 {
         return None;
     }
-    ended(&words, Entry::Reply { bus, place, upset })
+    ended(&words, Entry::Reply { bus, place, fate })
 }
 
 /// The number of `hearfault b`.
 fn hear_fault(mut words: Words<'_>) -> Option<Entry>
     ensures { result ≡ hear_fault_of words.entry }
 {
-    let bus = words.byte(LAST_BUS)?;
+    let bus = bus_number(&mut words)?;
     ended(&words, Entry::HearFault { bus })
 }
 
@@ -152,7 +153,7 @@ fn tick(mut words: Words<'_>) -> Option<Entry>
 fn event(mut words: Words<'_>) -> Option<Entry>
     ensures { result ≡ event_of words.entry }
 {
-    let bus = words.byte(LAST_BUS)?;
+    let bus = bus_number(&mut words)?;
     let frame = frame(&mut words)?;
     ended(&words, Entry::Event { bus, frame })
 }
@@ -162,6 +163,13 @@ fn ended(words: &Words<'_>, entry: Entry) -> Option<Entry>
     ensures { result ≡ at_end words.now entry }
 {
     if words.is_empty() { Some(entry) } else { None }
+}
+
+/// Takes the number of a bus.
+fn bus_number(words: &mut Words<'_>) -> Option<u8>
+    ensures { IsTaken (most_buses - 1) words.old words.new result }
+{
+    words.byte(MOST_BUSES - 1)
 }
 
 /// Takes a short address.
@@ -179,22 +187,23 @@ fn instance_number(words: &mut Words<'_>) -> Option<InstanceNumber>
 }
 
 /// Takes the word that says what becomes of a frame.
-fn upset(words: &mut Words<'_>) -> Option<Upset>
-    ensures { MatchOption result (upset_in words.old ≡ None) (λ upset. upset_in words.old ≡ Some (upset, words.new)) }
+fn fate(words: &mut Words<'_>) -> Option<FrameFate>
+    ensures { MatchOption result (fate_in words.old ≡ None)
+        (λ fate. fate_in words.old ≡ Some (fate, words.new)) }
 {
-    upset_named(words.next()?)
+    fate_named(words.next()?)
 }
 
 /// What a word says that becomes of a frame.
-fn upset_named(word: &[u8]) -> Option<Upset>
-    ensures { result ≡ upset_of word.now }
+fn fate_named(word: &[u8]) -> Option<FrameFate>
+    ensures { result ≡ fate_of word.now }
 {
     if word == b"lost".as_slice() {
-        Some(Upset::Lost)
+        Some(FrameFate::Lost)
     } else if word == b"damaged".as_slice() {
-        Some(Upset::Damaged)
+        Some(FrameFate::Damaged)
     } else if word == b"fault".as_slice() {
-        Some(Upset::Fault)
+        Some(FrameFate::Fault)
     } else {
         None
     }
@@ -202,7 +211,8 @@ fn upset_named(word: &[u8]) -> Option<Upset>
 
 /// Takes the six digits of a frame.
 fn frame(words: &mut Words<'_>) -> Option<Frame24>
-    ensures { MatchOption result (frame_in words.old ≡ None) (λ frame. frame_in words.old ≡ Some (frame, words.new)) }
+    ensures { MatchOption result (frame_in words.old ≡ None)
+        (λ frame. frame_in words.old ≡ Some (frame, words.new)) }
 {
     Frame24::new(hex_of(words.next()?)?)
 }

@@ -1,13 +1,14 @@
 //! Scenarios as they are written, with what they say, and the line of each fault.
 
-use crate::{Entry, ScenarioCause, ScenarioFault, Upset, parse};
+use crate::{Entry, FrameFate, Happening, ScenarioCause, ScenarioFault, parse};
 use daliframe::{Frame24, InstanceNumber, ShortAddress};
+use std::alloc::{AllocError, Global};
 use std::test::Fail;
 
-const TEXT: &[u8] =
-    b"# a bus\r\n\r\nhearfault 1\ngear 0 05\nlampfailure 0 5\nmemory 0 5 1 2 255\nmemory 0 5 1 2 3\n\
-    device 15 63\ninstance 15 63 31 31 4 255\nreply 2 1 lost\nreply 2 18446744073709551615 damaged\n\
-    reply 3 1 fault\nlampfailure 0 5\ntick 0\nevent 1 02fFfE\ntick 7\nhearfault 0\ntick 7";
+const TEXT: &[u8] = b"# a bus\r\n\r\nhearfault 1\ngear 0 05\nlampfailure 0 5\nmemory 0 5 1 2 255\n\
+    memory 0 5 1 2 3\ndevice 15 63\ninstance 15 63 31 31 4 255\nreply 2 1 lost\n\
+    reply 2 18446744073709551615 damaged\nreply 3 1 fault\nlampfailure 0 5\ntick 0\n\
+    event 1 02fFfE\ntick 7\nhearfault 0\ntick 7";
 
 /// What the lines of gear say.
 fn gear_lines() -> Option<[Entry; 5]> {
@@ -56,17 +57,17 @@ fn reply_lines() -> [Entry; 3] {
         Entry::Reply {
             bus: 2,
             place: 1,
-            upset: Upset::Lost,
+            fate: FrameFate::Lost,
         },
         Entry::Reply {
             bus: 2,
             place: u64::MAX,
-            upset: Upset::Damaged,
+            fate: FrameFate::Damaged,
         },
         Entry::Reply {
             bus: 3,
             place: 1,
-            upset: Upset::Fault,
+            fate: FrameFate::Fault,
         },
     ]
 }
@@ -99,7 +100,7 @@ fn each_kind_of_line_is_read(rt: HostRuntime) -> Result<(), Fail> {
 }
 
 #[test]
-fn the_first_bad_line_is_told(rt: HostRuntime) -> Result<(), Fail> {
+fn the_first_bad_line_is_reported(rt: HostRuntime) -> Result<(), Fail> {
     let bad: [(&[u8], usize); 27] = [
         (b"gear 0", 1),
         (b"\ngear 0 1 2\n", 2),
@@ -145,9 +146,65 @@ fn the_first_bad_line_is_told(rt: HostRuntime) -> Result<(), Fail> {
 }
 
 #[test]
-fn too_many_bytes_are_told_at_the_first_line(rt: HostRuntime) -> Result<(), Fail> {
-    let text = vec![in rt.alloc(); b'\n'; crate::MAX_BYTES + 1]?;
-    match parse(rt.alloc(), text.as_slice()) {
+fn what_happens_is_read_in_order(rt: HostRuntime) -> Result<(), Fail> {
+    let frame = Frame24::new(0x02FFFE).ok_or("24 bits")?;
+    let wanted = [
+        Happening::HearFault { bus: 1 },
+        Happening::Tick { moment: 0 },
+        Happening::Event { bus: 1, frame },
+        Happening::Tick { moment: 7 },
+        Happening::HearFault { bus: 0 },
+        Happening::Tick { moment: 7 },
+    ];
+    let scenario = parse(rt.alloc(), TEXT)?;
+    let mut happenings = scenario.happenings();
+    for happening in wanted {
+        assert!(rt; happenings.next() == Some(happening));
+    }
+    assert!(rt; happenings.next().is_none());
+    assert!(rt; happenings.next().is_none());
+    Ok(())
+}
+
+/// 64 gears on bus 15, and 100 instances of its 64 devices.
+fn full_bus(alloc: Global) -> Result<String, AllocError> {
+    let mut text = String::new(alloc);
+    for short in 0..64 {
+        text.push_str(format!(in alloc; "gear 15 {short}\ndevice 15 {short}\n")?.as_str())?;
+    }
+    for place in 0..100 {
+        let short = place % 64;
+        let number = place / 64;
+        text.push_str(format!(in alloc; "instance 15 {short} {number} 1 2 0\n")?.as_str())?;
+    }
+    Ok(text)
+}
+
+#[test]
+fn a_full_bus_and_a_thousand_lines_are_read(rt: HostRuntime) -> Result<(), Fail> {
+    let mut text = full_bus(rt.alloc())?;
+    for moment in 0..386 {
+        text.push_str(format!(in rt.alloc(); "tick {moment}\nevent 15 02FFFE\n")?.as_str())?;
+    }
+    let scenario = parse(rt.alloc(), text.as_bytes())?;
+    assert_eq!(rt; scenario.lines().len(), 1000);
+    let mut happenings = scenario.happenings();
+    for moment in 0..386 {
+        assert!(rt; happenings.next() == Some(Happening::Tick { moment }));
+        assert!(rt; matches!(happenings.next(), Some(Happening::Event { bus: 15, .. })));
+    }
+    assert!(rt; happenings.next().is_none());
+    Ok(())
+}
+
+#[test]
+fn a_scenario_has_a_mebibyte_at_most(rt: HostRuntime) -> Result<(), Fail> {
+    let mut text = Vec::new(rt.alloc());
+    text.extend_from_slice(b"tick 7\n#")?;
+    text.resize(1_048_576, b'x')?;
+    assert_eq!(rt; parse(rt.alloc(), &text)?.lines().len(), 1);
+    text.push(b'x')?;
+    match parse(rt.alloc(), &text) {
         Err(fault) => {
             assert_eq!(rt; fault.number(), 3);
             assert_eq!(rt;

@@ -9,7 +9,7 @@ use Rattle.daliframe.specs.declared.forward24.Fields24.{Fields24}
 use Rattle.daliframe.specs.declared.forward24.Fields24.TheVariants as device
 use Rattle.daliframe.specs.Addresses.{IsAddress, address_byte}
 use Rattle.daliframe.specs.Frames.{frame16, HasFields16, HasFields24}
-use Rattle.simbus.specs.Said.{selected, addressed_at, fields_at, fields_of, device_fields_at, device_fields_of}
+use Rattle.simbus.specs.FrameFields.{selected, addressed_at, fields_at, fields_of, device_fields_at, device_fields_of}
 
 dtr0-at : (v : ℕ) → gear.Dtr0 v ≡ fields_at 0xA3 v
 unfolding fields_at

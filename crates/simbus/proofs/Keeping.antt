@@ -17,9 +17,9 @@ use Rattle.simbus.specs.declared.gears.MemoryByte.{MemoryByte}
 use Rattle.simbus.specs.declared.equipment.LiveGear.{LiveGear}
 use Rattle.simbus.specs.declared.equipment.LiveInstance.{LiveInstance}
 use Rattle.simbus.specs.declared.equipment.Equipment.{Equipment}
-use Rattle.simbus.specs.Said.{fields_of, device_fields_of}
+use Rattle.simbus.specs.FrameFields.{fields_of, device_fields_of}
 use Rattle.simbus.specs.Answers.{reply_of}
-use Rattle.simbus.specs.Histories.{Setup, is_reached, same_frame, run_of, is_pair, device_dtr0, answer_of, gear_variables, variables_at, IsReachedBy, IsMissedBy}
+use Rattle.simbus.specs.Histories.{Setup, is_reached, same_frame, run_of, is_pair, device_dtr0, answer_of, gear_variables, variables_at, instance_variables, is_instance, instance_variables_at, IsReachedBy, IsMissedBy}
 use Rattle.simbus.specs.Instances.{dtr0_after_fields}
 use Rattle.simbus.specs.Kept.{live_gear, live_instance, gear_after_fields, live_instance_after_fields, live_answer, live_instance_answer, is_begun, setup_of, IsKept, IsAfterGearFields, IsAfterDeviceFields}
 use Rattle.simbus.proofs.Fields.{fields_of-is, device_fields_of-is}
@@ -174,6 +174,24 @@ found : (h : List Sent) (address : ℕ) (gears : List Gear) →
     ≡ option_map (λ (gear : Gear). gear_variables gear.address h) (find (λ (gear : Gear). gear.address == address) gears)
 found h address [] = refl
 found h address (g ∷ gears) = found_or (g.address == address) h g _ _ (found h address gears)
+
+found_instance_or : (b : Bool) (h : List Sent) (i : Instance) (x : Option LiveInstance) (y : Option Instance) →
+    option_map (λ (live : LiveInstance). live.variables) x ≡ option_map (λ (instance : Instance). instance_variables instance h) y →
+    option_map (λ (live : LiveInstance). live.variables) (cond b (Some (live_instance h i)) x)
+    ≡ option_map (λ (instance : Instance). instance_variables instance h) (cond b (Some i) y)
+found_instance_or false h i x y e = e
+found_instance_or true h i x y e = refl
+
+instance_found : (h : List Sent) (address number : ℕ) (instances : List Instance) →
+    option_map (λ (live : LiveInstance). live.variables) (find (λ (live : LiveInstance). is_instance address number live.instance) (map (live_instance h) instances))
+    ≡ option_map (λ (instance : Instance). instance_variables instance h) (find (is_instance address number) instances)
+instance_found h address number [] = refl
+instance_found h address number (i ∷ instances) = found_instance_or (is_instance address number i) h i _ _ (instance_found h address number instances)
+
+pub found_instance : (setup : Setup) (h : List Sent) (e : Equipment) (address number : ℕ) → IsKept setup h e →
+    option_map (λ (live : LiveInstance). live.variables) (find (λ (live : LiveInstance). is_instance address number live.instance) e.instances.items)
+    ≡ instance_variables_at setup h address number
+found_instance setup h e address number k = rw k.instances (instance_found h address number setup.instances)
 
 pub found_gear : (setup : Setup) (h : List Sent) (e : Equipment) (address : ℕ) → IsKept setup h e →
     option_map (λ (live : LiveGear). live.variables) (find (λ (live : LiveGear). live.gear.address == address) e.gears.items) ≡ variables_at setup h address

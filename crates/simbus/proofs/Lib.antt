@@ -1,4 +1,5 @@
 pub mod Fields
-pub mod Replies
-pub mod Steps
 pub mod Keeping
+pub mod Replies
+pub mod ScenarioSetups
+pub mod Steps

@@ -16,7 +16,7 @@ use Rattle.simbus.specs.declared.gears.GearVariables.{GearVariables}
 use Rattle.simbus.specs.declared.gears.MemoryByte.{MemoryByte}
 use Rattle.simbus.specs.Commands.{command_of}
 use Rattle.simbus.specs.Gears.{min_level, max_level, is_addressed}
-use Rattle.simbus.specs.Said.{fields_of}
+use Rattle.simbus.specs.FrameFields.{fields_of}
 
 -- YES is answered FF, and NO by silence
 abbrev pub yes_if : Bool → Option ℕ

@@ -9,7 +9,7 @@ use Rattle.simbus.specs.declared.commands.Command.{Command}
 use Rattle.simbus.specs.declared.commands.Command.TheVariants.{Act, Set, Ask, Nothing}
 use Rattle.simbus.specs.declared.gears.GearVariables.{GearVariables}
 use Rattle.simbus.specs.Commands.{command_of}
-use Rattle.simbus.specs.Said.{fields_of}
+use Rattle.simbus.specs.FrameFields.{fields_of}
 use Rattle.daliframe.specs.declared.addressing.Address.{Address}
 use Rattle.daliframe.specs.declared.addressing.Address.TheVariants.{Short, Group, Broadcast}
 use Rattle.daliframe.specs.declared.forward.Frame.{Frame}

@@ -82,6 +82,14 @@ abbrev pub variables_at : Setup → List Sent → ℕ → Option GearVariables
 variables_at setup earlier address =
     option_map (λ (gear : Gear). gear_variables gear.address earlier) (find (λ (gear : Gear). gear.address == address) setup.gears)
 
+-- the variables of an instance of a control device by its short address and number, where it is declared
+abbrev pub is_instance : ℕ → ℕ → Instance → Bool
+is_instance address number instance = instance.address == address && instance.number == number
+
+abbrev pub instance_variables_at : Setup → List Sent → ℕ → ℕ → Option InstanceVariables
+instance_variables_at setup earlier address number =
+    option_map (λ (instance : Instance). instance_variables instance earlier) (find (is_instance address number) setup.instances)
+
 -- a frame as it was sent, where it reached the bus, and one that did not
 abbrev pub IsReachedBy : Frame → Sent → Type 0
 IsReachedBy frame s = (s.frame ≡ frame) × (is_reached s.mark ≡ true)

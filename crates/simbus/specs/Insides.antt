@@ -1,7 +1,10 @@
--- What is inside a simulated bus, and what its callers see of it.
-use Rattle.std.specs.Prelude.{◌+◌, ◌≤◌, reverse, vec_len, vec_capacity}
+-- What is inside a simulated bus and a scripted clock, and what their callers see of it.
+use Rattle.std.specs.Prelude.{◌+◌, ◌≤◌, reverse, take, drop, vec_len, vec_capacity}
+use Rattle.std.specs.List.{AllPairs}
 use Rattle.std.specs.VecDeque.{deque_len, deque_capacity}
 use Rattle.simbus.specs.declared.buses.SimBus.TheInside.{Inside}
+use Rattle.simbus.specs.declared.clocks.ScriptedClock.TheInside as clocks
+use Rattle.simbus.specs.ScriptedTicks.{ScriptedTicks}
 use Rattle.simbus.specs.Simulated.{Simulated}
 use Rattle.simbus.specs.Kept.{setup_of, IsKept}
 
@@ -27,3 +30,14 @@ pub record IsSimBus (bus : Inside) : Type 0 where
   pub sent_spare : vec_len bus.sent + bus.spare ≤ vec_capacity bus.sent
   pub heard_spare : vec_len bus.heard + bus.spare ≤ vec_capacity bus.heard
   pub room : deque_len bus.waiting + deque_len bus.later ≤ deque_capacity bus.waiting
+
+abbrev pub scripted : clocks.Inside → ScriptedTicks
+scripted clock = record {
+  later = drop clock.given clock.moments.items;
+  log = record { given = take clock.given clock.moments.items; asks = clock.asks; gave_none = clock.gave_none };
+}
+
+-- Moments never fall, and those that were given are among them.
+pub record IsScriptedClock (clock : clocks.Inside) : Type 0 where
+  pub never_fall : AllPairs (λ earlier later. earlier ≤ later) clock.moments.items
+  pub given : clock.given ≤ vec_len clock.moments

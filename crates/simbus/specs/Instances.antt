@@ -9,7 +9,7 @@ use Rattle.simbus.specs.declared.instances.DeviceCommand.TheVariants.{Enable, Di
 use Rattle.simbus.specs.declared.instances.DeviceCommand.TheVariants.{QueryEventScheme, QueryInputValue, Nothing}
 use Rattle.simbus.specs.declared.instances.Instance.{Instance}
 use Rattle.simbus.specs.declared.instances.InstanceVariables.{InstanceVariables}
-use Rattle.simbus.specs.Said.{device_fields_of}
+use Rattle.simbus.specs.FrameFields.{device_fields_of}
 
 -- the opcodes of control devices
 unfoldable pub device_command_of : ℕ → DeviceCommand

@@ -1,10 +1,11 @@
-pub mod Commands
-pub mod Said
-pub mod Gears
 pub mod Answers
-pub mod Instances
+pub mod Commands
+pub mod FrameFields
+pub mod Gears
 pub mod Histories
-pub mod Kept
-pub mod Simulated
 pub mod Insides
+pub mod Instances
+pub mod Kept
+pub mod ScriptedTicks
 pub mod Setups
+pub mod Simulated

@@ -5,8 +5,8 @@ use Rattle.transact.specs.declared.marks.Reply.{Reply}
 use Rattle.transact.specs.declared.marks.Reply.TheVariants as reply
 use Rattle.buslink.specs.declared.faults.Fault.{Fault}
 use Rattle.buslink.specs.BusLog.{BusLog, after_hear}
-use Rattle.scenario.specs.declared.entries.Upset.{Upset}
-use Rattle.scenario.specs.declared.entries.Upset.TheVariants as upset
+use Rattle.scenario.specs.declared.entries.FrameFate.{FrameFate}
+use Rattle.scenario.specs.declared.entries.FrameFate.TheVariants as fate
 use Rattle.simbus.specs.declared.scripts.ScriptedReply.{ScriptedReply}
 use Rattle.simbus.specs.declared.setups.BusSetup.{BusSetup}
 use Rattle.simbus.specs.declared.scripts.Arrival.{Arrival}
@@ -39,20 +39,20 @@ new_bus setup script arrivals = record {
 }
 
 -- what the script says of the frame at a place, from 1
-abbrev pub upset_at : List ScriptedReply → ℕ → Option Upset
-upset_at script place = option_map (λ (r : ScriptedReply). r.upset) (find (λ (r : ScriptedReply). r.place == place) script)
+abbrev pub fate_at : List ScriptedReply → ℕ → Option FrameFate
+fate_at script place = option_map (λ (r : ScriptedReply). r.fate) (find (λ (r : ScriptedReply). r.place == place) script)
 
 -- what a frame comes to where the gear and devices would answer this
-abbrev pub SendsBy : Option Upset → Reply → Result Reply Fault → Type 0
+abbrev pub SendsBy : Option FrameFate → Reply → Result Reply Fault → Type 0
 SendsBy None answer result = result ≡ Ok answer
-SendsBy (Some upset.Lost) answer result = result ≡ Ok reply.Lost
-SendsBy (Some upset.Damaged) answer result = result ≡ Ok reply.Damaged
-SendsBy (Some upset.Fault) answer result = IsErr result
+SendsBy (Some fate.Lost) answer result = result ≡ Ok reply.Lost
+SendsBy (Some fate.Damaged) answer result = result ≡ Ok reply.Damaged
+SendsBy (Some fate.Fault) answer result = IsErr result
 
 -- what the next frame comes to: the script goes before the answer of gear and devices after all frames so far
 abbrev pub Sends : Simulated → Frame → Result Reply Fault → Type 0
 Sends bus frame result =
-    SendsBy (upset_at bus.script (length bus.log.sent + 1)) (answer_of bus.setup (reverse bus.log.sent) frame) result
+    SendsBy (fate_at bus.script (length bus.log.sent + 1)) (answer_of bus.setup (reverse bus.log.sent) frame) result
 
 -- what the next call that hears meets
 abbrev pub Hears : List Arrival → Result (Option ℕ) Fault → Type 0
@@ -68,3 +68,7 @@ after_hearing result bus = record bus { waiting = drop 1 bus.waiting; log = afte
 abbrev pub after_arrival : List Arrival → Simulated → Simulated
 after_arrival [] bus = bus
 after_arrival (next ∷ more) bus = record bus { waiting = bus.waiting ++ next ∷ []; later = more }
+
+-- all that comes later has come
+abbrev pub after_all_arrivals : Simulated → Simulated
+after_all_arrivals bus = record bus { waiting = bus.waiting ++ bus.later; later = [] }

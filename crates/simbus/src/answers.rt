@@ -1,6 +1,7 @@
 //! What simulated control gear answers.
 ghost use Rattle.std.specs.Prelude.{◌≡◌, ◌<◌, ◌≤◌, ◌^◌, length};
-ghost use Rattle.simbus.specs.Answers.{yes_if, is_lit, status, byte_of, memory_byte, answer_to, fields_answer};
+ghost use Rattle.simbus.specs.Answers.{yes_if, is_lit, status, byte_of, memory_byte, answer_to};
+ghost use Rattle.simbus.specs.Answers.{fields_answer};
 
 use crate::commands::{Command, Query};
 use crate::gears::{MAX_LEVEL, MIN_LEVEL};

@@ -1,21 +1,24 @@
 //! Simulated buses.
-ghost use Rattle.std.specs.Prelude.{◌≡◌, ◌+◌, ◌<◌, ◌≤◌, ◌↔◌, IfOk, IsOk, OnOk, IsTrue, length, reverse};
+ghost use Rattle.std.specs.Prelude.{◌≡◌, ◌+◌, ◌<◌, ◌≤◌, ◌↔◌, IfOk, IsOk, OnOk, IsTrue, length};
+ghost use Rattle.std.specs.Prelude.{reverse};
 ghost use Rattle.buslink.specs.BusLog.{after_send, with_spare, with_sent};
-ghost use Rattle.simbus.specs.Histories.{variables_at};
-ghost use Rattle.simbus.specs.Simulated.{setup_in, new_bus, upset_at, Sends, Hears, after_hearing, after_arrival};
+ghost use Rattle.simbus.specs.Histories.{variables_at, instance_variables_at};
+ghost use Rattle.simbus.specs.Simulated.{setup_in, new_bus, fate_at, Sends, Hears, after_hearing};
+ghost use Rattle.simbus.specs.Simulated.{after_arrival, after_all_arrivals};
 
 use crate::equipment::Equipment;
-use crate::scripts::upset_at;
-use crate::{Arrival, BusSetup, GearVariables, ScriptedReply};
+use crate::scripts::fate_at;
+use crate::{Arrival, BusSetup, GearVariables, InstanceVariables, ScriptedReply};
 use buslink::{Bus, Fault};
-use daliframe::{Frame, Frame24, ShortAddress};
-use scenario::Upset;
+use daliframe::{Frame, Frame24, InstanceNumber, ShortAddress};
+use scenario::FrameFate;
 use std::alloc::{AllocError, Global};
 use std::collections::VecDeque;
 use std::marker::Model;
 use transact::{Mark, Reply, Sent};
 
-/// A simulated bus. It never waits: a frame is answered at once, and a call that hears meets what came or nothing.
+/// A simulated bus. It never waits: a frame is answered at once, and a call that hears meets what
+/// came or nothing.
 #[derive(Drop)]
 pub struct SimBus {
     equipment: Equipment,
@@ -44,17 +47,20 @@ impl Model for SimBus {
 
 impl SimBus {
     /// What the script says of the next frame.
-    fn upset(&self) -> Option<Upset>
+    fn fate(&self) -> Option<FrameFate>
         requires { 0 < self.now.log.spare }
-        ensures { result ≡ upset_at self.now.script (length self.now.log.sent + 1) }
+        ensures { result ≡ fate_at self.now.script (length self.now.log.sent + 1) }
     {
-        upset_at(self.script.as_slice(), self.sent.len() as u64 + 1)
+        fate_at(self.script.as_slice(), self.sent.len() as u64 + 1)
     }
 
     /// Adds a frame that was sent, and what became of it.
     fn add(&mut self, frame: &Frame, priority: u8, mark: Mark)
         requires { 0 < self.old.log.spare }
-        ensures { self.new ≡ record self.old { log = with_sent frame.now priority mark self.old.log } }
+        ensures { self.new ≡ record self.old {
+          log = with_sent frame.now priority mark
+              self.old.log;
+        } }
     {
         self.equipment.see(frame, mark);
         self.sent
@@ -73,7 +79,8 @@ impl SimBus {
     ///
     /// Memory was refused.
     pub fn new(alloc: Global, setup: BusSetup) -> Result<Self, AllocError>
-        ensures { IfOk result (λ b. b ≡ new_bus (setup_in setup) setup.script.items setup.arrivals.items) }
+        ensures { IfOk result (λ b. b ≡ new_bus
+            (setup_in setup) setup.script.items setup.arrivals.items) }
     {
         let BusSetup {
             gears,
@@ -97,7 +104,8 @@ impl SimBus {
         })
     }
 
-    /// The next of what comes later comes now, and is met by a call that hears. Answers whether there was any.
+    /// The next of what comes later comes now, and is met by a call that hears. Answers whether
+    /// there was any.
     pub fn arrive(&mut self) -> bool
         ensures any { IsTrue result ↔ (0 < length self.old.later) }
         ensures after { self.new ≡ after_arrival self.old.later self.old }
@@ -111,11 +119,33 @@ impl SimBus {
         }
     }
 
-    /// The variables of the gear at a short address after all frames that were sent, where there is gear.
+    /// All that comes later comes now, and is met by the calls that hear, one after another in its
+    /// order. So a bus that is handed to a thread hears all its events.
+    pub fn arrive_all(&mut self)
+        ensures { self.new ≡ after_all_arrivals self.old }
+    {
+        while self.arrive() {}
+    }
+
+    /// The variables of the gear at a short address after all frames that were sent, where there is
+    /// gear.
     pub fn gear(&self, address: ShortAddress) -> Option<GearVariables>
         ensures { result ≡ variables_at self.now.setup (reverse self.now.log.sent) address }
     {
         self.equipment.gear(address)
+    }
+
+    /// The variables of an instance of a control device after all frames that were sent, where it
+    /// is declared: whether it is enabled, and its event scheme.
+    pub fn instance(
+        &self,
+        address: ShortAddress,
+        number: InstanceNumber,
+    ) -> Option<InstanceVariables>
+        ensures { result ≡ instance_variables_at self.now.setup
+            (reverse self.now.log.sent) address number }
+    {
+        self.equipment.instance(address, number)
     }
 
     /// The frames that were sent, first to last.
@@ -140,7 +170,10 @@ impl Bus for SimBus {
         ensures made { OnOk result (frames ≤ self.new.log.spare) }
         ensures already { frames ≤ self.old.log.spare → IsOk result }
         ensures keeps { self.old.log.spare ≤ self.new.log.spare }
-        ensures same { self.new ≡ record self.old { log = with_spare self.new.log.spare self.old.log } }
+        ensures same { self.new ≡ record self.old {
+          log = with_spare self.new.log.spare
+              self.old.log;
+        } }
     {
         if frames > self.spare {
             self.sent.reserve(frames)?;
@@ -153,23 +186,24 @@ impl Bus for SimBus {
     fn send(&mut self, frame: Frame, priority: u8) -> Result<Reply, Fault>
         requires { 0 < self.old.log.spare }
         ensures answer { Sends self.old frame result }
-        ensures after { self.new ≡ record self.old { log = after_send frame priority result self.old.log } }
+        ensures after { self.new ≡ record
+            self.old { log = after_send frame priority result self.old.log } }
     {
-        match self.upset() {
+        match self.fate() {
             None => {
                 let reply = self.equipment.reply(&frame);
                 self.add(&frame, priority, Mark::from(reply));
                 Ok(reply)
             }
-            Some(Upset::Damaged) => {
+            Some(FrameFate::Damaged) => {
                 self.add(&frame, priority, Mark::Damaged);
                 Ok(Reply::Damaged)
             }
-            Some(Upset::Lost) => {
+            Some(FrameFate::Lost) => {
                 self.add(&frame, priority, Mark::Lost);
                 Ok(Reply::Lost)
             }
-            Some(Upset::Fault) => {
+            Some(FrameFate::Fault) => {
                 self.add(&frame, priority, Mark::Failed);
                 self.failures = self.failures.wrapping_add(1);
                 Err(Fault)

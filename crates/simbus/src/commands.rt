@@ -1,16 +1,17 @@
 //! What an opcode commands control gear (IEC 62386-102, clause 11).
 ghost use Rattle.std.specs.Prelude.{◌≡◌, ◌/◌, ◌%◌, ◌<◌};
-ghost use Rattle.simbus.specs.Commands.{command_of, command_at, action_at, setting_at, query_at, level_query_at, group_query_at};
+ghost use Rattle.simbus.specs.Commands.{command_of, command_at, action_at, setting_at, query_at};
+ghost use Rattle.simbus.specs.Commands.{level_query_at, group_query_at};
 
 use std::marker::Model;
 
 /// The number of a scene or of a group, 0 to 15.
 #[derive(Clone, Copy, Debug, PartialEq, Eq)]
-pub(crate) struct Sixteenth {
+pub(crate) struct SceneOrGroup {
     number: u8,
 }
 
-impl Model for Sixteenth {
+impl Model for SceneOrGroup {
     ghost use Rattle.std.specs.Prelude.{ℕ, ◌<◌};
 
     ghost Value = { ℕ };
@@ -22,7 +23,7 @@ impl Model for Sixteenth {
     ghost inverse = { λ n. record { number = n } };
 }
 
-impl Sixteenth {
+impl SceneOrGroup {
     /// The number as an index.
     pub(crate) fn index(self) -> usize
         ensures value { result ≡ self }
@@ -43,7 +44,7 @@ pub(crate) enum Action {
     StepDownAndOff,
     OnAndStepUp,
     GoToLastActiveLevel,
-    GoToScene(Sixteenth),
+    GoToScene(SceneOrGroup),
 }
 
 /// A command that acts when it is sent twice.
@@ -51,10 +52,10 @@ pub(crate) enum Action {
 pub(crate) enum Setting {
     Reset,
     StoreActualLevelInDtr0,
-    SetScene(Sixteenth),
-    RemoveFromScene(Sixteenth),
-    AddToGroup(Sixteenth),
-    RemoveFromGroup(Sixteenth),
+    SetScene(SceneOrGroup),
+    RemoveFromScene(SceneOrGroup),
+    AddToGroup(SceneOrGroup),
+    RemoveFromGroup(SceneOrGroup),
 }
 
 /// A command that asks for an answer.
@@ -69,7 +70,7 @@ pub(crate) enum Query {
     ActualLevel,
     MaxLevel,
     MinLevel,
-    SceneLevel(Sixteenth),
+    SceneLevel(SceneOrGroup),
     Groups0To7,
     Groups8To15,
     /// READ MEMORY LOCATION.
@@ -93,18 +94,18 @@ impl Command {
         ensures { result ≡ command_of opcode }
     {
         let number = opcode % 16;
-        let sixteenth = Sixteenth { number };
+        let scene_or_group = SceneOrGroup { number };
         match opcode / 16 {
             0x0 => action_of(number),
-            0x1 => Command::Act(Action::GoToScene(sixteenth)),
+            0x1 => Command::Act(Action::GoToScene(scene_or_group)),
             0x2 => setting_of(number),
-            0x4 => Command::Set(Setting::SetScene(sixteenth)),
-            0x5 => Command::Set(Setting::RemoveFromScene(sixteenth)),
-            0x6 => Command::Set(Setting::AddToGroup(sixteenth)),
-            0x7 => Command::Set(Setting::RemoveFromGroup(sixteenth)),
+            0x4 => Command::Set(Setting::SetScene(scene_or_group)),
+            0x5 => Command::Set(Setting::RemoveFromScene(scene_or_group)),
+            0x6 => Command::Set(Setting::AddToGroup(scene_or_group)),
+            0x7 => Command::Set(Setting::RemoveFromGroup(scene_or_group)),
             0x9 => query_of(number),
             0xA => level_query(number),
-            0xB => Command::Ask(Query::SceneLevel(sixteenth)),
+            0xB => Command::Ask(Query::SceneLevel(scene_or_group)),
             0xC => group_query(number),
             _ => Command::Nothing,
         }

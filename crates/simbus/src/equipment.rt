@@ -3,15 +3,19 @@ ghost use Rattle.std.specs.Prelude.{◌≡◌, List, map, IfOk};
 ghost use Rattle.std.specs.List.{filter_map};
 ghost use Rattle.daliframe.specs.Frames.{HasFields16, HasFields24};
 ghost use Rattle.transact.specs.declared.marks.Sent.{Sent};
-ghost use Rattle.simbus.specs.Histories.{same_frame, Setup, answer_of, is_reached, variables_at, IsReachedBy, IsMissedBy};
+ghost use Rattle.simbus.specs.Histories.{same_frame, Setup, answer_of, is_reached, variables_at};
+ghost use Rattle.simbus.specs.Histories.{is_instance, instance_variables_at, IsReachedBy};
+ghost use Rattle.simbus.specs.Histories.{IsMissedBy};
 ghost use Rattle.simbus.specs.Answers.{reply_of};
 ghost use Rattle.simbus.specs.Instances.{dtr0_after_fields};
 ghost use Rattle.std.specs.Prelude.{[], ◌∷◌, ◌==◌, if◌then◌else◌, option_map, find};
-ghost use Rattle.simbus.specs.Kept.{live_gear, live_instance, IsAfterGearFields, IsAfterDeviceFields, IsKept, is_begun};
-ghost use Rattle.simbus.specs.Kept.{joined, gear_after_fields, live_instance_after_fields, live_answer, live_instance_answer};
+ghost use Rattle.simbus.specs.Kept.{live_gear, live_instance, IsAfterGearFields};
+ghost use Rattle.simbus.specs.Kept.{IsAfterDeviceFields, IsKept, is_begun};
+ghost use Rattle.simbus.specs.Kept.{joined, gear_after_fields, live_instance_after_fields};
+ghost use Rattle.simbus.specs.Kept.{live_answer, live_instance_answer};
 
 use crate::{Gear, GearVariables, Instance, InstanceVariables, MemoryByte};
-use daliframe::{Fields16, Fields24, Frame, ShortAddress};
+use daliframe::{Fields16, Fields24, Frame, InstanceNumber, ShortAddress};
 use std::alloc::{AllocError, Global};
 use transact::{Mark, Reply};
 
@@ -54,7 +58,8 @@ impl LiveInstance {
     }
 }
 
-/// What is on a bus. It keeps what all frames so far made of it, and of the frames the one that began a pair.
+/// What is on a bus. It keeps what all frames so far made of it, and of the frames the one that
+/// began a pair.
 #[derive(Drop)]
 pub(crate) struct Equipment {
     gears: Vec<LiveGear>,
@@ -112,7 +117,8 @@ fn gears_take(gears: &mut [LiveGear], fields: &Fields16, is_pair: bool)
 }
 
 fn instances_take(instances: &mut [LiveInstance], dtr0: u8, fields: &Fields24, is_pair: bool)
-    ensures { instances.new ≡ map (live_instance_after_fields is_pair dtr0 fields.now) instances.old }
+    ensures { instances.new ≡ map (live_instance_after_fields is_pair dtr0 fields.now)
+        instances.old }
 {
     for live in instances.iter_mut() {
         let before = *live;
@@ -173,11 +179,27 @@ fn begun_after(is_pair: bool, frame: &Frame) -> Option<Frame>
 
 /// The variables of the gear at a short address.
 fn gear_in(gears: &[LiveGear], address: ShortAddress) -> Option<GearVariables>
-    ensures { result ≡ option_map (λ live. live.variables) (find (λ live. live.gear.address == address) gears.now) }
+    ensures { result ≡ option_map (λ live. live.variables)
+        (find (λ live. live.gear.address == address) gears.now) }
 {
     gears
         .iter()
         .find(|live| live.gear.address.number() == address.number())
+        .map(|live| live.variables)
+}
+
+/// The variables of an instance of a control device.
+fn instance_in(
+    instances: &[LiveInstance],
+    address: ShortAddress,
+    number: InstanceNumber,
+) -> Option<InstanceVariables>
+    ensures { result ≡ option_map (λ live. live.variables)
+        (find (λ live. is_instance address number live.instance) instances.now) }
+{
+    instances
+        .iter()
+        .find(|live| live.instance.is_at(address, number))
         .map(|live| live.variables)
 }
 
@@ -189,7 +211,8 @@ impl Equipment {
         memory: Vec<MemoryByte>,
         instances: &[Instance],
     ) -> Result<Self, AllocError>
-        ensures { IfOk result (λ e. IsKept (record { gears = gears.now; memory = memory.items; instances = instances.now }) [] e) }
+        ensures { IfOk result (λ e. IsKept
+            (record { gears = gears.now; memory = memory.items; instances = instances.now }) [] e) }
     {
         let gears = live_gears(alloc, gears)?;
         let instances = live_instances(alloc, instances)?;
@@ -204,7 +227,8 @@ impl Equipment {
 
     /// What is answered to a frame.
     pub(crate) fn reply(&self, frame: &Frame) -> Reply
-        ensures { (setup : Setup) (earlier : List Sent) → IsKept setup earlier self.now → result ≡ answer_of setup earlier frame.now }
+        ensures { (setup : Setup) (earlier : List Sent) → IsKept setup earlier self.now
+            → result ≡ answer_of setup earlier frame.now }
     {
         match frame {
             Frame::Forward16(frame) => {
@@ -220,7 +244,8 @@ impl Equipment {
 
     /// A frame was sent, and this became of it.
     pub(crate) fn see(&mut self, frame: &Frame, mark: Mark)
-        ensures { (setup : Setup) (earlier : List Sent) (s : Sent) → s.frame ≡ frame.now → s.mark ≡ mark
+        ensures { (setup : Setup) (earlier : List Sent) (s : Sent) → s.frame ≡ frame.now
+            → s.mark ≡ mark
             → IsKept setup earlier self.old → IsKept setup (s ∷ earlier) self.new }
     {
         if is_reached(mark) {
@@ -232,9 +257,22 @@ impl Equipment {
 
     /// The variables of the gear at a short address, where there is gear.
     pub(crate) fn gear(&self, address: ShortAddress) -> Option<GearVariables>
-        ensures { (setup : Setup) (earlier : List Sent) → IsKept setup earlier self.now → result ≡ variables_at setup earlier address }
+        ensures { (setup : Setup) (earlier : List Sent) → IsKept setup earlier self.now
+            → result ≡ variables_at setup earlier address }
     {
         gear_in(self.gears.as_slice(), address)
+    }
+
+    /// The variables of an instance of a control device, where it is declared.
+    pub(crate) fn instance(
+        &self,
+        address: ShortAddress,
+        number: InstanceNumber,
+    ) -> Option<InstanceVariables>
+        ensures { (setup : Setup) (earlier : List Sent) → IsKept setup earlier self.now
+            → result ≡ instance_variables_at setup earlier address number }
+    {
+        instance_in(self.instances.as_slice(), address, number)
     }
 
     /// A frame reached the bus.
@@ -264,9 +302,11 @@ impl Equipment {
         self.device_dtr0 = dtr0_after(dtr0, fields);
     }
 
-    /// A frame was lost, or the bus interface failed at it: nobody saw it, and it ends a begun pair.
+    /// A frame was lost, or the bus interface failed at it: nobody saw it, and it ends a begun
+    /// pair.
     fn miss(&mut self)
-        ensures { (setup : Setup) (earlier : List Sent) (s : Sent) → IsMissedBy s → IsKept setup earlier self.old → IsKept setup (s ∷ earlier) self.new }
+        ensures { (setup : Setup) (earlier : List Sent) (s : Sent) → IsMissedBy s
+            → IsKept setup earlier self.old → IsKept setup (s ∷ earlier) self.new }
     {
         self.begun = None;
     }

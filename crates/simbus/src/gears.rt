@@ -1,9 +1,10 @@
 //! Simulated control gear.
 ghost use Rattle.std.specs.Prelude.{◌≡◌};
 ghost use Rattle.simbus.specs.Gears.{new_variables, at_level, to_level, after_action, with_scene};
-ghost use Rattle.simbus.specs.Gears.{with_member, after_setting, is_addressed, after_command, after_fields};
+ghost use Rattle.simbus.specs.Gears.{with_member, after_setting, is_addressed, after_command};
+ghost use Rattle.simbus.specs.Gears.{after_fields};
 
-use crate::commands::{Action, Command, Setting, Sixteenth};
+use crate::commands::{Action, Command, SceneOrGroup, Setting};
 use daliframe::{Address, Fields16, ShortAddress};
 
 /// The least level of simulated gear but for 0, which is off.
@@ -124,14 +125,14 @@ impl GearVariables {
         }
     }
 
-    fn with_scene(mut self, scene: Sixteenth, level: u8) -> Self
+    fn with_scene(mut self, scene: SceneOrGroup, level: u8) -> Self
         ensures { result ≡ with_scene scene level self }
     {
         self.scenes[scene.index()] = level;
         self
     }
 
-    fn with_member(mut self, group: Sixteenth, is_member: bool) -> Self
+    fn with_member(mut self, group: SceneOrGroup, is_member: bool) -> Self
         ensures { result ≡ with_member group is_member self }
     {
         self.groups[group.index()] = is_member;
@@ -159,7 +160,8 @@ impl GearVariables {
         }
     }
 
-    /// The variables of gear with this short address after a frame that says this, as the second of a pair or not.
+    /// The variables of gear with this short address after a frame that says this, as the second of
+    /// a pair or not.
     pub(crate) fn after_fields(self, own: ShortAddress, fields: &Fields16, is_pair: bool) -> Self
         ensures { result ≡ after_fields is_pair own fields.now self }
     {

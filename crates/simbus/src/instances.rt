@@ -1,6 +1,8 @@
 //! Simulated instances of control devices (profile).
 ghost use Rattle.std.specs.Prelude.{◌≡◌};
-ghost use Rattle.simbus.specs.Instances.{device_command_of, command_to, variables_of, instance_after_fields, instance_fields_answer};
+ghost use Rattle.simbus.specs.Instances.{device_command_of, command_to, variables_of};
+ghost use Rattle.simbus.specs.Instances.{instance_after_fields, instance_fields_answer};
+ghost use Rattle.simbus.specs.Histories.{is_instance};
 
 use daliframe::{Fields24, InstanceNumber, ShortAddress};
 
@@ -22,7 +24,9 @@ pub struct Instance {
 /// What commands change of an instance.
 #[derive(Clone, Copy, Debug, PartialEq, Eq)]
 pub struct InstanceVariables {
+    /// The event scheme, 0 to 4.
     pub scheme: u8,
+    /// Whether ENABLE INSTANCE or DISABLE INSTANCE was the last of the two; at first it is enabled.
     pub is_enabled: bool,
 }
 
@@ -58,7 +62,15 @@ impl DeviceCommand {
 }
 
 impl Instance {
-    /// The variables of an instance that no frame reached: enabled, with the scheme that was declared.
+    /// Whether it is the instance of this device with this number.
+    pub(crate) fn is_at(&self, address: ShortAddress, number: InstanceNumber) -> bool
+        ensures { result ≡ is_instance address number self.now }
+    {
+        self.address.number() == address.number() && self.number.number() == number.number()
+    }
+
+    /// The variables of an instance that no frame reached: enabled, with the scheme that was
+    /// declared.
     pub(crate) fn variables(&self) -> InstanceVariables
         ensures { result ≡ variables_of self.now }
     {
@@ -68,7 +80,8 @@ impl Instance {
         }
     }
 
-    /// The variables after a frame that says this, as the second of a pair or not, where DTR0 of the devices is `dtr0`.
+    /// The variables after a frame that says this, as the second of a pair or not, where DTR0 of
+    /// the devices is `dtr0`.
     pub(crate) fn after_fields(
         &self,
         variables: InstanceVariables,

@@ -1,13 +1,16 @@
-//! Simulated DALI-2 buses under a scenario. What the scenario says of one bus goes in: control gear, memory banks, instances
-//! of control devices, scripted replies and what comes to be heard. A bus comes out that never waits: it answers each frame
-//! as the gear and devices do after all frames that were sent before. What they answer is a function of the list of those
-//! frames: `specs/Histories.antt`, with `specs/Gears.antt`, `specs/Answers.antt` and `specs/Instances.antt` (IEC 62386-102,
-//! clauses 9 to 11, and profile for control devices and scripts). `specs/Simulated.antt` says what a bus is to its callers,
-//! and `specs/Setups.antt` what a scenario says of one.
+//! Simulated DALI-2 buses under a scenario. What the scenario says of one bus goes in: control
+//! gear, memory banks, instances of control devices, scripted replies and what comes to be heard. A
+//! bus comes out that never waits: it answers each frame as the gear and devices do after all
+//! frames that were sent before. What they answer is a function of the list of those frames:
+//! `specs/Histories.antt`, with `specs/Gears.antt`, `specs/Answers.antt` and `specs/Instances.antt`
+//! (IEC 62386-102, clauses 9 to 11, and profile for control devices and scripts).
+//! `specs/Simulated.antt` says what a bus is to its callers, and `specs/Setups.antt` what a
+//! scenario says of one.
 #![tactic(auto)]
 
 mod answers;
 mod buses;
+mod clocks;
 mod commands;
 mod equipment;
 mod gears;
@@ -17,11 +20,14 @@ mod scripts;
 mod setup_tests;
 mod setups;
 #[cfg(test)]
+mod size_tests;
+#[cfg(test)]
 mod tests;
 
 pub use buses::SimBus;
+pub use clocks::ScriptedClock;
 pub use gears::{Gear, GearVariables, MemoryByte};
 pub use instances::{Instance, InstanceVariables};
-pub use scenario::{Entry, Scenario, ScenarioCause, ScenarioFault, Upset, parse};
+pub use scenario::{Entry, FrameFate, Scenario, ScenarioCause, ScenarioFault, parse};
 pub use scripts::{Arrival, ScriptedReply};
 pub use setups::BusSetup;

@@ -1,16 +1,16 @@
 //! What a scenario scripts for a bus.
 ghost use Rattle.std.specs.Prelude.{◌≡◌};
-ghost use Rattle.simbus.specs.Simulated.{upset_at};
+ghost use Rattle.simbus.specs.Simulated.{fate_at};
 
 use daliframe::Frame24;
-use scenario::Upset;
+use scenario::FrameFate;
 
-/// An upset of a frame by its place.
+/// What becomes of a frame that is sent, by its place.
 #[derive(Clone, Copy, Debug, PartialEq, Eq)]
 pub struct ScriptedReply {
     /// The place of the frame among those sent on the bus, from 1.
     pub place: u64,
-    pub upset: Upset,
+    pub fate: FrameFate,
 }
 
 /// What a call that hears meets.
@@ -23,11 +23,11 @@ pub enum Arrival {
 }
 
 /// What becomes of the frame at this place.
-pub(crate) fn upset_at(script: &[ScriptedReply], place: u64) -> Option<Upset>
-    ensures { result ≡ upset_at script.now place }
+pub(crate) fn fate_at(script: &[ScriptedReply], place: u64) -> Option<FrameFate>
+    ensures { result ≡ fate_at script.now place }
 {
     script
         .iter()
         .find(|reply| reply.place == place)
-        .map(|reply| reply.upset)
+        .map(|reply| reply.fate)
 }

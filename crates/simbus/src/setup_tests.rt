@@ -1,8 +1,8 @@
 //! What a scenario says of its buses, and the worked example of its language.
-use crate::{BusSetup, SimBus, Upset, parse};
+use crate::{BusSetup, FrameFate, SimBus, parse};
 use buslink::{Bus, perform};
-use daliframe::{Address, Frame, Frame16, Frame24};
-use gearcmd::{GearSetCommand, Request, TaskKind};
+use daliframe::{Address, BusNumber, Frame, Frame16, Frame24};
+use gearcmd::{Command, GearSetCommand, Request, TaskKind};
 use std::test::Fail;
 use transact::{Outcome, Reply, Transaction};
 
@@ -21,7 +21,7 @@ fn setup_of_one_bus(rt: HostRuntime) -> Result<(), Fail> {
     assert_eq!(rt; setup.instances.len(), 1);
     assert!(rt; setup.instances[0].scheme == 3);
     assert_eq!(rt; setup.script.len(), 1);
-    assert!(rt; setup.script[0].upset == Upset::Lost);
+    assert!(rt; setup.script[0].fate == FrameFate::Lost);
     assert_eq!(rt; setup.arrivals.len(), 2);
     Ok(())
 }
@@ -37,10 +37,14 @@ fn worked_example(rt: HostRuntime) -> Result<(), Fail> {
     };
     let setup = BusSetup::of(rt.alloc(), &scenario, 0)?;
     let mut bus = Box::new(rt.alloc(), SimBus::new(rt.alloc(), setup)?)?;
-    let request = Request::GearSet {
+    let command = Command::GearSet {
         address: Address::from_number(5).ok_or("short 5")?,
         command: GearSetCommand::new(9).ok_or("a command")?,
         value: 100,
+    };
+    let request = Request {
+        bus: BusNumber::default(),
+        command,
     };
     let report = perform(&mut *bus, &Transaction::of(&request, TaskKind::Cyclic))?;
     assert!(rt; report.outcome() == Outcome::Done(Reply::Quiet));

@@ -1,7 +1,8 @@
 //! What a scenario says of one bus.
 ghost use Rattle.std.specs.Prelude.{◌≡◌, IfOk};
 ghost use Rattle.std.specs.List.{filter_map, list_any};
-ghost use Rattle.simbus.specs.Setups.{gear_on, memory_on, instance_on, reply_on, arrival_on, has_lamp_failure, gear_with_lamp, gears_on};
+ghost use Rattle.simbus.specs.Setups.{gear_on, memory_on, instance_on, reply_on, arrival_on};
+ghost use Rattle.simbus.specs.Setups.{has_lamp_failure, gear_with_lamp};
 
 use crate::{Arrival, Gear, Instance, MemoryByte, ScriptedReply};
 use daliframe::ShortAddress;
@@ -26,11 +27,16 @@ impl BusSetup {
     ///
     /// Memory was refused.
     pub fn of(alloc: Global, scenario: &Scenario, bus: u8) -> Result<Self, AllocError>
-        ensures gears { IfOk result (λ s. s.gears.items ≡ gears_on bus scenario.now) }
-        ensures memory { IfOk result (λ s. s.memory.items ≡ filter_map (memory_on bus) scenario.now) }
-        ensures instances { IfOk result (λ s. s.instances.items ≡ filter_map (instance_on bus) scenario.now) }
-        ensures script { IfOk result (λ s. s.script.items ≡ filter_map (reply_on bus) scenario.now) }
-        ensures arrivals { IfOk result (λ s. s.arrivals.items ≡ filter_map (arrival_on bus) scenario.now) }
+        ensures gears { IfOk result (λ s. s.gears.items ≡ filter_map
+            (gear_on bus scenario.now) scenario.now) }
+        ensures memory { IfOk result (λ s. s.memory.items ≡ filter_map
+            (memory_on bus) scenario.now) }
+        ensures instances { IfOk result (λ s. s.instances.items ≡ filter_map
+            (instance_on bus) scenario.now) }
+        ensures script { IfOk result (λ s. s.script.items ≡ filter_map
+            (reply_on bus) scenario.now) }
+        ensures arrivals { IfOk result (λ s. s.arrivals.items ≡ filter_map
+            (arrival_on bus) scenario.now) }
     {
         let entries = scenario.lines();
         Ok(BusSetup {
@@ -43,16 +49,7 @@ impl BusSetup {
     }
 }
 
-/// The short address of the gear that an entry declares on a bus.
-fn gear_on(entry: &Entry, bus: u8) -> Option<ShortAddress>
-    ensures { result ≡ gear_on bus entry.now }
-{
-    match entry {
-        Entry::Gear { bus: on, short } if *on == bus => Some(*short),
-        _ => None,
-    }
-}
-
+/// A byte of memory that an entry says of gear on a bus.
 fn memory_on(entry: &Entry, bus: u8) -> Option<MemoryByte>
     ensures { result ≡ memory_on bus entry.now }
 {
@@ -73,6 +70,7 @@ fn memory_on(entry: &Entry, bus: u8) -> Option<MemoryByte>
     }
 }
 
+/// The instance that an entry declares on a bus.
 fn instance_on(entry: &Entry, bus: u8) -> Option<Instance>
     ensures { result ≡ instance_on bus entry.now }
 {
@@ -95,6 +93,7 @@ fn instance_on(entry: &Entry, bus: u8) -> Option<Instance>
     }
 }
 
+/// What an entry says that becomes of a frame on a bus.
 fn reply_on(entry: &Entry, bus: u8) -> Option<ScriptedReply>
     ensures { result ≡ reply_on bus entry.now }
 {
@@ -102,15 +101,16 @@ fn reply_on(entry: &Entry, bus: u8) -> Option<ScriptedReply>
         Entry::Reply {
             bus: on,
             place,
-            upset,
+            fate,
         } if *on == bus => Some(ScriptedReply {
             place: *place,
-            upset: *upset,
+            fate: *fate,
         }),
         _ => None,
     }
 }
 
+/// What an entry says that comes to be heard on a bus.
 fn arrival_on(entry: &Entry, bus: u8) -> Option<Arrival>
     ensures { result ≡ arrival_on bus entry.now }
 {
@@ -131,6 +131,7 @@ fn has_lamp_failure(entry: &Entry, bus: u8, gear: ShortAddress) -> bool
     }
 }
 
+/// Whether one of these entries says that the lamp of this gear failed.
 fn has_failed_lamp(entries: &[Entry], bus: u8, address: ShortAddress) -> bool
     ensures { result ≡ list_any (has_lamp_failure bus address) entries.now }
 {
@@ -139,6 +140,7 @@ fn has_failed_lamp(entries: &[Entry], bus: u8, address: ShortAddress) -> bool
         .any(|entry| has_lamp_failure(entry, bus, address))
 }
 
+/// Gear at a short address, with its lamp as these entries say.
 fn gear_with_lamp(entries: &[Entry], bus: u8, address: ShortAddress) -> Gear
     ensures { result ≡ gear_with_lamp bus entries.now address }
 {
@@ -148,16 +150,27 @@ fn gear_with_lamp(entries: &[Entry], bus: u8, address: ShortAddress) -> Gear
     }
 }
 
+/// The gear that an entry, one of these, declares on a bus, with its lamp.
+fn gear_on(entry: &Entry, entries: &[Entry], bus: u8) -> Option<Gear>
+    ensures { result ≡ gear_on bus entries.now entry.now }
+{
+    match entry {
+        Entry::Gear { bus: on, short } if *on == bus => Some(gear_with_lamp(entries, bus, *short)),
+        _ => None,
+    }
+}
+
+/// The gear on a bus, in the order of their lines.
 fn gears_on(alloc: Global, entries: &[Entry], bus: u8) -> Result<Vec<Gear>, AllocError>
-    ensures { IfOk result (λ v. v.items ≡ gears_on bus entries.now) }
+    ensures { IfOk result (λ v. v.items ≡ filter_map (gear_on bus entries.now) entries.now) }
 {
     entries
         .iter()
-        .filter_map(|entry| gear_on(entry, bus))
-        .map(|address| gear_with_lamp(entries, bus, address))
+        .filter_map(|entry| gear_on(entry, entries, bus))
         .collect(alloc)
 }
 
+/// The memory of the gear on a bus, in the order of the lines.
 fn all_memory_on(alloc: Global, entries: &[Entry], bus: u8) -> Result<Vec<MemoryByte>, AllocError>
     ensures { IfOk result (λ v. v.items ≡ filter_map (memory_on bus) entries.now) }
 {
@@ -167,6 +180,7 @@ fn all_memory_on(alloc: Global, entries: &[Entry], bus: u8) -> Result<Vec<Memory
         .collect(alloc)
 }
 
+/// The instances on a bus, in the order of their lines.
 fn instances_on(alloc: Global, entries: &[Entry], bus: u8) -> Result<Vec<Instance>, AllocError>
     ensures { IfOk result (λ v. v.items ≡ filter_map (instance_on bus) entries.now) }
 {
@@ -176,6 +190,7 @@ fn instances_on(alloc: Global, entries: &[Entry], bus: u8) -> Result<Vec<Instanc
         .collect(alloc)
 }
 
+/// What becomes of frames on a bus, in the order of the lines.
 fn replies_on(alloc: Global, entries: &[Entry], bus: u8) -> Result<Vec<ScriptedReply>, AllocError>
     ensures { IfOk result (λ v. v.items ≡ filter_map (reply_on bus) entries.now) }
 {
@@ -185,6 +200,7 @@ fn replies_on(alloc: Global, entries: &[Entry], bus: u8) -> Result<Vec<ScriptedR
         .collect(alloc)
 }
 
+/// What comes to be heard on a bus, in the order of the lines.
 fn arrivals_on(alloc: Global, entries: &[Entry], bus: u8) -> Result<Vec<Arrival>, AllocError>
     ensures { IfOk result (λ v. v.items ≡ filter_map (arrival_on bus) entries.now) }
 {

@@ -1,12 +1,14 @@
 //! Worked frames on simulated buses, and transactions of all kinds under all scripts.
 use crate::{Arrival, BusSetup, Gear, Instance, MemoryByte, ScriptedReply, SimBus};
 use buslink::{Bus, Fault, perform};
-use daliframe::{Address, Frame, Frame16, Frame24, InstanceNumber, ShortAddress};
-use gearcmd::{
-    DevAskCommand, DevDoCommand, GearAskCommand, GearDoCommand, GearPairCommand, GearSetCommand,
-    Request, SchemeNumber, TaskKind,
+use daliframe::{
+    Address, BusNumber, EventScheme, Frame, Frame16, Frame24, InstanceNumber, ShortAddress,
 };
-use scenario::Upset;
+use gearcmd::{
+    Command, DevAskCommand, DevDoCommand, GearAskCommand, GearDoCommand, GearPairCommand,
+    GearSetCommand, Request, TaskKind,
+};
+use scenario::FrameFate;
 use std::alloc::{AllocError, Global};
 use std::process::Abort;
 use std::test::Fail;
@@ -220,6 +222,36 @@ fn commands_of_gear(rt: HostRuntime) -> Result<(), Fail> {
     Ok(())
 }
 
+/// Whether instance 2 of device 5 is enabled.
+fn is_enabled(bus: &SimBus) -> Option<bool> {
+    let address = ShortAddress::new(5)?;
+    let variables = bus.instance(address, InstanceNumber::new(2)?)?;
+    Some(variables.is_enabled)
+}
+
+#[test]
+fn instances_are_enabled_and_disabled(rt: HostRuntime) -> Result<(), Fail> {
+    let mut bus = SimBus::new(rt.alloc(), setup(rt.alloc(), 1)?)?;
+    for (frame, expected) in [
+        (0x0B_0280, true),
+        (0x0B_0263, true),
+        (0x0B_0263, false),
+        (0x0B_0262, false),
+        (0x0B_0263, false),
+        (0x0B_0262, false),
+        (0x0B_0262, true),
+    ] {
+        bus.room(1)?;
+        let frame = Frame24::new(frame).ok_or("24 bits")?;
+        let _reply = bus.send(Frame::Forward24(frame), 2);
+        assert!(rt; is_enabled(&bus) == Some(expected), "{frame}");
+    }
+    let other = ShortAddress::new(6).ok_or("short 6")?;
+    let number = InstanceNumber::new(2).ok_or("instance 2")?;
+    assert!(rt; bus.instance(other, number).is_none());
+    Ok(())
+}
+
 #[test]
 fn commands_of_devices(rt: HostRuntime) -> Result<(), Fail> {
     let mut bus = SimBus::new(rt.alloc(), setup(rt.alloc(), 1)?)?;
@@ -248,34 +280,27 @@ fn commands_of_devices(rt: HostRuntime) -> Result<(), Fail> {
     Ok(())
 }
 
-/// A request to gear of each kind, 0 to 6, and how many frames it has.
-fn gear_request(kind: u8) -> Option<(Request, usize)> {
+/// A command to gear of each kind, 1 to 6, and how many frames it has.
+fn gear_command(kind: u8) -> Option<(Command, usize)> {
     let short = ShortAddress::new(5)?;
     let address = Address::Short(short);
     Some(match kind {
-        0 => (
-            Request::Output {
-                address,
-                level: 100,
-            },
-            1,
-        ),
         1 => (
-            Request::GearLevel {
+            Command::GearLevel {
                 address,
                 level: 100,
             },
             1,
         ),
         2 => (
-            Request::GearDo {
+            Command::GearDo {
                 address,
                 command: GearDoCommand::new(5)?,
             },
             1,
         ),
         3 => (
-            Request::GearSet {
+            Command::GearSet {
                 address,
                 command: GearSetCommand::new(9)?,
                 value: 100,
@@ -283,21 +308,21 @@ fn gear_request(kind: u8) -> Option<(Request, usize)> {
             3,
         ),
         4 => (
-            Request::GearPair {
+            Command::GearPair {
                 address,
                 command: GearPairCommand::new(1)?,
             },
             2,
         ),
         5 => (
-            Request::GearAsk {
+            Command::GearAsk {
                 address: short,
                 command: GearAskCommand::new(0)?,
             },
             1,
         ),
         6 => (
-            Request::GearRead {
+            Command::GearRead {
                 address: short,
                 bank: 2,
                 offset: 3,
@@ -308,13 +333,13 @@ fn gear_request(kind: u8) -> Option<(Request, usize)> {
     })
 }
 
-/// A request to an instance of each kind, 7 to 9, and how many frames it has.
-fn device_request(kind: u8) -> Option<(Request, usize)> {
+/// A command to an instance of each kind, 7 to 9, and how many frames it has.
+fn device_command(kind: u8) -> Option<(Command, usize)> {
     let address = ShortAddress::new(5)?;
     let instance = InstanceNumber::new(2)?;
     Some(match kind {
         7 => (
-            Request::DevDo {
+            Command::DevDo {
                 address,
                 instance,
                 command: DevDoCommand::new(1)?,
@@ -322,15 +347,15 @@ fn device_request(kind: u8) -> Option<(Request, usize)> {
             2,
         ),
         8 => (
-            Request::DevScheme {
+            Command::DevScheme {
                 address,
                 instance,
-                scheme: SchemeNumber::new(2)?,
+                scheme: EventScheme::new(2)?,
             },
             3,
         ),
         9 => (
-            Request::DevAsk {
+            Command::DevAsk {
                 address,
                 instance,
                 command: DevAskCommand::new(2)?,
@@ -341,16 +366,28 @@ fn device_request(kind: u8) -> Option<(Request, usize)> {
     })
 }
 
-/// A request of each kind, 0 to 9, and how many frames it has.
-fn request(kind: u8) -> Option<(Request, usize)> {
-    if kind < 7 {
-        gear_request(kind)
-    } else {
-        device_request(kind)
-    }
+/// The transaction of a command on bus 15.
+fn transaction_of(command: Command) -> Option<Transaction> {
+    let bus = BusNumber::new(15)?;
+    let request = Request { bus, command };
+    Some(Transaction::of(&request, TaskKind::Cyclic))
 }
 
-/// The outcome of a request that nothing upsets.
+/// A transaction of each kind, 0 to 9, of which 0 is a level output's, and how many frames it has.
+fn transaction(kind: u8) -> Option<(Transaction, usize)> {
+    if kind == 0 {
+        let address = Address::Short(ShortAddress::new(5)?);
+        return Some((Transaction::of_level(address, 100, TaskKind::Cyclic), 1));
+    }
+    let (command, count) = if kind < 7 {
+        gear_command(kind)?
+    } else {
+        device_command(kind)?
+    };
+    Some((transaction_of(command)?, count))
+}
+
+/// The outcome of a request that is neither lost, damaged nor failed at.
 fn plain(kind: u8) -> Outcome {
     Outcome::Done(match kind {
         5 => Reply::Answer(0),
@@ -360,52 +397,51 @@ fn plain(kind: u8) -> Outcome {
     })
 }
 
-/// So many attempts lose their first frame, and then the frame at this place of an attempt is upset.
+/// So many attempts lose their first frame, and then the frame at this place of an attempt has this fate.
 fn script(
     alloc: Global,
     lost: usize,
     place: usize,
-    upset: Upset,
+    fate: FrameFate,
 ) -> Result<Vec<ScriptedReply>, AllocError> {
     let mut script = Vec::new(alloc);
     for first in 0..lost.min(3) {
         script.push(ScriptedReply {
             place: first as u64 + 1,
-            upset: Upset::Lost,
+            fate: FrameFate::Lost,
         })?;
     }
     script.push(ScriptedReply {
         place: (lost.min(3) + place.min(3)) as u64,
-        upset,
+        fate,
     })?;
     Ok(script)
 }
 
 #[test]
-fn every_upset_of_every_kind(rt: HostRuntime) -> Result<(), Fail> {
+fn every_fate_of_every_kind(rt: HostRuntime) -> Result<(), Fail> {
     for kind in 0..10 {
-        let (request, count) = request(kind).ok_or("a request")?;
-        let transaction = Transaction::of(&request, TaskKind::Cyclic);
+        let (transaction, count) = transaction(kind).ok_or("a transaction")?;
         for lost in 0..3usize {
             for place in 1..count.min(3) + 1 {
-                for upset in [Upset::Lost, Upset::Damaged, Upset::Fault] {
+                for fate in [FrameFate::Lost, FrameFate::Damaged, FrameFate::Fault] {
                     let mut setup = setup(rt.alloc(), 1)?;
-                    setup.script = script(rt.alloc(), lost, place, upset)?;
+                    setup.script = script(rt.alloc(), lost, place, fate)?;
                     let mut bus = SimBus::new(rt.alloc(), setup)?;
                     let report = perform(&mut bus, &transaction)?;
-                    let (frames, outcome) = match upset {
-                        Upset::Lost if lost == 2 => (lost + place, Outcome::GaveUp),
-                        Upset::Lost => (lost + place + count.min(3), plain(kind)),
-                        Upset::Damaged if place == count => (
+                    let (frames, outcome) = match fate {
+                        FrameFate::Lost if lost == 2 => (lost + place, Outcome::GaveUp),
+                        FrameFate::Lost => (lost + place + count.min(3), plain(kind)),
+                        FrameFate::Damaged if place == count => (
                             lost + place,
                             Outcome::Done(Reply::Damaged),
                         ),
-                        Upset::Damaged => (lost + count.min(3), plain(kind)),
-                        Upset::Fault => (lost + place, Outcome::Failed),
+                        FrameFate::Damaged => (lost + count.min(3), plain(kind)),
+                        FrameFate::Fault => (lost + place, Outcome::Failed),
                     };
                     assert!(rt;
                         report.outcome() == outcome,
-                        "{kind} {lost} {place} {upset:?}"
+                        "{kind} {lost} {place} {fate:?}"
                     );
                     assert_eq!(rt; report.attempts().len(), frames);
                     assert_eq!(rt; bus.sent().len(), frames);
@@ -418,11 +454,11 @@ fn every_upset_of_every_kind(rt: HostRuntime) -> Result<(), Fail> {
 
 #[test]
 fn fault_at_second_frame(rt: HostRuntime) -> Result<(), Fail> {
-    let (request, _) = request(3).ok_or("a request")?;
+    let (transaction, _) = transaction(3).ok_or("a transaction")?;
     let mut setup = setup(rt.alloc(), 1)?;
-    setup.script = script(rt.alloc(), 0, 2, Upset::Fault)?;
+    setup.script = script(rt.alloc(), 0, 2, FrameFate::Fault)?;
     let mut bus = SimBus::new(rt.alloc(), setup)?;
-    let report = perform(&mut bus, &Transaction::of(&request, TaskKind::Cyclic))?;
+    let report = perform(&mut bus, &transaction)?;
     assert!(rt; report.outcome() == Outcome::Failed);
     let mut text = String::new(rt.alloc());
     for sent in bus.sent() {

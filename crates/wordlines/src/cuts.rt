@@ -7,8 +7,10 @@ ghost use Rattle.wordlines.specs.WordLines.{parts_of};
 
 /// The bytes before the first `mark`, and those after it where it stands there.
 pub(crate) fn cut_at(bytes: &[u8], mark: u8) -> (&[u8], Option<&[u8]>)
-    ensures parts { slice_split (λ byte. byte == mark) bytes.now ≡ result.0.now ∷ parts_of mark (option_copied result.1) }
-    ensures shorter { MatchOption result.1 (result.0.now ≡ bytes.now) (λ after. length after.now < length bytes.now) }
+    ensures parts { slice_split (λ byte. byte == mark) bytes.now ≡ result.0.now ∷ parts_of mark
+        (option_copied result.1) }
+    ensures shorter { MatchOption result.1 (result.0.now ≡ bytes.now)
+        (λ after. length after.now < length bytes.now) }
 {
     match place_of(bytes, mark) {
         None => (bytes, None),

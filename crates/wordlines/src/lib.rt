@@ -1,6 +1,7 @@
-//! Files of lines of words, as bindings and scenarios are: a line ends with LF or CR LF, and exactly one space stands
-//! between two words. What crosses the boundary: bytes, their first line, and of a line the words that are left
-//! ([`Words`]) and the numbers that words spell. What these are stands in specs/WordLines.antt.
+//! Files of lines of words, as bindings and scenarios are: a line ends with LF or CR LF, and
+//! exactly one space stands between two words. What crosses the boundary: bytes, their first line,
+//! and of a line the words that are left ([`Words`]) and the numbers that words spell. What these
+//! are stands in specs/WordLines.antt.
 #![tactic(auto)]
 
 mod cuts;

@@ -5,9 +5,11 @@ ghost use Rattle.std.specs.Option.{SomeIff};
 ghost use Rattle.std.specs.Str.Parse.{IsNumeral, digits_value};
 ghost use Rattle.wordlines.specs.WordLines.{number_upto, hex_number};
 
-/// The number that decimal digits alone spell, where it is at most `most`. Leading zeros are allowed.
+/// The number that decimal digits alone spell, where it is at most `most`. Leading zeros are
+/// allowed.
 pub fn number_of(digits: &[u8], most: u64) -> Option<u64>
-    ensures exact { SomeIff result (IsNumeral 10 digits.now × (digits_value 10 digits.now ≤ most)) (digits_value 10 digits.now) }
+    ensures exact { SomeIff result (IsNumeral 10 digits.now × (digits_value 10 digits.now ≤ most))
+        (digits_value 10 digits.now) }
     ensures value { result ≡ number_upto most digits.now }
 {
     let number = value_of(digits, 10)?;
@@ -31,7 +33,8 @@ pub fn hex_of(digits: &[u8]) -> Option<u32>
 fn value_of(digits: &[u8], radix: u32) -> Option<u64>
     requires least { 2 ≤ radix }
     requires most { radix ≤ 36 }
-    ensures { SomeIff result (IsNumeral radix digits.now × (digits_value radix digits.now < 2 ^ 64)) (digits_value radix digits.now) }
+    ensures { SomeIff result (IsNumeral radix digits.now × (digits_value radix digits.now < 2 ^ 64))
+        (digits_value radix digits.now) }
 {
     if digits.is_empty() {
         return None;

@@ -32,9 +32,11 @@ impl<'a> Words<'a> {
         Words { rest: Some(line) }
     }
 
-    /// Takes the first word that is left. It is empty where two spaces meet, or one stands at an end.
+    /// Takes the first word that is left. It is empty where two spaces meet, or one stands at an
+    /// end.
     pub fn next(&mut self) -> Option<&'a [u8]>
-        ensures { MatchOption result ((self.old ≡ []) × (self.new ≡ [])) (λ word. self.old ≡ word.now ∷ self.new) }
+        ensures { MatchOption result ((self.old ≡ []) × (self.new ≡ []))
+            (λ word. self.old ≡ word.now ∷ self.new) }
     {
         let (word, rest) = cut_at(self.rest?, b' ');
         self.rest = rest;

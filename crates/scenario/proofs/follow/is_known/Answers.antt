@@ -34,4 +34,4 @@ returns-then-has_device c =
 
 pub returns-in-Reply : goal.returns-in-Reply
 returns-in-Reply c =
-    known_as c.args.before.now c.args.entry.now (Reply c.in-Reply.bus c.in-Reply.place c.in-Reply.upset) c.in-Reply.is (not c.has_reply.result) (lacks c.has_reply.result _ c.has_reply.ensures)
+    known_as c.args.before.now c.args.entry.now (Reply c.in-Reply.bus c.in-Reply.place c.in-Reply.fate) c.in-Reply.is (not c.has_reply.result) (lacks c.has_reply.result _ c.has_reply.ensures)

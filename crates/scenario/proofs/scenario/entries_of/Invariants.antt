@@ -1,7 +1,7 @@
 use Rattle.std.proofs.Common.{◌≡◌, ◌≤◌, ◌+◌, [], length}
 use Rattle.scenario.specs.Following.{clock, FollowOneAnother}
-use Rattle.scenario.proofs.TellingLines.{IsRead}
-use Rattle.scenario.proofs.scenario.told_by.Given as goal
+use Rattle.scenario.proofs.ScenarioReading.{IsRead}
+use Rattle.scenario.proofs.scenario.entries_of.Given as goal
 
 abbrev pub invariant-lines : goal.invariant-lines
 invariant-lines l =

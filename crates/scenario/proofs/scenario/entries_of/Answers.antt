@@ -1,11 +1,12 @@
 use Rattle.std.proofs.Common.{◌≡◌, ◌++◌, [], ◌∷◌, List, true, ap, sym, subst, ◌∙◌, Option, ℕ, arith}
 use Rattle.scenario.specs.Following.{clock, clock_after, FollowOneAnother}
-use Rattle.scenario.specs.Scenarios.{Adds}
+use Rattle.wordlines.specs.LineRules.{Adds}
+use Rattle.scenario.specs.Scenarios.{scenario_rules}
 use Rattle.scenario.specs.declared.entries.Entry.{Entry}
 use Rattle.scenario.proofs.Orders.{follow-push, clock-push}
-use Rattle.scenario.proofs.TellingLines.{skipped_read, entry_read}
-use Rattle.scenario.proofs.scenario.told_by.Goals as goal
-use Rattle.scenario.proofs.scenario.told_by.Goals.{then-not-is_skipped+in-Some+in_ok-push, else-not-is_skipped}
+use Rattle.scenario.proofs.ScenarioReading.{skipped_read, entry_read}
+use Rattle.scenario.proofs.scenario.entries_of.Goals as goal
+use Rattle.scenario.proofs.scenario.entries_of.Goals.{then-not-is_skipped+in-Some+in_ok-push, else-not-is_skipped}
 
 pub lines-preserved : goal.lines-preserved
 lines-preserved c =
@@ -20,7 +21,7 @@ lines-preserved c =
           let entry = w.in-Some.entry in
           let items : next ≡ told ++ entry ∷ [] = cc (w.in_ok-push.ensures.items) in
           let slice : w.as_slice.result.now ≡ told = cc in
-          let adds : Adds told line entry = subst (λ (es : List Entry). Adds es line entry) slice w.in-Some.ensures in
+          let adds : Adds scenario_rules told line entry = subst (λ (es : List Entry). Adds scenario_rules es line entry) slice w.in-Some.ensures in
           let now : c.if-not-is_skipped.clock ≡ clock_after c.lines.clock entry = cc in
           record {
             room = omega arith;

@@ -1,0 +1,73 @@
+//! What happens on the buses of a scenario.
+
+ghost use Rattle.std.specs.Prelude.{◌≡◌};
+ghost use Rattle.scenario.specs.Happenings.{happening_of};
+
+use crate::entries::Entry;
+use daliframe::Frame24;
+use std::marker::Model;
+
+/// What happens by a line of a scenario. Buses are below [`limits::MOST_BUSES`].
+#[derive(Clone, Copy, Debug, PartialEq, Eq)]
+pub enum Happening {
+    /// The clock comes to this moment, in milliseconds.
+    Tick { moment: u64 },
+    /// A frame of a control device comes on a bus.
+    Event { bus: u8, frame: Frame24 },
+    /// The next hear on a bus fails.
+    HearFault { bus: u8 },
+}
+
+/// What happens on the buses of a scenario and is still to be read, in order.
+#[derive(Drop)]
+pub struct Happenings<'a> {
+    rest: &'a [Entry],
+}
+
+impl<'a> Model for Happenings<'a> {
+    ghost use Rattle.std.specs.Prelude.{List};
+    ghost use Rattle.scenario.specs.Happenings.{happenings};
+    ghost use Rattle.scenario.specs.declared.happenings.Happening.{Happening};
+
+    ghost Value = { List Happening };
+
+    ghost view = { λ h. happenings h.rest.now };
+}
+
+impl<'a> Happenings<'a> {
+    ghost use Rattle.std.specs.Prelude.{◌≡◌, ◌∷◌, [], MatchOption};
+    ghost use Rattle.scenario.specs.Happenings.{happenings};
+
+    /// What happens by these entries.
+    pub(crate) fn of(entries: &'a [Entry]) -> Self
+        ensures { result ≡ happenings entries.now }
+    {
+        Happenings { rest: entries }
+    }
+
+    /// Takes what happens next, where anything is left.
+    pub fn next(&mut self) -> Option<Happening>
+        ensures { MatchOption result ((self.old ≡ []) × (self.new ≡ []))
+            (λ happening. self.old ≡ happening ∷ self.new) }
+    {
+        while let [entry, rest @ ..] = self.rest {
+            self.rest = rest;
+            if let Some(happening) = happening_of(entry) {
+                return Some(happening);
+            }
+        }
+        None
+    }
+}
+
+/// What happens by an entry.
+fn happening_of(entry: &Entry) -> Option<Happening>
+    ensures { result ≡ happening_of entry.now }
+{
+    match *entry {
+        Entry::Tick { moment } => Some(Happening::Tick { moment }),
+        Entry::Event { bus, frame } => Some(Happening::Event { bus, frame }),
+        Entry::HearFault { bus } => Some(Happening::HearFault { bus }),
+        _ => None,
+    }
+}

@@ -1,0 +1,91 @@
+//! The clock of a scenario.
+ghost use Rattle.std.specs.Prelude.{◌≡◌, IfOk, IfSome};
+ghost use Rattle.buslink.specs.ClockLog.{after_now, IsNotBefore};
+ghost use Rattle.scenario.specs.Happenings.{tick_in, ticks};
+ghost use Rattle.simbus.specs.ScriptedTicks.{new_clock, next_moment, after_tick};
+
+use buslink::Clock;
+use scenario::{Entry, Scenario};
+use std::alloc::{AllocError, Global};
+use std::marker::Model;
+
+/// A clock that gives the ticks of a scenario in order, and then none. It makes its room when it is
+/// made.
+#[derive(Drop)]
+pub struct ScriptedClock {
+    moments: Vec<u64>,
+    /// How many of them were given.
+    given: usize,
+    asks: u64,
+    gave_none: bool,
+}
+
+impl Model for ScriptedClock {
+    ghost use Rattle.simbus.specs.ScriptedTicks.{ScriptedTicks};
+    ghost use Rattle.simbus.specs.Insides.{scripted, IsScriptedClock};
+
+    ghost Value = { ScriptedTicks };
+
+    ghost view = { scripted };
+
+    ghost invariant = { IsScriptedClock };
+}
+
+impl ScriptedClock {
+    /// The clock of a scenario, which was never asked.
+    ///
+    /// # Errors
+    ///
+    /// Memory was refused.
+    pub fn of(alloc: Global, scenario: &Scenario) -> Result<Self, AllocError>
+        ensures { IfOk result (λ c. c ≡ new_clock (ticks scenario.now)) }
+    {
+        let moments = ticks_in(alloc, scenario.lines())?;
+        Ok(ScriptedClock {
+            moments,
+            given: 0,
+            asks: 0,
+            gave_none: false,
+        })
+    }
+}
+
+/// The moments of the ticks.
+fn ticks_in(alloc: Global, entries: &[Entry]) -> Result<Vec<u64>, AllocError>
+    ensures { IfOk result (λ v. v.items ≡ ticks entries.now) }
+{
+    entries
+        .iter()
+        .filter_map(|entry| tick_in(entry))
+        .collect(alloc)
+}
+
+/// The moment of a tick.
+fn tick_in(entry: &Entry) -> Option<u64>
+    ensures { result ≡ tick_in entry.now }
+{
+    match *entry {
+        Entry::Tick { moment } => Some(moment),
+        _ => None,
+    }
+}
+
+impl Clock for ScriptedClock {
+    ghost log = { λ c. c.log };
+
+    fn now(&mut self) -> Option<u64>
+        ensures moment { result ≡ next_moment self.old.later }
+        ensures after { self.new ≡ after_tick self.old }
+        ensures logged { self.new.log ≡ after_now result self.old.log }
+        ensures never_falls { IfSome result (λ moment. IsNotBefore moment self.old.log) }
+    {
+        self.asks = self.asks.saturating_add(1);
+        self.gave_none = self.given >= self.moments.len();
+        if self.gave_none {
+            return None;
+        }
+        let moment = self.moments[self.given];
+        self.given += 1;
+        Some(moment)
+    }
+}
