@@ -36,9 +36,11 @@ all_next : (instructions : List Instruction) (place n : ℕ) → place + n < len
 unfolding places_from
 all_next instructions place zero lt = tt
 all_next instructions place (suc n) lt =
-    let w = get instructions place (omega arith) in
-    (record { word = w.0; is = w.1; leads = leads_next w.0 place; within = omega arith }, all_next instructions
-        (place + 1) n (omega arith))
+    let w = get instructions place (omega arith) in (
+      record { word = w.0; is = w.1; leads = leads_next w.0 place; within = omega arith },
+      all_next instructions
+          (place + 1) n (omega arith),
+    )
 
 few_next : (instructions : List Instruction) (place : ℕ) (more : List ℕ) → place < length instructions
     → AreNext instructions place more

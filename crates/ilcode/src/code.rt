@@ -23,19 +23,19 @@ impl Model for Code {
 
     ghost view = { λ c.
         listing_of c.buses c.constants.items c.slots.items c.starts.items c.instructions.items
-            c.lines.items };
+        c.lines.items };
 
     ghost invariant = { λ c.
         IsLawful (listing_of c.buses c.constants.items c.slots.items c.starts.items
-            c.instructions.items c.lines.items) };
+        c.instructions.items c.lines.items) };
 }
 
 impl Code {
     ghost use Rattle.std.specs.Prelude.{◌≡◌};
     ghost use Rattle.ilcode.specs.Listings.{Listing, IsLawful, listing_of};
 
-    /// The code of these parts: buses, constants, the slots' types, the places where programs begin,
-    /// instructions, and a line for each of these.
+    /// The code of these parts: buses, constants, the slots' types, the places where programs
+    /// begin, instructions, and a line for each of these.
     pub fn new(
         buses: u8,
         constants: Vec<Value>,

@@ -6,8 +6,8 @@ use std::alloc::{AllocError, Global};
 use std::marker::Model;
 use std::sync::Arc;
 
-/// What a scan begins from: the verified code of a task, a value for each of its slots, and a moment
-/// in milliseconds.
+/// What a scan begins from: the verified code of a task, a value for each of its slots, and a
+/// moment in milliseconds.
 #[derive(Drop)]
 pub struct Snapshot {
     verified: Arc<Verified, Global>,

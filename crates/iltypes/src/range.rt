@@ -106,8 +106,8 @@ impl Range {
         )
     }
 
-    /// The least range of all quotients (IEC 61131-3, 2.5.1.5.2: rounded toward 0), or `None` where a
-    /// divisor may be 0 or a quotient leaves 64 bits, as that of -2^63 and -1 does.
+    /// The least range of all quotients (IEC 61131-3, 2.5.1.5.2: rounded toward 0), or `None` where
+    /// a divisor may be 0 or a quotient leaves 64 bits, as that of -2^63 and -1 does.
     pub fn div(self, other: Range) -> Option<Range>
         ensures none { IsNone result ↔ (Holds other (pos 0) ⊎ Leaves (IsQuotient self other)) }
         ensures least { IfSome result (IsLeast (IsQuotient self other)) }

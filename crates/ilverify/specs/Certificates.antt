@@ -1,5 +1,5 @@
 -- Certificates (profile): an entry for each word, so that the rules lead from entry to entry.
-use Rattle.std.specs.Prelude.{◌≡◌, ℕ, ◌+◌, ◌<◌, List, length, Option, Some, None, IsTrue, slice_get}
+use Rattle.std.specs.Prelude.{◌≡◌, ℕ, ◌+◌, ◌<◌, List, length, Option, Some, None, IsTrue, slice_get, ⊤}
 use Rattle.ilcode.specs.declared.instruction.Instruction.{Instruction}
 use Rattle.ilcode.specs.Listings.{Listing}
 use Rattle.ilcode.specs.Paths.{IsNext}
@@ -64,8 +64,8 @@ pub record IsRefusal (code : Listing) (refusal : Refusal) : Type 0 where
   pub is : slice_get code.instructions refusal.word ≡ Some word
   pub cause : IsLeastCause code entry word refusal.cause
   pub line : slice_get code.lines refusal.word ≡ Some refusal.line
-  pub none_further : (other : Certificate) → IsConsistentBelow code other (refusal.word + 1) → ⊥
-  pub uncertified : IsCertified code → ⊥
+  pub none_further : (other : Certificate) → ¬ IsConsistentBelow code other (refusal.word + 1)
+  pub uncertified : ¬ IsCertified code
 
 -- the number under which an error is reported
 abbrev pub number_of_error : VerifyError → ℕ
@@ -75,4 +75,4 @@ number_of_error (Refused refusal) = number_of refusal.cause
 -- an error that is not out of memory is a refusal
 abbrev pub IsError : Listing → VerifyError → Type 0
 IsError code (Refused refusal) = IsRefusal code refusal
-IsError code (Memory error) = Unit {0}
+IsError code (Memory error) = ⊤

@@ -1,5 +1,5 @@
 -- Entries (profile): what is known before a word that is reached.
-use Rattle.std.specs.Prelude.{◌≡◌, ℕ, Option, Some, None, if◌then◌else◌}
+use Rattle.std.specs.Prelude.{◌≡◌, ℕ, Option, Some, None, if◌then◌else◌, ⊤}
 use Rattle.ilcode.specs.Listings.{Listing}
 use Rattle.ilcode.specs.Steps.{is_start}
 use Rattle.ilverify.specs.declared.rules.Kind.{Kind}
@@ -7,7 +7,7 @@ use Rattle.ilverify.specs.declared.rules.Entry.{Entry}
 
 -- 'there may be no current result' holds of every current result
 abbrev pub IsResultInto : Option Kind → Option Kind → Type 0
-IsResultInto known None = Unit {0}
+IsResultInto known None = ⊤
 IsResultInto None (Some kind) = ⊥
 IsResultInto (Some known) (Some kind) = known ≡ kind
 

@@ -1,5 +1,5 @@
 -- The rules of the verifier (profile): which causes arise at a word, and what it leaves where none does.
-use Rattle.std.specs.Prelude.{◌≡◌, ℕ, ◌<◌, ◌⊎◌, Bool, true, false, Option, Some, None, slice_get}
+use Rattle.std.specs.Prelude.{◌≡◌, ℕ, ◌<◌, ◌⊎◌, Bool, true, false, Option, Some, None, slice_get, ⊤}
 use Rattle.std.specs.Option.{option_map}
 use Rattle.iltypes.specs.declared.value.IlType.{IlType}
 use Rattle.iltypes.specs.declared.value.IlType.TheVariants as types
@@ -60,12 +60,12 @@ IsOperand code (Some operand) Is = Is (kind_of code operand)
 
 -- a whole number
 abbrev pub IsNumber : Option Kind → Type 0
-IsNumber (Some kinds.Int) = Unit {0}
+IsNumber (Some kinds.Int) = ⊤
 IsNumber _ = ⊥
 
 -- none: no current result, or an operand outside its table
 abbrev pub IsAbsent : Option Kind → Type 0
-IsAbsent None = Unit {0}
+IsAbsent None = ⊤
 IsAbsent (Some kind) = ⊥
 
 -- a fact of the current result, where a word takes it
@@ -82,12 +82,12 @@ Arises code entry word BadSlot = IsOperand code (operand_of word) IsAbsent
 
 -- no cause arises
 abbrev pub NoneArises : Listing → Entry → Instruction → Type 0
-NoneArises code entry word = (cause : Cause) → Arises code entry word cause → ⊥
+NoneArises code entry word = (cause : Cause) → ¬ Arises code entry word cause
 
 -- the cause arises, and none of a lower number
 pub record IsLeastCause (code : Listing) (entry : Entry) (word : Instruction) (cause : Cause) : Type 0 where
   pub arises : Arises code entry word cause
-  pub least : (other : Cause) → number_of other < number_of cause → Arises code entry word other → ⊥
+  pub least : (other : Cause) → number_of other < number_of cause → ¬ Arises code entry word other
 
 -- what is known after a word where no cause arises: each word leaves a truth value as current result
 abbrev pub leaves : Entry → Entry

@@ -1,10 +1,10 @@
 //! The verifier of codes.
 //!
-//! What crosses the boundary: [`verify`] takes a code and answers it as [`Verified`] with its bound,
-//! or the [`Refusal`] with word, line and cause. Of a `Verified` no step is undefined, each run
-//! ends, and the bound is the greatest number of words on a path (`IsVerified`, specs/Verdicts.antt,
-//! to be read first). The verdict is defined by certificates (specs/Certificates.antt): an entry for
-//! each word, consistent by the rules (specs/Rules.antt).
+//! What crosses the boundary: [`verify`] takes a code and answers it as [`Verified`] with its
+//! bound, or the [`Refusal`] with word, line and cause. Of a `Verified` no step is undefined, each
+//! run ends, and the bound is the greatest number of words on a path (`IsVerified`,
+//! specs/Verdicts.antt, to be read first). The verdict is defined by certificates
+//! (specs/Certificates.antt): an entry for each word, consistent by the rules (specs/Rules.antt).
 //!
 //! ```text
 //! let verified = verify(alloc, code)?;

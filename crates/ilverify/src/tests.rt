@@ -13,6 +13,13 @@ const LOAD: Instruction = Instruction::Load {
     operand: Operand::Constant(0),
 };
 
+fn load(operand: Operand) -> Instruction {
+    Instruction::Load {
+        negated: true,
+        operand,
+    }
+}
+
 /// The code of these words, with a BOOL slot, a slot of whole numbers, and a constant of each kind.
 fn code(alloc: Global, words: [Instruction; 2]) -> Result<Code, AllocError> {
     let number = IlType::Int(Range { lo: 0, hi: 9 });
@@ -61,6 +68,30 @@ fn the_least_word_and_cause_are_reported(rt: HostRuntime) -> Result<(), Fail> {
             1,
             11,
             "refused 11 at word 1 line 5",
+        ),
+        (
+            [load(Operand::Constant(1)), LOAD],
+            0,
+            2,
+            "refused 2 at word 0 line 3",
+        ),
+        (
+            [LOAD, load(Operand::Slot(1))],
+            1,
+            2,
+            "refused 2 at word 1 line 5",
+        ),
+        (
+            [LOAD, load(Operand::Constant(2))],
+            1,
+            11,
+            "refused 11 at word 1 line 5",
+        ),
+        (
+            [Instruction::Not, Instruction::Not],
+            0,
+            3,
+            "refused 3 at word 0 line 3",
         ),
     ];
     for (words, word, number, text) in table {
