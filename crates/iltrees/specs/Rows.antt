@@ -1,7 +1,7 @@
 -- Worked programs, over variables with numbers for names. Each is a truth value or a number from 0 to 254, and a call
 -- makes the variable TRUE that it names.
 use Rattle.std.specs.Prelude.{◌≡◌, ℕ, ◌==◌, pos, int_le, Bool, true, false, ◌&&◌, if◌then◌else◌}
-use Rattle.std.specs.Prelude.{List, [], ◌∷◌, Some, None}
+use Rattle.std.specs.Prelude.{List, [], ◌∷◌, ◌++◌, Some, None}
 use Rattle.std.specs.Prelude.{slice_get, slice_set}
 use Rattle.iltypes.specs.declared.value.Value.{Value}
 use Rattle.iltypes.specs.declared.value.Value.TheVariants.{Bool as truth, Int}
@@ -84,10 +84,12 @@ abbrev pub returning : List (Line ℕ ℕ)
 returning =
     ld 0 ∷ line (instructions.Return IfTrue) ∷ line (instructions.Load false (Constant (truth true))) ∷ st 0 ∷ []
 
--- LD a, CAL block(port := 5) with a condition, ST d
-abbrev pub calling : Condition → List (Line ℕ ℕ)
-calling condition =
-    ld 0 ∷ line (instructions.Call condition 1 (record { port = 2; operand = number 5 } ∷ [])) ∷ st 3 ∷ []
+-- LD a, CAL block(port := 5) with a condition; and then ST d
+abbrev pub call : Condition → List (Line ℕ ℕ)
+call condition = ld 0 ∷ line (instructions.Call condition 1 (record { port = 2; operand = number 5 } ∷ [])) ∷ []
+
+abbrev pub call_and_store : Condition → List (Line ℕ ℕ)
+call_and_store condition = call condition ++ st 3 ∷ []
 
 -- the variables a to d of a call, before it, where the last is this truth value
 abbrev pub before_call : Bool → List Value

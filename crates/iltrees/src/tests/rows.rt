@@ -5,7 +5,7 @@ ghost use Rattle.iltypes.specs.declared.value.Value.TheVariants.{Bool as truth};
 ghost use Rattle.iltrees.specs.declared.instruction.Condition.TheVariants.{Always, IfTrue, IfFalse};
 ghost use Rattle.iltrees.specs.Rows.{Ends, IsStuck, EndInTurn, AreStuck, whole, before_call};
 ghost use Rattle.iltrees.specs.Rows.{sum, sum_unbounded, guarded};
-ghost use Rattle.iltrees.specs.Rows.{backward, nested, limited, sets, returning, calling, ld, st};
+ghost use Rattle.iltrees.specs.Rows.{backward, nested, limited, sets, returning, call, call_and_store, ld, st};
 
 /// Results, stores outside a type and uses of no result.
 fn sums()
@@ -34,8 +34,9 @@ fn stores()
         (truth false ∷ truth true ∷ truth false ∷ []) }
     ensures unset { Ends sets (truth false ∷ truth false ∷ truth true ∷ [])
         (truth true ∷ truth false ∷ truth true ∷ []) }
-    ensures skipped { Ends (calling IfFalse) (before_call false)
-        (before_call true) }
-    ensures called { IsStuck (calling IfTrue) (before_call false) }
-    ensures always { IsStuck (calling Always) (before_call false) }
+    ensures skipped { Ends (call_and_store IfFalse) (before_call false) (before_call true) }
+    ensures called { Ends (call IfTrue) (before_call false)
+        (truth true ∷ truth true ∷ whole 5 ∷ truth false ∷ []) }
+    ensures no_result { IsStuck (call_and_store IfTrue) (before_call false) }
+    ensures always { IsStuck (call_and_store Always) (before_call false) }
 {}
