@@ -1,5 +1,5 @@
 -- A judgement of bytes by cases is the only one, unless memory was refused.
-use Rattle.std.proofs.Common.{◌≡◌, ℕ, ◌≤◌, ◌↔◌, inl, inr, List, [], length, Result, Ok, Err, refl, ap, subst, arith}
+use Rattle.std.proofs.Common.{◌≡◌, ℕ, ◌≤◌, ◌↔◌, inl, inr, List, length, Result, Ok, Err, refl, ap, subst, arith}
 use Rattle.std.specs.Str.Lines.{lines}
 use Rattle.scenario.specs.Scenarios.{IsScenario, IsBadScenario, IsTooLong, AddsSome, IsJudged, GivesIfRoom}
 use Rattle.scenario.specs.declared.entries.Entry.{Entry}

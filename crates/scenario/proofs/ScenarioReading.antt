@@ -1,5 +1,5 @@
 -- Lines of a scenario: they give one list of entries at most, their first bad line is one, and what reading one line more adds.
-use Rattle.std.proofs.Common.{◌≡◌, ℕ, ◌+◌, List, [], ◌∷◌, ◌++◌, Some, length, ap, sym, subst, ◌∙◌, inl, inr}
+use Rattle.std.proofs.Common.{◌≡◌, ℕ, ◌+◌, List, [], ◌∷◌, ◌++◌, Some, length, ap, sym, ◌∙◌, inl, inr}
 use Rattle.std.specs.Str.Lines.{lines}
 use Rattle.wordlines.specs.WordLines.{IsSkipped}
 use Rattle.wordlines.specs.LineRules.{Adds, AllLead, IsFirstBad}
