@@ -7,13 +7,13 @@
 
 #![tactic(auto)]
 
-pub mod declaration;
-pub mod instruction;
-pub mod line_counter;
-pub mod name;
-pub mod place;
-pub mod program;
-pub mod source;
+mod declaration;
+mod instruction;
+mod line_counter;
+mod name;
+mod place;
+mod program;
+mod source;
 
 pub use declaration::{Constant, Declaration};
 pub use instruction::{Instruction, Line, Operand};
