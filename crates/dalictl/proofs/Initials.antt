@@ -11,7 +11,8 @@ use Rattle.ilsource.specs.declared.declaration.Constant.{Constant}
 use Rattle.ilsource.specs.declared.declaration.Constant.TheVariants as constants
 use Rattle.ilsource.specs.Trees.{Variables, Written, Tree}
 use Rattle.ilsyms.specs.declared.planned.Slot.{Slot}
-use Rattle.ilsyms.specs.Declarations.{initial_value, slot, slots_of_declaration, slots_of_program, slots_of}
+use Rattle.ilscope.specs.Declarations.{initial_value}
+use Rattle.ilsyms.specs.Declarations.{slot, slots_of_declaration, slots_of_program, slots_of}
 use Rattle.ilsyms.specs.Plans.{PlannedTask, Planned}
 use Rattle.ilsyms.specs.PlanMeaning.{types_of}
 use Rattle.ilsyms.specs.Resolved.{IsPlanOf}

@@ -1,52 +1,29 @@
--- What a text is answered: the first of what stands against running it, or the variables of a task after its scans
--- (IEC 61131-3, 2.7.2 and 3.2, and profile).
-use Rattle.std.specs.Prelude.{◌≡◌, ℕ, zero, suc, ◌<◌, ◌≤◌, List, length, map, All, IfSome, Some, slice_get, string_bytes}
+-- What a text is answered: what stands against running it, or the variables of a task after its scans (IEC 61131-3,
+-- 2.7.2 and 3.2, and profile).
+use Rattle.std.specs.Prelude.{◌≡◌, ℕ, zero, suc, ◌<◌, ◌≤◌, List, length, map, All, IfSome, Result, Ok, Err}
+use Rattle.std.specs.Prelude.{Some, slice_get, ⊤}
 use Rattle.std.specs.Char.{to_ascii_lowercase}
 use Rattle.iltypes.specs.declared.value.Value.{Value}
 use Rattle.ilsource.specs.Trees.{Tree}
-use Rattle.iltext.specs.declared.fault.TextFault.{TextFault}
-use Rattle.iltext.specs.declared.fault.TextFault.TheVariants as text_faults
-use Rattle.iltext.specs.Parsing.{IsText}
-use Rattle.iltext.specs.Parsing as texts
 use Rattle.ilsyms.specs.Declarations.{slots_of}
-use Rattle.ilsyms.specs.Faults.{IsFault}
 use Rattle.ilsyms.specs.Meaning.{source_scan}
 use Rattle.ilsyms.specs.PlanMeaning.{paired}
-use Rattle.ilsyms.specs.Plans.{Planned, PlannedTask}
-use Rattle.ilsyms.specs.Resolved.{IsPlanOf}
+use Rattle.ilsyms.specs.Plans.{Planned}
 use Rattle.ilsyms.specs.Stores.{Entry}
-use Rattle.ilsyms.specs.Told.{TellsLeast}
-use Rattle.ilcode.specs.Paths.{IsBound}
-use Rattle.ilverify.specs.declared.verifier.Refusal.{Refusal}
-use Rattle.ilverify.specs.Certificates.{IsCertified, IsRefusal}
-use Rattle.ilverify.specs.Verdicts.{Accepted}
-use Rattle.dalictl.specs.Layout.{laid_out}
-use Rattle.dalictl.specs.Stepping.{ScansTo, initials_of}
-use Rattle.dalictl.specs.declared.setup.Stepped.{Stepped}
+use Rattle.plantload.specs.Loaded.{Loaded}
+use Rattle.plantload.specs.Loading.{IsLoadFault, IsPlanOfText, IsSetup}
+use Rattle.plantload.specs.declared.fault.LoadFault.{LoadFault}
+use Rattle.plantload.specs.declared.fault.LoadFault.TheVariants as load_faults
+use Rattle.dalictl.specs.Stepping.{AreScansOf, Run}
 use Rattle.dalictl.specs.declared.stop.Stop.{Stop}
-use Rattle.dalictl.specs.declared.stop.Stop.TheVariants as stops
+use Rattle.dalictl.specs.declared.stop.Stop.TheVariants.{Memory, Binding, Load, NoTask}
 
--- the bytes spell a source program whose plan this is
-pub record IsPlanOfText (buses : ℕ) (bytes : List ℕ) (plan : Planned) : Type 0 where
-  pub tree : Tree
-  pub spelled : IsText bytes tree
-  pub resolved : IsPlanOf tree buses plan
-
--- the first fault of a text that is none
-abbrev pub IsTextStop : List ℕ → TextFault → Type 0
-IsTextStop bytes text_faults.Memory = ⊥
-IsTextStop bytes (text_faults.At line col cause) = texts.IsFault bytes (text_faults.At line col cause)
-
--- why bytes have no plan: the text's first fault, else the least fault of its names
-abbrev pub IsPlanStop : List ℕ → Stop → Type 0
-IsPlanStop bytes stops.Memory = Unit {0}
-IsPlanStop bytes (stops.Text fault) = IsTextStop bytes fault
-IsPlanStop bytes (stops.Name fault) = (tree : Tree) × IsText bytes tree × TellsLeast tree.text (IsFault tree) fault
-IsPlanStop bytes _ = ⊥
+-- ---- the task of a name
 
 -- the task of this number has the name, without regard to letter case
 abbrev pub IsCalled : Planned → List ℕ → ℕ → Type 0
-IsCalled plan name task = IfSome (slice_get plan.tasks task) (λ t. map to_ascii_lowercase t.name ≡ map to_ascii_lowercase name)
+IsCalled plan name task =
+    IfSome (slice_get plan.tasks task) (λ t. map to_ascii_lowercase t.name ≡ map to_ascii_lowercase name)
 
 -- the task of this number is the first of the name
 pub record IsFirstCalled (plan : Planned) (name : List ℕ) (task : ℕ) : Type 0 where
@@ -57,54 +34,40 @@ pub record IsFirstCalled (plan : Planned) (name : List ℕ) (task : ℕ) : Type 
 abbrev pub NoneIsCalled : Planned → List ℕ → Type 0
 NoneIsCalled plan name = (k : ℕ) → k < length plan.tasks → IsCalled plan name k → ⊥
 
--- the code of each of the first tasks has a certificate
-abbrev pub AreCertified : Planned → ℕ → Type 0
-AreCertified plan tasks = (k : ℕ) → k < tasks → (t : PlannedTask) → slice_get plan.tasks k ≡ Some t → IsCertified (laid_out plan.buses t)
+-- ---- what stands against a text
 
--- the first task whose code has none, and its refusal
-pub record IsFirstRefused (plan : Planned) (name : List ℕ) (refusal : Refusal) : Type 0 where
-  pub number : ℕ
-  pub task : PlannedTask
-  pub is : slice_get plan.tasks number ≡ Some task
-  pub before : AreCertified plan number
-  pub named : name ≡ task.name
-  pub refused : IsRefusal (laid_out plan.buses task) refusal
+-- the allocator is out of memory, which may be at any time, or it is such a stop
+abbrev pub OrMemory : (Stop → Type 0) → Stop → Type 0
+OrMemory Stops Memory = ⊤
+OrMemory Stops (Binding fault) = Stops (Binding fault)
+OrMemory Stops (Load fault) = Stops (Load fault)
+OrMemory Stops (NoTask asked) = Stops (NoTask asked)
 
--- why a plan's codes aren't run
-abbrev pub IsCodeStop : Planned → Stop → Type 0
-IsCodeStop plan stops.Memory = Unit {0}
-IsCodeStop plan (stops.Code name refusal) = IsFirstRefused plan (string_bytes name) refusal
-IsCodeStop plan _ = ⊥
-
--- why a task's code isn't run
-abbrev pub IsTaskStop : Planned → PlannedTask → Stop → Type 0
-IsTaskStop plan task stops.Memory = Unit {0}
-IsTaskStop plan task (stops.Code name refusal) = (string_bytes name ≡ task.name) × IsRefusal (laid_out plan.buses task) refusal
-IsTaskStop plan task _ = ⊥
-
--- why a task of a text isn't run: the text's or its names' fault, else that no task is called so, else the first refusal
-abbrev pub IsStepStop : ℕ → List ℕ → List ℕ → Stop → Type 0
-IsStepStop buses bytes name stops.Memory = Unit {0}
-IsStepStop buses bytes name (stops.NoTask asked) = (plan : Planned) × IsPlanOfText buses bytes plan × (string_bytes asked ≡ name) × NoneIsCalled plan name
-IsStepStop buses bytes name (stops.Code task refusal) =
-    (plan : Planned) × (k : ℕ) × IsPlanOfText buses bytes plan × IsFirstCalled plan name k × IsFirstRefused plan (string_bytes task) refusal
-IsStepStop buses bytes name (stops.Text fault) = IsPlanStop bytes (stops.Text fault)
-IsStepStop buses bytes name (stops.Name fault) = IsPlanStop bytes (stops.Name fault)
-IsStepStop buses bytes name (stops.Binding fault) = ⊥
-
--- why a text isn't accepted: the text's or its names' fault, else the first refusal
+-- why a text isn't accepted: it isn't loaded
 abbrev pub IsCheckStop : ℕ → List ℕ → Stop → Type 0
-IsCheckStop buses bytes stops.Memory = Unit {0}
-IsCheckStop buses bytes (stops.Code task refusal) = (plan : Planned) × IsPlanOfText buses bytes plan × IsFirstRefused plan (string_bytes task) refusal
-IsCheckStop buses bytes (stops.Text fault) = IsPlanStop bytes (stops.Text fault)
-IsCheckStop buses bytes (stops.Name fault) = IsPlanStop bytes (stops.Name fault)
-IsCheckStop buses bytes (stops.NoTask asked) = ⊥
-IsCheckStop buses bytes (stops.Binding fault) = ⊥
+IsCheckStop buses bytes (Load fault) = IsLoadFault buses bytes fault
+IsCheckStop buses bytes _ = ⊥
+
+-- a refused code is reported where a task has the name
+abbrev pub IsAfterName : List ℕ → LoadFault → Type 0
+IsAfterName name (load_faults.Code refused) = (task : ℕ) × IsFirstCalled refused.plan name task
+IsAfterName name _ = ⊤
+
+-- why a task of a text isn't run: the fault of the text or its names, else that no task has the name, else the first
+-- refused code
+abbrev pub IsStepStop : ℕ → List ℕ → List ℕ → Stop → Type 0
+IsStepStop buses bytes name (Load fault) = IsLoadFault buses bytes fault × IsAfterName name fault
+IsStepStop buses bytes name (NoTask asked) =
+    (asked ≡ name) × ((plan : Planned) × IsPlanOfText buses bytes plan × NoneIsCalled plan name)
+IsStepStop buses bytes name _ = ⊥
+
+-- ---- what scans of a text leave
 
 -- this many scans of the source program, each from the store that the one before left
 abbrev pub ScansMean : Tree → ℕ → List Entry → List Entry → Type 0
 ScansMean tree zero from to = to ≡ from
-ScansMean tree (suc scans) from to = (store : List Entry) × ScansMean tree scans from store × (source_scan tree store ≡ Some to)
+ScansMean tree (suc scans) from to =
+    (store : List Entry) × ScansMean tree scans from store × (source_scan tree store ≡ Some to)
 
 -- the store of a source program whose variables have these values, in declared order
 abbrev pub store_of : Tree → List Value → List Entry
@@ -114,21 +77,24 @@ store_of tree values = paired tree.text (slots_of tree.programs) values
 abbrev pub initial_values_of : Tree → List Value
 initial_values_of tree = map (λ s. s.initial) (slots_of tree.programs)
 
--- the accepted code of a task with this bound
-abbrev pub code_of : ℕ → PlannedTask → ℕ → Accepted
-code_of buses task bound = record { code = laid_out buses task; bound = bound }
+-- the variables after this many scans of the text, so many milliseconds apart, from their initial values, with the
+-- steps of each scan, which are those of the task's code from the variables before it and at most the code's bound
+pub record IsStepped (buses : ℕ) (bytes name : List ℕ) (scans every : ℕ) (made : Run) : Type 0 where
+  pub setup : IsSetup buses bytes made.setup
+  pub task : IsFirstCalled made.setup.plan name made.task
+  pub values : ScansMean setup.plan.tree scans (store_of setup.plan.tree (initial_values_of setup.plan.tree))
+      (store_of setup.plan.tree made.values)
+  pub many_values : length made.values ≡ length (slots_of setup.plan.tree.programs)
+  pub many : length made.each ≡ scans
+  pub runs : AreScansOf made.setup made.task scans every made.each made.values
+  pub few : All (λ taken. taken.steps ≤ runs.code.bound) made.each
 
--- the variables after this many scans of the text, so many milliseconds apart, from their initial values, with the steps of each scan,
--- which are those of the task's code from the variables before it and at most the bound
-pub record IsStepped (buses : ℕ) (bytes name : List ℕ) (scans every : ℕ) (made : Stepped) : Type 0 where
-  pub tree : Tree
-  pub spelled : IsText bytes tree
-  pub plan : IsPlanOf tree buses made.plan
-  pub task : IsFirstCalled made.plan name made.task
-  pub values : ScansMean tree scans (store_of tree (initial_values_of tree)) (store_of tree made.scans.values.items)
-  pub each : length made.scans.values.items ≡ length (slots_of tree.programs)
-  pub many : length made.scans.each.items ≡ scans
-  pub runs : IfSome (slice_get made.plan.tasks made.task)
-      (λ t. ScansTo (code_of buses t made.bound) every scans (initials_of t) made.scans.each.items made.scans.values.items)
-  pub few : All (λ taken. taken.steps ≤ made.bound) made.scans.each.items
-  pub bound : IfSome (slice_get made.plan.tasks made.task) (λ t. IsBound (laid_out buses t).instructions made.bound)
+-- ---- answers, out of memory aside
+
+abbrev pub IsChecked : ℕ → List ℕ → Result Loaded Stop → Type 0
+IsChecked buses bytes (Ok setup) = IsSetup buses bytes setup
+IsChecked buses bytes (Err stop) = IsCheckStop buses bytes stop
+
+abbrev pub IsStep : ℕ → List ℕ → List ℕ → ℕ → ℕ → Result Run Stop → Type 0
+IsStep buses bytes name scans every (Ok made) = IsStepped buses bytes name scans every made
+IsStep buses bytes name scans every (Err stop) = IsStepStop buses bytes name stop

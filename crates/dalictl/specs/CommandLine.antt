@@ -1,15 +1,16 @@
--- The command line (profile): `check FILE [--bind FILE]` and `step FILE TASK [--bind FILE] [--scans N] [--every MS]`, with the
--- reading of words that `clap` has.
+-- The command line (profile): `check FILE [--bind FILE]` and `step FILE TASK [--bind FILE] [--scans N] [--every MS]`,
+-- with the reading of words that `clap` has.
 use Rattle.std.specs.Prelude.{◌≡◌, ℕ, ◌^◌, ◌<◌, List, [], Option, Some, None, true, pos, codes, option_map, unwrap_or}
 use Rattle.std.specs.Borrow.{Bor}
 use Rattle.std.specs.Str.Parse.{IsNumeral, digits_value, without_leading_plus}
-use Rattle.clap.specs.Words.{App, Row, Rule, Text, first_of, new_app, new_rule, one_of, subcommand_of, with_rule, with_subcommand}
+use Rattle.clap.specs.Words.{App, Row, Rule, Text, first_of, new_app, new_rule, one_of, subcommand_of, with_rule}
+use Rattle.clap.specs.Words.{with_subcommand}
 use Rattle.clap.specs.Simple.{on_top}
 use Rattle.clap.specs.declared.builder.action.ArgAction.TheVariants.{Set}
 use Rattle.clap.specs.declared.builder.value_parser.ValueParser.TheVariants as parsers
 use Rattle.dalictl.specs.declared.options.Files.{Files}
-use Rattle.dalictl.specs.declared.options.Request.{Request}
-use Rattle.dalictl.specs.declared.options.Request.TheVariants.{Check, Step}
+use Rattle.dalictl.specs.declared.options.Invocation.{Invocation}
+use Rattle.dalictl.specs.declared.options.Invocation.TheVariants.{Check, Step}
 
 -- ---- the words that are taken
 
@@ -29,10 +30,14 @@ abbrev pub check_command : App
 check_command = with_rule (with_rule (new_app (codes "check")) (wanted (codes "FILE"))) (option (codes "bind"))
 
 abbrev pub step_files : App
-step_files = with_rule (with_rule (with_rule (new_app (codes "step")) (wanted (codes "FILE"))) (wanted (codes "TASK"))) (option (codes "bind"))
+step_files =
+    with_rule (with_rule (with_rule (new_app (codes "step")) (wanted (codes "FILE"))) (wanted (codes "TASK")))
+    (option (codes "bind"))
 
 abbrev pub step_command : App
-step_command = with_rule (with_rule step_files (number_option (codes "scans") 1 1000000)) (number_option (codes "every") 0 4294967295)
+step_command =
+    with_rule (with_rule step_files (number_option (codes "scans") 1 1000000))
+    (number_option (codes "every") 0 4294967295)
 
 abbrev pub program : App
 program = on_top (λ top. record top { subcommand_required = true }) (new_app (codes "dalictl"))
@@ -66,11 +71,14 @@ pub record AreScans (found : List Row) (task : Bor Text) (scans every : ℕ) : T
   pub many : IsNumber 1 (one_of (codes "scans") found) scans
   pub apart : IsNumber 100 (one_of (codes "every") found) every
 
--- what was found under a command's name is the request
-abbrev pub IsOfCommand : Text → List Row → Request → Type 0
+-- what was found under a command's name is the invocation
+abbrev pub IsOfCommand : Text → List Row → Invocation → Type 0
 IsOfCommand name found (Check files) = (name ≡ codes "check") × AreFiles found files
-IsOfCommand name found (Step files task scans every) = (name ≡ codes "check" → ⊥) × AreFiles found files × AreScans found task scans every
+IsOfCommand name found (Step files task scans every) =
+    (name ≡ codes "check" → ⊥) × AreFiles found files × AreScans found task scans every
 
--- the words spell the request
-abbrev pub IsRequest : List Text → Request → Type 0
-IsRequest words request = (name : Text) × (found : List Row) × (subcommand_of command_line words ≡ Some (name, found)) × IsOfCommand name found request
+-- the words spell the invocation
+abbrev pub IsInvocation : List Text → Invocation → Type 0
+IsInvocation words invocation =
+    (name : Text) × (found : List Row) × (subcommand_of command_line words ≡ Some (name, found))
+    × IsOfCommand name found invocation

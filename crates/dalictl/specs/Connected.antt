@@ -1,9 +1,9 @@
 -- What the controller is connected to: what the binding's file says, and one bus without such a file (profile).
 use Rattle.std.specs.Prelude.{◌≡◌, ℕ, List, Option, Some, None}
-use Rattle.ilsyms.specs.declared.binding.BindCause.TheVariants.{BadLine, TooLong}
-use Rattle.ilsyms.specs.declared.binding.BindFault.TheVariants as bind_faults
-use Rattle.ilsyms.specs.BindingLines.{IsBinding, IsBadBinding, IsTooLong}
-use Rattle.ilsyms.specs.Wirings.{Wiring}
+use Rattle.binding.specs.declared.fault.BindCause.TheVariants.{BadLine, TooLong}
+use Rattle.binding.specs.declared.fault.BindFault.TheVariants as bind_faults
+use Rattle.binding.specs.Bindings.{IsBinding, IsBadBinding, IsTooLong}
+use Rattle.binding.specs.Wirings.{Wiring}
 use Rattle.dalictl.specs.declared.stop.Stop.{Stop}
 use Rattle.dalictl.specs.declared.stop.Stop.TheVariants as stops
 

@@ -1,12 +1,11 @@
 pub mod Answered
 pub mod CommandLine
 pub mod Connected
-pub mod Layout
-pub mod Meant
+pub mod Invocations
+pub mod Outcomes
 pub mod Printed
 pub mod Reports
-pub mod Requested
-pub mod Requests
+pub mod Responses
 pub mod Served
 pub mod Stepping
 pub mod Stops

@@ -7,11 +7,13 @@ use Rattle.ilsyms.specs.Printed.{printed_slot}
 
 -- an accepted task: its words, and the bound
 abbrev pub printed_task : List ℕ → ℕ → ℕ → List ℕ
-printed_task name words bound = codes "task " ++ name ++ codes " words " ++ decimal words ++ codes " bound " ++ decimal bound
+printed_task name words bound =
+    codes "task " ++ name ++ codes " words " ++ decimal words ++ codes " bound " ++ decimal bound
 
 -- a scan: its number, its steps, and the bound
 abbrev pub printed_scan : ℕ → ℕ → ℕ → List ℕ
-printed_scan number steps bound = codes "scan " ++ decimal number ++ codes " steps " ++ decimal steps ++ codes " bound " ++ decimal bound
+printed_scan number steps bound =
+    codes "scan " ++ decimal number ++ codes " steps " ++ decimal steps ++ codes " bound " ++ decimal bound
 
 -- a variable: its name, and its value
 abbrev pub printed_variable : List ℕ → List ℕ → Value → List ℕ

@@ -1,14 +1,15 @@
--- How a request is served: what the disk gave for the files that it names, and the report of an answer to that (profile).
--- The disk is two relations: at a path it gives bytes, and at a path it fails for a reason.
+-- How an invocation is served: what the disk gave for the files that it names, and the report of an answer to that
+-- (profile). The disk is two relations: at a path it gives bytes, and at a path it fails for a reason.
 use Rattle.std.specs.Prelude.{◌≡◌, ℕ, List, Option, Some, None, ◌⊎◌, ⊤}
 use Rattle.std.specs.Option.{option_copied}
 use Rattle.dalictl.specs.declared.files.Unread.{Unread}
 use Rattle.dalictl.specs.declared.options.Files.{Files}
-use Rattle.dalictl.specs.declared.options.Request.{Request}
+use Rattle.dalictl.specs.declared.options.Invocation.{Invocation}
+use Rattle.dalictl.specs.declared.outcome.Outcome.{Outcome}
 use Rattle.dalictl.specs.declared.serve.Unserved.{Unserved}
 use Rattle.dalictl.specs.declared.serve.Unserved.TheVariants.{NotRead, NotPrinted}
 use Rattle.dalictl.specs.Reports.{IsReport}
-use Rattle.dalictl.specs.Requests.{files_of}
+use Rattle.dalictl.specs.Invocations.{files_of}
 
 -- what is given for a path, and nothing where there is none
 abbrev pub IsGiven : (List ℕ → List ℕ → Type 0) → Option (List ℕ) → Option (List ℕ) → Type 0
@@ -17,25 +18,27 @@ IsGiven gives (Some path) (Some bytes) = gives path bytes
 IsGiven gives _ _ = ⊥
 
 -- the writer has the report of an answer to what the disk gave
-pub record IsServed (gives : List ℕ → List ℕ → Type 0) (request : Request) (before after : Option (List ℕ)) (status : ℕ) : Type 0 where
+pub record IsServed (gives : List ℕ → List ℕ → Type 0) (invocation : Invocation) (before after : Option (List ℕ))
+    (outcome : Outcome) : Type 0 where
   pub binding : Option (List ℕ)
   pub bytes : List ℕ
-  pub binding_given : IsGiven gives (option_copied (files_of request).binding) binding
-  pub text_given : gives (files_of request).text.now bytes
-  pub report : IsReport request binding bytes before after status
+  pub binding_given : IsGiven gives (option_copied (files_of invocation).binding) binding
+  pub text_given : gives (files_of invocation).text.now bytes
+  pub report : IsReport invocation binding bytes before after outcome
 
 -- the binding at this path isn't read; or it is, and the text at this path isn't
 abbrev pub IsFirstUnread : (List ℕ → List ℕ → Type 0) → (List ℕ → Unread → Type 0) → Files → List ℕ → Unread → Type 0
 IsFirstUnread gives fails files path why =
     ((option_copied files.binding ≡ Some path) × fails path why)
-    ⊎ (((binding : Option (List ℕ)) × IsGiven gives (option_copied files.binding) binding) × (path ≡ files.text.now) × fails path why)
+    ⊎ (((binding : Option (List ℕ)) × IsGiven gives (option_copied files.binding) binding)
+        × (path ≡ files.text.now) × fails path why)
 
--- the first of the named files that isn't read is told; of a failure of the writer nothing is said
-abbrev pub IsUnserved : (List ℕ → List ℕ → Type 0) → (List ℕ → Unread → Type 0) → Request → Unserved → Type 0
-IsUnserved gives fails request (NotRead path why) = IsFirstUnread gives fails (files_of request) path.now why
-IsUnserved gives fails request (NotPrinted error) = ⊤
+-- the first of the named files that isn't read is reported; of a failure of the writer nothing is said
+abbrev pub IsUnserved : (List ℕ → List ℕ → Type 0) → (List ℕ → Unread → Type 0) → Invocation → Unserved → Type 0
+IsUnserved gives fails invocation (NotRead path why) = IsFirstUnread gives fails (files_of invocation) path.now why
+IsUnserved gives fails invocation (NotPrinted error) = ⊤
 
--- that the file at a path isn't read is told
+-- that the file at a path isn't read is reported
 abbrev pub IsNotRead : (List ℕ → Unread → Type 0) → List ℕ → Unserved → Type 0
 IsNotRead fails path (NotRead told why) = (told.now ≡ path) × fails path why
 IsNotRead fails path (NotPrinted error) = ⊥

@@ -1,40 +1,28 @@
--- What stands against running a text, by the fault that it comes from.
-use Rattle.std.specs.Prelude.{ℕ, List, ◌++◌, codes, string_bytes}
-use Rattle.iltext.specs.declared.fault.TextFault.{TextFault}
-use Rattle.iltext.specs.declared.fault.TextFault.TheVariants as text_faults
-use Rattle.ilsyms.specs.declared.fault.NameFault.{NameFault}
-use Rattle.ilsyms.specs.declared.fault.NameFault.TheVariants as name_faults
-use Rattle.ilsyms.specs.declared.binding.BindFault.{BindFault}
-use Rattle.ilsyms.specs.declared.binding.BindFault.TheVariants as bind_faults
-use Rattle.ilsyms.specs.Printed.{printed_bind_fault, printed_name_fault}
-use Rattle.iltext.specs.Printed as texts
-use Rattle.ilverify.specs.Printed.{printed}
+-- What stands against running a text, by the fault that it comes from, and the line that is printed of it (profile).
+use Rattle.std.specs.Prelude.{ℕ, List, ◌++◌, codes}
+use Rattle.binding.specs.declared.fault.BindFault.{BindFault}
+use Rattle.binding.specs.declared.fault.BindFault.TheVariants as bind_faults
+use Rattle.binding.specs.Printed.{printed_bind_fault}
+use Rattle.plantload.specs.declared.fault.LoadFault.{LoadFault}
+use Rattle.plantload.specs.declared.fault.LoadFault.TheVariants as load_faults
+use Rattle.plantload.specs.PrintedFaults.{printed_load_fault}
 use Rattle.dalictl.specs.declared.stop.Stop.{Stop}
-use Rattle.dalictl.specs.declared.stop.Stop.TheVariants.{Memory, Binding, Text, Name, NoTask, Code}
+use Rattle.dalictl.specs.declared.stop.Stop.TheVariants.{Memory, Binding, Load, NoTask}
 
--- want of memory is one, wherever it comes from
-abbrev pub of_text : TextFault → Stop
-of_text text_faults.Memory = Memory
-of_text (text_faults.At line col cause) = Text (text_faults.At line col cause)
-
-abbrev pub of_name : NameFault → Stop
-of_name name_faults.Memory = Memory
-of_name (name_faults.At line col cause) = Name (name_faults.At line col cause)
+-- out of memory is one, wherever it comes from
+abbrev pub of_load : LoadFault → Stop
+of_load load_faults.Memory = Memory
+of_load (load_faults.Text fault) = Load (load_faults.Text fault)
+of_load (load_faults.Name fault) = Load (load_faults.Name fault)
+of_load (load_faults.Code refused) = Load (load_faults.Code refused)
 
 abbrev pub of_binding : BindFault → Stop
 of_binding bind_faults.Memory = Memory
 of_binding (bind_faults.At line cause) = Binding (bind_faults.At line cause)
 
--- the exit status of the program: 3 where memory was refused, 1 for what a text, a binding or a name is at fault for
-abbrev pub status_of : Stop → ℕ
-status_of Memory = 3
-status_of stop = 1
-
 -- the line that is printed
 abbrev pub printed_stop : Stop → List ℕ
 printed_stop Memory = codes "no memory"
 printed_stop (Binding fault) = printed_bind_fault fault
-printed_stop (Text fault) = texts.printed fault
-printed_stop (Name fault) = printed_name_fault fault
-printed_stop (NoTask name) = codes "no task " ++ string_bytes name
-printed_stop (Code task refusal) = codes "task " ++ string_bytes task ++ codes " " ++ printed refusal
+printed_stop (Load fault) = printed_load_fault fault
+printed_stop (NoTask asked) = codes "no task " ++ asked

@@ -1,14 +1,16 @@
 //! Reading files.
 
 ghost use Rattle.std.specs.Prelude.{◌≡◌, ◌+◌, ◌↔◌, IfOk, IfSome, take};
+ghost use Rattle.limits.specs.Limits.{most_bytes};
 
 use std::alloc::Global;
 use std::fs::File;
 use std::io::{ErrorKind, Read};
 use std::rt::Files;
 
-/// The greatest number of bytes of a text or a binding; of a longer file one byte more is read, which tells that it is too long.
-const MAX_BYTES: u64 = 1_048_576;
+/// How much is read of a file at most: one byte more than the limit, which shows that a file is too
+/// long.
+const MOST_READ: u64 = limits::MOST_BYTES as u64 + 1;
 
 /// Why a file wasn't read.
 #[derive(Clone, Copy, PartialEq, Eq, Debug)]
@@ -30,7 +32,8 @@ pub trait Disk {
 
     /// The bytes that the file at `path` gives.
     fn read(&self, alloc: Global, path: &str) -> Result<Vec<u8>, Unread>
-        ensures { MatchResult result (λ bytes. gives self.now path.now bytes.items) (fails self.now path.now) };
+        ensures { MatchResult result (λ bytes. gives self.now path.now bytes.items)
+            (fails self.now path.now) };
 }
 
 /// The disk of the machine. No contract can say what is on it.
@@ -57,10 +60,11 @@ impl<R: Files> Disk for HostDisk<'_, R> {
 
 /// The first bytes that a reader gives, at most one more than the greatest number.
 fn bytes_of<R: Read + Drop>(alloc: Global, reader: R) -> Result<Vec<u8>, Unread>
-    ensures { IfOk result (λ bytes. IfSome (R.remaining reader) (λ all. bytes.items ≡ take (MAX_BYTES + 1) all)) }
+    ensures { IfOk result (λ bytes. IfSome (R.remaining reader)
+        (λ all. bytes.items ≡ take (most_bytes + 1) all)) }
 {
     let mut bytes = Vec::new(alloc);
-    match reader.take(MAX_BYTES + 1).read_to_end(&mut bytes) {
+    match reader.take(MOST_READ).read_to_end(&mut bytes) {
         Ok(_) => Ok(bytes),
         Err(error) => Err(reason(error.kind())),
     }

@@ -55,7 +55,8 @@ impl fmt::Display for ScanLine {
 }
 
 impl fmt::Display for VariableLine<'_> {
-    ghost output = { λ line. Some (printed_variable line.name.instance.bytes.now line.name.variable.bytes.now line.value) };
+    ghost output = { λ line. Some (printed_variable line.name.instance.bytes.now
+        line.name.variable.bytes.now line.value) };
 
     fn fmt<W: fmt::Write>(&self, f: &mut fmt::Formatter<W>) -> fmt::Result {
         write!(f, "{} = {}", self.name, self.value)

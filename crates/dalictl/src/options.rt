@@ -1,17 +1,20 @@
 //! The command line, read with `clap`.
 
 ghost use Rattle.std.specs.Prelude.{◌≡◌, IfOk, codes, false, map, string_bytes};
-ghost use Rattle.clap.specs.Words.{FailsBy, app_of, fault_of, first_of, found_of, one_of, rows_of, rule_of, shape_of};
+ghost use Rattle.clap.specs.Words.{FailsBy, app_of, fault_of, first_of, found_of, one_of, rows_of};
+ghost use Rattle.clap.specs.Words.{rule_of, shape_of};
 ghost use Rattle.clap.specs.declared.builder.command.Command.TheViews.{out-Command};
-ghost use Rattle.dalictl.specs.CommandLine.{AreFiles, IsNumber, IsOfCommand, IsRequest, check_command, command_line, given};
-ghost use Rattle.dalictl.specs.CommandLine.{number_option, option, step_command, step_files, wanted};
+ghost use Rattle.dalictl.specs.CommandLine.{AreFiles, IsNumber, IsOfCommand, IsInvocation};
+ghost use Rattle.dalictl.specs.CommandLine.{check_command, command_line, given};
+ghost use Rattle.dalictl.specs.CommandLine.{number_option, option, step_command, step_files};
+ghost use Rattle.dalictl.specs.CommandLine.{wanted};
 
 use clap::{Arg, ArgAction, ArgMatches, Command, Error};
 use std::alloc::{AllocError, Global};
 
 /// What the user asks for.
 #[derive(Clone, Copy, PartialEq, Eq, Debug)]
-pub enum Request<'a> {
+pub enum Invocation<'a> {
     /// `check FILE [--bind FILE]`
     Check {
         files: Files<'a>,
@@ -25,16 +28,16 @@ pub enum Request<'a> {
     },
 }
 
-impl<'a> Request<'a> {
+impl<'a> Invocation<'a> {
     ghost use Rattle.std.specs.Prelude.{◌≡◌};
-    ghost use Rattle.dalictl.specs.Requests.{files_of};
+    ghost use Rattle.dalictl.specs.Invocations.{files_of};
 
     /// The files that the command reads.
     pub fn files(self) -> Files<'a>
         ensures { result ≡ files_of self.entry }
     {
         match self {
-            Request::Check { files } | Request::Step { files, .. } => files,
+            Invocation::Check { files } | Invocation::Step { files, .. } => files,
         }
     }
 }
@@ -48,33 +51,35 @@ pub struct Files<'a> {
     pub binding: Option<&'a str>,
 }
 
-/// The request that the words spell, of which the first is the program's name.
+/// The invocation that the words spell, of which the first is the program's name.
 ///
 /// # Errors
 ///
 /// What `clap` says of words that spell none, and the help where it is asked for.
-pub fn read<'a>(alloc: Global, words: &'a [String]) -> Result<Request<'a>, Error>
+pub fn read<'a>(alloc: Global, words: &'a [String]) -> Result<Invocation<'a>, Error>
     // Exactly the words that the command line takes are taken, unless memory is refused,
-    ensures taken { FailsBy (fault_of command_line (map (λ word. string_bytes word) words.entry.now)) result }
-    // and the request is the one that they spell.
-    ensures request { IfOk result (IsRequest (map (λ word. string_bytes word) words.entry.now)) }
+    ensures taken { FailsBy
+        (fault_of command_line (map (λ word. string_bytes word) words.entry.now)) result }
+    // and the invocation is the one that they spell.
+    ensures invocation { IfOk result
+        (IsInvocation (map (λ word. string_bytes word) words.entry.now)) }
 {
     let mut matches = command(alloc)?.try_get_matches_from(words)?;
     match matches.remove_subcommand() {
-        Some((name, found)) => Ok(request_of(name, &found)),
+        Some((name, found)) => Ok(invocation_of(name, &found)),
         None => unreachable!(),
     }
 }
 
-/// The request of what was found under a command's name.
-fn request_of<'a>(name: &str, found: &ArgMatches<'a>) -> Request<'a>
+/// The invocation of what was found under a command's name.
+fn invocation_of<'a>(name: &str, found: &ArgMatches<'a>) -> Invocation<'a>
     ensures { IsOfCommand name.now (rows_of (found_of found.now)) result }
 {
     let files = files_in(found);
     if name == "check" {
-        return Request::Check { files };
+        return Invocation::Check { files };
     }
-    Request::Step {
+    Invocation::Step {
         files,
         task: text_in(found, "TASK"),
         scans: number_in(found, "scans", 1),
@@ -203,74 +208,4 @@ fn every<'a>(alloc: Global) -> Arg<'a>
         .action(ArgAction::Set)
         .value_parser(clap::value_parser!(u32))
         .help("Milliseconds from scan to scan, 0 to 4294967295 [default: 100]")
-}
-
-#[cfg(test)]
-pub(crate) mod tests {
-    use super::*;
-    use std::test::Fail;
-
-    /// The words of a line.
-    pub(crate) fn words(alloc: Global, line: &str) -> Result<Vec<String>, AllocError> {
-        let mut words = Vec::new(alloc);
-        for word in line.split(' ') {
-            words.push(String::from_str(alloc, word)?)?;
-        }
-        Ok(words)
-    }
-
-    #[test]
-    fn options_have_their_defaults(rt: HostRuntime) -> Result<(), Fail> {
-        let alloc = rt.alloc();
-        let files = Files {
-            text: "t.il",
-            binding: None,
-        };
-        let bound = Files {
-            text: "t.il",
-            binding: Some("b"),
-        };
-        let table = [
-            ("dalictl check t.il", Request::Check { files }),
-            (
-                "dalictl check --bind b t.il",
-                Request::Check { files: bound },
-            ),
-            (
-                "dalictl step t.il main",
-                Request::Step {
-                    files,
-                    task: "main",
-                    scans: 1,
-                    every: 100,
-                },
-            ),
-            (
-                "dalictl step t.il --every=0 main --scans 1000000 --bind b",
-                Request::Step {
-                    files: bound,
-                    task: "main",
-                    scans: 1_000_000,
-                    every: 0,
-                },
-            ),
-        ];
-        for (line, wanted) in table {
-            let words = words(alloc, line)?;
-            match read(alloc, &words) {
-                Ok(request) => assert!(rt; request == wanted, "{line}"),
-                Err(_) => return Err("it is a request".into()),
-            }
-        }
-        for line in [
-            "dalictl step t.il main --scans 0",
-            "dalictl step t.il main --scans 1000001",
-            "dalictl step t.il",
-            "dalictl run t.il",
-        ] {
-            let words = words(alloc, line)?;
-            assert!(rt; read(alloc, &words).is_err(), "{line}");
-        }
-        Ok(())
-    }
 }

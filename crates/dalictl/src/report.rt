@@ -1,79 +1,74 @@
-//! What is printed.
+//! What is printed of an answer.
 
 ghost use Rattle.std.specs.Prelude.{◌≡◌, length, IfOk, OnOk};
-ghost use Rattle.std.specs.Option.{option_copied};
 ghost use Rattle.std.specs.Io.KnownBytes.{Appends};
-ghost use Rattle.dalictl.specs.Reports.{IsReport, first_lines, printed_answer, scan_line, status_of_answer, task_line, variable_line};
+ghost use Rattle.dalictl.specs.Reports.{first_lines, outcome_of, printed_answer, scan_line};
+ghost use Rattle.dalictl.specs.Reports.{task_line, variable_line};
 
-use crate::answers::{Answer, respond};
-use crate::options::Request;
-use crate::setup::{Setup, Stepped};
-use crate::stop::Stop;
+use crate::answers::Answer;
+use crate::outcome::Outcome;
+use crate::stepped::{Stepped, task_line};
+use plantload::Setup;
 use std::alloc::Global;
 use std::io;
 use std::io::{BufWriter, Write};
 
-/// Answers the request and prints the answer; the writer, which then has every line, and the exit status.
-pub fn answer<W: Write + Drop>(
-    alloc: Global,
-    to: W,
-    request: Request,
-    binding: Option<&[u8]>,
-    text: &[u8],
-) -> io::Result<(W, u8)>
-    ensures { IfOk result (λ done. IsReport request.entry (option_copied binding.entry) text.now (W.contents to) (W.contents done.0) done.1) }
-{
-    let answer = respond(alloc, request, binding, text);
-    print(alloc, to, &answer)
-}
-
-/// Prints the answer through a buffer, of which nothing is left behind; the writer and the exit status.
-fn print<W: Write + Drop>(alloc: Global, to: W, answer: &Answer) -> io::Result<(W, u8)>
-    ensures text { IfOk result (λ done. Appends (W.contents to) (W.contents done.0) (printed_answer answer.now)) }
-    ensures status { IfOk result (λ done. done.1 ≡ status_of_answer answer.now) }
+/// Prints the answer through a buffer, of which nothing is left behind; the writer, which then has
+/// every line, and how the program ends.
+///
+/// # Errors
+///
+/// The writer's, or that the allocator is out of memory.
+pub fn print<W: Write + Drop>(alloc: Global, to: W, answer: &Answer) -> io::Result<(W, Outcome)>
+    ensures text { IfOk result
+        (λ done. Appends (W.contents to) (W.contents done.0) (printed_answer answer.now)) }
+    ensures outcome { IfOk result (λ done. done.1 ≡ outcome_of answer.now) }
 {
     let mut out = BufWriter::new(alloc, to)?;
-    let status = report(&mut out, answer)?;
-    Ok((out.into_inner()?, status))
+    let outcome = report(&mut out, answer)?;
+    Ok((out.into_inner()?, outcome))
 }
 
-/// Writes the answer's lines; the exit status.
-fn report<W: Write>(out: &mut W, answer: &Answer) -> io::Result<u8>
-    ensures text { OnOk result (Appends (W.contents out.old) (W.contents out.new) (printed_answer answer.now)) }
-    ensures status { IfOk result (λ status. status ≡ status_of_answer answer.now) }
+/// Writes the answer's lines; how the program ends.
+fn report<W: Write>(out: &mut W, answer: &Answer) -> io::Result<Outcome>
+    ensures text { OnOk result
+        (Appends (W.contents out.old) (W.contents out.new) (printed_answer answer.now)) }
+    ensures outcome { IfOk result (λ outcome. outcome ≡ outcome_of answer.now) }
 {
     match answer {
         Answer::Checked(setup) => {
             tasks(out, setup)?;
-            Ok(0)
+            Ok(Outcome::Accepted)
         }
         Answer::Stepped(made) => {
             scans(out, made)?;
             variables(out, made)?;
-            Ok(0)
+            Ok(Outcome::Accepted)
         }
         Answer::Stopped(stop) => {
             writeln!(out, "{stop}")?;
-            Ok(stop.status())
+            Ok(Outcome::of_stop(stop))
         }
     }
 }
 
 /// A line for each task.
 fn tasks<W: Write>(out: &mut W, setup: &Setup) -> io::Result<()>
-    ensures { OnOk result (Appends (W.contents out.old) (W.contents out.new) (first_lines (task_line setup.now) (length setup.now.plan.tasks))) }
+    ensures { OnOk result (Appends (W.contents out.old) (W.contents out.new)
+        (first_lines (task_line setup.now) (length setup.now.plan.tasks))) }
 {
-    for task in 0..setup.plan.tasks() {
-        writeln!(out, "{}", setup.task_line(task))?;
+    for task in 0..setup.plan().tasks() {
+        writeln!(out, "{}", task_line(setup, task))?;
     }
     Ok(())
 }
 
 /// A line for each scan.
 fn scans<W: Write>(out: &mut W, made: &Stepped) -> io::Result<()>
-    ensures { OnOk result (Appends (W.contents out.old) (W.contents out.new) (first_lines (scan_line made.now) (length made.now.scans.each.items))) }
+    ensures { OnOk result (Appends (W.contents out.old) (W.contents out.new)
+        (first_lines (scan_line made.now) (length made.now.each))) }
 {
-    for number in 0..made.scans.each.len() {
+    for number in 0..made.scans() {
         writeln!(out, "{}", made.scan_line(number))?;
     }
     Ok(())
@@ -81,9 +76,10 @@ fn scans<W: Write>(out: &mut W, made: &Stepped) -> io::Result<()>
 
 /// A line for each variable.
 fn variables<W: Write>(out: &mut W, made: &Stepped) -> io::Result<()>
-    ensures { OnOk result (Appends (W.contents out.old) (W.contents out.new) (first_lines (variable_line made.now) (length made.now.scans.values.items))) }
+    ensures { OnOk result (Appends (W.contents out.old) (W.contents out.new)
+        (first_lines (variable_line made.now) (length made.now.values))) }
 {
-    for slot in 0..made.scans.values.len() {
+    for slot in 0..made.variables() {
         writeln!(out, "{}", made.variable_line(slot))?;
     }
     Ok(())

@@ -28,7 +28,8 @@ pub struct Scans {
     pub values: Vec<Value>,
 }
 
-/// Makes this many scans, each from the values after the one before, at moments `every` milliseconds apart.
+/// Makes this many scans, each from the values after the one before, at moments `every`
+/// milliseconds apart.
 pub fn make(
     alloc: Global,
     code: &Arc<Verified>,
@@ -37,7 +38,8 @@ pub fn make(
     every: u32,
 ) -> Result<Scans, AllocError>
     requires { AreOf from.now (arc_value code.now).code.slots }
-    ensures { IfOk result (λ made. ScansTo (arc_value code.now) every scans from.now made.each.items made.values.items) }
+    ensures { IfOk result (λ made. ScansTo (arc_value code.now) every scans from.now
+        made.each.items made.values.items) }
 {
     let mut each = Vec::new(alloc);
     let mut values = Vec::from_slice(alloc, from)?;
@@ -58,7 +60,8 @@ fn next(
     moment: u64,
 ) -> Result<(Taken, Vec<Value>), AllocError>
     requires { AreOf values.now (arc_value code.now).code.slots }
-    ensures run { IfOk result (λ made. IsScan (arc_value code.now) values.now made.0.steps made.1.items) }
+    ensures run { IfOk result
+        (λ made. IsScan (arc_value code.now) values.now made.0.steps made.1.items) }
     ensures moment { IfOk result (λ made. made.0.moment ≡ moment) }
 {
     let snapshot = Snapshot::new(alloc, code.clone()?, values, moment)?;

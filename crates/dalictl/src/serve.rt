@@ -1,17 +1,19 @@
-//! Serving a request: its files are read, and its answer is printed.
+//! Serving an invocation: its files are read, and its answer is printed.
 
 ghost use Rattle.std.specs.Prelude.{IfErr, IfOk, IsSomeAnd, option_map};
 ghost use Rattle.std.specs.Option.{option_copied};
 ghost use Rattle.dalictl.specs.Served.{IsGiven, IsNotRead, IsServed, IsUnserved};
 
+use crate::answers::respond;
 use crate::files::{Disk, Unread};
-use crate::options::Request;
+use crate::options::Invocation;
+use crate::outcome::Outcome;
 use crate::report;
 use std::alloc::Global;
 use std::io;
 use std::io::Write;
 
-/// Why a request isn't served.
+/// Why an invocation isn't served.
 #[derive(Debug, Drop)]
 pub enum Unserved<'a> {
     /// A file wasn't read.
@@ -31,21 +33,28 @@ impl From<io::Error> for Unserved<'_> {
     }
 }
 
-/// Reads the files that the request names, the binding before the text, and prints the answer; the writer, which then has every
-/// line, and the exit status.
+/// Reads the files that the invocation names, the binding before the text, and prints the answer;
+/// the writer, which then has every line, and how the program ends.
+///
+/// # Errors
+///
+/// The first file that isn't read, or the writer's error.
 pub fn serve<'a, D: Disk, W: Write + Drop>(
     alloc: Global,
     disk: &D,
     to: W,
-    request: Request<'a>,
-) -> Result<(W, u8), Unserved<'a>>
-    ensures served { IfOk result (λ done. IsServed (D.gives disk.now) request.entry (W.contents to) (W.contents done.0) done.1) }
-    ensures unserved { IfErr result (IsUnserved (D.gives disk.now) (D.fails disk.now) request.entry) }
+    invocation: Invocation<'a>,
+) -> Result<(W, Outcome), Unserved<'a>>
+    ensures served { IfOk result (λ done. IsServed (D.gives disk.now) invocation.entry
+        (W.contents to) (W.contents done.0) done.1) }
+    ensures unserved { IfErr result
+        (IsUnserved (D.gives disk.now) (D.fails disk.now) invocation.entry) }
 {
-    let files = request.files();
+    let files = invocation.files();
     let binding = binding_at(alloc, disk, files.binding)?;
     let text = bytes_at(alloc, disk, files.text)?;
-    Ok(report::answer(alloc, to, request, binding.as_deref(), &text)?)
+    let answer = respond(alloc, invocation, binding.as_deref(), &text);
+    Ok(report::print(alloc, to, &answer)?)
 }
 
 /// The bytes that the disk gives for the binding's path, where one is named.
@@ -54,8 +63,10 @@ fn binding_at<'a, D: Disk>(
     disk: &D,
     path: Option<&'a str>,
 ) -> Result<Option<Vec<u8>>, Unserved<'a>>
-    ensures given { IfOk result (λ read. IsGiven (D.gives disk.now) (option_copied path.entry) (option_map (λ bytes. bytes.items) read)) }
-    ensures not_read { IfErr result (λ unserved. IsSomeAnd (option_copied path.entry) (λ path. IsNotRead (D.fails disk.now) path unserved)) }
+    ensures given { IfOk result (λ read. IsGiven (D.gives disk.now) (option_copied path.entry)
+        (option_map (λ bytes. bytes.items) read)) }
+    ensures not_read { IfErr result (λ unserved. IsSomeAnd (option_copied path.entry)
+        (λ path. IsNotRead (D.fails disk.now) path unserved)) }
 {
     match path {
         Some(path) => Ok(Some(bytes_at(alloc, disk, path)?)),

@@ -1,24 +1,62 @@
 //! Why a text isn't run.
 
-use crate::{FAILED, REFUSED};
-use ilsyms::{BindFault, NameFault};
-use iltext::TextFault;
-use ilverify::Refusal;
-use std::alloc::{AllocError, AllocFailed};
+use binding::BindFault;
+use plantload::LoadFault;
+use std::alloc::{AllocError, AllocFailed, Global};
 use std::error::Error;
 use std::fmt;
+use std::marker::Model;
 
-/// The first of what stands against running a text, in the order in which it is told.
+/// A name that a user gave for a task.
+#[derive(Drop)]
+pub struct AskedName {
+    name: String,
+}
+
+impl Model for AskedName {
+    ghost use Rattle.std.specs.Prelude.{ℕ, List, string_bytes};
+
+    ghost Value = { List ℕ };
+
+    ghost view = { λ asked. string_bytes asked.name };
+}
+
+impl AskedName {
+    ghost use Rattle.std.specs.Prelude.{◌≡◌, IfOk};
+
+    /// A copy of the name.
+    pub fn of(alloc: Global, name: &str) -> Result<AskedName, AllocError>
+        ensures { IfOk result (λ asked. asked ≡ name.now) }
+    {
+        let name = String::from_str(alloc, name)?;
+        Ok(AskedName { name })
+    }
+
+    /// The name as text.
+    pub fn text(&self) -> &str
+        ensures { result.now ≡ self.now }
+    {
+        self.name.as_str()
+    }
+}
+
+impl fmt::Debug for AskedName {
+    fn fmt<W: fmt::Write>(&self, f: &mut fmt::Formatter<W>) -> fmt::Result {
+        write!(f, "{}", self.text())
+    }
+}
+
+/// The first of what stands against running a text, in the order in which it is reported.
 #[derive(Debug, Drop)]
 pub enum Stop {
+    /// The allocator is out of memory.
     Memory,
+    /// The binding's first fault.
     Binding(BindFault),
-    Text(TextFault),
-    Name(NameFault),
+    /// The text isn't loaded.
+    Load(LoadFault),
     /// No task has this name.
-    NoTask(String),
-    /// The code of the first task that is refused.
-    Code { task: String, refusal: Refusal },
+    NoTask(AskedName),
 }
 
 impl Error for Stop {}
@@ -33,25 +71,8 @@ impl fmt::Display for Stop {
         match self {
             Stop::Memory => write!(f, "no memory"),
             Stop::Binding(fault) => write!(f, "{fault}"),
-            Stop::Text(fault) => write!(f, "{fault}"),
-            Stop::Name(fault) => write!(f, "{fault}"),
-            Stop::NoTask(name) => write!(f, "no task {name}"),
-            Stop::Code { task, refusal } => write!(f, "task {task} {refusal}"),
-        }
-    }
-}
-
-impl Stop {
-    ghost use Rattle.std.specs.Prelude.{◌≡◌};
-    ghost use Rattle.dalictl.specs.Stops.{status_of};
-
-    /// The exit status: 3 where memory was refused, else 1.
-    pub fn status(&self) -> u8
-        ensures { result ≡ status_of self.now }
-    {
-        match self {
-            Stop::Memory => FAILED,
-            _ => REFUSED,
+            Stop::Load(fault) => write!(f, "{fault}"),
+            Stop::NoTask(asked) => write!(f, "no task {}", asked.text()),
         }
     }
 }
@@ -62,7 +83,7 @@ impl From<AllocError> for Stop {
 
     ghost from_gives = { λ _ e. e ≡ Memory };
 
-    fn from(_e: AllocError) -> Stop {
+    fn from(_refused: AllocError) -> Stop {
         Stop::Memory
     }
 }
@@ -73,35 +94,21 @@ impl<T: Drop> From<AllocFailed<T>> for Stop {
 
     ghost from_gives = { λ _ e. e ≡ Memory };
 
-    fn from(_e: AllocFailed<T>) -> Stop {
+    fn from(_refused: AllocFailed<T>) -> Stop {
         Stop::Memory
     }
 }
 
-impl From<TextFault> for Stop {
+impl From<LoadFault> for Stop {
     ghost use Rattle.std.specs.Prelude.{◌≡◌};
-    ghost use Rattle.dalictl.specs.Stops.{of_text};
+    ghost use Rattle.dalictl.specs.Stops.{of_load};
 
-    ghost from_gives = { λ fault stop. stop ≡ of_text fault };
+    ghost from_gives = { λ fault stop. stop ≡ of_load fault };
 
-    fn from(fault: TextFault) -> Stop {
+    fn from(fault: LoadFault) -> Stop {
         match fault {
-            TextFault::Memory => Stop::Memory,
-            fault => Stop::Text(fault),
-        }
-    }
-}
-
-impl From<NameFault> for Stop {
-    ghost use Rattle.std.specs.Prelude.{◌≡◌};
-    ghost use Rattle.dalictl.specs.Stops.{of_name};
-
-    ghost from_gives = { λ fault stop. stop ≡ of_name fault };
-
-    fn from(fault: NameFault) -> Stop {
-        match fault {
-            NameFault::Memory => Stop::Memory,
-            fault => Stop::Name(fault),
+            LoadFault::Memory => Stop::Memory,
+            fault => Stop::Load(fault),
         }
     }
 }

@@ -1,4 +1,4 @@
-use Rattle.dalictl.proofs.Stepped.{one_more}
+use Rattle.dalictl.proofs.MadeScans.{one_more}
 use Rattle.dalictl.proofs.scans.make.Goals as goal
 
 pub loop-number-preserved : goal.loop-number-preserved

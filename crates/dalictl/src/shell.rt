@@ -1,0 +1,90 @@
+//! The program over a runtime: its words, its files and its terminal.
+
+use crate::files::{HostDisk, Unread};
+use crate::options::Invocation;
+use crate::outcome::Outcome;
+use crate::serve::Unserved;
+use crate::{options, serve};
+use std::rt::{Env, Files};
+use std::{env, io};
+
+/// Reads the command line and does what it asks for.
+pub fn run<R: Files + Env + Print + Eprint + AllocGlobal>(rt: &R) -> Outcome {
+    match words(rt) {
+        Ok(words) => run_words(rt, words.as_slice()),
+        Err(error) => match error.kind() {
+            io::ErrorKind::OutOfMemory => no_memory(rt),
+            _ => not_text(rt),
+        },
+    }
+}
+
+/// The words of the command line, the program's name first.
+///
+/// # Errors
+///
+/// One of them isn't UTF-8, or the allocator is out of memory.
+fn words<R: Env + AllocGlobal>(rt: &R) -> io::Result<Vec<String>> {
+    let mut words = Vec::new(rt.alloc());
+    for word in env::args(rt)? {
+        words.push(word)?;
+    }
+    Ok(words)
+}
+
+/// Does what these words ask for.
+fn run_words<R: Files + Print + Eprint + AllocGlobal>(rt: &R, words: &[String]) -> Outcome {
+    match options::read(rt.alloc(), words) {
+        Ok(invocation) => run_invocation(rt, invocation),
+        Err(error) => match Outcome::of_words(error.kind()) {
+            Outcome::Failed => no_memory(rt),
+            outcome => printed(rt, error.print(rt), outcome),
+        },
+    }
+}
+
+/// Serves an invocation from the machine's files.
+fn run_invocation<R: Files + Print + Eprint + AllocGlobal>(
+    rt: &R,
+    invocation: Invocation,
+) -> Outcome {
+    match serve::serve(rt.alloc(), &HostDisk { rt }, io::writer(rt), invocation) {
+        Ok((_, outcome)) => outcome,
+        Err(Unserved::NotRead { path, why }) => not_read(rt, path, why),
+        Err(Unserved::NotPrinted(error)) => printed(rt, Err(error), Outcome::Failed),
+    }
+}
+
+/// Reports that a file wasn't read.
+fn not_read<R: Print + Eprint>(rt: &R, path: &str, why: Unread) -> Outcome {
+    match why {
+        Unread::Memory => no_memory(rt),
+        Unread::Failed => printed(rt, eprintln!(rt; "cannot read {path}"), Outcome::Failed),
+    }
+}
+
+/// Reports that a word of the command line isn't text.
+fn not_text<R: Print + Eprint>(rt: &R) -> Outcome {
+    printed(
+        rt,
+        eprintln!(rt; "error: an argument is not UTF-8"),
+        Outcome::Misused,
+    )
+}
+
+/// Reports that the allocator is out of memory.
+fn no_memory<R: Print>(rt: &R) -> Outcome {
+    let _ = println!(rt; "no memory");
+    Outcome::Failed
+}
+
+/// The outcome, where what it goes with was printed.
+fn printed<R: Print>(rt: &R, done: io::Result<()>, outcome: Outcome) -> Outcome {
+    match done {
+        Ok(()) => outcome,
+        Err(error) => match error.kind() {
+            io::ErrorKind::OutOfMemory => no_memory(rt),
+            _ => Outcome::Failed,
+        },
+    }
+}

@@ -1,0 +1,115 @@
+//! What scans of a task left.
+
+ghost use Rattle.std.specs.Prelude.{◌≡◌, ◌<◌, length, slice_get, Some, option_map};
+
+use crate::lines::{ScanLine, TaskLine, VariableLine};
+use crate::scans::{Scans, Taken};
+use iltypes::Value;
+use plantload::Setup;
+use std::marker::Model;
+
+/// Scans of one task of a setup.
+#[derive(Drop)]
+pub struct Stepped {
+    setup: Setup,
+    /// The task's number.
+    task: usize,
+    each: Vec<Taken>,
+    values: Vec<Value>,
+}
+
+impl Model for Stepped {
+    ghost use Rattle.dalictl.specs.Stepping.{HasTask, Run, run_of};
+
+    ghost Value = { Run };
+
+    ghost view = { λ s. run_of s.setup s.task s.each.items s.values.items };
+
+    ghost invariant = { λ s. HasTask (run_of s.setup s.task s.each.items s.values.items) };
+}
+
+impl Stepped {
+    ghost use Rattle.std.specs.Prelude.{◌≡◌, ◌<◌, length, slice_get, Some, option_map};
+    ghost use Rattle.ilsource.specs.Names.{text_of};
+    ghost use Rattle.ilsyms.specs.Plans.{slot_at};
+    ghost use Rattle.dalictl.specs.Stepping.{HasTask, Run, run_of};
+
+    /// These scans of the task of this number.
+    pub fn new(setup: Setup, task: usize, scans: Scans) -> Stepped
+        requires { HasTask (run_of setup task scans.each.items scans.values.items) }
+        ensures { result ≡ run_of setup task scans.each.items scans.values.items }
+    {
+        let Scans { each, values } = scans;
+        Stepped {
+            setup,
+            task,
+            each,
+            values,
+        }
+    }
+
+    /// How many scans were made.
+    pub fn scans(&self) -> usize
+        ensures { result ≡ length self.now.each }
+    {
+        self.each.len()
+    }
+
+    /// How many variables the task has.
+    pub fn variables(&self) -> usize
+        ensures { result ≡ length self.now.values }
+    {
+        self.values.len()
+    }
+
+    /// What is printed of the scan of this number, counted from 0.
+    pub fn scan_line(&self, number: usize) -> ScanLine
+        requires { number < length self.now.each }
+        ensures number { result.number ≡ number }
+        ensures steps { option_map (λ taken. taken.steps) (slice_get self.now.each number)
+            ≡ Some result.steps }
+        ensures bound { option_map (λ code. code.bound) (slice_get self.now.setup.codes self.now.task)
+            ≡ Some result.bound }
+    {
+        ScanLine {
+            number,
+            steps: self.each[number].steps,
+            bound: self.setup.code(self.task).bound(),
+        }
+    }
+
+    /// What is printed of the variable in the slot of this number: its name as declared, and its
+    /// value after the last scan.
+    pub fn variable_line(&self, slot: usize) -> VariableLine<'_>
+        requires { slot < length self.now.values }
+        ensures instance { option_map (λ s. text_of self.now.setup.plan.text s.instance)
+            (slot_at self.now.setup.plan self.now.task slot) ≡ Some result.name.instance.bytes.now }
+        ensures variable { option_map (λ s. text_of self.now.setup.plan.text s.variable)
+            (slot_at self.now.setup.plan self.now.task slot) ≡ Some result.name.variable.bytes.now }
+        ensures value { slice_get self.now.values slot ≡ Some result.value }
+    {
+        VariableLine {
+            name: self.setup.plan().slot_name(self.task, slot),
+            value: self.values[slot],
+        }
+    }
+}
+
+/// What is printed of the task of this number: its name, the words of its code, and the code's
+/// bound.
+pub fn task_line(setup: &Setup, task: usize) -> TaskLine<'_>
+    requires { task < length setup.now.plan.tasks }
+    ensures name { option_map (λ t. t.name) (slice_get setup.now.plan.tasks task)
+        ≡ Some result.name.now }
+    ensures words { option_map (λ code. length code.code.instructions) (slice_get setup.now.codes task)
+        ≡ Some result.words }
+    ensures bound { option_map (λ code. code.bound) (slice_get setup.now.codes task)
+        ≡ Some result.bound }
+{
+    let code = setup.code(task);
+    TaskLine {
+        name: setup.plan().task_name(task),
+        words: code.code().instructions().len(),
+        bound: code.bound(),
+    }
+}

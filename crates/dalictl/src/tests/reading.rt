@@ -1,0 +1,60 @@
+//! The command line: what words spell, with the defaults of options.
+
+use super::words;
+use crate::options::{Files, Invocation, read};
+use std::test::Fail;
+
+#[test]
+fn options_have_their_defaults(rt: HostRuntime) -> Result<(), Fail> {
+    let alloc = rt.alloc();
+    let files = Files {
+        text: "t.il",
+        binding: None,
+    };
+    let bound = Files {
+        text: "t.il",
+        binding: Some("b"),
+    };
+    let table = [
+        ("dalictl check t.il", Invocation::Check { files }),
+        (
+            "dalictl check --bind b t.il",
+            Invocation::Check { files: bound },
+        ),
+        (
+            "dalictl step t.il main",
+            Invocation::Step {
+                files,
+                task: "main",
+                scans: 1,
+                every: 100,
+            },
+        ),
+        (
+            "dalictl step t.il --every=0 main --scans 1000000 --bind b",
+            Invocation::Step {
+                files: bound,
+                task: "main",
+                scans: 1_000_000,
+                every: 0,
+            },
+        ),
+    ];
+    for (line, wanted) in table {
+        let words = words(alloc, line)?;
+        match read(alloc, &words) {
+            Ok(invocation) => assert!(rt; invocation == wanted, "{line}"),
+            Err(_) => return Err("it is an invocation".into()),
+        }
+    }
+    for line in [
+        "dalictl step t.il main --scans 0",
+        "dalictl step t.il main --scans 1000001",
+        "dalictl step t.il",
+        "dalictl run t.il",
+    ] {
+        let words = words(alloc, line)?;
+        assert!(rt; read(alloc, &words).is_err(), "{line}");
+    }
+    Ok(())
+}

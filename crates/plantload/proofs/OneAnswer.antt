@@ -1,0 +1,173 @@
+-- A text is loaded as one thing at most: its setup, or the one fault that stands against it.
+use Rattle.std.proofs.Common.{◌≡◌, ℕ, zero, suc, ◌<◌, List, [], ◌∷◌, Result, Ok, Err, Some, refl, sym, ap, ◌∙◌, subst, arith, inl, inr}
+use Rattle.std.specs.Prelude.{slice_get}
+use Rattle.std.proofs.lemmas.Bool.{cases_lt}
+use Rattle.ilsource.specs.Trees.{Tree}
+use Rattle.iltext.specs.Parsing.{IsText}
+use Rattle.iltext.proofs.Sources.{is_one, is_one_fault, is_no_fault}
+use Rattle.ilscope.specs.declared.fault.NameFault.TheVariants as name_faults
+use Rattle.ilscope.specs.declared.fault.NameFault.{NameFault}
+use Rattle.ilsyms.specs.Faults.{IsFault}
+use Rattle.ilsyms.specs.Plans.{Planned, PlannedTask}
+use Rattle.ilsyms.specs.Resolved.{IsPlanOf}
+use Rattle.ilscope.specs.Told.{TellsLeast}
+use Rattle.ilscope.proofs.OneFault.{one_told}
+use Rattle.ilsyms.proofs.OnePlan.{one_plan}
+use Rattle.ilcode.specs.declared.instruction.Instruction.{Instruction}
+use Rattle.ilcode.specs.Listings.{Listing}
+use Rattle.ilcode.specs.Paths.{IsBound}
+use Rattle.ilcompile.specs.Layout.{laid_out}
+use Rattle.ilverify.specs.declared.verifier.Refusal.{Refusal}
+use Rattle.ilverify.specs.Certificates.{IsCertified, IsRefusal}
+use Rattle.ilverify.specs.Verdicts.{Accepted}
+use Rattle.ilverify.proofs.Refusals.{same_refusal}
+use Rattle.plantload.specs.Loaded.{AreCodes, IsCodeOf, Loaded, Refused}
+use Rattle.plantload.specs.Loading.{IsFirstRefused, IsLoadFault, IsLoaded, IsPlanFault, IsPlanOfText, IsSetup}
+use Rattle.plantload.specs.declared.fault.LoadFault.{LoadFault}
+use Rattle.plantload.specs.declared.fault.LoadFault.TheVariants.{Memory, Text, Name, Code}
+
+-- ---- codes
+
+-- words have one greatest path's length
+pub same_bound : (words : List Instruction) (a b : ℕ) → IsBound words a → IsBound words b → a ≡ b
+same_bound words a b h g =
+    let up = g.greatest h.path h.is in
+    let down = h.greatest g.path g.is in
+    let mine = h.long in
+    let its = g.long in
+    omega (arith, up, down, mine, its)
+
+-- a task has one code
+same_code : (buses : ℕ) (t : PlannedTask) (a b : Accepted) → IsCodeOf buses t a → IsCodeOf buses t b → a ≡ b
+same_code buses t a b h g =
+    let code : a.code ≡ b.code = h.laid ∙ sym g.laid in
+    let bound : a.bound ≡ b.bound =
+    same_bound b.code.instructions a.bound b.bound (subst (λ (l : Listing). IsBound l.instructions a.bound) code h.bound) g.bound in
+    λ i. record { code = code i; bound = bound i }
+
+same_codes : (buses : ℕ) (tasks : List PlannedTask) (a b : List Accepted) → AreCodes buses tasks a → AreCodes buses tasks b → a ≡ b
+same_codes buses [] [] [] h g = refl
+same_codes buses [] [] (y ∷ b) h g = absurd g
+same_codes buses [] (x ∷ a) b h g = absurd h
+same_codes buses (t ∷ tasks) [] b h g = absurd h
+same_codes buses (t ∷ tasks) (x ∷ a) [] h g = absurd g
+same_codes buses (t ∷ tasks) (x ∷ a) (y ∷ b) h g =
+    let e = same_code buses t x y h.0 g.0 in
+    let f = same_codes buses tasks a b h.1 g.1 in
+    cc
+
+certified_at : (buses : ℕ) (tasks : List PlannedTask) (codes : List Accepted) (k : ℕ) (t : PlannedTask) → AreCodes buses tasks codes
+    → slice_get tasks k ≡ Some t → IsCertified (laid_out buses t)
+certified_at buses [] codes zero t h e = absurd (cc)
+certified_at buses [] codes (suc k) t h e = absurd (cc)
+certified_at buses (x ∷ tasks) [] k t h e = absurd h
+certified_at buses (x ∷ tasks) (code ∷ codes) zero t h e =
+    let same : x ≡ t = cc in subst (λ (u : PlannedTask). IsCertified (laid_out buses u)) same h.0.certified
+certified_at buses (x ∷ tasks) (code ∷ codes) (suc k) t h e = certified_at buses tasks codes k t h.1 e
+
+-- where all tasks have codes, none is refused
+pub none_refused : (plan : Planned) (codes : List Accepted) (k : ℕ) (refusal : Refusal) → AreCodes plan.buses plan.tasks codes
+    → IsFirstRefused plan k refusal → ⊥
+none_refused plan codes k refusal h f = f.refused.uncertified (certified_at plan.buses plan.tasks codes k f.task h f.is)
+
+-- a plan has one first task that is refused
+same_number : (plan : Planned) (j k : ℕ) (r q : Refusal) → IsFirstRefused plan j r → IsFirstRefused plan k q → j ≡ k
+same_number plan j k r q f g =
+    elim (cases_lt j k) as (λ _. j ≡ k) [
+      | inl lt ↦ absurd (f.refused.uncertified (g.before j f.task lt f.is))
+      | inr ge ↦ elim (cases_lt k j) as (λ _. j ≡ k) [
+        | inl gt ↦ absurd (g.refused.uncertified (f.before k g.task gt g.is))
+        | inr le ↦ omega (arith, ge, le)
+      ]
+    ]
+
+same_reason : (plan : Planned) (k : ℕ) (r q : Refusal) → IsFirstRefused plan k r → IsFirstRefused plan k q → r ≡ q
+same_reason plan k r q f g =
+    let mine = f.is in
+    let its = g.is in
+    let task : g.task ≡ f.task = cc in
+    same_refusal (laid_out plan.buses f.task) r q f.refused (subst (λ (t : PlannedTask). IsRefusal (laid_out plan.buses t) q) task g.refused)
+
+pub same_refused : (plan : Planned) (j k : ℕ) (r q : Refusal) → IsFirstRefused plan j r → IsFirstRefused plan k q → (j ≡ k) × (r ≡ q)
+same_refused plan j k r q f g =
+    let number = same_number plan j k r q f g in
+    (number, same_reason plan k r q (subst (λ (n : ℕ). IsFirstRefused plan n r) number f) g)
+
+-- ---- texts
+
+module _ (buses : ℕ) (bytes : List ℕ) where
+  pub same_plan : (a b : Planned) → IsPlanOfText buses bytes a → IsPlanOfText buses bytes b → a ≡ b
+  same_plan a b h g =
+      let tree : h.tree ≡ g.tree = is_one bytes h.tree g.tree h.spelled g.spelled in
+      one_plan g.tree buses a b (subst (λ (t : Tree). IsPlanOf t buses a) tree h.resolved) g.resolved
+
+  pub same_setup : (a b : Loaded) → IsSetup buses bytes a → IsSetup buses bytes b → a ≡ b
+  same_setup a b h g =
+      let plan : a.plan ≡ b.plan = same_plan a.plan b.plan h.plan g.plan in
+      let codes : a.codes ≡ b.codes =
+      same_codes b.plan.buses b.plan.tasks a.codes b.codes (subst (λ (p : Planned). AreCodes p.buses p.tasks a.codes) plan h.codes) g.codes in
+      λ i. record { plan = plan i; codes = codes i }
+
+  -- bytes with a plan have no fault of texts and names
+  pub none_against : (plan : Planned) (fault : LoadFault) → IsPlanOfText buses bytes plan → IsPlanFault bytes fault → ⊥
+  none_against plan Memory h f = f
+  none_against plan (Text fault) h f = is_no_fault bytes h.tree fault h.spelled f
+  none_against plan (Name name_faults.Memory) h f = f.2
+  none_against plan (Name (name_faults.At line col cause)) h f =
+      let tree : f.0 ≡ h.tree = is_one bytes f.0 h.tree f.1 h.spelled in
+      h.named f.2.0 cause (subst (λ (t : Tree). IsFault t f.2.0 cause) tree f.2.1.is)
+  none_against plan (Code refused) h f = f
+
+  pub same_plan_fault : (a b : LoadFault) → IsPlanFault bytes a → IsPlanFault bytes b → a ≡ b
+  same_plan_fault Memory b h g = absurd h
+  same_plan_fault (Code refused) b h g = absurd h
+  same_plan_fault (Text x) Memory h g = absurd g
+  same_plan_fault (Text x) (Code refused) h g = absurd g
+  same_plan_fault (Text x) (Text y) h g = ap Text (is_one_fault bytes x y h g)
+  same_plan_fault (Text x) (Name y) h g = absurd (is_no_fault bytes g.0 x g.1 h)
+  same_plan_fault (Name x) Memory h g = absurd g
+  same_plan_fault (Name x) (Code refused) h g = absurd g
+  same_plan_fault (Name x) (Text y) h g = absurd (is_no_fault bytes h.0 y h.1 g)
+  same_plan_fault (Name x) (Name y) h g =
+      let tree : h.0 ≡ g.0 = is_one bytes h.0 g.0 h.1 g.1 in
+      ap Name (one_told g.0.text (IsFault g.0) x y (subst (λ (t : Tree). TellsLeast t.text (IsFault t) x) tree h.2) g.2)
+
+  -- bytes with a setup have no fault
+  pub no_fault : (setup : Loaded) (fault : LoadFault) → IsSetup buses bytes setup → IsLoadFault buses bytes fault → ⊥
+  no_fault setup Memory h f = f
+  no_fault setup (Text fault) h f = none_against setup.plan (Text fault) h.plan f
+  no_fault setup (Name fault) h f = none_against setup.plan (Name fault) h.plan f
+  no_fault setup (Code refused) h f =
+      let plan : setup.plan ≡ refused.plan = same_plan setup.plan refused.plan h.plan f.0 in
+      none_refused refused.plan setup.codes refused.task refused.refusal
+      (subst (λ (p : Planned). AreCodes p.buses p.tasks setup.codes) plan h.codes) f.1
+
+  -- bytes have one first task that is refused
+  pub same_refused_task : (a b : Refused) → IsPlanOfText buses bytes a.plan → IsFirstRefused a.plan a.task a.refusal
+      → IsPlanOfText buses bytes b.plan → IsFirstRefused b.plan b.task b.refusal → a ≡ b
+  same_refused_task a b p f q g =
+      let plan : a.plan ≡ b.plan = same_plan a.plan b.plan p q in
+      let rest : (a.task ≡ b.task) × (a.refusal ≡ b.refusal) =
+      same_refused b.plan a.task b.task a.refusal b.refusal (subst (λ (x : Planned). IsFirstRefused x a.task a.refusal) plan f) g in
+      λ i. record { plan = plan i; task = rest.0 i; refusal = rest.1 i }
+
+  pub same_fault : (a b : LoadFault) → IsLoadFault buses bytes a → IsLoadFault buses bytes b → a ≡ b
+  same_fault Memory b h g = absurd h
+  same_fault (Text x) Memory h g = absurd g
+  same_fault (Text x) (Text y) h g = same_plan_fault (Text x) (Text y) h g
+  same_fault (Text x) (Name y) h g = same_plan_fault (Text x) (Name y) h g
+  same_fault (Text x) (Code b) h g = absurd (none_against b.plan (Text x) g.0 h)
+  same_fault (Name x) Memory h g = absurd g
+  same_fault (Name x) (Text y) h g = same_plan_fault (Name x) (Text y) h g
+  same_fault (Name x) (Name y) h g = same_plan_fault (Name x) (Name y) h g
+  same_fault (Name x) (Code b) h g = absurd (none_against b.plan (Name x) g.0 h)
+  same_fault (Code a) Memory h g = absurd g
+  same_fault (Code a) (Text y) h g = absurd (none_against a.plan (Text y) h.0 g)
+  same_fault (Code a) (Name y) h g = absurd (none_against a.plan (Name y) h.0 g)
+  same_fault (Code a) (Code b) h g = ap Code (same_refused_task a b h.0 h.1 g.0 g.1)
+
+  pub one_answer : (a b : Result Loaded LoadFault) → IsLoaded buses bytes a → IsLoaded buses bytes b → a ≡ b
+  one_answer (Ok a) (Ok b) h g = ap Ok (same_setup a b h g)
+  one_answer (Ok a) (Err b) h g = absurd (no_fault a b h g)
+  one_answer (Err a) (Ok b) h g = absurd (no_fault b a g h)
+  one_answer (Err a) (Err b) h g = ap Err (same_fault a b h g)

@@ -1,0 +1,4 @@
+pub mod Loaded
+pub mod Loading
+pub mod Printed
+pub mod PrintedFaults

@@ -1,0 +1,47 @@
+-- What is loaded of a text, as contracts see it: a plan, and for each of its tasks an accepted code (IEC 61131-3,
+-- 2.7.2, and profile).
+use Rattle.std.specs.Prelude.{◌≡◌, ℕ, List, [], ◌∷◌, map, ⊤}
+use Rattle.std.specs.Arc.{arc_value}
+use Rattle.std.specs.declared.alloc.Global.{Global}
+use Rattle.std.specs.declared.sync.Arc.{Arc}
+use Rattle.ilsyms.specs.Plans.{Planned, PlannedTask}
+use Rattle.ilcompile.specs.Layout.{laid_out}
+use Rattle.ilcode.specs.Paths.{IsBound}
+use Rattle.ilverify.specs.declared.verifier.Refusal.{Refusal}
+use Rattle.ilverify.specs.Certificates.{IsCertified}
+use Rattle.ilverify.specs.Verdicts.{Accepted}
+
+-- a plan and its tasks' codes
+pub record Loaded : Type 0 where
+  pub plan : Planned
+  pub codes : List Accepted
+
+abbrev pub loaded_of : Planned → List Accepted → Loaded
+loaded_of plan codes = record { plan = plan; codes = codes }
+
+-- a plan, the number of one of its tasks, and why that task's code is refused
+pub record Refused : Type 0 where
+  pub plan : Planned
+  pub task : ℕ
+  pub refusal : Refusal
+
+abbrev pub refused_of : Planned → ℕ → Refusal → Refused
+refused_of plan task refusal = record { plan = plan; task = task; refusal = refusal }
+
+-- the accepted codes that are shared
+abbrev pub accepted_of : List (Arc Accepted Global) → List Accepted
+accepted_of codes = map (λ c. arc_value c) codes
+
+-- the code is what is laid out for the task on this many buses; it has a certificate; and its bound is its greatest
+-- path
+pub record IsCodeOf (buses : ℕ) (task : PlannedTask) (code : Accepted) : Type 0 where
+  pub laid : code.code ≡ laid_out buses task
+  pub certified : IsCertified (laid_out buses task)
+  pub bound : IsBound code.code.instructions code.bound
+
+-- for each task, in order, its code
+abbrev pub AreCodes : ℕ → List PlannedTask → List Accepted → Type 0
+AreCodes buses [] [] = ⊤
+AreCodes buses (task ∷ tasks) (code ∷ codes) = IsCodeOf buses task code × AreCodes buses tasks codes
+AreCodes buses [] (code ∷ codes) = ⊥
+AreCodes buses (task ∷ tasks) [] = ⊥

@@ -1,0 +1,66 @@
+-- What a text is loaded as: its plan with its tasks' codes, or the first of what stands against that (IEC 61131-3,
+-- 2.7.2 and 3.2, and profile).
+use Rattle.std.specs.Prelude.{◌≡◌, ℕ, ◌<◌, List, Result, Ok, Err, Some, slice_get, ⊤}
+use Rattle.ilsource.specs.Trees.{Tree}
+use Rattle.iltext.specs.Parsing.{IsText, IsTextFault}
+use Rattle.ilsyms.specs.Faults.{IsFault, IsWellNamed}
+use Rattle.ilsyms.specs.Plans.{Planned, PlannedTask}
+use Rattle.ilsyms.specs.Resolved.{IsPlanOf}
+use Rattle.ilscope.specs.Told.{TellsLeast}
+use Rattle.ilcompile.specs.Layout.{laid_out}
+use Rattle.ilverify.specs.declared.verifier.Refusal.{Refusal}
+use Rattle.ilverify.specs.Certificates.{IsCertified, IsRefusal}
+use Rattle.plantload.specs.Loaded.{AreCodes, Loaded}
+use Rattle.plantload.specs.declared.fault.LoadFault.{LoadFault}
+use Rattle.plantload.specs.declared.fault.LoadFault.TheVariants.{Memory, Text, Name, Code}
+
+-- the bytes spell a source program without a fault of names, whose plan this is
+pub record IsPlanOfText (buses : ℕ) (bytes : List ℕ) (plan : Planned) : Type 0 where
+  pub tree : Tree
+  pub spelled : IsText bytes tree
+  pub named : IsWellNamed tree
+  pub resolved : IsPlanOf tree buses plan
+
+-- the bytes' plan, with the code of each of its tasks
+pub record IsSetup (buses : ℕ) (bytes : List ℕ) (setup : Loaded) : Type 0 where
+  pub plan : IsPlanOfText buses bytes setup.plan
+  pub codes : AreCodes setup.plan.buses setup.plan.tasks setup.codes
+
+-- the task of this number is the first whose code has no certificate, and this is its refusal
+pub record IsFirstRefused (plan : Planned) (number : ℕ) (refusal : Refusal) : Type 0 where
+  pub task : PlannedTask
+  pub is : slice_get plan.tasks number ≡ Some task
+  pub before : (k : ℕ) (t : PlannedTask) → k < number → slice_get plan.tasks k ≡ Some t
+      → IsCertified (laid_out plan.buses t)
+  pub refused : IsRefusal (laid_out plan.buses task) refusal
+
+-- why the bytes have no plan: the text's first fault, else the least fault of its names
+abbrev pub IsPlanFault : List ℕ → LoadFault → Type 0
+IsPlanFault bytes (Text fault) = IsTextFault bytes fault
+IsPlanFault bytes (Name fault) = (tree : Tree) × IsText bytes tree × TellsLeast tree.text (IsFault tree) fault
+IsPlanFault bytes _ = ⊥
+
+-- why a plan has no codes: the first task that is refused
+abbrev pub IsCodeFault : Planned → LoadFault → Type 0
+IsCodeFault plan (Code refused) = (refused.plan ≡ plan) × IsFirstRefused plan refused.task refused.refusal
+IsCodeFault plan _ = ⊥
+
+-- why the bytes aren't loaded
+abbrev pub IsLoadFault : ℕ → List ℕ → LoadFault → Type 0
+IsLoadFault buses bytes (Code refused) =
+    IsPlanOfText buses bytes refused.plan × IsFirstRefused refused.plan refused.task refused.refusal
+IsLoadFault buses bytes (Text fault) = IsPlanFault bytes (Text fault)
+IsLoadFault buses bytes (Name fault) = IsPlanFault bytes (Name fault)
+IsLoadFault buses bytes Memory = ⊥
+
+-- what the bytes are loaded as
+abbrev pub IsLoaded : ℕ → List ℕ → Result Loaded LoadFault → Type 0
+IsLoaded buses bytes (Ok setup) = IsSetup buses bytes setup
+IsLoaded buses bytes (Err fault) = IsLoadFault buses bytes fault
+
+-- the allocator is out of memory, which may be at any time, or it is such a fault
+abbrev pub OrMemory : (LoadFault → Type 0) → LoadFault → Type 0
+OrMemory Faults Memory = ⊤
+OrMemory Faults (Text fault) = Faults (Text fault)
+OrMemory Faults (Name fault) = Faults (Name fault)
+OrMemory Faults (Code refused) = Faults (Code refused)

@@ -1,0 +1,107 @@
+//! Loading, step by step.
+
+ghost use Rattle.std.specs.Prelude.{◌≡◌, ◌<◌, length, Result, IfErr, IfOk, IfSome, slice_get};
+ghost use Rattle.std.specs.Arc.{arc_value};
+ghost use Rattle.ilcode.specs.Paths.{IsBound};
+ghost use Rattle.ilcompile.specs.Layout.{laid_out};
+ghost use Rattle.ilverify.specs.Certificates.{IsError};
+ghost use Rattle.plantload.specs.Loaded.{AreCodes, IsCodeOf, Loaded};
+ghost use Rattle.plantload.specs.Loading.{IsCodeFault, IsLoadFault, IsLoaded, IsPlanFault};
+ghost use Rattle.plantload.specs.Loading.{IsPlanOfText, IsSetup, OrMemory};
+ghost use Rattle.plantload.specs.PrintedFaults.{of_error};
+ghost use Rattle.plantload.specs.declared.fault.LoadFault.{LoadFault};
+
+use crate::fault::{LoadFault, RefusedTask};
+use crate::setup::Setup;
+use binding::Binding;
+use ilcompile::compile;
+use ilsyms::{Plan, resolve};
+use iltext::parse;
+use ilverify::{Verified, VerifyError, verify};
+use std::alloc::{AllocError, Global};
+use std::sync::Arc;
+
+/// The plan of a text with the verified code of each of its tasks; or the text's first fault, else
+/// the least fault of its names, else the first task whose code is refused.
+///
+/// # Errors
+///
+/// That fault, or that the allocator is out of memory.
+pub fn load(alloc: Global, text: &[u8], binding: &Binding) -> Result<Setup, LoadFault>
+    ensures setup { IfOk result (IsSetup binding.now.buses text.now) }
+    ensures fault { IfErr result (OrMemory (IsLoadFault binding.now.buses text.now)) }
+    // A text has at most one answer, but for out of memory.
+    ensures one { (a b : Result Loaded LoadFault) → IsLoaded binding.now.buses text.now a
+        → IsLoaded binding.now.buses text.now b → a ≡ b }
+{
+    let plan = plan_of(alloc, text, binding)?;
+    setup_of(alloc, plan)
+}
+
+/// The plan of a text, or the text's first fault, else the least fault of its names.
+///
+/// # Errors
+///
+/// That fault, or that the allocator is out of memory.
+pub fn plan_of(alloc: Global, text: &[u8], binding: &Binding) -> Result<Plan, LoadFault>
+    ensures plan { IfOk result (IsPlanOfText binding.now.buses text.now) }
+    ensures fault { IfErr result (OrMemory (IsPlanFault text.now)) }
+{
+    let source = parse(alloc, text)?;
+    let plan = resolve(alloc, &source, binding)?;
+    Ok(plan)
+}
+
+/// A plan with the verified code of each of its tasks, or the first task whose code is refused.
+///
+/// # Errors
+///
+/// That task with its refusal, or that the allocator is out of memory.
+pub fn setup_of(alloc: Global, plan: Plan) -> Result<Setup, LoadFault>
+    ensures plan { IfOk result (λ setup. setup.plan ≡ plan) }
+    ensures codes { IfOk result (λ setup. AreCodes plan.buses plan.tasks setup.codes) }
+    ensures fault { IfErr result (OrMemory (IsCodeFault plan)) }
+{
+    let mut codes = Vec::new(alloc);
+    for task in 0..plan.tasks() {
+        match code_of(alloc, &plan, task) {
+            Ok(code) => codes.push(code)?,
+            Err(error) => return Err(fault_of(plan, task, error)),
+        }
+    }
+    Ok(Setup::new(plan, codes))
+}
+
+/// Why a plan isn't loaded of which the task of this number has no code.
+fn fault_of(plan: Plan, task: usize, error: VerifyError) -> LoadFault
+    requires { task < length plan.tasks }
+    ensures { result ≡ of_error plan task error }
+{
+    match error {
+        VerifyError::Memory(_) => LoadFault::Memory,
+        VerifyError::Refused(refusal) => LoadFault::Code(RefusedTask::new(plan, task, refusal)),
+    }
+}
+
+/// The verified code of the task of this number, or why it is refused.
+fn code_of(alloc: Global, plan: &Plan, task: usize) -> Result<Arc<Verified>, VerifyError>
+    requires { task < length plan.now.tasks }
+    ensures code { IfOk result (λ code. IfSome (slice_get plan.now.tasks task)
+        (λ t. IsCodeOf plan.now.buses t (arc_value code))) }
+    ensures error { IfErr result (λ error. IfSome (slice_get plan.now.tasks task)
+        (λ t. IsError (laid_out plan.now.buses t) error)) }
+{
+    let code = compile(alloc, plan, task).map_err(VerifyError::Memory)?;
+    let verified = verify(alloc, code)?;
+    let code = shared(alloc, verified).map_err(VerifyError::Memory)?;
+    Ok(code)
+}
+
+/// The code, to be shared. Its bound is its greatest path.
+fn shared(alloc: Global, verified: Verified) -> Result<Arc<Verified>, AllocError>
+    ensures same { IfOk result (λ code. arc_value code ≡ verified) }
+    ensures bound { IsBound verified.code.instructions verified.bound }
+{
+    let _ = verified.bound();
+    Ok(Arc::new(alloc, verified)?)
+}

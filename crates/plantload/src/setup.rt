@@ -1,0 +1,56 @@
+//! What is loaded of a text.
+
+use ilsyms::Plan;
+use ilverify::Verified;
+use std::marker::Model;
+use std::sync::Arc;
+
+/// A plan with the verified code of each of its tasks.
+#[derive(Drop)]
+pub struct Setup {
+    plan: Plan,
+    /// One for each task, in the plan's order.
+    codes: Vec<Arc<Verified>>,
+}
+
+impl Model for Setup {
+    ghost use Rattle.plantload.specs.Loaded.{AreCodes, Loaded, accepted_of};
+
+    ghost Value = { Loaded };
+
+    ghost view = { λ s. record { plan = s.plan; codes = accepted_of s.codes.items } };
+
+    ghost invariant = { λ s. AreCodes s.plan.buses s.plan.tasks (accepted_of s.codes.items) };
+}
+
+impl Setup {
+    ghost use Rattle.std.specs.Prelude.{◌≡◌, ◌<◌, length, slice_get, IfSome, Some};
+    ghost use Rattle.std.specs.Arc.{arc_value};
+    ghost use Rattle.plantload.specs.Loaded.{AreCodes, IsCodeOf, Loaded, accepted_of, loaded_of};
+
+    /// The setup of a plan and its tasks' codes.
+    pub(crate) fn new(plan: Plan, codes: Vec<Arc<Verified>>) -> Setup
+        requires { AreCodes plan.buses plan.tasks (accepted_of codes.items) }
+        ensures { result ≡ loaded_of plan (accepted_of codes.items) }
+    {
+        Setup { plan, codes }
+    }
+
+    /// The plan.
+    pub fn plan(&self) -> &Plan
+        ensures same { result.now ≡ self.now.plan }
+        ensures codes { AreCodes self.now.plan.buses self.now.plan.tasks self.now.codes }
+    {
+        &self.plan
+    }
+
+    /// The verified code of the task of this number.
+    pub fn code(&self, task: usize) -> &Arc<Verified>
+        requires { task < length self.now.plan.tasks }
+        ensures code { slice_get self.now.codes task ≡ Some (arc_value result.now) }
+        ensures of_task { IfSome (slice_get self.now.plan.tasks task)
+            (λ t. IsCodeOf self.now.plan.buses t (arc_value result.now)) }
+    {
+        &self.codes[task]
+    }
+}
