@@ -44,7 +44,7 @@ abbrev pub variable_line : Run → ℕ → List ℕ
 variable_line made number =
     of_both
     (λ slot value. printed_variable (text_of made.setup.plan.text slot.instance)
-        (text_of made.setup.plan.text slot.variable) value)
+    (text_of made.setup.plan.text slot.variable) value)
     (slot_at made.setup.plan made.task number)
     (slice_get made.values number)
 

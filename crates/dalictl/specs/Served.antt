@@ -31,7 +31,7 @@ abbrev pub IsFirstUnread : (List ℕ → List ℕ → Type 0) → (List ℕ → 
 IsFirstUnread gives fails files path why =
     ((option_copied files.binding ≡ Some path) × fails path why)
     ⊎ (((binding : Option (List ℕ)) × IsGiven gives (option_copied files.binding) binding)
-        × (path ≡ files.text.now) × fails path why)
+    × (path ≡ files.text.now) × fails path why)
 
 -- the first of the named files that isn't read is reported; of a failure of the writer nothing is said
 abbrev pub IsUnserved : (List ℕ → List ℕ → Type 0) → (List ℕ → Unread → Type 0) → Invocation → Unserved → Type 0

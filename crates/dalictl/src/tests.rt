@@ -1,7 +1,10 @@
 //! What no clause says: the printed text of worked rows, calls near the limits, and the program
 //! over a runtime whose words, files and terminal are held in memory.
 
+mod at_limits;
+mod machine;
 mod reading;
+mod running;
 mod serving;
 
 use std::alloc::{AllocError, Global};
