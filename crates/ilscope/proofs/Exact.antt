@@ -1,6 +1,6 @@
 -- What is gathered is what stands in the source program.
 use Rattle.std.proofs.Common.{◌≡◌, ℕ, suc, List, [], ◌∷◌, ◌++◌, map, Bool, true, false, refl, ap, sym, ◌∙◌, subst, ◌⊎◌, inl, inr}
-use Rattle.std.specs.Prelude.{Option, Some, None, fold, flat_map, option_map, is_some, bytes_eq, if◌then◌else◌}
+use Rattle.std.specs.Prelude.{Option, Some, None, fold, flat_map, option_map, is_some, bytes_eq, IsTrue, ◌↔◌, if◌then◌else◌}
 use Rattle.std.proofs.lemmas.Slice.Eq.{bytes_eq-Decides}
 use Rattle.ilsource.specs.declared.name.Name.{Name}
 use Rattle.ilsource.specs.Names.{folded, text_of, SameName}
@@ -226,6 +226,12 @@ module _ (text : List ℕ) (p : Written) where
     where
       no : is_some {T = ℕ} None ≡ true → ⊥
       no e = cc
+
+-- a program declares the names that are in its table
+pub declared_in : (text lower : List ℕ) (p : Written) (n : Name) (table : List (List ℕ)) → lower ≡ lowered text → table ≡ declared_names text p →
+    IsTrue (is_some (number_in table (text_of lower n))) ↔ SomeOf (SameName text n) (variables_of p)
+declared_in text lower p n table l t =
+    rw (l, t, declared_is text p) ((λ h. from_table text p n h), (λ s. in_table text p n s))
 
 -- names given twice, by their spelling
 later_to : (text : List ℕ) (place : ℕ) (ns : List Name) → IsLater (lowered text) ns place → IsTwiceIn text ns place

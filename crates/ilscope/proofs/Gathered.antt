@@ -41,6 +41,13 @@ before_false a b x y false true true e f g h = absurd cc
 before_false a b x y false true false e f g h = inr (sym (eq_true a b f), lt_false x y g)
 before_false a b x y false false w e f g h = let l : b ≤ a = lt_false a b e in let n : a ≢ b = eq_false a b f in inl (omega arith)
 
+-- the first is reported before the second, and the second isn't reported after the first
+pub is_before : (f g : Found) → comes_before f g ≡ true → IsNotAfter f.at f.cause g.at g.cause
+is_before f g e = before_true f.at g.at (number_of f.cause) (number_of g.cause) _ _ _ refl refl refl e
+
+pub is_not_before : (f g : Found) → comes_before f g ≡ false → IsNotAfter g.at g.cause f.at f.cause
+is_not_before f g e = before_false f.at g.at (number_of f.cause) (number_of g.cause) _ _ _ refl refl refl e
+
 pub later : (a b c x y z : ℕ) → (a < b) ⊎ ((a ≡ b) × (x ≤ y)) → (b < c) ⊎ ((b ≡ c) × (y ≤ z)) → (a < c) ⊎ ((a ≡ c) × (x ≤ z))
 later a b c x y z (inl p) (inl q) = inl (omega arith)
 later a b c x y z (inl p) (inr q) = inl (omega arith)

@@ -25,7 +25,7 @@ pub none_best : (F : ℕ → NameCause → Type 0) (o : Option Found) → IsLeas
 none_best F None l e = l
 none_best F (Some f) l e = absurd cc
 
-told_least : (text : List ℕ) (F : ℕ → NameCause → Type 0) (f : Found) (fault : NameFault) → IsLeast F f.at f.cause → IsTold text f fault
+pub told_least : (text : List ℕ) (F : ℕ → NameCause → Type 0) (f : Found) (fault : NameFault) → IsLeast F f.at f.cause → IsTold text f fault
     → TellsLeast text F fault
 told_least text F f Memory l h = absurd h
 told_least text F f (At line col cause) l h = (f.at, subst (λ (k : NameCause). IsLeast F f.at k) (sym h.2) l, h.0, h.1)

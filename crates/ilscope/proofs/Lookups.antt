@@ -1,6 +1,6 @@
 -- Look-ups in tables of names.
-use Rattle.std.proofs.Common.{◌≡◌, ℕ, suc, ◌+◌, List, [], ◌∷◌, ◌++◌, map, length, Bool, true, false, cond, ◌||◌, refl, arith}
-use Rattle.std.specs.Prelude.{Option, Some, None, option_map, nat_lt, position, bytes_eq}
+use Rattle.std.proofs.Common.{◌≡◌, ℕ, zero, suc, ◌+◌, List, [], ◌∷◌, ◌++◌, map, length, Bool, true, false, cond, ◌||◌, refl, arith}
+use Rattle.std.specs.Prelude.{Option, Some, None, option_map, nat_lt, position, bytes_eq, slice_get}
 use Rattle.std.specs.List.{list_any}
 use Rattle.std.proofs.lemmas.Grind.{common_steps}
 use Rattle.ilscope.specs.Tables.{first_at}
@@ -48,3 +48,9 @@ pub inserts_last : {X : Type 0} (items : X → List ℕ) (keys : List X) (key : 
     map items (cond (list_any (λ k. bytes_eq (items key) (items k)) keys) keys (keys ++ key ∷ [])) ≡ map items keys ++ items key ∷ []
 inserts_last items keys key e =
     rw (any-map (bytes_eq (items key)) items keys, none_any (bytes_eq (items key)) (map items keys) e) (map_more items keys key)
+
+-- what a function makes of the element at a place
+pub mapped_at : {X Y : Type 0} (f : X → Y) (xs : List X) (i : ℕ) (x : X) (y : Y) → slice_get xs i ≡ Some x → slice_get (map f xs) i ≡ Some y → y ≡ f x
+mapped_at f [] i x y e h = absurd cc
+mapped_at f (z ∷ zs) zero x y e h = cc
+mapped_at f (z ∷ zs) (suc i) x y e h = mapped_at f zs i x y e h

@@ -51,6 +51,10 @@ pub record IsLeast (Faults : ℕ → NameCause → Type 0) (place : ℕ) (cause 
   pub is : Faults place cause
   pub least : (other : ℕ) (its : NameCause) → Faults other its → IsNotAfter place cause other its
 
+-- the faults of one cause, at these places
+abbrev pub OfCause : NameCause → (ℕ → Type 0) → ℕ → NameCause → Type 0
+OfCause its At place cause = (cause ≡ its) × At place
+
 -- what was found is the least of some faults, and nothing was found where there is none
 abbrev pub IsLeastOf : (ℕ → NameCause → Type 0) → Option Found → Type 0
 IsLeastOf Faults None = (place : ℕ) (cause : NameCause) → ¬ Faults place cause

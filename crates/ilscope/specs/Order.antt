@@ -15,3 +15,8 @@ comes_before f g = nat_lt f.at g.at || ((f.at == g.at) && nat_lt (number_of f.ca
 abbrev pub lesser : Option Found → Found → Option Found
 lesser None f = Some f
 lesser (Some g) f = Some (if comes_before f g then f else g)
+
+-- the one that is reported of what was found in two parts
+abbrev pub lesser_of_two : Option Found → Option Found → Option Found
+lesser_of_two one None = one
+lesser_of_two one (Some other) = lesser one other

@@ -1,7 +1,7 @@
 //! The least of the faults that were found.
 
 ghost use Rattle.std.specs.Prelude.{◌≡◌};
-ghost use Rattle.ilscope.specs.Order.{lesser};
+ghost use Rattle.ilscope.specs.Order.{lesser_of_two};
 
 use crate::fault::NameCause;
 
@@ -24,16 +24,13 @@ impl Found {
     }
 }
 
-/// The one that is told of two, where the first may be missing.
-pub fn lesser_of(least: Option<Found>, found: Found) -> Option<Found>
-    ensures { result ≡ lesser least found }
+/// The one that is told of what was found in two parts.
+pub fn lesser_of(one: Option<Found>, other: Option<Found>) -> Option<Found>
+    ensures { result ≡ lesser_of_two one other }
 {
-    match least {
-        None => Some(found),
-        Some(other) => Some(if found.comes_before(other) {
-            found
-        } else {
-            other
-        }),
+    match (one, other) {
+        (one, None) => one,
+        (None, other) => other,
+        (Some(one), Some(other)) => Some(if other.comes_before(one) { other } else { one }),
     }
 }

@@ -41,10 +41,13 @@ impl<'a> Model for Scope<'a> {
 }
 
 impl<'a> Scope<'a> {
-    ghost use Rattle.std.specs.Prelude.{◌≡◌, ◌<◌, ℕ, IfOk, MatchOption, length, map, slice_get, Some};
+    ghost use Rattle.std.specs.Prelude.{◌≡◌, ◌<◌, ◌↔◌, ℕ, IfOk, IsTrue, MatchOption, length, map, slice_get, Some};
+    ghost use Rattle.ilsource.specs.Names.{SameName};
+    ghost use Rattle.ilsource.specs.Trees.{Written};
+    ghost use Rattle.ilscope.specs.Declarations.{variables_of};
     ghost use Rattle.ilscope.specs.Tables.{lowered, declared_names};
     ghost use Rattle.ilscope.specs.Told.{TellsLeast};
-    ghost use Rattle.ilscope.specs.Faults.{IsFaultOfDeclarations, IsLeastOf};
+    ghost use Rattle.ilscope.specs.Faults.{SomeOf, IsFaultOfDeclarations, IsLeastOf};
     ghost use Rattle.ilscope.specs.declared.fault.NameCause.{NameCause};
     ghost use Rattle.ilscope.specs.declared.fault.NameFault.{NameFault};
 
@@ -114,6 +117,16 @@ impl<'a> Scope<'a> {
     {
         &self.variables[program]
     }
+
+    /// Whether the program with this number, which is below the number of programs, declares a variable of this name.
+    pub fn declares(&self, program: usize, name: Name) -> bool
+        requires { program < length self.now.programs }
+        ensures { (p : Written) → slice_get self.now.programs program ≡ Some p
+            → (IsTrue result ↔ SomeOf (SameName self.now.text name) (variables_of p)) }
+    {
+        let key = name.text(self.lower());
+        self.variables(program).number_of(key).is_some()
+    }
 }
 
 /// The fault with its line and column in `text`.
@@ -164,7 +177,7 @@ fn declare(
             at: name.from,
             cause: NameCause::Twice,
         };
-        return Ok(lesser_of(least, found));
+        return Ok(lesser_of(least, Some(found)));
     }
     names.add(alloc, key)?;
     Ok(least)
@@ -197,10 +210,10 @@ fn bad_initial(declaration: &Declaration, least: Option<Found>) -> Option<Found>
     ) {
         (None, Some(name)) => lesser_of(
             least,
-            Found {
+            Some(Found {
                 at: name.from,
                 cause: NameCause::BadDeclaration,
-            },
+            }),
         ),
         _ => least,
     }

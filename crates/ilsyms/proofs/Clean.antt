@@ -1,33 +1,32 @@
 -- What holds where no fault was found.
-use Rattle.std.proofs.Common.{◌≡◌, ℕ, zero, suc, ◌≤◌, List, [], ◌∷◌, map, length, Bool, true, false, refl, arith}
-use Rattle.std.specs.Prelude.{Option, Some, None, All, IsSome, slice_get, is_some, if◌then◌else◌}
+use Rattle.std.proofs.Common.{◌≡◌, ℕ, zero, suc, ◌<◌, ◌≤◌, List, [], ◌∷◌, map, length, Bool, true, false, refl, arith, get_or, inl, inr}
+use Rattle.std.specs.Prelude.{Option, Some, None, All, IsSome, IsSomeAnd, slice_get, is_some, if◌then◌else◌}
 use Rattle.iltypes.specs.declared.value.Value.{Value}
 use Rattle.ilsource.specs.declared.name.Name.{Name}
 use Rattle.ilsource.specs.declared.instruction.Line.{Line}
-use Rattle.ilsource.specs.Names.{text_of}
+use Rattle.ilsource.specs.Names.{text_of, SameName}
 use Rattle.ilsource.specs.Trees.{Variables, Written, Tree}
 use Rattle.ilsyms.specs.CountingSteps.{counting}
-use Rattle.ilscope.specs.Declarations.{initial_value}
+use Rattle.ilscope.specs.Declarations.{initial_value, variables_of}
 use Rattle.ilsyms.specs.Declarations.{slots_of, lines_of, name_in}
 use Rattle.ilscope.specs.GatheringSteps.{Gathered, gathered, with_name, with_names, with_initial, with_declaration, with_declarations}
 use Rattle.ilscope.specs.Tables.{number_in}
 use Rattle.ilscope.specs.GatheringSteps.{Scoping, with_program, with_programs, scoping, table_of}
 use Rattle.ilscope.specs.Order.{lesser}
 use Rattle.ilscope.specs.Tables.{lowered}
-use Rattle.ilsyms.specs.ResolvingSteps.{with_excess}
 use Rattle.ilsyms.specs.PlanningSteps.{IsKnownName, AreKnown}
-use Rattle.ilsyms.specs.ResolvingSteps.{least_fault}
-use Rattle.ilsyms.specs.UsesSteps.{with_use, with_line, with_lines, with_uses_in, with_uses}
+use Rattle.ilscope.specs.Faults.{SomeOf, IsFaultOfDeclarations, IsLeastOf}
+use Rattle.ilscope.specs.declared.fault.NameCause.TheVariants.{Unknown, TooMany}
+use Rattle.ilscope.proofs.Exact.{in_table, bool_not}
+use Rattle.ilscope.proofs.LeastOfDeclarations.{scope_best}
+use Rattle.ilsyms.specs.Faults.{IsWellNamed, IsUnknownIn}
+use Rattle.ilsyms.proofs.LeastFault.{constants_to, wider}
 use Rattle.ilscope.specs.declared.found.Found.{Found}
 use Rattle.limits.specs.Limits.{most_instances, most_slots, most_words}
 
 pub none_lesser : (l : Option Found) (f : Found) → lesser l f ≡ None → ⊥
 none_lesser None f h = cc
 none_lesser (Some g) f h = cc
-
-none_excess : (l : Option Found) (e : Option ℕ) → with_excess l e ≡ None → (l ≡ None) × (e ≡ None)
-none_excess l None h = (h, refl)
-none_excess l (Some at) h = absurd (none_lesser l _ h)
 
 pub none_length : {X : Type 0} (f : X → ℕ) (xs : List X) (n : ℕ) → slice_get (map f xs) n ≡ None → length xs ≤ n
 none_length f [] n h = omega arith
@@ -40,23 +39,6 @@ all_cons P x xs p all (suc k) d h = all k d (omega arith)
 
 pub all_nil : {X : Type 0} (P : X → Type 0) → All P []
 all_nil P k d h = absurd (omega arith)
-
-use_known : (o : Option ℕ) (least : Option Found) (f : Found) → (if is_some o then least else lesser least f) ≡ None → (least ≡ None) × IsSome o
-use_known (Some n) least f h = (h, refl)
-use_known None least f h = absurd (none_lesser least f h)
-
-line_known : (lower : List ℕ) (names : List (List ℕ)) (n : Option Name) (least : Option Found) → with_use lower names least n ≡ None →
-    (least ≡ None) × IsKnownName lower names n
-line_known lower names None least h = (h, tt)
-line_known lower names (Some name) least h = use_known (number_in names (text_of lower name)) least _ h
-
-lines_known : (lower : List ℕ) (names : List (List ℕ)) (lines : List Line) (least : Option Found) → with_lines lower names least lines ≡ None →
-    (least ≡ None) × AreKnown lower names lines
-lines_known lower names [] least h = (h, all_nil _)
-lines_known lower names (l ∷ ls) least h =
-    let r = lines_known lower names ls (with_line lower names least l) h in
-    let s = line_known lower names (name_in l.instruction) least r.0 in
-    (s.0, all_cons (λ x. IsKnownName lower names (name_in x.instruction)) l ls s.1 r.1)
 
 name_none : (b : Bool) (names more : List (List ℕ)) (l : Option Found) (f : Found) →
     (if b then gathered names (lesser l f) else gathered more l).least ≡ None → l ≡ None
@@ -92,12 +74,31 @@ programs_none lower (p ∷ ps) s h =
 abbrev pub UsesKnown : List ℕ → List Written → Type 0
 UsesKnown lower ps = All (λ p. AreKnown lower (table_of lower p) p.lines) ps
 
-uses_known : (lower : List ℕ) (ps : List Written) (least : Option Found) → with_uses lower least ps ≡ None → (least ≡ None) × UsesKnown lower ps
-uses_known lower [] least h = (h, all_nil _)
-uses_known lower (p ∷ ps) least h =
-    let r = uses_known lower ps (with_uses_in lower least p) h in
-    let l = lines_known lower (table_of lower p) p.lines least r.0 in
-    (l.0, all_cons (λ q. AreKnown lower (table_of lower q) q.lines) p ps l.1 r.1)
+some_at : {X : Type 0} (P : X → Type 0) (xs : List X) (i : ℕ) (d : X) → i < length xs → P (get_or xs i d) → SomeOf P xs
+some_at P [] i d b p = absurd (omega (arith, b))
+some_at P (x ∷ xs) zero d b p = inl p
+some_at P (x ∷ xs) (suc i) d b p = inr (some_at P xs i d (omega (arith, b)) p)
+
+-- a name that a program is well named with is in its table
+name_known : (text : List ℕ) (p : Written) (line : Line) → ((place : ℕ) → ¬ IsUnknownIn text (variables_of p) place line) →
+    IsKnownName (lowered text) (table_of (lowered text) p) (name_in line.instruction)
+name_known text p line none = known (name_in line.instruction) none
+  where
+    known : (o : Option Name) → ((place : ℕ) → ¬ IsSomeAnd o (λ n. (SomeOf (SameName text n) (variables_of p) → ⊥) × (place ≡ n.from))) →
+        IsKnownName (lowered text) (table_of (lowered text) p) o
+    known None none = tt
+    known (Some n) none = there (number_in (table_of (lowered text) p) (text_of (lowered text) n)) (λ h. none n.from ((λ s. bool_not _ h (in_table text p n s)), refl))
+      where
+        there : (o : Option ℕ) → (is_some o ≡ false → ⊥) → IsSome o
+        there None h = absurd (h refl)
+        there (Some i) h = refl
+
+uses_known : (tree : Tree) → IsWellNamed tree → UsesKnown (lowered tree.text) tree.programs
+uses_known tree named i p b j line c =
+    name_known tree.text (get_or tree.programs i p) (get_or (get_or tree.programs i p).lines j line)
+    (λ place h. named place Unknown
+    (some_at (λ q. SomeOf (IsUnknownIn tree.text (variables_of q) place) q.lines) tree.programs i p b
+    (some_at (IsUnknownIn tree.text (variables_of (get_or tree.programs i p)) place) _ j line c h)))
 
 -- no fault of names, and no limit exceeded
 pub record IsClean (tree : Tree) : Type 0 where
@@ -108,11 +109,21 @@ pub record IsClean (tree : Tree) : Type 0 where
   pub words : slice_get (map (λ l. l.at) (lines_of tree.programs)) most_words ≡ None
   pub constants : (counting tree.programs).excess ≡ None
 
-pub clean : (tree : Tree) → least_fault tree ≡ None → IsClean tree
-clean tree h =
-    let a = none_excess _ _ h in
-    let b = none_excess _ _ a.0 in
-    let c = none_excess _ _ b.0 in
-    let d = none_excess _ _ c.0 in
-    let e = uses_known (lowered tree.text) tree.programs ((scoping tree).least) d.0 in
-    record { declarations = e.0; uses = e.1; instances = d.1; slots = c.1; words = b.1; constants = a.1 }
+none_at : (o : Option ℕ) → ((place : ℕ) → ¬ (o ≡ Some place)) → o ≡ None
+none_at None h = refl
+none_at (Some at) h = absurd (h at refl)
+
+none_found : (tree : Tree) (o : Option Found) → IsWellNamed tree → IsLeastOf (IsFaultOfDeclarations tree) o → o ≡ None
+none_found tree None named l = refl
+none_found tree (Some f) named l = absurd (named f.at f.cause (wider tree f.at f.cause l.is))
+
+pub clean : (tree : Tree) → IsWellNamed tree → IsClean tree
+clean tree named =
+    record {
+      declarations = none_found tree ((scoping tree).least) named (scope_best tree);
+      uses = uses_known tree named;
+      instances = none_at _ (λ place e. named place TooMany (inl e));
+      slots = none_at _ (λ place e. named place TooMany (inr (inl e)));
+      words = none_at _ (λ place e. named place TooMany (inr (inr (inl e))));
+      constants = none_at _ (λ place e. named place TooMany (inr (inr (inr (constants_to tree place e)))));
+    }

@@ -8,39 +8,29 @@ use Rattle.ilsource.specs.declared.instruction.Line.{Line}
 use Rattle.ilsource.specs.Trees.{Written, Tree}
 use Rattle.ilsyms.specs.CountingSteps.{Counted, counted, counting, with_one, with_line, with_lines, with_programs}
 use Rattle.ilsyms.specs.Declarations.{slots_of, lines_of, constant_in, constants_of, with_constant, each_once, same_value}
-use Rattle.ilsyms.specs.Faults.{IsFault, IsUnknown, MakesTooManyConstants, IsWellNamed}
+use Rattle.ilsyms.specs.Faults.{IsFault, IsUnknown, MakesTooManyConstants}
 use Rattle.ilscope.specs.Faults.{IsFaultOfDeclarations}
-use Rattle.ilscope.specs.GatheringSteps.{scoping}
-use Rattle.ilscope.specs.Order.{found}
-use Rattle.ilscope.specs.Tables.{lowered}
-use Rattle.ilsyms.specs.ResolvingSteps.{with_excess}
-use Rattle.ilsyms.specs.ResolvingSteps.{least_of_names, least_fault}
-use Rattle.ilscope.specs.Told.{IsMemoryOrTold, IsMemoryOrTellsLeast}
+use Rattle.ilscope.specs.Order.{found, lesser_of_two}
+use Rattle.ilscope.specs.Told.{IsTold, IsMemoryOrTellsLeast}
 use Rattle.ilscope.specs.declared.fault.NameCause.{NameCause}
 use Rattle.ilscope.specs.declared.fault.NameCause.TheVariants.{Unknown, Twice, TooMany, BadDeclaration}
 use Rattle.ilscope.specs.declared.fault.NameFault.{NameFault}
+use Rattle.ilscope.specs.declared.fault.NameFault.TheVariants.{Memory, At}
 use Rattle.ilscope.specs.declared.found.Found.{Found}
 use Rattle.limits.specs.Limits.{most_instances, most_slots, most_words, most_constants}
-use Rattle.ilsyms.proofs.UnknownNames.{unknown_to, unknown_from}
-use Rattle.ilscope.specs.Faults.{IsLeastOf}
-use Rattle.ilscope.proofs.Gathered.{best_with, best_same, or_else}
-use Rattle.ilsyms.proofs.UnknownNames.{uses_best}
-use Rattle.ilsyms.proofs.Limits.{fold_append, constants_append, lines_counted}
-use Rattle.ilscope.proofs.LeastOfDeclarations.{scope_best, none_best, memory_or}
+use Rattle.ilscope.specs.Faults.{IsLeastOf, OfCause}
+use Rattle.ilscope.proofs.Gathered.{best_same, or_else}
+use Rattle.ilscope.proofs.Least.{both_least, one_found}
+use Rattle.ilsyms.proofs.Counting.{fold_append, constants_append, lines_counted}
+use Rattle.ilscope.proofs.LeastOfDeclarations.{told_least}
 
 -- what exceeds a limit
-excess_best : (e : Option ℕ) (P : ℕ → NameCause → Type 0) (o : Option Found) → IsLeastOf P o →
-    IsLeastOf (λ place cause. P place cause ⊎ ((cause ≡ TooMany) × (e ≡ Some place))) (with_excess o e)
-excess_best None P o l = best_same P _ o (λ place cause p. inl p) (λ place cause q. or_else (λ p. p) (λ y. absurd (no place y.1)) q) l
-  where
-    no : (place : ℕ) → None ≡ Some place → ⊥
-    no place e = cc
-excess_best (Some at) P o l =
-    best_with P _ o (found at TooMany)
-    (record { into = λ place cause q. or_else inl (λ y. inr (same place y.1, y.0)) q; old = λ place cause p. inl p; new = inr (refl, refl) }) l
-  where
-    same : (place : ℕ) → Some at ≡ Some place → place ≡ at
-    same place e = cc
+pub none_past : (e : Option ℕ) → e ≡ None → IsLeastOf (OfCause TooMany (λ place. e ≡ Some place)) None
+none_past e n place cause h = let f : e ≡ Some place = h.1 in cc
+
+pub one_past : (e : Option ℕ) (at : ℕ) → e ≡ Some at → IsLeastOf (OfCause TooMany (λ place. e ≡ Some place)) (Some (found at TooMany))
+one_past e at s =
+    one_found (OfCause TooMany (λ place. e ≡ Some place)) (found at TooMany) (refl, s) (λ place cause h. let f : e ≡ Some place = h.1 in let g : place ≡ at = cc in (g, h.0))
 
 -- the different constants of some lines
 abbrev different : List Line → List Value
@@ -154,7 +144,7 @@ all_lines_counted : (ps : List Written) (c : Counted) → with_programs c ps ≡
 all_lines_counted [] c = refl
 all_lines_counted (p ∷ ps) c = all_lines_counted ps (with_lines c p) ∙ sym (fold_append with_line c p.lines (lines_of ps))
 
-constants_to : (tree : Tree) (place : ℕ) → (counting tree.programs).excess ≡ Some place → MakesTooManyConstants (lines_of tree.programs) place
+pub constants_to : (tree : Tree) (place : ℕ) → (counting tree.programs).excess ≡ Some place → MakesTooManyConstants (lines_of tree.programs) place
 constants_to tree place h =
     or_else (λ x. absurd (no x)) (λ m. m)
     (makes_from place (lines_of tree.programs) [] (counted [] None) refl (ap (λ (c : Counted). c.excess) (sym (all_lines_counted tree.programs (counted [] None))) ∙ h))
@@ -167,16 +157,9 @@ constants_from tree place m = ap (λ (c : Counted). c.excess) (all_lines_counted
 
 -- the faults but those of limits
 abbrev OfNames : Tree → ℕ → NameCause → Type 0
-OfNames tree place cause = IsFaultOfDeclarations tree place cause ⊎ ((cause ≡ Unknown) × IsUnknown tree place)
+OfNames tree place cause = IsFaultOfDeclarations tree place cause ⊎ OfCause Unknown (IsUnknown tree) place cause
 
-names_best : (tree : Tree) → IsLeastOf (OfNames tree) (least_of_names tree)
-names_best tree =
-    best_same _ (OfNames tree) (least_of_names tree)
-    (λ place cause q. or_else inl (λ u. inr (u.0, unknown_to tree place u.1)) q)
-    (λ place cause q. or_else inl (λ u. inr (u.0, unknown_from tree place u.1)) q)
-    (uses_best (lowered tree.text) tree.programs (IsFaultOfDeclarations tree) ((scoping tree).least) (scope_best tree))
-
-wider : (tree : Tree) (place : ℕ) (cause : NameCause) → IsFaultOfDeclarations tree place cause → IsFault tree place cause
+pub wider : (tree : Tree) (place : ℕ) (cause : NameCause) → IsFaultOfDeclarations tree place cause → IsFault tree place cause
 wider tree place Unknown h = absurd h
 wider tree place Twice h = h
 wider tree place TooMany h = absurd h
@@ -212,18 +195,21 @@ parts_from tree place TooMany (inr (inl s)) = inl (inl (inr (refl, s)))
 parts_from tree place TooMany (inr (inr (inl w))) = inl (inr (refl, w))
 parts_from tree place TooMany (inr (inr (inr m))) = inr (refl, constants_from tree place m)
 
-pub all_best : (tree : Tree) → IsLeastOf (IsFault tree) (least_fault tree)
-all_best tree =
-    best_same (InParts tree) (IsFault tree) (least_fault tree) (parts_to tree) (parts_from tree)
-    (excess_best ((counting tree.programs).excess) _ _
-    (excess_best (slice_get (map (λ l. l.at) (lines_of tree.programs)) most_words) _ _
-    (excess_best (slice_get (map (λ s. s.variable.from) (slots_of tree.programs)) most_slots) _ _
-    (excess_best (slice_get (map (λ p. p.name.from) tree.programs) most_instances) (OfNames tree) (least_of_names tree) (names_best tree)))))
+-- the least of all faults is the lesser of the least of the parts
+pub all_best : (tree : Tree) (declared used instance slot word constant : Option Found) →
+    IsLeastOf (IsFaultOfDeclarations tree) declared →
+    IsLeastOf (OfCause Unknown (IsUnknown tree)) used →
+    IsLeastOf (OfCause TooMany (λ place. slice_get (map (λ p. p.name.from) tree.programs) most_instances ≡ Some place)) instance →
+    IsLeastOf (OfCause TooMany (λ place. slice_get (map (λ s. s.variable.from) (slots_of tree.programs)) most_slots ≡ Some place)) slot →
+    IsLeastOf (OfCause TooMany (λ place. slice_get (map (λ l. l.at) (lines_of tree.programs)) most_words ≡ Some place)) word →
+    IsLeastOf (OfCause TooMany (λ place. (counting tree.programs).excess ≡ Some place)) constant →
+    IsLeastOf (IsFault tree) (lesser_of_two (lesser_of_two (lesser_of_two (lesser_of_two (lesser_of_two declared used) instance) slot) word) constant)
+all_best tree declared used instance slot word constant d u i s w k =
+    best_same (InParts tree) (IsFault tree) _ (parts_to tree) (parts_from tree)
+    (both_least _ _ _ constant (both_least _ _ _ word (both_least _ _ _ slot (both_least _ _ _ instance (both_least _ _ declared used d u) i) s) w) k)
 
--- no fault stands where none was gathered
-pub well_named : (tree : Tree) → least_fault tree ≡ None → IsWellNamed tree
-well_named tree h = none_best (IsFault tree) (least_fault tree) (all_best tree) h
-
--- what is told is the least fault
-pub tells_least : (tree : Tree) (fault : NameFault) → IsMemoryOrTold tree.text (least_fault tree) fault → IsMemoryOrTellsLeast tree.text (IsFault tree) fault
-tells_least tree fault h = memory_or tree.text (IsFault tree) (least_fault tree) fault (all_best tree) h
+-- a fault that was found is reported
+pub reports : (tree : Tree) (f : Found) (fault : NameFault) → IsLeastOf (IsFault tree) (Some f) → IsTold tree.text f fault
+    → IsMemoryOrTellsLeast tree.text (IsFault tree) fault
+reports tree f Memory l h = tt
+reports tree f (At line col cause) l h = told_least tree.text (IsFault tree) f (At line col cause) l h

@@ -1,4 +1,5 @@
 pub mod Clean
+pub mod Counting
 pub mod Keys
 pub mod LeastFault
 pub mod Limits

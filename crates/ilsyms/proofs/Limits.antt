@@ -2,7 +2,7 @@
 use Rattle.std.proofs.Common.{◌≡◌, ℕ, suc, ◌+◌, ◌<◌, ◌≤◌, List, [], ◌∷◌, ◌++◌, map, length, Bool, true, false, refl, ap, sym, ◌∙◌, arith, append_assoc, length-append}
 use Rattle.std.proofs.lemmas.List.{length-map, append-nil}
 use Rattle.std.specs.Prelude.{Option, Some, None, All, IfSome, IsSome, fold, unwrap_or, if◌then◌else◌, ◌==◌, option_map, bytes_eq}
-use Rattle.std.specs.List.{list_any, cons_option}
+use Rattle.std.specs.List.{list_any}
 use Rattle.std.proofs.lemmas.Grind.{common_steps}
 use Rattle.iltypes.specs.declared.value.Value.{Value}
 use Rattle.ilsource.specs.declared.name.Name.{Name}
@@ -13,17 +13,19 @@ use Rattle.ilsource.specs.declared.instruction.Instruction.TheVariants.{Load, Ap
 use Rattle.ilsource.specs.declared.instruction.Line.{Line}
 use Rattle.ilsource.specs.Names.{text_of}
 use Rattle.ilsource.specs.Trees.{Written, Tree}
+use Rattle.ilsyms.specs.Faults.{IsWellNamed}
 use Rattle.ilsyms.specs.CountingSteps.{Counted, counted, with_one, with_line, with_lines, with_programs}
-use Rattle.ilsyms.specs.Declarations.{slots_of, slots_of_program, lines_of, name_in, name_in_operand, constant_in, constant_in_operand, constants_of, with_constant, same_value}
+use Rattle.ilsyms.specs.Declarations.{slots_of, slots_of_program, lines_of, name_in, name_in_operand, constant_in, constant_in_operand, constants_of, same_value}
 use Rattle.ilscope.specs.Tables.{number_in, first_at, lowered}
 use Rattle.ilscope.specs.GatheringSteps.{table_of}
 use Rattle.ilsyms.specs.PlanningSteps.{Planning, planning, with_instance, with_instances, planning_of, planned_instance, planned_operand, planned_instruction, planned_line, slot_number, IsKnownName, AreKnown}
 use Rattle.ilsyms.specs.Plans.{PlannedInstance, KeepsLimits, NamesSlotsBelow, all_lines, constants_in, slots_in}
 use Rattle.ilsyms.specs.Plans as plans
-use Rattle.ilsyms.specs.ResolvingSteps.{least_fault, the_task}
+use Rattle.ilsyms.specs.ResolvingSteps.{the_task}
 use Rattle.ilsyms.specs.declared.planned.PlannedLine.{PlannedLine}
 use Rattle.limits.specs.Limits.{most_constants}
 use Rattle.ilsyms.proofs.Clean.{clean, none_length, all_cons, all_nil}
+use Rattle.ilsyms.proofs.Counting.{programs_counted}
 use Rattle.ilsyms.proofs.Tables.{table_le}
 
 -- the instances of these programs, where the first one's slots begin at `base`
@@ -75,43 +77,6 @@ pub all_constants : (text lower : List ℕ) (ps : List Written) (base : ℕ)
     → constants_in (all_lines (instances_from text lower base ps)) ≡ constants_of (lines_of ps)
 all_constants text lower [] base = refl
 all_constants text lower (p ∷ ps) base = lines_constants text lower (table_of lower p) base p.lines _ _ (all_constants text lower ps _)
-
--- the constants are counted in order
-one_counted : (c : Counted) (at : ℕ) (v : Value) (b : Bool) (e : Option ℕ) →
-    (if b then c else counted (c.constants ++ v ∷ []) e).constants ≡ (if b then c.constants else c.constants ++ v ∷ [])
-one_counted c at v true e = refl
-one_counted c at v false e = refl
-
-more_counted : (ls : List Line) (o : Option Value) (c : Counted) (at : ℕ) →
-    ((c : Counted) → (fold with_line c ls).constants ≡ fold with_constant c.constants (constants_of ls)) →
-    (fold with_line (with_one c at o) ls).constants ≡ fold with_constant c.constants (cons_option o (constants_of ls))
-more_counted ls None c at h = h c
-more_counted ls (Some v) c at h =
-    h (with_one c at (Some v)) ∙ ap (λ (vs : List Value). fold with_constant vs (constants_of ls)) (one_counted c at v (list_any (same_value v) c.constants) _)
-
-pub lines_counted : (ls : List Line) (c : Counted) → (fold with_line c ls).constants ≡ fold with_constant c.constants (constants_of ls)
-lines_counted [] c = refl
-lines_counted (l ∷ ls) c = more_counted ls (constant_in l.instruction) c l.at (lines_counted ls)
-
-pub constants_append : (xs ys : List Line) → constants_of (xs ++ ys) ≡ constants_of xs ++ constants_of ys
-constants_append [] ys = refl
-constants_append (x ∷ xs) ys = more_constants _ _ _ (constant_in x.instruction) (constants_append xs ys)
-  where
-    more_constants : (a b c : List Value) (o : Option Value) → a ≡ b ++ c → cons_option o a ≡ cons_option o b ++ c
-    more_constants a b c None e = e
-    more_constants a b c (Some v) e = rw e refl
-
-pub fold_append : {A B : Type 0} (f : B → A → B) (a : B) (xs ys : List A) → fold f a (xs ++ ys) ≡ fold f (fold f a xs) ys
-fold_append f a [] ys = refl
-fold_append f a (x ∷ xs) ys = fold_append f (f a x) xs ys
-
-pub programs_counted : (ps : List Written) (c : Counted) → (with_programs c ps).constants ≡ fold with_constant c.constants (constants_of (lines_of ps))
-programs_counted [] c = refl
-programs_counted (p ∷ ps) c =
-    programs_counted ps (with_lines c p)
-    ∙ ap (λ (vs : List Value). fold with_constant vs (constants_of (lines_of ps))) (lines_counted p.lines c)
-    ∙ sym (fold_append with_constant c.constants (constants_of p.lines) (constants_of (lines_of ps)))
-    ∙ ap (λ (vs : List Value). fold with_constant c.constants vs) (sym (constants_append p.lines (lines_of ps)))
 
 -- while no line exceeds the limit, there are at most as many
 abbrev IsFine : Counted → Type 0
@@ -195,7 +160,7 @@ all_below text lower (p ∷ ps) base slots fits k =
     lines_below lower (table_of lower p) base slots (omega (arith, s, t)) text p.lines _ (k 0 p (omega arith))
     (all_below text lower ps (base + length (table_of lower p)) slots (omega (arith, s, t)) (λ j d b. k (suc j) d (omega arith)))
 
-pub limits : (tree : Tree) → least_fault tree ≡ None → KeepsLimits (the_task tree)
+pub limits : (tree : Tree) → IsWellNamed tree → KeepsLimits (the_task tree)
 limits tree h =
     let c = clean tree h in
     let e : (planning_of tree).instances ≡ instances_from tree.text (lowered tree.text) 0 tree.programs = instances_are tree.text (lowered tree.text) tree.programs (planning [] 0) in

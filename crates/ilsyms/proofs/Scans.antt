@@ -12,6 +12,7 @@ use Rattle.ilsource.specs.declared.instruction.Instruction.TheVariants.{Load, Ap
 use Rattle.ilsource.specs.declared.instruction.Line.{Line}
 use Rattle.ilsource.specs.Names.{folded, text_of}
 use Rattle.ilsource.specs.Trees.{Variables, Written, Tree}
+use Rattle.ilsyms.specs.Faults.{IsWellNamed}
 use Rattle.ilsyms.specs.Declarations.{name_in, name_in_operand, slot, slots_of_declaration, slots_of_program, slots_of}
 use Rattle.ilscope.specs.Declarations.{initial_value, variables_of}
 use Rattle.ilscope.specs.GatheringSteps.{Gathered, gathered, with_name, with_names, with_declaration, with_declarations, with_initial, Scoping, scoping_of, with_program, with_programs, table_of}
@@ -19,7 +20,6 @@ use Rattle.ilscope.specs.Tables.{first_at, number_in, lowered}
 use Rattle.ilscope.specs.Order.{lesser}
 use Rattle.ilsyms.specs.PlanningSteps.{planning, planning_of, planned_operand, planned_instruction, planned_line, slot_number, IsKnownName, AreKnown}
 use Rattle.ilsyms.specs.Resolved.{Pairwise, IsInstanceOf}
-use Rattle.ilsyms.specs.ResolvingSteps.{least_fault}
 use Rattle.ilsyms.specs.SlotLines.{IsNumberOf, IsOperandOf, IsInstructionOf, IsLineOf}
 use Rattle.ilscope.specs.declared.found.Found.{Found}
 use Rattle.ilsyms.specs.declared.planned.Slot.{Slot}
@@ -249,7 +249,7 @@ sound text (p ∷ ps) front s e h k =
     (apart, sym t ∙ all, k 0 p (omega arith), sound text ps (front ++ p ∷ []) (with_program (lowered text) s p) next h rest)
 
 -- where no fault was found, each program has its instance
-pub instances_of : (tree : Tree) → least_fault tree ≡ None → Pairwise (IsInstanceOf tree.text (slots_of tree.programs)) tree.programs (planning_of tree).instances
+pub instances_of : (tree : Tree) → IsWellNamed tree → Pairwise (IsInstanceOf tree.text (slots_of tree.programs)) tree.programs (planning_of tree).instances
 instances_of tree h =
     let e : (planning_of tree).instances ≡ instances_from tree.text (lowered tree.text) 0 tree.programs = instances_are tree.text (lowered tree.text) tree.programs (planning [] 0) in
     rw e

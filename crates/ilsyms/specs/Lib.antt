@@ -10,4 +10,3 @@ pub mod Resolved
 pub mod ResolvingSteps
 pub mod SlotLines
 pub mod Stores
-pub mod UsesSteps

@@ -1,12 +1,13 @@
 //! What exceeds the limits of a task.
 
-ghost use Rattle.std.specs.Prelude.{◌≡◌, map, slice_get};
+ghost use Rattle.std.specs.Prelude.{◌≡◌, Some, map, slice_get};
 ghost use Rattle.ilsyms.specs.Declarations.{lines_of};
-ghost use Rattle.ilsyms.specs.ResolvingSteps.{with_excess};
+ghost use Rattle.ilscope.specs.Faults.{IsLeastOf, OfCause};
+ghost use Rattle.ilscope.specs.declared.fault.NameCause.TheVariants.{TooMany};
 ghost use Rattle.limits.specs.Limits.{most_instances, most_slots, most_words};
 
 use crate::planned::Slot;
-use ilscope::{Found, NameCause, lesser_of};
+use ilscope::{Found, NameCause};
 use ilsource::Program;
 use limits::{MOST_INSTANCES, MOST_SLOTS, MOST_WORDS};
 
@@ -41,18 +42,13 @@ pub(crate) fn word_past(programs: &[Program]) -> Option<usize>
     None
 }
 
-/// Takes in the fault of what exceeds a limit.
-pub(crate) fn limited(least: Option<Found>, excess: Option<usize>) -> Option<Found>
-    ensures { result ≡ with_excess least excess }
+/// The fault of what exceeds a limit, where there is such.
+pub(crate) fn too_many(excess: Option<usize>) -> Option<Found>
+    ensures { IsLeastOf (OfCause TooMany (λ place. excess ≡ Some place)) result }
 {
-    match excess {
-        None => least,
-        Some(at) => lesser_of(
-            least,
-            Found {
-                at,
-                cause: NameCause::TooMany,
-            },
-        ),
-    }
+    let at = excess?;
+    Some(Found {
+        at,
+        cause: NameCause::TooMany,
+    })
 }

@@ -1,24 +1,25 @@
 //! Resolving the names of a source program.
 
-ghost use Rattle.std.specs.Prelude.{◌≡◌, ℕ, IfOk, IfErr, OnOk, MatchResult, None};
+ghost use Rattle.std.specs.Prelude.{◌≡◌, ℕ, IfOk, IfErr, OnOk, MatchResult};
 ghost use Rattle.ilsyms.specs.CountingSteps.{counting};
 ghost use Rattle.ilsyms.specs.Declarations.{slots_of};
-ghost use Rattle.ilsyms.specs.ResolvingSteps.{least_fault, the_task, the_plan};
+ghost use Rattle.ilsyms.specs.ResolvingSteps.{the_task, the_plan};
 ghost use Rattle.ilsyms.specs.Faults.{IsFault, IsWellNamed};
 ghost use Rattle.ilsyms.specs.Plans.{Planned, PlannedTask};
 ghost use Rattle.ilsyms.specs.Resolved.{IsPlanOf, IsTaskOf, MeansTheSame};
-ghost use Rattle.ilscope.specs.Told.{IsMemoryOrTold, IsMemoryOrTellsLeast, TellsLeast};
+ghost use Rattle.ilscope.specs.Faults.{IsLeastOf};
+ghost use Rattle.ilscope.specs.Told.{IsMemoryOrTellsLeast, TellsLeast};
 ghost use Rattle.ilscope.specs.declared.fault.NameFault.{NameFault};
 
 use crate::constants::different_constants;
-use crate::excess::{instance_past, limited, slot_past, word_past};
+use crate::excess::{instance_past, slot_past, too_many, word_past};
 use crate::plan::{Plan, Task};
 use crate::planned::Slot;
 use crate::planning::plan_instances;
 use crate::slots::all_slots;
 use crate::uses::unknown_uses;
 use binding::Binding;
-use ilscope::{Found, NameFault, Scope, told};
+use ilscope::{Found, NameFault, Scope, lesser_of, told};
 use ilsource::Source;
 use iltypes::Value;
 use std::alloc::{AllocError, Global};
@@ -39,11 +40,11 @@ pub fn resolve(alloc: Global, source: &Source, binding: &Binding) -> Result<Plan
     resolved(alloc, source, binding)
 }
 
-/// The one plan, or the least fault that was gathered.
+/// The one plan, or the least fault.
 fn resolved(alloc: Global, source: &Source, binding: &Binding) -> Result<Plan, NameFault>
     ensures { MatchResult result
-        (λ plan. (least_fault source.now ≡ None) × (plan ≡ the_plan source.now binding.now.buses))
-        (λ fault. IsMemoryOrTold source.now.text (least_fault source.now) fault) }
+        (λ plan. IsWellNamed source.now × (plan ≡ the_plan source.now binding.now.buses))
+        (λ fault. IsMemoryOrTellsLeast source.now.text (IsFault source.now) fault) }
 {
     let scope = Scope::of(alloc, source, binding)?;
     let slots = all_slots(alloc, source.programs())?;
@@ -59,14 +60,14 @@ fn resolved(alloc: Global, source: &Source, binding: &Binding) -> Result<Plan, N
 fn least_of(scope: &Scope<'_>, slots: &[Slot], past: Option<usize>) -> Option<Found>
     requires slots { slots.now ≡ slots_of scope.now.programs }
     requires past { past ≡ (counting scope.now.programs).excess }
-    ensures { result ≡ least_fault scope.now }
+    ensures { IsLeastOf (IsFault scope.now) result }
 {
     let programs = scope.source().programs();
-    let least = unknown_uses(scope, scope.least());
-    let least = limited(least, instance_past(programs));
-    let least = limited(least, slot_past(slots));
-    let least = limited(least, word_past(programs));
-    limited(least, past)
+    let least = lesser_of(scope.least(), unknown_uses(scope));
+    let least = lesser_of(least, too_many(instance_past(programs)));
+    let least = lesser_of(least, too_many(slot_past(slots)));
+    let least = lesser_of(least, too_many(word_past(programs)));
+    lesser_of(least, too_many(past))
 }
 
 /// The one task of a source program that has no fault.
@@ -76,7 +77,7 @@ fn main_task(
     slots: Vec<Slot>,
     constants: Vec<Value>,
 ) -> Result<Task, AllocError>
-    requires fault { least_fault scope.now ≡ None }
+    requires named { IsWellNamed scope.now }
     requires slots { slots.items ≡ slots_of scope.now.programs }
     requires constants { constants.items ≡ (counting scope.now.programs).constants }
     ensures { IfOk result (λ task. task ≡ the_task scope.now) }

@@ -1,54 +1,57 @@
 //! Uses: names in instructions, looked up among the variables of their program.
 
-ghost use Rattle.std.specs.Prelude.{◌≡◌};
+ghost use Rattle.std.specs.Prelude.{◌≡◌, ◌<◌, Some, length, slice_get};
+ghost use Rattle.ilsource.specs.Trees.{Written};
+ghost use Rattle.ilscope.specs.Declarations.{variables_of};
+ghost use Rattle.ilscope.specs.Faults.{IsLeastOf, OfCause, SomeOf};
+ghost use Rattle.ilscope.specs.declared.fault.NameCause.TheVariants.{Unknown};
 ghost use Rattle.ilsyms.specs.Declarations.{name_in};
-ghost use Rattle.ilscope.specs.Tables.{lowered};
-ghost use Rattle.ilsyms.specs.UsesSteps.{with_line, with_lines, with_uses};
+ghost use Rattle.ilsyms.specs.Faults.{IsUnknown, IsUnknownIn};
 
-use ilscope::{Found, NameCause, Names, Scope, lesser_of};
-use ilsource::{Instruction, Line, Name, Operand};
+use ilscope::{Found, NameCause, Scope, lesser_of};
+use ilsource::{Instruction, Line, Name, Operand, Program};
 
-/// Takes in the faults of names that their programs don't declare.
-pub(crate) fn unknown_uses(scope: &Scope<'_>, mut least: Option<Found>) -> Option<Found>
-    ensures { result ≡ with_uses (lowered scope.now.text) least scope.now.programs }
+/// The least fault of a name in an instruction that its program doesn't declare.
+pub(crate) fn unknown_uses(scope: &Scope<'_>) -> Option<Found>
+    ensures { IsLeastOf (OfCause Unknown (IsUnknown scope.now)) result }
 {
     let source = scope.source();
+    let mut least = None;
     for (number, program) in source.programs().iter().enumerate() {
-        let names = scope.variables(number);
-        least = unknown_names(scope.lower(), names, program.lines(), least);
+        least = lesser_of(least, unknown_names(scope, number, program));
     }
     least
 }
 
-/// Takes in the fault of a name that isn't declared.
-fn unknown_name(lower: &[u8], names: &Names, line: Line, least: Option<Found>) -> Option<Found>
-    ensures { result ≡ with_line lower.now names.now least line }
+/// The least such fault in the lines of a program, by its number.
+fn unknown_names(scope: &Scope<'_>, number: usize, program: &Program) -> Option<Found>
+    requires { slice_get scope.now.programs number ≡ Some program.now }
+    ensures { IsLeastOf
+        (OfCause Unknown (λ place. SomeOf
+        (IsUnknownIn scope.now.text (variables_of program.now) place) program.now.lines))
+        result }
 {
-    match name_of(line.instruction) {
-        Some(name) if names.number_of(name.text(lower)).is_none() => lesser_of(
-            least,
-            Found {
-                at: name.from,
-                cause: NameCause::Unknown,
-            },
-        ),
-        _ => least,
-    }
-}
-
-/// Takes in the faults of names in lines.
-fn unknown_names(
-    lower: &[u8],
-    names: &Names,
-    lines: &[Line],
-    mut least: Option<Found>,
-) -> Option<Found>
-    ensures { result ≡ with_lines lower.now names.now least lines.now }
-{
-    for line in lines {
-        least = unknown_name(lower, names, *line, least);
+    let mut least = None;
+    for line in program.lines() {
+        least = lesser_of(least, unknown_name(scope, number, *line));
     }
     least
+}
+
+/// The fault of the name in a line of the program with this number.
+fn unknown_name(scope: &Scope<'_>, number: usize, line: Line) -> Option<Found>
+    requires { number < length scope.now.programs }
+    ensures { (p : Written) → slice_get scope.now.programs number ≡ Some p → IsLeastOf
+        (OfCause Unknown (λ place. IsUnknownIn scope.now.text (variables_of p) place line)) result }
+{
+    let name = name_of(line.instruction)?;
+    if scope.declares(number, name) {
+        return None;
+    }
+    Some(Found {
+        at: name.from,
+        cause: NameCause::Unknown,
+    })
 }
 
 /// The name in an instruction.
