@@ -1,0 +1,131 @@
+-- The least cause is one, and none arises where each two values have a value.
+use Rattle.std.proofs.Common.{◌≡◌, ℤ, ◌≤◌, Option, Some, None, IsSome, Result, Ok, Err, Bool, true}
+use Rattle.std.proofs.Common.{refl, sym, ap, subst, arith}
+use Rattle.std.specs.Prelude.{IsNone, ◌↔◌}
+use Rattle.iltypes.specs.declared.range.Range.{Range}
+use Rattle.iltypes.specs.declared.value.Value.{Value}
+use Rattle.iltypes.specs.declared.value.Value.TheVariants as values
+use Rattle.iltypes.proofs.Limits.{holds_low}
+use Rattle.iloperators.specs.declared.operator.Operator.{Operator}
+use Rattle.iloperators.specs.declared.operator.Operator.TheVariants as operators
+use Rattle.iloperators.specs.Operators.{value_of_operator, quotient, remainder}
+use Rattle.ilranges.specs.declared.cause.Cause.{Cause}
+use Rattle.ilranges.specs.declared.cause.Cause.TheVariants.{WrongType, MayBeZero, OutOfRange, TooBig}
+use Rattle.ilranges.specs.declared.known.Known.{Known}
+use Rattle.ilranges.specs.declared.known.Known.TheVariants as knowns
+use Rattle.ilranges.specs.Causes.{number_of, IsLeastCause}
+use Rattle.ilranges.specs.Knowns.{IsKnown, IsOfKind}
+use Rattle.ilranges.specs.Results.{IsAfter, DividesByZero, Arises}
+use Rattle.ilranges.specs.ResultSteps.{IsVerdict}
+
+-- ---- causes
+
+same_number : (Arising : Cause → Type 0) (one other : Cause)
+    → ((f a g b : Range) → Arising (OutOfRange f a) → Arising (OutOfRange g b) → OutOfRange f a ≡ OutOfRange g b)
+    → Arising one → Arising other → number_of one ≤ number_of other → number_of other ≤ number_of one → one ≡ other
+same_number Arising WrongType WrongType h p q l m = refl
+same_number Arising MayBeZero MayBeZero h p q l m = refl
+same_number Arising (OutOfRange f a) (OutOfRange g b) h p q l m = h f a g b p q
+same_number Arising TooBig TooBig h p q l m = refl
+same_number Arising WrongType MayBeZero h p q l m = absurd (omega arith)
+same_number Arising WrongType (OutOfRange g b) h p q l m = absurd (omega arith)
+same_number Arising WrongType TooBig h p q l m = absurd (omega arith)
+same_number Arising MayBeZero WrongType h p q l m = absurd (omega arith)
+same_number Arising MayBeZero (OutOfRange g b) h p q l m = absurd (omega arith)
+same_number Arising MayBeZero TooBig h p q l m = absurd (omega arith)
+same_number Arising (OutOfRange f a) WrongType h p q l m = absurd (omega arith)
+same_number Arising (OutOfRange f a) MayBeZero h p q l m = absurd (omega arith)
+same_number Arising (OutOfRange f a) TooBig h p q l m = absurd (omega arith)
+same_number Arising TooBig WrongType h p q l m = absurd (omega arith)
+same_number Arising TooBig MayBeZero h p q l m = absurd (omega arith)
+same_number Arising TooBig (OutOfRange g b) h p q l m = absurd (omega arith)
+
+pub one_cause : (Arising : Cause → Type 0) (one other : Cause)
+    → ((f a g b : Range) → Arising (OutOfRange f a) → Arising (OutOfRange g b) → OutOfRange f a ≡ OutOfRange g b)
+    → IsLeastCause Arising one → IsLeastCause Arising other → one ≡ other
+one_cause Arising one other h p q =
+    same_number Arising one other h p.arises q.arises (p.least other q.arises) (q.least one p.arises)
+
+-- ---- values
+
+pub not_both : (o : Option Value) → IsSome o → IsNone o → ⊥
+not_both None s n = let k : ⊥ = cc in k
+not_both (Some v) s n = let k : ⊥ = cc in k
+
+pub kind_of_known : (v : Value) (known : Known) → IsKnown v known → IsOfKind v known
+kind_of_known (values.Bool b) knowns.Bool h = tt
+kind_of_known (values.Bool b) (knowns.Int r) h = absurd h
+kind_of_known (values.Int z) knowns.Bool h = absurd h
+kind_of_known (values.Int z) (knowns.Int r) h = tt
+
+-- something is known so
+pub example : (known : Known) → (v : Value) × IsKnown v known
+example knowns.Bool = (values.Bool true, tt)
+example (knowns.Int r) = (values.Int r.lo, holds_low r)
+
+zero_none : (operator : Operator) (x y : Value) → DividesByZero operator y → IsNone (value_of_operator operator x y)
+zero_none operators.Div (values.Int x) (values.Int y) h = subst (λ (z : ℤ). IsNone (quotient x z)) (sym h) refl
+zero_none operators.Mod (values.Int x) (values.Int y) h = subst (λ (z : ℤ). IsNone (remainder x z)) (sym h) refl
+zero_none operators.Div (values.Bool x) (values.Int y) h = refl
+zero_none operators.Mod (values.Bool x) (values.Int y) h = refl
+zero_none _ x y h = absurd h
+
+-- ---- an outcome of an operator
+
+no_cause : (operator : Operator) (left right known : Known) → IsAfter operator left right known → (cause : Cause)
+    → ¬ Arises operator left right cause
+no_cause operator left right known h WrongType a =
+    let x = example left in
+    let y = example right in
+    not_both (value_of_operator operator x.0 y.0) (h.some x.0 y.0 x.1 y.1)
+    (a x.0 y.0 (kind_of_known x.0 left x.1) (kind_of_known y.0 right y.1))
+no_cause operator left right known h MayBeZero a =
+    let x = example left in
+    not_both (value_of_operator operator x.0 a.y) (h.some x.0 a.y x.1 a.of_right) (zero_none operator x.0 a.y a.is)
+no_cause operator left right known h (OutOfRange f b) a = a
+no_cause operator left right known h TooBig a =
+    not_both (value_of_operator operator a.x a.y) (h.some a.x a.y a.of_left a.of_right) a.none
+
+pub refused : (operator : Operator) (left right : Known) (result : Result Known Cause)
+    → IsVerdict operator left right result → (cause : Cause)
+    → (result ≡ Err cause) ↔ IsLeastCause (Arises operator left right) cause
+refused operator left right (Ok known) h cause =
+    (λ e. let k : ⊥ = cc in absurd k, λ l. absurd (no_cause operator left right known h cause l.arises))
+refused operator left right (Err c) h cause = (
+  λ e. let q : c ≡ cause = cc in subst (IsLeastCause (Arises operator left right)) q h,
+  λ l. ap (λ (w : Cause). Err w) (one_cause (Arises operator left right) c cause (λ f a g b p q. absurd p) h l),
+)
+
+-- ---- kinds that no operator takes together
+
+pub wrong_type : (operator : Operator) (left right : Known) → Arises operator left right WrongType
+    → IsLeastCause (Arises operator left right) WrongType
+wrong_type operator left right h = record {
+  arises = h;
+  least = λ other a. elim other as (λ c. 2 ≤ number_of c) [
+    | WrongType ↦ omega arith
+    | MayBeZero ↦ omega arith
+    | OutOfRange f b ↦ omega arith
+    | TooBig ↦ omega arith
+  ];
+}
+
+truth_and_number : (operator : Operator) (b : Bool) (z : ℤ)
+    → IsNone (value_of_operator operator (values.Bool b) (values.Int z))
+truth_and_number (operators.And negated) b z = refl
+truth_and_number _ b z = refl
+
+number_and_truth : (operator : Operator) (z : ℤ) (b : Bool)
+    → IsNone (value_of_operator operator (values.Int z) (values.Bool b))
+number_and_truth (operators.And negated) z b = refl
+number_and_truth _ z b = refl
+
+pub mixed : (operator : Operator) (range : Range) → Arises operator knowns.Bool (knowns.Int range) WrongType
+mixed operator range (values.Bool b) (values.Int z) p q = truth_and_number operator b z
+mixed operator range (values.Bool b) (values.Bool c) p q = absurd q
+mixed operator range (values.Int z) y p q = absurd p
+
+pub mixed_round : (operator : Operator) (range : Range) → Arises operator (knowns.Int range) knowns.Bool WrongType
+mixed_round operator range (values.Int z) (values.Bool b) p q = number_and_truth operator z b
+mixed_round operator range (values.Int z) (values.Int y) p q = absurd q
+mixed_round operator range (values.Bool b) y p q = absurd p

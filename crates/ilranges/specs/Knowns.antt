@@ -1,0 +1,30 @@
+-- What is known of a value before a program runs: its kind, and a range that holds it where it is a number.
+use Rattle.std.specs.Prelude.{⊤}
+use Rattle.iltypes.specs.declared.value.Value.{Value}
+use Rattle.iltypes.specs.declared.value.Value.TheVariants as values
+use Rattle.iltypes.specs.Ranges.{Holds, IsWithin}
+use Rattle.ilranges.specs.declared.known.Known.{Known}
+use Rattle.ilranges.specs.declared.known.Known.TheVariants as knowns
+
+-- the value is one of those that may stand there
+abbrev pub IsKnown : Value → Known → Type 0
+IsKnown (values.Bool truth) knowns.Bool = ⊤
+IsKnown (values.Int number) (knowns.Int range) = Holds range number
+IsKnown _ _ = ⊥
+
+-- the value is of the same kind, whatever its number
+abbrev pub IsOfKind : Value → Known → Type 0
+IsOfKind (values.Bool truth) knowns.Bool = ⊤
+IsOfKind (values.Int number) (knowns.Int range) = ⊤
+IsOfKind _ _ = ⊥
+
+-- the first says at least what the second says
+abbrev pub IsKnownWithin : Known → Known → Type 0
+IsKnownWithin knowns.Bool knowns.Bool = ⊤
+IsKnownWithin (knowns.Int inner) (knowns.Int outer) = IsWithin inner outer
+IsKnownWithin _ _ = ⊥
+
+-- no less can be said of the set: the limits of the range are numbers of it
+abbrev pub AreReached : (Value → Type 0) → Known → Type 0
+AreReached IsOfSet knowns.Bool = ⊤
+AreReached IsOfSet (knowns.Int range) = IsOfSet (values.Int range.lo) × IsOfSet (values.Int range.hi)

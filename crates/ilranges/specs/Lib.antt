@@ -1,0 +1,4 @@
+pub mod Causes
+pub mod Knowns
+pub mod ResultSteps
+pub mod Results

@@ -1,0 +1,17 @@
+//! What is known of a value before and after an operator, with which a verifier follows a program.
+//!
+//! What crosses the boundary: [`Known`], a kind with a range for numbers, and [`Cause`], why an
+//! instruction is refused. A value lies in what is known by `IsKnown` (specs/Knowns.antt), and
+//! `Known::after` gives what holds all results of an operator and no more: `IsAfter`
+//! (specs/Results.antt, to be read first), or the least cause that arises there.
+//!
+//! ```text
+//! let sum = Known::after(Operator::Add, level, step)?;
+//! ```
+#![tactic(auto)]
+
+mod cause;
+mod known;
+
+pub use cause::Cause;
+pub use known::Known;
