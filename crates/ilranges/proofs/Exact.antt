@@ -15,7 +15,7 @@ use Rattle.ilranges.specs.declared.known.Known.{Known}
 use Rattle.ilranges.specs.declared.known.Known.TheVariants as knowns
 use Rattle.ilranges.specs.Causes.{number_of, IsLeastCause}
 use Rattle.ilranges.specs.Knowns.{IsKnown, IsOfKind}
-use Rattle.ilranges.specs.Results.{IsAfter, DividesByZero, Arises}
+use Rattle.ilranges.specs.Results.{DividesByZero, Arises}
 use Rattle.ilranges.specs.ResultSteps.{IsVerdict}
 
 -- ---- causes
@@ -72,25 +72,27 @@ zero_none _ x y h = absurd h
 
 -- ---- an outcome of an operator
 
-no_cause : (operator : Operator) (left right known : Known) → IsAfter operator left right known → (cause : Cause)
+-- where each two values have a value no cause arises
+pub refuted : (operator : Operator) (left right : Known)
+    → ((x y : Value) → IsKnown x left → IsKnown y right → IsSome (value_of_operator operator x y)) → (cause : Cause)
     → ¬ Arises operator left right cause
-no_cause operator left right known h WrongType a =
+refuted operator left right some WrongType a =
     let x = example left in
     let y = example right in
-    not_both (value_of_operator operator x.0 y.0) (h.some x.0 y.0 x.1 y.1)
+    not_both (value_of_operator operator x.0 y.0) (some x.0 y.0 x.1 y.1)
     (a x.0 y.0 (kind_of_known x.0 left x.1) (kind_of_known y.0 right y.1))
-no_cause operator left right known h MayBeZero a =
+refuted operator left right some MayBeZero a =
     let x = example left in
-    not_both (value_of_operator operator x.0 a.y) (h.some x.0 a.y x.1 a.of_right) (zero_none operator x.0 a.y a.is)
-no_cause operator left right known h (OutOfRange f b) a = a
-no_cause operator left right known h TooBig a =
-    not_both (value_of_operator operator a.x a.y) (h.some a.x a.y a.of_left a.of_right) a.none
+    not_both (value_of_operator operator x.0 a.y) (some x.0 a.y x.1 a.of_right) (zero_none operator x.0 a.y a.is)
+refuted operator left right some (OutOfRange f b) a = a
+refuted operator left right some TooBig a =
+    not_both (value_of_operator operator a.x a.y) (some a.x a.y a.of_left a.of_right) a.none
 
 pub refused : (operator : Operator) (left right : Known) (result : Result Known Cause)
     → IsVerdict operator left right result → (cause : Cause)
     → (result ≡ Err cause) ↔ IsLeastCause (Arises operator left right) cause
 refused operator left right (Ok known) h cause =
-    (λ e. let k : ⊥ = cc in absurd k, λ l. absurd (no_cause operator left right known h cause l.arises))
+    (λ e. let k : ⊥ = cc in absurd k, λ l. absurd (refuted operator left right h.some cause l.arises))
 refused operator left right (Err c) h cause = (
   λ e. let q : c ≡ cause = cc in subst (IsLeastCause (Arises operator left right)) q h,
   λ l. ap (λ (w : Cause). Err w) (one_cause (Arises operator left right) c cause (λ f a g b p q. absurd p) h l),

@@ -1,2 +1,6 @@
+pub mod Comparisons
 pub mod Exact
+pub mod Functions
+pub mod Joins
+pub mod Monotone
 pub mod Operations

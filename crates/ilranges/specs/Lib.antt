@@ -1,4 +1,11 @@
 pub mod Causes
+pub mod FunctionSteps
+pub mod Functions
+pub mod Joins
 pub mod Knowns
+pub mod Laws
+pub mod Passing
+pub mod PassingSteps
 pub mod ResultSteps
 pub mod Results
+pub mod Stores

@@ -1,10 +1,10 @@
 //! What is known of a value.
 
-ghost use Rattle.std.specs.Prelude.{◌≡◌, ◌↔◌, IfOk, Err};
+ghost use Rattle.std.specs.Prelude.{◌≡◌, ◌↔◌, IfOk, IfSome, IsNone, IsOk, Ok, Err};
 
 use crate::cause::Cause;
-use iloperators::Operator;
-use iltypes::Range;
+use iloperators::{Function, IntegerType, Operator};
+use iltypes::{IlType, Range};
 
 /// What is known of a value before the program runs.
 #[derive(Clone, Copy, PartialEq, Eq, Debug)]
@@ -20,6 +20,104 @@ impl Known {
     ghost use Rattle.ilranges.specs.Causes.{IsLeastCause};
     ghost use Rattle.ilranges.specs.Results.{IsAfter, Arises};
     ghost use Rattle.ilranges.specs.ResultSteps.{IsVerdict, verdict};
+    ghost use Rattle.iltypes.specs.declared.value.Value.{Value};
+    ghost use Rattle.iltypes.specs.Values.{IsOf};
+    ghost use Rattle.ilranges.specs.Functions.{IsAfterFunction, ArisesAtFunction};
+    ghost use Rattle.ilranges.specs.FunctionSteps.{IsFunctionVerdict};
+    ghost use Rattle.ilranges.specs.Knowns.{IsKnown};
+    ghost use Rattle.ilranges.specs.Stores.{ArisesAtStore};
+    ghost use Rattle.ilranges.specs.Joins.{IsJoin, IsHeld};
+
+    /// What is known of a variable's value at first: that it is of its type.
+    pub fn of(declared: IlType) -> Known
+        ensures { (value : Value) → IsKnown value result ↔ IsOf value declared }
+    {
+        match declared {
+            IlType::Bool => Known::Bool,
+            IlType::Int(range) => Known::Int(range),
+        }
+    }
+
+    /// Whether a variable of this type may take the value (profile): each value that it may have is
+    /// of the type. Else the kinds differ, or the range is not within the type's.
+    pub fn check_store(self, declared: IlType) -> Result<(), Cause>
+        ensures ok { IsOk result ↔ ((value : Value) → IsKnown value self → IsOf value declared) }
+        ensures refused { (cause : Cause) → (result ≡ Err cause) ↔ ArisesAtStore self declared cause }
+    {
+        match (self, declared) {
+            (Known::Bool, IlType::Bool) => Ok(()),
+            (Known::Int(found), IlType::Int(allowed)) => {
+                if found.within(allowed) {
+                    Ok(())
+                } else {
+                    Err(Cause::OutOfRange { found, allowed })
+                }
+            }
+            (Known::Bool, IlType::Int(_)) => Err(Cause::WrongType),
+            (Known::Int(_), IlType::Bool) => Err(Cause::WrongType),
+        }
+    }
+
+    /// What is known where two ways meet: the least that holds what each knows, or `None` where
+    /// nothing holds both, since the kinds differ.
+    pub fn join(self, other: Known) -> Option<Known>
+        ensures none { IsNone result ↔ ¬ IsHeld self other }
+        ensures least { IfSome result (IsJoin self other) }
+    {
+        match (self, other) {
+            (Known::Bool, Known::Bool) => Some(Known::Bool),
+            (Known::Int(one), Known::Int(other)) => Some(Known::Int(one.hull(other))),
+            (Known::Bool, Known::Int(_)) => None,
+            (Known::Int(_), Known::Bool) => None,
+        }
+    }
+
+    /// What is known after a function of the value (IEC 61131-3, 3.2.2 and 2.5.1.5): the least that
+    /// holds all it gives. Else the least cause that arises.
+    pub fn after_function(self, function: Function) -> Result<Known, Cause>
+        ensures known { IfOk result (IsAfterFunction function self) }
+        ensures refused { (cause : Cause) → (result ≡ Err cause)
+            ↔ IsLeastCause (ArisesAtFunction function self) cause }
+    {
+        match self {
+            Known::Bool => Known::function_of_truth(function),
+            Known::Int(range) => Known::function_of_number(function, range),
+        }
+    }
+
+    /// What is known after a function of a truth value.
+    fn function_of_truth(function: Function) -> Result<Known, Cause>
+        ensures { IsFunctionVerdict function Known.Bool result }
+    {
+        match function {
+            Function::Not => Ok(Known::Bool),
+            Function::Abs => Err(Cause::WrongType),
+            Function::Convert(_) => Err(Cause::WrongType),
+        }
+    }
+
+    /// What is known after a function of a number.
+    fn function_of_number(function: Function, range: Range) -> Result<Known, Cause>
+        ensures { IsFunctionVerdict function (Known.Int range) result }
+    {
+        match function {
+            Function::Not => Err(Cause::WrongType),
+            Function::Abs => Known::fitting(range.abs()),
+            Function::Convert(target) => Known::convert(target, range),
+        }
+    }
+
+    /// What is known after a conversion of a number.
+    fn convert(target: IntegerType, found: Range) -> Result<Known, Cause>
+        ensures { IsFunctionVerdict (Function.Convert target) (Known.Int found) result }
+    {
+        let allowed = target.range();
+        if found.within(allowed) {
+            Ok(Known::Int(found))
+        } else {
+            Err(Cause::OutOfRange { found, allowed })
+        }
+    }
 
     /// What is known of `left OP right` (IEC 61131-3, 3.2.2 and 2.5.1.5): the least that holds all
     /// results, for MOD the profile's range. Else the least cause that arises.

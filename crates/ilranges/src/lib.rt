@@ -11,7 +11,14 @@
 #![tactic(auto)]
 
 mod cause;
+mod comparison;
 mod known;
+mod law;
 
 pub use cause::Cause;
+pub use comparison::passing;
 pub use known::Known;
+pub use law::more_known_before_is_more_known_after;
+
+#[cfg(test)]
+mod tests;

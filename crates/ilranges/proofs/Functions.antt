@@ -1,0 +1,236 @@
+-- What is known after ABS and a conversion, and the one cause of a refusal.
+use Rattle.std.proofs.Common.{◌≡◌, ◌∙◌, ℤ, pos, ◌≤◌, ◌≤ℤ◌, FitsSigned, Option, Some, None, IsSome, Result, Ok, Err, Bool, true, false}
+use Rattle.std.proofs.Common.{IsTrue, refl, sym, ap, subst, arith}
+use Rattle.std.specs.Prelude.{IsNone, IfSome, ◌↔◌, ◌&&◌, int_le, unsigned_abs, if◌then◌else◌}
+use Rattle.std.specs.Int.{w64}
+use Rattle.std.proofs.lemmas.Int.{ints}
+use Rattle.std.proofs.Math.Dec.{T_prop}
+use Rattle.iltypes.specs.declared.range.Range.{Range}
+use Rattle.iltypes.specs.declared.value.Value.{Value}
+use Rattle.iltypes.specs.declared.value.Value.TheVariants as values
+use Rattle.iltypes.specs.Ranges.{Holds, IsWithin}
+use Rattle.iltypes.specs.Arithmetic.{IsMagnitude, IsLeast, Leaves}
+use Rattle.iltypes.proofs.Limits.{holds_low, holds_high}
+use Rattle.iloperators.specs.declared.function.Function.{Function}
+use Rattle.iloperators.specs.declared.function.Function.TheVariants as functions
+use Rattle.iloperators.specs.declared.function.IntegerType.{IntegerType}
+use Rattle.iloperators.specs.declared.function.IntegerType.TheVariants as types
+use Rattle.iloperators.specs.Functions.{value_of_function, least_of, greatest_of}
+use Rattle.ilranges.specs.declared.cause.Cause.{Cause}
+use Rattle.ilranges.specs.declared.cause.Cause.TheVariants.{WrongType, MayBeZero, OutOfRange, TooBig}
+use Rattle.ilranges.specs.declared.known.Known.{Known}
+use Rattle.ilranges.specs.declared.known.Known.TheVariants as knowns
+use Rattle.ilranges.specs.Causes.{number_of, IsLeastCause}
+use Rattle.ilranges.specs.Knowns.{IsKnown}
+use Rattle.ilranges.specs.Functions.{IsGiven, IsAfterFunction, IsWrongTypeFor, IsOutOfType, ArisesAtFunction}
+use Rattle.ilranges.specs.FunctionSteps.{IsFunctionVerdict}
+use Rattle.ilranges.specs.ResultSteps.{verdict}
+use Rattle.ilranges.proofs.Exact.{one_cause, not_both, kind_of_known, example}
+use Rattle.ilranges.proofs.Operations.{number_is, number_none}
+
+-- ---- a function that gives f of all numbers of the range
+
+abbrev pub GivesEach : Function → (ℤ → ℤ) → Range → Type 0
+GivesEach function f range =
+    (x : ℤ) → Holds range x → value_of_function function (values.Int x) ≡ Some (values.Int (f x))
+
+some_of : (function : Function) (f : ℤ → ℤ) (range : Range) → GivesEach function f range → (x : Value)
+    → IsKnown x (knowns.Int range) → IsSome (value_of_function function x)
+some_of function f range g (values.Int x) p = let e = g x p in rw e refl
+some_of function f range g (values.Bool x) p = absurd p
+
+each_of : (function : Function) (f : ℤ → ℤ) (range given : Range) → GivesEach function f range
+    → ((x : ℤ) → Holds range x → Holds given (f x)) → (x value : Value) → IsKnown x (knowns.Int range)
+    → value_of_function function x ≡ Some value → IsKnown value (knowns.Int given)
+each_of function f range given g h (values.Int x) value p e =
+    let k = g x p in
+    let s : values.Int (f x) ≡ value = cc in
+    subst (λ (v : Value). IsKnown v (knowns.Int given)) s (h x p)
+each_of function f range given g h (values.Bool x) value p e = absurd p
+
+after_of : (function : Function) (f : ℤ → ℤ) (range given : Range) → GivesEach function f range
+    → ((x : ℤ) → Holds range x → Holds given (f x))
+    → IsGiven function (knowns.Int range) (values.Int given.lo)
+    → IsGiven function (knowns.Int range) (values.Int given.hi)
+    → IsAfterFunction function (knowns.Int range) (knowns.Int given)
+after_of function f range given g h low high = record {
+  some = some_of function f range g;
+  each = λ value r. each_of function f range given g h r.x value r.of_operand r.is;
+  closest = (low, high);
+}
+
+-- ---- ABS
+
+magnitude_given : (range : Range) (z : ℤ) → GivesEach functions.Abs (λ x. pos (unsigned_abs x)) range
+    → IsMagnitude range z → IsGiven functions.Abs (knowns.Int range) (values.Int z)
+magnitude_given range z g m = record {
+  x = values.Int m.x;
+  of_operand = m.of_range;
+  is = g m.x m.of_range ∙ ap (λ (n : ℤ). Some (values.Int n)) m.is;
+}
+
+abs_takes : (range : Range) → ¬ IsWrongTypeFor functions.Abs (knowns.Int range)
+abs_takes range h = let n = h (values.Int (pos 1)) tt in let k : ⊥ = cc in k
+
+least_too_big : (range : Range) (other : Cause) → ArisesAtFunction functions.Abs (knowns.Int range) other
+    → number_of TooBig ≤ number_of other
+least_too_big range WrongType a = absurd (abs_takes range a)
+least_too_big range MayBeZero a = absurd a
+least_too_big range (OutOfRange f b) a = absurd a
+least_too_big range TooBig a = omega arith
+
+pub abs_of : (range : Range) (o : Option Range) → (IsNone o ↔ Leaves (IsMagnitude range))
+    → IfSome o (IsLeast (IsMagnitude range)) → IsFunctionVerdict functions.Abs (knowns.Int range) (verdict o)
+abs_of range (Some given) none least =
+    let of_range : (x : ℤ) → Holds range x → IsMagnitude range (pos (unsigned_abs x)) = λ x p.
+    record { x = x; of_range = p; is = refl } in
+    let gives : GivesEach functions.Abs (λ x. pos (unsigned_abs x)) range = λ x p.
+    number_is (pos (unsigned_abs x)) (λ out. let n = none.1 (record {
+      number = pos (unsigned_abs x);
+      is = of_range x p;
+      out = out;
+    }) in let k : ⊥ = cc in k) in
+    after_of functions.Abs (λ x. pos (unsigned_abs x)) range given gives
+    (λ x p. least.each (pos (unsigned_abs x)) (of_range x p)) (magnitude_given range given.lo gives least.low)
+    (magnitude_given range given.hi gives least.high)
+abs_of range None none least =
+    let l = none.0 refl in
+    record {
+      arises = record {
+        kind = abs_takes range;
+        x = values.Int l.is.x;
+        of_operand = l.is.of_range;
+        none = number_none (pos (unsigned_abs l.is.x)) (λ h. l.out (subst (FitsSigned w64) l.is.is h));
+      };
+      least = least_too_big range;
+    }
+
+-- ---- conversions
+
+some_if : (b : Bool) (v : Value) → IsTrue b → (if b then Some v else None) ≡ Some v
+some_if true v h = refl
+some_if false v h = cc
+
+of_some : (b : Bool) (v : Value) → IsSome (if b then Some v else None) → IsTrue b
+of_some true v h = refl
+of_some false v h = h
+
+-- the number is of the type
+between : (low high z : ℤ) → low ≤ℤ z → z ≤ℤ high → IsTrue (int_le low z && int_le z high)
+between low high z p q = grind (arith, ints)
+
+low_of : (low high z : ℤ) → IsTrue (int_le low z && int_le z high) → low ≤ℤ z
+low_of low high z h = grind (arith, ints)
+
+high_of : (low high z : ℤ) → IsTrue (int_le low z && int_le z high) → z ≤ℤ high
+high_of low high z h = grind (arith, ints)
+
+pub convert_kept : (type : IntegerType) (found allowed : Range) → allowed.lo ≡ least_of type
+    → allowed.hi ≡ greatest_of type → IsWithin found allowed
+    → IsAfterFunction (functions.Convert type) (knowns.Int found) (knowns.Int found)
+convert_kept type found allowed low high w =
+    let gives : GivesEach (functions.Convert type) (λ x. x) found = λ x p.
+    some_if (int_le (least_of type) x && int_le x (greatest_of type)) (values.Int x)
+    (between (least_of type) (greatest_of type) x (omega (arith, ints, low, w.low, p.low))
+    (omega (arith, ints, high, w.high, p.high))) in
+    after_of (functions.Convert type) (λ x. x) found found gives (λ x p. p)
+    (record { x = values.Int found.lo; of_operand = holds_low found; is = gives found.lo (holds_low found) })
+    (record { x = values.Int found.hi; of_operand = holds_high found; is = gives found.hi (holds_high found) })
+
+convert_takes : (type : IntegerType) (range : Range) → ¬ IsWrongTypeFor (functions.Convert type) (knowns.Int range)
+convert_takes types.Sint range h = let n = h (values.Int (pos 1)) tt in let k : ⊥ = cc in k
+convert_takes types.Int range h = let n = h (values.Int (pos 1)) tt in let k : ⊥ = cc in k
+convert_takes types.Dint range h = let n = h (values.Int (pos 1)) tt in let k : ⊥ = cc in k
+convert_takes types.Usint range h = let n = h (values.Int (pos 1)) tt in let k : ⊥ = cc in k
+convert_takes types.Uint range h = let n = h (values.Int (pos 1)) tt in let k : ⊥ = cc in k
+convert_takes types.Udint range h = let n = h (values.Int (pos 1)) tt in let k : ⊥ = cc in k
+
+least_outside : (type : IntegerType) (range f b : Range) (other : Cause)
+    → ArisesAtFunction (functions.Convert type) (knowns.Int range) other → number_of (OutOfRange f b) ≤ number_of other
+least_outside type range f b WrongType a = absurd (convert_takes type range a)
+least_outside type range f b MayBeZero a = absurd a
+least_outside type range f b (OutOfRange g d) a = omega arith
+least_outside type range f b TooBig a = omega arith
+
+pub convert_refused : (type : IntegerType) (found allowed : Range) → allowed.lo ≡ least_of type
+    → allowed.hi ≡ greatest_of type → ¬ IsWithin found allowed
+    → IsLeastCause (ArisesAtFunction (functions.Convert type) (knowns.Int found)) (OutOfRange found allowed)
+convert_refused type found allowed low high out = record {
+  arises = record { operand_is = refl; low = low; high = high; out = out };
+  least = least_outside type found found allowed;
+}
+
+-- ---- the cause is one
+
+order_prop : (x y : ℤ) → IsProp (x ≤ℤ y)
+order_prop x y = hlevel T_prop
+
+abbrev made : (lo hi : ℤ) → lo ≤ℤ hi → Range
+made lo hi h = record { lo = lo; hi = hi; ordered = h }
+
+made_same : (a b lo hi : ℤ) (h : a ≤ℤ b) (k : lo ≤ℤ hi) → a ≡ lo → b ≡ hi → made a b h ≡ made lo hi k
+made_same a b lo hi h k p q =
+    subst (λ (x : ℤ). (j : x ≤ℤ hi) → made a b h ≡ made x hi j) p
+    (subst (λ (y : ℤ). (j : a ≤ℤ y) → made a b h ≡ made a y j) q (λ j. ap (made a b) (order_prop a b h j))) k
+
+-- ranges of equal limits are the same
+pub same_range : (a b : Range) → a.lo ≡ b.lo → a.hi ≡ b.hi → a ≡ b
+same_range a b p q = made_same a.lo a.hi b.lo b.hi a.ordered b.ordered p q
+
+same_outside : (function : Function) (operand : Known) (f a g b : Range)
+    → ArisesAtFunction function operand (OutOfRange f a) → ArisesAtFunction function operand (OutOfRange g b)
+    → OutOfRange f a ≡ OutOfRange g b
+same_outside (functions.Convert type) operand f a g b p q =
+    let s = p.operand_is in
+    let t = q.operand_is in
+    let found : f ≡ g = cc in
+    let allowed = same_range a b (p.low ∙ sym q.low) (p.high ∙ sym q.high) in
+    cc
+same_outside functions.Not operand f a g b p q = absurd p
+same_outside functions.Abs operand f a g b p q = absurd p
+
+within_of : (type : IntegerType) (operand : Known) (f a : Range)
+    → ((x : Value) → IsKnown x operand → IsSome (value_of_function (functions.Convert type) x))
+    → ¬ IsOutOfType type operand f a
+within_of type knowns.Bool f a h o = let e = o.operand_is in absurd (cc)
+within_of type (knowns.Int r) f a h o =
+    let e = o.operand_is in
+    let s : r ≡ f = cc in
+    let l = of_some (int_le (least_of type) r.lo && int_le r.lo (greatest_of type)) (values.Int r.lo)
+    (h (values.Int r.lo) (holds_low r)) in
+    let u = of_some (int_le (least_of type) r.hi && int_le r.hi (greatest_of type)) (values.Int r.hi)
+    (h (values.Int r.hi) (holds_high r)) in
+    let p = low_of (least_of type) (greatest_of type) r.lo l in
+    let q = high_of (least_of type) (greatest_of type) r.hi u in
+    let w : IsWithin r a = record {
+      low = omega (arith, ints, o.low, p);
+      high = omega (arith, ints, o.high, q);
+    } in
+    o.out (subst (λ (x : Range). IsWithin x a) s w)
+
+no_cause : (function : Function) (operand known : Known) → IsAfterFunction function operand known → (cause : Cause)
+    → ¬ ArisesAtFunction function operand cause
+no_cause function operand known h WrongType a =
+    let x = example operand in
+    not_both (value_of_function function x.0) (h.some x.0 x.1) (a x.0 (kind_of_known x.0 operand x.1))
+no_cause function operand known h MayBeZero a = a
+no_cause (functions.Convert type) operand known h (OutOfRange f b) a = within_of type operand f b h.some a
+no_cause functions.Not operand known h (OutOfRange f b) a = a
+no_cause functions.Abs operand known h (OutOfRange f b) a = a
+no_cause (functions.Convert type) operand known h TooBig a = a
+no_cause functions.Not operand known h TooBig a =
+    not_both (value_of_function functions.Not a.x) (h.some a.x a.of_operand) a.none
+no_cause functions.Abs operand known h TooBig a =
+    not_both (value_of_function functions.Abs a.x) (h.some a.x a.of_operand) a.none
+
+pub function_refused : (function : Function) (operand : Known) (result : Result Known Cause)
+    → IsFunctionVerdict function operand result → (cause : Cause)
+    → (result ≡ Err cause) ↔ IsLeastCause (ArisesAtFunction function operand) cause
+function_refused function operand (Ok known) h cause =
+    (λ e. let k : ⊥ = cc in absurd k, λ l. absurd (no_cause function operand known h cause l.arises))
+function_refused function operand (Err c) h cause = (
+  λ e. let q : c ≡ cause = cc in subst (IsLeastCause (ArisesAtFunction function operand)) q h,
+  λ l.
+      ap (λ (w : Cause). Err w)
+      (one_cause (ArisesAtFunction function operand) c cause (same_outside function operand) h l),
+)

@@ -1,0 +1,8 @@
+use Rattle.ilranges.proofs.Monotone.{order, refusals}
+use Rattle.ilranges.proofs.law.more_known_before_is_more_known_after.Goals as goal
+
+pub returns-clause-order : goal.returns-clause-order
+returns-clause-order c = order
+
+pub returns-clause-refusals : goal.returns-clause-refusals
+returns-clause-refusals c = refusals

@@ -1,0 +1,12 @@
+-- What the steps of Known::after_function give.
+use Rattle.std.specs.Prelude.{Result, Ok, Err}
+use Rattle.iloperators.specs.declared.function.Function.{Function}
+use Rattle.ilranges.specs.declared.cause.Cause.{Cause}
+use Rattle.ilranges.specs.declared.known.Known.{Known}
+use Rattle.ilranges.specs.Causes.{IsLeastCause}
+use Rattle.ilranges.specs.Functions.{IsAfterFunction, ArisesAtFunction}
+
+-- what is known after the function, or the least cause
+abbrev pub IsFunctionVerdict : Function → Known → Result Known Cause → Type 0
+IsFunctionVerdict function operand (Ok known) = IsAfterFunction function operand known
+IsFunctionVerdict function operand (Err cause) = IsLeastCause (ArisesAtFunction function operand) cause

@@ -1,0 +1,157 @@
+//! The numbers of a range that pass a comparison.
+
+ghost use Rattle.std.specs.Prelude.{◌≡◌, ◌↔◌, ℤ, ◌≤ℤ◌, ◌<ℤ◌, IsNone, IfSome};
+ghost use Rattle.iltypes.specs.Arithmetic.{IsLeast};
+ghost use Rattle.ilranges.specs.Passing.{IsPassing};
+ghost use Rattle.ilranges.specs.PassingSteps.{IsLeastOf, IsKept};
+
+use iloperators::Operator;
+use iltypes::Range;
+
+/// The least range of the numbers of `range` for which `number OP limit` has this outcome
+/// (IEC 61131-3, 3.2.2), or `None` where there is no such number, as for an operator that does not
+/// compare. EQ keeps the limit alone, and NE takes it off an end of the range.
+pub fn passing(range: Range, comparison: Operator, limit: i64, outcome: bool) -> Option<Range>
+    ensures none { IsNone result ↔ ((number : ℤ) → ¬ IsPassing comparison outcome limit range number) }
+    ensures least { IfSome result (IsLeast (IsPassing comparison outcome limit range)) }
+{
+    pass(range, comparison, limit, outcome)
+}
+
+/// The numbers that pass.
+fn pass(range: Range, comparison: Operator, limit: i64, outcome: bool) -> Option<Range>
+    ensures { IsLeastOf (IsPassing comparison outcome limit range) result }
+{
+    match comparison {
+        Operator::Gt => {
+            if outcome {
+                above(range, limit)
+            } else {
+                up_to(range, limit)
+            }
+        }
+        Operator::Ge => {
+            if outcome {
+                from(range, limit)
+            } else {
+                below(range, limit)
+            }
+        }
+        Operator::Eq => {
+            if outcome {
+                only(range, limit)
+            } else {
+                without_end(range, limit)
+            }
+        }
+        Operator::Ne => {
+            if outcome {
+                without_end(range, limit)
+            } else {
+                only(range, limit)
+            }
+        }
+        Operator::Le => {
+            if outcome {
+                up_to(range, limit)
+            } else {
+                above(range, limit)
+            }
+        }
+        Operator::Lt => {
+            if outcome {
+                below(range, limit)
+            } else {
+                from(range, limit)
+            }
+        }
+        Operator::And { .. }
+        | Operator::Or { .. }
+        | Operator::Xor { .. }
+        | Operator::Add
+        | Operator::Sub
+        | Operator::Mul
+        | Operator::Div
+        | Operator::Mod
+        | Operator::Min
+        | Operator::Max => None,
+    }
+}
+
+/// The numbers below a limit.
+fn below(range: Range, limit: i64) -> Option<Range>
+    ensures { IsKept (λ z. z <ℤ limit) range result }
+{
+    if limit <= range.lo {
+        return None;
+    }
+    Some(Range {
+        lo: range.lo,
+        hi: range.hi.min(limit - 1),
+    })
+}
+
+/// The numbers from a limit on.
+fn from(range: Range, limit: i64) -> Option<Range>
+    ensures { IsKept (λ z. limit ≤ℤ z) range result }
+{
+    if range.hi < limit {
+        return None;
+    }
+    Some(Range {
+        lo: range.lo.max(limit),
+        hi: range.hi,
+    })
+}
+
+/// The numbers above a limit.
+fn above(range: Range, limit: i64) -> Option<Range>
+    ensures { IsKept (λ z. limit <ℤ z) range result }
+{
+    if range.hi <= limit {
+        return None;
+    }
+    Some(Range {
+        lo: range.lo.max(limit + 1),
+        hi: range.hi,
+    })
+}
+
+/// The numbers up to a limit.
+fn up_to(range: Range, limit: i64) -> Option<Range>
+    ensures { IsKept (λ z. z ≤ℤ limit) range result }
+{
+    if limit < range.lo {
+        return None;
+    }
+    Some(Range {
+        lo: range.lo,
+        hi: range.hi.min(limit),
+    })
+}
+
+/// The limit alone, where the range holds it.
+fn only(range: Range, limit: i64) -> Option<Range>
+    ensures { IsKept (λ z. z ≡ limit) range result }
+{
+    if limit < range.lo || range.hi < limit {
+        return None;
+    }
+    Some(Range {
+        lo: limit,
+        hi: limit,
+    })
+}
+
+/// The numbers but the limit, which matters where it is an end of the range.
+fn without_end(range: Range, limit: i64) -> Option<Range>
+    ensures { IsKept (λ z. ¬ (z ≡ limit)) range result }
+{
+    if limit == range.lo {
+        return above(range, limit);
+    }
+    if limit == range.hi {
+        return below(range, limit);
+    }
+    Some(range)
+}

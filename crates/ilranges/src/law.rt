@@ -1,0 +1,11 @@
+//! A law of what is known after an operator.
+
+ghost use Rattle.iloperators.specs.declared.operator.Operator.{Operator};
+ghost use Rattle.ilranges.specs.Laws.{KeepsOrder, KeepsRefusals};
+
+/// Who knows more before an operator knows more after it, and is refused only where who knows less
+/// is refused too. It does nothing: its contract is the law.
+pub fn more_known_before_is_more_known_after()
+    ensures order { (operator : Operator) → KeepsOrder operator }
+    ensures refusals { (operator : Operator) → KeepsRefusals operator }
+{}
