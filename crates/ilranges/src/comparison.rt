@@ -12,7 +12,7 @@ use iltypes::Range;
 /// (IEC 61131-3, 3.2.2), or `None` where there is no such number, as for an operator that does not
 /// compare. EQ keeps the limit alone, and NE takes it off an end of the range.
 pub fn passing(range: Range, comparison: Operator, limit: i64, outcome: bool) -> Option<Range>
-    ensures none { IsNone result ↔ ((number : ℤ) → ¬ IsPassing comparison outcome limit range number) }
+    ensures none { IsNone result ↔ ((z : ℤ) → ¬ IsPassing comparison outcome limit range z) }
     ensures least { IfSome result (IsLeast (IsPassing comparison outcome limit range)) }
 {
     pass(range, comparison, limit, outcome)

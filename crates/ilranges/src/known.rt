@@ -42,7 +42,7 @@ impl Known {
     /// of the type. Else the kinds differ, or the range is not within the type's.
     pub fn check_store(self, declared: IlType) -> Result<(), Cause>
         ensures ok { IsOk result ↔ ((value : Value) → IsKnown value self → IsOf value declared) }
-        ensures refused { (cause : Cause) → (result ≡ Err cause) ↔ ArisesAtStore self declared cause }
+        ensures refused { (c : Cause) → (result ≡ Err c) ↔ ArisesAtStore self declared c }
     {
         match (self, declared) {
             (Known::Bool, IlType::Bool) => Ok(()),
