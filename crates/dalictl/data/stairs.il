@@ -1,6 +1,6 @@
-(* A stairwell: the light burns where one of two switches stands otherwise
-   than the other, unless the caretaker has locked it.
-   Each scan tells whether the light came on or went out in it. *)
+(* A stairwell: the light is on when the two switches differ,
+   unless the caretaker has locked it.
+   `changed` is TRUE in a scan in which the light came on or went out. *)
 PROGRAM stairs
 VAR
   lower, upper : BOOL;          (* the two switches *)

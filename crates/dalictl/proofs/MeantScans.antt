@@ -123,7 +123,7 @@ module _ (buses : ℕ) (bytes : List ℕ) (setup : Loaded) (is : IsSetup buses b
 
   pub stepped : (name : List ℕ) → IsFirstCalled setup.plan name number → IsStepped buses bytes name scans every (run_of setup number each values)
   stepped name called = record {
-    setup = is;
+    loaded = is;
     task = called;
     values = subst (λ (ss : List Slot). ScansMean tree scans (store_of tree (map (λ (s : Slot). s.initial) ss)) (store_of tree values)) of_tree.slots done.values;
     many_values = long ∙ ap (λ (ss : List Slot). length ss) of_tree.slots;

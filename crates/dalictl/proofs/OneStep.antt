@@ -99,7 +99,7 @@ module _ (buses : ℕ) (bytes : List ℕ) where
   module _ (name : List ℕ) (scans every : ℕ) where
     same_steps : (a b : Run) → IsStepped buses bytes name scans every a → IsStepped buses bytes name scans every b → a ≡ b
     same_steps a b h g =
-        let setup : a.setup ≡ b.setup = same_setup buses bytes a.setup b.setup h.setup g.setup in
+        let setup : a.setup ≡ b.setup = same_setup buses bytes a.setup b.setup h.loaded g.loaded in
         let called : IsFirstCalled b.setup.plan name a.task = subst (λ (s : Loaded). IsFirstCalled s.plan name a.task) setup h.task in
         let task : a.task ≡ b.task = same_task b.setup.plan name a.task b.task called g.task in
         let runs : AreScansOf b.setup b.task scans every a.each a.values =
@@ -111,7 +111,7 @@ module _ (buses : ℕ) (bytes : List ℕ) where
     -- where a plan has no task of the name, no setup of the text has one
     no_task : (a : Run) → IsStepped buses bytes name scans every a → (plan : Planned) → IsPlanOfText buses bytes plan → NoneIsCalled plan name → ⊥
     no_task a h plan p none =
-        let same : a.setup.plan ≡ plan = same_plan buses bytes a.setup.plan plan h.setup.plan p in
+        let same : a.setup.plan ≡ plan = same_plan buses bytes a.setup.plan plan h.loaded.plan p in
         let called : IsFirstCalled plan name a.task = subst (λ (x : Planned). IsFirstCalled x name a.task) same h.task in
         none a.task called.within called.is
 
@@ -128,11 +128,11 @@ module _ (buses : ℕ) (bytes : List ℕ) where
 
     pub one_step : (a b : Result Run Stop) → IsStep buses bytes name scans every a → IsStep buses bytes name scans every b → a ≡ b
     one_step (Ok a) (Ok b) h g = ap Ok (same_steps a b h g)
-    one_step (Ok a) (Err (Load y)) h g = absurd (no_fault buses bytes a.setup y h.setup g.0)
+    one_step (Ok a) (Err (Load y)) h g = absurd (no_fault buses bytes a.setup y h.loaded g.0)
     one_step (Ok a) (Err (NoTask y)) h g = absurd (no_task a h g.1.0 g.1.1 g.1.2)
     one_step (Ok a) (Err Memory) h g = absurd g
     one_step (Ok a) (Err (Binding y)) h g = absurd g
-    one_step (Err (Load x)) (Ok b) h g = absurd (no_fault buses bytes b.setup x g.setup h.0)
+    one_step (Err (Load x)) (Ok b) h g = absurd (no_fault buses bytes b.setup x g.loaded h.0)
     one_step (Err (Load x)) (Err (Load y)) h g = ap (λ (f : LoadFault). Err (Load f)) (same_fault buses bytes x y h.0 g.0)
     one_step (Err (Load x)) (Err (NoTask y)) h g = absurd (no_task_or_fault x h.0 h.1 g.1.0 g.1.1 g.1.2)
     one_step (Err (Load x)) (Err Memory) h g = absurd g

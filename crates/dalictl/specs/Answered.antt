@@ -29,10 +29,10 @@ IsCalled plan name task =
 pub record IsFirstCalled (plan : Planned) (name : List ℕ) (task : ℕ) : Type 0 where
   pub within : task < length plan.tasks
   pub is : IsCalled plan name task
-  pub first : (k : ℕ) → k < task → IsCalled plan name k → ⊥
+  pub first : (k : ℕ) → k < task → ¬ (IsCalled plan name k)
 
 abbrev pub NoneIsCalled : Planned → List ℕ → Type 0
-NoneIsCalled plan name = (k : ℕ) → k < length plan.tasks → IsCalled plan name k → ⊥
+NoneIsCalled plan name = (k : ℕ) → k < length plan.tasks → ¬ (IsCalled plan name k)
 
 -- ---- what stands against a text
 
@@ -80,11 +80,11 @@ initial_values_of tree = map (λ s. s.initial) (slots_of tree.programs)
 -- the variables after this many scans of the text, so many milliseconds apart, from their initial values, with the
 -- steps of each scan, which are those of the task's code from the variables before it and at most the code's bound
 pub record IsStepped (buses : ℕ) (bytes name : List ℕ) (scans every : ℕ) (made : Run) : Type 0 where
-  pub setup : IsSetup buses bytes made.setup
+  pub loaded : IsSetup buses bytes made.setup
   pub task : IsFirstCalled made.setup.plan name made.task
-  pub values : ScansMean setup.plan.tree scans (store_of setup.plan.tree (initial_values_of setup.plan.tree))
-      (store_of setup.plan.tree made.values)
-  pub many_values : length made.values ≡ length (slots_of setup.plan.tree.programs)
+  pub values : ScansMean loaded.plan.tree scans (store_of loaded.plan.tree (initial_values_of loaded.plan.tree))
+      (store_of loaded.plan.tree made.values)
+  pub many_values : length made.values ≡ length (slots_of loaded.plan.tree.programs)
   pub many : length made.each ≡ scans
   pub runs : AreScansOf made.setup made.task scans every made.each made.values
   pub few : All (λ taken. taken.steps ≤ runs.code.bound) made.each

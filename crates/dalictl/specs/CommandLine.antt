@@ -75,7 +75,7 @@ pub record AreScans (found : List Row) (task : Bor Text) (scans every : ℕ) : T
 abbrev pub IsOfCommand : Text → List Row → Invocation → Type 0
 IsOfCommand name found (Check files) = (name ≡ codes "check") × AreFiles found files
 IsOfCommand name found (Step files task scans every) =
-    (name ≡ codes "check" → ⊥) × AreFiles found files × AreScans found task scans every
+    ¬ (name ≡ codes "check") × AreFiles found files × AreScans found task scans every
 
 -- the words spell the invocation
 abbrev pub IsInvocation : List Text → Invocation → Type 0

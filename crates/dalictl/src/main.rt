@@ -2,8 +2,9 @@
 //!
 //! A thin shell round proved calls: `options` reads the command line with `clap`
 //! (specs/CommandLine.antt), `serve` reads the files that it names, asks `answers`
-//! (specs/Responses.antt), and has `report` print the answer on a writer (specs/Served.antt, the
-//! definition to read first). How the program ends is an `Outcome`, with one exit status each. No
+//! (specs/Responses.antt), and has `report` print the answer on a writer. The definition to read
+//! first is `IsStepped` (specs/Answered.antt), what `step` answers; the outermost one is `IsServed`
+//! (specs/Served.antt). How the program ends is an `Outcome`, with one exit status each. No
 //! contract can say which bytes the machine's disk gives, or what becomes of those that its
 //! terminal takes.
 #![tactic(auto)]

@@ -132,7 +132,7 @@ fn check<'a>(alloc: Global) -> Result<Command<'a>, AllocError>
     ensures local { IfOk result (λ c. (out-Command c).has_globals ≡ false) }
 {
     Command::new(alloc, "check")
-        .about("Tells for each task its words and the bound of a scan, or the first fault")
+        .about("Prints for each task its words and the bound of a scan, or the first fault")
         .arg(text(alloc))?
         .arg(binding(alloc))
 }
@@ -149,7 +149,7 @@ fn step_files<'a>(alloc: Global) -> Result<Command<'a>, AllocError>
     ensures local { IfOk result (λ c. (out-Command c).has_globals ≡ false) }
 {
     Command::new(alloc, "step")
-        .about("Runs scans of one task and tells its variables")
+        .about("Runs scans of one task and prints its variables")
         .arg(text(alloc))?
         .arg(task(alloc))?
         .arg(binding(alloc))

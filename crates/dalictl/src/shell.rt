@@ -14,7 +14,8 @@ pub fn run<R: Files + Env + Print + Eprint + AllocGlobal>(rt: &R) -> Outcome {
         Ok(words) => run_words(rt, words.as_slice()),
         Err(error) => match error.kind() {
             io::ErrorKind::OutOfMemory => no_memory(rt),
-            _ => not_text(rt),
+            io::ErrorKind::InvalidData => not_text(rt),
+            _ => Outcome::Failed,
         },
     }
 }
@@ -23,7 +24,7 @@ pub fn run<R: Files + Env + Print + Eprint + AllocGlobal>(rt: &R) -> Outcome {
 ///
 /// # Errors
 ///
-/// One of them isn't UTF-8, or the allocator is out of memory.
+/// One of them isn't UTF-8 (`InvalidData`), the allocator is out of memory, or they can't be read.
 fn words<R: Env + AllocGlobal>(rt: &R) -> io::Result<Vec<String>> {
     let mut words = Vec::new(rt.alloc());
     for word in env::args(rt)? {
@@ -78,11 +79,12 @@ fn no_memory<R: Print>(rt: &R) -> Outcome {
     Outcome::Failed
 }
 
-/// The outcome, where what it goes with was printed.
+/// The outcome, where what it goes with was printed. Wrong usage is wrong usage also where the
+/// message of it can't be printed.
 fn printed<R: Print>(rt: &R, done: io::Result<()>, outcome: Outcome) -> Outcome {
-    match done {
-        Ok(()) => outcome,
-        Err(error) => match error.kind() {
+    match (done, outcome) {
+        (Ok(()), _) | (Err(_), Outcome::Misused) => outcome,
+        (Err(error), _) => match error.kind() {
             io::ErrorKind::OutOfMemory => no_memory(rt),
             _ => Outcome::Failed,
         },

@@ -19,8 +19,10 @@ pub struct Machine<'a> {
     pub words: &'a [&'a [u8]],
     pub text: &'a [u8],
     pub binding: &'a [u8],
-    /// Whether the terminal takes no more.
-    pub is_full: bool,
+    /// Why standard output takes nothing, if it doesn't.
+    pub output_fails: Option<io::ErrorKind>,
+    /// Why standard error takes nothing, if it doesn't.
+    pub error_fails: Option<io::ErrorKind>,
     /// What was printed.
     pub printed: RefCell<Vec<u8>>,
     /// What was printed on standard error.
@@ -47,35 +49,35 @@ impl<'a> Machine<'a> {
             words,
             text,
             binding,
-            is_full: false,
+            output_fails: None,
+            error_fails: None,
             printed: RefCell::new(Vec::new(alloc)),
             complained: RefCell::new(Vec::new(alloc)),
         }
     }
 
-    /// Shows a value, unless the terminal is full.
-    fn show<D: Display + Drop>(
-        &self,
-        on: &RefCell<Vec<u8>>,
-        value: D,
-        end: &str,
-    ) -> io::Result<()> {
-        let text = format!(in self.alloc; "{value}{end}")?;
-        self.add(on, text.as_bytes())
+    /// Prints bytes on standard output, unless it fails.
+    fn print_bytes(&self, bytes: &[u8]) -> io::Result<()> {
+        add(&self.printed, self.output_fails, bytes)
     }
 
-    /// Adds bytes to what was shown, unless the terminal is full.
-    fn add(&self, on: &RefCell<Vec<u8>>, bytes: &[u8]) -> io::Result<()> {
-        if self.is_full {
-            return Err(io::Error::from(io::ErrorKind::StorageFull));
-        }
-        match on.try_borrow_mut() {
+    /// Prints bytes on standard error, unless it fails.
+    fn complain(&self, bytes: &[u8]) -> io::Result<()> {
+        add(&self.complained, self.error_fails, bytes)
+    }
+}
+
+/// Adds bytes to what an output has shown, unless it fails.
+fn add(on: &RefCell<Vec<u8>>, fails: Option<io::ErrorKind>, bytes: &[u8]) -> io::Result<()> {
+    match fails {
+        Some(kind) => Err(io::Error::from(kind)),
+        None => match on.try_borrow_mut() {
             Ok(mut shown) => {
                 shown.extend_from_slice(bytes)?;
                 Ok(())
             }
             Err(_) => Err(io::Error::from(io::ErrorKind::Other)),
-        }
+        },
     }
 }
 
@@ -131,25 +133,29 @@ impl Env for Machine<'_> {
 
 impl Print for Machine<'_> {
     fn print<D: Display + Drop>(&self, value: D) -> io::Result<()> {
-        self.show(&self.printed, value, "")
+        let text = format!(in self.alloc; "{value}")?;
+        self.print_bytes(text.as_bytes())
     }
 
     fn println<D: Display + Drop>(&self, value: D) -> io::Result<()> {
-        self.show(&self.printed, value, "\n")
+        let text = format!(in self.alloc; "{value}\n")?;
+        self.print_bytes(text.as_bytes())
     }
 
     fn write_all(&self, bytes: &[u8]) -> io::Result<()> {
-        self.add(&self.printed, bytes)
+        self.print_bytes(bytes)
     }
 }
 
 impl Eprint for Machine<'_> {
     fn eprint<D: Display + Drop>(&self, value: D) -> io::Result<()> {
-        self.show(&self.complained, value, "")
+        let text = format!(in self.alloc; "{value}")?;
+        self.complain(text.as_bytes())
     }
 
     fn eprintln<D: Display + Drop>(&self, value: D) -> io::Result<()> {
-        self.show(&self.complained, value, "\n")
+        let text = format!(in self.alloc; "{value}\n")?;
+        self.complain(text.as_bytes())
     }
 }
 

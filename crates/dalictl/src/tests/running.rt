@@ -2,7 +2,7 @@
 
 use super::machine::{Machine, mentions, shows};
 use crate::shell::run;
-use std::test::Fail;
+use std::io::ErrorKind;
 
 const ACCEPTED: &[u8] = b"PROGRAM p\nVAR a : BOOL; END_VAR\nLDN a\nST a\nEND_PROGRAM\n";
 
@@ -19,7 +19,7 @@ struct Row {
     complained: &'static str,
 }
 
-const ROWS: [Row; 9] = [
+const ROWS: [Row; 10] = [
     Row {
         words: &[b"dalictl", b"check", b"text"],
         text: ACCEPTED,
@@ -83,6 +83,13 @@ const ROWS: [Row; 9] = [
         printed: "no memory\n",
         complained: "",
     },
+    Row {
+        words: &[b"dalictl", b"check", b"\xff"],
+        text: ACCEPTED,
+        status: 2,
+        printed: "",
+        complained: "error: an argument is not UTF-8\n",
+    },
 ];
 
 #[test]
@@ -102,7 +109,7 @@ fn each_end_has_its_status(rt: HostRuntime) {
 
 #[test]
 fn wrong_usage_is_explained_on_standard_error(rt: HostRuntime) {
-    let lines: [&[&[u8]]; 7] = [
+    let lines: [&[&[u8]]; 6] = [
         &[b"dalictl"],
         &[b"dalictl", b"check"],
         &[b"dalictl", b"verify", b"text"],
@@ -116,7 +123,6 @@ fn wrong_usage_is_explained_on_standard_error(rt: HostRuntime) {
             b"--every",
             b"4294967296",
         ],
-        &[b"dalictl", b"check", b"\xff"],
     ];
     for (row, words) in lines.iter().enumerate() {
         let machine = Machine::new(rt.alloc(), words, ACCEPTED, b"");
@@ -130,7 +136,13 @@ fn wrong_usage_is_explained_on_standard_error(rt: HostRuntime) {
 fn help_is_printed_with_the_limits(rt: HostRuntime) {
     let machine = Machine::new(rt.alloc(), &[b"dalictl", b"--help"], b"", b"");
     assert!(rt; run(&machine).status() == 0);
-    assert!(rt; mentions(&machine.printed, "check") && mentions(&machine.printed, "step"));
+    assert!(rt;
+        mentions(
+            &machine.printed,
+            "Prints for each task its words and the bound of a scan, or the first fault"
+        )
+    );
+    assert!(rt; mentions(&machine.printed, "Runs scans of one task and prints its variables"));
     assert!(rt; shows(&machine.complained, ""));
     let machine = Machine::new(rt.alloc(), &[b"dalictl", b"step", b"--help"], b"", b"");
     assert!(rt; run(&machine).status() == 0);
@@ -148,16 +160,147 @@ fn help_is_printed_with_the_limits(rt: HostRuntime) {
     );
 }
 
+/// A command line over a terminal whose outputs may fail, with the exit status, what is printed
+/// and a part of what is printed on standard error.
+#[derive(Clone, Copy)]
+struct Failing {
+    words: &'static [&'static [u8]],
+    output: Option<ErrorKind>,
+    error: Option<ErrorKind>,
+    status: u8,
+    printed: &'static str,
+    complained: &'static str,
+}
+
+const FULL: Option<ErrorKind> = Some(ErrorKind::StorageFull);
+
+const STARVED: Option<ErrorKind> = Some(ErrorKind::OutOfMemory);
+
+const FAILING: [Failing; 14] = [
+    Failing {
+        words: &[b"dalictl", b"check", b"text"],
+        output: FULL,
+        error: None,
+        status: 3,
+        printed: "",
+        complained: "",
+    },
+    Failing {
+        words: &[b"dalictl", b"step", b"text", b"main"],
+        output: FULL,
+        error: None,
+        status: 3,
+        printed: "",
+        complained: "",
+    },
+    Failing {
+        words: &[b"dalictl", b"--help"],
+        output: FULL,
+        error: None,
+        status: 3,
+        printed: "",
+        complained: "",
+    },
+    Failing {
+        words: &[b"dalictl", b"check", b"text"],
+        output: None,
+        error: FULL,
+        status: 0,
+        printed: "task main words 2 bound 2\n",
+        complained: "",
+    },
+    Failing {
+        words: &[b"dalictl", b"check", b"none"],
+        output: FULL,
+        error: None,
+        status: 3,
+        printed: "",
+        complained: "cannot read none\n",
+    },
+    Failing {
+        words: &[b"dalictl", b"check", b"none"],
+        output: None,
+        error: FULL,
+        status: 3,
+        printed: "",
+        complained: "",
+    },
+    // Wrong usage is wrong usage, whether or not it can be said.
+    Failing {
+        words: &[b"dalictl", b"verify", b"text"],
+        output: None,
+        error: FULL,
+        status: 2,
+        printed: "",
+        complained: "",
+    },
+    Failing {
+        words: &[b"dalictl", b"verify", b"text"],
+        output: FULL,
+        error: None,
+        status: 2,
+        printed: "",
+        complained: "verify",
+    },
+    Failing {
+        words: &[b"dalictl", b"check", b"\xff"],
+        output: None,
+        error: FULL,
+        status: 2,
+        printed: "",
+        complained: "",
+    },
+    Failing {
+        words: &[b"dalictl", b"verify", b"text"],
+        output: None,
+        error: STARVED,
+        status: 2,
+        printed: "",
+        complained: "",
+    },
+    // Where standard error is out of memory, standard output says so if it can.
+    Failing {
+        words: &[b"dalictl", b"check", b"none"],
+        output: None,
+        error: STARVED,
+        status: 3,
+        printed: "no memory\n",
+        complained: "",
+    },
+    Failing {
+        words: &[b"dalictl", b"check", b"none"],
+        output: STARVED,
+        error: STARVED,
+        status: 3,
+        printed: "",
+        complained: "",
+    },
+    Failing {
+        words: &[b"dalictl", b"check", b"text"],
+        output: STARVED,
+        error: None,
+        status: 3,
+        printed: "",
+        complained: "",
+    },
+    Failing {
+        words: &[b"dalictl", b"check", b"starved"],
+        output: FULL,
+        error: None,
+        status: 3,
+        printed: "",
+        complained: "",
+    },
+];
+
 #[test]
-fn a_full_device_is_a_failure(rt: HostRuntime) {
-    let lines: [&[&[u8]]; 3] = [
-        &[b"dalictl", b"check", b"text"],
-        &[b"dalictl", b"step", b"text", b"main"],
-        &[b"dalictl", b"--help"],
-    ];
-    for (row, words) in lines.iter().enumerate() {
-        let mut machine = Machine::new(rt.alloc(), words, ACCEPTED, b"");
-        machine.is_full = true;
-        assert!(rt; run(&machine).status() == 3, "row {row}");
+fn an_output_that_fails_has_its_status(rt: HostRuntime) {
+    for (number, row) in FAILING.iter().enumerate() {
+        let mut machine = Machine::new(rt.alloc(), row.words, ACCEPTED, b"");
+        machine.output_fails = row.output;
+        machine.error_fails = row.error;
+        assert!(rt; run(&machine).status() == row.status, "row {number}");
+        assert!(rt; shows(&machine.printed, row.printed), "row {number}");
+        assert!(rt; mentions(&machine.complained, row.complained), "row {number}");
     }
 }
