@@ -1,6 +1,7 @@
 //! What a text is answered: its setup, or the variables after scans of a task.
 
-ghost use Rattle.std.specs.Prelude.{◌≡◌, ◌<◌, length, map, slice_get, Result, IfErr, IfOk, IfSome, MatchOption};
+ghost use Rattle.std.specs.Prelude.{◌≡◌, ◌<◌, length, map, slice_get, Result, IfErr, IfOk, IfSome};
+ghost use Rattle.std.specs.Prelude.{MatchOption};
 ghost use Rattle.ilsyms.specs.Plans.{KeepsLimits};
 ghost use Rattle.std.specs.Option.{option_copied};
 ghost use Rattle.plantload.specs.Loaded.{Loaded};

@@ -68,8 +68,8 @@ impl Stepped {
         ensures number { result.number ≡ number }
         ensures steps { option_map (λ taken. taken.steps) (slice_get self.now.each number)
             ≡ Some result.steps }
-        ensures bound { option_map (λ code. code.bound) (slice_get self.now.setup.codes self.now.task)
-            ≡ Some result.bound }
+        ensures bound { option_map (λ code. code.bound)
+            (slice_get self.now.setup.codes self.now.task) ≡ Some result.bound }
     {
         ScanLine {
             number,
@@ -101,8 +101,8 @@ pub fn task_line(setup: &Setup, task: usize) -> TaskLine<'_>
     requires { task < length setup.now.plan.tasks }
     ensures name { option_map (λ t. t.name) (slice_get setup.now.plan.tasks task)
         ≡ Some result.name.now }
-    ensures words { option_map (λ code. length code.code.instructions) (slice_get setup.now.codes task)
-        ≡ Some result.words }
+    ensures words { option_map (λ code. length code.code.instructions)
+        (slice_get setup.now.codes task) ≡ Some result.words }
     ensures bound { option_map (λ code. code.bound) (slice_get setup.now.codes task)
         ≡ Some result.bound }
 {

@@ -142,7 +142,12 @@ fn help_is_printed_with_the_limits(rt: HostRuntime) {
             "Prints for each task its words and the bound of a scan, or the first fault"
         )
     );
-    assert!(rt; mentions(&machine.printed, "Runs scans of one task and prints its variables"));
+    assert!(rt;
+        mentions(
+            &machine.printed,
+            "Runs scans of one task and prints its variables"
+        )
+    );
     assert!(rt; shows(&machine.complained, ""));
     let machine = Machine::new(rt.alloc(), &[b"dalictl", b"step", b"--help"], b"", b"");
     assert!(rt; run(&machine).status() == 0);
@@ -301,6 +306,9 @@ fn an_output_that_fails_has_its_status(rt: HostRuntime) {
         machine.error_fails = row.error;
         assert!(rt; run(&machine).status() == row.status, "row {number}");
         assert!(rt; shows(&machine.printed, row.printed), "row {number}");
-        assert!(rt; mentions(&machine.complained, row.complained), "row {number}");
+        assert!(rt;
+            mentions(&machine.complained, row.complained),
+            "row {number}"
+        );
     }
 }
