@@ -1,18 +1,20 @@
--- What is gathered is what stands in the source program.
-use Rattle.std.proofs.Common.{◌≡◌, ℕ, suc, List, [], ◌∷◌, ◌++◌, map, Bool, true, false, refl, ap, sym, ◌∙◌, subst, ◌⊎◌, inl, inr}
-use Rattle.std.specs.Prelude.{Option, Some, None, fold, flat_map, option_map, is_some, bytes_eq, IsTrue, ◌↔◌, if◌then◌else◌}
+-- Which names a table has, and where a name is given again.
+use Rattle.std.proofs.Common.{◌≡◌, ℕ, suc, ◌+◌, ◌<◌, List, [], ◌∷◌, ◌++◌, map, length, take, get_or, Bool, true, false, refl, ap, sym, ◌∙◌, subst, ◌⊎◌, inl, inr}
+use Rattle.std.specs.Prelude.{Option, Some, None, fold, option_map, is_some, bytes_eq, IsTrue, IsSome, ◌↔◌, if◌then◌else◌}
 use Rattle.std.proofs.lemmas.Slice.Eq.{bytes_eq-Decides}
+use Rattle.std.proofs.lemmas.List.{get_or_default}
 use Rattle.ilsource.specs.declared.name.Name.{Name}
 use Rattle.ilsource.specs.Names.{folded, text_of, SameName}
-use Rattle.ilsource.specs.Trees.{Variables, Written, Tree}
+use Rattle.ilsource.specs.Trees.{Written}
 use Rattle.ilscope.specs.Declarations.{variables_of}
-use Rattle.ilscope.specs.Faults.{SomeOf, SomeLater, IsTwiceIn, IsBadIn, IsFaultOfDeclarations}
+use Rattle.ilscope.specs.Faults.{SomeOf, SomeLater, IsTwiceIn, IsLeastOf, OfCause}
+use Rattle.ilscope.specs.Order.{lesser_of_two}
 use Rattle.ilscope.specs.Tables.{number_in, lowered, with_key, declared_names}
-use Rattle.ilscope.specs.GatheringSteps.{table_of, gathered, with_declarations, with_declaration}
 use Rattle.ilscope.specs.declared.fault.NameCause.{NameCause}
-use Rattle.ilscope.specs.declared.fault.NameCause.TheVariants.{Unknown, Twice, BadDeclaration, TooMany}
+use Rattle.ilscope.specs.declared.fault.NameCause.TheVariants.{Twice}
 use Rattle.ilscope.specs.declared.found.Found.{Found}
-use Rattle.ilscope.proofs.Gathered.{after, after_all, IsAgain, AreDeclared, AreFaults, or_else, names_after}
+use Rattle.ilscope.proofs.Gathered.{best_same, or_else}
+use Rattle.ilscope.proofs.Least.{both_least, some_append, some_front, some_last, take_more}
 use Rattle.ilscope.proofs.Spelling.{key_is}
 
 pub some_of : {X : Type 0} {P Q : X → Type 0} → ((x : X) → P x → Q x) → (xs : List X) → SomeOf P xs → SomeOf Q xs
@@ -21,10 +23,10 @@ some_of h (x ∷ xs) (inl p) = inl (h x p)
 some_of h (x ∷ xs) (inr s) = inr (some_of h xs s)
 
 -- a key is among the keys
-abbrev IsIn : List (List ℕ) → List ℕ → Type 0
+abbrev pub IsIn : List (List ℕ) → List ℕ → Type 0
 IsIn keys key = is_some (number_in keys key) ≡ true
 
-test_more : (b : Bool) (o : Option ℕ) → is_some (if b then Some 0 else option_map suc o) ≡ true → (b ≡ true) ⊎ (is_some o ≡ true)
+pub test_more : (b : Bool) (o : Option ℕ) → is_some (if b then Some 0 else option_map suc o) ≡ true → (b ≡ true) ⊎ (is_some o ≡ true)
 test_more true o h = inl refl
 test_more false None h = absurd cc
 test_more false (Some n) h = inr refl
@@ -38,7 +40,7 @@ test_later true o h = refl
 test_later false None h = h
 test_later false (Some n) h = refl
 
-in_append : (keys : List (List ℕ)) (key k : List ℕ) → IsIn (keys ++ k ∷ []) key → IsIn keys key ⊎ (key ≡ k)
+pub in_append : (keys : List (List ℕ)) (key k : List ℕ) → IsIn (keys ++ k ∷ []) key → IsIn keys key ⊎ (key ≡ k)
 in_append [] key k h = inr (same_key (test_more (bytes_eq key k) None h))
   where
     same_key : (bytes_eq key k ≡ true) ⊎ (is_some {T = ℕ} None ≡ true) → key ≡ k
@@ -58,152 +60,6 @@ append_new : (keys : List (List ℕ)) (k : List ℕ) → IsIn (keys ++ k ∷ [])
 append_new [] k = test_first (bytes_eq k k) None ((bytes_eq-Decides k k).1 refl)
 append_new (x ∷ keys) k = test_later (bytes_eq k x) _ (append_new keys k)
 
--- after one more name its key is there too
-into_after : (lower : List ℕ) (keys : List (List ℕ)) (n : Name) (key : List ℕ) → IsIn (after lower keys n) key → IsIn keys key ⊎ (key ≡ text_of lower n)
-into_after lower keys n key h = cases (is_some (number_in keys (text_of lower n))) h
-  where
-    cases : (b : Bool) → IsIn (if b then keys else keys ++ text_of lower n ∷ []) key → IsIn keys key ⊎ (key ≡ text_of lower n)
-    cases true i = inl i
-    cases false i = in_append keys key (text_of lower n) i
-
-after_old : (lower : List ℕ) (keys : List (List ℕ)) (n : Name) (key : List ℕ) → IsIn keys key → IsIn (after lower keys n) key
-after_old lower keys n key h = cases (is_some (number_in keys (text_of lower n)))
-  where
-    cases : (b : Bool) → IsIn (if b then keys else keys ++ text_of lower n ∷ []) key
-    cases true = h
-    cases false = append_old keys key (text_of lower n) h
-
-after_new : (lower : List ℕ) (keys : List (List ℕ)) (n : Name) → IsIn (after lower keys n) (text_of lower n)
-after_new lower keys n = cases (is_some (number_in keys (text_of lower n))) refl
-  where
-    cases : (b : Bool) → is_some (number_in keys (text_of lower n)) ≡ b → IsIn (if b then keys else keys ++ text_of lower n ∷ []) (text_of lower n)
-    cases true e = e
-    cases false e = append_new keys (text_of lower n)
-
-into_all : (lower : List ℕ) (ns : List Name) (keys : List (List ℕ)) (key : List ℕ) → IsIn (after_all lower keys ns) key →
-    IsIn keys key ⊎ SomeOf (λ n. key ≡ text_of lower n) ns
-into_all lower [] keys key h = inl h
-into_all lower (n ∷ ns) keys key h =
-    or_else (λ i. or_else inl (λ e. inr (inl e)) (into_after lower keys n key i)) (λ s. inr (inr s)) (into_all lower ns (after lower keys n) key h)
-
-all_old : (lower : List ℕ) (ns : List Name) (keys : List (List ℕ)) (key : List ℕ) → IsIn keys key → IsIn (after_all lower keys ns) key
-all_old lower [] keys key h = h
-all_old lower (n ∷ ns) keys key h = all_old lower ns (after lower keys n) key (after_old lower keys n key h)
-
-all_new : (lower : List ℕ) (ns : List Name) (keys : List (List ℕ)) (key : List ℕ) → SomeOf (λ n. key ≡ text_of lower n) ns → IsIn (after_all lower keys ns) key
-all_new lower [] keys key s = absurd s
-all_new lower (n ∷ ns) keys key (inl e) =
-    all_old lower ns (after lower keys n) key (subst (λ (k : List ℕ). IsIn (after lower keys n) k) (sym e) (after_new lower keys n))
-all_new lower (n ∷ ns) keys key (inr s) = all_new lower ns (after lower keys n) key s
-
--- names that are there again: those among the keys, or spelled as one before
-abbrev IsAmong : List ℕ → List (List ℕ) → List Name → ℕ → Type 0
-IsAmong lower keys ns place = SomeOf (λ n. IsIn keys (text_of lower n) × (place ≡ n.from)) ns
-
-abbrev IsLater : List ℕ → List Name → ℕ → Type 0
-IsLater lower ns place = SomeLater (λ e n. (text_of lower e ≡ text_of lower n) × (place ≡ n.from)) ns
-
-again_to : (lower : List ℕ) (ns : List Name) (keys : List (List ℕ)) (place : ℕ) → IsAgain lower keys ns place
-    → IsAmong lower keys ns place ⊎ IsLater lower ns place
-again_to lower [] keys place h = inl h
-again_to lower (n ∷ ns) keys place (inl a) = inl (inl a)
-again_to lower (n ∷ ns) keys place (inr h) =
-    or_else (λ s. spread ns s) (λ l. inr (inr l)) (again_to lower ns (after lower keys n) place h)
-  where
-    spread : (ms : List Name) → IsAmong lower (after lower keys n) ms place →
-        (IsAmong lower keys (n ∷ ms) place) ⊎ (SomeOf (λ m. (text_of lower n ≡ text_of lower m) × (place ≡ m.from)) ms ⊎ IsLater lower ms place)
-    spread [] s = absurd s
-    spread (m ∷ ms) (inl a) =
-        or_else (λ i. inl (inr (inl (i, a.1)))) (λ e. inr (inl (inl (sym e, a.1)))) (into_after lower keys n (text_of lower m) a.0)
-    spread (m ∷ ms) (inr s) =
-        or_else (λ x. or_else (λ y. inl (inl y)) (λ y. inl (inr (inr y))) x) (λ x. or_else (λ y. inr (inl (inr y))) (λ y. inr (inr (inr y))) x) (spread ms s)
-
-again_from_among : (lower : List ℕ) (ns : List Name) (keys : List (List ℕ)) (place : ℕ) → IsAmong lower keys ns place → IsAgain lower keys ns place
-again_from_among lower [] keys place h = h
-again_from_among lower (n ∷ ns) keys place (inl a) = inl a
-again_from_among lower (n ∷ ns) keys place (inr s) =
-    inr (again_from_among lower ns (after lower keys n) place (some_of (λ m a. (after_old lower keys n (text_of lower m) a.0, a.1)) ns s))
-
-again_from_later : (lower : List ℕ) (ns : List Name) (keys : List (List ℕ)) (place : ℕ) → IsLater lower ns place → IsAgain lower keys ns place
-again_from_later lower [] keys place h = h
-again_from_later lower (n ∷ ns) keys place (inl s) =
-    inr (again_from_among lower ns (after lower keys n) place
-    (some_of (λ m a. (subst (λ (k : List ℕ). IsIn (after lower keys n) k) a.0 (after_new lower keys n), a.1)) ns s))
-again_from_later lower (n ∷ ns) keys place (inr l) = inr (again_from_later lower ns (after lower keys n) place l)
-
-none_among : (lower : List ℕ) (ns : List Name) (place : ℕ) → IsAmong lower [] ns place → ⊥
-none_among lower [] place h = h
-none_among lower (n ∷ ns) place (inl a) = no a.0
-  where
-    no : is_some {T = ℕ} None ≡ true → ⊥
-    no e = cc
-none_among lower (n ∷ ns) place (inr s) = none_among lower ns place s
-
-again_append : (lower : List ℕ) (xs ys : List Name) (keys : List (List ℕ)) (place : ℕ) → IsAgain lower keys (xs ++ ys) place →
-    IsAgain lower keys xs place ⊎ IsAgain lower (after_all lower keys xs) ys place
-again_append lower [] ys keys place h = inr h
-again_append lower (x ∷ xs) ys keys place (inl a) = inl (inl a)
-again_append lower (x ∷ xs) ys keys place (inr h) = or_else (λ p. inl (inr p)) inr (again_append lower xs ys (after lower keys x) place h)
-
-append_again : (lower : List ℕ) (xs ys : List Name) (keys : List (List ℕ)) (place : ℕ) →
-    IsAgain lower keys xs place ⊎ IsAgain lower (after_all lower keys xs) ys place → IsAgain lower keys (xs ++ ys) place
-append_again lower [] ys keys place (inl h) = absurd h
-append_again lower [] ys keys place (inr h) = h
-append_again lower (x ∷ xs) ys keys place (inl (inl a)) = inl a
-append_again lower (x ∷ xs) ys keys place (inl (inr h)) = inr (append_again lower xs ys (after lower keys x) place (inl h))
-append_again lower (x ∷ xs) ys keys place (inr h) = inr (append_again lower xs ys (after lower keys x) place (inr h))
-
--- declarations
-abbrev InDeclarations : List ℕ → List (List ℕ) → List Variables → ℕ → NameCause → Type 0
-InDeclarations lower keys ds place cause =
-    ((cause ≡ BadDeclaration) × SomeOf (IsBadIn place) ds) ⊎ ((cause ≡ Twice) × IsAgain lower keys (flat_map (λ d. d.names) ds) place)
-
-declared_to : (lower : List ℕ) (ds : List Variables) (keys : List (List ℕ)) (place : ℕ) (cause : NameCause) → AreDeclared lower keys ds place cause
-    → InDeclarations lower keys ds place cause
-declared_to lower [] keys place cause h = absurd h
-declared_to lower (d ∷ ds) keys place cause (inl b) = inl (b.0, inl b.1)
-declared_to lower (d ∷ ds) keys place cause (inr (inl t)) = inr (t.0, append_again lower d.names _ keys place (inl t.1))
-declared_to lower (d ∷ ds) keys place cause (inr (inr r)) =
-    or_else (λ b. inl (b.0, inr b.1)) (λ t. inr (t.0, append_again lower d.names _ keys place (inr t.1))) (declared_to lower ds (after_all lower keys d.names) place cause r)
-
-declared_from_bad : (lower : List ℕ) (ds : List Variables) (keys : List (List ℕ)) (place : ℕ) (cause : NameCause) → cause ≡ BadDeclaration
-    → SomeOf (IsBadIn place) ds → AreDeclared lower keys ds place cause
-declared_from_bad lower [] keys place cause e h = h
-declared_from_bad lower (d ∷ ds) keys place cause e (inl b) = inl (e, b)
-declared_from_bad lower (d ∷ ds) keys place cause e (inr s) = inr (inr (declared_from_bad lower ds _ place cause e s))
-
-declared_from_twice : (lower : List ℕ) (ds : List Variables) (keys : List (List ℕ)) (place : ℕ) (cause : NameCause) → cause ≡ Twice
-    → IsAgain lower keys (flat_map (λ d. d.names) ds) place →
-    AreDeclared lower keys ds place cause
-declared_from_twice lower [] keys place cause e h = h
-declared_from_twice lower (d ∷ ds) keys place cause e h =
-    or_else (λ t. inr (inl (e, t))) (λ r. inr (inr (declared_from_twice lower ds _ place cause e r))) (again_append lower d.names _ keys place h)
-
-table_after : (lower : List ℕ) (ds : List Variables) (keys : List (List ℕ)) (o : Option Found)
-    → (with_declarations lower (gathered keys o) ds).names ≡ after_all lower keys (flat_map (λ d. d.names) ds)
-table_after lower [] keys o = refl
-table_after lower (d ∷ ds) keys o =
-    table_after lower ds ((with_declaration lower (gathered keys o) d).names) ((with_declaration lower (gathered keys o) d).least)
-    ∙ ap (λ (ks : List (List ℕ)). after_all lower ks (flat_map (λ x. x.names) ds)) (names_after lower d.names keys _)
-    ∙ sym (all_append (after lower) keys d.names (flat_map (λ x. x.names) ds))
-  where
-    all_append : {A B : Type 0} (f : B → A → B) (a : B) (xs ys : List A) → fold f a (xs ++ ys) ≡ fold f (fold f a xs) ys
-    all_append f a [] ys = refl
-    all_append f a (x ∷ xs) ys = all_append f (f a x) xs ys
-
--- a program's table, by its definition
-table_from : (text : List ℕ) (ns : List Name) (keys : List (List ℕ)) → fold with_key keys (map (folded text) ns) ≡ after_all (lowered text) keys ns
-table_from text [] keys = refl
-table_from text (n ∷ ns) keys =
-    ap (λ (k : List ℕ). fold with_key (with_key keys k) (map (folded text) ns)) (sym (key_is text n)) ∙ table_from text ns (after (lowered text) keys n)
-
-pub declared_is : (text : List ℕ) (p : Written) → declared_names text p ≡ table_of (lowered text) p
-declared_is text p = table_from text (variables_of p) [] ∙ sym (table_after (lowered text) p.declarations [] None)
-
-pub tables_declared : (text : List ℕ) (ps : List Written) → map (table_of (lowered text)) ps ≡ map (declared_names text) ps
-tables_declared text [] = refl
-tables_declared text (p ∷ ps) = rw (declared_is text p, tables_declared text ps) refl
-
 pub bool_not : (b : Bool) → b ≡ false → b ≡ true → ⊥
 bool_not true e f = cc
 bool_not false e f = cc
@@ -212,91 +68,166 @@ pub bool_false : (b : Bool) → (b ≡ true → ⊥) → b ≡ false
 bool_false true h = absurd (h refl)
 bool_false false h = refl
 
--- unknown names
-module _ (text : List ℕ) (p : Written) where
-  pub in_table : (n : Name) → SomeOf (SameName text n) (variables_of p) → IsIn (table_of (lowered text) p) (text_of (lowered text) n)
-  in_table n s =
-      subst (λ (ks : List (List ℕ)). IsIn ks (text_of (lowered text) n)) (sym (table_after (lowered text) p.declarations [] None))
-      (all_new (lowered text) (variables_of p) [] _ (some_of (λ m e. key_is text n ∙ e ∙ sym (key_is text m)) (variables_of p) s))
+-- after one more key, and after more
+into_one : (keys : List (List ℕ)) (k key : List ℕ) → IsIn (with_key keys k) key → IsIn keys key ⊎ (key ≡ k)
+into_one keys k key h = cases (is_some (number_in keys k)) h
+  where
+    cases : (b : Bool) → IsIn (if b then keys else keys ++ k ∷ []) key → IsIn keys key ⊎ (key ≡ k)
+    cases true i = inl i
+    cases false i = in_append keys key k i
 
-  pub from_table : (n : Name) → IsIn (table_of (lowered text) p) (text_of (lowered text) n) → SomeOf (SameName text n) (variables_of p)
-  from_table n h =
-      or_else (λ i. absurd (no i)) (λ s. some_of (λ m e. sym (key_is text n) ∙ e ∙ key_is text m) (variables_of p) s)
-      (into_all (lowered text) (variables_of p) [] (text_of (lowered text) n) (subst (λ (ks : List (List ℕ)). IsIn ks (text_of (lowered text) n)) (table_after (lowered text) p.declarations [] None) h))
+one_old : (keys : List (List ℕ)) (k key : List ℕ) → IsIn keys key → IsIn (with_key keys k) key
+one_old keys k key h = cases (is_some (number_in keys k))
+  where
+    cases : (b : Bool) → IsIn (if b then keys else keys ++ k ∷ []) key
+    cases true = h
+    cases false = append_old keys key k h
+
+one_new : (keys : List (List ℕ)) (k : List ℕ) → IsIn (with_key keys k) k
+one_new keys k = cases (is_some (number_in keys k)) refl
+  where
+    cases : (b : Bool) → is_some (number_in keys k) ≡ b → IsIn (if b then keys else keys ++ k ∷ []) k
+    cases true e = e
+    cases false e = append_new keys k
+
+module _ (text : List ℕ) where
+  -- the table after these names
+  abbrev pub after_names : List (List ℕ) → List Name → List (List ℕ)
+  after_names keys ns = fold with_key keys (map (folded text) ns)
+
+  into_all : (ns : List Name) (keys : List (List ℕ)) (n : Name) → IsIn (after_names keys ns) (folded text n) → IsIn keys (folded text n) ⊎ SomeOf (λ m. SameName text m n) ns
+  into_all [] keys n h = inl h
+  into_all (m ∷ ms) keys n h =
+      or_else (λ i. or_else inl (λ e. inr (inl (sym e))) (into_one keys (folded text m) (folded text n) i)) (λ s. inr (inr s)) (into_all ms (with_key keys (folded text m)) n h)
+
+  all_old : (ns : List Name) (keys : List (List ℕ)) (key : List ℕ) → IsIn keys key → IsIn (after_names keys ns) key
+  all_old [] keys key h = h
+  all_old (m ∷ ms) keys key h = all_old ms (with_key keys (folded text m)) key (one_old keys (folded text m) key h)
+
+  all_new : (ns : List Name) (keys : List (List ℕ)) (n : Name) → SomeOf (λ m. SameName text m n) ns → IsIn (after_names keys ns) (folded text n)
+  all_new [] keys n s = absurd s
+  all_new (m ∷ ms) keys n (inl e) = all_old ms (with_key keys (folded text m)) (folded text n) (subst (λ (k : List ℕ). IsIn (with_key keys (folded text m)) k) e (one_new keys (folded text m)))
+  all_new (m ∷ ms) keys n (inr s) = all_new ms (with_key keys (folded text m)) n s
+
+  -- a table has the names that are spelled as one of those that were added
+  pub table_has : (ns : List Name) (n : Name) → SomeOf (λ m. SameName text m n) ns → IsIn (after_names [] ns) (folded text n)
+  table_has ns n s = all_new ns [] n s
+
+  pub table_from : (ns : List Name) (n : Name) → IsIn (after_names [] ns) (folded text n) → SomeOf (λ m. SameName text m n) ns
+  table_from ns n h = or_else (λ i. absurd (no i)) (λ s. s) (into_all ns [] n h)
     where
       no : is_some {T = ℕ} None ≡ true → ⊥
       no e = cc
 
+  pub in_table : (p : Written) (n : Name) → SomeOf (SameName text n) (variables_of p) → IsIn (declared_names text p) (text_of (lowered text) n)
+  in_table p n s =
+      subst (λ (k : List ℕ). IsIn (declared_names text p) k) (sym (key_is text n)) (table_has (variables_of p) n (some_of (λ m e. sym e) (variables_of p) s))
+
+  pub from_table : (p : Written) (n : Name) → IsIn (declared_names text p) (text_of (lowered text) n) → SomeOf (SameName text n) (variables_of p)
+  from_table p n h =
+      some_of (λ m e. sym e) (variables_of p) (table_from (variables_of p) n (subst (λ (k : List ℕ). IsIn (declared_names text p) k) (key_is text n) h))
+
 -- a program declares the names that are in its table
 pub declared_in : (text lower : List ℕ) (p : Written) (n : Name) (table : List (List ℕ)) → lower ≡ lowered text → table ≡ declared_names text p →
     IsTrue (is_some (number_in table (text_of lower n))) ↔ SomeOf (SameName text n) (variables_of p)
-declared_in text lower p n table l t =
-    rw (l, t, declared_is text p) ((λ h. from_table text p n h), (λ s. in_table text p n s))
+declared_in text lower p n table l t = rw (l, t) ((λ h. from_table text p n h), (λ s. in_table text p n s))
 
--- names given twice, by their spelling
-later_to : (text : List ℕ) (place : ℕ) (ns : List Name) → IsLater (lowered text) ns place → IsTwiceIn text ns place
-later_to text place [] h = h
-later_to text place (n ∷ ns) (inl s) = inl (some_of (λ m a. (sym (key_is text n) ∙ a.0 ∙ key_is text m, a.1)) ns s)
-later_to text place (n ∷ ns) (inr l) = inr (later_to text place ns l)
+pub map_keys : (text : List ℕ) (ns : List Name) → map (text_of (lowered text)) ns ≡ map (folded text) ns
+map_keys text [] = refl
+map_keys text (n ∷ ns) = rw (key_is text n, map_keys text ns) refl
 
-later_from : (text : List ℕ) (place : ℕ) (ns : List Name) → IsTwiceIn text ns place → IsLater (lowered text) ns place
-later_from text place [] h = h
-later_from text place (n ∷ ns) (inl s) = inl (some_of (λ m a. (key_is text n ∙ a.0 ∙ sym (key_is text m), a.1)) ns s)
-later_from text place (n ∷ ns) (inr l) = inr (later_from text place ns l)
+map_last : {X Y : Type 0} (f : X → Y) (xs : List X) (x : X) → map f (xs ++ x ∷ []) ≡ map f xs ++ f x ∷ []
+map_last f [] x = refl
+map_last f (y ∷ ys) x = rw (map_last f ys x) refl
 
-twice_to : (text : List ℕ) (place : ℕ) (ns : List Name) → IsAgain (lowered text) [] ns place → IsTwiceIn text ns place
-twice_to text place ns h = or_else (λ a. absurd (none_among (lowered text) ns place a)) (λ l. later_to text place ns l) (again_to (lowered text) ns [] place h)
+pub map_more : {X Y : Type 0} (f : X → Y) (xs : List X) (i : ℕ) (x : X) → i < length xs → x ≡ get_or xs i x → map f (take (i + 1) xs) ≡ map f (take i xs) ++ f x ∷ []
+map_more {X} f xs i x below e = ap (λ (ys : List X). map f ys) (take_more xs i x below e) ∙ map_last f (take i xs) x
 
-twice_from : (text : List ℕ) (place : ℕ) (ns : List Name) → IsTwiceIn text ns place → IsAgain (lowered text) [] ns place
-twice_from text place ns h = again_from_later (lowered text) ns [] place (later_from text place ns h)
+fold_last : {A B : Type 0} (f : B → A → B) (a : B) (xs : List A) (x : A) → fold f a (xs ++ x ∷ []) ≡ f (fold f a xs) x
+fold_last f a [] x = refl
+fold_last f a (y ∷ ys) x = fold_last f (f a y) ys x
 
--- programs: the faults of each cause
-abbrev InPrograms : List ℕ → List (List ℕ) → List Written → ℕ → NameCause → Type 0
-InPrograms text keys ps place cause =
-    ((cause ≡ Twice) × (IsAgain (lowered text) keys (map (λ p. p.name) ps) place ⊎ SomeOf (λ p. IsTwiceIn text (variables_of p) place) ps))
-    ⊎ ((cause ≡ BadDeclaration) × SomeOf (λ p. SomeOf (IsBadIn place) p.declarations) ps)
+-- the table after one more of some names
+pub table_more : (lower : List ℕ) (ns : List Name) (i : ℕ) (d : Name) → i < length ns →
+    fold with_key [] (map (text_of lower) (take (i + 1) ns)) ≡ with_key (fold with_key [] (map (text_of lower) (take i ns))) (text_of lower (get_or ns i d))
+table_more lower ns i d below =
+    ap (λ (ms : List Name). fold with_key [] (map (text_of lower) ms)) (take_more ns i (get_or ns i d) below (get_or_default ns i d (get_or ns i d) below))
+    ∙ ap (λ (ks : List (List ℕ)). fold with_key [] ks) (map_last (text_of lower) (take i ns) (get_or ns i d))
+    ∙ fold_last with_key [] (map (text_of lower) (take i ns)) (text_of lower (get_or ns i d))
 
-faults_to : (text : List ℕ) (ps : List Written) (keys : List (List ℕ)) (place : ℕ) (cause : NameCause) → AreFaults (lowered text) keys ps place cause
-    → InPrograms text keys ps place cause
-faults_to text [] keys place cause h = absurd h
-faults_to text (p ∷ ps) keys place cause (inl t) = inl (t.0, inl (inl t.1))
-faults_to text (p ∷ ps) keys place cause (inr (inl d)) =
-    or_else (λ b. inr (b.0, inl b.1)) (λ t. inl (t.0, inr (inl (twice_to text place (variables_of p) t.1))))
-    (declared_to (lowered text) p.declarations [] place cause d)
-faults_to text (p ∷ ps) keys place cause (inr (inr r)) =
-    or_else (λ t. inl (t.0, or_else (λ a. inl (inr a)) (λ s. inr (inr s)) t.1)) (λ b. inr (b.0, inr b.1))
-    (faults_to text ps (after (lowered text) keys p.name) place cause r)
+pub table_step : (lower : List ℕ) (ns : List Name) (i : ℕ) (d : Name) (table new : List (List ℕ)) → new ≡ with_key table (text_of lower (get_or ns i d)) →
+    table ≡ fold with_key [] (map (text_of lower) (take i ns)) → i < length ns → new ≡ fold with_key [] (map (text_of lower) (take (i + 1) ns))
+table_step lower ns i d table new e t below =
+    e ∙ ap (λ (ks : List (List ℕ)). with_key ks (text_of lower (get_or ns i d))) t ∙ sym (table_more lower ns i d below)
 
-faults_twice : (text : List ℕ) (ps : List Written) (keys : List (List ℕ)) (place : ℕ) → IsAgain (lowered text) keys (map (λ p. p.name) ps) place
-    → AreFaults (lowered text) keys ps place Twice
-faults_twice text [] keys place h = h
-faults_twice text (p ∷ ps) keys place (inl a) = inl (refl, a)
-faults_twice text (p ∷ ps) keys place (inr h) = inr (inr (faults_twice text ps _ place h))
+-- one element more, and a pair of an earlier and a later one
+module _ {X : Type 0} (R : X → X → Type 0) where
+  later_append : (xs : List X) (x : X) → SomeLater R (xs ++ x ∷ []) → SomeLater R xs ⊎ SomeOf (λ e. R e x) xs
+  later_append [] x (inl s) = absurd s
+  later_append [] x (inr s) = absurd s
+  later_append (y ∷ ys) x (inl s) = or_else (λ t. inl (inl t)) (λ r. inr (inl r)) (some_append (R y) ys x s)
+  later_append (y ∷ ys) x (inr s) = or_else (λ t. inl (inr t)) (λ r. inr (inr r)) (later_append ys x s)
 
-faults_variables : (text : List ℕ) (ps : List Written) (keys : List (List ℕ)) (place : ℕ) → SomeOf (λ p. IsTwiceIn text (variables_of p) place) ps
-    → AreFaults (lowered text) keys ps place Twice
-faults_variables text [] keys place h = h
-faults_variables text (p ∷ ps) keys place (inl t) = inr (inl (declared_from_twice (lowered text) p.declarations [] place Twice refl (twice_from text place (variables_of p) t)))
-faults_variables text (p ∷ ps) keys place (inr s) = inr (inr (faults_variables text ps _ place s))
+  later_front : (xs : List X) (x : X) → SomeLater R xs → SomeLater R (xs ++ x ∷ [])
+  later_front [] x s = absurd s
+  later_front (y ∷ ys) x (inl s) = inl (some_front (R y) ys x s)
+  later_front (y ∷ ys) x (inr s) = inr (later_front ys x s)
 
-faults_bad : (text : List ℕ) (ps : List Written) (keys : List (List ℕ)) (place : ℕ) → SomeOf (λ p. SomeOf (IsBadIn place) p.declarations) ps
-    → AreFaults (lowered text) keys ps place BadDeclaration
-faults_bad text [] keys place h = h
-faults_bad text (p ∷ ps) keys place (inl b) = inr (inl (declared_from_bad (lowered text) p.declarations [] place BadDeclaration refl b))
-faults_bad text (p ∷ ps) keys place (inr s) = inr (inr (faults_bad text ps _ place s))
+  pub later_at : (xs : List X) (x : X) (rest : List X) → SomeOf (λ e. R e x) xs → SomeLater R (xs ++ x ∷ rest)
+  later_at [] x rest s = absurd s
+  later_at (y ∷ ys) x rest (inl r) = inl (there ys)
+    where
+      there : (zs : List X) → SomeOf (R y) (zs ++ x ∷ rest)
+      there [] = inl r
+      there (z ∷ zs) = inr (there zs)
+  later_at (y ∷ ys) x rest (inr s) = inr (later_at ys x rest s)
 
-pub of_declarations_to : (tree : Tree) (place : ℕ) (cause : NameCause) → AreFaults (lowered tree.text) [] tree.programs place cause →
-    IsFaultOfDeclarations tree place cause
-of_declarations_to tree place cause h =
-    let F : NameCause → Type 0 = λ c. IsFaultOfDeclarations tree place c in
-    or_else (λ t. subst F (sym t.0) (or_else (λ a. inl (twice_to tree.text place (map (λ p. p.name) tree.programs) a)) inr t.1))
-    (λ b. subst F (sym b.0) b.1)
-    (faults_to tree.text tree.programs [] place cause h)
+some_any : {X : Type 0} {Q : Type 0} (P : X → Type 0) (xs : List X) → SomeOf (λ x. P x × Q) xs → SomeOf P xs × Q
+some_any P [] s = absurd s
+some_any P (x ∷ xs) (inl p) = (inl p.0, p.1)
+some_any P (x ∷ xs) (inr s) = let t = some_any P xs s in (inr t.0, t.1)
 
-pub of_declarations_from : (tree : Tree) (place : ℕ) (cause : NameCause) → IsFaultOfDeclarations tree place cause →
-    AreFaults (lowered tree.text) [] tree.programs place cause
-of_declarations_from tree place Unknown h = absurd h
-of_declarations_from tree place Twice (inl a) = faults_twice tree.text tree.programs [] place (twice_from tree.text place (map (λ p. p.name) tree.programs) a)
-of_declarations_from tree place Twice (inr s) = faults_variables tree.text tree.programs [] place s
-of_declarations_from tree place TooMany h = absurd h
-of_declarations_from tree place BadDeclaration h = faults_bad tree.text tree.programs [] place h
+with_any : {X : Type 0} {Q : Type 0} (P : X → Type 0) (xs : List X) → Q → SomeOf P xs → SomeOf (λ x. P x × Q) xs
+with_any P [] q s = absurd s
+with_any P (x ∷ xs) q (inl p) = inl (p, q)
+with_any P (x ∷ xs) q (inr s) = inr (with_any P xs q s)
+
+-- the faults of names that are given again, with one name more
+pub twice_more : (text lower : List ℕ) (ns : List Name) (i : ℕ) (d : Name) (table : List (List ℕ)) (a b : Option Found) → i < length ns → lower ≡ lowered text →
+    table ≡ fold with_key [] (map (text_of lower) (take i ns)) →
+    IsLeastOf (OfCause Twice (IsTwiceIn text (take i ns))) a →
+    IsLeastOf (OfCause Twice (λ place. IsSome (number_in table (text_of lower (get_or ns i d))) × (place ≡ (get_or ns i d).from))) b →
+    IsLeastOf (OfCause Twice (IsTwiceIn text (take (i + 1) ns))) (lesser_of_two a b)
+twice_more text lower ns i d table a b below l t h k =
+    let x : Name = get_or ns i d in
+    let front : List Name = take i ns in
+    let is : table ≡ fold with_key [] (map (folded text) front) = t ∙ ap (λ (w : List ℕ). fold with_key [] (map (text_of w) front)) l ∙ ap (λ (ks : List (List ℕ)). fold with_key [] ks) (map_keys text front) in
+    let key : text_of lower x ≡ folded text x = ap (λ (w : List ℕ). text_of w x) l ∙ key_is text x in
+    let to : IsSome (number_in table (text_of lower x)) → SomeOf (λ m. SameName text m x) front =
+    λ s. table_from text front x (rw (is, key) at s)
+    in
+    let from : SomeOf (λ m. SameName text m x) front → IsSome (number_in table (text_of lower x)) = λ s. rw (is, key) (table_has text front x s) in
+    subst (λ (ms : List Name). IsLeastOf (OfCause Twice (IsTwiceIn text ms)) (lesser_of_two a b)) (sym (take_more ns i x below (get_or_default ns i d x below)))
+    (best_same _ _ (lesser_of_two a b)
+    (λ place cause q.
+    or_else (λ s. (s.0, later_front (λ e m. SameName text e m × (place ≡ m.from)) front x s.1))
+    (λ s. (s.0, later_at (λ e m. SameName text e m × (place ≡ m.from)) front x [] (with_any (λ m. SameName text m x) front s.1.1 (to s.1.0)))) q)
+    (λ place cause s.
+    or_else (λ r. inl (s.0, r))
+    (λ r. let u = some_any (λ m. SameName text m x) front r in inr (s.0, (from u.0, u.1)))
+    (later_append (λ e m. SameName text e m × (place ≡ m.from)) front x s.1))
+    (both_least (OfCause Twice (IsTwiceIn text front)) (OfCause Twice (λ place. IsSome (number_in table (text_of lower x)) × (place ≡ x.from))) a b h k))
+
+-- a name whose key is among those of the names before it is given again
+pub is_again : (text : List ℕ) (front : List Name) (n : Name) (rest : List Name) → IsIn (map (folded text) front) (folded text n) → IsTwiceIn text (front ++ n ∷ rest) n.from
+is_again text front n rest h =
+    later_at (λ e m. SameName text e m × (n.from ≡ m.from)) front n rest (with_any (λ e. SameName text e n) front refl (among front h))
+  where
+    among : (ns : List Name) → IsIn (map (folded text) ns) (folded text n) → SomeOf (λ e. SameName text e n) ns
+    among [] h = absurd (no h)
+      where
+        no : is_some {T = ℕ} None ≡ true → ⊥
+        no e = cc
+    among (m ∷ ms) h =
+        or_else (λ e. inl (sym ((bytes_eq-Decides (folded text n) (folded text m)).0 e))) (λ r. inr (among ms r))
+        (test_more (bytes_eq (folded text n) (folded text m)) (number_in (map (folded text) ms) (folded text n)) h)

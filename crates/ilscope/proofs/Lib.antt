@@ -4,5 +4,4 @@ pub mod Least
 pub mod LeastOfDeclarations
 pub mod Lookups
 pub mod OneFault
-pub mod Scopes
 pub mod Spelling

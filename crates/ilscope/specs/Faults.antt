@@ -3,7 +3,7 @@
 use Rattle.std.specs.Prelude.{◌≡◌, ℕ, ◌<◌, ◌≤◌, List, [], ◌∷◌, map, slice_get, Option, Some, None, IsSomeAnd, ◌⊎◌}
 use Rattle.ilsource.specs.declared.name.Name.{Name}
 use Rattle.ilsource.specs.Names.{SameName}
-use Rattle.ilsource.specs.Trees.{Variables, Tree}
+use Rattle.ilsource.specs.Trees.{Variables, Written, Tree}
 use Rattle.ilscope.specs.Causes.{number_of}
 use Rattle.ilscope.specs.Declarations.{initial_value, variables_of}
 use Rattle.ilscope.specs.declared.fault.NameCause.{NameCause}
@@ -35,6 +35,15 @@ IsBadIn place d = (initial_value d.initial ≡ None) × IsSomeAnd (slice_get d.n
 abbrev pub IsBad : Tree → ℕ → Type 0
 IsBad tree place = SomeOf (λ p. SomeOf (IsBadIn place) p.declarations) tree.programs
 
+-- the faults of one cause, at these places
+abbrev pub OfCause : NameCause → (ℕ → Type 0) → ℕ → NameCause → Type 0
+OfCause its At place cause = (cause ≡ its) × At place
+
+-- a fault of a declaration in one program
+abbrev pub IsFaultIn : List ℕ → Written → ℕ → NameCause → Type 0
+IsFaultIn text program place cause =
+    OfCause Twice (IsTwiceIn text (variables_of program)) place cause ⊎ OfCause BadDeclaration (λ at. SomeOf (IsBadIn at) program.declarations) place cause
+
 -- a fault with this cause, with its place in a declaration, stands at the place
 abbrev pub IsFaultOfDeclarations : Tree → ℕ → NameCause → Type 0
 IsFaultOfDeclarations tree place Unknown = ⊥
@@ -50,10 +59,6 @@ IsNotAfter place cause other its = (place < other) ⊎ ((place ≡ other) × (nu
 pub record IsLeast (Faults : ℕ → NameCause → Type 0) (place : ℕ) (cause : NameCause) : Type 0 where
   pub is : Faults place cause
   pub least : (other : ℕ) (its : NameCause) → Faults other its → IsNotAfter place cause other its
-
--- the faults of one cause, at these places
-abbrev pub OfCause : NameCause → (ℕ → Type 0) → ℕ → NameCause → Type 0
-OfCause its At place cause = (cause ≡ its) × At place
 
 -- what was found is the least of some faults, and nothing was found where there is none
 abbrev pub IsLeastOf : (ℕ → NameCause → Type 0) → Option Found → Type 0

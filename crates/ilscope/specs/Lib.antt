@@ -1,7 +1,6 @@
 pub mod Causes
 pub mod Declarations
 pub mod Faults
-pub mod GatheringSteps
 pub mod Order
 pub mod Printed
 pub mod Tables

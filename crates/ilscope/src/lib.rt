@@ -6,6 +6,7 @@
 //! initial value that is not of the variable's type.
 #![tactic(auto)]
 
+pub(crate) mod declarations;
 mod fault;
 mod found;
 mod names;

@@ -2,20 +2,17 @@
 //!
 //! Neither limits nor names in instructions are looked at here: their faults are told when names are resolved.
 
-ghost use Rattle.std.specs.Prelude.{◌≡◌, OnOk, IfOk, slice_get};
-ghost use Rattle.ilsource.specs.Names.{text_of};
-ghost use Rattle.ilscope.specs.Declarations.{initial_value};
-ghost use Rattle.ilscope.specs.GatheringSteps.{Gathered, gathered, with_name, with_names, with_initial, with_declaration};
-ghost use Rattle.ilscope.specs.GatheringSteps.{with_declarations};
-ghost use Rattle.ilscope.specs.Tables.{lowered};
+ghost use Rattle.std.specs.Prelude.{◌≡◌, ℕ, List, IfOk};
+ghost use Rattle.ilscope.specs.Faults.{IsFaultIn, IsLeastOf};
+ghost use Rattle.ilscope.specs.Tables.{declared_names, lowered};
 ghost use Rattle.ilscope.specs.Told.{IsTold, IsOptionTold};
 
-use crate::fault::{NameCause, NameFault};
+use crate::declarations::{bad_initials, names_of, table_of, variables_in};
+use crate::fault::NameFault;
 use crate::found::{Found, lesser_of};
 use crate::names::Names;
-use crate::values::initial_of;
 use binding::Binding;
-use ilsource::{Declaration, Name, Place, Program, Source};
+use ilsource::{Name, Place, Program, Source};
 use std::alloc::{AllocError, Global};
 use std::marker::Model;
 
@@ -60,15 +57,16 @@ impl<'a> Scope<'a> {
         ensures { IfOk result (λ scope. scope ≡ source.now) }
     {
         let lower = lower_case(alloc, source.text())?;
-        let mut programs = Names::new(alloc);
         let mut variables = Vec::new(alloc);
         let mut least = None;
         for program in source.programs() {
-            least = declare(alloc, &lower, &mut programs, program.name(), least)?;
-            let mut names = Names::new(alloc);
-            least = declare_all(alloc, &lower, &mut names, program.declarations(), least)?;
-            variables.push(names)?;
+            let (table, faults) = declared_in(alloc, &lower, program)?;
+            variables.push(table)?;
+            least = lesser_of(least, faults);
         }
+        let names = names_of(alloc, source.programs())?;
+        let (_, twice) = table_of(alloc, &lower, &names)?;
+        let least = lesser_of(least, twice);
         Ok(Scope {
             source,
             lower,
@@ -160,79 +158,19 @@ fn lower_case(alloc: Global, text: &[u8]) -> Result<Vec<u8>, AllocError>
         .collect(alloc)
 }
 
-/// Adds a name, or takes in the fault that it is there already.
-fn declare(
+/// The table of a program's variables, and the least fault of its declarations.
+fn declared_in(
     alloc: Global,
     lower: &[u8],
-    names: &mut Names,
-    name: Name,
-    least: Option<Found>,
-) -> Result<Option<Found>, AllocError>
-    ensures names { OnOk result (names.new ≡ (with_name lower.now (gathered names.old least) name).names) }
-    ensures least { IfOk result (λ r. r ≡ (with_name lower.now (gathered names.old least) name).least) }
+    program: &Program,
+) -> Result<(Names, Option<Found>), AllocError>
+    ensures table { IfOk result (λ r. (text : List ℕ) → lower.now ≡ lowered text
+        → r.0 ≡ declared_names text program.now) }
+    ensures least { IfOk result (λ r. (text : List ℕ) → lower.now ≡ lowered text
+        → IsLeastOf (IsFaultIn text program.now) r.1) }
 {
-    let key = name.text(lower);
-    if names.number_of(key).is_some() {
-        let found = Found {
-            at: name.from,
-            cause: NameCause::Twice,
-        };
-        return Ok(lesser_of(least, Some(found)));
-    }
-    names.add(alloc, key)?;
-    Ok(least)
-}
-
-/// Adds the names of one declaration, and takes in its faults.
-fn declare_names(
-    alloc: Global,
-    lower: &[u8],
-    names: &mut Names,
-    declared: &[Name],
-    mut least: Option<Found>,
-) -> Result<Option<Found>, AllocError>
-    ensures names { OnOk result (names.new ≡ (with_names lower.now (gathered names.old least) declared.now).names) }
-    ensures least { IfOk result (λ r. r ≡ (with_names lower.now (gathered names.old least) declared.now).least) }
-{
-    for name in declared {
-        least = declare(alloc, lower, names, *name, least)?;
-    }
-    Ok(least)
-}
-
-/// Takes in the fault of an initial value that BOOL hasn't.
-fn bad_initial(declaration: &Declaration, least: Option<Found>) -> Option<Found>
-    ensures { result ≡ with_initial least (initial_value declaration.now.initial) (slice_get declaration.now.names 0) }
-{
-    match (
-        initial_of(declaration.initial()),
-        declaration.names().first(),
-    ) {
-        (None, Some(name)) => lesser_of(
-            least,
-            Some(Found {
-                at: name.from,
-                cause: NameCause::BadDeclaration,
-            }),
-        ),
-        _ => least,
-    }
-}
-
-/// Adds the names of all declarations, and takes in their faults.
-fn declare_all(
-    alloc: Global,
-    lower: &[u8],
-    names: &mut Names,
-    declarations: &[Declaration],
-    mut least: Option<Found>,
-) -> Result<Option<Found>, AllocError>
-    ensures names { OnOk result (names.new ≡ (with_declarations lower.now (gathered names.old least) declarations.now).names) }
-    ensures least { IfOk result (λ r. r ≡ (with_declarations lower.now (gathered names.old least) declarations.now).least) }
-{
-    for declaration in declarations {
-        least = bad_initial(declaration, least);
-        least = declare_names(alloc, lower, names, declaration.names(), least)?;
-    }
-    Ok(least)
+    let names = variables_in(alloc, program)?;
+    let (table, twice) = table_of(alloc, lower, &names)?;
+    let least = lesser_of(twice, bad_initials(program.declarations()));
+    Ok((table, least))
 }

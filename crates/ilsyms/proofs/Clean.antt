@@ -1,5 +1,5 @@
 -- What holds where no fault was found.
-use Rattle.std.proofs.Common.{◌≡◌, ℕ, zero, suc, ◌<◌, ◌≤◌, List, [], ◌∷◌, map, length, Bool, true, false, refl, arith, get_or, inl, inr}
+use Rattle.std.proofs.Common.{◌≡◌, ℕ, zero, suc, ◌<◌, ◌≤◌, List, [], ◌∷◌, map, length, Bool, true, false, refl, arith, get_or, subst, inl, inr}
 use Rattle.std.specs.Prelude.{Option, Some, None, All, IsSome, IsSomeAnd, slice_get, is_some, if◌then◌else◌}
 use Rattle.iltypes.specs.declared.value.Value.{Value}
 use Rattle.ilsource.specs.declared.name.Name.{Name}
@@ -9,24 +9,18 @@ use Rattle.ilsource.specs.Trees.{Variables, Written, Tree}
 use Rattle.ilsyms.specs.CountingSteps.{counting}
 use Rattle.ilscope.specs.Declarations.{initial_value, variables_of}
 use Rattle.ilsyms.specs.Declarations.{slots_of, lines_of, name_in}
-use Rattle.ilscope.specs.GatheringSteps.{Gathered, gathered, with_name, with_names, with_initial, with_declaration, with_declarations}
 use Rattle.ilscope.specs.Tables.{number_in}
-use Rattle.ilscope.specs.GatheringSteps.{Scoping, with_program, with_programs, scoping, table_of}
 use Rattle.ilscope.specs.Order.{lesser}
 use Rattle.ilscope.specs.Tables.{lowered}
-use Rattle.ilsyms.specs.PlanningSteps.{IsKnownName, AreKnown}
+use Rattle.ilsyms.specs.PlanningSteps.{table_of, IsKnownName, AreKnown}
 use Rattle.ilscope.specs.Faults.{SomeOf, IsFaultOfDeclarations, IsLeastOf}
 use Rattle.ilscope.specs.declared.fault.NameCause.TheVariants.{Unknown, TooMany}
 use Rattle.ilscope.proofs.Exact.{in_table, bool_not}
-use Rattle.ilscope.proofs.LeastOfDeclarations.{scope_best}
 use Rattle.ilsyms.specs.Faults.{IsWellNamed, IsUnknownIn}
-use Rattle.ilsyms.proofs.LeastFault.{constants_to, wider}
+use Rattle.ilsyms.proofs.LeastFault.{constants_to}
+use Rattle.ilsyms.proofs.Tables.{declared_is}
 use Rattle.ilscope.specs.declared.found.Found.{Found}
 use Rattle.limits.specs.Limits.{most_instances, most_slots, most_words}
-
-pub none_lesser : (l : Option Found) (f : Found) → lesser l f ≡ None → ⊥
-none_lesser None f h = cc
-none_lesser (Some g) f h = cc
 
 pub none_length : {X : Type 0} (f : X → ℕ) (xs : List X) (n : ℕ) → slice_get (map f xs) n ≡ None → length xs ≤ n
 none_length f [] n h = omega arith
@@ -39,36 +33,6 @@ all_cons P x xs p all (suc k) d h = all k d (omega arith)
 
 pub all_nil : {X : Type 0} (P : X → Type 0) → All P []
 all_nil P k d h = absurd (omega arith)
-
-name_none : (b : Bool) (names more : List (List ℕ)) (l : Option Found) (f : Found) →
-    (if b then gathered names (lesser l f) else gathered more l).least ≡ None → l ≡ None
-name_none true names more l f h = absurd (none_lesser l f h)
-name_none false names more l f h = h
-
-pub one_none : (lower : List ℕ) (g : Gathered) (n : Name) → (with_name lower g n).least ≡ None → g.least ≡ None
-one_none lower g n h = name_none (is_some (number_in g.names (text_of lower n))) _ _ g.least _ h
-
-pub names_none : (lower : List ℕ) (ns : List Name) (g : Gathered) → (with_names lower g ns).least ≡ None → g.least ≡ None
-names_none lower [] g h = h
-names_none lower (n ∷ ns) g h = one_none lower g n (names_none lower ns (with_name lower g n) h)
-
-pub initial_none : (l : Option Found) (v : Option Value) (n : Option Name) → with_initial l v n ≡ None → l ≡ None
-initial_none l None None h = h
-initial_none l None (Some n) h = absurd (none_lesser l _ h)
-initial_none l (Some v) None h = h
-initial_none l (Some v) (Some n) h = h
-
-pub declarations_none : (lower : List ℕ) (ds : List Variables) (g : Gathered) → (with_declarations lower g ds).least ≡ None → g.least ≡ None
-declarations_none lower [] g h = h
-declarations_none lower (d ∷ ds) g h =
-    initial_none g.least (initial_value d.initial) (slice_get d.names 0) (names_none lower d.names _ (declarations_none lower ds (with_declaration lower g d) h))
-
-pub programs_none : (lower : List ℕ) (ps : List Written) (s : Scoping) → (with_programs lower s ps).least ≡ None → s.least ≡ None
-programs_none lower [] s h = h
-programs_none lower (p ∷ ps) s h =
-    let a : Gathered = with_name lower (gathered s.programs s.least) p.name in
-    let first = programs_none lower ps (with_program lower s p) h in
-    one_none lower (gathered s.programs s.least) p.name (declarations_none lower p.declarations (gathered [] a.least) first)
 
 -- each name in a program's lines is in its table
 abbrev pub UsesKnown : List ℕ → List Written → Type 0
@@ -87,7 +51,8 @@ name_known text p line none = known (name_in line.instruction) none
     known : (o : Option Name) → ((place : ℕ) → ¬ IsSomeAnd o (λ n. (SomeOf (SameName text n) (variables_of p) → ⊥) × (place ≡ n.from))) →
         IsKnownName (lowered text) (table_of (lowered text) p) o
     known None none = tt
-    known (Some n) none = there (number_in (table_of (lowered text) p) (text_of (lowered text) n)) (λ h. none n.from ((λ s. bool_not _ h (in_table text p n s)), refl))
+    known (Some n) none = there (number_in (table_of (lowered text) p) (text_of (lowered text) n))
+        (λ h. none n.from ((λ s. bool_not _ h (subst (λ (ks : List (List ℕ)). is_some (number_in ks (text_of (lowered text) n)) ≡ true) (declared_is text p) (in_table text p n s))), refl))
       where
         there : (o : Option ℕ) → (is_some o ≡ false → ⊥) → IsSome o
         there None h = absurd (h refl)
@@ -102,7 +67,6 @@ uses_known tree named i p b j line c =
 
 -- no fault of names, and no limit exceeded
 pub record IsClean (tree : Tree) : Type 0 where
-  pub declarations : (scoping tree).least ≡ None
   pub uses : UsesKnown (lowered tree.text) tree.programs
   pub instances : slice_get (map (λ p. p.name.from) tree.programs) most_instances ≡ None
   pub slots : slice_get (map (λ s. s.variable.from) (slots_of tree.programs)) most_slots ≡ None
@@ -113,14 +77,9 @@ none_at : (o : Option ℕ) → ((place : ℕ) → ¬ (o ≡ Some place)) → o �
 none_at None h = refl
 none_at (Some at) h = absurd (h at refl)
 
-none_found : (tree : Tree) (o : Option Found) → IsWellNamed tree → IsLeastOf (IsFaultOfDeclarations tree) o → o ≡ None
-none_found tree None named l = refl
-none_found tree (Some f) named l = absurd (named f.at f.cause (wider tree f.at f.cause l.is))
-
 pub clean : (tree : Tree) → IsWellNamed tree → IsClean tree
 clean tree named =
     record {
-      declarations = none_found tree ((scoping tree).least) named (scope_best tree);
       uses = uses_known tree named;
       instances = none_at _ (λ place e. named place TooMany (inl e));
       slots = none_at _ (λ place e. named place TooMany (inr (inl e)));

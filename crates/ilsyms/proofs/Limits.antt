@@ -17,7 +17,7 @@ use Rattle.ilsyms.specs.Faults.{IsWellNamed}
 use Rattle.ilsyms.specs.CountingSteps.{Counted, counted, with_one, with_line, with_lines, with_programs}
 use Rattle.ilsyms.specs.Declarations.{slots_of, slots_of_program, lines_of, name_in, name_in_operand, constant_in, constant_in_operand, constants_of, same_value}
 use Rattle.ilscope.specs.Tables.{number_in, first_at, lowered}
-use Rattle.ilscope.specs.GatheringSteps.{table_of}
+use Rattle.ilsyms.specs.PlanningSteps.{table_of}
 use Rattle.ilsyms.specs.PlanningSteps.{Planning, planning, with_instance, with_instances, planning_of, planned_instance, planned_operand, planned_instruction, planned_line, slot_number, IsKnownName, AreKnown}
 use Rattle.ilsyms.specs.Plans.{PlannedInstance, KeepsLimits, NamesSlotsBelow, all_lines, constants_in, slots_in}
 use Rattle.ilsyms.specs.Plans as plans

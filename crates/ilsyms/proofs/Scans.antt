@@ -1,8 +1,8 @@
 -- The instances that are planned for a source program without fault are those of its programs.
-use Rattle.std.proofs.Common.{◌≡◌, ℕ, suc, ◌+◌, List, [], ◌∷◌, ◌++◌, map, length, Bool, true, false, refl, ap, sym, ◌∙◌, arith, append_assoc, length-append}
+use Rattle.std.proofs.Common.{◌≡◌, ℕ, suc, ◌+◌, List, [], ◌∷◌, ◌++◌, map, length, Bool, true, false, refl, ap, sym, ◌∙◌, arith, subst, append_assoc, length-append, inl, inr, ◌⊎◌}
 use Rattle.std.proofs.lemmas.List.{length-map, append-nil}
 use Rattle.std.proofs.lemmas.Slice.Eq.{bytes_eq-Decides}
-use Rattle.std.specs.Prelude.{Option, Some, None, IsSome, flat_map, option_map, is_some, slice_get, unwrap_or, bytes_eq, if◌then◌else◌}
+use Rattle.std.specs.Prelude.{Option, Some, None, IsSome, fold, flat_map, option_map, is_some, slice_get, unwrap_or, bytes_eq, if◌then◌else◌}
 use Rattle.iltypes.specs.declared.value.Value.{Value}
 use Rattle.ilsource.specs.declared.name.Name.{Name}
 use Rattle.ilsource.specs.declared.instruction.Operand.{Operand}
@@ -15,20 +15,21 @@ use Rattle.ilsource.specs.Trees.{Variables, Written, Tree}
 use Rattle.ilsyms.specs.Faults.{IsWellNamed}
 use Rattle.ilsyms.specs.Declarations.{name_in, name_in_operand, slot, slots_of_declaration, slots_of_program, slots_of}
 use Rattle.ilscope.specs.Declarations.{initial_value, variables_of}
-use Rattle.ilscope.specs.GatheringSteps.{Gathered, gathered, with_name, with_names, with_declaration, with_declarations, with_initial, Scoping, scoping_of, with_program, with_programs, table_of}
-use Rattle.ilscope.specs.Tables.{first_at, number_in, lowered}
-use Rattle.ilscope.specs.Order.{lesser}
-use Rattle.ilsyms.specs.PlanningSteps.{planning, planning_of, planned_operand, planned_instruction, planned_line, slot_number, IsKnownName, AreKnown}
+use Rattle.ilscope.specs.Tables.{first_at, number_in, lowered, with_key}
+use Rattle.ilsyms.specs.PlanningSteps.{table_of, planning, planning_of, planned_operand, planned_instruction, planned_line, slot_number, IsKnownName, AreKnown}
 use Rattle.ilsyms.specs.Resolved.{Pairwise, IsInstanceOf}
 use Rattle.ilsyms.specs.SlotLines.{IsNumberOf, IsOperandOf, IsInstructionOf, IsLineOf}
 use Rattle.ilscope.specs.declared.found.Found.{Found}
 use Rattle.ilsyms.specs.declared.planned.Slot.{Slot}
 use Rattle.ilscope.proofs.Spelling.{key_is}
-use Rattle.ilsyms.proofs.Clean.{clean, names_none, declarations_none, none_lesser, programs_none, UsesKnown}
+use Rattle.ilsyms.proofs.Clean.{clean, UsesKnown}
 use Rattle.ilsyms.proofs.Limits.{instances_from, instances_are}
 use Rattle.ilsyms.proofs.Numbers.{found_number}
 use Rattle.ilsyms.proofs.Paired.{has_name}
-use Rattle.ilscope.proofs.Scopes.{declarations_alone}
+use Rattle.ilscope.proofs.Exact.{is_again, bool_false}
+use Rattle.ilscope.specs.Faults.{SomeOf, IsTwiceIn}
+use Rattle.ilscope.specs.declared.fault.NameCause.TheVariants.{Twice}
+use Rattle.ilsyms.proofs.Tables.{declared_is, count_slots}
 
 -- found in the first or in the second of two lists
 first_there : {X : Type 0} (test : X → Bool) (xs ys : List X) (k : ℕ) → first_at test xs ≡ Some k → first_at test (xs ++ ys) ≡ Some k
@@ -57,6 +58,10 @@ second_there test (x ∷ xs) ys k n e =
 map_append : {X Y : Type 0} (f : X → Y) (xs ys : List X) → map f (xs ++ ys) ≡ map f xs ++ map f ys
 map_append f [] ys = refl
 map_append f (x ∷ xs) ys = rw (map_append f xs ys) refl
+
+map_map : {X Y Z : Type 0} (f : X → Y) (g : Y → Z) (xs : List X) → map g (map f xs) ≡ map (λ x. g (f x)) xs
+map_map f g [] = refl
+map_map f g (x ∷ xs) = rw (map_map f g xs) refl
 
 -- slots of an instance of this name
 same_name : (text i v : List ℕ) (name : Name) (initial : Value) (ns : List Name) (rest : List Slot) (more : List (List ℕ)) →
@@ -103,14 +108,6 @@ is_same xs = (bytes_eq-Decides xs xs).1 refl
 slots_append : (ps qs : List Written) → slots_of (ps ++ qs) ≡ slots_of ps ++ slots_of qs
 slots_append [] qs = refl
 slots_append (p ∷ ps) qs = rw (slots_append ps qs) (sym (append_assoc (slots_of_program p) (slots_of ps) (slots_of qs)))
-
-count_slots : (name : Name) (ds : List Variables) → length (flat_map (slots_of_declaration name) ds) ≡ length (flat_map (λ d. d.names) ds)
-count_slots name [] = refl
-count_slots name (d ∷ ds) =
-    let h = count_slots name ds in
-    let a : length (slots_of_declaration name d ++ flat_map (slots_of_declaration name) ds) ≡ length d.names + length (flat_map (slots_of_declaration name) ds) = simp (length-append, length-map) refl in
-    let b = length-append d.names (flat_map (λ x. x.names) ds) in
-    omega (arith, h, a, b)
 
 -- what holds of each program where no fault was found: its name is none of those before, and its table has all its variables
 abbrev pub AreSound : List ℕ → List Written → List Written → Type 0
@@ -189,64 +186,41 @@ planned_from text all (p ∷ ps) front base e b sound =
       planned_from text all ps (front ++ p ∷ []) _ next further sound.3,
     )
 
--- without fault each name was added
-one_added : (b : Bool) (names : List (List ℕ)) (key : List ℕ) (l : Option Found) (f : Found) →
-    (if b then gathered names (lesser l f) else gathered (names ++ key ∷ []) l).least ≡ None →
-    ((if b then gathered names (lesser l f) else gathered (names ++ key ∷ []) l).names ≡ names ++ key ∷ []) × (b ≡ false)
-one_added true names key l f h = absurd (none_lesser l f h)
-one_added false names key l f h = (refl, refl)
+-- without a name that is given again each name was added
+all_added : (text : List ℕ) (vs front : List Name) → ((place : ℕ) → ¬ IsTwiceIn text (front ++ vs) place) →
+    fold with_key (map (folded text) front) (map (folded text) vs) ≡ map (folded text) (front ++ vs)
+all_added text [] front none = ap (λ (ns : List Name). map (folded text) ns) (sym (append-nil front))
+all_added text (v ∷ vs) front none =
+    let new : is_some (number_in (map (folded text) front) (folded text v)) ≡ false = bool_false _ (λ h. none v.from (is_again text front v vs h)) in
+    let one : with_key (map (folded text) front) (folded text v) ≡ map (folded text) (front ++ v ∷ []) = rw new (sym (map_append (folded text) front (v ∷ []))) in
+    ap (λ (ks : List (List ℕ)). fold with_key ks (map (folded text) vs)) one
+    ∙ all_added text vs (front ++ v ∷ []) (λ place t. none place (subst (λ (ns : List Name). IsTwiceIn text ns place) (append_assoc front (v ∷ []) vs) t))
+    ∙ ap (λ (ns : List Name). map (folded text) ns) (append_assoc front (v ∷ []) vs)
 
-added : (lower : List ℕ) (ns : List Name) (g : Gathered) → (with_names lower g ns).least ≡ None →
-    (with_names lower g ns).names ≡ g.names ++ map (text_of lower) ns
-added lower [] g h = sym (append-nil g.names)
-added lower (n ∷ ns) g h =
-    let o = one_added (is_some (number_in g.names (text_of lower n))) g.names (text_of lower n) g.least _ (names_none lower ns (with_name lower g n) h) in
-    added lower ns (with_name lower g n) h
-    ∙ ap (λ (ks : List (List ℕ)). ks ++ map (text_of lower) ns) o.0
-    ∙ append_assoc g.names (text_of lower n ∷ []) (map (text_of lower) ns)
-
-added_all : (lower : List ℕ) (ds : List Variables) (g : Gathered) → (with_declarations lower g ds).least ≡ None →
-    (with_declarations lower g ds).names ≡ g.names ++ map (text_of lower) (flat_map (λ d. d.names) ds)
-added_all lower [] g h = sym (append-nil g.names)
-added_all lower (d ∷ ds) g h =
-    let one = added lower d.names (gathered g.names (with_initial g.least (initial_value d.initial) (slice_get d.names 0))) (declarations_none lower ds (with_declaration lower g d) h) in
-    added_all lower ds (with_declaration lower g d) h
-    ∙ ap (λ (ks : List (List ℕ)). ks ++ map (text_of lower) (flat_map (λ x. x.names) ds)) one
-    ∙ append_assoc g.names (map (text_of lower) d.names) (map (text_of lower) (flat_map (λ x. x.names) ds))
-    ∙ ap (λ (ks : List (List ℕ)). g.names ++ ks) (sym (map_append (text_of lower) d.names (flat_map (λ x. x.names) ds)))
-
-map_keys : (text : List ℕ) (ns : List Name) → map (text_of (lowered text)) ns ≡ map (folded text) ns
-map_keys text [] = refl
-map_keys text (n ∷ ns) = rw (key_is text n, map_keys text ns) refl
-
-none_from : (o : Option ℕ) → is_some o ≡ false → o ≡ None
+none_from : (o : Option ℕ) → (is_some o ≡ true → ⊥) → o ≡ None
 none_from None h = refl
-none_from (Some n) h = absurd cc
+none_from (Some n) h = absurd (h refl)
 
-sound : (text : List ℕ) (ps front : List Written) (s : Scoping) → s.programs ≡ map (λ q. folded text q.name) front →
-    (with_programs (lowered text) s ps).least ≡ None → UsesKnown (lowered text) ps → AreSound text front ps
-sound text [] front s e h k = tt
-sound text (p ∷ ps) front s e h k =
-    let r = programs_none (lowered text) ps (with_program (lowered text) s p) h in
-    let a : Gathered = with_name (lowered text) (gathered s.programs s.least) p.name in
-    let b : Gathered = with_declarations (lowered text) (gathered [] a.least) p.declarations in
-    let n = declarations_none (lowered text) p.declarations (gathered [] a.least) r in
-    let o = one_added (is_some (number_in s.programs (text_of (lowered text) p.name))) s.programs (text_of (lowered text) p.name) s.least _ n in
-    let t : b.names ≡ table_of (lowered text) p = declarations_alone (lowered text) p.declarations [] a.least None in
-    let all : b.names ≡ map (folded text) (variables_of p) = added_all (lowered text) p.declarations (gathered [] a.least) r ∙ map_keys text (variables_of p) in
-    let apart : first_at (bytes_eq (folded text p.name)) (map (λ q. folded text q.name) front) ≡ None =
-    ap (λ (key : List ℕ). number_in (map (λ q. folded text q.name) front) key) (sym (key_is text p.name))
-    ∙ ap (λ (ks : List (List ℕ)). number_in ks (text_of (lowered text) p.name)) (sym e)
-    ∙ none_from _ o.1
+sound : (text : List ℕ) (ps front : List Written) → ((place : ℕ) → ¬ IsTwiceIn text (map (λ p. p.name) (front ++ ps)) place) →
+    ((place : ℕ) → ¬ SomeOf (λ p. IsTwiceIn text (variables_of p) place) ps) → UsesKnown (lowered text) ps → AreSound text front ps
+sound text [] front apart each k = tt
+sound text (p ∷ ps) front apart each k =
+    let names : map (λ q. folded text q.name) front ≡ map (folded text) (map (λ q. q.name) front) = sym (map_map (λ q. q.name) (folded text) front) in
+    let before : first_at (bytes_eq (folded text p.name)) (map (λ q. folded text q.name) front) ≡ None =
+    none_from _ (λ h. apart p.name.from
+    (subst (λ (ns : List Name). IsTwiceIn text ns p.name.from) (sym (map_append (λ q. q.name) front (p ∷ ps)))
+    (is_again text (map (λ q. q.name) front) p.name (map (λ q. q.name) ps) (rw names at h))))
     in
-    let next : a.names ≡ map (λ q. folded text q.name) (front ++ p ∷ []) =
-    o.0
-    ∙ ap (λ (ks : List (List ℕ)). ks ++ text_of (lowered text) p.name ∷ []) e
-    ∙ ap (λ (key : List ℕ). map (λ q. folded text q.name) front ++ key ∷ []) (key_is text p.name)
-    ∙ sym (map_append (λ q. folded text q.name) front (p ∷ []))
+    let table : table_of (lowered text) p ≡ map (folded text) (variables_of p) =
+    sym (declared_is text p) ∙ all_added text (variables_of p) [] (λ place t. each place (inl t))
     in
-    let rest : UsesKnown (lowered text) ps = λ i q b. k (suc i) q (omega (arith, b)) in
-    (apart, sym t ∙ all, k 0 p (omega arith), sound text ps (front ++ p ∷ []) (with_program (lowered text) s p) next h rest)
+    let rest : UsesKnown (lowered text) ps = λ i q b. k (suc i) q (omega (arith, b)) in (
+      before,
+      table,
+      k 0 p (omega arith),
+      sound text ps (front ++ p ∷ []) (λ place t. apart place (subst (λ (qs : List Written). IsTwiceIn text (map (λ q. q.name) qs) place) (append_assoc front (p ∷ []) ps) t))
+          (λ place t. each place (inr t)) rest,
+    )
 
 -- where no fault was found, each program has its instance
 pub instances_of : (tree : Tree) → IsWellNamed tree → Pairwise (IsInstanceOf tree.text (slots_of tree.programs)) tree.programs (planning_of tree).instances
@@ -254,4 +228,4 @@ instances_of tree h =
     let e : (planning_of tree).instances ≡ instances_from tree.text (lowered tree.text) 0 tree.programs = instances_are tree.text (lowered tree.text) tree.programs (planning [] 0) in
     rw e
     (planned_from tree.text (slots_of tree.programs) tree.programs [] 0 refl refl
-    (sound tree.text tree.programs [] (scoping_of [] [] None) refl (clean tree h).declarations (clean tree h).uses))
+    (sound tree.text tree.programs [] (λ place t. h place Twice (inl t)) (λ place t. h place Twice (inr t)) (clean tree h).uses))

@@ -1,45 +1,42 @@
 -- How many names a table has: at most as many as there are variables, so that slot numbers stay below the number of slots.
 use Rattle.std.proofs.Common.{◌≡◌, ℕ, zero, suc, ◌+◌, ◌<◌, ◌≤◌, List, [], ◌∷◌, ◌++◌, map, length, get_or, take, Bool, true, false, refl, ap, sym, arith, subst, length-append}
 use Rattle.std.proofs.lemmas.List.{length-map}
-use Rattle.std.specs.Prelude.{Option, Some, None, All, slice_get, is_some, flat_map, if◌then◌else◌}
+use Rattle.std.specs.Prelude.{Option, Some, None, All, slice_get, is_some, flat_map, fold, if◌then◌else◌}
 use Rattle.std.proofs.lemmas.List.Elements.{All-get_or}
 use Rattle.std.proofs.lemmas.List.Folds.{length-flat_map-take}
 use Rattle.ilsource.specs.declared.name.Name.{Name}
 use Rattle.ilsource.specs.Names.{text_of}
 use Rattle.ilsource.specs.Trees.{Variables, Written}
 use Rattle.ilsyms.specs.Declarations.{slots_of_declaration, slots_of_program, slots_of}
-use Rattle.ilscope.specs.GatheringSteps.{Gathered, gathered, with_name, with_names, with_declaration, with_declarations, table_of}
-use Rattle.ilscope.specs.Tables.{number_in}
-use Rattle.ilsyms.specs.PlanningSteps.{Planning, planning, with_instance, with_instances, AreKnown}
-use Rattle.ilscope.specs.declared.found.Found.{Found}
+use Rattle.ilscope.specs.Declarations.{variables_of}
+use Rattle.ilscope.specs.Tables.{number_in, lowered, with_key, declared_names}
+use Rattle.ilscope.proofs.Exact.{map_keys}
+use Rattle.ilsyms.specs.PlanningSteps.{table_of, Planning, planning, with_instance, with_instances, AreKnown}
 
-one_more : (b : Bool) (names : List (List ℕ)) (key : List ℕ) (l m : Option Found) →
-    length ((if b then gathered names m else gathered (names ++ key ∷ []) l).names) ≤ length names + 1
-one_more true names key l m = omega arith
-one_more false names key l m = omega (arith, length-append names (key ∷ []))
+-- a program's table, in either spelling of the text
+pub declared_is : (text : List ℕ) (p : Written) → declared_names text p ≡ table_of (lowered text) p
+declared_is text p = ap (λ (ks : List (List ℕ)). fold with_key [] ks) (sym (map_keys text (variables_of p)))
 
-names_le : (lower : List ℕ) (ns : List Name) (g : Gathered) → length ((with_names lower g ns).names) ≤ length g.names + length ns
-names_le lower [] g = omega arith
-names_le lower (n ∷ ns) g =
-    let h : length ((with_names lower (with_name lower g n) ns).names) ≤ length ((with_name lower g n).names) + length ns = names_le lower ns (with_name lower g n) in
-    let o : length ((with_name lower g n).names) ≤ length g.names + 1 =
-    one_more (is_some (number_in g.names (text_of lower n))) g.names (text_of lower n) g.least _
-    in
-    omega (arith, h, o)
+one_more : (b : Bool) (names : List (List ℕ)) (key : List ℕ) → length (if b then names else names ++ key ∷ []) ≤ length names + 1
+one_more true names key = omega arith
+one_more false names key = omega (arith, length-append names (key ∷ []))
 
-declarations_le : (lower : List ℕ) (name : Name) (ds : List Variables) (g : Gathered) →
-    length ((with_declarations lower g ds).names) ≤ length g.names + length (flat_map (slots_of_declaration name) ds)
-declarations_le lower name [] g = omega arith
-declarations_le lower name (d ∷ ds) g =
-    let h = declarations_le lower name ds (with_declaration lower g d) in
-    let o : length ((with_declaration lower g d).names) ≤ length g.names + length d.names = names_le lower d.names _ in
-    let s : length (slots_of_declaration name d ++ flat_map (slots_of_declaration name) ds) ≡ length d.names + length (flat_map (slots_of_declaration name) ds) =
-    simp (length-append, length-map) refl
-    in
-    omega (arith, h, o, s)
+keys_le : (keys names : List (List ℕ)) → length (fold with_key names keys) ≤ length names + length keys
+keys_le [] names = omega arith
+keys_le (k ∷ ks) names = omega (arith, keys_le ks (with_key names k), one_more (is_some (number_in names k)) names k)
+
+pub count_slots : (name : Name) (ds : List Variables) → length (flat_map (slots_of_declaration name) ds) ≡ length (flat_map (λ d. d.names) ds)
+count_slots name [] = refl
+count_slots name (d ∷ ds) =
+    let h = count_slots name ds in
+    let a : length (slots_of_declaration name d ++ flat_map (slots_of_declaration name) ds) ≡ length d.names + length (flat_map (slots_of_declaration name) ds) = simp (length-append, length-map) refl in
+    let b = length-append d.names (flat_map (λ x. x.names) ds) in
+    omega (arith, h, a, b)
 
 pub table_le : (lower : List ℕ) (p : Written) → length (table_of lower p) ≤ length (slots_of_program p)
-table_le lower p = omega (arith, declarations_le lower p.name p.declarations (gathered [] None))
+table_le lower p =
+    let m : length (map (text_of lower) (variables_of p)) ≡ length (variables_of p) = simp length-map in
+    omega (arith, keys_le (map (text_of lower) (variables_of p)) [], count_slots p.name p.declarations, m)
 
 pub base_le : (text lower : List ℕ) (ps : List Written) (s : Planning) → (with_instances text lower s ps).base ≤ s.base + length (slots_of ps)
 base_le text lower [] s = omega arith

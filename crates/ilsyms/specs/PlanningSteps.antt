@@ -10,14 +10,18 @@ use Rattle.ilsource.specs.Names.{text_of}
 use Rattle.ilsource.specs.Places.{line_at}
 use Rattle.ilsource.specs.Trees.{Written, Tree}
 use Rattle.ilsyms.specs.Declarations.{constant_value, name_in}
-use Rattle.ilscope.specs.Tables.{number_in, lowered}
-use Rattle.ilscope.specs.GatheringSteps.{table_of}
+use Rattle.ilscope.specs.Tables.{number_in, lowered, with_key}
+use Rattle.ilscope.specs.Declarations.{variables_of}
 use Rattle.ilsyms.specs.Plans.{PlannedInstance}
 use Rattle.ilsyms.specs.declared.planned.PlannedOperand.{PlannedOperand}
 use Rattle.ilsyms.specs.declared.planned.PlannedOperand.TheVariants as operands
 use Rattle.ilsyms.specs.declared.planned.PlannedInstruction.{PlannedInstruction}
 use Rattle.ilsyms.specs.declared.planned.PlannedInstruction.TheVariants as planned
 use Rattle.ilsyms.specs.declared.planned.PlannedLine.{PlannedLine}
+
+-- the table of a program's variables, in a text whose letters are in lower case
+abbrev pub table_of : List ℕ → Written → List (List ℕ)
+table_of lower program = fold with_key [] (map (text_of lower) (variables_of program))
 
 -- the number of a name's slot, where the instance's slots begin at `base`
 abbrev pub slot_number : List ℕ → List (List ℕ) → ℕ → Name → ℕ

@@ -4,7 +4,7 @@ ghost use Rattle.std.specs.Prelude.{◌≡◌, ◌+◌, ◌<◌, ◌≤◌, ◌^
 ghost use Rattle.ilsource.specs.Names.{text_of};
 ghost use Rattle.ilsyms.specs.Declarations.{name_in, name_in_operand, slots_of};
 ghost use Rattle.ilscope.specs.Tables.{number_in, lowered};
-ghost use Rattle.ilscope.specs.GatheringSteps.{table_of};
+ghost use Rattle.ilsyms.specs.PlanningSteps.{table_of};
 ghost use Rattle.ilsyms.specs.PlanningSteps.{slot_number, planned_operand, planned_instruction, planned_line, IsKnownName, AreKnown, planning_of};
 ghost use Rattle.limits.specs.Limits.{most_slots};
 

@@ -1,8 +1,8 @@
 use Rattle.std.proofs.Common.{◌≡◌, ◌+◌, ◌<◌, ap, ◌∙◌, arith, get_or, length, take, List, [], sym}
 use Rattle.ilsource.specs.Trees.{Tree, Written}
 use Rattle.ilscope.specs.Tables.{lowered, declared_names}
-use Rattle.ilscope.proofs.Exact.{declared_is}
-use Rattle.ilscope.specs.GatheringSteps.{table_of}
+use Rattle.ilsyms.proofs.Tables.{declared_is}
+use Rattle.ilsyms.specs.PlanningSteps.{table_of}
 use Rattle.ilsyms.specs.PlanningSteps.{Planning, planning, with_instance, with_instances}
 use Rattle.std.proofs.lemmas.List.Sums.{fold_more}
 use Rattle.ilsyms.proofs.Tables.{got, room, known_at}
