@@ -208,26 +208,28 @@ within_of type (knowns.Int r) f a h o =
     } in
     o.out (subst (λ (x : Range). IsWithin x a) s w)
 
-no_cause : (function : Function) (operand known : Known) → IsAfterFunction function operand known → (cause : Cause)
+-- where each value has a value no cause arises
+pub no_cause : (function : Function) (operand : Known)
+    → ((x : Value) → IsKnown x operand → IsSome (value_of_function function x)) → (cause : Cause)
     → ¬ ArisesAtFunction function operand cause
-no_cause function operand known h WrongType a =
+no_cause function operand h WrongType a =
     let x = example operand in
-    not_both (value_of_function function x.0) (h.some x.0 x.1) (a x.0 (kind_of_known x.0 operand x.1))
-no_cause function operand known h MayBeZero a = a
-no_cause (functions.Convert type) operand known h (OutOfRange f b) a = within_of type operand f b h.some a
-no_cause functions.Not operand known h (OutOfRange f b) a = a
-no_cause functions.Abs operand known h (OutOfRange f b) a = a
-no_cause (functions.Convert type) operand known h TooBig a = a
-no_cause functions.Not operand known h TooBig a =
-    not_both (value_of_function functions.Not a.x) (h.some a.x a.of_operand) a.none
-no_cause functions.Abs operand known h TooBig a =
-    not_both (value_of_function functions.Abs a.x) (h.some a.x a.of_operand) a.none
+    not_both (value_of_function function x.0) (h x.0 x.1) (a x.0 (kind_of_known x.0 operand x.1))
+no_cause function operand h MayBeZero a = a
+no_cause (functions.Convert type) operand h (OutOfRange f b) a = within_of type operand f b h a
+no_cause functions.Not operand h (OutOfRange f b) a = a
+no_cause functions.Abs operand h (OutOfRange f b) a = a
+no_cause (functions.Convert type) operand h TooBig a = a
+no_cause functions.Not operand h TooBig a =
+    not_both (value_of_function functions.Not a.x) (h a.x a.of_operand) a.none
+no_cause functions.Abs operand h TooBig a =
+    not_both (value_of_function functions.Abs a.x) (h a.x a.of_operand) a.none
 
 pub function_refused : (function : Function) (operand : Known) (result : Result Known Cause)
     → IsFunctionVerdict function operand result → (cause : Cause)
     → (result ≡ Err cause) ↔ IsLeastCause (ArisesAtFunction function operand) cause
 function_refused function operand (Ok known) h cause =
-    (λ e. let k : ⊥ = cc in absurd k, λ l. absurd (no_cause function operand known h cause l.arises))
+    (λ e. let k : ⊥ = cc in absurd k, λ l. absurd (no_cause function operand h.some cause l.arises))
 function_refused function operand (Err c) h cause = (
   λ e. let q : c ≡ cause = cc in subst (IsLeastCause (ArisesAtFunction function operand)) q h,
   λ l.

@@ -50,7 +50,7 @@ refusals operator left right wider_left wider_right wider cause p q a h =
 
 -- ---- the order, where the limits of a range are results
 
-given : (o : Option Value) → IsSome o → (v : Value) × (o ≡ Some v)
+pub given : (o : Option Value) → IsSome o → (v : Value) × (o ≡ Some v)
 given None h = let k : ⊥ = cc in absurd k
 given (Some v) h = (v, refl)
 
@@ -63,12 +63,12 @@ some_result operator left right known h =
     let v = given (value_of_operator operator x.0 y.0) (h.some x.0 y.0 x.1 y.1) in
     (v.0, record { x = x.0; y = y.0; of_left = x.1; of_right = y.1; is = v.1 })
 
-truths_within : (v : Value) (wider : Known) → IsKnown v knowns.Bool → IsKnown v wider → IsKnownWithin knowns.Bool wider
+pub truths_within : (v : Value) (wider : Known) → IsKnown v knowns.Bool → IsKnown v wider → IsKnownWithin knowns.Bool wider
 truths_within (values.Bool b) knowns.Bool h k = tt
 truths_within (values.Bool b) (knowns.Int r) h k = absurd k
 truths_within (values.Int z) wider h k = absurd h
 
-numbers_within : (r : Range) (wider : Known) → IsKnown (values.Int r.lo) wider → IsKnown (values.Int r.hi) wider
+pub numbers_within : (r : Range) (wider : Known) → IsKnown (values.Int r.lo) wider → IsKnown (values.Int r.hi) wider
     → IsKnownWithin (knowns.Int r) wider
 numbers_within r knowns.Bool h k = absurd h
 numbers_within r (knowns.Int s) h k = record { low = h.low; high = k.high }

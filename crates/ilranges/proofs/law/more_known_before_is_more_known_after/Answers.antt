@@ -1,4 +1,5 @@
 use Rattle.ilranges.proofs.Monotone.{order, refusals}
+use Rattle.ilranges.proofs.MonotoneFunctions as functions
 use Rattle.ilranges.proofs.law.more_known_before_is_more_known_after.Goals as goal
 
 pub returns-clause-order : goal.returns-clause-order
@@ -6,3 +7,9 @@ returns-clause-order c = order
 
 pub returns-clause-refusals : goal.returns-clause-refusals
 returns-clause-refusals c = refusals
+
+pub returns-clause-function_order : goal.returns-clause-function_order
+returns-clause-function_order c = functions.order
+
+pub returns-clause-function_refusals : goal.returns-clause-function_refusals
+returns-clause-function_refusals c = functions.refusals
