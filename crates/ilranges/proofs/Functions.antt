@@ -1,5 +1,6 @@
 -- What is known after ABS and a conversion, and the one cause of a refusal.
-use Rattle.std.proofs.Common.{◌≡◌, ◌∙◌, ℤ, pos, ◌≤◌, ◌≤ℤ◌, FitsSigned, Option, Some, None, IsSome, Result, Ok, Err, Bool, true, false}
+use Rattle.std.proofs.Common.{◌≡◌, ◌∙◌, ℤ, pos, ◌≤◌, ◌≤ℤ◌, FitsSigned, Option}
+use Rattle.std.proofs.Common.{Some, None, IsSome, Result, Ok, Err, Bool, true, false}
 use Rattle.std.proofs.Common.{IsTrue, refl, sym, ap, subst, arith}
 use Rattle.std.specs.Prelude.{IsNone, IfSome, ◌↔◌, ◌&&◌, int_le, unsigned_abs, if◌then◌else◌}
 use Rattle.std.specs.Int.{w64}

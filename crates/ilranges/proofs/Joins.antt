@@ -19,11 +19,13 @@ not_of_both (knowns.Int r) z h k = h
 
 pub apart : (range : Range) → ¬ IsHeld knowns.Bool (knowns.Int range)
 apart range h =
-    not_of_both h.known range.lo (h.each (values.Bool true) (inl tt)) (h.each (values.Int range.lo) (inr (holds_low range)))
+    not_of_both h.known range.lo (h.each (values.Bool true) (inl tt)) (h.each (values.Int range.lo) (inr
+    (holds_low range)))
 
 pub apart_round : (range : Range) → ¬ IsHeld (knowns.Int range) knowns.Bool
 apart_round range h =
-    not_of_both h.known range.lo (h.each (values.Bool true) (inr tt)) (h.each (values.Int range.lo) (inl (holds_low range)))
+    not_of_both h.known range.lo (h.each (values.Bool true) (inr tt)) (h.each (values.Int range.lo) (inl
+    (holds_low range)))
 
 in_numbers : (one other range : Range) → ((z : ℤ) → IsOfEither one other z → Holds range z) → (v : Value)
     → IsKnownAsEither (knowns.Int one) (knowns.Int other) v → IsKnown v (knowns.Int range)

@@ -1,5 +1,6 @@
 -- Who knows more before an operator knows more after it.
-use Rattle.std.proofs.Common.{ℕ, ◌≤◌, ℤ, pos, negsuc, neg_ℤ, ◌≤ℤ◌, Option, Some, None, IsSome, Bool, true, false, ◌≡◌, refl, sym, subst, arith}
+use Rattle.std.proofs.Common.{ℕ, ◌≤◌, ℤ, pos, negsuc, neg_ℤ, ◌≤ℤ◌, Option, Some}
+use Rattle.std.proofs.Common.{None, IsSome, Bool, true, false, ◌≡◌, refl, sym, subst, arith}
 use Rattle.std.specs.Prelude.{max, unsigned_abs, int_lt, if◌then◌else◌}
 use Rattle.std.specs.Int.{int_min, int_max}
 use Rattle.std.proofs.lemmas.Int.{ints, clamps}
@@ -63,7 +64,8 @@ some_result operator left right known h =
     let v = given (value_of_operator operator x.0 y.0) (h.some x.0 y.0 x.1 y.1) in
     (v.0, record { x = x.0; y = y.0; of_left = x.1; of_right = y.1; is = v.1 })
 
-pub truths_within : (v : Value) (wider : Known) → IsKnown v knowns.Bool → IsKnown v wider → IsKnownWithin knowns.Bool wider
+pub truths_within : (v : Value) (wider : Known) → IsKnown v knowns.Bool → IsKnown v wider
+    → IsKnownWithin knowns.Bool wider
 truths_within (values.Bool b) knowns.Bool h k = tt
 truths_within (values.Bool b) (knowns.Int r) h k = absurd k
 truths_within (values.Int z) wider h k = absurd h

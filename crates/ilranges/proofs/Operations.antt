@@ -143,7 +143,8 @@ verdict_of operator f left right None c none least =
         of_left = r.of_left;
         of_right = r.of_right;
         divisor = c.divisor r.y r.of_right;
-        none = rw (c.value r.x r.y r.of_left r.of_right) (number_none (f r.x r.y) (λ h. l.out (subst (FitsSigned w64) r.is h)));
+        none = rw (c.value r.x r.y r.of_left r.of_right) (number_none (f r.x r.y) (λ h. l.out (subst
+            (FitsSigned w64) r.is h)));
       };
       least = least_too_big operator f left right c;
     }
@@ -201,24 +202,26 @@ pub div_by_zero : (left right : Range) → Holds right (pos 0)
     → IsLeastCause (Arises operators.Div (knowns.Int left) (knowns.Int right)) MayBeZero
 div_by_zero left right h = record {
   arises = record { y = values.Int (pos 0); of_right = h; is = refl };
-  least = λ other a. elim other as (λ c. Arises operators.Div (knowns.Int left) (knowns.Int right) c → number_of MayBeZero ≤ number_of c) [
-    | WrongType ↦ λ w. let n = w (values.Int (pos 1)) (values.Int (pos 1)) tt tt in let k : ⊥ = cc in absurd k
-    | MayBeZero ↦ λ w. omega arith
-    | OutOfRange f b ↦ λ w. omega arith
-    | TooBig ↦ λ w. omega arith
-  ] a;
+  least = λ other a. elim other as (λ c. Arises operators.Div (knowns.Int left) (knowns.Int right) c
+      → number_of MayBeZero ≤ number_of c) [
+        | WrongType ↦ λ w. let n = w (values.Int (pos 1)) (values.Int (pos 1)) tt tt in let k : ⊥ = cc in absurd k
+        | MayBeZero ↦ λ w. omega arith
+        | OutOfRange f b ↦ λ w. omega arith
+        | TooBig ↦ λ w. omega arith
+      ] a;
 }
 
 pub mod_by_zero : (left right : Range) → Holds right (pos 0)
     → IsLeastCause (Arises operators.Mod (knowns.Int left) (knowns.Int right)) MayBeZero
 mod_by_zero left right h = record {
   arises = record { y = values.Int (pos 0); of_right = h; is = refl };
-  least = λ other a. elim other as (λ c. Arises operators.Mod (knowns.Int left) (knowns.Int right) c → number_of MayBeZero ≤ number_of c) [
-    | WrongType ↦ λ w. let n = w (values.Int (pos 1)) (values.Int (pos 1)) tt tt in let k : ⊥ = cc in absurd k
-    | MayBeZero ↦ λ w. omega arith
-    | OutOfRange f b ↦ λ w. omega arith
-    | TooBig ↦ λ w. omega arith
-  ] a;
+  least = λ other a. elim other as (λ c. Arises operators.Mod (knowns.Int left) (knowns.Int right) c
+      → number_of MayBeZero ≤ number_of c) [
+        | WrongType ↦ λ w. let n = w (values.Int (pos 1)) (values.Int (pos 1)) tt tt in let k : ⊥ = cc in absurd k
+        | MayBeZero ↦ λ w. omega arith
+        | OutOfRange f b ↦ λ w. omega arith
+        | TooBig ↦ λ w. omega arith
+      ] a;
 }
 
 pub mod_of : (left right range : Range) → FitsSigned w64 range.lo → FitsSigned w64 range.hi → ¬ Holds right (pos 0)

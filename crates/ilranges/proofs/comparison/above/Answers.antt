@@ -5,4 +5,5 @@ use Rattle.ilranges.proofs.comparison.above.Goals as goal
 
 pub returns : goal.returns
 returns c =
-    kept_above c.args.range _ c.args.limit (omega (arith, ints)) (omega (arith, ints, clamps, c.max.ensures.value)) (omega (arith, ints))
+    kept_above c.args.range _ c.args.limit (omega (arith, ints)) (omega (arith, ints, clamps, c.max.ensures.value))
+    (omega (arith, ints))

@@ -5,4 +5,5 @@ use Rattle.ilranges.proofs.comparison.from.Goals as goal
 
 pub returns : goal.returns
 returns c =
-    kept_from c.args.range _ c.args.limit (omega (arith, ints)) (omega (arith, ints, clamps, c.max.ensures.value)) (omega (arith, ints))
+    kept_from c.args.range _ c.args.limit (omega (arith, ints)) (omega (arith, ints, clamps, c.max.ensures.value))
+    (omega (arith, ints))

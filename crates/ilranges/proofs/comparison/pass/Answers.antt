@@ -25,23 +25,27 @@ returns-else-outcome-3 c =
 pub returns-then-outcome-4 : goal.returns-then-outcome-4
 returns-then-outcome-4 c =
     rw (c.in-Ne.is, c.if-outcome-4.true)
-    (ne_true c.args.range c.without_end-then-outcome-4.result _ c.args.limit (again w64 c.args.limit c.args.limit c.ranges.limit refl)
+    (ne_true c.args.range c.without_end-then-outcome-4.result _ c.args.limit (again w64 c.args.limit c.args.limit
+    c.ranges.limit refl)
     c.without_end-then-outcome-4.ensures)
 
 pub returns-then-outcome-5 : goal.returns-then-outcome-5
 returns-then-outcome-5 c =
     rw (c.in-Le.is, c.if-outcome-5.true)
-    (le_true c.args.range c.up_to-then-outcome-5.result _ c.args.limit (again w64 c.args.limit c.args.limit c.ranges.limit refl)
+    (le_true c.args.range c.up_to-then-outcome-5.result _ c.args.limit (again w64 c.args.limit c.args.limit
+    c.ranges.limit refl)
     c.up_to-then-outcome-5.ensures)
 
 pub returns-else-outcome-5 : goal.returns-else-outcome-5
 returns-else-outcome-5 c =
     rw (c.in-Le.is, c.if-outcome-5.false)
-    (le_false c.args.range c.above-else-outcome-5.result _ c.args.limit (again w64 c.args.limit c.args.limit c.ranges.limit refl)
+    (le_false c.args.range c.above-else-outcome-5.result _ c.args.limit (again w64 c.args.limit c.args.limit
+    c.ranges.limit refl)
     c.above-else-outcome-5.ensures)
 
 pub returns-else-outcome-6 : goal.returns-else-outcome-6
 returns-else-outcome-6 c =
     rw (c.in-Lt.is, c.if-outcome-6.false)
-    (lt_false c.args.range c.from-else-outcome-6.result _ c.args.limit (again w64 c.args.limit c.args.limit c.ranges.limit refl)
+    (lt_false c.args.range c.from-else-outcome-6.result _ c.args.limit (again w64 c.args.limit c.args.limit
+    c.ranges.limit refl)
     c.from-else-outcome-6.ensures)

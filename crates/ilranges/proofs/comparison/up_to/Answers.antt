@@ -5,4 +5,9 @@ use Rattle.ilranges.proofs.comparison.up_to.Goals as goal
 
 pub returns : goal.returns
 returns c =
-    kept_up_to c.args.range _ c.args.limit (omega (arith, ints)) (omega (arith, ints)) (omega (arith, ints, clamps, c.min.ensures.value))
+    kept_up_to c.args.range _ c.args.limit (omega (arith, ints)) (omega (arith, ints)) (omega (
+      arith,
+      ints,
+      clamps,
+      c.min.ensures.value,
+    ))
