@@ -1,6 +1,6 @@
 //! The entries of a scenario.
 
-use daliframe::{Frame24, InstanceNumber, ShortAddress};
+use daliframe::{BusNumber, Frame24, InstanceNumber, InstanceType, ShortAddress};
 
 /// What becomes of a frame that is sent.
 #[derive(Clone, Copy, Debug, PartialEq, Eq)]
@@ -13,22 +13,22 @@ pub enum FrameFate {
     Fault,
 }
 
-/// What a line of a scenario says. Buses are 0 to 15.
+/// What a line of a scenario says.
 #[derive(Clone, Copy, Debug, PartialEq, Eq)]
 pub enum Entry {
     /// There is a control gear.
     Gear {
-        bus: u8,
+        bus: BusNumber,
         short: ShortAddress,
     },
     /// The lamp of a control gear failed.
     LampFailure {
-        bus: u8,
+        bus: BusNumber,
         short: ShortAddress,
     },
     /// A place of a memory bank of a control gear has this value.
     Memory {
-        bus: u8,
+        bus: BusNumber,
         short: ShortAddress,
         bank: u8,
         offset: u8,
@@ -36,16 +36,16 @@ pub enum Entry {
     },
     /// There is a control device.
     Device {
-        bus: u8,
+        bus: BusNumber,
         short: ShortAddress,
     },
     /// A control device has this instance.
     Instance {
-        bus: u8,
+        bus: BusNumber,
         short: ShortAddress,
         number: InstanceNumber,
-        /// The instance type, 0 to 31 (IEC 62386-103).
-        kind: u8,
+        /// The instance type (IEC 62386-103).
+        kind: InstanceType,
         /// The event scheme, 0 to 4 (IEC 62386-103).
         scheme: u8,
         /// The input value.
@@ -53,14 +53,14 @@ pub enum Entry {
     },
     /// What becomes of a frame that is sent on a bus.
     Reply {
-        bus: u8,
+        bus: BusNumber,
         /// Which of the frames that are sent there, from 1.
         place: u64,
         fate: FrameFate,
     },
     /// The next hear on a bus fails.
     HearFault {
-        bus: u8,
+        bus: BusNumber,
     },
     /// The clock comes to this moment, in milliseconds.
     Tick {
@@ -68,7 +68,7 @@ pub enum Entry {
     },
     /// A frame of a control device is heard.
     Event {
-        bus: u8,
+        bus: BusNumber,
         frame: Frame24,
     },
 }
@@ -79,21 +79,23 @@ impl Entry {
     ghost use Rattle.scenario.specs.Following.{is_reply_to, clock_after};
 
     /// Whether it declares this control gear.
-    pub(crate) fn is_gear_at(&self, bus: u8, short: ShortAddress) -> bool
+    pub(crate) fn is_gear_at(&self, bus: BusNumber, short: ShortAddress) -> bool
         ensures { result ≡ is_gear_at bus short self.now }
     {
         match *self {
-            Entry::Gear { bus: on, short: at } => on == bus && at.number() == short.number(),
+            Entry::Gear { bus: on, short: at } => on.number() == bus.number()
+                && at.number() == short.number(),
             _ => false,
         }
     }
 
     /// Whether it declares this control device.
-    pub(crate) fn is_device_at(&self, bus: u8, short: ShortAddress) -> bool
+    pub(crate) fn is_device_at(&self, bus: BusNumber, short: ShortAddress) -> bool
         ensures { result ≡ is_device_at bus short self.now }
     {
         match *self {
-            Entry::Device { bus: on, short: at } => on == bus && at.number() == short.number(),
+            Entry::Device { bus: on, short: at } => on.number() == bus.number()
+                && at.number() == short.number(),
             _ => false,
         }
     }
@@ -101,7 +103,7 @@ impl Entry {
     /// Whether it declares this instance of a control device.
     pub(crate) fn is_instance_at(
         &self,
-        bus: u8,
+        bus: BusNumber,
         short: ShortAddress,
         number: InstanceNumber,
     ) -> bool
@@ -113,13 +115,17 @@ impl Entry {
                 short: at,
                 number: its,
                 ..
-            } => { on == bus && at.number() == short.number() && its.number() == number.number() }
+            } => {
+                on.number() == bus.number()
+                    && at.number() == short.number()
+                    && its.number() == number.number()
+            }
             _ => false,
         }
     }
 
     /// Whether it says what becomes of this frame.
-    pub(crate) fn is_reply_to(&self, bus: u8, place: u64) -> bool
+    pub(crate) fn is_reply_to(&self, bus: BusNumber, place: u64) -> bool
         ensures { result ≡ is_reply_to bus place self.now }
     {
         match *self {
@@ -127,7 +133,7 @@ impl Entry {
                 bus: on,
                 place: at,
                 ..
-            } => on == bus && at == place,
+            } => on.number() == bus.number() && at == place,
             _ => false,
         }
     }

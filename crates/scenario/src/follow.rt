@@ -6,7 +6,7 @@ ghost use Rattle.scenario.specs.Following.{is_gear_at, is_device_at, is_instance
 ghost use Rattle.scenario.specs.Following.{IsKnown, IsInTime, Follows, clock};
 
 use crate::entries::Entry;
-use daliframe::{InstanceNumber, ShortAddress};
+use daliframe::{BusNumber, InstanceNumber, ShortAddress};
 
 /// Whether an entry may stand after those before it, at which the clock came to `now`.
 pub(crate) fn may_follow(before: &[Entry], now: Option<u64>, entry: &Entry) -> bool
@@ -73,21 +73,26 @@ fn is_known(before: &[Entry], entry: &Entry) -> bool
 }
 
 /// Whether a control gear is declared.
-fn has_gear(before: &[Entry], bus: u8, short: ShortAddress) -> bool
+fn has_gear(before: &[Entry], bus: BusNumber, short: ShortAddress) -> bool
     ensures { result ≡ list_any (is_gear_at bus short) before.now }
 {
     before.iter().any(|entry| entry.is_gear_at(bus, short))
 }
 
 /// Whether a control device is declared.
-fn has_device(before: &[Entry], bus: u8, short: ShortAddress) -> bool
+fn has_device(before: &[Entry], bus: BusNumber, short: ShortAddress) -> bool
     ensures { result ≡ list_any (is_device_at bus short) before.now }
 {
     before.iter().any(|entry| entry.is_device_at(bus, short))
 }
 
 /// Whether an instance is declared.
-fn has_instance(before: &[Entry], bus: u8, short: ShortAddress, number: InstanceNumber) -> bool
+fn has_instance(
+    before: &[Entry],
+    bus: BusNumber,
+    short: ShortAddress,
+    number: InstanceNumber,
+) -> bool
     ensures { result ≡ list_any (is_instance_at bus short number) before.now }
 {
     before
@@ -96,7 +101,7 @@ fn has_instance(before: &[Entry], bus: u8, short: ShortAddress, number: Instance
 }
 
 /// Whether a line says what becomes of a frame.
-fn has_reply(before: &[Entry], bus: u8, place: u64) -> bool
+fn has_reply(before: &[Entry], bus: BusNumber, place: u64) -> bool
     ensures { result ≡ list_any (is_reply_to bus place) before.now }
 {
     before.iter().any(|entry| entry.is_reply_to(bus, place))

@@ -4,18 +4,18 @@ ghost use Rattle.std.specs.Prelude.{◌≡◌};
 ghost use Rattle.scenario.specs.Happenings.{happening_of};
 
 use crate::entries::Entry;
-use daliframe::Frame24;
+use daliframe::{BusNumber, Frame24};
 use std::marker::Model;
 
-/// What happens by a line of a scenario. Buses are below [`limits::MOST_BUSES`].
+/// What happens by a line of a scenario.
 #[derive(Clone, Copy, Debug, PartialEq, Eq)]
 pub enum Happening {
     /// The clock comes to this moment, in milliseconds.
     Tick { moment: u64 },
     /// A frame of a control device comes on a bus.
-    Event { bus: u8, frame: Frame24 },
+    Event { bus: BusNumber, frame: Frame24 },
     /// The next hear on a bus fails.
-    HearFault { bus: u8 },
+    HearFault { bus: BusNumber },
 }
 
 /// What happens on the buses of a scenario and is still to be read, in order.

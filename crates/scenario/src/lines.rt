@@ -9,7 +9,7 @@ ghost use Rattle.scenario.specs.Saying.{hear_fault_of, tick_of, event_of, fate_o
 ghost use Rattle.scenario.specs.Saying.{frame_in, at_end};
 
 use crate::entries::{Entry, FrameFate};
-use daliframe::{Frame24, InstanceNumber, ShortAddress};
+use daliframe::{BusNumber, Frame24, InstanceNumber, InstanceType, ShortAddress};
 use limits::MOST_BUSES;
 use wordlines::{Words, hex_of};
 
@@ -104,7 +104,7 @@ fn instance(mut words: Words<'_>) -> Option<Entry>
     let bus = bus_number(&mut words)?;
     let short = short_address(&mut words)?;
     let number = instance_number(&mut words)?;
-    let kind = words.byte(31)?;
+    let kind = instance_type(&mut words)?;
     let scheme = words.byte(4)?;
     let value = words.byte(u8::MAX)?;
     ended(
@@ -166,10 +166,10 @@ fn ended(words: &Words<'_>, entry: Entry) -> Option<Entry>
 }
 
 /// Takes the number of a bus.
-fn bus_number(words: &mut Words<'_>) -> Option<u8>
+fn bus_number(words: &mut Words<'_>) -> Option<BusNumber>
     ensures { IsTaken (most_buses - 1) words.old words.new result }
 {
-    words.byte(MOST_BUSES - 1)
+    BusNumber::new(words.byte(MOST_BUSES - 1)?)
 }
 
 /// Takes a short address.
@@ -184,6 +184,13 @@ fn instance_number(words: &mut Words<'_>) -> Option<InstanceNumber>
     ensures { IsTaken 31 words.old words.new result }
 {
     InstanceNumber::new(words.byte(31)?)
+}
+
+/// Takes the type of an instance.
+fn instance_type(words: &mut Words<'_>) -> Option<InstanceType>
+    ensures { IsTaken 31 words.old words.new result }
+{
+    InstanceType::new(words.byte(31)?)
 }
 
 /// Takes the word that says what becomes of a frame.

@@ -1,7 +1,7 @@
 //! Scenarios as they are written, with what they say, and the line of each fault.
 
 use crate::{Entry, FrameFate, Happening, ScenarioCause, ScenarioFault, parse};
-use daliframe::{Frame24, InstanceNumber, ShortAddress};
+use daliframe::{BusNumber, Frame24, InstanceNumber, InstanceType, ShortAddress};
 use std::alloc::{AllocError, Global};
 use std::test::Fail;
 
@@ -12,20 +12,23 @@ const TEXT: &[u8] = b"# a bus\r\n\r\nhearfault 1\ngear 0 05\nlampfailure 0 5\nme
 
 /// What the lines of gear say.
 fn gear_lines() -> Option<[Entry; 5]> {
+    let bus = BusNumber::new(0)?;
     let short = ShortAddress::new(5)?;
     Some([
-        Entry::HearFault { bus: 1 },
-        Entry::Gear { bus: 0, short },
-        Entry::LampFailure { bus: 0, short },
+        Entry::HearFault {
+            bus: BusNumber::new(1)?,
+        },
+        Entry::Gear { bus, short },
+        Entry::LampFailure { bus, short },
         Entry::Memory {
-            bus: 0,
+            bus,
             short,
             bank: 1,
             offset: 2,
             value: 255,
         },
         Entry::Memory {
-            bus: 0,
+            bus,
             short,
             bank: 1,
             offset: 2,
@@ -36,15 +39,16 @@ fn gear_lines() -> Option<[Entry; 5]> {
 
 /// What the lines of a device say.
 fn device_lines() -> Option<[Entry; 2]> {
+    let bus = BusNumber::new(15)?;
     let short = ShortAddress::new(63)?;
     let number = InstanceNumber::new(31)?;
     Some([
-        Entry::Device { bus: 15, short },
+        Entry::Device { bus, short },
         Entry::Instance {
-            bus: 15,
+            bus,
             short,
             number,
-            kind: 31,
+            kind: InstanceType::new(31)?,
             scheme: 4,
             value: 255,
         },
@@ -52,36 +56,39 @@ fn device_lines() -> Option<[Entry; 2]> {
 }
 
 /// What the lines of replies say.
-fn reply_lines() -> [Entry; 3] {
-    [
+fn reply_lines() -> Option<[Entry; 3]> {
+    let bus = BusNumber::new(2)?;
+    Some([
         Entry::Reply {
-            bus: 2,
+            bus,
             place: 1,
             fate: FrameFate::Lost,
         },
         Entry::Reply {
-            bus: 2,
+            bus,
             place: u64::MAX,
             fate: FrameFate::Damaged,
         },
         Entry::Reply {
-            bus: 3,
+            bus: BusNumber::new(3)?,
             place: 1,
             fate: FrameFate::Fault,
         },
-    ]
+    ])
 }
 
 /// What the last lines say.
 fn last_lines() -> Option<[Entry; 6]> {
+    let first = BusNumber::new(0)?;
+    let second = BusNumber::new(1)?;
     let short = ShortAddress::new(5)?;
     let frame = Frame24::new(0x02FFFE)?;
     Some([
-        Entry::LampFailure { bus: 0, short },
+        Entry::LampFailure { bus: first, short },
         Entry::Tick { moment: 0 },
-        Entry::Event { bus: 1, frame },
+        Entry::Event { bus: second, frame },
         Entry::Tick { moment: 7 },
-        Entry::HearFault { bus: 0 },
+        Entry::HearFault { bus: first },
         Entry::Tick { moment: 7 },
     ])
 }
@@ -92,7 +99,7 @@ fn each_kind_of_line_is_read(rt: HostRuntime) -> Result<(), Fail> {
     let mut wanted = Vec::new(rt.alloc());
     wanted.extend_from_slice(&gear_lines().ok_or("addresses")?)?;
     wanted.extend_from_slice(&device_lines().ok_or("addresses")?)?;
-    wanted.extend_from_slice(&reply_lines())?;
+    wanted.extend_from_slice(&reply_lines().ok_or("buses")?)?;
     wanted.extend_from_slice(&last_lines().ok_or("addresses")?)?;
     assert_eq!(rt; scenario.lines(), wanted.as_slice());
     assert!(rt; parse(rt.alloc(), b"")?.lines().is_empty());
@@ -147,13 +154,15 @@ fn the_first_bad_line_is_reported(rt: HostRuntime) -> Result<(), Fail> {
 
 #[test]
 fn what_happens_is_read_in_order(rt: HostRuntime) -> Result<(), Fail> {
+    let first = BusNumber::new(0).ok_or("bus 0")?;
+    let second = BusNumber::new(1).ok_or("bus 1")?;
     let frame = Frame24::new(0x02FFFE).ok_or("24 bits")?;
     let wanted = [
-        Happening::HearFault { bus: 1 },
+        Happening::HearFault { bus: second },
         Happening::Tick { moment: 0 },
-        Happening::Event { bus: 1, frame },
+        Happening::Event { bus: second, frame },
         Happening::Tick { moment: 7 },
-        Happening::HearFault { bus: 0 },
+        Happening::HearFault { bus: first },
         Happening::Tick { moment: 7 },
     ];
     let scenario = parse(rt.alloc(), TEXT)?;
@@ -188,10 +197,12 @@ fn a_full_bus_and_a_thousand_lines_are_read(rt: HostRuntime) -> Result<(), Fail>
     }
     let scenario = parse(rt.alloc(), text.as_bytes())?;
     assert_eq!(rt; scenario.lines().len(), 1000);
+    let bus = BusNumber::new(15).ok_or("bus 15")?;
+    let frame = Frame24::new(0x02FFFE).ok_or("24 bits")?;
     let mut happenings = scenario.happenings();
     for moment in 0..386 {
         assert!(rt; happenings.next() == Some(Happening::Tick { moment }));
-        assert!(rt; matches!(happenings.next(), Some(Happening::Event { bus: 15, .. })));
+        assert!(rt; happenings.next() == Some(Happening::Event { bus, frame }));
     }
     assert!(rt; happenings.next().is_none());
     Ok(())

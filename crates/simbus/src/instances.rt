@@ -4,7 +4,7 @@ ghost use Rattle.simbus.specs.Instances.{device_command_of, command_to, variable
 ghost use Rattle.simbus.specs.Instances.{instance_after_fields, instance_fields_answer};
 ghost use Rattle.simbus.specs.Histories.{is_instance};
 
-use daliframe::{Fields24, InstanceNumber, ShortAddress};
+use daliframe::{Fields24, InstanceNumber, InstanceType, ShortAddress};
 
 /// The greatest number of an event scheme.
 const MAX_SCHEME: u8 = 4;
@@ -15,7 +15,7 @@ pub struct Instance {
     /// The device.
     pub address: ShortAddress,
     pub number: InstanceNumber,
-    pub instance_type: u8,
+    pub instance_type: InstanceType,
     pub scheme: u8,
     /// The answer to QUERY INPUT VALUE.
     pub value: u8,
@@ -113,7 +113,7 @@ impl Instance {
         ensures { result ≡ instance_fields_answer self.now fields.now variables }
     {
         match self.command(fields) {
-            DeviceCommand::QueryInstanceType => Some(self.instance_type),
+            DeviceCommand::QueryInstanceType => Some(self.instance_type.number()),
             DeviceCommand::QueryEventScheme => Some(variables.scheme),
             DeviceCommand::QueryInputValue => Some(self.value),
             _ => None,

@@ -14,7 +14,7 @@ fn setup_of_one_bus(rt: HostRuntime) -> Result<(), Fail> {
     let Ok(scenario) = parse(rt.alloc(), ALL_KINDS.as_bytes()) else {
         return Err(Fail::from("a scenario"));
     };
-    let setup = BusSetup::of(rt.alloc(), &scenario, 0)?;
+    let setup = BusSetup::of(rt.alloc(), &scenario, BusNumber::default())?;
     assert_eq!(rt; setup.gears.len(), 2);
     assert!(rt; !setup.gears[0].lamp_failure && setup.gears[1].lamp_failure);
     assert_eq!(rt; setup.memory.len(), 1);
@@ -35,7 +35,7 @@ fn worked_example(rt: HostRuntime) -> Result<(), Fail> {
     let Ok(scenario) = parse(rt.alloc(), WORKED.as_bytes()) else {
         return Err(Fail::from("a scenario"));
     };
-    let setup = BusSetup::of(rt.alloc(), &scenario, 0)?;
+    let setup = BusSetup::of(rt.alloc(), &scenario, BusNumber::default())?;
     let mut bus = Box::new(rt.alloc(), SimBus::new(rt.alloc(), setup)?)?;
     let command = Command::GearSet {
         address: Address::from_number(5).ok_or("short 5")?,

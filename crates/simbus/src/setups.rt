@@ -5,7 +5,7 @@ ghost use Rattle.simbus.specs.Setups.{gear_on, memory_on, instance_on, reply_on,
 ghost use Rattle.simbus.specs.Setups.{has_lamp_failure, gear_with_lamp};
 
 use crate::{Arrival, Gear, Instance, MemoryByte, ScriptedReply};
-use daliframe::ShortAddress;
+use daliframe::{BusNumber, ShortAddress};
 use scenario::{Entry, Scenario};
 use std::alloc::{AllocError, Global};
 
@@ -26,7 +26,7 @@ impl BusSetup {
     /// # Errors
     ///
     /// Memory was refused.
-    pub fn of(alloc: Global, scenario: &Scenario, bus: u8) -> Result<Self, AllocError>
+    pub fn of(alloc: Global, scenario: &Scenario, bus: BusNumber) -> Result<Self, AllocError>
         ensures gears { IfOk result (λ s. s.gears.items ≡ filter_map
             (gear_on bus scenario.now) scenario.now) }
         ensures memory { IfOk result (λ s. s.memory.items ≡ filter_map
@@ -50,7 +50,7 @@ impl BusSetup {
 }
 
 /// A byte of memory that an entry says of gear on a bus.
-fn memory_on(entry: &Entry, bus: u8) -> Option<MemoryByte>
+fn memory_on(entry: &Entry, bus: BusNumber) -> Option<MemoryByte>
     ensures { result ≡ memory_on bus entry.now }
 {
     match entry {
@@ -60,7 +60,7 @@ fn memory_on(entry: &Entry, bus: u8) -> Option<MemoryByte>
             bank,
             offset,
             value,
-        } if *on == bus => Some(MemoryByte {
+        } if on.number() == bus.number() => Some(MemoryByte {
             address: *short,
             bank: *bank,
             offset: *offset,
@@ -71,7 +71,7 @@ fn memory_on(entry: &Entry, bus: u8) -> Option<MemoryByte>
 }
 
 /// The instance that an entry declares on a bus.
-fn instance_on(entry: &Entry, bus: u8) -> Option<Instance>
+fn instance_on(entry: &Entry, bus: BusNumber) -> Option<Instance>
     ensures { result ≡ instance_on bus entry.now }
 {
     match entry {
@@ -82,7 +82,7 @@ fn instance_on(entry: &Entry, bus: u8) -> Option<Instance>
             kind,
             scheme,
             value,
-        } if *on == bus => Some(Instance {
+        } if on.number() == bus.number() => Some(Instance {
             address: *short,
             number: *number,
             instance_type: *kind,
@@ -94,7 +94,7 @@ fn instance_on(entry: &Entry, bus: u8) -> Option<Instance>
 }
 
 /// What an entry says that becomes of a frame on a bus.
-fn reply_on(entry: &Entry, bus: u8) -> Option<ScriptedReply>
+fn reply_on(entry: &Entry, bus: BusNumber) -> Option<ScriptedReply>
     ensures { result ≡ reply_on bus entry.now }
 {
     match entry {
@@ -102,7 +102,7 @@ fn reply_on(entry: &Entry, bus: u8) -> Option<ScriptedReply>
             bus: on,
             place,
             fate,
-        } if *on == bus => Some(ScriptedReply {
+        } if on.number() == bus.number() => Some(ScriptedReply {
             place: *place,
             fate: *fate,
         }),
@@ -111,28 +111,31 @@ fn reply_on(entry: &Entry, bus: u8) -> Option<ScriptedReply>
 }
 
 /// What an entry says that comes to be heard on a bus.
-fn arrival_on(entry: &Entry, bus: u8) -> Option<Arrival>
+fn arrival_on(entry: &Entry, bus: BusNumber) -> Option<Arrival>
     ensures { result ≡ arrival_on bus entry.now }
 {
     match entry {
-        Entry::Event { bus: on, frame } if *on == bus => Some(Arrival::Frame(*frame)),
-        Entry::HearFault { bus: on } if *on == bus => Some(Arrival::Fault),
+        Entry::Event { bus: on, frame } if on.number() == bus.number() => Some(Arrival::Frame(
+            *frame,
+        )),
+        Entry::HearFault { bus: on } if on.number() == bus.number() => Some(Arrival::Fault),
         _ => None,
     }
 }
 
 /// Whether an entry says that the lamp of this gear failed.
-fn has_lamp_failure(entry: &Entry, bus: u8, gear: ShortAddress) -> bool
+fn has_lamp_failure(entry: &Entry, bus: BusNumber, gear: ShortAddress) -> bool
     ensures { result ≡ has_lamp_failure bus gear entry.now }
 {
     match entry {
-        Entry::LampFailure { bus: on, short } => *on == bus && short.number() == gear.number(),
+        Entry::LampFailure { bus: on, short } => on.number() == bus.number()
+            && short.number() == gear.number(),
         _ => false,
     }
 }
 
 /// Whether one of these entries says that the lamp of this gear failed.
-fn has_failed_lamp(entries: &[Entry], bus: u8, address: ShortAddress) -> bool
+fn has_failed_lamp(entries: &[Entry], bus: BusNumber, address: ShortAddress) -> bool
     ensures { result ≡ list_any (has_lamp_failure bus address) entries.now }
 {
     entries
@@ -141,7 +144,7 @@ fn has_failed_lamp(entries: &[Entry], bus: u8, address: ShortAddress) -> bool
 }
 
 /// Gear at a short address, with its lamp as these entries say.
-fn gear_with_lamp(entries: &[Entry], bus: u8, address: ShortAddress) -> Gear
+fn gear_with_lamp(entries: &[Entry], bus: BusNumber, address: ShortAddress) -> Gear
     ensures { result ≡ gear_with_lamp bus entries.now address }
 {
     Gear {
@@ -151,17 +154,19 @@ fn gear_with_lamp(entries: &[Entry], bus: u8, address: ShortAddress) -> Gear
 }
 
 /// The gear that an entry, one of these, declares on a bus, with its lamp.
-fn gear_on(entry: &Entry, entries: &[Entry], bus: u8) -> Option<Gear>
+fn gear_on(entry: &Entry, entries: &[Entry], bus: BusNumber) -> Option<Gear>
     ensures { result ≡ gear_on bus entries.now entry.now }
 {
     match entry {
-        Entry::Gear { bus: on, short } if *on == bus => Some(gear_with_lamp(entries, bus, *short)),
+        Entry::Gear { bus: on, short } if on.number() == bus.number() => Some(gear_with_lamp(
+            entries, bus, *short,
+        )),
         _ => None,
     }
 }
 
 /// The gear on a bus, in the order of their lines.
-fn gears_on(alloc: Global, entries: &[Entry], bus: u8) -> Result<Vec<Gear>, AllocError>
+fn gears_on(alloc: Global, entries: &[Entry], bus: BusNumber) -> Result<Vec<Gear>, AllocError>
     ensures { IfOk result (λ v. v.items ≡ filter_map (gear_on bus entries.now) entries.now) }
 {
     entries
@@ -171,7 +176,11 @@ fn gears_on(alloc: Global, entries: &[Entry], bus: u8) -> Result<Vec<Gear>, Allo
 }
 
 /// The memory of the gear on a bus, in the order of the lines.
-fn all_memory_on(alloc: Global, entries: &[Entry], bus: u8) -> Result<Vec<MemoryByte>, AllocError>
+fn all_memory_on(
+    alloc: Global,
+    entries: &[Entry],
+    bus: BusNumber,
+) -> Result<Vec<MemoryByte>, AllocError>
     ensures { IfOk result (λ v. v.items ≡ filter_map (memory_on bus) entries.now) }
 {
     entries
@@ -181,7 +190,11 @@ fn all_memory_on(alloc: Global, entries: &[Entry], bus: u8) -> Result<Vec<Memory
 }
 
 /// The instances on a bus, in the order of their lines.
-fn instances_on(alloc: Global, entries: &[Entry], bus: u8) -> Result<Vec<Instance>, AllocError>
+fn instances_on(
+    alloc: Global,
+    entries: &[Entry],
+    bus: BusNumber,
+) -> Result<Vec<Instance>, AllocError>
     ensures { IfOk result (λ v. v.items ≡ filter_map (instance_on bus) entries.now) }
 {
     entries
@@ -191,7 +204,11 @@ fn instances_on(alloc: Global, entries: &[Entry], bus: u8) -> Result<Vec<Instanc
 }
 
 /// What becomes of frames on a bus, in the order of the lines.
-fn replies_on(alloc: Global, entries: &[Entry], bus: u8) -> Result<Vec<ScriptedReply>, AllocError>
+fn replies_on(
+    alloc: Global,
+    entries: &[Entry],
+    bus: BusNumber,
+) -> Result<Vec<ScriptedReply>, AllocError>
     ensures { IfOk result (λ v. v.items ≡ filter_map (reply_on bus) entries.now) }
 {
     entries
@@ -201,7 +218,7 @@ fn replies_on(alloc: Global, entries: &[Entry], bus: u8) -> Result<Vec<ScriptedR
 }
 
 /// What comes to be heard on a bus, in the order of the lines.
-fn arrivals_on(alloc: Global, entries: &[Entry], bus: u8) -> Result<Vec<Arrival>, AllocError>
+fn arrivals_on(alloc: Global, entries: &[Entry], bus: BusNumber) -> Result<Vec<Arrival>, AllocError>
     ensures { IfOk result (λ v. v.items ≡ filter_map (arrival_on bus) entries.now) }
 {
     entries

@@ -1,7 +1,7 @@
 //! Buses at the limits of a scenario, and a thousand frames on one bus.
 use crate::{BusSetup, ScriptedClock, SimBus, parse};
 use buslink::{Bus, Clock};
-use daliframe::{Frame, Frame16, Frame24, InstanceNumber, ShortAddress};
+use daliframe::{BusNumber, Frame, Frame16, Frame24, InstanceNumber, ShortAddress};
 use std::alloc::{AllocError, Global};
 use std::test::Fail;
 use transact::Reply;
@@ -22,8 +22,9 @@ fn full_bus(alloc: Global) -> Result<String, AllocError> {
 
 /// What a scenario says of bus 15.
 fn last_bus(alloc: Global, text: &str) -> Result<BusSetup, Fail> {
+    let bus = BusNumber::new(15).ok_or("bus 15")?;
     match parse(alloc, text.as_bytes()) {
-        Ok(scenario) => Ok(BusSetup::of(alloc, &scenario, 15)?),
+        Ok(scenario) => Ok(BusSetup::of(alloc, &scenario, bus)?),
         Err(_) => Err(Fail::from("a scenario")),
     }
 }

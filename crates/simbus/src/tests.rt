@@ -2,7 +2,8 @@
 use crate::{Arrival, BusSetup, Gear, Instance, MemoryByte, ScriptedReply, SimBus};
 use buslink::{Bus, Fault, perform};
 use daliframe::{
-    Address, BusNumber, EventScheme, Frame, Frame16, Frame24, InstanceNumber, ShortAddress,
+    Address, BusNumber, EventScheme, Frame, Frame16, Frame24, InstanceNumber, InstanceType,
+    ShortAddress,
 };
 use gearcmd::{
     Command, DevAskCommand, DevDoCommand, GearAskCommand, GearDoCommand, GearPairCommand,
@@ -47,7 +48,7 @@ fn setup(alloc: Global, gears: u8) -> Result<BusSetup, Fail> {
     setup.instances.push(Instance {
         address,
         number,
-        instance_type: 1,
+        instance_type: InstanceType::new(1).ok_or("type 1")?,
         scheme: 0,
         value: 9,
     })?;

@@ -1,6 +1,8 @@
+use Rattle.std.proofs.Common.{◌≡◌}
 use Rattle.simbus.proofs.ScenarioSetups.{gear_declared}
 use Rattle.simbus.proofs.setups.gear_on.Goals as goal
 
 pub returns-in-Gear : goal.returns-in-Gear
 returns-in-Gear c =
-    gear_declared c.args.bus c.args.entries.now c.args.entry.now c.in-Gear.on c.in-Gear.short c.gear_with_lamp.result c.in-Gear.is c.if-on-bus.true c.gear_with_lamp.ensures
+    let same : c.in-Gear.on ≡ c.args.bus = cc in
+    gear_declared c.args.bus c.args.entries.now c.args.entry.now c.in-Gear.on c.in-Gear.short c.gear_with_lamp.result c.in-Gear.is same c.gear_with_lamp.ensures
