@@ -1,6 +1,6 @@
 //! The instructions of a code, one item a word.
 
-use iltypes::BooleanOperator;
+use iloperators::{Function, Operator};
 
 /// What an instruction is applied to.
 #[derive(Clone, Copy, PartialEq, Eq, Debug)]
@@ -11,23 +11,20 @@ pub enum Operand {
     Constant(usize),
 }
 
-/// One word of code: an operator of IEC 61131-3, 3.2.2 with its modifier and operand.
+/// One word of code: an operator of IEC 61131-3, 3.2.2 with its modifier and operand, or a function
+/// of 2.5.1.5.
 #[derive(Clone, Copy, PartialEq, Eq, Debug)]
 pub enum Instruction {
-    /// LD, and LDN: the current result becomes the operand, or its opposite.
+    /// LD, LDN: the current result becomes the operand, or its opposite.
     Load {
         negated: bool,
         operand: Operand,
     },
-    /// AND, OR, XOR, and ANDN, ORN, XORN, which take the operand's opposite.
-    Apply {
-        operator: BooleanOperator,
-        negated: bool,
-        operand: Operand,
-    },
-    /// NOT: the current result becomes its opposite.
-    Not,
-    /// ST, and STN: the slot becomes the current result, or its opposite.
+    /// `result := result OP operand`.
+    Apply(Operator, Operand),
+    /// NOT, ABS, a conversion.
+    Transform(Function),
+    /// ST, STN: the slot becomes the current result, or its opposite.
     Store {
         negated: bool,
         slot: usize,
@@ -36,4 +33,8 @@ pub enum Instruction {
     Set(usize),
     /// R: the slot becomes FALSE where the current result is TRUE.
     Reset(usize),
+    /// An operator with `(`: the current result waits for it, and there is none until the next load.
+    Open(Operator),
+    /// `)`: the operator that waits is applied to the result that waits with it and the current one.
+    Close,
 }

@@ -9,9 +9,11 @@
 
 mod code;
 mod instruction;
+mod nesting;
 
 pub use code::Code;
 pub use instruction::{Instruction, Operand};
+pub use nesting::Opened;
 
 #[cfg(test)]
 mod tests;
