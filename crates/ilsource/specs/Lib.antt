@@ -1,3 +1,4 @@
 pub mod Names
 pub mod Places
+pub mod Programs
 pub mod Trees

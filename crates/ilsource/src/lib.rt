@@ -1,27 +1,26 @@
 //! Source programs: what a text spells, as a tree with the places of its words.
 //!
 //! What crosses the boundary: [`Source`], which the parser makes and names are resolved on, with its
-//! programs, their declarations and their lines. A [`Name`] is a word of the text, and [`Place`]
-//! gives line and column of a byte. Contracts see a `Source` as a record of specs/Trees.antt, to be
-//! read first; specs/Names.antt says when two names are the same.
+//! types and programs, their declarations, and their lines, which are those of `iltrees` over words
+//! of the text. A [`Name`] is a word of the text, and [`Place`] gives line and column of a byte.
+//! Contracts see a `Source` as a record of specs/Trees.antt, to be read first; specs/Names.antt says
+//! when two names are the same.
 
 #![tactic(auto)]
 
 mod declaration;
-mod instruction;
 mod line_counter;
 mod name;
 mod place;
 mod program;
 mod source;
 
-pub use declaration::{Constant, Declaration};
-pub use instruction::{Instruction, Line, Operand};
+pub use declaration::{Constant, Declaration, Specification, TypeDeclaration};
 pub use line_counter::LineCounter;
 pub use name::Name;
 pub use place::Place;
 pub use program::Program;
-pub use source::Source;
+pub use source::{Element, Source};
 
 #[cfg(test)]
 mod tests;

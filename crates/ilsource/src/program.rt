@@ -1,32 +1,53 @@
 //! Programs.
 
 use crate::declaration::Declaration;
-use crate::instruction::Line;
 use crate::name::Name;
+use iltrees::Line;
 use std::marker::Model;
 
-/// `PROGRAM name { VAR .. END_VAR } { line } END_PROGRAM`.
+/// `PROGRAM name { VAR .. END_VAR } { line } END_PROGRAM`. No more parentheses are open at one place
+/// than [`limits::MOST_NESTING`].
 #[derive(Drop)]
 pub struct Program {
     name: Name,
     declarations: Vec<Declaration>,
-    lines: Vec<Line>,
+    lines: Vec<Line<Name, Name>>,
 }
 
 impl Model for Program {
-    ghost use Rattle.ilsource.specs.Trees.{Written};
+    ghost use Rattle.std.specs.Prelude.{List};
+    ghost use Rattle.std.specs.Coded.{codes, code_by};
+    ghost use Rattle.iltrees.specs.declared.nested.Piece.{Piece};
+    ghost use Rattle.iltrees.specs.Trees.{pieces_of};
+    ghost use Rattle.iltrees.specs.TreeSteps.{tree_of, tree_again};
+    ghost use Rattle.iltrees.specs.Words.{AreShallow};
+    ghost use Rattle.ilsource.specs.declared.name.Name.{Name};
+    ghost use Rattle.ilsource.specs.Programs.{Written};
 
     ghost Value = { Written };
 
-    ghost view = { λ p. record { name = p.name; declarations = p.declarations.items; lines = p.lines.items } };
+    ghost coded = { Prim.hlevel (
+      codes,
+      code_by (List (Piece Name)) (Prim.hlevel codes) pieces_of tree_of tree_again,
+    ) };
+
+    ghost view = { λ p. record {
+      name = p.name;
+      declarations = p.declarations.items;
+      lines = p.lines.items;
+    } };
+
+    ghost invariant = { λ p. AreShallow p.lines.items };
 }
 
 impl Program {
     ghost use Rattle.std.specs.Prelude.{◌≡◌};
-    ghost use Rattle.ilsource.specs.Trees.{Written};
+    ghost use Rattle.iltrees.specs.Words.{AreShallow};
+    ghost use Rattle.ilsource.specs.Programs.{Written};
 
     /// The program of these declarations and lines.
-    pub fn new(name: Name, declarations: Vec<Declaration>, lines: Vec<Line>) -> Program
+    pub fn new(name: Name, declarations: Vec<Declaration>, lines: Vec<Line<Name, Name>>) -> Program
+        requires { AreShallow lines.items }
         ensures name { result.name ≡ name }
         ensures declarations { result.declarations ≡ declarations.items }
         ensures lines { result.lines ≡ lines.items }
@@ -53,8 +74,9 @@ impl Program {
     }
 
     /// Its lines that are not empty, in order.
-    pub fn lines(&self) -> &[Line]
-        ensures { result.now ≡ self.now.lines }
+    pub fn lines(&self) -> &[Line<Name, Name>]
+        ensures value { result.now ≡ self.now.lines }
+        ensures shallow { AreShallow self.now.lines }
     {
         &self.lines
     }

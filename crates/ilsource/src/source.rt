@@ -1,33 +1,45 @@
 //! Whole texts.
 
+use crate::declaration::TypeDeclaration;
 use crate::program::Program;
 use std::marker::Model;
 
-/// What a text spells: its programs in order, and the bytes that its names stand in.
+/// What stands one after another in a text: the declaration of a type, or a program.
+#[derive(Drop)]
+pub enum Element {
+    DerivedType(TypeDeclaration),
+    Program(Program),
+}
+
+/// What a text spells: its types and programs in order, and the bytes that its names stand in.
 #[derive(Drop)]
 pub struct Source {
     text: Vec<u8>,
-    programs: Vec<Program>,
+    elements: Vec<Element>,
 }
 
 impl Model for Source {
+    ghost use Rattle.std.specs.Coded.{codes};
+    ghost use Rattle.ilsource.specs.contracts.source.Element as element;
     ghost use Rattle.ilsource.specs.Trees.{Tree};
 
     ghost Value = { Tree };
 
-    ghost view = { λ s. record { text = s.text.items; programs = s.programs.items } };
+    ghost coded = { Prim.hlevel (codes, element.the_row.coded) };
+
+    ghost view = { λ s. record { text = s.text.items; elements = s.elements.items } };
 }
 
 impl Source {
     ghost use Rattle.std.specs.Prelude.{◌≡◌};
     ghost use Rattle.ilsource.specs.Trees.{Tree};
 
-    /// The source program of these programs, whose names stand in `text`.
-    pub fn new(text: Vec<u8>, programs: Vec<Program>) -> Source
+    /// The source program of these types and programs, whose names stand in `text`.
+    pub fn new(text: Vec<u8>, elements: Vec<Element>) -> Source
         ensures text { result.text ≡ text.items }
-        ensures programs { result.programs ≡ programs.items }
+        ensures elements { result.elements ≡ elements.items }
     {
-        Source { text, programs }
+        Source { text, elements }
     }
 
     /// The bytes of the text.
@@ -37,10 +49,10 @@ impl Source {
         &self.text
     }
 
-    /// The programs, in the order in which they are written.
-    pub fn programs(&self) -> &[Program]
-        ensures { result.now ≡ self.now.programs }
+    /// The types and programs, in the order in which they are written.
+    pub fn elements(&self) -> &[Element]
+        ensures { result.now ≡ self.now.elements }
     {
-        &self.programs
+        &self.elements
     }
 }

@@ -1,8 +1,10 @@
 //! Each call once, with what a reader would count by hand.
 
 use crate::{
-    Constant, Declaration, Instruction, Line, LineCounter, Name, Operand, Place, Program, Source,
+    Constant, Declaration, Element, LineCounter, Name, Place, Program, Source, Specification,
+    TypeDeclaration,
 };
+use iltrees::{Instruction, Line, Operand};
 use std::test::Fail;
 
 const TEXT: &[u8] = b"PROGRAM p\r\n  LD Lamp\n\nST LAMP\n";
@@ -44,30 +46,39 @@ fn names_are_compared_without_letter_case(rt: HostRuntime) {
 fn a_source_gives_back_its_parts(rt: HostRuntime) -> Result<(), Fail> {
     let alloc = rt.alloc();
     let lamp = Name { from: 16, to: 20 };
+    let dim = TypeDeclaration {
+        name: Name { from: 3, to: 5 },
+        specification: Specification::Time,
+        initial: Some(Constant::Number(7)),
+    };
     let names = [lamp].to_vec(alloc)?;
     let mut declarations = Vec::new(alloc);
-    declarations.push(Declaration::new(names, Some(Constant::Bool(true))))?;
-    let line = Line {
+    declarations.push(Declaration::new(names, Specification::Bool, Some(Constant::Bool(true))))?;
+    let mut lines = Vec::new(alloc);
+    lines.push(Line {
         at: 13,
-        instruction: Instruction::Load {
+        label: None,
+        instruction: Some(Instruction::Load {
             negated: false,
-            operand: Operand::Variable(lamp),
-        },
-    };
-    let lines = [line].to_vec(alloc)?;
-    let mut programs = Vec::new(alloc);
-    programs.push(Program::new(Name { from: 8, to: 9 }, declarations, lines))?;
-    let source = Source::new(TEXT.to_vec(alloc)?, programs);
+            operand: Operand::Name(lamp),
+        }),
+    })?;
+    let mut elements = Vec::new(alloc);
+    elements.push(Element::DerivedType(dim))?;
+    elements.push(Element::Program(Program::new(Name { from: 8, to: 9 }, declarations, lines)))?;
+    let source = Source::new(TEXT.to_vec(alloc)?, elements);
     assert_eq!(rt; source.text(), TEXT);
-    assert_eq!(rt; source.programs().len(), 1);
-    let program = &source.programs()[0];
+    let [Element::DerivedType(first), Element::Program(program)] = source.elements() else {
+        panic!(rt; "a type and a program");
+    };
+    assert_eq!(rt; *first, dim);
     assert_eq!(rt; program.name(), Name { from: 8, to: 9 });
-    assert_eq!(rt; program.lines(), [line].as_slice());
+    assert_eq!(rt; program.lines().len(), 1);
+    assert_eq!(rt; program.lines()[0].at, 13);
     assert_eq!(rt; program.declarations().len(), 1);
-    assert_eq!(rt; program.declarations()[0].names(), [lamp].as_slice());
-    assert_eq!(rt;
-        program.declarations()[0].initial(),
-        Some(Constant::Bool(true))
-    );
+    let declaration = &program.declarations()[0];
+    assert_eq!(rt; declaration.names(), [lamp].as_slice());
+    assert_eq!(rt; declaration.specification(), Specification::Bool);
+    assert_eq!(rt; declaration.initial(), Some(Constant::Bool(true)));
     Ok(())
 }
