@@ -27,11 +27,11 @@ module _ {N M S T : Type 0} (a : Access N S) (b : Access M T) (new : NewNames N 
   loaded_same s negated o = ap (option_and_then (modified negated)) (h.read s o)
 
   tree_same : (s : S) (t : Tree N) → value b (view s) (rename_tree new t) ≡ value a s t
-  tree_same s (Load negated o) = loaded_same s negated o
-  tree_same s (Reload t negated o) = let e = tree_same s t in let g = loaded_same s negated o in rw (e, g) refl
-  tree_same s (Apply t operator o) = let e = tree_same s t in let g = h.read s o in rw (e, g) refl
-  tree_same s (Transform t function) = ap (option_and_then (value_of_function function)) (tree_same s t)
-  tree_same s (Deferred t operator u) = let e = tree_same s t in let g = tree_same s u in rw (e, g) refl
+  tree_same s (Load at negated o) = loaded_same s negated o
+  tree_same s (Reload t at negated o) = let e = tree_same s t in let g = loaded_same s negated o in rw (e, g) refl
+  tree_same s (Apply t at operator o) = let e = tree_same s t in let g = h.read s o in rw (e, g) refl
+  tree_same s (Transform t at function) = ap (option_and_then (value_of_function function)) (tree_same s t)
+  tree_same s (Deferred t at operator u close) = let e = tree_same s t in let g = tree_same s u in rw (e, g) refl
 
   then_same : (k : S → Option S) (k' : T → Option T) (o : Option S) → ((s : S) → k' (view s) ≡ option_map view (k s))
       → option_and_then k' (option_map view o) ≡ option_map view (option_and_then k o)
@@ -94,7 +94,7 @@ module _ {N M L K S T : Type 0} (a : Access N S) (b : Access M T) (new : NewName
       ap (λ x. gives x (view s)) (loaded_same a b new view h s negated o) ∙ gives_same (loaded a s negated o) s
   line_same s r (Some (instructions.Apply operator o)) =
       ap (λ x. gives (both operator r x) (view s)) (h.read s o) ∙ gives_same (both operator r (operand_value a s o)) s
-  line_same s r (Some (instructions.Deferred operator t)) =
+  line_same s r (Some (instructions.Deferred operator t close)) =
       ap (λ x. gives (both operator r x) (view s)) (tree_same a b new view h s t)
       ∙ gives_same (both operator r (value a s t)) s
   line_same s r (Some (instructions.Transform function)) = gives_same (option_and_then (value_of_function function) r) s

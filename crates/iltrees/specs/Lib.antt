@@ -3,5 +3,6 @@ pub mod Passes
 pub mod Renaming
 pub mod TreeSteps
 pub mod Trees
+pub mod Uses
 pub mod Words
 pub mod Rows

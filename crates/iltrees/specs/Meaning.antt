@@ -38,13 +38,13 @@ abbrev pub second : Option Value → Option Value → Option Value
 second None o = None
 second (Some v) o = o
 
--- the value of a tree
+-- the value of a tree, wherever it stands in the text
 abbrev pub value : {N S : Type 0} → Access N S → S → Tree N → Option Value
-value a s (Load negated o) = loaded a s negated o
-value a s (Reload t negated o) = second (value a s t) (loaded a s negated o)
-value a s (Apply t operator o) = both operator (value a s t) (operand_value a s o)
-value a s (Transform t function) = option_and_then (value_of_function function) (value a s t)
-value a s (Deferred t operator u) = both operator (value a s t) (value a s u)
+value a s (Load at negated o) = loaded a s negated o
+value a s (Reload t at negated o) = second (value a s t) (loaded a s negated o)
+value a s (Apply t at operator o) = both operator (value a s t) (operand_value a s o)
+value a s (Transform t at function) = option_and_then (value_of_function function) (value a s t)
+value a s (Deferred t at operator u close) = both operator (value a s t) (value a s u)
 
 -- where the run goes on after an instruction: on the next line, on the next line with a label, or nowhere
 pub data Way (L : Type 0) : Type 0 where
@@ -96,7 +96,7 @@ called a n xs s = option_and_then (λ t. a.call t n) (passed a xs s)
 abbrev pub does : {N L S : Type 0} → Access N S → Instruction N L → Option Value → S → Option (After L S)
 does a (instructions.Load negated o) r s = gives (loaded a s negated o) s
 does a (instructions.Apply operator o) r s = gives (both operator r (operand_value a s o)) s
-does a (instructions.Deferred operator t) r s = gives (both operator r (value a s t)) s
+does a (instructions.Deferred operator t close) r s = gives (both operator r (value a s t)) s
 does a (instructions.Transform function) r s = gives (option_and_then (value_of_function function) r) s
 does a (instructions.Limit low high) r s =
     gives (both Min (both Max r (operand_value a s low)) (operand_value a s high)) s

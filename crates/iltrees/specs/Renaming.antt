@@ -8,10 +8,15 @@ use Rattle.iltrees.specs.declared.operand.Operand.TheVariants.{Name, Constant}
 use Rattle.iltrees.specs.declared.instruction.Instruction.{Instruction}
 use Rattle.iltrees.specs.declared.instruction.Instruction.TheVariants as instructions
 use Rattle.iltrees.specs.declared.instruction.Line.{Line}
-use Rattle.iltrees.specs.Trees.{Tree, Load, Reload, Apply, Transform, Deferred}
+use Rattle.iltrees.specs.declared.nested.Action.{Action}
+use Rattle.iltrees.specs.declared.nested.Action.TheVariants as actions
+use Rattle.iltrees.specs.declared.nested.Piece.{Piece}
+use Rattle.iltrees.specs.declared.uses.Use.{Use}
+use Rattle.iltrees.specs.Trees.{Tree, Load, Reload, Apply, Transform, Deferred, piece, pieces_of}
 use Rattle.iltrees.specs.Meaning.{Access, On, operand_value}
 use Rattle.iltrees.specs.Passes.{passes, scan}
-use Rattle.iltrees.specs.Words.{words_in, IsShallow}
+use Rattle.iltrees.specs.Words.{places_in, IsShallow}
+use Rattle.iltrees.specs.Uses.{uses_in}
 
 -- new names: of operands, so that a constant may become a place in a table, and of what is stored to and called
 pub record NewNames (N M : Type 0) : Type 0 where
@@ -24,21 +29,34 @@ by_name name (Name n) = Name (name n)
 by_name name (Constant v) = Constant v
 
 module _ {N M : Type 0} (new : NewNames N M) where
+  abbrev pub rename_action : Action N → Action M
+  rename_action (actions.Load negated o) = actions.Load negated (new.operand o)
+  rename_action (actions.Apply operator o) = actions.Apply operator (new.operand o)
+  rename_action (actions.Transform function) = actions.Transform function
+  rename_action (actions.Open operator) = actions.Open operator
+  rename_action actions.Close = actions.Close
+
+  abbrev pub rename_piece : Piece N → Piece M
+  rename_piece p = piece p.at (rename_action p.action)
+
   abbrev pub rename_tree : Tree N → Tree M
-  rename_tree (Load negated o) = Load negated (new.operand o)
-  rename_tree (Reload t negated o) = Reload (rename_tree t) negated (new.operand o)
-  rename_tree (Apply t operator o) = Apply (rename_tree t) operator (new.operand o)
-  rename_tree (Transform t function) = Transform (rename_tree t) function
-  rename_tree (Deferred t operator u) = Deferred (rename_tree t) operator (rename_tree u)
+  rename_tree (Load at negated o) = Load at negated (new.operand o)
+  rename_tree (Reload t at negated o) = Reload (rename_tree t) at negated (new.operand o)
+  rename_tree (Apply t at operator o) = Apply (rename_tree t) at operator (new.operand o)
+  rename_tree (Transform t at function) = Transform (rename_tree t) at function
+  rename_tree (Deferred t at operator u close) = Deferred (rename_tree t) at operator (rename_tree u) close
 
   abbrev pub rename_argument : Argument N → Argument M
   rename_argument x = record { port = new.name x.port; operand = new.operand x.operand }
+
+  abbrev pub rename_use : Use N → Use M
+  rename_use u = record { at = u.at; operand = new.operand u.operand }
 
 module _ {N M L K : Type 0} (new : NewNames N M) (label : L → K) where
   abbrev pub rename : Instruction N L → Instruction M K
   rename (instructions.Load negated o) = instructions.Load negated (new.operand o)
   rename (instructions.Apply operator o) = instructions.Apply operator (new.operand o)
-  rename (instructions.Deferred operator t) = instructions.Deferred operator (rename_tree new t)
+  rename (instructions.Deferred operator t close) = instructions.Deferred operator (rename_tree new t) close
   rename (instructions.Transform function) = instructions.Transform function
   rename (instructions.Limit low high) = instructions.Limit (new.operand low) (new.operand high)
   rename (instructions.Store negated n) = instructions.Store negated (new.name n)
@@ -97,12 +115,23 @@ ScansAreKept N M L K S T =
     → AreRenamed same same' new programs others → (s : S)
     → scan same' b others (view s) ≡ option_map view (scan same a programs s)
 
--- a renamed line has as many words, and no more parentheses open at once
+-- a renamed line has its words at the same places, and no more parentheses open at once
 abbrev pub SizesAreKept : (N M L K : Type 0) → Type 0
 SizesAreKept N M L K =
     (new : NewNames N M) (label : L → K) (line : Line N L)
-    → (words_in (rename_line new label line).instruction ≡ words_in line.instruction)
+    → (places_in (rename_line new label line) ≡ places_in line)
     × (IsShallow line.instruction → IsShallow (rename_line new label line).instruction)
+
+-- the pieces of a renamed tree are the pieces of the tree, renamed
+abbrev pub PiecesAreKept : (N M : Type 0) → Type 0
+PiecesAreKept N M =
+    (new : NewNames N M) (t : Tree N) → pieces_of (rename_tree new t) ≡ map (rename_piece new) (pieces_of t)
+
+-- where names are operands under their new names too, a renamed line uses what the line uses, renamed
+abbrev pub UsesAreKept : (N M L K : Type 0) → Type 0
+UsesAreKept N M L K =
+    (new : NewNames N M) (label : L → K) → ((n : N) → new.operand (Name n) ≡ Name (new.name n))
+    → (line : Line N L) → uses_in (rename_line new label line) ≡ map (rename_use new) (uses_in line)
 
 -- where names are read alike, so are operands
 abbrev pub OperandsAreKept : (N M S T : Type 0) → Type 0

@@ -69,7 +69,7 @@ backward = marked 7 ∷ ld 0 ∷ line (instructions.Jump Always 7) ∷ []
 
 -- LD a, SUB( b, SUB c, ), ST a
 abbrev pub nested : List (Line ℕ ℕ)
-nested = ld 0 ∷ line (instructions.Deferred Sub (trees.Apply (trees.Load false (Name 1)) Sub (Name 2))) ∷ st 0 ∷ []
+nested = ld 0 ∷ line (instructions.Deferred Sub (trees.Apply (trees.Load 0 false (Name 1)) 0 Sub (Name 2)) 0) ∷ st 0 ∷ []
 
 -- LD a, LIMIT 3, 254, ST a
 abbrev pub limited : List (Line ℕ ℕ)

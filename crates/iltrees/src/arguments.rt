@@ -1,6 +1,8 @@
 //! What a call hands to a block.
 
 use crate::operand::Operand;
+use crate::uses::{Use, push_use};
+use std::alloc::AllocError;
 use std::marker::Model;
 
 /// `port := operand`.
@@ -41,5 +43,22 @@ impl<N: Drop> Arguments<N> {
         ensures { result.now ≡ self.now }
     {
         &self.arguments
+    }
+}
+
+impl<N: Copy> Arguments<N> {
+    ghost use Rattle.std.specs.Prelude.{◌≡◌, ◌++◌, flat_map, OnOk};
+    ghost use Rattle.iltrees.specs.Uses.{uses_of_argument};
+
+    /// Adds what the arguments use, of a call at this place.
+    pub(crate) fn push_uses(&self, at: usize, uses: &mut Vec<Use<N>>) -> Result<(), AllocError>
+        ensures { OnOk result
+            (uses.new.items ≡ uses.old.items ++ flat_map (uses_of_argument at) self.now) }
+    {
+        for argument in self.as_slice() {
+            push_use(uses, at, Operand::Name(argument.port))?;
+            push_use(uses, at, argument.operand)?;
+        }
+        Ok(())
     }
 }

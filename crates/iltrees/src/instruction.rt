@@ -1,9 +1,13 @@
 //! Instructions and lines (IEC 61131-3, 3.2).
 
+ghost use Rattle.std.specs.Prelude.{◌≡◌, ◌++◌, replicate, OnOk};
+
 use crate::arguments::Arguments;
 use crate::nested::Nested;
 use crate::operand::Operand;
+use crate::uses::{Use, push_use};
 use iloperators::{Function, Operator};
+use std::alloc::AllocError;
 
 /// When a jump, a return or a call is carried out: the modifiers C and CN (IEC 61131-3, 3.2.2).
 #[derive(Clone, Copy, PartialEq, Eq, Debug)]
@@ -27,7 +31,12 @@ pub enum Instruction<N: Drop, L: Drop> {
     /// `result := result OP operand`.
     Apply(Operator, Operand<N>),
     /// An operator with parentheses: `result := result OP (..)`.
-    Deferred(Operator, Nested<N>),
+    Deferred {
+        operator: Operator,
+        nested: Nested<N>,
+        /// The place in the text of `)`.
+        close: usize,
+    },
     /// NOT, ABS, a conversion.
     Transform(Function),
     /// LIMIT low, high.
@@ -66,15 +75,15 @@ pub struct Line<N: Drop, L: Drop> {
 }
 
 impl<N: Drop, L: Drop> Instruction<N, L> {
-    ghost use Rattle.std.specs.Prelude.{◌≡◌, min};
-    ghost use Rattle.iltrees.specs.Words.{words_of};
+    ghost use Rattle.std.specs.Prelude.{min};
+    ghost use Rattle.iltrees.specs.Words.{places_of, words_of};
 
     /// How many words of code the instruction is, and `usize::MAX` where it is more.
     pub fn words(&self) -> usize
         ensures { result ≡ min (words_of self.now) usize.MAX }
     {
         match self {
-            Instruction::Deferred(_, nested) => nested.pieces().len().saturating_add(2),
+            Instruction::Deferred { nested, .. } => nested.pieces().len().saturating_add(2),
             Instruction::Limit { .. } => 2,
             Instruction::Call {
                 condition: Condition::Always,
@@ -85,20 +94,112 @@ impl<N: Drop, L: Drop> Instruction<N, L> {
             _ => 1,
         }
     }
+
+    /// Adds the place of each word, of an instruction at this place.
+    fn push_places(&self, at: usize, places: &mut Vec<usize>) -> Result<(), AllocError>
+        ensures { OnOk result (places.new.items ≡ places.old.items ++ places_of at self.now) }
+    {
+        match self {
+            Instruction::Deferred { nested, close, .. } => {
+                places.push(at)?;
+                nested.push_places(places)?;
+                places.push(*close)?;
+                Ok(())
+            }
+            Instruction::Limit { .. } => push_same(places, at, 2),
+            Instruction::Call {
+                condition,
+                arguments,
+                ..
+            } => {
+                push_same(places, at, arguments.as_slice().len())?;
+                match condition {
+                    Condition::Always => push_same(places, at, 1),
+                    Condition::IfTrue | Condition::IfFalse => push_same(places, at, 2),
+                }
+            }
+            _ => push_same(places, at, 1),
+        }
+    }
+}
+
+/// Adds the same place as often as `times` says.
+fn push_same(places: &mut Vec<usize>, at: usize, times: usize) -> Result<(), AllocError>
+    ensures { OnOk result (places.new.items ≡ places.old.items ++ replicate times at) }
+{
+    for _ in 0..times {
+        places.push(at)?;
+    }
+    Ok(())
+}
+
+impl<N: Copy, L: Drop> Instruction<N, L> {
+    ghost use Rattle.iltrees.specs.Uses.{uses_of};
+
+    /// Adds what the instruction uses, at this place.
+    fn push_uses(&self, at: usize, uses: &mut Vec<Use<N>>) -> Result<(), AllocError>
+        ensures { OnOk result (uses.new.items ≡ uses.old.items ++ uses_of at self.now) }
+    {
+        match self {
+            Instruction::Load { operand, .. } => push_use(uses, at, *operand),
+            Instruction::Apply(_, operand) => push_use(uses, at, *operand),
+            Instruction::Deferred { nested, .. } => nested.push_uses(uses),
+            Instruction::Limit { low, high } => {
+                push_use(uses, at, *low)?;
+                push_use(uses, at, *high)
+            }
+            Instruction::Store { variable, .. } => push_use(uses, at, Operand::Name(*variable)),
+            Instruction::Set(variable) => push_use(uses, at, Operand::Name(*variable)),
+            Instruction::Reset(variable) => push_use(uses, at, Operand::Name(*variable)),
+            Instruction::Call {
+                instance,
+                arguments,
+                ..
+            } => {
+                push_use(uses, at, Operand::Name(*instance))?;
+                arguments.push_uses(at, uses)
+            }
+            Instruction::Transform(_) | Instruction::Jump(..) | Instruction::Return(_) => Ok(()),
+        }
+    }
 }
 
 impl<N: Drop, L: Drop> Line<N, L> {
-    ghost use Rattle.std.specs.Prelude.{◌≡◌, min};
-    ghost use Rattle.iltrees.specs.Words.{words_in};
+    ghost use Rattle.std.specs.Prelude.{min};
+    ghost use Rattle.iltrees.specs.Words.{places_in, words_in};
 
     /// How many words of code the line is, none where it is a label alone, and `usize::MAX` where
     /// it is more.
     pub fn words(&self) -> usize
-        ensures { result ≡ min (words_in self.now.instruction) usize.MAX }
+        ensures { result ≡ min (words_in self.now) usize.MAX }
     {
         match &self.instruction {
             Some(instruction) => instruction.words(),
             None => 0,
+        }
+    }
+
+    /// Adds the place in the text of each word of code that the line is.
+    pub fn push_places(&self, places: &mut Vec<usize>) -> Result<(), AllocError>
+        ensures { OnOk result (places.new.items ≡ places.old.items ++ places_in self.now) }
+    {
+        match &self.instruction {
+            Some(instruction) => instruction.push_places(self.at, places),
+            None => Ok(()),
+        }
+    }
+}
+
+impl<N: Copy, L: Drop> Line<N, L> {
+    ghost use Rattle.iltrees.specs.Uses.{uses_in};
+
+    /// Adds what the line uses, in the order of the text.
+    pub fn push_uses(&self, uses: &mut Vec<Use<N>>) -> Result<(), AllocError>
+        ensures { OnOk result (uses.new.items ≡ uses.old.items ++ uses_in self.now) }
+    {
+        match &self.instruction {
+            Some(instruction) => instruction.push_uses(self.at, uses),
+            None => Ok(()),
         }
     }
 }

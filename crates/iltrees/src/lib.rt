@@ -7,17 +7,19 @@
 //! `renaming_keeps_the_meaning` says all that resolving names has to show.
 #![tactic(auto)]
 
-pub mod arguments;
-pub mod instruction;
-pub mod nested;
-pub mod operand;
-pub mod renaming;
+mod arguments;
+mod instruction;
+mod nested;
+mod operand;
+mod renaming;
+mod uses;
 
 pub use arguments::{Argument, Arguments};
 pub use instruction::{Condition, Instruction, Line};
-pub use nested::{Nested, Piece};
+pub use nested::{Action, Nested, Piece};
 pub use operand::Operand;
 pub use renaming::renaming_keeps_the_meaning;
+pub use uses::Use;
 
 #[cfg(test)]
 mod tests;

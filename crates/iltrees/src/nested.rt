@@ -1,13 +1,14 @@
 //! What stands in parentheses, as one tree.
 
 use crate::operand::Operand;
+use crate::uses::{Use, push_use};
 use iloperators::{Function, Operator};
 use std::alloc::{AllocError, Global};
 use std::marker::Model;
 
-/// A piece of what stands in parentheses. Each is one word of code.
+/// What a piece does.
 #[derive(Clone, Copy, PartialEq, Eq, Debug)]
-pub enum Piece<N> {
+pub enum Action<N> {
     /// LD, LDN.
     Load { negated: bool, operand: Operand<N> },
     /// An operator and its operand.
@@ -18,6 +19,15 @@ pub enum Piece<N> {
     Open(Operator),
     /// `)`.
     Close,
+}
+
+/// A piece of what stands in parentheses. Each is one word of code.
+#[derive(Clone, Copy, PartialEq, Eq, Debug)]
+pub struct Piece<N> {
+    /// The place in the text of the first byte of the piece's instruction, or of `)`. The operator
+    /// of `OP( x` and the LD that `x` is have the same.
+    pub at: usize,
+    pub action: Action<N>,
 }
 
 /// The content of parentheses (IEC 61131-3, 3.2.2): flat in memory, a tree in contracts.
@@ -43,54 +53,82 @@ impl<N: Drop> Model for Nested<N> {
 }
 
 impl<N: Drop> Nested<N> {
-    ghost use Rattle.std.specs.Prelude.{◌≡◌, IfOk};
+    ghost use Rattle.std.specs.Prelude.{◌≡◌, ◌++◌, map, IfOk, OnOk};
     ghost use Rattle.iltrees.specs.Trees.{Load, Reload, Apply, Transform, Deferred, pieces_of};
+    ghost use Rattle.iltrees.specs.Words.{place_of};
 
     /// The LD or LDN with which the content begins.
-    pub fn load(alloc: Global, negated: bool, operand: Operand<N>) -> Result<Nested<N>, AllocError>
-        ensures { IfOk result (λ tree. tree ≡ Load negated operand) }
+    pub fn load(
+        alloc: Global,
+        at: usize,
+        negated: bool,
+        operand: Operand<N>,
+    ) -> Result<Nested<N>, AllocError>
+        ensures { IfOk result (λ tree. tree ≡ Load at negated operand) }
     {
         let mut pieces = Vec::new(alloc);
-        pieces.push(Piece::Load { negated, operand })?;
+        let action = Action::Load { negated, operand };
+        pieces.push(Piece { at, action })?;
         Ok(Nested { pieces })
     }
 
     /// With a further LD or LDN.
-    pub fn reload(self, negated: bool, operand: Operand<N>) -> Result<Nested<N>, AllocError>
-        ensures { IfOk result (λ tree. tree ≡ Reload self negated operand) }
+    pub fn reload(
+        self,
+        at: usize,
+        negated: bool,
+        operand: Operand<N>,
+    ) -> Result<Nested<N>, AllocError>
+        ensures { IfOk result (λ tree. tree ≡ Reload self at negated operand) }
     {
         let mut pieces = self.pieces;
-        pieces.push(Piece::Load { negated, operand })?;
+        let action = Action::Load { negated, operand };
+        pieces.push(Piece { at, action })?;
         Ok(Nested { pieces })
     }
 
     /// With an operator on an operand.
-    pub fn apply(self, operator: Operator, operand: Operand<N>) -> Result<Nested<N>, AllocError>
-        ensures { IfOk result (λ tree. tree ≡ Apply self operator operand) }
+    pub fn apply(
+        self,
+        at: usize,
+        operator: Operator,
+        operand: Operand<N>,
+    ) -> Result<Nested<N>, AllocError>
+        ensures { IfOk result (λ tree. tree ≡ Apply self at operator operand) }
     {
         let mut pieces = self.pieces;
-        pieces.push(Piece::Apply(operator, operand))?;
+        let action = Action::Apply(operator, operand);
+        pieces.push(Piece { at, action })?;
         Ok(Nested { pieces })
     }
 
     /// With NOT, ABS or a conversion.
-    pub fn transform(self, function: Function) -> Result<Nested<N>, AllocError>
-        ensures { IfOk result (λ tree. tree ≡ Transform self function) }
+    pub fn transform(self, at: usize, function: Function) -> Result<Nested<N>, AllocError>
+        ensures { IfOk result (λ tree. tree ≡ Transform self at function) }
     {
         let mut pieces = self.pieces;
-        pieces.push(Piece::Transform(function))?;
+        let action = Action::Transform(function);
+        pieces.push(Piece { at, action })?;
         Ok(Nested { pieces })
     }
 
-    /// With an operator on what stands in parentheses.
-    pub fn deferred(self, operator: Operator, inner: Nested<N>) -> Result<Nested<N>, AllocError>
-        ensures { IfOk result (λ tree. tree ≡ Deferred self operator inner) }
+    /// With an operator on what stands in parentheses, of which `)` is at `close`.
+    pub fn deferred(
+        self,
+        at: usize,
+        operator: Operator,
+        inner: Nested<N>,
+        close: usize,
+    ) -> Result<Nested<N>, AllocError>
+        ensures { IfOk result (λ tree. tree ≡ Deferred self at operator inner close) }
     {
         let mut pieces = self.pieces;
         let mut more = inner.pieces;
-        pieces.push(Piece::Open(operator))?;
+        let action = Action::Open(operator);
+        pieces.push(Piece { at, action })?;
         pieces.append(&mut more)?;
-        pieces.push(Piece::Close)?;
+        let action = Action::Close;
+        pieces.push(Piece { at: close, action })?;
         Ok(Nested { pieces })
     }
 
@@ -99,5 +137,48 @@ impl<N: Drop> Nested<N> {
         ensures { result.now ≡ pieces_of self.now }
     {
         &self.pieces
+    }
+
+    /// Adds the place of each piece.
+    pub(crate) fn push_places(&self, places: &mut Vec<usize>) -> Result<(), AllocError>
+        ensures { OnOk result (places.new.items ≡ places.old.items ++ map place_of (pieces_of self.now)) }
+    {
+        for piece in self.pieces() {
+            places.push(piece.at)?;
+        }
+        Ok(())
+    }
+}
+
+impl<N: Copy> Piece<N> {
+    ghost use Rattle.std.specs.Prelude.{◌≡◌, ◌++◌, OnOk};
+    ghost use Rattle.iltrees.specs.Uses.{uses_of_piece};
+
+    /// Adds what the piece uses.
+    fn push_uses(&self, uses: &mut Vec<Use<N>>) -> Result<(), AllocError>
+        ensures { OnOk result (uses.new.items ≡ uses.old.items ++ uses_of_piece self.now) }
+    {
+        match self.action {
+            Action::Load { operand, .. } => push_use(uses, self.at, operand),
+            Action::Apply(_, operand) => push_use(uses, self.at, operand),
+            Action::Transform(_) | Action::Open(_) | Action::Close => Ok(()),
+        }
+    }
+}
+
+impl<N: Copy> Nested<N> {
+    ghost use Rattle.std.specs.Prelude.{◌≡◌, ◌++◌, flat_map, OnOk};
+    ghost use Rattle.iltrees.specs.Trees.{pieces_of};
+    ghost use Rattle.iltrees.specs.Uses.{uses_of_piece};
+
+    /// Adds what the pieces use.
+    pub(crate) fn push_uses(&self, uses: &mut Vec<Use<N>>) -> Result<(), AllocError>
+        ensures { OnOk result
+            (uses.new.items ≡ uses.old.items ++ flat_map uses_of_piece (pieces_of self.now)) }
+    {
+        for piece in self.pieces() {
+            piece.push_uses(uses)?;
+        }
+        Ok(())
     }
 }

@@ -2,6 +2,7 @@
 
 ghost use Rattle.iltrees.specs.Renaming.{PassesAreKept, ScansAreKept};
 ghost use Rattle.iltrees.specs.Renaming.{OperandsAreKept, SizesAreKept};
+ghost use Rattle.iltrees.specs.Renaming.{PiecesAreKept, UsesAreKept};
 
 /// Lines mean the same under other names: what passing and scanning renamed lines leaves is what
 /// the lines leave, seen with the new names. All that is asked of the names is that each operand,
@@ -12,4 +13,6 @@ pub fn renaming_keeps_the_meaning<N: Drop, M: Drop, L: Drop, K: Drop, S: Drop, T
     ensures scans { ScansAreKept N M L K S T }
     ensures operands { OperandsAreKept N M S T }
     ensures sizes { SizesAreKept N M L K }
+    ensures pieces { PiecesAreKept N M }
+    ensures uses { UsesAreKept N M L K }
 {}

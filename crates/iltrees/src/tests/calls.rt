@@ -1,94 +1,153 @@
 //! Each public call once, on lines built by hand.
 
-use crate::{Argument, Arguments, Condition, Instruction, Line, Nested, Operand, Piece};
+use crate::{
+    Action, Argument, Arguments, Condition, Instruction, Line, Nested, Operand, Piece, Use,
+};
 use iloperators::{Function, Operator};
 use iltypes::Value;
 use std::alloc::Global;
 use std::test::Fail;
 
-/// `LDN a`, `NOT`, `LD b`, `AND( c`, `OR d`, `)`.
+/// `LDN a`, `NOT`, `LD b`, `AND( c`, `OR d`, `)`, at 20, 26, 30, 35, 42 and 47.
 fn content(alloc: Global) -> Result<Nested<usize>, std::alloc::AllocError> {
-    let inner = Nested::load(alloc, false, Operand::Name(3))?;
-    let inner = inner.apply(Operator::Or { negated: false }, Operand::Name(4))?;
-    let tree = Nested::load(alloc, true, Operand::Name(1))?.transform(Function::Not)?;
-    let tree = tree.reload(false, Operand::Name(2))?;
-    tree.deferred(Operator::And { negated: false }, inner)
+    let inner = Nested::load(alloc, 35, false, Operand::Name(3))?;
+    let inner = inner.apply(42, Operator::Or { negated: false }, Operand::Name(4))?;
+    let tree = Nested::load(alloc, 20, true, Operand::Name(1))?.transform(26, Function::Not)?;
+    let tree = tree.reload(30, false, Operand::Name(2))?;
+    tree.deferred(35, Operator::And { negated: false }, inner, 47)
+}
+
+/// A piece at a place.
+fn piece(at: usize, action: Action<usize>) -> Piece<usize> {
+    Piece { at, action }
+}
+
+/// LD or LDN of a name.
+fn load(negated: bool, name: usize) -> Action<usize> {
+    let operand = Operand::Name(name);
+    Action::Load { negated, operand }
 }
 
 #[test]
 fn pieces_stand_as_they_are_written(rt: HostRuntime) -> Result<(), Fail> {
     let tree = content(rt.alloc())?;
+    let or = Operator::Or { negated: false };
     let pieces = [
-        Piece::Load {
-            negated: true,
-            operand: Operand::Name(1),
-        },
-        Piece::Transform(Function::Not),
-        Piece::Load {
-            negated: false,
-            operand: Operand::Name(2),
-        },
-        Piece::Open(Operator::And { negated: false }),
-        Piece::Load {
-            negated: false,
-            operand: Operand::Name(3),
-        },
-        Piece::Apply(Operator::Or { negated: false }, Operand::Name(4)),
-        Piece::Close,
+        piece(20, load(true, 1)),
+        piece(26, Action::Transform(Function::Not)),
+        piece(30, load(false, 2)),
+        piece(35, Action::Open(Operator::And { negated: false })),
+        piece(35, load(false, 3)),
+        piece(42, Action::Apply(or, Operand::Name(4))),
+        piece(47, Action::Close),
     ];
     assert_eq!(rt; tree.pieces(), pieces.as_slice());
     Ok(())
 }
 
+/// A call of 8 with one argument, `9 := 5`.
+fn call(
+    alloc: Global,
+    condition: Condition,
+) -> Result<Instruction<usize, usize>, std::alloc::AllocError> {
+    let mut list = Vec::new(alloc);
+    let operand = Operand::Constant(Value::Int(5));
+    list.push(Argument { port: 9, operand })?;
+    let arguments = Arguments::new(list);
+    Ok(Instruction::Call {
+        condition,
+        instance: 8,
+        arguments,
+    })
+}
+
+/// The line of an instruction at 13, or of a label alone.
+fn line(instruction: Option<Instruction<usize, usize>>) -> Line<usize, usize> {
+    Line {
+        at: 13,
+        label: Some(7),
+        instruction,
+    }
+}
+
 #[test]
 fn words_of_lines(rt: HostRuntime) -> Result<(), Fail> {
     let five = Operand::Constant(Value::Int(5));
-    for (condition, words) in [
-        (Condition::Always, 2),
-        (Condition::IfTrue, 3),
-        (Condition::IfFalse, 3),
-    ] {
-        let mut list = Vec::new(rt.alloc());
-        list.push(Argument {
-            port: 9,
-            operand: five,
-        })?;
-        let arguments = Arguments::new(list);
-        assert_eq!(rt;
-            arguments.as_slice(),
-            [Argument {
-                port: 9,
-                operand: five
-            }]
-            .as_slice()
-        );
-        let call: Instruction<usize, usize> = Instruction::Call {
-            condition,
-            instance: 8,
-            arguments,
-        };
-        assert_eq!(rt; call.words(), words);
-    }
-    let nested: Instruction<usize, usize> = Instruction::Deferred(
-        Operator::Sub,
-        content(rt.alloc())?,
-    );
-    let limit: Instruction<usize, usize> = Instruction::Limit {
+    let nested = Instruction::Deferred {
+        operator: Operator::Sub,
+        nested: content(rt.alloc())?,
+        close: 50,
+    };
+    let limit = Instruction::Limit {
         low: five,
         high: five,
     };
-    for (instruction, words) in [
-        (Some(nested), 9),
-        (Some(limit), 2),
-        (Some(Instruction::Jump(Condition::IfTrue, 7)), 1),
-        (None, 0),
+    let mut places = Vec::new(rt.alloc());
+    for (instruction, words, now) in [
+        (Some(nested), 9, &[13, 20, 26, 30, 35, 35, 42, 47, 50][..]),
+        (Some(limit), 2, &[13, 13][..]),
+        (Some(Instruction::Jump(Condition::IfTrue, 7)), 1, &[13][..]),
+        (Some(call(rt.alloc(), Condition::Always)?), 2, &[13, 13][..]),
+        (
+            Some(call(rt.alloc(), Condition::IfTrue)?),
+            3,
+            &[13, 13, 13][..],
+        ),
+        (
+            Some(call(rt.alloc(), Condition::IfFalse)?),
+            3,
+            &[13, 13, 13][..],
+        ),
+        (None, 0, &[][..]),
     ] {
-        let line = Line {
-            at: 0,
-            label: Some(7),
-            instruction,
-        };
+        let line = line(instruction);
         assert_eq!(rt; line.words(), words);
+        places.clear();
+        line.push_places(&mut places)?;
+        assert_eq!(rt; places.as_slice(), now);
     }
+    Ok(())
+}
+
+/// What the line of an instruction at 13 uses.
+fn uses_of(
+    alloc: Global,
+    instruction: Option<Instruction<usize, usize>>,
+) -> Result<Vec<Use<usize>>, std::alloc::AllocError> {
+    let mut uses = Vec::new(alloc);
+    line(instruction).push_uses(&mut uses)?;
+    Ok(uses)
+}
+
+/// A use of a name.
+fn name(at: usize, name: usize) -> Use<usize> {
+    let operand = Operand::Name(name);
+    Use { at, operand }
+}
+
+#[test]
+fn uses_of_lines(rt: HostRuntime) -> Result<(), Fail> {
+    let operand = Operand::Constant(Value::Int(5));
+    let five = Use { at: 13, operand };
+    let nested = Instruction::Deferred {
+        operator: Operator::Sub,
+        nested: content(rt.alloc())?,
+        close: 50,
+    };
+    let limit = Instruction::Limit {
+        low: operand,
+        high: Operand::Name(1),
+    };
+    let called = call(rt.alloc(), Condition::IfTrue)?;
+    let uses = uses_of(rt.alloc(), Some(nested))?;
+    assert_eq!(rt; uses.as_slice(), [name(20, 1), name(30, 2), name(35, 3), name(42, 4)].as_slice());
+    let uses = uses_of(rt.alloc(), Some(limit))?;
+    assert_eq!(rt; uses.as_slice(), [five, name(13, 1)].as_slice());
+    let uses = uses_of(rt.alloc(), Some(called))?;
+    assert_eq!(rt; uses.as_slice(), [name(13, 8), name(13, 9), five].as_slice());
+    let uses = uses_of(rt.alloc(), Some(Instruction::Set(6)))?;
+    assert_eq!(rt; uses.as_slice(), [name(13, 6)].as_slice());
+    let uses = uses_of(rt.alloc(), None)?;
+    assert!(rt; uses.is_empty());
     Ok(())
 }

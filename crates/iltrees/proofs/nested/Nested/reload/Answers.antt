@@ -1,23 +1,23 @@
 use Rattle.std.proofs.Common.{refl}
-use Rattle.iltrees.specs.declared.nested.Piece.TheVariants as pieces
-use Rattle.iltrees.specs.Trees.{Reload}
+use Rattle.iltrees.specs.declared.nested.Action.TheVariants as actions
+use Rattle.iltrees.specs.Trees.{Reload, piece}
 use Rattle.iltrees.proofs.Spelled.{spelled_tree, spelled_back, one_more}
 use Rattle.iltrees.proofs.nested.Nested.reload.Goals as goal
 
 pub invariant_of-result : goal.invariant_of-result
 invariant_of-result g c =
-    let u = Reload c.args.self c.args.negated c.args.operand in
+    let u = Reload c.args.self c.args.at c.args.negated c.args.operand in
     let more = c.push.new.self.items in
-    let p = pieces.Load c.args.negated c.args.operand in
+    let p = piece c.args.at (actions.Load c.args.negated c.args.operand) in
     let pushed = c.in_ok-push.ensures.items in
     let now = one_more c.self.inside.pieces.items more p c.args.self u pushed c.self.invariant c.self.view_is refl in
     spelled_back more u now
 
 pub returns : goal.returns
 returns g c =
-    let u = Reload c.args.self c.args.negated c.args.operand in
+    let u = Reload c.args.self c.args.at c.args.negated c.args.operand in
     let more = c.push.new.self.items in
-    let p = pieces.Load c.args.negated c.args.operand in
+    let p = piece c.args.at (actions.Load c.args.negated c.args.operand) in
     let pushed = c.in_ok-push.ensures.items in
     let now = one_more c.self.inside.pieces.items more p c.args.self u pushed c.self.invariant c.self.view_is refl in
     spelled_tree more u now

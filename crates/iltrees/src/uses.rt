@@ -1,0 +1,28 @@
+//! What lines use.
+
+ghost use Rattle.std.specs.Prelude.{◌≡◌, [], ◌∷◌, ◌++◌, OnOk};
+ghost use Rattle.iltrees.specs.Uses.{use_at};
+
+use crate::operand::Operand;
+use std::alloc::AllocError;
+
+/// An operand with the place of its instruction. What is stored to, set, reset or called is a name.
+#[derive(Clone, Copy, PartialEq, Eq, Debug)]
+pub struct Use<N> {
+    /// The place in the text of the first byte of the instruction that uses it, in or out of
+    /// parentheses.
+    pub at: usize,
+    pub operand: Operand<N>,
+}
+
+/// Adds a use of an operand, by the instruction at this place.
+pub(crate) fn push_use<N: Drop>(
+    uses: &mut Vec<Use<N>>,
+    at: usize,
+    operand: Operand<N>,
+) -> Result<(), AllocError>
+    ensures { OnOk result (uses.new.items ≡ uses.old.items ++ use_at at operand ∷ []) }
+{
+    uses.push(Use { at, operand })?;
+    Ok(())
+}
