@@ -140,11 +140,17 @@ fn uses_of_lines(rt: HostRuntime) -> Result<(), Fail> {
     };
     let called = call(rt.alloc(), Condition::IfTrue)?;
     let uses = uses_of(rt.alloc(), Some(nested))?;
-    assert_eq!(rt; uses.as_slice(), [name(20, 1), name(30, 2), name(35, 3), name(42, 4)].as_slice());
+    assert_eq!(rt;
+        uses.as_slice(),
+        [name(20, 1), name(30, 2), name(35, 3), name(42, 4)].as_slice()
+    );
     let uses = uses_of(rt.alloc(), Some(limit))?;
     assert_eq!(rt; uses.as_slice(), [five, name(13, 1)].as_slice());
     let uses = uses_of(rt.alloc(), Some(called))?;
-    assert_eq!(rt; uses.as_slice(), [name(13, 8), name(13, 9), five].as_slice());
+    assert_eq!(rt;
+        uses.as_slice(),
+        [name(13, 8), name(13, 9), five].as_slice()
+    );
     let uses = uses_of(rt.alloc(), Some(Instruction::Set(6)))?;
     assert_eq!(rt; uses.as_slice(), [name(13, 6)].as_slice());
     let uses = uses_of(rt.alloc(), None)?;
