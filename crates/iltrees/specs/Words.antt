@@ -46,3 +46,14 @@ IsShallow _ = ⊤
 abbrev pub AreShallow : {N L : Type 0} → List (Line N L) → Type 0
 AreShallow [] = ⊤
 AreShallow (line ∷ lines) = IsShallow line.instruction × AreShallow lines
+
+-- no jump, return or call: code has no words for them yet
+abbrev pub IsStraight : {N L : Type 0} → Option (Instruction N L) → Type 0
+IsStraight (Some (instructions.Jump condition l)) = ⊥
+IsStraight (Some (instructions.Return condition)) = ⊥
+IsStraight (Some (instructions.Call condition n xs)) = ⊥
+IsStraight _ = ⊤
+
+abbrev pub AreStraight : {N L : Type 0} → List (Line N L) → Type 0
+AreStraight [] = ⊤
+AreStraight (line ∷ lines) = IsStraight line.instruction × AreStraight lines
