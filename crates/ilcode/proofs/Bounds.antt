@@ -1,25 +1,14 @@
 -- The longest path.
 use Rattle.std.proofs.Common.{◌≡◌, ℕ, zero, suc, ◌+◌, ◌<◌, ◌≤◌, List, [], ◌∷◌, length, refl, arith}
 use Rattle.ilcode.specs.declared.instruction.Instruction.{Instruction}
-use Rattle.ilcode.specs.declared.instruction.Instruction.TheVariants.{Load, Apply, Not, Store, Set, Reset}
 use Rattle.ilcode.specs.Paths.{LeadsTo, AreNext, IsPath, IsBound}
 use Rattle.ilcode.proofs.Lists.{get}
 
 pub leads_next : (word : Instruction) (place : ℕ) → LeadsTo word place (place + 1)
-leads_next (Load negated operand) place = refl
-leads_next (Apply operator negated operand) place = refl
-leads_next Not place = refl
-leads_next (Store negated i) place = refl
-leads_next (Set i) place = refl
-leads_next (Reset i) place = refl
+leads_next word place = refl
 
 pub next_is : (word : Instruction) (place to : ℕ) → LeadsTo word place to → to ≡ place + 1
-next_is (Load negated operand) place to h = h
-next_is (Apply operator negated operand) place to h = h
-next_is Not place to h = h
-next_is (Store negated i) place to h = h
-next_is (Set i) place to h = h
-next_is (Reset i) place to h = h
+next_is word place to h = h
 
 -- the places from one on
 places_from : ℕ → ℕ → List ℕ

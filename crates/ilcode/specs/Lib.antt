@@ -1,3 +1,4 @@
 pub mod Listings
 pub mod Paths
+pub mod Rows
 pub mod Steps

@@ -16,25 +16,20 @@ pub enum Operand {
 #[derive(Clone, Copy, PartialEq, Eq, Debug)]
 pub enum Instruction {
     /// LD, LDN: the current result becomes the operand, or its opposite.
-    Load {
-        negated: bool,
-        operand: Operand,
-    },
+    Load { negated: bool, operand: Operand },
     /// `result := result OP operand`.
     Apply(Operator, Operand),
     /// NOT, ABS, a conversion.
     Transform(Function),
     /// ST, STN: the slot becomes the current result, or its opposite.
-    Store {
-        negated: bool,
-        slot: usize,
-    },
+    Store { negated: bool, slot: usize },
     /// S: the slot becomes TRUE where the current result is TRUE.
     Set(usize),
     /// R: the slot becomes FALSE where the current result is TRUE.
     Reset(usize),
-    /// An operator with `(`: the current result waits for it, and there is none until the next load.
+    /// An operator with `(`: the current result waits for it, and the next load makes another one.
     Open(Operator),
-    /// `)`: the operator that waits is applied to the result that waits with it and the current one.
+    /// `)`: the operator that waits is applied to the result that waits with it and to the current
+    /// one.
     Close,
 }

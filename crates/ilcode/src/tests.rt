@@ -7,6 +7,9 @@ use iltypes::{IlType, Value};
 use std::alloc::{AllocError, Global};
 use std::test::Fail;
 
+mod laws;
+mod rows;
+
 const LOAD: Instruction = Instruction::Load {
     negated: false,
     operand: Operand::Constant(0),

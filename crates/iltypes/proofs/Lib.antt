@@ -4,3 +4,4 @@ pub mod Limits
 pub mod Magnitudes
 pub mod Quotients
 pub mod Remainders
+pub mod TypeTests

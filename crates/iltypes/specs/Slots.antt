@@ -12,8 +12,8 @@ is_of types.Bool (values.Bool truth) = true
 is_of (types.Int range) (values.Int number) = int_le range.lo number && int_le number range.hi
 is_of _ _ = false
 
--- the values with another one in the slot of this number and type; none where there is no such slot, or the value is not
--- of its type
+-- the values with another one in the slot of this number and type; none where there is no such slot, or the value is
+-- not of its type
 abbrev pub stored : List Value → ℕ → Value → Option IlType → Option (List Value)
 stored slots slot value None = None
 stored slots slot value (Some type) = if is_of type value then Some (slice_set slots slot value) else None

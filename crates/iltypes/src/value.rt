@@ -1,6 +1,7 @@
 //! Values and their types.
 
-ghost use Rattle.std.specs.Prelude.{◌↔◌, IsTrue};
+ghost use Rattle.std.specs.Prelude.{◌≡◌, ◌↔◌, IsTrue};
+ghost use Rattle.iltypes.specs.Slots.{is_of};
 ghost use Rattle.iltypes.specs.Values.{IsOf};
 
 use crate::range::Range;
@@ -25,8 +26,10 @@ pub enum Value {
 
 impl IlType {
     /// Whether `value` is one of the type's values.
+    #[tactic(auto, using(crate::proofs::TypeTests::test_is))]
     pub fn holds(self, value: Value) -> bool
-        ensures { IsTrue result ↔ IsOf value self }
+        ensures lies { IsTrue result ↔ IsOf value self }
+        ensures test { result ≡ is_of self value }
     {
         match (self, value) {
             (IlType::Bool, Value::Bool(_)) => true,

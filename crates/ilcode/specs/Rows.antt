@@ -1,0 +1,97 @@
+-- Worked codes over four variables: three whole numbers from 0 to 254, and a truth value.
+use Rattle.std.specs.Prelude.{◌≡◌, ℕ, zero, suc, pos, negsuc, Bool, true, false, List, [], ◌∷◌, ◌++◌, length, Option}
+use Rattle.std.specs.Prelude.{Some, None}
+use Rattle.iltypes.specs.declared.range.Range.{Range}
+use Rattle.iltypes.specs.declared.value.IlType.TheVariants as types
+use Rattle.iltypes.specs.declared.value.Value.{Value}
+use Rattle.iltypes.specs.declared.value.Value.TheVariants as values
+use Rattle.iloperators.specs.declared.function.Function.TheVariants.{Not, Convert}
+use Rattle.iloperators.specs.declared.function.IntegerType.TheVariants.{Usint}
+use Rattle.iloperators.specs.declared.operator.Operator.TheVariants.{And, Sub, Div}
+use Rattle.ilcode.specs.declared.instruction.Operand.TheVariants.{Slot, Constant}
+use Rattle.ilcode.specs.declared.instruction.Instruction.{Instruction}
+use Rattle.ilcode.specs.declared.instruction.Instruction.TheVariants.{Load, Apply, Transform, Store, Set, Reset}
+use Rattle.ilcode.specs.declared.instruction.Instruction.TheVariants.{Open, Close}
+use Rattle.ilcode.specs.Listings.{Listing, listing_of}
+use Rattle.ilcode.specs.Steps.{at, after, start}
+
+abbrev pub whole : ℕ → Value
+whole n = values.Int (pos n)
+
+abbrev pub subrange : Range
+subrange = record { lo = pos 0; hi = pos 254; ordered = record { le = tt } }
+
+-- the constants 0, 255, 256 and -1, and one line of text for each word
+abbrev pub code_of : List ℕ → List Instruction → Listing
+code_of starts words =
+    listing_of 1 (whole 0 ∷ whole 255 ∷ whole 256 ∷ values.Int (negsuc 0) ∷ [])
+    (types.Int subrange ∷ types.Int subrange ∷ types.Int subrange ∷ types.Bool ∷ []) starts words []
+
+-- the variables, of which the first three are these numbers
+abbrev pub slots_of : ℕ → ℕ → ℕ → Bool → List Value
+slots_of a b c d = whole a ∷ whole b ∷ whole c ∷ values.Bool d ∷ []
+
+-- from these values the words come to their end with those, the current result is this one, and nothing is open
+abbrev pub Come : List ℕ → List Instruction → List Value → Option Value → List Value → Type 0
+Come starts words from result to =
+    after (code_of starts words) (start from) (length words) ≡ Some (at (length words) to result [])
+
+-- from these values a word is undefined
+abbrev pub AreStuck : List ℕ → List Instruction → List Value → Type 0
+AreStuck starts words from = after (code_of starts words) (start from) (length words) ≡ None
+
+-- LD of the first, the second or the fourth variable
+abbrev pub ld_a : Instruction
+ld_a = Load false (Slot 0)
+
+abbrev pub ld_b : Instruction
+ld_b = Load false (Slot 1)
+
+abbrev pub ld_d : Instruction
+ld_d = Load false (Slot 3)
+
+-- LD of a constant, by its number
+abbrev pub ld : ℕ → Instruction
+ld constant = Load false (Constant constant)
+
+-- ST a, ST d, STN d
+abbrev pub st_a : Instruction
+st_a = Store false 0
+
+abbrev pub st_d : Instruction
+st_d = Store false 3
+
+abbrev pub stn_d : Instruction
+stn_d = Store true 3
+
+-- LD a, SUB( b, SUB c, ), ST a
+abbrev pub deferred : List Instruction
+deferred = ld_a ∷ Open Sub ∷ ld_b ∷ Apply Sub (Slot 2) ∷ Close ∷ st_a ∷ []
+
+-- LD a, DIV b
+abbrev pub quotient : List Instruction
+quotient = ld_a ∷ Apply Div (Slot 1) ∷ []
+
+-- INT_TO_USINT of a constant
+abbrev pub converted : ℕ → List Instruction
+converted constant = ld constant ∷ Transform (Convert Usint) ∷ []
+
+-- LD d, AND(, so many times
+abbrev pub opens : ℕ → List Instruction
+opens zero = []
+opens (suc n) = ld_d ∷ Open (And false) ∷ opens n
+
+abbrev pub closes : ℕ → List Instruction
+closes zero = []
+closes (suc n) = Close ∷ closes n
+
+-- the truth value TRUE under so many parentheses
+abbrev pub nested : ℕ → List Instruction
+nested n = opens n ++ ld_d ∷ closes n
+
+-- LD d, S d, R d
+abbrev pub set : List Instruction
+set = ld_d ∷ Transform Not ∷ Set 3 ∷ []
+
+abbrev pub reset : List Instruction
+reset = ld_d ∷ Reset 3 ∷ []
