@@ -1,8 +1,9 @@
 -- The laws of an item that is never nothing, put together.
 use Rattle.std.proofs.Common.{◌≡◌, true, false, List, Option, Some}
-use Rattle.ilgrammar.specs.Items.{Item, one, map, seq, lead, opt, alt, many}
+use Rattle.ilgrammar.specs.Items.{Item, one, map, seq, lead, select, opt, alt, many}
 use Rattle.ilgrammar.proofs.Laws.{Lawful, Solid, Lawful-one, Solid-one, Lawful-map, Solid-map, Lawful-seq, Lawful-seq_open, Solid-seq, Lawful-lead, Solid-lead, Lawful-opt, Lawful-alt, Solid-alt, Lawful-fewer}
 use Rattle.ilgrammar.proofs.Repeats.{Lawful-many}
+use Rattle.ilgrammar.proofs.Selects.{Lawful-select, Solid-select}
 
 pub record Firm (T A : Type 0) (a : Item T A) (s : T → Type 0) : Type 0 where
   pub lawful : Lawful T A a s
@@ -25,6 +26,11 @@ Firm-seq_open {b} x apart lb = record { lawful = Lawful-seq_open _ _ _ _ _ _ _ x
 pub Firm-lead : {T A B : Type 0} {a : Item T A} {b : Item T B} {sa sb : T → Type 0} → Lawful T A a sa → ((t : T) → b.starts t ≡ true → sa t)
     → Firm T B b sb → Firm T (A × B) (lead a b) sb
 Firm-lead {a} la apart y = record { lawful = Lawful-lead _ _ _ _ _ _ _ la y.lawful apart y.solid; solid = Solid-lead _ _ _ a _ y.solid }
+
+-- the item that is selected may be nothing
+pub Firm-select : {T A B : Type 0} {a : Item T A} {b : A → Item T B} {sa sb : T → Type 0} → Firm T A a sa → ((x : A) (t : T) → (b x).starts t ≡ true → sa t)
+    → ((x : A) → Lawful T B (b x) sb) → Firm T B (select a b) (λ t. sa t × sb t)
+Firm-select {b} x apart y = record { lawful = Lawful-select _ _ _ _ _ _ _ x.lawful x.solid y apart; solid = Solid-select _ _ _ _ b x.solid }
 
 pub Firm-alt : {T A : Type 0} {a b : Item T A} {sa sb : T → Type 0} → Firm T A a sa → ((t : T) → b.starts t ≡ true → a.starts t ≡ false)
     → Firm T A b sb → Firm T A (alt a b) (λ t. sa t × sb t)

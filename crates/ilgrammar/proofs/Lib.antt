@@ -3,3 +3,4 @@ pub mod Firm
 pub mod Laws
 pub mod Loops
 pub mod Repeats
+pub mod Selects

@@ -52,6 +52,14 @@ one class = record {
   read = one_read class;
 }
 
+-- ---- no token, and a value
+
+abbrev pub empty_whole : {T A : Type 0} → A → List T → A → Type 0
+empty_whole x ts y = (ts ≡ []) × (y ≡ x)
+
+abbrev pub empty : {T A : Type 0} → A → Item T A
+empty x = record { whole = empty_whole x; part = λ ts. ts ≡ []; starts = λ t. false; read = λ ts. Ok (x, ts) }
+
 -- ---- an item, and its value by f
 
 abbrev pub map_whole : {T A B : Type 0} → (A → B) → Item T A → List T → B → Type 0
@@ -84,6 +92,25 @@ lead a b = record {
   part = seq_part a b;
   starts = λ t. a.starts t || b.starts t;
   read = seq_read a b;
+}
+
+-- ---- one item, of which the value says which one follows
+
+abbrev pub select_whole : {T A B : Type 0} → Item T A → (A → Item T B) → List T → B → Type 0
+select_whole {T} {A} a b ts y = (u v : List T) × (x : A) × (ts ≡ u ++ v) × a.whole u x × (b x).whole v y
+
+abbrev pub select_part : {T A B : Type 0} → Item T A → (A → Item T B) → List T → Type 0
+select_part {T} {A} a b ts = a.part ts ⊎ ((u v : List T) × (x : A) × (ts ≡ u ++ v) × a.whole u x × (b x).part v)
+
+abbrev pub select_read : {T A B : Type 0} → Item T A → (A → Item T B) → List T → Result (B × List T) (List T)
+select_read a b ts = a.read ts >>= λ p. (b p.0).read p.1
+
+abbrev pub select : {T A B : Type 0} → Item T A → (A → Item T B) → Item T B
+select a b = record {
+  whole = select_whole a b;
+  part = select_part a b;
+  starts = a.starts;
+  read = select_read a b;
 }
 
 -- ---- an item or nothing
