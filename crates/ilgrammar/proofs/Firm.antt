@@ -28,9 +28,13 @@ pub Firm-lead : {T A B : Type 0} {a : Item T A} {b : Item T B} {sa sb : T → Ty
 Firm-lead {a} la apart y = record { lawful = Lawful-lead _ _ _ _ _ _ _ la y.lawful apart y.solid; solid = Solid-lead _ _ _ a _ y.solid }
 
 -- the item that is selected may be nothing
-pub Firm-select : {T A B : Type 0} {a : Item T A} {b : A → Item T B} {sa sb : T → Type 0} → Firm T A a sa → ((x : A) (t : T) → (b x).starts t ≡ true → sa t)
+pub Firm-select : {T A B : Type 0} {a : Item T A} {b : A → Item T B} {sa sb : T → Type 0}
+    → Firm T A a sa → ((x : A) (t : T) → (b x).starts t ≡ true → sa t)
     → ((x : A) → Lawful T B (b x) sb) → Firm T B (select a b) (λ t. sa t × sb t)
-Firm-select {b} x apart y = record { lawful = Lawful-select _ _ _ _ _ _ _ x.lawful x.solid y apart; solid = Solid-select _ _ _ _ b x.solid }
+Firm-select {b} x apart y = record {
+  lawful = Lawful-select _ _ _ _ _ _ _ x.lawful x.solid y apart;
+  solid = Solid-select _ _ _ _ b x.solid;
+}
 
 pub Firm-alt : {T A : Type 0} {a b : Item T A} {sa sb : T → Type 0} → Firm T A a sa → ((t : T) → b.starts t ≡ true → a.starts t ≡ false)
     → Firm T A b sb → Firm T A (alt a b) (λ t. sa t × sb t)

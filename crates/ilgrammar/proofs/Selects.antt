@@ -1,5 +1,5 @@
 -- Reading is exact of nothing, and of an item that is selected by the value of the one before it.
-use Rattle.std.proofs.Common.{◌≡◌, true, List, [], ◌∷◌, ◌++◌, Result, Ok, Err, inl, inr, refl, sym, ap, subst, ◌∙◌}
+use Rattle.std.proofs.Common.{◌≡◌, true, List, [], ◌∷◌, ◌++◌, Ok, Err, inl, inr, refl, sym, ap, subst, ◌∙◌}
 use Rattle.std.proofs.Common.{append_assoc}
 use Rattle.ilgrammar.specs.Items.{Item, empty, select, select_read}
 use Rattle.ilgrammar.proofs.Laws.{bind_ok, bind_err, ok_is, SameHead, same_after, StopsAt, Took, Refused, Lawful, Solid}
@@ -7,7 +7,8 @@ use Rattle.ilgrammar.proofs.Laws.{bind_ok, bind_err, ok_is, SameHead, same_after
 -- ---- nothing
 
 module _ (T A : Type 0) (x : A) where
-  empty_ok : (ts : List T) (y : A) (rest : List T) → (empty {T = T} x).read ts ≡ Ok (y, rest) → Took T A (empty x) ts y rest
+  empty_ok : (ts : List T) (y : A) (rest : List T)
+      → (empty {T = T} x).read ts ≡ Ok (y, rest) → Took T A (empty x) ts y rest
   empty_ok ts y rest e =
       let made : A × List T = (x, ts) in
       subst (λ (z : A × List T). Took T A (empty x) ts z.0 z.1) (ok_is made (y, rest) e)
@@ -26,9 +27,13 @@ module _ (T A : Type 0) (x : A) where
 
 -- ---- one that is selected
 
-module _ (T A B : Type 0) (a : Item T A) (b : A → Item T B) (sa sb : T → Type 0) (la : Lawful T A a sa) (solid : Solid T A a)
-    (lb : (x : A) → Lawful T B (b x) sb) where
-  select_ok : (ts : List T) (y : B) (rest : List T) → select_read a b ts ≡ Ok (y, rest) → Took T B (select a b) ts y rest
+module _ (T A B : Type 0) (a : Item T A) (b : A → Item T B) (sa sb : T → Type 0)
+    (la : Lawful T A a sa) (solid : Solid T A a) (lb : (x : A) → Lawful T B (b x) sb) where
+  goes_before : (v rest w : List T) (u : List T) → rest ≡ u ++ v → SameHead v w → SameHead rest (u ++ w)
+  goes_before v rest w u e h = subst (λ (r : List T). SameHead r (u ++ w)) (sym e) (same_after u v w h)
+
+  select_ok : (ts : List T) (y : B) (rest : List T)
+      → select_read a b ts ≡ Ok (y, rest) → Took T B (select a b) ts y rest
   select_ok ts y rest e =
       let p = bind_ok (a.read ts) (λ p. (b p.0).read p.1) (y, rest) e in
       let ta = la.ok ts p.0.0 p.0.1 p.1 in
@@ -38,7 +43,7 @@ module _ (T A B : Type 0) (a : Item T A) (b : A → Item T B) (sa sb : T → Typ
         parts = ta.parts ∙ ap (λ (r : List T). ta.front ++ r) tb.parts ∙ sym (append_assoc ta.front tb.front rest);
         whole = (ta.front, tb.front, p.0.0, refl, ta.whole, tb.whole);
         same = λ w h.
-            let one = ta.same (tb.front ++ w) (subst (λ (r : List T). SameHead r (tb.front ++ w)) (sym tb.parts) (same_after tb.front rest w h)) in
+            let one = ta.same (tb.front ++ w) (goes_before rest p.0.1 w tb.front tb.parts h) in
             let two = tb.same w h in
             rw (append_assoc ta.front tb.front w, one, two) refl;
       }
@@ -56,7 +61,7 @@ module _ (T A B : Type 0) (a : Item T A) (b : A → Item T B) (sa sb : T → Typ
           parts = ta.parts ∙ ap (λ (r : List T). ta.front ++ r) rb.parts ∙ sym (append_assoc ta.front rb.front rest);
           part = inr (ta.front, rb.front, p.0.0, refl, ta.whole, rb.part);
           same = λ w h.
-              let one = ta.same (rb.front ++ w) (subst (λ (r : List T). SameHead r (rb.front ++ w)) (sym rb.parts) (same_after rb.front rest w h)) in
+              let one = ta.same (rb.front ++ w) (goes_before rest p.0.1 w rb.front rb.parts h) in
               let two = rb.same w h in
               rw (append_assoc ta.front rb.front w, one, two) refl;
         }
@@ -79,7 +84,8 @@ module _ (T A B : Type 0) (a : Item T A) (b : A → Item T B) (sa sb : T → Typ
       go (d ∷ u) v x e w = let same : t ≡ d = cc in rw same (la.begun d u x w)
 
   module _ (apart : (x : A) (t : T) → (b x).starts t ≡ true → sa t) where
-    before : (x : A) (v : List T) (y : B) (rest : List T) → (b x).whole v y → StopsAt (λ t. sa t × sb t) rest → StopsAt sa (v ++ rest)
+    before : (x : A) (v : List T) (y : B) (rest : List T)
+        → (b x).whole v y → StopsAt (λ t. sa t × sb t) rest → StopsAt sa (v ++ rest)
     before x [] y [] w h = tt
     before x [] y (t ∷ ts) w h = h.0
     before x (t ∷ v) y rest w h = apart x t ((lb x).begun t v y w)

@@ -1,10 +1,10 @@
 //! Grammars over tokens, and what holds of every parser of one.
 //!
 //! What crosses the boundary: the definition of an item (specs/Items.antt, to be read first), built
-//! by `one`, `map`, `seq`, `lead`, `opt`, `alt` and `many`, with what it spells, what is a front of
-//! it and how it is read; where a fault stands (specs/Stops.antt); and [`ReadError`], which a
-//! function that reads an item returns (specs/Results.antt). The laws (proofs/) say that reading is
-//! exact both ways, for any type of tokens.
+//! by `one`, `empty`, `map`, `seq`, `lead`, `select`, `opt`, `alt` and `many`, with what it spells,
+//! what is a front of it and how it is read; where a fault stands (specs/Stops.antt); and
+//! [`ReadError`], which a function that reads an item returns (specs/Results.antt). The laws
+//! (proofs/) say that reading is exact both ways, for any type of tokens.
 
 #![tactic(auto)]
 

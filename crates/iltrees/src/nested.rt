@@ -54,8 +54,17 @@ impl<N: Drop> Model for Nested<N> {
 
 impl<N: Drop> Nested<N> {
     ghost use Rattle.std.specs.Prelude.{◌≡◌, ◌++◌, map, IfOk, OnOk};
-    ghost use Rattle.iltrees.specs.Trees.{Load, Reload, Apply, Transform, Deferred, pieces_of};
+    ghost use Rattle.iltrees.specs.Trees.{Tree, Load, Reload, Apply, Transform, Deferred, pieces_of};
     ghost use Rattle.iltrees.specs.Words.{place_of};
+
+    /// The content that these pieces spell.
+    #[tactic(auto, using(crate::specs::TreeSteps::tree_again))]
+    pub fn new(pieces: Vec<Piece<N>>) -> Nested<N>
+        requires { (tree : Tree N) × (pieces.items ≡ pieces_of tree) }
+        ensures { pieces.items ≡ pieces_of result }
+    {
+        Nested { pieces }
+    }
 
     /// The LD or LDN with which the content begins.
     pub fn load(
