@@ -6,7 +6,7 @@ use iltrees::Line;
 use std::marker::Model;
 
 /// `PROGRAM name { VAR .. END_VAR } { line } END_PROGRAM`. No more parentheses are open at one place
-/// than [`limits::MOST_NESTING`], and no line has a jump, a return or a call, which are to come.
+/// than [`limits::MOST_NESTING`], and no line has a label, jump, return or call, which are to come.
 #[derive(Drop)]
 pub struct Program {
     name: Name,
