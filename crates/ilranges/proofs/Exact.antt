@@ -10,7 +10,7 @@ use Rattle.iloperators.specs.declared.operator.Operator.{Operator}
 use Rattle.iloperators.specs.declared.operator.Operator.TheVariants as operators
 use Rattle.iloperators.specs.Operators.{value_of_operator, quotient, remainder}
 use Rattle.ilranges.specs.declared.cause.Cause.{Cause}
-use Rattle.ilranges.specs.declared.cause.Cause.TheVariants.{WrongType, MayBeZero, OutOfRange, TooBig}
+use Rattle.ilranges.specs.declared.cause.Cause.TheVariants as causes
 use Rattle.ilranges.specs.declared.known.Known.{Known}
 use Rattle.ilranges.specs.declared.known.Known.TheVariants as knowns
 use Rattle.ilranges.specs.Causes.{number_of, IsLeastCause}
@@ -21,27 +21,20 @@ use Rattle.ilranges.specs.ResultSteps.{IsVerdict}
 -- ---- causes
 
 same_number : (Arising : Cause → Type 0) (one other : Cause)
-    → ((f a g b : Range) → Arising (OutOfRange f a) → Arising (OutOfRange g b) → OutOfRange f a ≡ OutOfRange g b)
+    → ((f a g b : Range) → Arising (causes.OutOfRange f a) → Arising (causes.OutOfRange g b) → causes.OutOfRange f a ≡ causes.OutOfRange g b)
     → Arising one → Arising other → number_of one ≤ number_of other → number_of other ≤ number_of one → one ≡ other
-same_number Arising WrongType WrongType h p q l m = refl
-same_number Arising MayBeZero MayBeZero h p q l m = refl
-same_number Arising (OutOfRange f a) (OutOfRange g b) h p q l m = h f a g b p q
-same_number Arising TooBig TooBig h p q l m = refl
-same_number Arising WrongType MayBeZero h p q l m = absurd (omega arith)
-same_number Arising WrongType (OutOfRange g b) h p q l m = absurd (omega arith)
-same_number Arising WrongType TooBig h p q l m = absurd (omega arith)
-same_number Arising MayBeZero WrongType h p q l m = absurd (omega arith)
-same_number Arising MayBeZero (OutOfRange g b) h p q l m = absurd (omega arith)
-same_number Arising MayBeZero TooBig h p q l m = absurd (omega arith)
-same_number Arising (OutOfRange f a) WrongType h p q l m = absurd (omega arith)
-same_number Arising (OutOfRange f a) MayBeZero h p q l m = absurd (omega arith)
-same_number Arising (OutOfRange f a) TooBig h p q l m = absurd (omega arith)
-same_number Arising TooBig WrongType h p q l m = absurd (omega arith)
-same_number Arising TooBig MayBeZero h p q l m = absurd (omega arith)
-same_number Arising TooBig (OutOfRange g b) h p q l m = absurd (omega arith)
+same_number Arising causes.WrongType causes.WrongType h p q l m = refl
+same_number Arising causes.NoResult causes.NoResult h p q l m = refl
+same_number Arising causes.EmptyNesting causes.EmptyNesting h p q l m = refl
+same_number Arising causes.OpenNesting causes.OpenNesting h p q l m = refl
+same_number Arising causes.MayBeZero causes.MayBeZero h p q l m = refl
+same_number Arising (causes.OutOfRange f a) (causes.OutOfRange g b) h p q l m = h f a g b p q
+same_number Arising causes.TooBig causes.TooBig h p q l m = refl
+same_number Arising causes.BadSlot causes.BadSlot h p q l m = refl
+same_number Arising one other h p q l m = absurd (omega arith)
 
 pub one_cause : (Arising : Cause → Type 0) (one other : Cause)
-    → ((f a g b : Range) → Arising (OutOfRange f a) → Arising (OutOfRange g b) → OutOfRange f a ≡ OutOfRange g b)
+    → ((f a g b : Range) → Arising (causes.OutOfRange f a) → Arising (causes.OutOfRange g b) → causes.OutOfRange f a ≡ causes.OutOfRange g b)
     → IsLeastCause Arising one → IsLeastCause Arising other → one ≡ other
 one_cause Arising one other h p q =
     same_number Arising one other h p.arises q.arises (p.least other q.arises) (q.least one p.arises)
@@ -76,17 +69,17 @@ zero_none _ x y h = absurd h
 pub refuted : (operator : Operator) (left right : Known)
     → ((x y : Value) → IsKnown x left → IsKnown y right → IsSome (value_of_operator operator x y)) → (cause : Cause)
     → ¬ Arises operator left right cause
-refuted operator left right some WrongType a =
+refuted operator left right some causes.WrongType a =
     let x = example left in
     let y = example right in
     not_both (value_of_operator operator x.0 y.0) (some x.0 y.0 x.1 y.1)
     (a x.0 y.0 (kind_of_known x.0 left x.1) (kind_of_known y.0 right y.1))
-refuted operator left right some MayBeZero a =
+refuted operator left right some causes.MayBeZero a =
     let x = example left in
     not_both (value_of_operator operator x.0 a.y) (some x.0 a.y x.1 a.of_right) (zero_none operator x.0 a.y a.is)
-refuted operator left right some (OutOfRange f b) a = a
-refuted operator left right some TooBig a =
+refuted operator left right some causes.TooBig a =
     not_both (value_of_operator operator a.x a.y) (some a.x a.y a.of_left a.of_right) a.none
+refuted operator left right some _ a = absurd a
 
 pub refused : (operator : Operator) (left right : Known) (result : Result Known Cause)
     → IsVerdict operator left right result → (cause : Cause)
@@ -100,16 +93,15 @@ refused operator left right (Err c) h cause = (
 
 -- ---- kinds that no operator takes together
 
-pub wrong_type : (operator : Operator) (left right : Known) → Arises operator left right WrongType
-    → IsLeastCause (Arises operator left right) WrongType
+pub at_least_two : (cause : Cause) → 2 ≤ number_of cause
+at_least_two causes.WrongType = omega arith
+at_least_two cause = omega arith
+
+pub wrong_type : (operator : Operator) (left right : Known) → Arises operator left right causes.WrongType
+    → IsLeastCause (Arises operator left right) causes.WrongType
 wrong_type operator left right h = record {
   arises = h;
-  least = λ other a. elim other as (λ c. 2 ≤ number_of c) [
-    | WrongType ↦ omega arith
-    | MayBeZero ↦ omega arith
-    | OutOfRange f b ↦ omega arith
-    | TooBig ↦ omega arith
-  ];
+  least = λ other a. at_least_two other;
 }
 
 truth_and_number : (operator : Operator) (b : Bool) (z : ℤ)
@@ -122,12 +114,12 @@ number_and_truth : (operator : Operator) (z : ℤ) (b : Bool)
 number_and_truth (operators.And negated) z b = refl
 number_and_truth _ z b = refl
 
-pub mixed : (operator : Operator) (range : Range) → Arises operator knowns.Bool (knowns.Int range) WrongType
+pub mixed : (operator : Operator) (range : Range) → Arises operator knowns.Bool (knowns.Int range) causes.WrongType
 mixed operator range (values.Bool b) (values.Int z) p q = truth_and_number operator b z
 mixed operator range (values.Bool b) (values.Bool c) p q = absurd q
 mixed operator range (values.Int z) y p q = absurd p
 
-pub mixed_round : (operator : Operator) (range : Range) → Arises operator (knowns.Int range) knowns.Bool WrongType
+pub mixed_round : (operator : Operator) (range : Range) → Arises operator (knowns.Int range) knowns.Bool causes.WrongType
 mixed_round operator range (values.Int z) (values.Bool b) p q = number_and_truth operator z b
 mixed_round operator range (values.Int z) (values.Int y) p q = absurd q
 mixed_round operator range (values.Bool b) y p q = absurd p

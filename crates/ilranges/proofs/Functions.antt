@@ -18,7 +18,7 @@ use Rattle.iloperators.specs.declared.function.IntegerType.{IntegerType}
 use Rattle.iloperators.specs.declared.function.IntegerType.TheVariants as types
 use Rattle.iloperators.specs.Functions.{value_of_function, least_of, greatest_of}
 use Rattle.ilranges.specs.declared.cause.Cause.{Cause}
-use Rattle.ilranges.specs.declared.cause.Cause.TheVariants.{WrongType, MayBeZero, OutOfRange, TooBig}
+use Rattle.ilranges.specs.declared.cause.Cause.TheVariants as causes
 use Rattle.ilranges.specs.declared.known.Known.{Known}
 use Rattle.ilranges.specs.declared.known.Known.TheVariants as knowns
 use Rattle.ilranges.specs.Causes.{number_of, IsLeastCause}
@@ -74,11 +74,10 @@ abs_takes : (range : Range) → ¬ IsWrongTypeFor functions.Abs (knowns.Int rang
 abs_takes range h = let n = h (values.Int (pos 1)) tt in let k : ⊥ = cc in k
 
 least_too_big : (range : Range) (other : Cause) → ArisesAtFunction functions.Abs (knowns.Int range) other
-    → number_of TooBig ≤ number_of other
-least_too_big range WrongType a = absurd (abs_takes range a)
-least_too_big range MayBeZero a = absurd a
-least_too_big range (OutOfRange f b) a = absurd a
-least_too_big range TooBig a = omega arith
+    → number_of causes.TooBig ≤ number_of other
+least_too_big range causes.WrongType a = absurd (abs_takes range a)
+least_too_big range causes.TooBig a = omega arith
+least_too_big range _ a = absurd a
 
 pub abs_of : (range : Range) (o : Option Range) → (IsNone o ↔ Leaves (IsMagnitude range))
     → IfSome o (IsLeast (IsMagnitude range)) → IsFunctionVerdict functions.Abs (knowns.Int range) (verdict o)
@@ -147,15 +146,15 @@ convert_takes types.Uint range h = let n = h (values.Int (pos 1)) tt in let k : 
 convert_takes types.Udint range h = let n = h (values.Int (pos 1)) tt in let k : ⊥ = cc in k
 
 least_outside : (type : IntegerType) (range f b : Range) (other : Cause)
-    → ArisesAtFunction (functions.Convert type) (knowns.Int range) other → number_of (OutOfRange f b) ≤ number_of other
-least_outside type range f b WrongType a = absurd (convert_takes type range a)
-least_outside type range f b MayBeZero a = absurd a
-least_outside type range f b (OutOfRange g d) a = omega arith
-least_outside type range f b TooBig a = omega arith
+    → ArisesAtFunction (functions.Convert type) (knowns.Int range) other
+    → number_of (causes.OutOfRange f b) ≤ number_of other
+least_outside type range f b causes.WrongType a = absurd (convert_takes type range a)
+least_outside type range f b (causes.OutOfRange g d) a = omega arith
+least_outside type range f b _ a = absurd a
 
 pub convert_refused : (type : IntegerType) (found allowed : Range) → allowed.lo ≡ least_of type
     → allowed.hi ≡ greatest_of type → ¬ IsWithin found allowed
-    → IsLeastCause (ArisesAtFunction (functions.Convert type) (knowns.Int found)) (OutOfRange found allowed)
+    → IsLeastCause (ArisesAtFunction (functions.Convert type) (knowns.Int found)) (causes.OutOfRange found allowed)
 convert_refused type found allowed low high out = record {
   arises = record { operand_is = refl; low = low; high = high; out = out };
   least = least_outside type found found allowed;
@@ -179,8 +178,9 @@ pub same_range : (a b : Range) → a.lo ≡ b.lo → a.hi ≡ b.hi → a ≡ b
 same_range a b p q = made_same a.lo a.hi b.lo b.hi a.ordered b.ordered p q
 
 same_outside : (function : Function) (operand : Known) (f a g b : Range)
-    → ArisesAtFunction function operand (OutOfRange f a) → ArisesAtFunction function operand (OutOfRange g b)
-    → OutOfRange f a ≡ OutOfRange g b
+    → ArisesAtFunction function operand (causes.OutOfRange f a)
+    → ArisesAtFunction function operand (causes.OutOfRange g b)
+    → causes.OutOfRange f a ≡ causes.OutOfRange g b
 same_outside (functions.Convert type) operand f a g b p q =
     let s = p.operand_is in
     let t = q.operand_is in
@@ -213,18 +213,18 @@ within_of type (knowns.Int r) f a h o =
 pub no_cause : (function : Function) (operand : Known)
     → ((x : Value) → IsKnown x operand → IsSome (value_of_function function x)) → (cause : Cause)
     → ¬ ArisesAtFunction function operand cause
-no_cause function operand h WrongType a =
+no_cause function operand h causes.WrongType a =
     let x = example operand in
     not_both (value_of_function function x.0) (h x.0 x.1) (a x.0 (kind_of_known x.0 operand x.1))
-no_cause function operand h MayBeZero a = a
-no_cause (functions.Convert type) operand h (OutOfRange f b) a = within_of type operand f b h a
-no_cause functions.Not operand h (OutOfRange f b) a = a
-no_cause functions.Abs operand h (OutOfRange f b) a = a
-no_cause (functions.Convert type) operand h TooBig a = a
-no_cause functions.Not operand h TooBig a =
+no_cause (functions.Convert type) operand h (causes.OutOfRange f b) a = within_of type operand f b h a
+no_cause functions.Not operand h (causes.OutOfRange f b) a = a
+no_cause functions.Abs operand h (causes.OutOfRange f b) a = a
+no_cause (functions.Convert type) operand h causes.TooBig a = a
+no_cause functions.Not operand h causes.TooBig a =
     not_both (value_of_function functions.Not a.x) (h a.x a.of_operand) a.none
-no_cause functions.Abs operand h TooBig a =
+no_cause functions.Abs operand h causes.TooBig a =
     not_both (value_of_function functions.Abs a.x) (h a.x a.of_operand) a.none
+no_cause function operand h _ a = absurd a
 
 pub function_refused : (function : Function) (operand : Known) (result : Result Known Cause)
     → IsFunctionVerdict function operand result → (cause : Cause)

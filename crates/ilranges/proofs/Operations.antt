@@ -15,7 +15,7 @@ use Rattle.iloperators.specs.declared.operator.Operator.{Operator}
 use Rattle.iloperators.specs.declared.operator.Operator.TheVariants as operators
 use Rattle.iloperators.specs.Operators.{value_of_operator, quotient, remainder, rest, fits, number}
 use Rattle.ilranges.specs.declared.cause.Cause.{Cause}
-use Rattle.ilranges.specs.declared.cause.Cause.TheVariants.{WrongType, MayBeZero, OutOfRange, TooBig}
+use Rattle.ilranges.specs.declared.cause.Cause.TheVariants as causes
 use Rattle.ilranges.specs.declared.known.Known.TheVariants as knowns
 use Rattle.ilranges.specs.Causes.{number_of, IsLeastCause}
 use Rattle.ilranges.specs.Knowns.{IsKnown, AreReached}
@@ -111,11 +111,12 @@ no_zero operator f left right c (values.Int y) p = c.divisor y p
 no_zero operator f left right c (values.Bool y) p = absurd p
 
 least_too_big : (operator : Operator) (f : ℤ → ℤ → ℤ) (left right : Range) → Computes operator f left right
-    → (other : Cause) → Arises operator (knowns.Int left) (knowns.Int right) other → number_of TooBig ≤ number_of other
-least_too_big operator f left right c WrongType a = absurd (c.kinds a)
-least_too_big operator f left right c MayBeZero a = absurd (no_zero operator f left right c a.y a.of_right a.is)
-least_too_big operator f left right c (OutOfRange g b) a = absurd a
-least_too_big operator f left right c TooBig a = omega arith
+    → (other : Cause) → Arises operator (knowns.Int left) (knowns.Int right) other
+    → number_of causes.TooBig ≤ number_of other
+least_too_big operator f left right c causes.WrongType a = absurd (c.kinds a)
+least_too_big operator f left right c causes.MayBeZero a = absurd (no_zero operator f left right c a.y a.of_right a.is)
+least_too_big operator f left right c causes.TooBig a = omega arith
+least_too_big operator f left right c _ a = absurd a
 
 pub verdict_of : (operator : Operator) (f : ℤ → ℤ → ℤ) (left right : Range) (o : Option Range)
     → Computes operator f left right
@@ -198,30 +199,28 @@ quotients left right n = record {
 
 -- ---- a divisor that may be 0
 
+least_by_zero : (operator : Operator) (left right : Range)
+    → ¬ IsWrongType operator (knowns.Int left) (knowns.Int right) → (other : Cause)
+    → Arises operator (knowns.Int left) (knowns.Int right) other → number_of causes.MayBeZero ≤ number_of other
+least_by_zero operator left right n causes.WrongType a = absurd (n a)
+least_by_zero operator left right n causes.MayBeZero a = omega arith
+least_by_zero operator left right n causes.TooBig a = omega arith
+least_by_zero operator left right n _ a = absurd a
+
 pub div_by_zero : (left right : Range) → Holds right (pos 0)
-    → IsLeastCause (Arises operators.Div (knowns.Int left) (knowns.Int right)) MayBeZero
+    → IsLeastCause (Arises operators.Div (knowns.Int left) (knowns.Int right)) causes.MayBeZero
 div_by_zero left right h = record {
   arises = record { y = values.Int (pos 0); of_right = h; is = refl };
-  least = λ other a. elim other as (λ c. Arises operators.Div (knowns.Int left) (knowns.Int right) c
-      → number_of MayBeZero ≤ number_of c) [
-        | WrongType ↦ λ w. let n = w (values.Int (pos 1)) (values.Int (pos 1)) tt tt in let k : ⊥ = cc in absurd k
-        | MayBeZero ↦ λ w. omega arith
-        | OutOfRange f b ↦ λ w. omega arith
-        | TooBig ↦ λ w. omega arith
-      ] a;
+  least = least_by_zero operators.Div left right (λ w. let n = w (values.Int (pos 1)) (values.Int (pos 1)) tt tt in
+      let k : ⊥ = cc in k);
 }
 
 pub mod_by_zero : (left right : Range) → Holds right (pos 0)
-    → IsLeastCause (Arises operators.Mod (knowns.Int left) (knowns.Int right)) MayBeZero
+    → IsLeastCause (Arises operators.Mod (knowns.Int left) (knowns.Int right)) causes.MayBeZero
 mod_by_zero left right h = record {
   arises = record { y = values.Int (pos 0); of_right = h; is = refl };
-  least = λ other a. elim other as (λ c. Arises operators.Mod (knowns.Int left) (knowns.Int right) c
-      → number_of MayBeZero ≤ number_of c) [
-        | WrongType ↦ λ w. let n = w (values.Int (pos 1)) (values.Int (pos 1)) tt tt in let k : ⊥ = cc in absurd k
-        | MayBeZero ↦ λ w. omega arith
-        | OutOfRange f b ↦ λ w. omega arith
-        | TooBig ↦ λ w. omega arith
-      ] a;
+  least = least_by_zero operators.Mod left right (λ w. let n = w (values.Int (pos 1)) (values.Int (pos 1)) tt tt in
+      let k : ⊥ = cc in k);
 }
 
 pub mod_of : (left right range : Range) → FitsSigned w64 range.lo → FitsSigned w64 range.hi → ¬ Holds right (pos 0)

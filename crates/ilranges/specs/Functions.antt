@@ -46,9 +46,8 @@ pub record IsTooBigFor (function : Function) (operand : Known) : Type 0 where
 -- the cause arises, whatever others do; what a conversion leaves out is out of range, and never too big
 abbrev pub ArisesAtFunction : Function → Known → Cause → Type 0
 ArisesAtFunction function operand causes.WrongType = IsWrongTypeFor function operand
-ArisesAtFunction function operand causes.MayBeZero = ⊥
 ArisesAtFunction (functions.Convert type) operand (causes.OutOfRange found allowed) =
     IsOutOfType type operand found allowed
-ArisesAtFunction function operand (causes.OutOfRange found allowed) = ⊥
 ArisesAtFunction (functions.Convert type) operand causes.TooBig = ⊥
 ArisesAtFunction function operand causes.TooBig = IsTooBigFor function operand
+ArisesAtFunction function operand _ = ⊥

@@ -1,10 +1,28 @@
 -- What is known of a value before a program runs: its kind, and a range that holds it where it is a number.
-use Rattle.std.specs.Prelude.{⊤}
+use Rattle.std.specs.Prelude.{ℤ, ⊤}
+use Rattle.std.specs.Int.Signed.{≤ℤ_refl}
+use Rattle.iltypes.specs.declared.range.Range.{Range}
+use Rattle.iltypes.specs.declared.value.IlType.{IlType}
+use Rattle.iltypes.specs.declared.value.IlType.TheVariants as types
 use Rattle.iltypes.specs.declared.value.Value.{Value}
 use Rattle.iltypes.specs.declared.value.Value.TheVariants as values
 use Rattle.iltypes.specs.Ranges.{Holds, IsWithin}
 use Rattle.ilranges.specs.declared.known.Known.{Known}
 use Rattle.ilranges.specs.declared.known.Known.TheVariants as knowns
+
+-- of a variable that its value is of the type
+abbrev pub known_of_type : IlType → Known
+known_of_type types.Bool = knowns.Bool
+known_of_type (types.Int range) = knowns.Int range
+
+-- the range of one number
+abbrev pub only : ℤ → Range
+only number = record { lo = number; hi = number; ordered = ≤ℤ_refl number }
+
+-- of a constant which number it is
+abbrev pub known_of_value : Value → Known
+known_of_value (values.Bool truth) = knowns.Bool
+known_of_value (values.Int number) = knowns.Int (only number)
 
 -- the value is one of those that may stand there
 abbrev pub IsKnown : Value → Known → Type 0

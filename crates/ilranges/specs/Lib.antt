@@ -1,4 +1,6 @@
 pub mod Causes
+pub mod Entries
+pub mod Fits
 pub mod FunctionSteps
 pub mod Functions
 pub mod Joins
@@ -6,6 +8,9 @@ pub mod Knowns
 pub mod Laws
 pub mod Passing
 pub mod PassingSteps
+pub mod Refusals
 pub mod ResultSteps
 pub mod Results
+pub mod Rules
 pub mod Stores
+pub mod WordLaws

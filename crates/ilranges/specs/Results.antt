@@ -68,5 +68,5 @@ pub record IsTooBig (operator : Operator) (left right : Known) : Type 0 where
 abbrev pub Arises : Operator → Known → Known → Cause → Type 0
 Arises operator left right causes.WrongType = IsWrongType operator left right
 Arises operator left right causes.MayBeZero = MayDivideByZero operator right
-Arises operator left right (causes.OutOfRange found allowed) = ⊥
 Arises operator left right causes.TooBig = IsTooBig operator left right
+Arises operator left right _ = ⊥

@@ -4,11 +4,17 @@ ghost use Rattle.std.specs.Prelude.{◌≡◌};
 
 use iltypes::Range;
 
-/// Why an instruction is refused, where its operand or its result may be unfit.
+/// Why a word is refused.
 #[derive(Clone, Copy, PartialEq, Eq, Debug)]
 pub enum Cause {
-    /// The operator takes no values of these kinds.
+    /// The word takes no values of these kinds.
     WrongType,
+    /// The word takes the current result, and there may be none.
+    NoResult,
+    /// `)` where nothing is open.
+    EmptyNesting,
+    /// A parenthesis stays open at the end of a program, or the 33rd is opened.
+    OpenNesting,
     /// The divisor may be 0.
     MayBeZero,
     /// The number may be outside the range that is allowed.
@@ -20,20 +26,26 @@ pub enum Cause {
     },
     /// A result may leave 64 signed bits.
     TooBig,
+    /// The word names a slot or a constant that its table does not have.
+    BadSlot,
 }
 
 impl Cause {
     ghost use Rattle.ilranges.specs.Causes.{number_of};
 
-    /// The number that is printed: 2, 6, 7 or 8 (profile).
+    /// The number that is printed: 2 to 8, or 11 (profile).
     pub fn number(self) -> u8
         ensures { result ≡ number_of self }
     {
         match self {
             Cause::WrongType => 2,
+            Cause::NoResult => 3,
+            Cause::EmptyNesting => 4,
+            Cause::OpenNesting => 5,
             Cause::MayBeZero => 6,
             Cause::OutOfRange { .. } => 7,
             Cause::TooBig => 8,
+            Cause::BadSlot => 11,
         }
     }
 }

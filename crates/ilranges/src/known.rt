@@ -24,13 +24,14 @@ impl Known {
     ghost use Rattle.iltypes.specs.Values.{IsOf};
     ghost use Rattle.ilranges.specs.Functions.{IsAfterFunction, ArisesAtFunction};
     ghost use Rattle.ilranges.specs.FunctionSteps.{IsFunctionVerdict};
-    ghost use Rattle.ilranges.specs.Knowns.{IsKnown};
+    ghost use Rattle.ilranges.specs.Knowns.{IsKnown, known_of_type};
     ghost use Rattle.ilranges.specs.Stores.{ArisesAtStore};
     ghost use Rattle.ilranges.specs.Joins.{IsJoin, IsHeld};
 
     /// What is known of a variable's value at first: that it is of its type.
     pub fn of(declared: IlType) -> Known
-        ensures { (value : Value) → IsKnown value result ↔ IsOf value declared }
+        ensures value { result ≡ known_of_type declared }
+        ensures exact { (value : Value) → IsKnown value result ↔ IsOf value declared }
     {
         match declared {
             IlType::Bool => Known::Bool,

@@ -12,13 +12,19 @@
 
 mod cause;
 mod comparison;
+mod entry;
 mod known;
 mod law;
+mod nesting;
+mod slots;
 
 pub use cause::Cause;
 pub use comparison::passing;
+pub use entry::Entry;
 pub use known::Known;
 pub use law::more_known_before_is_more_known_after;
+pub use nesting::{KnownOpened, Nesting};
+pub use slots::Slots;
 
 #[cfg(test)]
 mod tests;

@@ -1,0 +1,30 @@
+-- When a run stands as an entry says (profile).
+use Rattle.std.specs.Prelude.{◌≡◌, Option, Some, None, ⊤}
+use Rattle.std.specs.List.{AllZip}
+use Rattle.iltypes.specs.declared.value.Value.{Value}
+use Rattle.iltypes.specs.Values.{AreOf}
+use Rattle.ilcode.specs.declared.nesting.Opened.{Opened}
+use Rattle.ilcode.specs.Listings.{Listing}
+use Rattle.ilcode.specs.Steps.{Configuration}
+use Rattle.ilranges.specs.declared.entry.Entry.{Entry}
+use Rattle.ilranges.specs.declared.known.Known.{Known}
+use Rattle.ilranges.specs.declared.nesting.KnownOpened.{KnownOpened}
+use Rattle.ilranges.specs.Knowns.{IsKnown}
+
+-- there is a current result and it is known so, where a current result is known
+abbrev pub IsResultKnown : Option Value → Option Known → Type 0
+IsResultKnown value None = ⊤
+IsResultKnown None (Some known) = ⊥
+IsResultKnown (Some value) (Some known) = IsKnown value known
+
+-- the operator waits, and the saved result is known so
+pub record IsOpenedKnown (opened : Opened) (known : KnownOpened) : Type 0 where
+  pub operator : opened.operator ≡ known.operator
+  pub saved : IsKnown opened.saved known.saved
+
+-- the values are of their slots' types, and all is as the entry says
+pub record Fits (code : Listing) (entry : Entry) (c : Configuration) : Type 0 where
+  pub typed : AreOf c.slots code.slots
+  pub slots : AllZip IsKnown c.slots entry.slots
+  pub result : IsResultKnown c.result entry.result
+  pub nesting : AllZip IsOpenedKnown c.nesting entry.nesting

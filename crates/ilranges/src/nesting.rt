@@ -1,0 +1,78 @@
+//! Parentheses that are open, as far as they are known.
+
+ghost use Rattle.std.specs.Prelude.{◌≡◌, ◌<◌, ◌≤◌, [], ◌∷◌, length, MatchOption};
+
+use crate::known::Known;
+use arrayvec::ArrayVec;
+use iloperators::Operator;
+use std::marker::Model;
+
+/// An open parenthesis (IEC 61131-3, 3.2.2): the operator before it, and what is known of the
+/// result that the operator waits with.
+#[derive(Clone, Copy, PartialEq, Eq, Debug)]
+pub struct KnownOpened {
+    pub operator: Operator,
+    pub saved: Known,
+}
+
+impl Default for KnownOpened {
+    fn default() -> KnownOpened {
+        KnownOpened {
+            operator: Operator::Add,
+            saved: Known::Bool,
+        }
+    }
+}
+
+/// The parentheses that are open, at most 32, the innermost first.
+#[derive(Debug, Drop)]
+pub struct Nesting {
+    items: ArrayVec<KnownOpened, 32>,
+}
+
+impl Model for Nesting {
+    ghost use Rattle.std.specs.Prelude.{List, reverse};
+    ghost use Rattle.ilranges.specs.declared.nesting.KnownOpened.{KnownOpened};
+
+    ghost Value = { List KnownOpened };
+
+    ghost view = { λ n. reverse n.items.items };
+}
+
+impl Nesting {
+    ghost use Rattle.limits.specs.Limits.{most_nesting};
+
+    /// Nothing is open.
+    pub fn new() -> Nesting
+        ensures { result ≡ [] }
+    {
+        Nesting {
+            items: ArrayVec::new(),
+        }
+    }
+
+    /// How many parentheses are open: at most 32.
+    pub fn len(&self) -> usize
+        ensures value { result ≡ length self.now }
+        ensures few { length self.now ≤ most_nesting }
+    {
+        self.items.len()
+    }
+
+    /// One more is open, where there is room.
+    pub fn open(&mut self, opened: KnownOpened)
+        requires { length self.old < most_nesting }
+        ensures { self.new ≡ opened ∷ self.old }
+    {
+        self.items.push(opened);
+    }
+
+    /// The innermost, which is open no more, or `None` where nothing is.
+    pub fn close(&mut self) -> Option<KnownOpened>
+        ensures { MatchOption result
+            ((self.old ≡ []) × (self.new ≡ []))
+            (λ innermost. self.old ≡ innermost ∷ self.new) }
+    {
+        self.items.pop()
+    }
+}
