@@ -11,7 +11,7 @@ number_of Twice = 3
 number_of TooMany = 11
 number_of BadDeclaration = 12
 
--- 1 for want of memory
+-- 1 where memory was refused
 abbrev pub fault_number : NameFault → ℕ
 fault_number Memory = 1
 fault_number (At line col cause) = number_of cause

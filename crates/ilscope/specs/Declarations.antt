@@ -1,21 +1,72 @@
--- What declarations of variables say (IEC 61131-3, 2.4.3).
-use Rattle.std.specs.Prelude.{pos, List, Option, Some, None, false, true, flat_map, if◌then◌else◌}
-use Rattle.std.specs.Ordering.{int_eq}
-use Rattle.iltypes.specs.declared.value.Value.{Value}
-use Rattle.iltypes.specs.declared.value.Value.TheVariants as values
+-- What a text declares (IEC 61131-3, 2.3.3.1 and 2.4.3): each type and each variable below the types above it.
+use Rattle.std.specs.Prelude.{ℕ, List, [], ◌∷◌, Option, map, flat_map, filter_map, option_map, unwrap_or}
+use Rattle.ilsource.specs.Programs.{Variables, Written}
+use Rattle.ilsource.specs.Trees.{Tree, program_in}
+use Rattle.ilsource.specs.declared.declaration.TypeDeclaration.{TypeDeclaration}
 use Rattle.ilsource.specs.declared.name.Name.{Name}
-use Rattle.ilsource.specs.declared.declaration.Constant.{Constant}
-use Rattle.ilsource.specs.declared.declaration.Constant.TheVariants as constants
-use Rattle.ilsource.specs.Trees.{Written}
+use Rattle.ilsource.specs.declared.source.Element.{Element}
+use Rattle.ilsource.specs.declared.source.Element.TheVariants.{DerivedType, Program}
+use Rattle.ilscope.specs.DataTypes.{truth_values, declared_type, type_named}
+use Rattle.ilscope.specs.declared.data_type.DataType.{DataType}
+use Rattle.ilscope.specs.declared.variable.Variable.{Variable}
 
--- the initial value of a BOOL variable: 0 and 1 mean FALSE and TRUE, and FALSE where nothing is written; none for another constant
-abbrev pub initial_value : Option Constant → Option Value
-initial_value None = Some (values.Bool false)
-initial_value (Some (constants.Bool truth)) = Some (values.Bool truth)
-initial_value (Some (constants.Number number)) =
-    if int_eq number (pos 0) then Some (values.Bool false) else if int_eq number (pos 1) then Some (values.Bool true) else None
-initial_value (Some (constants.Time milliseconds)) = None
+-- a type or a program, with the types above it, the nearest first
+pub record Standing : Type 0 where
+  pub above : List TypeDeclaration
+  pub element : Element
+
+-- the types above what stands next below an element
+abbrev pub above_next : List TypeDeclaration → Element → List TypeDeclaration
+above_next above (DerivedType type) = type ∷ above
+above_next above (Program program) = above
+
+-- the elements in order, each with the types above it; these types are above all of them
+abbrev pub standing : List TypeDeclaration → List Element → List Standing
+standing above [] = []
+standing above (element ∷ more) = record { above = above; element = element } ∷ standing (above_next above element) more
+
+-- the name of a type or of a program
+abbrev pub name_of : Element → Name
+name_of (DerivedType type) = type.name
+name_of (Program program) = program.name
+
+-- what an element declares: a type itself, a program its variables
+abbrev pub declarations_in : Element → List Variables
+declarations_in (DerivedType type) =
+    record { names = type.name ∷ []; specification = type.specification; initial = type.initial } ∷ []
+declarations_in (Program program) = program.declarations
+
+-- the names of a program's variables, in declared order
+abbrev pub names_of : Written → List Name
+names_of program = flat_map (λ d. d.names) program.declarations
+
+-- what a declaration means; FALSE of BOOL, whatever is written, where it or its type is at fault
+abbrev pub type_of : List ℕ → List TypeDeclaration → Variables → DataType
+type_of text above declaration =
+    unwrap_or (declared_type (type_named text above) declaration.specification declaration.initial) truth_values
+
+abbrev pub variable : DataType → Name → Variable
+variable type name = record { name = name; value_type = type.value_type; initial = type.initial }
+
+-- the variables of one declaration
+abbrev pub variables_in : List ℕ → List TypeDeclaration → Variables → List Variable
+variables_in text above declaration = map (variable (type_of text above declaration)) declaration.names
 
 -- a program's variables, in declared order
-abbrev pub variables_of : Written → List Name
-variables_of program = flat_map (λ d. d.names) program.declarations
+abbrev pub variables_of : List ℕ → List TypeDeclaration → Written → List Variable
+variables_of text above program = flat_map (variables_in text above) program.declarations
+
+-- a program with its variables
+pub record DeclaredProgram : Type 0 where
+  pub program : Written
+  pub variables : List Variable
+
+abbrev pub declared_program : List ℕ → Standing → Option DeclaredProgram
+declared_program text one =
+    option_map
+    (λ program. record { program = program; variables = variables_of text one.above program })
+    (program_in one.element)
+
+-- the programs of a text in order, each with its variables
+abbrev pub declared_programs : Tree → List DeclaredProgram
+declared_programs tree = filter_map (declared_program tree.text) (standing [] tree.elements)

@@ -1,11 +1,19 @@
 -- Faults of declarations in a source program: each stands at a place of the text, a byte's offset, and has a cause
--- (IEC 61131-3, 2.4.3: a variable is declared once, with a value of its type).
-use Rattle.std.specs.Prelude.{◌≡◌, ℕ, ◌<◌, ◌≤◌, List, [], ◌∷◌, map, slice_get, Option, Some, None, IsSomeAnd, ◌⊎◌}
-use Rattle.ilsource.specs.declared.name.Name.{Name}
+-- (IEC 61131-3, 2.3.3.1 and 2.4.3: a name is declared once, a type above its use, and an initial value is of the type).
+use Rattle.std.specs.Prelude.{◌≡◌, ℕ, ◌<◌, ◌≤◌, ◌<ℤ◌, List, [], ◌∷◌, map, slice_get, Option, Some, None, IsSomeAnd, ◌⊎◌}
+use Rattle.iloperators.specs.Functions.{least_of, greatest_of}
 use Rattle.ilsource.specs.Names.{SameName}
-use Rattle.ilsource.specs.Trees.{Variables, Written, Tree}
+use Rattle.ilsource.specs.Programs.{Variables}
+use Rattle.ilsource.specs.Trees.{Tree, programs_of}
+use Rattle.ilsource.specs.declared.declaration.Constant.{Constant}
+use Rattle.ilsource.specs.declared.declaration.Specification.{Specification}
+use Rattle.ilsource.specs.declared.declaration.Specification.TheVariants as specifications
+use Rattle.ilsource.specs.declared.declaration.TypeDeclaration.{TypeDeclaration}
+use Rattle.ilsource.specs.declared.name.Name.{Name}
 use Rattle.ilscope.specs.Causes.{number_of}
-use Rattle.ilscope.specs.Declarations.{initial_value, variables_of}
+use Rattle.ilscope.specs.DataTypes.{data_type, type_named, value_in}
+use Rattle.ilscope.specs.Declarations.{standing, declarations_in, name_of, names_of}
+use Rattle.ilscope.specs.declared.data_type.DataType.{DataType}
 use Rattle.ilscope.specs.declared.fault.NameCause.{NameCause}
 use Rattle.ilscope.specs.declared.fault.NameCause.TheVariants.{Unknown, Twice, TooMany, BadDeclaration}
 use Rattle.ilscope.specs.declared.found.Found.{Found}
@@ -20,33 +28,55 @@ abbrev pub SomeLater : {X : Type 0} → (X → X → Type 0) → List X → Type
 SomeLater R [] = ⊥
 SomeLater R (x ∷ xs) = SomeOf (R x) xs ⊎ SomeLater R xs
 
+-- some declaration has the property, with the types above it
+abbrev pub SomeDeclaration : (List TypeDeclaration → Variables → Type 0) → Tree → Type 0
+SomeDeclaration P tree = SomeOf (λ one. SomeOf (P one.above) (declarations_in one.element)) (standing [] tree.elements)
+
+-- the type's name at the place is that of no type above
+abbrev pub IsUnknownIn : List ℕ → List TypeDeclaration → ℕ → Specification → Type 0
+IsUnknownIn text above place (specifications.Named name) =
+    (¬ SomeOf (λ type. SameName text type.name name) above) × (place ≡ name.from)
+IsUnknownIn text above place _ = ⊥
+
+-- a declaration names, at the place, a type that is not declared above it
+abbrev pub IsUnknownType : Tree → ℕ → Type 0
+IsUnknownType tree place =
+    SomeDeclaration (λ above declaration. IsUnknownIn tree.text above place declaration.specification) tree
+
 -- the name at the place is spelled as one before it
 abbrev pub IsTwiceIn : List ℕ → List Name → ℕ → Type 0
 IsTwiceIn text names place = SomeLater (λ earlier later. SameName text earlier later × (place ≡ later.from)) names
 
--- a program, or a variable within its program, is declared again at the place
+-- a type or a program, or a variable within its program, is declared again at the place
 abbrev pub IsTwice : Tree → ℕ → Type 0
-IsTwice tree place = IsTwiceIn tree.text (map (λ p. p.name) tree.programs) place ⊎ SomeOf (λ p. IsTwiceIn tree.text (variables_of p) place) tree.programs
+IsTwice tree place =
+    IsTwiceIn tree.text (map name_of tree.elements) place
+    ⊎ SomeOf (λ program. IsTwiceIn tree.text (names_of program) place) (programs_of tree.elements)
 
--- BOOL hasn't the initial value, and the first name stands at the place
-abbrev pub IsBadIn : ℕ → Variables → Type 0
-IsBadIn place d = (initial_value d.initial ≡ None) × IsSomeAnd (slice_get d.names 0) (λ name. place ≡ name.from)
+-- a subrange that is empty, or has numbers outside its base
+abbrev pub IsBadSubrange : Specification → Type 0
+IsBadSubrange (specifications.Subrange base low high) =
+    (high <ℤ low) ⊎ (low <ℤ least_of base) ⊎ (greatest_of base <ℤ high)
+IsBadSubrange _ = ⊥
+
+-- an initial value that the type, where it has no fault itself, does not have
+abbrev pub IsBadInitial : Option DataType → Option Constant → Type 0
+IsBadInitial (Some type) (Some constant) = value_in type.value_type constant ≡ None
+IsBadInitial _ _ = ⊥
+
+-- the declaration has such a subrange or initial value, and its first name stands at the place
+abbrev pub IsBadIn : List ℕ → List TypeDeclaration → ℕ → Variables → Type 0
+IsBadIn text above place declaration =
+    (IsBadSubrange declaration.specification
+    ⊎ IsBadInitial (data_type (type_named text above) declaration.specification) declaration.initial)
+    × IsSomeAnd (slice_get declaration.names 0) (λ name. place ≡ name.from)
 
 abbrev pub IsBad : Tree → ℕ → Type 0
-IsBad tree place = SomeOf (λ p. SomeOf (IsBadIn place) p.declarations) tree.programs
-
--- the faults of one cause, at these places
-abbrev pub OfCause : NameCause → (ℕ → Type 0) → ℕ → NameCause → Type 0
-OfCause its At place cause = (cause ≡ its) × At place
-
--- a fault of a declaration in one program
-abbrev pub IsFaultIn : List ℕ → Written → ℕ → NameCause → Type 0
-IsFaultIn text program place cause =
-    OfCause Twice (IsTwiceIn text (variables_of program)) place cause ⊎ OfCause BadDeclaration (λ at. SomeOf (IsBadIn at) program.declarations) place cause
+IsBad tree place = SomeDeclaration (λ above declaration. IsBadIn tree.text above place declaration) tree
 
 -- a fault with this cause, with its place in a declaration, stands at the place
 abbrev pub IsFaultOfDeclarations : Tree → ℕ → NameCause → Type 0
-IsFaultOfDeclarations tree place Unknown = ⊥
+IsFaultOfDeclarations tree place Unknown = IsUnknownType tree place
 IsFaultOfDeclarations tree place Twice = IsTwice tree place
 IsFaultOfDeclarations tree place TooMany = ⊥
 IsFaultOfDeclarations tree place BadDeclaration = IsBad tree place

@@ -1,7 +1,10 @@
 pub mod Causes
+pub mod DataTypes
 pub mod Declarations
 pub mod Faults
+pub mod Kept
 pub mod Order
 pub mod Printed
+pub mod Reports
+pub mod Scopes
 pub mod Tables
-pub mod Told

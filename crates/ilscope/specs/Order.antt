@@ -1,22 +1,14 @@
 -- Which of two faults is reported: the one at the lesser place, and there the one with the lesser cause (profile).
-use Rattle.std.specs.Prelude.{ℕ, Option, Some, None, Bool, ◌&&◌, ◌||◌, ◌==◌, nat_lt, if◌then◌else◌}
+use Rattle.std.specs.Prelude.{Option, Some, None, Bool, ◌&&◌, ◌||◌, ◌==◌, nat_lt, if◌then◌else◌}
 use Rattle.ilscope.specs.Causes.{number_of}
-use Rattle.ilscope.specs.declared.fault.NameCause.{NameCause}
 use Rattle.ilscope.specs.declared.found.Found.{Found}
-
-abbrev pub found : ℕ → NameCause → Found
-found at cause = record { at = at; cause = cause }
 
 -- the first is reported before the second
 abbrev pub comes_before : Found → Found → Bool
 comes_before f g = nat_lt f.at g.at || ((f.at == g.at) && nat_lt (number_of f.cause) (number_of g.cause))
 
--- the one of two that is reported
-abbrev pub lesser : Option Found → Found → Option Found
-lesser None f = Some f
-lesser (Some g) f = Some (if comes_before f g then f else g)
-
 -- the one that is reported of what was found in two parts
 abbrev pub lesser_of_two : Option Found → Option Found → Option Found
 lesser_of_two one None = one
-lesser_of_two one (Some other) = lesser one other
+lesser_of_two None (Some other) = Some other
+lesser_of_two (Some one) (Some other) = Some (if comes_before one other then one else other)

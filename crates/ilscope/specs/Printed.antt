@@ -8,4 +8,5 @@ use Rattle.ilscope.specs.declared.fault.NameFault.TheVariants.{Memory, At}
 -- the cause's number, and line and column, both counted from 1
 abbrev pub printed_name_fault : NameFault → List ℕ
 printed_name_fault Memory = codes "no memory"
-printed_name_fault (At line col cause) = codes "name fault " ++ decimal (number_of cause) ++ codes " at " ++ decimal line ++ codes ":" ++ decimal col
+printed_name_fault (At line col cause) =
+    codes "name fault " ++ decimal (number_of cause) ++ codes " at " ++ decimal line ++ codes ":" ++ decimal col

@@ -1,58 +1,50 @@
-//! Tables of declared names.
+//! What is kept under the names of a text.
 
-use indexmap::IndexSet;
+use indexmap::IndexMap;
 use std::alloc::{AllocError, Global};
 use std::marker::Model;
 
-/// Different names in lower case, numbered from 0 in the order in which they were declared.
+/// What is kept under different names in lower case, found by hashing.
 #[derive(Drop)]
-pub struct Names {
-    keys: IndexSet<Vec<u8>>,
+pub(crate) struct Names<T> {
+    entries: IndexMap<Vec<u8>, T>,
 }
 
-impl Model for Names {
-    ghost use Rattle.std.specs.Prelude.{List, ℕ, map};
+impl<T> Model for Names<T> {
+    ghost use Rattle.std.specs.Prelude.{map};
+    ghost use Rattle.ilscope.specs.Kept.{Kept};
 
-    ghost Value = { List (List ℕ) };
+    ghost Value = { Kept T };
 
-    ghost view = { λ n. map (λ k. k.items) n.keys.keys };
+    ghost view = { λ n. map (λ entry. (entry.0.items, entry.1)) n.entries.entries };
 }
 
-impl Names {
-    ghost use Rattle.std.specs.Prelude.{◌≡◌, [], ◌∷◌, ◌++◌, None, IfSome, OnOk, length, ◌<◌, ◌^◌};
-    ghost use Rattle.ilscope.specs.Tables.{number_in};
+impl<T: Copy> Names<T> {
+    ghost use Rattle.std.specs.Prelude.{◌≡◌, [], ◌∷◌, ◌++◌, None, OnOk, bytes_eq};
+    ghost use Rattle.std.specs.Map.{lookup};
 
-    /// No names.
-    pub(crate) fn new(alloc: Global) -> Names
+    /// Nothing.
+    pub(crate) fn new(alloc: Global) -> Names<T>
         ensures { result ≡ [] }
     {
         Names {
-            keys: IndexSet::new(alloc),
+            entries: IndexMap::new(alloc),
         }
     }
 
-    /// How many names there are.
-    pub fn len(&self) -> usize
-        ensures count { result ≡ length self.now }
-        ensures small { result < 2 ^ 63 }
+    /// What is kept under the name `key`, which is in lower case.
+    pub(crate) fn get(&self, key: &[u8]) -> Option<T>
+        ensures { result ≡ lookup (bytes_eq key.now) self.now }
     {
-        self.keys.len()
+        self.entries.get(key).copied()
     }
 
-    /// The number of the name `key`, which is in lower case.
-    pub fn number_of(&self, key: &[u8]) -> Option<usize>
-        ensures number { result ≡ number_in self.now key.now }
-        ensures within { IfSome result (λ n. n < length self.now) }
+    /// Keeps `value` under the name `key`, which is new and in lower case.
+    pub(crate) fn add(&mut self, alloc: Global, key: &[u8], value: T) -> Result<(), AllocError>
+        requires { lookup (bytes_eq key.now) self.old ≡ None }
+        ensures { OnOk result (self.new ≡ self.old ++ (key.now, value) ∷ []) }
     {
-        self.keys.get_index_of(key)
-    }
-
-    /// Gives the next number to the name `key`, which is new and in lower case.
-    pub(crate) fn add(&mut self, alloc: Global, key: &[u8]) -> Result<(), AllocError>
-        requires { number_in self.old key.now ≡ None }
-        ensures { OnOk result (self.new ≡ self.old ++ key.now ∷ []) }
-    {
-        self.keys.insert(Vec::from_slice(alloc, key)?)?;
+        self.entries.insert(Vec::from_slice(alloc, key)?, value)?;
         Ok(())
     }
 }

@@ -1,0 +1,50 @@
+//! Programs with their variables.
+
+use crate::variable::Variable;
+use ilsource::Program;
+use std::marker::Model;
+
+/// A program with its variables.
+#[derive(Drop)]
+pub struct ProgramScope<'a> {
+    program: &'a Program,
+    variables: Vec<Variable>,
+}
+
+impl<'a> Model for ProgramScope<'a> {
+    ghost use Rattle.std.specs.Prelude.{List};
+    ghost use Rattle.std.specs.Coded.{codes, code_by};
+    ghost use Rattle.iltrees.specs.declared.nested.Piece.{Piece};
+    ghost use Rattle.iltrees.specs.Trees.{pieces_of};
+    ghost use Rattle.iltrees.specs.TreeSteps.{tree_of, tree_again};
+    ghost use Rattle.ilsource.specs.declared.name.Name.{Name};
+    ghost use Rattle.ilscope.specs.Declarations.{DeclaredProgram};
+
+    ghost Value = { DeclaredProgram };
+
+    ghost coded = { Prim.hlevel (
+      codes,
+      code_by (List (Piece Name)) (Prim.hlevel codes) pieces_of tree_of tree_again,
+    ) };
+
+    ghost view = { λ p. record { program = p.program.now; variables = p.variables.items } };
+}
+
+impl<'a> ProgramScope<'a> {
+    ghost use Rattle.std.specs.Prelude.{◌≡◌, All};
+    ghost use Rattle.ilscope.specs.Declarations.{DeclaredProgram};
+
+    /// The program.
+    pub fn program(&self) -> &'a Program
+        ensures value { result.now ≡ self.now.program }
+    {
+        self.program
+    }
+
+    /// Its variables, in the order in which they are declared.
+    pub fn variables(&self) -> &[Variable]
+        ensures value { result.now ≡ self.now.variables }
+    {
+        &self.variables
+    }
+}
