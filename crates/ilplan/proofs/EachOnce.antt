@@ -1,0 +1,2 @@
+-- Each of some values once.
+use Rattle.std.proofs.Common.{◌≡◌, refl}

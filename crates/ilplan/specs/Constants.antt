@@ -1,0 +1,34 @@
+-- The different constants of lines.
+use Rattle.std.specs.Prelude.{List, [], ◌∷◌, filter, filter_map, flat_map, Option, Some, None, Bool, false, not}
+use Rattle.std.specs.Bool.{beq}
+use Rattle.std.specs.Ordering.{int_eq}
+use Rattle.iltypes.specs.declared.value.Value.{Value}
+use Rattle.iltypes.specs.declared.value.Value.TheVariants as values
+use Rattle.iltrees.specs.declared.instruction.Line.{Line}
+use Rattle.iltrees.specs.declared.operand.Operand.{Operand}
+use Rattle.iltrees.specs.declared.operand.Operand.TheVariants.{Name, Constant}
+use Rattle.iltrees.specs.declared.uses.Use.{Use}
+use Rattle.iltrees.specs.Uses.{uses_in}
+
+-- both are one value: a truth value is no number
+abbrev pub same_value : Value → Value → Bool
+same_value (values.Bool truth) (values.Bool other) = beq truth other
+same_value (values.Int number) (values.Int other) = int_eq number other
+same_value _ _ = false
+
+-- each of the values once, where it stands first: the first one, and of the others those that are not the same
+abbrev pub each_once : List Value → List Value
+each_once [] = []
+each_once (value ∷ values) = value ∷ filter (λ other. not (same_value value other)) (each_once values)
+
+abbrev pub constant_in : {N : Type 0} → Operand N → Option Value
+constant_in (Name name) = None
+constant_in (Constant value) = Some value
+
+-- the constants of some uses
+abbrev pub constants_used : {N : Type 0} → List (Use N) → List Value
+constants_used uses = filter_map (λ u. constant_in u.operand) uses
+
+-- the different constants of lines, in order of first use
+abbrev pub different_constants : {N L : Type 0} → List (Line N L) → List Value
+different_constants lines = each_once (constants_used (flat_map uses_in lines))

@@ -1,0 +1,4 @@
+pub mod Constants
+pub mod PlanMeaning
+pub mod Plans
+pub mod Printed

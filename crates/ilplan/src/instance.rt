@@ -1,0 +1,70 @@
+//! Instances of programs, and their variables (IEC 61131-3, 2.4.3 and 2.7.2).
+
+use ilsource::Name;
+use iltrees::Line;
+use iltypes::{IlType, Value};
+use std::marker::Model;
+
+/// A variable of an instance.
+#[derive(Clone, Copy, PartialEq, Eq, Debug)]
+pub struct Slot {
+    /// The instance's name in the text.
+    pub instance: Name,
+    /// The variable's name in the text.
+    pub variable: Name,
+    pub value_type: IlType,
+    /// Its value before the first scan.
+    pub initial: Value,
+}
+
+/// A program as it runs in a task. Its lines have the numbers of slots for names; the places in the
+/// text stay in them.
+#[derive(Drop)]
+pub struct Instance {
+    name: Name,
+    lines: Vec<Line<usize, usize>>,
+}
+
+impl Model for Instance {
+    ghost use Rattle.std.specs.Prelude.{ℕ, List};
+    ghost use Rattle.std.specs.Coded.{codes, code_by};
+    ghost use Rattle.iltrees.specs.declared.nested.Piece.{Piece};
+    ghost use Rattle.iltrees.specs.Trees.{pieces_of};
+    ghost use Rattle.iltrees.specs.TreeSteps.{tree_of, tree_again};
+    ghost use Rattle.ilplan.specs.Plans.{PlannedInstance};
+
+    ghost Value = { PlannedInstance };
+
+    ghost coded = { Prim.hlevel (
+      codes,
+      code_by (List (Piece ℕ)) (Prim.hlevel codes) pieces_of tree_of tree_again,
+    ) };
+
+    ghost view = { λ i. record { name = i.name; lines = i.lines.items } };
+}
+
+impl Instance {
+    ghost use Rattle.std.specs.Prelude.{◌≡◌};
+    ghost use Rattle.ilplan.specs.Plans.{PlannedInstance};
+
+    /// The instance of this name with these lines.
+    pub fn new(name: Name, lines: Vec<Line<usize, usize>>) -> Instance
+        ensures { result ≡ record { name = name; lines = lines.items } }
+    {
+        Instance { name, lines }
+    }
+
+    /// The instance's name in the text.
+    pub fn name(&self) -> Name
+        ensures value { result ≡ self.now.name }
+    {
+        self.name
+    }
+
+    /// Its lines, in order.
+    pub fn lines(&self) -> &[Line<usize, usize>]
+        ensures value { result.now ≡ self.now.lines }
+    {
+        &self.lines
+    }
+}

@@ -1,0 +1,21 @@
+//! Plans: what the tasks of a source program do, over numbers of slots in place of names.
+//!
+//! What crosses the boundary: [`Plan`] with its [`Task`]s, their [`Instance`]s and [`Slot`]s, which
+//! the resolving of names makes and the compiler lays out. The lines of an instance are those of
+//! `iltrees`, over the numbers of slots. What holds of each task is `KeepsLimits`
+//! (specs/Plans.antt), and what a scan of it means is `plan_scan` (specs/PlanMeaning.antt), to be
+//! read first.
+#![tactic(auto)]
+
+mod declared_name;
+mod instance;
+mod plan;
+mod task;
+
+pub use declared_name::{DeclaredName, SlotName};
+pub use instance::{Instance, Slot};
+pub use plan::Plan;
+pub use task::Task;
+
+#[cfg(test)]
+mod tests;

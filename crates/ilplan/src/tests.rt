@@ -1,0 +1,58 @@
+//! Each call once, with printed names.
+
+use crate::{DeclaredName, Instance, Plan, Slot, SlotName, Task};
+use ilsource::Name;
+use iltypes::{IlType, Value};
+use std::test::Fail;
+
+const TEXT: &[u8] = b"PROGRAM Two\nVAR Lamp : BOOL; END_VAR\nEND_PROGRAM\n";
+
+#[test]
+fn names_are_printed_as_declared(rt: HostRuntime) -> Result<(), Fail> {
+    let name = SlotName {
+        instance: DeclaredName { bytes: b"Two" },
+        variable: DeclaredName { bytes: b"Lamp" },
+    };
+    assert_eq!(rt; name.to_string(rt.alloc())?.as_str(), "Two.Lamp");
+    Ok(())
+}
+
+#[test]
+fn a_plan_gives_back_its_parts(rt: HostRuntime) -> Result<(), Fail> {
+    let alloc = rt.alloc();
+    let program = Name { from: 8, to: 11 };
+    let slot = Slot {
+        instance: program,
+        variable: Name { from: 16, to: 20 },
+        value_type: IlType::Bool,
+        initial: Value::Bool(true),
+    };
+    let mut instances = Vec::new(alloc);
+    instances.push(Instance::new(program, Vec::new(alloc)))?;
+    let mut slots = Vec::new(alloc);
+    slots.push(slot)?;
+    let name = String::from_str(alloc, "main")?;
+    let task = Task::new(name, true, slots, Vec::new(alloc), instances);
+    assert_eq!(rt; task.constants().len(), 0);
+    let mut tasks = Vec::new(alloc);
+    tasks.push(task)?;
+    let mut globals = Vec::new(alloc);
+    globals.push(Name { from: 0, to: 7 })?;
+    let plan = Plan::new(TEXT.to_vec(alloc)?, 16, globals, tasks);
+    assert_eq!(rt; plan.text(), TEXT);
+    assert_eq!(rt; plan.buses(), 16);
+    assert_eq!(rt; plan.globals(), 1);
+    assert_eq!(rt; plan.global_name(0).to_string(alloc)?.as_str(), "PROGRAM");
+    assert_eq!(rt; plan.tasks(), 1);
+    assert_eq!(rt; plan.task_name(0), "main");
+    assert!(rt; plan.is_event(0));
+    assert_eq!(rt; plan.slot_name(0, 0).to_string(alloc)?.as_str(), "Two.Lamp");
+    let task = plan.task(0);
+    assert_eq!(rt; task.name(), "main");
+    assert!(rt; task.is_event());
+    assert_eq!(rt; task.slots(), [slot].as_slice());
+    assert_eq!(rt; task.instances().len(), 1);
+    assert_eq!(rt; task.instances()[0].name(), program);
+    assert_eq!(rt; task.instances()[0].lines().len(), 0);
+    Ok(())
+}
