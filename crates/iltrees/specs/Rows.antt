@@ -13,9 +13,12 @@ use Rattle.iltrees.specs.declared.instruction.Condition.{Condition}
 use Rattle.iltrees.specs.declared.instruction.Instruction.{Instruction}
 use Rattle.iltrees.specs.declared.instruction.Instruction.TheVariants as instructions
 use Rattle.iltrees.specs.declared.instruction.Line.{Line}
+use Rattle.iltrees.specs.declared.uses.Use.{Use}
 use Rattle.iltrees.specs.Trees as trees
 use Rattle.iltrees.specs.Meaning.{Access, On}
 use Rattle.iltrees.specs.Passes.{passes, scan}
+use Rattle.iltrees.specs.Words.{places_in}
+use Rattle.iltrees.specs.Uses.{uses_in}
 
 abbrev pub allowed : Value → Bool
 allowed (truth b) = true
@@ -67,9 +70,17 @@ guarded =
 abbrev pub backward : List (Line ℕ ℕ)
 backward = marked 7 ∷ ld 0 ∷ line (instructions.Jump Always 7) ∷ []
 
+-- SUB( b, SUB c, ), at 20, 28 and 34
+abbrev pub difference : Instruction ℕ ℕ
+difference = instructions.Deferred Sub (trees.Apply (trees.Load 20 false (Name 1)) 28 Sub (Name 2)) 34
+
 -- LD a, SUB( b, SUB c, ), ST a
 abbrev pub nested : List (Line ℕ ℕ)
-nested = ld 0 ∷ line (instructions.Deferred Sub (trees.Apply (trees.Load 0 false (Name 1)) 0 Sub (Name 2)) 0) ∷ st 0 ∷ []
+nested = ld 0 ∷ line difference ∷ st 0 ∷ []
+
+-- LIMIT 3, b
+abbrev pub limit : Instruction ℕ ℕ
+limit = instructions.Limit (number 3) (Name 1)
 
 -- LD a, LIMIT 3, 254, ST a
 abbrev pub limited : List (Line ℕ ℕ)
@@ -84,9 +95,12 @@ abbrev pub returning : List (Line ℕ ℕ)
 returning =
     ld 0 ∷ line (instructions.Return IfTrue) ∷ line (instructions.Load false (Constant (truth true))) ∷ st 0 ∷ []
 
--- LD a, CAL block(port := 5) with a condition; and then ST d
+-- CAL block(port := 5) with a condition; after LD a; and then ST d
+abbrev pub five_to_block : Condition → Instruction ℕ ℕ
+five_to_block condition = instructions.Call condition 1 (record { port = 2; operand = number 5 } ∷ [])
+
 abbrev pub call : Condition → List (Line ℕ ℕ)
-call condition = ld 0 ∷ line (instructions.Call condition 1 (record { port = 2; operand = number 5 } ∷ [])) ∷ []
+call condition = ld 0 ∷ line (five_to_block condition) ∷ []
 
 abbrev pub call_and_store : Condition → List (Line ℕ ℕ)
 call_and_store condition = call condition ++ st 3 ∷ []
@@ -109,3 +123,15 @@ EndInTurn programs from to = scan same variables programs from ≡ Some to
 
 abbrev pub AreStuck : List (List (Line ℕ ℕ)) → List Value → Type 0
 AreStuck programs from = scan same variables programs from ≡ None
+
+-- the instruction at 20 has its words at these places
+abbrev pub Places : Instruction ℕ ℕ → List ℕ → Type 0
+Places i places = places_in (record { at = 20; label = Some 7; instruction = Some i }) ≡ places
+
+-- a label has no words and uses nothing
+abbrev pub LabelIsEmpty : Type 0
+LabelIsEmpty = (places_in (marked 7) ≡ []) × (uses_in (marked 7) ≡ [])
+
+-- the instruction at 20 uses these operands
+abbrev pub Uses : Instruction ℕ ℕ → List (Use ℕ) → Type 0
+Uses i uses = uses_in (record { at = 20; label = None; instruction = Some i }) ≡ uses

@@ -150,7 +150,8 @@ impl<N: Drop> Nested<N> {
 
     /// Adds the place of each piece.
     pub(crate) fn push_places(&self, places: &mut Vec<usize>) -> Result<(), AllocError>
-        ensures { OnOk result (places.new.items ≡ places.old.items ++ map place_of (pieces_of self.now)) }
+        ensures { OnOk result
+            (places.new.items ≡ places.old.items ++ map place_of (pieces_of self.now)) }
     {
         for piece in self.pieces() {
             places.push(piece.at)?;

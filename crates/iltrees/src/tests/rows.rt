@@ -5,6 +5,10 @@ ghost use Rattle.iltypes.specs.declared.value.Value.TheVariants.{Bool as truth};
 ghost use Rattle.iltrees.specs.declared.instruction.Condition.TheVariants.{Always, IfTrue, IfFalse};
 ghost use Rattle.iltrees.specs.Rows.{Ends, IsStuck, EndInTurn, AreStuck, whole, before_call};
 ghost use Rattle.iltrees.specs.Rows.{sum, sum_unbounded, guarded};
+ghost use Rattle.iltrees.specs.declared.operand.Operand.TheVariants.{Name};
+ghost use Rattle.iltrees.specs.Rows.{Places, Uses, LabelIsEmpty};
+ghost use Rattle.iltrees.specs.Rows.{difference, five_to_block, limit, number};
+ghost use Rattle.iltrees.specs.Uses.{use_at};
 ghost use Rattle.iltrees.specs.Rows.{backward, nested, limited, sets, returning, call, call_and_store, ld, st};
 
 /// Results, stores outside a type and uses of no result.
@@ -39,4 +43,17 @@ fn stores()
         (truth true ∷ truth true ∷ whole 5 ∷ truth false ∷ []) }
     ensures no_result { IsStuck (call_and_store IfTrue) (before_call false) }
     ensures always { IsStuck (call_and_store Always) (before_call false) }
+{}
+
+/// The places of words, and what is used, of instructions at 20.
+fn places_and_uses()
+    ensures nested { Places difference (20 ∷ 20 ∷ 28 ∷ 34 ∷ []) }
+    ensures limit { Places limit (20 ∷ 20 ∷ []) }
+    ensures call { Places (five_to_block Always) (20 ∷ 20 ∷ []) }
+    ensures conditional_call { Places (five_to_block IfFalse) (20 ∷ 20 ∷ 20 ∷ []) }
+    ensures uses_in_parentheses { Uses difference (use_at 20 (Name 1) ∷ use_at 28 (Name 2) ∷ []) }
+    ensures uses_of_limit { Uses limit (use_at 20 (number 3) ∷ use_at 20 (Name 1) ∷ []) }
+    ensures uses_of_call { Uses (five_to_block IfTrue)
+        (use_at 20 (Name 1) ∷ use_at 20 (Name 2) ∷ use_at 20 (number 5) ∷ []) }
+    ensures label { LabelIsEmpty }
 {}
