@@ -22,7 +22,7 @@ use Rattle.ilranges.specs.declared.cause.Cause.TheVariants as causes
 use Rattle.ilranges.specs.declared.known.Known.{Known}
 use Rattle.ilranges.specs.declared.known.Known.TheVariants as knowns
 use Rattle.ilranges.specs.Causes.{number_of, IsLeastCause}
-use Rattle.ilranges.specs.Knowns.{IsKnown}
+use Rattle.ilranges.specs.Knowns.{IsKnown, only, known_of_value}
 use Rattle.ilranges.specs.Functions.{IsGiven, IsAfterFunction, IsWrongTypeFor, IsOutOfType, ArisesAtFunction}
 use Rattle.ilranges.specs.FunctionSteps.{IsFunctionVerdict}
 use Rattle.ilranges.specs.ResultSteps.{verdict}
@@ -176,6 +176,10 @@ made_same a b lo hi h k p q =
 -- ranges of equal limits are the same
 pub same_range : (a b : Range) → a.lo ≡ b.lo → a.hi ≡ b.hi → a ≡ b
 same_range a b p q = made_same a.lo a.hi b.lo b.hi a.ordered b.ordered p q
+
+pub constant_known : (n : ℤ) (range : Range) → range.lo ≡ n → range.hi ≡ n
+    → knowns.Int range ≡ known_of_value (values.Int n)
+constant_known n range p q = ap (λ (r : Range). knowns.Int r) (same_range range (only n) p q)
 
 same_outside : (function : Function) (operand : Known) (f a g b : Range)
     → ArisesAtFunction function operand (causes.OutOfRange f a)

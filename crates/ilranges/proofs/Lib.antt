@@ -2,6 +2,11 @@ pub mod Comparisons
 pub mod Exact
 pub mod Functions
 pub mod Joins
+pub mod Lawful
+pub mod Least
+pub mod LeastStores
 pub mod Monotone
 pub mod MonotoneFunctions
 pub mod Operations
+pub mod Takings
+pub mod Words

@@ -103,13 +103,17 @@ abbrev pub ArisesAtOpen : Option Known → Cause → Type 0
 ArisesAtOpen result causes.NoResult = IsNone result
 ArisesAtOpen result _ = ⊥
 
--- `)`
+-- `)`, with the operator and the result that wait
+abbrev pub ArisesAtClosing : Operator → Known → Option Known → Cause → Type 0
+ArisesAtClosing operator saved result causes.NoResult = IsNone result
+ArisesAtClosing operator saved result cause = ArisesAtOperator operator (Some saved) result cause
+
 abbrev pub ArisesAtClose : List KnownOpened → Option Known → Cause → Type 0
-ArisesAtClose nesting result causes.NoResult = IsNone result
+ArisesAtClose [] result causes.NoResult = IsNone result
 ArisesAtClose [] result causes.EmptyNesting = ⊤
 ArisesAtClose [] result _ = ⊥
 ArisesAtClose (innermost ∷ nesting) result cause =
-    ArisesAtOperator innermost.operator (Some innermost.saved) result cause
+    ArisesAtClosing innermost.operator innermost.saved result cause
 
 abbrev pub ArisesBeforeNesting : Listing → Entry → Instruction → Cause → Type 0
 ArisesBeforeNesting code entry (words.Load negated operand) cause =

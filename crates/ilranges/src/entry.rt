@@ -5,6 +5,7 @@ ghost use Rattle.std.specs.Prelude.{◌≡◌, IfOk};
 use crate::known::Known;
 use crate::nesting::Nesting;
 use crate::slots::Slots;
+use crate::word::is_start;
 use ilcode::Code;
 use std::alloc::{AllocError, Global};
 
@@ -20,7 +21,7 @@ pub struct Entry {
 }
 
 impl Entry {
-    ghost use Rattle.ilranges.specs.Entries.{opening};
+    ghost use Rattle.ilranges.specs.Entries.{opening, arriving};
 
     /// What is known before the first word: each slot has a value of its type, there is no current
     /// result, and nothing is open.
@@ -32,5 +33,14 @@ impl Entry {
             result: None,
             nesting: Nesting::new(),
         })
+    }
+
+    /// What is known where control comes to the place: at the start of a program no current result.
+    pub fn arrive(&mut self, code: &Code, place: usize)
+        ensures { self.new ≡ arriving code.now place self.old }
+    {
+        if is_start(code, place) {
+            self.result = None;
+        }
     }
 }

@@ -4,7 +4,7 @@ ghost use Rattle.std.specs.Prelude.{◌≡◌, ◌↔◌, IfOk, IfSome, IsNone, 
 
 use crate::cause::Cause;
 use iloperators::{Function, IntegerType, Operator};
-use iltypes::{IlType, Range};
+use iltypes::{IlType, Range, Value};
 
 /// What is known of a value before the program runs.
 #[derive(Clone, Copy, PartialEq, Eq, Debug)]
@@ -24,7 +24,7 @@ impl Known {
     ghost use Rattle.iltypes.specs.Values.{IsOf};
     ghost use Rattle.ilranges.specs.Functions.{IsAfterFunction, ArisesAtFunction};
     ghost use Rattle.ilranges.specs.FunctionSteps.{IsFunctionVerdict};
-    ghost use Rattle.ilranges.specs.Knowns.{IsKnown, known_of_type};
+    ghost use Rattle.ilranges.specs.Knowns.{IsKnown, known_of_type, known_of_value};
     ghost use Rattle.ilranges.specs.Stores.{ArisesAtStore};
     ghost use Rattle.ilranges.specs.Joins.{IsJoin, IsHeld};
 
@@ -36,6 +36,19 @@ impl Known {
         match declared {
             IlType::Bool => Known::Bool,
             IlType::Int(range) => Known::Int(range),
+        }
+    }
+
+    /// What is known of a constant: which value it is.
+    pub fn of_value(constant: Value) -> Known
+        ensures { result ≡ known_of_value constant }
+    {
+        match constant {
+            Value::Bool(_) => Known::Bool,
+            Value::Int(number) => Known::Int(Range {
+                lo: number,
+                hi: number,
+            }),
         }
     }
 

@@ -11,12 +11,15 @@
 #![tactic(auto)]
 
 mod cause;
+mod change;
 mod comparison;
 mod entry;
 mod known;
 mod law;
 mod nesting;
+mod rules;
 mod slots;
+mod word;
 
 pub use cause::Cause;
 pub use comparison::passing;
@@ -25,6 +28,7 @@ pub use known::Known;
 pub use law::more_known_before_is_more_known_after;
 pub use nesting::{KnownOpened, Nesting};
 pub use slots::Slots;
+pub use word::after_word;
 
 #[cfg(test)]
 mod tests;

@@ -41,6 +41,7 @@ impl Model for Nesting {
 
 impl Nesting {
     ghost use Rattle.limits.specs.Limits.{most_nesting};
+    ghost use Rattle.ilranges.specs.Nestings.{without_first};
 
     /// Nothing is open.
     pub fn new() -> Nesting
@@ -59,6 +60,15 @@ impl Nesting {
         self.items.len()
     }
 
+    /// The innermost, where something is open.
+    pub fn innermost(&self) -> Option<KnownOpened>
+        ensures { MatchOption result
+            (self.now ≡ [])
+            (λ innermost. self.now ≡ innermost ∷ without_first self.now) }
+    {
+        self.items.last().copied()
+    }
+
     /// One more is open, where there is room.
     pub fn open(&mut self, opened: KnownOpened)
         requires { length self.old < most_nesting }
@@ -67,12 +77,10 @@ impl Nesting {
         self.items.push(opened);
     }
 
-    /// The innermost, which is open no more, or `None` where nothing is.
-    pub fn close(&mut self) -> Option<KnownOpened>
-        ensures { MatchOption result
-            ((self.old ≡ []) × (self.new ≡ []))
-            (λ innermost. self.old ≡ innermost ∷ self.new) }
+    /// The innermost, where something is open, is open no more.
+    pub fn close(&mut self)
+        ensures { self.new ≡ without_first self.old }
     {
-        self.items.pop()
+        let _ = self.items.pop();
     }
 }

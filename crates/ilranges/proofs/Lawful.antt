@@ -1,0 +1,190 @@
+-- Where a word leaves something no cause arises at it.
+use Rattle.std.proofs.Common.{◌≡◌, ℤ, List, [], ◌∷◌, Option, Some, None, Bool, true, false}
+use Rattle.std.proofs.Common.{refl, sym, subst, inl, inr}
+use Rattle.std.specs.Prelude.{IsNone, slice_get}
+use Rattle.iltypes.specs.declared.range.Range.{Range}
+use Rattle.iltypes.specs.declared.value.IlType.{IlType}
+use Rattle.iltypes.specs.declared.value.IlType.TheVariants as types
+use Rattle.iltypes.specs.declared.value.Value.{Value}
+use Rattle.iltypes.specs.declared.value.Value.TheVariants as values
+use Rattle.iltypes.specs.Values.{IsOf}
+use Rattle.iltypes.proofs.Limits.{holds_low}
+use Rattle.iloperators.specs.declared.function.Function.{Function}
+use Rattle.iloperators.specs.declared.function.Function.TheVariants as functions
+use Rattle.iloperators.specs.declared.operator.Operator.{Operator}
+use Rattle.iloperators.specs.Functions.{modified, value_of_function}
+use Rattle.ilcode.specs.declared.instruction.Instruction.{Instruction}
+use Rattle.ilcode.specs.declared.instruction.Instruction.TheVariants as words
+use Rattle.ilcode.specs.Listings.{Listing}
+use Rattle.ilranges.specs.declared.cause.Cause.{Cause}
+use Rattle.ilranges.specs.declared.cause.Cause.TheVariants as causes
+use Rattle.ilranges.specs.declared.entry.Entry.{Entry}
+use Rattle.ilranges.specs.declared.known.Known.{Known}
+use Rattle.ilranges.specs.declared.known.Known.TheVariants as knowns
+use Rattle.ilranges.specs.declared.nesting.KnownOpened.{KnownOpened}
+use Rattle.ilranges.specs.Entries.{known_of}
+use Rattle.ilranges.specs.Functions.{IsAfterFunction}
+use Rattle.ilranges.specs.Knowns.{IsKnown, IsOfKind, known_of_type}
+use Rattle.ilranges.specs.Refusals as refusals
+use Rattle.ilranges.specs.Rules as rules
+use Rattle.ilranges.specs.Stores.{ArisesAtStore}
+use Rattle.ilranges.proofs.Exact.{example, kind_of_known, not_both, refuted}
+use Rattle.ilranges.proofs.Functions.{no_cause}
+use Rattle.ilranges.proofs.Joins.{stored_within}
+use Rattle.ilranges.proofs.Monotone.{given}
+
+-- ---- what is stored and loaded
+
+-- each value that is known has one under the modifier
+pub modified_value : (negated : Bool) (known after : Known) → rules.IsModified negated known after → (x : Value)
+    → IsKnown x known → (y : Value) × (modified negated x ≡ Some y) × IsKnown y after
+modified_value true known after h x p =
+    let v = given (value_of_function functions.Not x) (h.some x p) in
+    (v.0, v.1, h.each v.0 (record { x = x; of_operand = p; is = v.1 }))
+modified_value false known after h x p = (x, refl, subst (IsKnown x) h p)
+
+modified_takes : (negated : Bool) (known after : Known) → rules.IsModified negated known after
+    → ¬ refusals.IsWrongForLoad negated (Some known)
+modified_takes negated known after h a =
+    let x = example known in
+    let y = modified_value negated known after h x.0 x.1 in
+    let n = a x.0 (kind_of_known x.0 known x.1) in
+    let e = y.1 in
+    let k : ⊥ = cc in k
+
+pub loaded_lawful : (negated : Bool) (operand : Option Known) (known : Known) → rules.IsLoaded negated operand known
+    → (cause : Cause) → ¬ refusals.ArisesAtLoad negated operand cause
+loaded_lawful negated None known h cause a = absurd h
+loaded_lawful negated (Some operand) known h causes.WrongType a = modified_takes negated operand known h a
+loaded_lawful negated (Some operand) known h causes.BadSlot a = let k : ⊥ = cc in k
+loaded_lawful negated (Some operand) known h _ a = a
+
+pub of_kind : (v : Value) (type : IlType) → IsOf v type → IsOfKind v (known_of_type type)
+of_kind (values.Bool b) types.Bool h = tt
+of_kind (values.Bool b) (types.Int r) h = absurd h
+of_kind (values.Int z) types.Bool h = absurd h
+of_kind (values.Int z) (types.Int r) h = tt
+
+stored_takes : (negated : Bool) (known stored : Known) (type : IlType) → rules.IsModified negated known stored
+    → ((v : Value) → IsKnown v stored → IsOf v type) → ¬ refusals.IsWrongForStore negated (Some known) (Some type)
+stored_takes negated known stored type m h a =
+    let x = example known in
+    let y = modified_value negated known stored m x.0 x.1 in
+    a x.0 y.0 (kind_of_known x.0 known x.1) y.1 (of_kind y.0 type (h y.0 y.2))
+
+not_number : (z : ℤ) → IsNone (value_of_function functions.Not (values.Int z))
+not_number z = refl
+
+pub no_number : (range : Range) (stored : Known) → ¬ IsAfterFunction functions.Not (knowns.Int range) stored
+no_number range stored h =
+    not_both (value_of_function functions.Not (values.Int range.lo)) (h.some (values.Int range.lo) (holds_low range))
+    (not_number range.lo)
+
+pub no_truth_out : (type : IlType) (found allowed : Range)
+    → ¬ ArisesAtStore knowns.Bool type (causes.OutOfRange found allowed)
+no_truth_out types.Bool found allowed a = a
+no_truth_out (types.Int d) found allowed a = a
+
+-- a number that is stored is within the slot's range
+not_out : (negated : Bool) (known stored : Known) (type : IlType) (found allowed : Range)
+    → rules.IsModified negated known stored → ((v : Value) → IsKnown v stored → IsOf v type)
+    → ¬ ArisesAtStore known type (causes.OutOfRange found allowed)
+not_out negated knowns.Bool stored type found allowed m h a = no_truth_out type found allowed a
+not_out negated (knowns.Int r) stored types.Bool found allowed m h a = absurd a
+not_out true (knowns.Int r) stored (types.Int d) found allowed m h a = no_number r stored m
+not_out false (knowns.Int r) stored (types.Int d) found allowed m h a =
+    let k = subst (λ (s : Known). (v : Value) → IsKnown v s → IsOf v (types.Int d)) (sym m) h in
+    a.2 (stored_within r d k)
+
+pub stored_lawful : (negated : Bool) (result : Option Known) (type : Option IlType) (stored : Known)
+    → rules.IsStored negated result type stored → (cause : Cause)
+    → ¬ refusals.ArisesAtStoring negated result type cause
+stored_lawful negated None type stored h cause a = absurd h
+stored_lawful negated (Some known) None stored h cause a = absurd h
+stored_lawful negated (Some known) (Some type) stored h causes.WrongType a =
+    stored_takes negated known stored type h.0 h.1 a
+stored_lawful negated (Some known) (Some type) stored h causes.NoResult a = let k : ⊥ = cc in k
+stored_lawful negated (Some known) (Some type) stored h (causes.OutOfRange found allowed) a =
+    not_out negated known stored type found allowed h.0 h.1 a
+stored_lawful negated (Some known) (Some type) stored h causes.BadSlot a = let k : ⊥ = cc in k
+stored_lawful negated (Some known) (Some type) stored h _ a = a
+
+-- ---- operators and functions
+
+applied_lawful : (operator : Operator) (left right : Option Known) (known : Known)
+    → rules.IsApplied operator left right known → (cause : Cause)
+    → ¬ refusals.ArisesAtOperator operator left right cause
+applied_lawful operator None right known h cause a = absurd h
+applied_lawful operator (Some l) None known h cause a = absurd h
+applied_lawful operator (Some l) (Some r) known h causes.WrongType a = refuted operator l r h.some causes.WrongType a
+applied_lawful operator (Some l) (Some r) known h cause a = refuted operator l r h.some cause a
+
+pub apply_lawful : (operator : Operator) (result operand : Option Known) (known : Known)
+    → rules.IsApplied operator result operand known → (cause : Cause)
+    → ¬ refusals.ArisesAtApply operator result operand cause
+apply_lawful operator None operand known h cause a = absurd h
+apply_lawful operator (Some l) None known h cause a = absurd h
+apply_lawful operator (Some l) (Some r) known h causes.NoResult a = let k : ⊥ = cc in k
+apply_lawful operator (Some l) (Some r) known h causes.BadSlot a = let k : ⊥ = cc in k
+apply_lawful operator (Some l) (Some r) known h cause a =
+    applied_lawful operator (Some l) (Some r) known h cause a
+
+pub closing_lawful : (operator : Operator) (saved : Known) (result : Option Known) (known : Known)
+    → rules.IsApplied operator (Some saved) result known → (cause : Cause)
+    → ¬ refusals.ArisesAtClosing operator saved result cause
+closing_lawful operator saved None known h cause a = absurd h
+closing_lawful operator saved (Some r) known h causes.NoResult a = let k : ⊥ = cc in k
+closing_lawful operator saved (Some r) known h cause a =
+    applied_lawful operator (Some saved) (Some r) known h cause a
+
+pub transformed_lawful : (function : Function) (result : Option Known) (known : Known)
+    → rules.IsTransformed function result known → (cause : Cause)
+    → ¬ refusals.ArisesAtTransform function result cause
+transformed_lawful function None known h cause a = absurd h
+transformed_lawful function (Some operand) known h cause a = no_cause function operand h.some cause a
+
+-- ---- the other words
+
+pub set_lawful : (result : Option Known) (type : Option IlType) → rules.MaySet result type → (cause : Cause)
+    → ¬ refusals.ArisesAtSet result type cause
+set_lawful None type h cause a = absurd h
+set_lawful (Some (knowns.Int r)) type h cause a = absurd h
+set_lawful (Some knowns.Bool) None h cause a = absurd h
+set_lawful (Some knowns.Bool) (Some (types.Int d)) h cause a = absurd h
+set_lawful (Some knowns.Bool) (Some types.Bool) h causes.WrongType (inl n) = n tt
+set_lawful (Some knowns.Bool) (Some types.Bool) h causes.WrongType (inr n) = n tt
+set_lawful (Some knowns.Bool) (Some types.Bool) h causes.NoResult a = let k : ⊥ = cc in k
+set_lawful (Some knowns.Bool) (Some types.Bool) h causes.BadSlot a = let k : ⊥ = cc in k
+set_lawful (Some knowns.Bool) (Some types.Bool) h _ a = absurd a
+
+open_lawful : (entry after : Entry) (operator : Operator) (result : Option Known)
+    → rules.Opens entry operator result after → (cause : Cause) → ¬ refusals.ArisesAtOpen result cause
+open_lawful entry after operator None h cause a = absurd h
+open_lawful entry after operator (Some saved) h causes.NoResult a = let k : ⊥ = cc in k
+open_lawful entry after operator (Some saved) h _ a = a
+
+close_lawful : (entry after : Entry) (nesting : List KnownOpened) → rules.Closes entry nesting after
+    → (cause : Cause) → ¬ refusals.ArisesAtClose nesting entry.result cause
+close_lawful entry after [] h cause a = absurd h
+close_lawful entry after (innermost ∷ nesting) h cause a =
+    closing_lawful innermost.operator innermost.saved entry.result h.known h.given cause a
+
+-- where a word leaves something no cause arises at it before its parentheses
+pub lawful_before : (code : Listing) (entry : Entry) (word : Instruction) (after : Entry)
+    → rules.IsAfterWord code entry word after → (cause : Cause)
+    → ¬ refusals.ArisesBeforeNesting code entry word cause
+lawful_before code entry (words.Load negated operand) after h cause a =
+    loaded_lawful negated (known_of code entry operand) h.known h.given cause a
+lawful_before code entry (words.Apply operator operand) after h cause a =
+    apply_lawful operator entry.result (known_of code entry operand) h.known h.given cause a
+lawful_before code entry (words.Transform function) after h cause a =
+    transformed_lawful function entry.result h.known h.given cause a
+lawful_before code entry (words.Store negated slot) after h cause a =
+    stored_lawful negated entry.result (slice_get code.slots slot) h.stored h.written cause a
+lawful_before code entry (words.Set slot) after h cause a =
+    set_lawful entry.result (slice_get code.slots slot) h.0 cause a
+lawful_before code entry (words.Reset slot) after h cause a =
+    set_lawful entry.result (slice_get code.slots slot) h.0 cause a
+lawful_before code entry (words.Open operator) after h cause a =
+    open_lawful entry after operator entry.result h cause a
+lawful_before code entry words.Close after h cause a = close_lawful entry after entry.nesting h cause a

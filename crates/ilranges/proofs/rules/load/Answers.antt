@@ -1,0 +1,5 @@
+use Rattle.ilranges.proofs.Least.{load_bad_slot}
+use Rattle.ilranges.proofs.rules.load.Goals as goal
+
+pub returns-in-None : goal.returns-in-None
+returns-in-None c = rw c.in-None.is (load_bad_slot c.args.negated)

@@ -1,0 +1,159 @@
+//! The rules of the kinds of words: what each leaves, or the least cause that arises at it.
+
+ghost use Rattle.std.specs.Prelude.{◌≡◌, ◌↔◌, IsTrue, MatchResult};
+ghost use Rattle.ilranges.specs.Causes.{IsLeastCause};
+ghost use Rattle.ilranges.specs.Changes.{takes, may_modify, if_right};
+ghost use Rattle.ilranges.specs.Refusals.{ArisesAtLoad, ArisesAtApply, ArisesAtTransform};
+ghost use Rattle.ilranges.specs.Refusals.{ArisesAtStoring, ArisesAtSet};
+ghost use Rattle.ilranges.specs.Refusals.{ArisesAtClosing};
+ghost use Rattle.ilranges.specs.Rules.{IsModified, IsLoaded, IsApplied, IsTransformed};
+ghost use Rattle.ilranges.specs.Rules.{IsStored, MaySet};
+
+use crate::cause::Cause;
+use crate::known::Known;
+use iloperators::{Function, Operator};
+use iltypes::IlType;
+
+/// What is known under the modifier N of LDN and STN (IEC 61131-3, 3.2.2), which takes no number.
+pub(crate) fn modify(negated: bool, known: Known) -> Result<Known, Cause>
+    ensures { MatchResult result
+        (IsModified negated known) (IsLeastCause (ArisesAtLoad negated (Some known))) }
+{
+    if negated {
+        known.after_function(Function::Not)
+    } else {
+        Ok(known)
+    }
+}
+
+/// What LD and LDN leave of an operand, which `None` stands for where its table does not have it.
+pub(crate) fn load(negated: bool, operand: Option<Known>) -> Result<Known, Cause>
+    ensures { MatchResult result
+        (IsLoaded negated operand) (IsLeastCause (ArisesAtLoad negated operand)) }
+{
+    match operand {
+        Some(known) => modify(negated, known),
+        None => Err(Cause::BadSlot),
+    }
+}
+
+/// Whether the operator takes some value of the kind.
+fn takes(operator: Operator, known: Known) -> bool
+    ensures { result ≡ takes operator known }
+{
+    let logic = matches!(
+        operator,
+        Operator::And { .. } | Operator::Or { .. } | Operator::Xor { .. }
+    );
+    match known {
+        Known::Bool => logic || matches!(operator, Operator::Eq | Operator::Ne),
+        Known::Int(_) => !logic,
+    }
+}
+
+/// Whether a value of the kind may be stored: under the modifier N no number.
+fn may_modify(negated: bool, known: Known) -> bool
+    ensures { result ≡ may_modify negated known }
+{
+    !negated || matches!(known, Known::Bool)
+}
+
+/// The cause where the kind is right, and wrong type where it is not.
+fn if_right(right: bool, cause: Cause) -> Cause
+    ensures { result ≡ if_right right cause }
+{
+    if right { cause } else { Cause::WrongType }
+}
+
+/// What an operator leaves of the current result and its operand; `None` stands for what is not
+/// there.
+pub(crate) fn apply(
+    operator: Operator,
+    current: Option<Known>,
+    operand: Option<Known>,
+) -> Result<Known, Cause>
+    ensures { MatchResult result
+        (IsApplied operator current operand)
+        (IsLeastCause (ArisesAtApply operator current operand)) }
+{
+    match (current, operand) {
+        (Some(left), Some(right)) => Known::after(operator, left, right),
+        (None, Some(right)) => Err(if_right(takes(operator, right), Cause::NoResult)),
+        (Some(left), None) => Err(if_right(takes(operator, left), Cause::BadSlot)),
+        (None, None) => Err(Cause::NoResult),
+    }
+}
+
+/// What `)` leaves: its operator is applied to the result that waits and the current one.
+pub(crate) fn close(
+    operator: Operator,
+    saved: Known,
+    current: Option<Known>,
+) -> Result<Known, Cause>
+    ensures { MatchResult result
+        (IsApplied operator (Some saved) current)
+        (IsLeastCause (ArisesAtClosing operator saved current)) }
+{
+    match current {
+        Some(inner) => Known::after(operator, saved, inner),
+        None => Err(if_right(takes(operator, saved), Cause::NoResult)),
+    }
+}
+
+/// What NOT, ABS or a conversion leaves of the current result.
+pub(crate) fn transform(function: Function, current: Option<Known>) -> Result<Known, Cause>
+    ensures { MatchResult result
+        (IsTransformed function current) (IsLeastCause (ArisesAtTransform function current)) }
+{
+    match current {
+        Some(known) => known.after_function(function),
+        None => Err(Cause::NoResult),
+    }
+}
+
+/// What ST and STN store to a slot of this type; `None` where there is no such slot.
+pub(crate) fn store(
+    negated: bool,
+    current: Option<Known>,
+    declared: Option<IlType>,
+) -> Result<Known, Cause>
+    ensures { MatchResult result
+        (IsStored negated current declared)
+        (IsLeastCause (ArisesAtStoring negated current declared)) }
+{
+    match (current, declared) {
+        (Some(known), Some(declared)) => store_known(negated, known, declared),
+        (None, Some(declared)) => {
+            let right = may_modify(negated, Known::of(declared));
+            Err(if_right(right, Cause::NoResult))
+        }
+        (Some(known), None) => Err(if_right(may_modify(negated, known), Cause::BadSlot)),
+        (None, None) => Err(Cause::NoResult),
+    }
+}
+
+/// What ST and STN store of what is known.
+fn store_known(negated: bool, known: Known, declared: IlType) -> Result<Known, Cause>
+    ensures { MatchResult result
+        (IsStored negated (Some known) (Some declared))
+        (IsLeastCause (ArisesAtStoring negated (Some known) (Some declared))) }
+{
+    let stored = modify(negated, known)?;
+    match stored.check_store(declared) {
+        Ok(()) => Ok(stored),
+        Err(cause) => Err(cause),
+    }
+}
+
+/// Whether S and R may write to a slot of this type, by the current result.
+pub(crate) fn check_set(current: Option<Known>, declared: Option<IlType>) -> Result<(), Cause>
+    ensures { MatchResult result
+        (λ _. MaySet current declared) (IsLeastCause (ArisesAtSet current declared)) }
+{
+    match (current, declared) {
+        (Some(Known::Int(_)), _) | (_, Some(IlType::Int(_))) => Err(Cause::WrongType),
+        (None, _) => Err(Cause::NoResult),
+        (Some(Known::Bool), None) => Err(Cause::BadSlot),
+        (Some(Known::Bool), Some(IlType::Bool)) => Ok(()),
+    }
+}
