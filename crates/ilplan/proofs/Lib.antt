@@ -1,1 +1,3 @@
 pub mod EachOnce
+pub mod Keys
+pub mod Used

@@ -1,6 +1,8 @@
 -- The different constants of lines.
-use Rattle.std.specs.Prelude.{List, [], ◌∷◌, filter, filter_map, flat_map, Option, Some, None, Bool, false, not}
+use Rattle.std.specs.Prelude.{◌≡◌, List, [], ◌∷◌, ◌++◌, filter, filter_map, flat_map, Option, Some, None, IfSome, ⊤}
+use Rattle.std.specs.Prelude.{Bool, true, false, not, if◌then◌else◌}
 use Rattle.std.specs.Bool.{beq}
+use Rattle.std.specs.List.{list_any}
 use Rattle.std.specs.Ordering.{int_eq}
 use Rattle.iltypes.specs.declared.value.Value.{Value}
 use Rattle.iltypes.specs.declared.value.Value.TheVariants as values
@@ -15,6 +17,10 @@ abbrev pub same_value : Value → Value → Bool
 same_value (values.Bool truth) (values.Bool other) = beq truth other
 same_value (values.Int number) (values.Int other) = int_eq number other
 same_value _ _ = false
+
+-- the values with one more, which goes last where it is new
+abbrev pub with_constant : List Value → Value → List Value
+with_constant known value = if list_any (same_value value) known then known else known ++ value ∷ []
 
 -- each of the values once, where it stands first: the first one, and of the others those that are not the same
 abbrev pub each_once : List Value → List Value
@@ -32,3 +38,9 @@ constants_used uses = filter_map (λ u. constant_in u.operand) uses
 -- the different constants of lines, in order of first use
 abbrev pub different_constants : {N L : Type 0} → List (Line N L) → List Value
 different_constants lines = each_once (constants_used (flat_map uses_in lines))
+
+-- the constants of the uses are among the values
+abbrev pub AreAmong : {N : Type 0} → List Value → List (Use N) → Type 0
+AreAmong values [] = ⊤
+AreAmong values (u ∷ uses) =
+    IfSome (constant_in u.operand) (λ value. list_any (same_value value) values ≡ true) × AreAmong values uses

@@ -7,11 +7,13 @@
 //! read first.
 #![tactic(auto)]
 
+mod constants;
 mod declared_name;
 mod instance;
 mod plan;
 mod task;
 
+pub use constants::{Constants, each_value_stands_once};
 pub use declared_name::{DeclaredName, SlotName};
 pub use instance::{Instance, Slot};
 pub use plan::Plan;

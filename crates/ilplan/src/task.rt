@@ -1,7 +1,7 @@
 //! Tasks.
 
+use crate::constants::Constants;
 use crate::instance::{Instance, Slot};
-use iltypes::Value;
 use std::marker::Model;
 
 /// A task: its instances, which run in order, their variables and their constants. It keeps the
@@ -11,7 +11,7 @@ pub struct Task {
     name: String,
     event: bool,
     slots: Vec<Slot>,
-    constants: Vec<Value>,
+    constants: Constants,
     instances: Vec<Instance>,
 }
 
@@ -30,11 +30,11 @@ impl Model for Task {
       code_by (List (Piece ℕ)) (Prim.hlevel codes) pieces_of tree_of tree_again,
     ) };
 
-    ghost view = { λ t. task_of (string_bytes t.name) t.event t.slots.items t.constants.items
+    ghost view = { λ t. task_of (string_bytes t.name) t.event t.slots.items t.constants
         t.instances.items };
 
     ghost invariant = { λ t. KeepsLimits (task_of (string_bytes t.name) t.event t.slots.items
-        t.constants.items t.instances.items) };
+        t.constants t.instances.items) };
 }
 
 impl Task {
@@ -46,12 +46,12 @@ impl Task {
         name: String,
         event: bool,
         slots: Vec<Slot>,
-        constants: Vec<Value>,
+        constants: Constants,
         instances: Vec<Instance>,
     ) -> Task
-        requires { KeepsLimits (task_of (string_bytes name) event slots.items constants.items
+        requires { KeepsLimits (task_of (string_bytes name) event slots.items constants
             instances.items) }
-        ensures { result ≡ task_of (string_bytes name) event slots.items constants.items
+        ensures { result ≡ task_of (string_bytes name) event slots.items constants
             instances.items }
     {
         Task {
@@ -85,7 +85,7 @@ impl Task {
     }
 
     /// The different constants of its lines, in order of first use.
-    pub fn constants(&self) -> &[Value]
+    pub fn constants(&self) -> &Constants
         ensures value { result.now ≡ self.now.constants }
     {
         &self.constants

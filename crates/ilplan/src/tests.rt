@@ -1,6 +1,6 @@
 //! Each call once, with printed names.
 
-use crate::{DeclaredName, Instance, Plan, Slot, SlotName, Task};
+use crate::{Constants, DeclaredName, Instance, Plan, Slot, SlotName, Task};
 use ilsource::Name;
 use iltypes::{IlType, Value};
 use std::test::Fail;
@@ -32,7 +32,7 @@ fn a_plan_gives_back_its_parts(rt: HostRuntime) -> Result<(), Fail> {
     let mut slots = Vec::new(alloc);
     slots.push(slot)?;
     let name = String::from_str(alloc, "main")?;
-    let task = Task::new(name, true, slots, Vec::new(alloc), instances);
+    let task = Task::new(name, true, slots, Constants::new(alloc), instances);
     assert_eq!(rt; task.constants().len(), 0);
     let mut tasks = Vec::new(alloc);
     tasks.push(task)?;
@@ -54,5 +54,27 @@ fn a_plan_gives_back_its_parts(rt: HostRuntime) -> Result<(), Fail> {
     assert_eq!(rt; task.instances().len(), 1);
     assert_eq!(rt; task.instances()[0].name(), program);
     assert_eq!(rt; task.instances()[0].lines().len(), 0);
+    Ok(())
+}
+
+#[test]
+fn a_truth_value_is_no_number(rt: HostRuntime) -> Result<(), Fail> {
+    let mut constants = Constants::new(rt.alloc());
+    let different = [
+        Value::Int(1),
+        Value::Bool(true),
+        Value::Int(0),
+        Value::Bool(false),
+    ];
+    for value in different {
+        constants.add(value)?;
+    }
+    for (number, value) in different.into_iter().enumerate() {
+        constants.add(value)?;
+        assert_eq!(rt; constants.number_of(value), number);
+    }
+    assert_eq!(rt; constants.as_slice(), different.as_slice());
+    assert_eq!(rt; constants.number_of(Value::Int(2)), 4);
+    assert_eq!(rt; constants.len(), 4);
     Ok(())
 }
