@@ -181,7 +181,7 @@ pub constant_known : (n : ℤ) (range : Range) → range.lo ≡ n → range.hi �
     → knowns.Int range ≡ known_of_value (values.Int n)
 constant_known n range p q = ap (λ (r : Range). knowns.Int r) (same_range range (only n) p q)
 
-same_outside : (function : Function) (operand : Known) (f a g b : Range)
+pub same_outside : (function : Function) (operand : Known) (f a g b : Range)
     → ArisesAtFunction function operand (causes.OutOfRange f a)
     → ArisesAtFunction function operand (causes.OutOfRange g b)
     → causes.OutOfRange f a ≡ causes.OutOfRange g b

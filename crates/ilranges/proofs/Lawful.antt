@@ -86,7 +86,7 @@ no_truth_out types.Bool found allowed a = a
 no_truth_out (types.Int d) found allowed a = a
 
 -- a number that is stored is within the slot's range
-not_out : (negated : Bool) (known stored : Known) (type : IlType) (found allowed : Range)
+pub not_out : (negated : Bool) (known stored : Known) (type : IlType) (found allowed : Range)
     → rules.IsModified negated known stored → ((v : Value) → IsKnown v stored → IsOf v type)
     → ¬ ArisesAtStore known type (causes.OutOfRange found allowed)
 not_out negated knowns.Bool stored type found allowed m h a = no_truth_out type found allowed a

@@ -1,5 +1,6 @@
 pub mod Comparisons
 pub mod Exact
+pub mod FitLaws
 pub mod Functions
 pub mod Joins
 pub mod Lawful
@@ -7,6 +8,11 @@ pub mod Least
 pub mod LeastStores
 pub mod Monotone
 pub mod MonotoneFunctions
+pub mod OneCause
 pub mod Operations
+pub mod OrderLaws
+pub mod RefusalLaws
+pub mod SafeLaws
+pub mod SoundLaws
 pub mod Takings
 pub mod Words

@@ -25,7 +25,7 @@ pub use cause::Cause;
 pub use comparison::passing;
 pub use entry::Entry;
 pub use known::Known;
-pub use law::more_known_before_is_more_known_after;
+pub use law::{least_cause_is_one, more_known_before_is_more_known_after, words_are_safe};
 pub use nesting::{KnownOpened, Nesting};
 pub use slots::Slots;
 pub use word::after_word;

@@ -1,5 +1,7 @@
 use Rattle.ilranges.proofs.Monotone.{order, refusals}
 use Rattle.ilranges.proofs.MonotoneFunctions as functions
+use Rattle.ilranges.proofs.OrderLaws.{keeps_order}
+use Rattle.ilranges.proofs.RefusalLaws.{keeps_refusals}
 use Rattle.ilranges.proofs.law.more_known_before_is_more_known_after.Goals as goal
 
 pub returns-clause-order : goal.returns-clause-order
@@ -13,3 +15,9 @@ returns-clause-function_order c = functions.order
 
 pub returns-clause-function_refusals : goal.returns-clause-function_refusals
 returns-clause-function_refusals c = functions.refusals
+
+pub returns-clause-word_order : goal.returns-clause-word_order
+returns-clause-word_order c = keeps_order
+
+pub returns-clause-word_refusals : goal.returns-clause-word_refusals
+returns-clause-word_refusals c = keeps_refusals

@@ -1,0 +1,71 @@
+-- What holds by an entry holds by each wider one, and values in their types are as the first entry says.
+use Rattle.std.proofs.Common.{List, [], ◌∷◌, Option, Some, None, ◌∙◌}
+use Rattle.std.specs.Prelude.{map}
+use Rattle.std.specs.List.{AllZip}
+use Rattle.iltypes.specs.declared.value.IlType.{IlType}
+use Rattle.iltypes.specs.declared.value.IlType.TheVariants as types
+use Rattle.iltypes.specs.declared.value.Value.{Value}
+use Rattle.iltypes.specs.declared.value.Value.TheVariants as values
+use Rattle.iltypes.specs.Values.{IsOf, AreOf}
+use Rattle.ilcode.specs.declared.nesting.Opened.{Opened}
+use Rattle.ilranges.specs.declared.known.Known.{Known}
+use Rattle.ilranges.specs.declared.nesting.KnownOpened.{KnownOpened}
+use Rattle.ilranges.specs.Knowns.{IsKnown, IsKnownWithin, known_of_type}
+use Rattle.ilranges.specs.Entries.{IsResultInto, IsOpenedInto}
+use Rattle.ilranges.specs.Fits.{IsResultKnown, IsOpenedKnown}
+use Rattle.ilranges.specs.WordLaws.{IsFitAtStart, IsFitWider}
+use Rattle.ilranges.proofs.Monotone.{known_wider}
+
+zip_through : {A B : Type 0} (R : A → B → Type 0) (S : B → B → Type 0)
+    → ((x : A) (y z : B) → R x y → S y z → R x z) → (xs : List A) (ys zs : List B) → AllZip R xs ys → AllZip S ys zs
+    → AllZip R xs zs
+zip_through R S each [] [] [] h g = tt
+zip_through R S each [] [] (z ∷ zs) h g = absurd g
+zip_through R S each [] (y ∷ ys) zs h g = absurd h
+zip_through R S each (x ∷ xs) [] zs h g = absurd h
+zip_through R S each (x ∷ xs) (y ∷ ys) [] h g = absurd g
+zip_through R S each (x ∷ xs) (y ∷ ys) (z ∷ zs) h g =
+    (each x y z h.0 g.0, zip_through R S each xs ys zs h.1 g.1)
+
+value_wider : (value : Value) (known wider : Known) → IsKnown value known → IsKnownWithin known wider
+    → IsKnown value wider
+value_wider value known wider h w = known_wider value known wider w h
+
+result_wider : (value : Option Value) (known wider : Option Known) → IsResultKnown value known
+    → IsResultInto known wider → IsResultKnown value wider
+result_wider value known None h w = tt
+result_wider value None (Some wider) h w = absurd w
+result_wider None (Some known) (Some wider) h w = absurd h
+result_wider (Some value) (Some known) (Some wider) h w = value_wider value known wider h w
+
+opened_wider : (opened : Opened) (known wider : KnownOpened) → IsOpenedKnown opened known → IsOpenedInto known wider
+    → IsOpenedKnown opened wider
+opened_wider opened known wider h w = record {
+  operator = h.operator ∙ w.operator;
+  saved = value_wider opened.saved known.saved wider.saved h.saved w.saved;
+}
+
+pub fit_wider : IsFitWider
+fit_wider code entry wider c i f = record {
+  typed = f.typed;
+  slots = zip_through IsKnown IsKnownWithin value_wider c.slots entry.slots wider.slots f.slots i.slots;
+  result = result_wider c.result entry.result wider.result f.result i.result;
+  nesting = zip_through IsOpenedKnown IsOpenedInto opened_wider c.nesting entry.nesting wider.nesting f.nesting
+      i.nesting;
+}
+
+of_known : (value : Value) (type : IlType) → IsOf value type → IsKnown value (known_of_type type)
+of_known (values.Bool truth) types.Bool h = tt
+of_known (values.Bool truth) (types.Int range) h = absurd h
+of_known (values.Int number) types.Bool h = absurd h
+of_known (values.Int number) (types.Int range) h = h
+
+all_known : (slots : List Value) (types : List IlType) → AreOf slots types
+    → AllZip IsKnown slots (map known_of_type types)
+all_known [] [] h = tt
+all_known [] (type ∷ more) h = absurd h
+all_known (value ∷ slots) [] h = absurd h
+all_known (value ∷ slots) (type ∷ more) h = (of_known value type h.0, all_known slots more h.1)
+
+pub fit_start : IsFitAtStart
+fit_start code slots a = record { typed = a; slots = all_known slots code.slots a; result = tt; nesting = tt }

@@ -1,0 +1,187 @@
+-- What is refused where more is known before a word is refused where less is.
+use Rattle.std.proofs.Common.{ℕ, List, [], ◌∷◌, Option, Some, None, Bool, refl, sym, subst}
+use Rattle.std.proofs.Common.{arith}
+use Rattle.std.specs.Prelude.{slice_get}
+use Rattle.std.specs.List.{AllZip}
+use Rattle.std.proofs.lemmas.Int.{ints}
+use Rattle.std.proofs.lemmas.Slice.Zip.{AllZip-long}
+use Rattle.iltypes.specs.declared.range.Range.{Range}
+use Rattle.iltypes.specs.declared.value.IlType.{IlType}
+use Rattle.iltypes.specs.declared.value.IlType.TheVariants as types
+use Rattle.iltypes.specs.declared.value.Value.{Value}
+use Rattle.iltypes.specs.Ranges.{IsWithin}
+use Rattle.iltypes.specs.Values.{IsOf}
+use Rattle.iloperators.specs.declared.function.Function.{Function}
+use Rattle.iloperators.specs.declared.operator.Operator.{Operator}
+use Rattle.ilcode.specs.declared.instruction.Instruction.{Instruction}
+use Rattle.ilcode.specs.declared.instruction.Instruction.TheVariants as words
+use Rattle.ilcode.specs.Listings.{Listing}
+use Rattle.ilranges.specs.declared.cause.Cause.{Cause}
+use Rattle.ilranges.specs.declared.cause.Cause.TheVariants as causes
+use Rattle.ilranges.specs.declared.entry.Entry.{Entry}
+use Rattle.ilranges.specs.declared.known.Known.{Known}
+use Rattle.ilranges.specs.declared.known.Known.TheVariants as knowns
+use Rattle.ilranges.specs.declared.nesting.KnownOpened.{KnownOpened}
+use Rattle.ilranges.specs.Entries.{known_of, IsResultInto, IsOpenedInto, IsInto}
+use Rattle.ilranges.specs.Knowns.{IsKnown, IsKnownWithin}
+use Rattle.ilranges.specs.Refusals as refusals
+use Rattle.ilranges.specs.Rules as rules
+use Rattle.ilranges.specs.Stores.{ArisesAtStore}
+use Rattle.ilranges.specs.WordLaws.{KeepsWordRefusals}
+use Rattle.ilranges.proofs.Exact.{example, kind_of_known, refuted}
+use Rattle.ilranges.proofs.Functions.{no_cause}
+use Rattle.ilranges.proofs.Lawful.{modified_value, of_kind, not_out, no_truth_out, set_lawful}
+use Rattle.ilranges.proofs.Monotone.{known_wider}
+use Rattle.ilranges.proofs.OrderLaws.{IsBothWithin, operand_within, both_into}
+
+-- ---- loads and stores
+
+load_kept : (negated : Bool) (operand wider : Option Known) (after : Known) → IsBothWithin operand wider
+    → rules.IsLoaded negated wider after → (cause : Cause) → ¬ refusals.ArisesAtLoad negated operand cause
+load_kept negated operand None after w g cause a = absurd g
+load_kept negated None (Some wider) after w g cause a = absurd w
+load_kept negated (Some known) (Some wider) after w g causes.WrongType a =
+    let x = example known in
+    let y = modified_value negated wider after g x.0 (known_wider x.0 known wider w x.1) in
+    let n = a x.0 (kind_of_known x.0 known x.1) in
+    let e = y.1 in
+    let k : ⊥ = cc in k
+load_kept negated (Some known) (Some wider) after w g causes.BadSlot a = let k : ⊥ = cc in k
+load_kept negated (Some known) (Some wider) after w g _ a = a
+
+within_through : (a b c : Range) → IsWithin a b → IsWithin b c → IsWithin a c
+within_through a b c p q =
+    record { low = omega (arith, ints, p.low, q.low); high = omega (arith, ints, p.high, q.high) }
+
+out_kept : (negated : Bool) (known wider stored : Known) (type : IlType) (found allowed : Range)
+    → IsKnownWithin known wider → rules.IsModified negated wider stored
+    → ((v : Value) → IsKnown v stored → IsOf v type) → ¬ ArisesAtStore known type (causes.OutOfRange found allowed)
+out_kept negated knowns.Bool wider stored type found allowed w m h a = no_truth_out type found allowed a
+out_kept negated (knowns.Int r) wider stored types.Bool found allowed w m h a = a
+out_kept negated (knowns.Int r) knowns.Bool stored (types.Int d) found allowed w m h a = w
+out_kept negated (knowns.Int r) (knowns.Int s) stored (types.Int d) found allowed w m h a =
+    not_out negated (knowns.Int s) stored (types.Int d) s d m h (refl, refl, λ k. a.2 (within_through r s d w k))
+
+store_kept : (negated : Bool) (result wider : Option Known) (type : Option IlType) (stored : Known)
+    → IsResultInto result wider → rules.IsStored negated wider type stored → (cause : Cause)
+    → ¬ refusals.ArisesAtStoring negated result type cause
+store_kept negated result None type stored w g cause a = absurd g
+store_kept negated result (Some wider) None stored w g cause a = absurd g
+store_kept negated None (Some wider) (Some type) stored w g cause a = absurd w
+store_kept negated (Some known) (Some wider) (Some type) stored w g causes.WrongType a =
+    let x = example known in
+    let y = modified_value negated wider stored g.0 x.0 (known_wider x.0 known wider w x.1) in
+    a x.0 y.0 (kind_of_known x.0 known x.1) y.1 (of_kind y.0 type (g.1 y.0 y.2))
+store_kept negated (Some known) (Some wider) (Some type) stored w g causes.NoResult a = let k : ⊥ = cc in k
+store_kept negated (Some known) (Some wider) (Some type) stored w g (causes.OutOfRange found allowed) a =
+    out_kept negated known wider stored type found allowed w g.0 g.1 a
+store_kept negated (Some known) (Some wider) (Some type) stored w g causes.BadSlot a = let k : ⊥ = cc in k
+store_kept negated (Some known) (Some wider) (Some type) stored w g _ a = a
+
+set_kept : (result wider : Option Known) (type : Option IlType) → IsResultInto result wider → rules.MaySet wider type
+    → (cause : Cause) → ¬ refusals.ArisesAtSet result type cause
+set_kept result None type w g cause a = absurd g
+set_kept result (Some (knowns.Int s)) type w g cause a = absurd g
+set_kept None (Some knowns.Bool) type w g cause a = absurd w
+set_kept (Some (knowns.Int r)) (Some knowns.Bool) type w g cause a = absurd w
+set_kept (Some knowns.Bool) (Some knowns.Bool) type w g cause a = set_lawful (Some knowns.Bool) type g cause a
+
+-- ---- operators and functions
+
+operator_kept : (operator : Operator) (left right wider_left wider_right after : Known) → IsKnownWithin left wider_left
+    → IsKnownWithin right wider_right → rules.IsApplied operator (Some wider_left) (Some wider_right) after
+    → (cause : Cause) → ¬ refusals.ArisesAtOperator operator (Some left) (Some right) cause
+operator_kept operator left right wider_left wider_right after w v g causes.WrongType a =
+    refuted operator left right (λ x y p q. g.some x y (known_wider x left wider_left w p)
+    (known_wider y right wider_right v q)) causes.WrongType a
+operator_kept operator left right wider_left wider_right after w v g cause a =
+    refuted operator left right (λ x y p q. g.some x y (known_wider x left wider_left w p)
+    (known_wider y right wider_right v q)) cause a
+
+apply_kept : (operator : Operator) (result wider operand wider_operand : Option Known) (after : Known)
+    → IsResultInto result wider → IsResultInto operand wider_operand
+    → rules.IsApplied operator wider wider_operand after → (cause : Cause)
+    → ¬ refusals.ArisesAtApply operator result operand cause
+apply_kept operator result None operand wider_operand after w v g cause a = absurd g
+apply_kept operator result (Some s) operand None after w v g cause a = absurd g
+apply_kept operator None (Some s) operand (Some t) after w v g cause a = absurd w
+apply_kept operator (Some l) (Some s) None (Some t) after w v g cause a = absurd v
+apply_kept operator (Some l) (Some s) (Some r) (Some t) after w v g causes.NoResult a = let k : ⊥ = cc in k
+apply_kept operator (Some l) (Some s) (Some r) (Some t) after w v g causes.BadSlot a = let k : ⊥ = cc in k
+apply_kept operator (Some l) (Some s) (Some r) (Some t) after w v g cause a =
+    operator_kept operator l r s t after w v g cause a
+
+closing_kept : (operator : Operator) (saved wider_saved : Known) (result wider : Option Known) (after : Known)
+    → IsKnownWithin saved wider_saved → IsResultInto result wider
+    → rules.IsApplied operator (Some wider_saved) wider after → (cause : Cause)
+    → ¬ refusals.ArisesAtClosing operator saved result cause
+closing_kept operator saved wider_saved result None after w v g cause a = absurd g
+closing_kept operator saved wider_saved None (Some t) after w v g cause a = absurd v
+closing_kept operator saved wider_saved (Some r) (Some t) after w v g causes.NoResult a = let k : ⊥ = cc in k
+closing_kept operator saved wider_saved (Some r) (Some t) after w v g cause a =
+    operator_kept operator saved r wider_saved t after w v g cause a
+
+transform_kept : (function : Function) (result wider : Option Known) (after : Known) → IsResultInto result wider
+    → rules.IsTransformed function wider after → (cause : Cause)
+    → ¬ refusals.ArisesAtTransform function result cause
+transform_kept function result None after w g cause a = absurd g
+transform_kept function None (Some wider) after w g cause a = absurd w
+transform_kept function (Some known) (Some wider) after w g cause a =
+    no_cause function known (λ x p. g.some x (known_wider x known wider w p)) cause a
+
+-- ---- parentheses
+
+open_kept : (entry after : Entry) (operator : Operator) (result wider : Option Known) → IsResultInto result wider
+    → rules.Opens entry operator wider after → (cause : Cause) → ¬ refusals.ArisesAtOpen result cause
+open_kept entry after operator result None w g cause a = absurd g
+open_kept entry after operator None (Some wider) w g cause a = absurd w
+open_kept entry after operator (Some known) (Some wider) w g causes.NoResult a = let k : ⊥ = cc in k
+open_kept entry after operator (Some known) (Some wider) w g _ a = a
+
+close_kept : (wider after : Entry) (nesting wider_nesting : List KnownOpened) (result : Option Known)
+    → AllZip IsOpenedInto nesting wider_nesting → IsResultInto result wider.result
+    → rules.Closes wider wider_nesting after → (cause : Cause) → ¬ refusals.ArisesAtClose nesting result cause
+close_kept wider after nesting [] result n w g cause a = absurd g
+close_kept wider after [] (y ∷ ys) result n w g cause a = absurd n
+close_kept wider after (x ∷ xs) (y ∷ ys) result n w g cause a =
+    closing_kept x.operator x.saved y.saved result wider.result g.known n.0.saved w
+    (subst (λ (o : Operator). rules.IsApplied o (Some y.saved) wider.result g.known) (sym n.0.operator) g.given)
+    cause a
+
+-- ---- words
+
+kept_before : (code : Listing) (entry wider : Entry) (word : Instruction) (after : Entry) → IsInto entry wider
+    → rules.IsAfterWord code wider word after → (cause : Cause)
+    → ¬ refusals.ArisesBeforeNesting code entry word cause
+kept_before code entry wider (words.Load negated operand) after i g cause a =
+    load_kept negated (known_of code entry operand) (known_of code wider operand) g.known
+    (operand_within code entry wider operand i) g.given cause a
+kept_before code entry wider (words.Apply operator operand) after i g cause a =
+    apply_kept operator entry.result wider.result (known_of code entry operand) (known_of code wider operand) g.known
+    i.result (both_into _ _ (operand_within code entry wider operand i)) g.given cause a
+kept_before code entry wider (words.Transform function) after i g cause a =
+    transform_kept function entry.result wider.result g.known i.result g.given cause a
+kept_before code entry wider (words.Store negated slot) after i g cause a =
+    store_kept negated entry.result wider.result (slice_get code.slots slot) g.stored i.result g.written cause a
+kept_before code entry wider (words.Set slot) after i g cause a =
+    set_kept entry.result wider.result (slice_get code.slots slot) i.result g.0 cause a
+kept_before code entry wider (words.Reset slot) after i g cause a =
+    set_kept entry.result wider.result (slice_get code.slots slot) i.result g.0 cause a
+kept_before code entry wider (words.Open operator) after i g cause a =
+    open_kept wider after operator entry.result wider.result i.result g cause a
+kept_before code entry wider words.Close after i g cause a =
+    close_kept wider after entry.nesting wider.nesting entry.result i.nesting i.result g cause a
+
+-- as many parentheses are open
+kept_open : (code : Listing) (place : ℕ) (entry wider : Entry) (word : Instruction) → IsInto entry wider
+    → refusals.ArisesAtWord code place entry word causes.OpenNesting
+    → refusals.ArisesAtWord code place wider word causes.OpenNesting
+kept_open code place entry wider word i a =
+    subst (λ (n : ℕ). refusals.StaysOpen code place word (refusals.open_after word n))
+    (sym (AllZip-long IsOpenedInto entry.nesting wider.nesting i.nesting)) a
+
+pub keeps_refusals : (word : Instruction) → KeepsWordRefusals word
+keeps_refusals word code place entry wider after causes.OpenNesting i a r =
+    r.lawful causes.OpenNesting (kept_open code place entry wider word i a)
+keeps_refusals word code place entry wider after cause i a r =
+    kept_before code entry wider word after i r.leaves cause a
