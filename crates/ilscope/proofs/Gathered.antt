@@ -2,17 +2,10 @@
 use Rattle.std.proofs.Common.{◌≡◌, ℕ, ◌<◌, ◌≤◌, List, [], ◌∷◌, ◌++◌, Bool, true, false, ◌||◌, ◌&&◌, ◌≢◌, refl, ap, sym, ◌∙◌, arith, subst, ◌⊎◌, inl, inr}
 use Rattle.std.specs.Prelude.{Option, Some, None, IsSomeAnd, nat_lt, ◌==◌, fold, is_some, slice_get, if◌then◌else◌}
 use Rattle.std.proofs.lemmas.Grind.{common_steps}
-use Rattle.iltypes.specs.declared.value.Value.{Value}
-use Rattle.ilsource.specs.declared.name.Name.{Name}
-use Rattle.ilsource.specs.Names.{text_of}
-use Rattle.ilsource.specs.Trees.{Variables, Written}
 use Rattle.ilscope.specs.Causes.{number_of}
-use Rattle.ilscope.specs.Declarations.{initial_value}
-use Rattle.ilscope.specs.Faults.{IsBadIn, IsNotAfter, IsLeast, IsLeastOf}
-use Rattle.ilscope.specs.Tables.{number_in}
-use Rattle.ilscope.specs.Order.{found, comes_before, lesser}
+use Rattle.ilscope.specs.Faults.{IsNotAfter, IsLeast, IsLeastOf}
+use Rattle.ilscope.specs.Order.{comes_before}
 use Rattle.ilscope.specs.declared.fault.NameCause.{NameCause}
-use Rattle.ilscope.specs.declared.fault.NameCause.TheVariants.{Twice, BadDeclaration}
 use Rattle.ilscope.specs.declared.found.Found.{Found}
 
 lt_true : (a b : ℕ) → nat_lt a b ≡ true → a < b

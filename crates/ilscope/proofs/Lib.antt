@@ -1,7 +1,11 @@
-pub mod Exact
+pub mod Declared
 pub mod Gathered
+pub mod Kept
 pub mod Least
 pub mod LeastOfDeclarations
-pub mod Lookups
+pub mod Numbered
 pub mod OneFault
+pub mod OneMore
 pub mod Spelling
+pub mod Subranges
+pub mod WholeScope

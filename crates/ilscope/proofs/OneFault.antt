@@ -1,10 +1,10 @@
--- Of some faults at most one is the least, and so at most one is told.
+-- Of some faults at most one is the least, and so at most one is reported.
 use Rattle.std.proofs.Common.{◌≡◌, ℕ, List, refl, sym, ap, ◌∙◌, inl, inr, arith}
 use Rattle.std.specs.Prelude.{Option, Some, None}
 use Rattle.ilsource.specs.Places.{line_at, col_at}
 use Rattle.ilscope.specs.Causes.{number_of}
 use Rattle.ilscope.specs.Faults.{IsNotAfter, IsLeast, IsLeastOf}
-use Rattle.ilscope.specs.Told.{TellsLeast}
+use Rattle.ilscope.specs.Reports.{ReportsLeast}
 use Rattle.ilscope.specs.declared.fault.NameCause.{NameCause}
 use Rattle.ilscope.specs.declared.fault.NameCause.TheVariants.{Unknown, Twice, TooMany, BadDeclaration}
 use Rattle.ilscope.specs.declared.fault.NameFault.{NameFault}
@@ -39,7 +39,7 @@ same_at p q a b (inr h) (inr g) = (h.0, same_cause a b (omega (arith, h.1, g.1))
 least_is_one : (F : ℕ → NameCause → Type 0) (p q : ℕ) (a b : NameCause) → IsLeast F p a → IsLeast F q b → (p ≡ q) × (a ≡ b)
 least_is_one F p q a b h g = same_at p q a b (h.least q b g.is) (g.least p a h.is)
 
--- at most one is found
+-- what is found is one at most
 pub one_least : (F : ℕ → NameCause → Type 0) (a b : Option Found) → IsLeastOf F a → IsLeastOf F b → a ≡ b
 one_least F None None h g = refl
 one_least F None (Some b) h g = absurd (h b.at b.cause g.is)
@@ -48,10 +48,10 @@ one_least F (Some a) (Some b) h g =
     let same : (a.at ≡ b.at) × (a.cause ≡ b.cause) = least_is_one F a.at b.at a.cause b.cause h g in
     λ i. Some (record { at = same.0 i; cause = same.1 i })
 
-pub one_told : (text : List ℕ) (F : ℕ → NameCause → Type 0) (a b : NameFault) → TellsLeast text F a → TellsLeast text F b → a ≡ b
-one_told text F Memory b h g = absurd h
-one_told text F (At line col cause) Memory h g = absurd g
-one_told text F (At line col cause) (At row place its) h g =
+pub one_report : (text : List ℕ) (F : ℕ → NameCause → Type 0) (a b : NameFault) → ReportsLeast text F a → ReportsLeast text F b → a ≡ b
+one_report text F Memory b h g = absurd h
+one_report text F (At line col cause) Memory h g = absurd g
+one_report text F (At line col cause) (At row place its) h g =
     let same : (h.0 ≡ g.0) × (cause ≡ its) = least_is_one F h.0 g.0 cause its h.1 g.1 in
     let lines : line ≡ row = h.2 ∙ ap (line_at text) same.0 ∙ sym g.2 in
     let cols : col ≡ place = h.3 ∙ ap (col_at text) same.0 ∙ sym g.3 in

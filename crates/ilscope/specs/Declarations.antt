@@ -1,12 +1,13 @@
 -- What a text declares (IEC 61131-3, 2.3.3.1 and 2.4.3): each type and each variable below the types above it.
 use Rattle.std.specs.Prelude.{ℕ, List, [], ◌∷◌, Option, map, flat_map, filter_map, option_map, unwrap_or}
+use Rattle.ilsource.specs.Names.{folded}
 use Rattle.ilsource.specs.Programs.{Variables, Written}
 use Rattle.ilsource.specs.Trees.{Tree, program_in}
 use Rattle.ilsource.specs.declared.declaration.TypeDeclaration.{TypeDeclaration}
 use Rattle.ilsource.specs.declared.name.Name.{Name}
 use Rattle.ilsource.specs.declared.source.Element.{Element}
 use Rattle.ilsource.specs.declared.source.Element.TheVariants.{DerivedType, Program}
-use Rattle.ilscope.specs.DataTypes.{truth_values, declared_type, type_named}
+use Rattle.ilscope.specs.DataTypes.{Types, truth_values, declared_type, types_below}
 use Rattle.ilscope.specs.declared.data_type.DataType.{DataType}
 use Rattle.ilscope.specs.declared.variable.Variable.{Variable}
 
@@ -41,32 +42,32 @@ abbrev pub names_of : Written → List Name
 names_of program = flat_map (λ d. d.names) program.declarations
 
 -- what a declaration means; FALSE of BOOL, whatever is written, where it or its type is at fault
-abbrev pub type_of : List ℕ → List TypeDeclaration → Variables → DataType
-type_of text above declaration =
-    unwrap_or (declared_type (type_named text above) declaration.specification declaration.initial) truth_values
+abbrev pub type_of : Types → Variables → DataType
+type_of types_above declaration =
+    unwrap_or (declared_type types_above declaration.specification declaration.initial) truth_values
 
 abbrev pub variable : DataType → Name → Variable
 variable type name = record { name = name; value_type = type.value_type; initial = type.initial }
 
 -- the variables of one declaration
-abbrev pub variables_in : List ℕ → List TypeDeclaration → Variables → List Variable
-variables_in text above declaration = map (variable (type_of text above declaration)) declaration.names
+abbrev pub variables_in : Types → Variables → List Variable
+variables_in types_above declaration = map (variable (type_of types_above declaration)) declaration.names
 
 -- a program's variables, in declared order
-abbrev pub variables_of : List ℕ → List TypeDeclaration → Written → List Variable
-variables_of text above program = flat_map (variables_in text above) program.declarations
+abbrev pub variables_of : Types → Written → List Variable
+variables_of types_above program = flat_map (variables_in types_above) program.declarations
 
 -- a program with its variables
 pub record DeclaredProgram : Type 0 where
   pub program : Written
   pub variables : List Variable
 
-abbrev pub declared_program : List ℕ → Standing → Option DeclaredProgram
-declared_program text one =
+abbrev pub declared_program : (Name → List ℕ) → Standing → Option DeclaredProgram
+declared_program spelled one =
     option_map
-    (λ program. record { program = program; variables = variables_of text one.above program })
+    (λ program. record { program = program; variables = variables_of (types_below spelled one.above) program })
     (program_in one.element)
 
 -- the programs of a text in order, each with its variables
 abbrev pub declared_programs : Tree → List DeclaredProgram
-declared_programs tree = filter_map (declared_program tree.text) (standing [] tree.elements)
+declared_programs tree = filter_map (declared_program (folded tree.text)) (standing [] tree.elements)

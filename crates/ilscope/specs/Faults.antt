@@ -2,16 +2,15 @@
 -- (IEC 61131-3, 2.3.3.1 and 2.4.3: a name is declared once, a type above its use, and an initial value is of the type).
 use Rattle.std.specs.Prelude.{◌≡◌, ℕ, ◌<◌, ◌≤◌, ◌<ℤ◌, List, [], ◌∷◌, map, slice_get, Option, Some, None, IsSomeAnd, ◌⊎◌}
 use Rattle.iloperators.specs.Functions.{least_of, greatest_of}
-use Rattle.ilsource.specs.Names.{SameName}
+use Rattle.ilsource.specs.Names.{folded}
 use Rattle.ilsource.specs.Programs.{Variables}
 use Rattle.ilsource.specs.Trees.{Tree, programs_of}
 use Rattle.ilsource.specs.declared.declaration.Constant.{Constant}
 use Rattle.ilsource.specs.declared.declaration.Specification.{Specification}
 use Rattle.ilsource.specs.declared.declaration.Specification.TheVariants as specifications
-use Rattle.ilsource.specs.declared.declaration.TypeDeclaration.{TypeDeclaration}
 use Rattle.ilsource.specs.declared.name.Name.{Name}
 use Rattle.ilscope.specs.Causes.{number_of}
-use Rattle.ilscope.specs.DataTypes.{data_type, type_named, value_in}
+use Rattle.ilscope.specs.DataTypes.{Types, data_type, types_below, value_in}
 use Rattle.ilscope.specs.Declarations.{standing, declarations_in, name_of, names_of}
 use Rattle.ilscope.specs.declared.data_type.DataType.{DataType}
 use Rattle.ilscope.specs.declared.fault.NameCause.{NameCause}
@@ -28,30 +27,33 @@ abbrev pub SomeLater : {X : Type 0} → (X → X → Type 0) → List X → Type
 SomeLater R [] = ⊥
 SomeLater R (x ∷ xs) = SomeOf (R x) xs ⊎ SomeLater R xs
 
--- some declaration has the property, with the types above it
-abbrev pub SomeDeclaration : (List TypeDeclaration → Variables → Type 0) → Tree → Type 0
-SomeDeclaration P tree = SomeOf (λ one. SomeOf (P one.above) (declarations_in one.element)) (standing [] tree.elements)
+-- some declaration has the property, where the names of types mean this above it
+abbrev pub SomeDeclaration : (Types → Variables → Type 0) → Tree → Type 0
+SomeDeclaration P tree =
+    SomeOf
+    (λ one. SomeOf (P (types_below (folded tree.text) one.above)) (declarations_in one.element))
+    (standing [] tree.elements)
 
--- the type's name at the place is that of no type above
-abbrev pub IsUnknownIn : List ℕ → List TypeDeclaration → ℕ → Specification → Type 0
-IsUnknownIn text above place (specifications.Named name) =
-    (¬ SomeOf (λ type. SameName text type.name name) above) × (place ≡ name.from)
-IsUnknownIn text above place _ = ⊥
+-- no type above has the name that the specification has at the place
+abbrev pub IsUnknownIn : Types → ℕ → Specification → Type 0
+IsUnknownIn types_above place (specifications.Named name) = (types_above name ≡ None) × (place ≡ name.from)
+IsUnknownIn types_above place _ = ⊥
 
 -- a declaration names, at the place, a type that is not declared above it
 abbrev pub IsUnknownType : Tree → ℕ → Type 0
 IsUnknownType tree place =
-    SomeDeclaration (λ above declaration. IsUnknownIn tree.text above place declaration.specification) tree
+    SomeDeclaration (λ types_above declaration. IsUnknownIn types_above place declaration.specification) tree
 
 -- the name at the place is spelled as one before it
-abbrev pub IsTwiceIn : List ℕ → List Name → ℕ → Type 0
-IsTwiceIn text names place = SomeLater (λ earlier later. SameName text earlier later × (place ≡ later.from)) names
+abbrev pub IsTwiceIn : (Name → List ℕ) → List Name → ℕ → Type 0
+IsTwiceIn spelled names place =
+    SomeLater (λ earlier later. (spelled earlier ≡ spelled later) × (place ≡ later.from)) names
 
 -- a type or a program, or a variable within its program, is declared again at the place
 abbrev pub IsTwice : Tree → ℕ → Type 0
 IsTwice tree place =
-    IsTwiceIn tree.text (map name_of tree.elements) place
-    ⊎ SomeOf (λ program. IsTwiceIn tree.text (names_of program) place) (programs_of tree.elements)
+    IsTwiceIn (folded tree.text) (map name_of tree.elements) place
+    ⊎ SomeOf (λ program. IsTwiceIn (folded tree.text) (names_of program) place) (programs_of tree.elements)
 
 -- a subrange that is empty, or has numbers outside its base
 abbrev pub IsBadSubrange : Specification → Type 0
@@ -65,14 +67,14 @@ IsBadInitial (Some type) (Some constant) = value_in type.value_type constant ≡
 IsBadInitial _ _ = ⊥
 
 -- the declaration has such a subrange or initial value, and its first name stands at the place
-abbrev pub IsBadIn : List ℕ → List TypeDeclaration → ℕ → Variables → Type 0
-IsBadIn text above place declaration =
+abbrev pub IsBadIn : Types → ℕ → Variables → Type 0
+IsBadIn types_above place declaration =
     (IsBadSubrange declaration.specification
-    ⊎ IsBadInitial (data_type (type_named text above) declaration.specification) declaration.initial)
+    ⊎ IsBadInitial (data_type types_above declaration.specification) declaration.initial)
     × IsSomeAnd (slice_get declaration.names 0) (λ name. place ≡ name.from)
 
 abbrev pub IsBad : Tree → ℕ → Type 0
-IsBad tree place = SomeDeclaration (λ above declaration. IsBadIn tree.text above place declaration) tree
+IsBad tree place = SomeDeclaration (λ types_above declaration. IsBadIn types_above place declaration) tree
 
 -- a fault with this cause, with its place in a declaration, stands at the place
 abbrev pub IsFaultOfDeclarations : Tree → ℕ → NameCause → Type 0

@@ -1,6 +1,18 @@
 -- What is kept under names.
-use Rattle.std.specs.Prelude.{ℕ, List}
+use Rattle.std.specs.Prelude.{ℕ, List, [], ◌∷◌, ◌++◌, Option, is_some, bytes_eq, if◌then◌else◌}
+use Rattle.std.specs.Map.{lookup}
+use Rattle.ilscope.specs.DataTypes.{Types}
+use Rattle.ilsource.specs.Names.{text_of}
+use Rattle.ilscope.specs.declared.data_type.DataType.{DataType}
 
 -- what is kept under different names, each with its letters in lower case
 abbrev pub Kept : Type 0 → Type 0
 Kept X = List (List ℕ × X)
+
+-- with this too, where the name is new
+abbrev pub with_new : {X : Type 0} → Kept X → List ℕ → X → Kept X
+with_new kept key value = if is_some (lookup (bytes_eq key) kept) then kept else kept ++ (key, value) ∷ []
+
+-- what names mean by what is kept under them, in a text with letters in lower case
+abbrev pub types_in : List ℕ → Kept (Option DataType) → Types
+types_in lower kept name = lookup (bytes_eq (text_of lower name)) kept

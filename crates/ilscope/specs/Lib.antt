@@ -6,5 +6,5 @@ pub mod Kept
 pub mod Order
 pub mod Printed
 pub mod Reports
-pub mod Scopes
+pub mod ScopeSteps
 pub mod Tables

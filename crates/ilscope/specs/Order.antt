@@ -11,4 +11,4 @@ comes_before f g = nat_lt f.at g.at || ((f.at == g.at) && nat_lt (number_of f.ca
 abbrev pub lesser_of_two : Option Found → Option Found → Option Found
 lesser_of_two one None = one
 lesser_of_two None (Some other) = Some other
-lesser_of_two (Some one) (Some other) = Some (if comes_before one other then one else other)
+lesser_of_two (Some one) (Some other) = Some (if comes_before other one then other else one)

@@ -1,8 +1,7 @@
 -- How names are looked up: a name is that of the first that is spelled alike (IEC 61131-3, 2.1.2).
-use Rattle.std.specs.Prelude.{ℕ, suc, List, [], ◌∷◌, map, Option, Some, None, Bool, option_map, if◌then◌else◌}
+use Rattle.std.specs.Prelude.{ℕ, suc, List, [], ◌∷◌, map, Option, Some, None, Bool, bytes_eq, option_map, if◌then◌else◌}
 use Rattle.std.specs.Char.{to_ascii_lowercase}
 use Rattle.ilsource.specs.declared.name.Name.{Name}
-use Rattle.ilscope.specs.DataTypes.{is_same_name}
 use Rattle.ilscope.specs.declared.variable.Variable.{Variable}
 
 -- a text with letters in lower case
@@ -14,6 +13,6 @@ abbrev pub first_at : {X : Type 0} → (X → Bool) → List X → Option ℕ
 first_at test [] = None
 first_at test (x ∷ xs) = if test x then Some 0 else option_map suc (first_at test xs)
 
--- the number of the first variable with the name
-abbrev pub variable_number : List ℕ → List Variable → Name → Option ℕ
-variable_number text variables name = first_at (λ variable. is_same_name text variable.name name) variables
+-- the number of the first variable with the name; `spelled` is how names are compared
+abbrev pub variable_number : (Name → List ℕ) → List Variable → Name → Option ℕ
+variable_number spelled variables name = first_at (λ variable. bytes_eq (spelled name) (spelled variable.name)) variables

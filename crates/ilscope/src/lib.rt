@@ -3,12 +3,17 @@
 #![tactic(auto)]
 
 mod data_type;
+mod declarations;
 mod fault;
 mod found;
+mod gathering;
 mod names;
+mod numbers;
 mod program_scope;
 mod scope;
+mod types;
 mod variable;
+mod variables;
 
 pub use fault::{NameCause, NameFault};
 pub use found::{Found, lesser_of};

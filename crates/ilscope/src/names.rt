@@ -20,8 +20,9 @@ impl<T> Model for Names<T> {
 }
 
 impl<T: Copy> Names<T> {
-    ghost use Rattle.std.specs.Prelude.{◌≡◌, [], ◌∷◌, ◌++◌, None, OnOk, bytes_eq};
+    ghost use Rattle.std.specs.Prelude.{◌≡◌, ◌↔◌, [], ◌∷◌, ◌++◌, None, OnOk, IfOk, IsNone, IsTrue, bytes_eq};
     ghost use Rattle.std.specs.Map.{lookup};
+    ghost use Rattle.ilscope.specs.Kept.{with_new};
 
     /// Nothing.
     pub(crate) fn new(alloc: Global) -> Names<T>
@@ -39,8 +40,21 @@ impl<T: Copy> Names<T> {
         self.entries.get(key).copied()
     }
 
-    /// Keeps `value` under the name `key`, which is new and in lower case.
-    pub(crate) fn add(&mut self, alloc: Global, key: &[u8], value: T) -> Result<(), AllocError>
+    /// Keeps `value` under the name `key`, which is in lower case, where it is new, and says whether it
+    /// was.
+    pub(crate) fn add(&mut self, alloc: Global, key: &[u8], value: T) -> Result<bool, AllocError>
+        ensures kept { OnOk result (self.new ≡ with_new self.old key.now value) }
+        ensures new { IfOk result (λ new. IsTrue new ↔ IsNone (lookup (bytes_eq key.now) self.old)) }
+    {
+        if self.get(key).is_some() {
+            return Ok(false);
+        }
+        self.push(alloc, key, value)?;
+        Ok(true)
+    }
+
+    /// Keeps `value` under the name `key`, which is new.
+    fn push(&mut self, alloc: Global, key: &[u8], value: T) -> Result<(), AllocError>
         requires { lookup (bytes_eq key.now) self.old ≡ None }
         ensures { OnOk result (self.new ≡ self.old ++ (key.now, value) ∷ []) }
     {

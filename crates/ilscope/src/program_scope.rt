@@ -34,6 +34,14 @@ impl<'a> ProgramScope<'a> {
     ghost use Rattle.std.specs.Prelude.{◌≡◌, All};
     ghost use Rattle.ilscope.specs.Declarations.{DeclaredProgram};
 
+    /// The program, and its variables in the order in which they are declared.
+    pub(crate) fn new(program: &'a Program, variables: Vec<Variable>) -> ProgramScope<'a>
+        ensures program { result.program ≡ program.now }
+        ensures variables { result.variables ≡ variables.items }
+    {
+        ProgramScope { program, variables }
+    }
+
     /// The program.
     pub fn program(&self) -> &'a Program
         ensures value { result.now ≡ self.now.program }

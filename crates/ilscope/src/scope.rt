@@ -3,12 +3,15 @@
 //! Neither limits nor names in instructions are looked at here: their faults are reported when names
 //! are resolved.
 
-ghost use Rattle.std.specs.Prelude.{◌≡◌};
+ghost use Rattle.std.specs.Prelude.{◌≡◌, IfOk};
 ghost use Rattle.ilscope.specs.Reports.{IsReportOf, IsReportOfOption};
+ghost use Rattle.ilscope.specs.Tables.{lowered};
 
 use crate::fault::NameFault;
-use crate::found::Found;
+use crate::found::{Found, lesser_of};
+use crate::gathering::{Gathering, element_names};
 use crate::names::Names;
+use crate::numbers::numbers_of;
 use crate::program_scope::ProgramScope;
 use binding::Binding;
 use ilsource::{Name, Place, Source};
@@ -29,7 +32,7 @@ impl<'a> Model for Scope<'a> {
     ghost use Rattle.std.specs.Coded.{codes};
     ghost use Rattle.ilsource.specs.contracts.source.Element as element;
     ghost use Rattle.ilsource.specs.Trees.{Tree};
-    ghost use Rattle.ilscope.specs.Scopes.{IsScopeOf};
+    ghost use Rattle.ilscope.specs.ScopeSteps.{IsScopeOf};
 
     ghost Value = { Tree };
 
@@ -38,18 +41,45 @@ impl<'a> Model for Scope<'a> {
     ghost view = { λ s. s.source.now };
 
     ghost invariant = { λ s. IsScopeOf
-      s.source.now s.lower.items s.programs.items s.numbers.items s.least };
+        s.source.now s.lower.items s.programs.items s.numbers.items s.least };
 }
 
 impl<'a> Scope<'a> {
     ghost use Rattle.std.specs.Prelude.{◌≡◌, ◌<◌, ◌↔◌, ℕ, IfOk, IsTrue, MatchOption, length, slice_get, Some};
-    ghost use Rattle.ilsource.specs.Names.{SameName};
+    ghost use Rattle.ilsource.specs.Names.{SameName, folded};
     ghost use Rattle.ilscope.specs.Declarations.{DeclaredProgram, declared_programs, names_of};
     ghost use Rattle.ilscope.specs.Faults.{SomeOf, IsFaultOfDeclarations, IsLeastOf};
     ghost use Rattle.ilscope.specs.Reports.{ReportsLeast};
     ghost use Rattle.ilscope.specs.Tables.{variable_number};
     ghost use Rattle.ilscope.specs.declared.fault.NameCause.{NameCause};
     ghost use Rattle.ilscope.specs.declared.fault.NameFault.{NameFault};
+
+    /// What `source` declares.
+    // Located variables will be declared by the binding's buses; so it is a part of the call.
+    pub fn of(
+        alloc: Global,
+        source: &'a Source,
+        _binding: &Binding,
+    ) -> Result<Scope<'a>, AllocError>
+        ensures { IfOk result (λ scope. scope ≡ source.now) }
+    {
+        let lower = lower_case(alloc, source.text())?;
+        let Gathering {
+            programs,
+            numbers,
+            least,
+            ..
+        } = Gathering::of(alloc, &lower, source.elements())?;
+        let names = element_names(alloc, source.elements())?;
+        let (_, twice) = numbers_of(alloc, &lower, &names)?;
+        Ok(Scope {
+            source,
+            lower,
+            programs,
+            numbers,
+            least: lesser_of(least, twice),
+        })
+    }
 
     /// The least fault that stands in a declaration; limits and names in instructions are looked at
     /// when names are resolved.
@@ -91,7 +121,7 @@ impl<'a> Scope<'a> {
     pub fn variable_number(&self, program: usize, name: Name) -> Option<usize>
         requires { program < length (declared_programs self.now) }
         ensures { (p : DeclaredProgram) → slice_get (declared_programs self.now) program ≡ Some p
-            → result ≡ variable_number self.now.text p.variables name }
+            → result ≡ variable_number (folded self.now.text) p.variables name }
     {
         self.numbers[program].get(name.text(&self.lower))
     }
@@ -127,4 +157,13 @@ fn reported(text: &[u8], least: Option<Found>) -> Option<NameFault>
         None => None,
         Some(found) => Some(report_of(text, found)),
     }
+}
+
+/// The bytes with letters in lower case.
+fn lower_case(alloc: Global, text: &[u8]) -> Result<Vec<u8>, AllocError>
+    ensures { IfOk result (λ v. v.items ≡ lowered text.now) }
+{
+    text.iter()
+        .map(|byte| byte.to_ascii_lowercase())
+        .collect(alloc)
 }

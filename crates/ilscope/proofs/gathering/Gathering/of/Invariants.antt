@@ -1,0 +1,7 @@
+use Rattle.std.proofs.Common.{take}
+use Rattle.ilscope.specs.ScopeSteps.{IsGathered}
+use Rattle.ilscope.proofs.gathering.Gathering.of.Given as goal
+
+abbrev pub invariant-loop-element : goal.invariant-loop-element
+invariant-loop-element l =
+    IsGathered l.fn.lower (take l.element-index l.fn.elements) l.gathering.types l.gathering.programs.items l.gathering.numbers.items l.gathering.least

@@ -1,0 +1,13 @@
+use Rattle.std.proofs.Common.{◌∙◌, ap, List, ℕ}
+use Rattle.std.specs.Prelude.{bytes_eq}
+use Rattle.std.specs.Map.{lookup}
+use Rattle.ilscope.specs.Kept.{Kept}
+use Rattle.ilscope.proofs.Kept.{lookup-kept}
+use Rattle.ilscope.proofs.names.Names.get.Goals as goal
+
+pub returns : goal.returns
+returns g c =
+    c.copied.ensures
+    ∙ c.get.ensures.value
+    ∙ lookup-kept (λ k. k.items) c.args.key.now c.self.inside.entries.entries
+    ∙ ap (λ kept. lookup (bytes_eq c.args.key.now) kept) c.self.view_is

@@ -1,0 +1,15 @@
+use Rattle.std.proofs.Common.{◌≡◌, ℕ, List, map, take}
+use Rattle.std.specs.Prelude.{bytes_eq}
+use Rattle.std.specs.Map.{lookup}
+use Rattle.ilsource.specs.Names.{text_of}
+use Rattle.ilscope.specs.Faults.{IsLeastOf, IsTwiceIn}
+use Rattle.ilscope.specs.ScopeSteps.{OfCause}
+use Rattle.ilscope.specs.Tables.{first_at}
+use Rattle.ilscope.specs.declared.fault.NameCause.TheVariants.{Twice}
+use Rattle.ilscope.proofs.numbers.numbers_of.Given as goal
+
+abbrev pub invariant-loop-number : goal.invariant-loop-number
+invariant-loop-number l = record {
+  numbers : (key : List ℕ) → lookup (bytes_eq key) l.numbers ≡ first_at (bytes_eq key) (map (text_of l.lower) (take l.number l.names));
+  twice : IsLeastOf (OfCause Twice (IsTwiceIn (text_of l.lower) (take l.number l.names))) l.least;
+}

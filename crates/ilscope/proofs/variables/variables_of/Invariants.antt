@@ -1,0 +1,9 @@
+use Rattle.std.proofs.Common.{◌≡◌, take}
+use Rattle.std.specs.Prelude.{flat_map}
+use Rattle.ilscope.specs.Declarations.{variables_in}
+use Rattle.ilscope.specs.Kept.{types_in}
+use Rattle.ilscope.proofs.variables.variables_of.Given as goal
+
+abbrev pub invariant-loop-declaration : goal.invariant-loop-declaration
+invariant-loop-declaration l =
+    l.variables.items ≡ flat_map (variables_in (types_in l.fn.lower l.fn.types)) (take l.declaration-index l.fn.program.declarations)

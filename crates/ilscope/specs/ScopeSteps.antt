@@ -1,0 +1,76 @@
+-- What a scope keeps of a source program, and how it is gathered from its elements.
+use Rattle.std.specs.Prelude.{◌≡◌, ◌⊎◌, ℕ, List, [], ◌∷◌, bytes_eq, Option, filter_map, ⊤}
+use Rattle.std.specs.Map.{lookup}
+use Rattle.ilsource.specs.Names.{folded, text_of}
+use Rattle.ilsource.specs.Programs.{Variables}
+use Rattle.ilsource.specs.Trees.{Tree}
+use Rattle.ilsource.specs.declared.declaration.TypeDeclaration.{TypeDeclaration}
+use Rattle.ilsource.specs.declared.name.Name.{Name}
+use Rattle.ilsource.specs.declared.source.Element.{Element}
+use Rattle.ilsource.specs.declared.source.Element.TheVariants.{DerivedType, Program}
+use Rattle.ilscope.specs.DataTypes.{Types, types_below}
+use Rattle.ilscope.specs.Declarations.{DeclaredProgram, Standing, above_next, declarations_in, declared_program, declared_programs}
+use Rattle.ilscope.specs.Declarations.{names_of, standing}
+use Rattle.ilscope.specs.Faults.{SomeOf, IsBadIn, IsFaultOfDeclarations, IsLeastOf, IsTwiceIn, IsUnknownIn}
+use Rattle.ilscope.specs.Kept.{Kept, types_in}
+use Rattle.ilscope.specs.Tables.{first_at, lowered}
+use Rattle.ilscope.specs.declared.data_type.DataType.{DataType}
+use Rattle.ilscope.specs.declared.fault.NameCause.{NameCause}
+use Rattle.ilscope.specs.declared.fault.NameCause.TheVariants.{Unknown, Twice, BadDeclaration}
+use Rattle.ilscope.specs.declared.found.Found.{Found}
+
+-- the faults of one cause, at these places
+abbrev pub OfCause : NameCause → (ℕ → Type 0) → ℕ → NameCause → Type 0
+OfCause its At place cause = (cause ≡ its) × At place
+
+-- a fault of what one declaration says
+abbrev pub IsFaultIn : Types → Variables → ℕ → NameCause → Type 0
+IsFaultIn types_above declaration place cause =
+    OfCause Unknown (λ at. IsUnknownIn types_above at declaration.specification) place cause
+    ⊎ OfCause BadDeclaration (λ at. IsBadIn types_above at declaration) place cause
+
+-- the names of the variables that an element declares
+abbrev pub names_in : Element → List Name
+names_in (DerivedType type) = []
+names_in (Program program) = names_of program
+
+-- a fault of one element apart from its own name
+abbrev pub IsFaultOfElement : (Name → List ℕ) → Standing → ℕ → NameCause → Type 0
+IsFaultOfElement spelled one place cause =
+    OfCause Twice (IsTwiceIn spelled (names_in one.element)) place cause
+    ⊎ SomeOf (λ d. IsFaultIn (types_below spelled one.above) d place cause) (declarations_in one.element)
+
+-- under each variable's name the number of the first variable with that name is kept
+abbrev pub AreNumbersOf : (Name → List ℕ) → DeclaredProgram → Kept ℕ → Type 0
+AreNumbersOf spelled program numbers =
+    (key : List ℕ) → lookup (bytes_eq key) numbers ≡ first_at (λ v. bytes_eq key (spelled v.name)) program.variables
+
+-- the same for each program
+abbrev pub AreAllNumbers : (Name → List ℕ) → List DeclaredProgram → List (Kept ℕ) → Type 0
+AreAllNumbers spelled [] [] = ⊤
+AreAllNumbers spelled (program ∷ programs) (numbers ∷ more) =
+    AreNumbersOf spelled program numbers × AreAllNumbers spelled programs more
+AreAllNumbers spelled _ _ = ⊥
+
+-- the types above what stands next below some elements
+abbrev pub above_all : List TypeDeclaration → List Element → List TypeDeclaration
+above_all above [] = above
+above_all above (element ∷ more) = above_all (above_next above element) more
+
+-- what is gathered from the elements up to a place: what the types mean, the programs with their variables, for each the
+-- numbers of these, and the least fault
+pub record IsGathered (lower : List ℕ) (front : List Element) (types : Kept (Option DataType))
+    (programs : List DeclaredProgram) (numbers : List (Kept ℕ)) (least : Option Found) : Type 0 where
+  pub meant : (name : Name) → types_in lower types name ≡ types_below (text_of lower) (above_all [] front) name
+  pub declared : programs ≡ filter_map (declared_program (text_of lower)) (standing [] front)
+  pub numbered : AreAllNumbers (text_of lower) programs numbers
+  pub fault : IsLeastOf (λ place cause. SomeOf (λ one. IsFaultOfElement (text_of lower) one place cause) (standing [] front)) least
+
+-- the parts of a scope: the text in lower case, the programs with their variables, for each the numbers of these, and the
+-- least fault of declarations
+pub record IsScopeOf (tree : Tree) (lower : List ℕ) (programs : List DeclaredProgram) (numbers : List (Kept ℕ))
+    (least : Option Found) : Type 0 where
+  pub text : lower ≡ lowered tree.text
+  pub declared : programs ≡ declared_programs tree
+  pub numbered : AreAllNumbers (folded tree.text) programs numbers
+  pub fault : IsLeastOf (IsFaultOfDeclarations tree) least

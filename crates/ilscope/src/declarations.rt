@@ -1,0 +1,114 @@
+//! Faults of declarations.
+
+ghost use Rattle.std.specs.Prelude.{◌≡◌, ◌↔◌, ℕ, IsTrue};
+ghost use Rattle.ilscope.specs.Faults.{IsBadIn, IsBadInitial, IsBadSubrange, IsLeastOf, IsUnknownIn, SomeOf};
+ghost use Rattle.ilscope.specs.Kept.{types_in};
+ghost use Rattle.ilscope.specs.ScopeSteps.{IsFaultIn, OfCause};
+ghost use Rattle.ilscope.specs.declared.fault.NameCause.TheVariants.{BadDeclaration, Unknown};
+
+use crate::data_type::{DataType, value_in};
+use crate::fault::NameCause;
+use crate::found::{Found, lesser_of};
+use crate::types::{Types, data_type, type_of_name};
+use ilsource::{Constant, Declaration, Name, Specification};
+
+/// The least fault of what some declarations say below these types. `lower` is the text in lower case.
+pub(crate) fn fault_of_all(
+    lower: &[u8],
+    types: &Types,
+    declarations: &[Declaration],
+) -> Option<Found>
+    ensures { IsLeastOf (λ place cause. SomeOf
+        (λ d. IsFaultIn (types_in lower.now types.now) d place cause) declarations.now) result }
+{
+    let mut least = None;
+    for declaration in declarations {
+        let fault = fault_of(
+            lower,
+            types,
+            declaration.names(),
+            declaration.specification(),
+            declaration.initial(),
+        );
+        least = lesser_of(least, fault);
+    }
+    least
+}
+
+/// The least fault of what a declaration says below these types.
+pub(crate) fn fault_of(
+    lower: &[u8],
+    types: &Types,
+    names: &[Name],
+    specification: Specification,
+    initial: Option<Constant>,
+) -> Option<Found>
+    ensures { IsLeastOf (IsFaultIn (types_in lower.now types.now)
+        (record { names = names.now; specification = specification; initial = initial })) result }
+{
+    lesser_of(
+        unknown_type(lower, types, specification),
+        bad_declaration(lower, types, names, specification, initial),
+    )
+}
+
+/// The fault of a type's name that no type above has.
+fn unknown_type(lower: &[u8], types: &Types, specification: Specification) -> Option<Found>
+    ensures { IsLeastOf (OfCause Unknown
+        (λ place. IsUnknownIn (types_in lower.now types.now) place specification)) result }
+{
+    let Specification::Named(name) = specification else {
+        return None;
+    };
+    if type_of_name(lower, types, name).is_some() {
+        return None;
+    }
+    Some(Found {
+        at: name.from,
+        cause: NameCause::Unknown,
+    })
+}
+
+/// The fault of a declaration with a bad subrange or a bad initial value.
+fn bad_declaration(
+    lower: &[u8],
+    types: &Types,
+    names: &[Name],
+    specification: Specification,
+    initial: Option<Constant>,
+) -> Option<Found>
+    ensures { IsLeastOf (OfCause BadDeclaration (λ place. IsBadIn (types_in lower.now types.now)
+        place (record { names = names.now; specification = specification; initial = initial })))
+        result }
+{
+    let name = names.first()?;
+    let declared = data_type(lower, types, specification);
+    if !is_bad_subrange(specification) && !is_bad_initial(declared, initial) {
+        return None;
+    }
+    Some(Found {
+        at: name.from,
+        cause: NameCause::BadDeclaration,
+    })
+}
+
+/// Whether a subrange is empty, or has numbers outside its base.
+fn is_bad_subrange(specification: Specification) -> bool
+    ensures { IsTrue result ↔ IsBadSubrange specification }
+{
+    let Specification::Subrange { base, low, high } = specification else {
+        return false;
+    };
+    let base = base.range();
+    high < low || low < base.lo || base.hi < high
+}
+
+/// Whether a type, where it has no fault itself, does not have an initial value that is written.
+fn is_bad_initial(declared: Option<DataType>, initial: Option<Constant>) -> bool
+    ensures { IsTrue result ↔ IsBadInitial declared initial }
+{
+    match (declared, initial) {
+        (Some(declared), Some(constant)) => value_in(declared.value_type, constant).is_none(),
+        _ => false,
+    }
+}

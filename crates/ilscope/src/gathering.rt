@@ -1,0 +1,114 @@
+//! What is gathered from the elements of a text, one after another.
+
+ghost use Rattle.std.specs.Prelude.{◌≡◌, ◌++◌, [], ◌∷◌, List, IfOk, OnOk, map};
+ghost use Rattle.ilsource.specs.declared.source.Element.{Element};
+ghost use Rattle.ilsource.specs.declared.source.Element.TheVariants as elements;
+ghost use Rattle.ilscope.specs.Declarations.{name_of};
+ghost use Rattle.ilscope.specs.ScopeSteps.{IsGathered};
+
+use crate::declarations::{fault_of, fault_of_all};
+use crate::found::{Found, lesser_of};
+use crate::names::Names;
+use crate::numbers::numbers_of;
+use crate::program_scope::ProgramScope;
+use crate::types::{Types, declared_type};
+use crate::variables::{names_of, variables_of};
+use ilsource::{Element, Name, Program, TypeDeclaration};
+use std::alloc::{AllocError, Global};
+
+/// What is gathered from the elements up to a place.
+#[derive(Drop)]
+pub(crate) struct Gathering<'a> {
+    pub(crate) types: Types,
+    pub(crate) programs: Vec<ProgramScope<'a>>,
+    pub(crate) numbers: Vec<Names<usize>>,
+    pub(crate) least: Option<Found>,
+}
+
+impl<'a> Gathering<'a> {
+    /// What is gathered from all elements. `lower` is the text in lower case.
+    pub(crate) fn of(
+        alloc: Global,
+        lower: &[u8],
+        elements: &'a [Element],
+    ) -> Result<Gathering<'a>, AllocError>
+        ensures { IfOk result (λ g. IsGathered
+            lower.now elements.now g.types g.programs.items g.numbers.items g.least) }
+    {
+        let mut gathering = Gathering {
+            types: Names::new(alloc),
+            programs: Vec::new(alloc),
+            numbers: Vec::new(alloc),
+            least: None,
+        };
+        for element in elements {
+            match element {
+                Element::DerivedType(declared) => gathering.add_type(alloc, lower, *declared)?,
+                Element::Program(program) => gathering.add_program(alloc, lower, program)?,
+            }
+        }
+        Ok(gathering)
+    }
+
+    /// Adds a type, the next element.
+    fn add_type(
+        &mut self,
+        alloc: Global,
+        lower: &[u8],
+        declared: TypeDeclaration,
+    ) -> Result<(), AllocError>
+        ensures { OnOk result ((front : List Element)
+            → IsGathered lower.now front
+            self.old.types self.old.programs.items self.old.numbers.items self.old.least
+            → IsGathered lower.now (front ++ elements.DerivedType declared ∷ [])
+            self.new.types self.new.programs.items self.new.numbers.items self.new.least) }
+    {
+        let TypeDeclaration {
+            name,
+            specification,
+            initial,
+        } = declared;
+        let fault = fault_of(lower, &self.types, &[name], specification, initial);
+        let meaning = declared_type(lower, &self.types, specification, initial);
+        self.types.add(alloc, name.text(lower), meaning)?;
+        self.least = lesser_of(self.least, fault);
+        Ok(())
+    }
+
+    /// Adds a program, the next element.
+    fn add_program(
+        &mut self,
+        alloc: Global,
+        lower: &[u8],
+        program: &'a Program,
+    ) -> Result<(), AllocError>
+        ensures { OnOk result ((front : List Element)
+            → IsGathered lower.now front
+            self.old.types self.old.programs.items self.old.numbers.items self.old.least
+            → IsGathered lower.now (front ++ elements.Program program.now ∷ [])
+            self.new.types self.new.programs.items self.new.numbers.items self.new.least) }
+    {
+        let variables = variables_of(alloc, lower, &self.types, program)?;
+        let names = names_of(alloc, program)?;
+        let (numbers, twice) = numbers_of(alloc, lower, &names)?;
+        let fault = fault_of_all(lower, &self.types, program.declarations());
+        self.programs.push(ProgramScope::new(program, variables))?;
+        self.numbers.push(numbers)?;
+        self.least = lesser_of(self.least, lesser_of(twice, fault));
+        Ok(())
+    }
+}
+
+/// The names of types and programs.
+pub(crate) fn element_names(alloc: Global, elements: &[Element]) -> Result<Vec<Name>, AllocError>
+    ensures { IfOk result (λ v. v.items ≡ map name_of elements.now) }
+{
+    let mut names = Vec::new(alloc);
+    for element in elements {
+        names.push(match element {
+            Element::DerivedType(declared) => declared.name,
+            Element::Program(program) => program.name(),
+        })?;
+    }
+    Ok(names)
+}

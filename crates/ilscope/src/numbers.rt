@@ -1,0 +1,60 @@
+//! Numbers of names, and names that are given again.
+
+ghost use Rattle.std.specs.Prelude.{◌≡◌, ℕ, List, IfOk, OnOk, IsSome, bytes_eq, map};
+ghost use Rattle.std.specs.Map.{lookup};
+ghost use Rattle.ilsource.specs.Names.{text_of};
+ghost use Rattle.ilscope.specs.Faults.{IsLeastOf, IsTwiceIn};
+ghost use Rattle.ilscope.specs.Kept.{with_new};
+ghost use Rattle.ilscope.specs.ScopeSteps.{OfCause};
+ghost use Rattle.ilscope.specs.Tables.{first_at};
+ghost use Rattle.ilscope.specs.declared.fault.NameCause.TheVariants.{Twice};
+
+use crate::fault::NameCause;
+use crate::found::{Found, lesser_of};
+use crate::names::Names;
+use ilsource::Name;
+use std::alloc::{AllocError, Global};
+
+/// Under each name the number of the first that is spelled alike, and the least fault of a name that
+/// is given again. `lower` is the text in lower case.
+pub(crate) fn numbers_of(
+    alloc: Global,
+    lower: &[u8],
+    names: &[Name],
+) -> Result<(Names<usize>, Option<Found>), AllocError>
+    ensures numbers { IfOk result (λ r. (key : List ℕ)
+        → lookup (bytes_eq key) r.0 ≡ first_at (bytes_eq key) (map (text_of lower.now) names.now)) }
+    ensures twice { IfOk result (λ r.
+        IsLeastOf (OfCause Twice (IsTwiceIn (text_of lower.now) names.now)) r.1) }
+{
+    let mut numbers = Names::new(alloc);
+    let mut least = None;
+    for (number, name) in names.iter().enumerate() {
+        let again = add_name(alloc, lower, &mut numbers, *name, number)?;
+        least = lesser_of(least, again);
+    }
+    Ok((numbers, least))
+}
+
+/// Adds a name with its number where it is new, and else gives its fault.
+fn add_name(
+    alloc: Global,
+    lower: &[u8],
+    numbers: &mut Names<usize>,
+    name: Name,
+    number: usize,
+) -> Result<Option<Found>, AllocError>
+    ensures numbers { OnOk result
+        (numbers.new ≡ with_new numbers.old (text_of lower.now name) number) }
+    ensures twice { IfOk result (λ again. IsLeastOf (OfCause Twice (λ place.
+        IsSome (lookup (bytes_eq (text_of lower.now name)) numbers.old) × (place ≡ name.from)))
+        again) }
+{
+    if numbers.add(alloc, name.text(lower), number)? {
+        return Ok(None);
+    }
+    Ok(Some(Found {
+        at: name.from,
+        cause: NameCause::Twice,
+    }))
+}

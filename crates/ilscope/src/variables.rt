@@ -1,0 +1,62 @@
+//! The variables of a program.
+
+ghost use Rattle.std.specs.Prelude.{◌≡◌, ◌++◌, IfOk, OnOk, map};
+ghost use Rattle.ilscope.specs.Declarations.{names_of, variable, variables_of};
+ghost use Rattle.ilscope.specs.Kept.{types_in};
+
+use crate::data_type::DataType;
+use crate::types::{Types, declared_type};
+use crate::variable::Variable;
+use ilsource::{Name, Program};
+use std::alloc::{AllocError, Global};
+
+/// A program's variables below these types, in declared order. `lower` is the text in lower case.
+pub(crate) fn variables_of(
+    alloc: Global,
+    lower: &[u8],
+    types: &Types,
+    program: &Program,
+) -> Result<Vec<Variable>, AllocError>
+    ensures { IfOk result (λ v.
+        v.items ≡ variables_of (types_in lower.now types.now) program.now) }
+{
+    let mut variables = Vec::new(alloc);
+    for declaration in program.declarations() {
+        let specification = declaration.specification();
+        let declared = declared_type(lower, types, specification, declaration.initial()).unwrap_or(
+            DataType::truth_values(),
+        );
+        add_variables(&mut variables, declared, declaration.names())?;
+    }
+    Ok(variables)
+}
+
+/// Adds the variables of one declaration.
+fn add_variables(
+    variables: &mut Vec<Variable>,
+    declared: DataType,
+    names: &[Name],
+) -> Result<(), AllocError>
+    ensures { OnOk result
+        (variables.new.items ≡ variables.old.items ++ map (variable declared) names.now) }
+{
+    for name in names {
+        variables.push(Variable {
+            name: *name,
+            value_type: declared.value_type,
+            initial: declared.initial,
+        })?;
+    }
+    Ok(())
+}
+
+/// The names of a program's variables, in declared order.
+pub(crate) fn names_of(alloc: Global, program: &Program) -> Result<Vec<Name>, AllocError>
+    ensures { IfOk result (λ v. v.items ≡ names_of program.now) }
+{
+    let mut names = Vec::new(alloc);
+    for declaration in program.declarations() {
+        names.extend_from_slice(declaration.names())?;
+    }
+    Ok(names)
+}
