@@ -1,6 +1,5 @@
-pub mod Lists
-pub mod Order
-pub mod Pass
+mod Lists
+mod Order
+mod Pass
 pub mod Refusals
-pub mod Soundness
-pub mod Words
+mod Soundness

@@ -1,68 +1,132 @@
 -- Entries that hold one another.
-use Rattle.std.proofs.Common.{◌≡◌, Bool, true, false, cond, Option, Some, None, refl, sym, subst, ◌⊎◌, inl, inr}
+use Rattle.std.proofs.Common.{◌≡◌, Bool, true, false, cond, List, [], ◌∷◌, Option, Some, None, refl, sym, ap, ◌∙◌}
+use Rattle.std.proofs.Common.{subst, arith}
+use Rattle.std.proofs.lemmas.Int.{ints}
+use Rattle.ilranges.proofs.Functions.{same_range}
+use Rattle.ilranges.proofs.OrderLaws.{known_self}
 use Rattle.std.specs.Prelude.{IsTrue}
-use Rattle.ilcode.specs.declared.instruction.Instruction.{Instruction}
-use Rattle.ilcode.specs.Listings.{Listing}
-use Rattle.ilverify.specs.declared.rules.Kind.{Kind}
-use Rattle.ilverify.specs.declared.rules.Kind.TheVariants as kinds
-use Rattle.ilverify.specs.declared.rules.Entry.{Entry}
-use Rattle.ilverify.specs.declared.rules.Cause.{Cause}
-use Rattle.ilverify.specs.declared.rules.Cause.TheVariants.{WrongType, NoResult, BadSlot}
-use Rattle.ilverify.specs.Rules.{IsNumber, IsAbsent, IsTaken, takes_result, Arises, NoneArises}
-use Rattle.ilverify.specs.Entries.{IsResultInto, IsInto, opening}
+use Rattle.std.specs.List.{AllZip}
+use Rattle.iltypes.specs.declared.range.Range.{Range}
+use Rattle.iltypes.specs.Ranges.{IsWithin}
+use Rattle.ilranges.specs.declared.known.Known.{Known}
+use Rattle.ilranges.specs.declared.known.Known.TheVariants as knowns
+use Rattle.ilranges.specs.Knowns.{IsKnownWithin}
+use Rattle.ilranges.specs.declared.entry.Entry.{Entry}
+use Rattle.ilranges.specs.declared.nesting.KnownOpened.{KnownOpened}
+use Rattle.ilranges.specs.Entries.{IsResultInto, IsOpenedInto, IsInto}
 
-into_self : (known : Option Kind) → IsResultInto known known
-into_self None = tt
-into_self (Some kind) = refl
+-- ---- lists, place by place
+
+zip_self : {A : Type 0} (R : A → A → Type 0) → ((x : A) → R x x) → (xs : List A) → AllZip R xs xs
+zip_self R each [] = tt
+zip_self R each (x ∷ xs) = (each x, zip_self R each xs)
+
+zip_trans : {A : Type 0} (R : A → A → Type 0) → ((x y z : A) → R x y → R y z → R x z) → (xs ys zs : List A)
+    → AllZip R xs ys → AllZip R ys zs → AllZip R xs zs
+zip_trans R each [] [] [] h g = tt
+zip_trans R each [] [] (z ∷ zs) h g = absurd g
+zip_trans R each [] (y ∷ ys) zs h g = absurd h
+zip_trans R each (x ∷ xs) [] zs h g = absurd h
+zip_trans R each (x ∷ xs) (y ∷ ys) [] h g = absurd g
+zip_trans R each (x ∷ xs) (y ∷ ys) (z ∷ zs) h g = (each x y z h.0 g.0, zip_trans R each xs ys zs h.1 g.1)
+
+zip_same : {A : Type 0} (R : A → A → Type 0) → ((x y : A) → R x y → R y x → x ≡ y) → (xs ys : List A)
+    → AllZip R xs ys → AllZip R ys xs → xs ≡ ys
+zip_same R each [] [] h g = refl
+zip_same R each [] (y ∷ ys) h g = absurd h
+zip_same R each (x ∷ xs) [] h g = absurd h
+zip_same R each (x ∷ xs) (y ∷ ys) h g = let p = each x y h.0 g.0 in let q = zip_same R each xs ys h.1 g.1 in cc
+
+-- ---- an entry holds itself
+
+result_self : (result : Option Known) → IsResultInto result result
+result_self None = tt
+result_self (Some known) = known_self known
+
+opened_self : (opened : KnownOpened) → IsOpenedInto opened opened
+opened_self opened = record { operator = refl; saved = known_self opened.saved }
+
+pub into_self : (entry : Entry) → IsInto entry entry
+into_self entry = record {
+  slots = zip_self IsKnownWithin known_self entry.slots;
+  result = result_self entry.result;
+  nesting = zip_self IsOpenedInto opened_self entry.nesting;
+}
+
+-- ---- what holds an entry that holds another holds that
+
+known_trans : (a b c : Known) → IsKnownWithin a b → IsKnownWithin b c → IsKnownWithin a c
+known_trans knowns.Bool knowns.Bool knowns.Bool h g = tt
+known_trans knowns.Bool knowns.Bool (knowns.Int t) h g = absurd g
+known_trans knowns.Bool (knowns.Int s) c h g = absurd h
+known_trans (knowns.Int r) knowns.Bool c h g = absurd h
+known_trans (knowns.Int r) (knowns.Int s) knowns.Bool h g = absurd g
+known_trans (knowns.Int r) (knowns.Int s) (knowns.Int t) h g =
+    record { low = omega (arith, ints); high = omega (arith, ints) }
+
+result_trans : (a b c : Option Known) → IsResultInto a b → IsResultInto b c → IsResultInto a c
+result_trans a b None h g = tt
+result_trans a None (Some z) h g = absurd g
+result_trans None (Some y) (Some z) h g = absurd h
+result_trans (Some x) (Some y) (Some z) h g = known_trans x y z h g
+
+opened_trans : (a b c : KnownOpened) → IsOpenedInto a b → IsOpenedInto b c → IsOpenedInto a c
+opened_trans a b c h g =
+    record { operator = h.operator ∙ g.operator; saved = known_trans a.saved b.saved c.saved h.saved g.saved }
+
+pub into_trans : (a b c : Entry) → IsInto a b → IsInto b c → IsInto a c
+into_trans a b c h g = record {
+  slots = zip_trans IsKnownWithin known_trans a.slots b.slots c.slots h.slots g.slots;
+  result = result_trans a.result b.result c.result h.result g.result;
+  nesting = zip_trans IsOpenedInto opened_trans a.nesting b.nesting c.nesting h.nesting g.nesting;
+}
+
+-- ---- entries that hold each other are equal
+
+within_same : (r s : Range) → IsWithin r s → IsWithin s r → r ≡ s
+within_same r s h g = same_range r s (omega (arith, ints)) (omega (arith, ints))
+
+same_known : (a b : Known) → IsKnownWithin a b → IsKnownWithin b a → a ≡ b
+same_known knowns.Bool knowns.Bool h g = refl
+same_known knowns.Bool (knowns.Int s) h g = absurd h
+same_known (knowns.Int r) knowns.Bool h g = absurd h
+same_known (knowns.Int r) (knowns.Int s) h g = ap knowns.Int (within_same r s h g)
+
+same_result : (a b : Option Known) → IsResultInto a b → IsResultInto b a → a ≡ b
+same_result None None h g = refl
+same_result None (Some y) h g = absurd h
+same_result (Some x) None h g = absurd g
+same_result (Some x) (Some y) h g = ap Some (same_known x y h g)
+
+same_opened : (a b : KnownOpened) → IsOpenedInto a b → IsOpenedInto b a → a ≡ b
+same_opened a b h g =
+    ap (λ o. record a { operator = o }) h.operator
+    ∙ ap (λ s. record b { saved = s }) (same_known a.saved b.saved h.saved g.saved)
+
+pub same_entry : (a b : Entry) → IsInto a b → IsInto b a → a ≡ b
+same_entry a b h g =
+    ap (λ s. record a { slots = s }) (zip_same IsKnownWithin same_known a.slots b.slots h.slots g.slots)
+    ∙ ap (λ r. record a { slots = b.slots; result = r }) (same_result a.result b.result h.result g.result)
+    ∙ ap (λ n. record b { nesting = n }) (zip_same IsOpenedInto same_opened a.nesting b.nesting h.nesting g.nesting)
+
+-- ---- a result that is forgotten
 
 -- what comes to a place is within what is known there
-pub into_arriving : (t : Bool) (entry : Entry) → IsInto entry (cond t opening entry)
-into_arriving true entry = record { result = tt }
-into_arriving false entry = record { result = into_self entry.result }
+pub into_forgotten : (t : Bool) (entry : Entry) → IsInto entry (cond t (record entry { result = None }) entry)
+into_forgotten true entry = let h = into_self entry in record { slots = h.slots; result = tt; nesting = h.nesting }
+into_forgotten false entry = into_self entry
 
--- it is within each entry that holds it, where at a start that entry knows nothing
-pub arriving_into : (t : Bool) (entry wider : Entry) → (IsTrue t → wider.result ≡ None) → IsInto entry wider
-    → IsInto (cond t opening entry) wider
-arriving_into true entry wider n h = record { result = subst (IsResultInto None) (sym (n refl)) tt }
-arriving_into false entry wider n h = h
+-- it is within each entry that holds it, where at a start that entry has no result
+pub forgotten_into : (t : Bool) (entry wider : Entry) → (IsTrue t → wider.result ≡ None) → IsInto entry wider
+    → IsInto (cond t (record entry { result = None }) entry) wider
+forgotten_into true entry wider n h = record {
+  slots = h.slots;
+  result = subst (IsResultInto None) (sym (n refl)) tt;
+  nesting = h.nesting;
+}
+forgotten_into false entry wider n h = h
 
-pub arriving_none : (t : Bool) (entry : Entry) → IsTrue t → (cond t opening entry).result ≡ None
-arriving_none true entry h = refl
-arriving_none false entry h = absurd (cc)
-
-pub arriving_opening : (t : Bool) → cond t opening opening ≡ opening
-arriving_opening true = refl
-arriving_opening false = refl
-
-number_into : (known wider : Option Kind) → IsResultInto known wider → IsNumber known → IsNumber wider ⊎ IsAbsent wider
-number_into known None i h = inr tt
-number_into None (Some kind) i h = absurd h
-number_into (Some kinds.Bool) (Some kind) i h = absurd h
-number_into (Some kinds.Int) (Some kind) i h = inl (subst (λ (k : Kind). IsNumber (Some k)) i h)
-
-absent_into : (known wider : Option Kind) → IsResultInto known wider → IsAbsent known → IsAbsent wider
-absent_into known None i h = tt
-absent_into None (Some kind) i h = absurd i
-absent_into (Some known) (Some kind) i h = absurd h
-
-taken_number : (t : Bool) (known wider : Option Kind) → IsResultInto known wider → IsTaken t (IsNumber known)
-    → IsTaken t (IsNumber wider) ⊎ IsTaken t (IsAbsent wider)
-taken_number true known wider i h = number_into known wider i h
-taken_number false known wider i h = absurd h
-
-taken_absent : (t : Bool) (known wider : Option Kind) → IsResultInto known wider → IsTaken t (IsAbsent known)
-    → IsTaken t (IsAbsent wider)
-taken_absent true known wider i h = absent_into known wider i h
-taken_absent false known wider i h = h
-
--- a word at which a cause arises is not lawful by any entry that holds this one
-pub unlawful : (code : Listing) (entry wider : Entry) (word : Instruction) (cause : Cause) → IsInto entry wider
-    → Arises code entry word cause
-    → NoneArises code wider word → ⊥
-unlawful code entry wider word WrongType i (inl h) l = l WrongType (inl h)
-unlawful code entry wider word WrongType i (inr h) l =
-    elim (taken_number (takes_result word) entry.result wider.result i.result h)
-    [ inl n ↦ l WrongType (inr n) | inr a ↦ l NoResult a ]
-unlawful code entry wider word NoResult i h l =
-    l NoResult (taken_absent (takes_result word) entry.result wider.result i.result h)
-unlawful code entry wider word BadSlot i h l = l BadSlot h
+pub forgotten_none : (t : Bool) (entry : Entry) → IsTrue t
+    → (cond t (record entry { result = None }) entry).result ≡ None
+forgotten_none true entry h = refl
+forgotten_none false entry h = absurd (cc)

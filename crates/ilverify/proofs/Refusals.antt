@@ -1,28 +1,19 @@
 -- A code is refused at one word at most, for one cause.
-use Rattle.std.proofs.Common.{◌≡◌, ℕ, ◌+◌, inl, inr, Option, Some, None, refl, sym, ap, ◌∙◌, subst, arith}
+use Rattle.std.proofs.Common.{◌≡◌, ℕ, ◌+◌, inl, inr, Some, sym, ap, ◌∙◌, subst, arith}
 use Rattle.std.specs.Prelude.{slice_get}
 use Rattle.std.proofs.lemmas.Bool.{cases_lt}
 use Rattle.ilcode.specs.declared.instruction.Instruction.{Instruction}
 use Rattle.ilcode.specs.Listings.{Listing}
-use Rattle.ilverify.specs.declared.rules.Kind.{Kind}
-use Rattle.ilverify.specs.declared.rules.Entry.{Entry}
-use Rattle.ilverify.specs.declared.rules.Cause.{Cause}
-use Rattle.ilverify.specs.declared.rules.Cause.TheVariants.{WrongType, NoResult, BadSlot}
+use Rattle.ilranges.specs.declared.cause.Cause.{Cause}
+use Rattle.ilranges.specs.Causes.{IsLeastCause}
+use Rattle.ilranges.specs.declared.entry.Entry.{Entry}
+use Rattle.ilranges.specs.Entries.{IsInto}
+use Rattle.ilranges.specs.Refusals.{ArisesAtWord}
 use Rattle.ilverify.specs.declared.verifier.Refusal.{Refusal}
-use Rattle.ilverify.specs.Rules.{number_of, IsLeastCause}
 use Rattle.ilverify.specs.Certificates.{Certificate, Leads, IsClosest, IsRefusal}
-use Rattle.ilverify.specs.Entries.{IsResultInto, IsInto}
+use Rattle.ilranges.proofs.OneCause.{one_cause}
+use Rattle.ilverify.proofs.Order.{same_entry}
 use Rattle.ilverify.proofs.Pass.{below}
-
-same_result : (a b : Option Kind) → IsResultInto a b → IsResultInto b a → a ≡ b
-same_result None None h g = refl
-same_result None (Some kind) h g = absurd h
-same_result (Some kind) None h g = absurd g
-same_result (Some known) (Some kind) h g = ap Some h
-
--- entries that are within each other
-same_entry : (a b : Entry) → IsInto a b → IsInto b a → a ≡ b
-same_entry a b h g = ap (λ (r : Option Kind). record a { result = r }) (same_result a.result b.result h.result g.result)
 
 -- two closest certificates reach a word with the same entry
 same_reached : (code : Listing) (c d : Certificate) (place : ℕ) (a b : Entry) → IsClosest code c place
@@ -34,29 +25,6 @@ same_reached code c d place a b h g e f =
     let wide : to.wider ≡ b = let t = to.is in cc in
     let wide' : from.wider ≡ a = let t = from.is in cc in
     same_entry a b (subst (IsInto a) wide to.into) (subst (IsInto b) wide' from.into)
-
-same_cause : (a b : Cause) → number_of a ≡ number_of b → a ≡ b
-same_cause WrongType WrongType e = refl
-same_cause WrongType NoResult e = absurd (omega (arith, e))
-same_cause WrongType BadSlot e = absurd (omega (arith, e))
-same_cause NoResult WrongType e = absurd (omega (arith, e))
-same_cause NoResult NoResult e = refl
-same_cause NoResult BadSlot e = absurd (omega (arith, e))
-same_cause BadSlot WrongType e = absurd (omega (arith, e))
-same_cause BadSlot NoResult e = absurd (omega (arith, e))
-same_cause BadSlot BadSlot e = refl
-
--- the least cause at a word
-least_cause : (code : Listing) (entry : Entry) (word : Instruction) (a b : Cause) → IsLeastCause code entry word a
-    → IsLeastCause code entry word b → a ≡ b
-least_cause code entry word a b h g =
-    elim (cases_lt (number_of a) (number_of b)) as (λ _. a ≡ b) [
-      | inl lt ↦ absurd (g.least a lt h.arises)
-      | inr ge ↦ elim (cases_lt (number_of b) (number_of a)) as (λ _. a ≡ b) [
-        | inl gt ↦ absurd (h.least b gt g.arises)
-        | inr le ↦ same_cause a b (omega (arith, ge, le))
-      ]
-    ]
 
 -- no refusal stands at a lesser word than another
 same_word : (code : Listing) (a b : Refusal) → IsRefusal code a → IsRefusal code b → a.word ≡ b.word
@@ -78,10 +46,10 @@ same_at code word line other cause its h g =
     let entry : h.entry ≡ g.entry = same_reached code h.certificate g.certificate word h.entry g.entry h.closest
     g.closest h.reached g.reached in
     let instruction : h.word ≡ g.word = let a = h.is in let b = g.is in cc in
-    let there : IsLeastCause code g.entry g.word cause =
-    subst (λ (w : Instruction). IsLeastCause code g.entry w cause) instruction
-    (subst (λ (e : Entry). IsLeastCause code e h.word cause) entry h.cause) in
-    (let a = h.line in let b = g.line in cc, least_cause code g.entry g.word cause its there g.cause)
+    let there : IsLeastCause (ArisesAtWord code word g.entry g.word) cause =
+    subst (λ (w : Instruction). IsLeastCause (ArisesAtWord code word g.entry w) cause) instruction
+    (subst (λ (e : Entry). IsLeastCause (ArisesAtWord code word e h.word) cause) entry h.cause) in
+    (let a = h.line in let b = g.line in cc, one_cause g.word code word g.entry cause its there g.cause)
 
 pub same_refusal : (code : Listing) (a b : Refusal) → IsRefusal code a → IsRefusal code b → a ≡ b
 same_refusal code a b h g =

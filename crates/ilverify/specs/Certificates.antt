@@ -4,12 +4,14 @@ use Rattle.ilcode.specs.declared.instruction.Instruction.{Instruction}
 use Rattle.ilcode.specs.Listings.{Listing}
 use Rattle.ilcode.specs.Paths.{IsNext}
 use Rattle.ilcode.specs.Steps.{is_start}
-use Rattle.ilverify.specs.declared.rules.Entry.{Entry}
+use Rattle.ilranges.specs.Causes.{number_of, IsLeastCause}
+use Rattle.ilranges.specs.declared.entry.Entry.{Entry}
+use Rattle.ilranges.specs.Entries.{IsInto, opening}
+use Rattle.ilranges.specs.Refusals.{ArisesAtWord}
+use Rattle.ilranges.specs.Rules.{IsRule}
 use Rattle.ilverify.specs.declared.verifier.Refusal.{Refusal}
 use Rattle.ilverify.specs.declared.verifier.VerifyError.{VerifyError}
 use Rattle.ilverify.specs.declared.verifier.VerifyError.TheVariants.{Memory, Refused}
-use Rattle.ilverify.specs.Entries.{IsInto, opening}
-use Rattle.ilverify.specs.Rules.{number_of, NoneArises, IsLeastCause, leaves}
 
 -- an entry for each word: none where the word is not reached
 abbrev pub Certificate : Type 0
@@ -24,14 +26,15 @@ pub record Leads (certificate : Certificate) (place : ℕ) (entry : Entry) : Typ
 -- no cause arises at the word, and what it leaves leads into the entry of each successor
 pub record IsFine (code : Listing) (certificate : Certificate) (place : ℕ) (entry : Entry) (word : Instruction)
     : Type 0 where
-  pub lawful : NoneArises code entry word
-  pub leads : (to : ℕ) → IsNext code.instructions place to → Leads certificate to (leaves entry)
+  pub after : Entry
+  pub rule : IsRule code place entry word after
+  pub leads : (to : ℕ) → IsNext code.instructions place to → Leads certificate to after
 
--- consistent at the words below a place: the first word is reached, a start has no current result, and each reached
--- word is fine
+-- consistent at the words below a place: the first word's entry holds what is known at first, a start has no current
+-- result, and each reached word is fine
 pub record IsConsistentBelow (code : Listing) (certificate : Certificate) (end : ℕ) : Type 0 where
   pub long : length certificate ≡ length code.instructions
-  pub first : 0 < length code.instructions → Leads certificate 0 opening
+  pub first : 0 < length code.instructions → Leads certificate 0 (opening code)
   pub starts : (place : ℕ) (entry : Entry) → IsTrue (is_start code place)
       → slice_get certificate place ≡ Some (Some entry) → entry.result ≡ None
   pub each : (place : ℕ) (entry : Entry) (word : Instruction) → place < end
@@ -62,7 +65,7 @@ pub record IsRefusal (code : Listing) (refusal : Refusal) : Type 0 where
   pub reached : slice_get certificate refusal.word ≡ Some (Some entry)
   pub word : Instruction
   pub is : slice_get code.instructions refusal.word ≡ Some word
-  pub cause : IsLeastCause code entry word refusal.cause
+  pub cause : IsLeastCause (ArisesAtWord code refusal.word entry word) refusal.cause
   pub line : slice_get code.lines refusal.word ≡ Some refusal.line
   pub none_further : (other : Certificate) → ¬ IsConsistentBelow code other (refusal.word + 1)
   pub uncertified : ¬ IsCertified code

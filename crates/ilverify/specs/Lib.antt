@@ -1,5 +1,4 @@
 pub mod Certificates
-pub mod Entries
+pub mod PassSteps
 pub mod Printed
-pub mod Rules
 pub mod Verdicts

@@ -4,18 +4,16 @@
 //! bound, or the [`Refusal`] with word, line and cause. Of a `Verified` no step is undefined, each
 //! run ends, and the bound is the greatest number of words on a path (`IsVerified`,
 //! specs/Verdicts.antt, to be read first). The verdict is defined by certificates
-//! (specs/Certificates.antt): an entry for each word, consistent by the rules (specs/Rules.antt).
+//! (specs/Certificates.antt): an entry for each word, consistent by the rules of `ilranges`.
 //!
 //! ```text
 //! let verified = verify(alloc, code)?;
 //! ```
 #![tactic(auto)]
 
-mod rules;
 mod verified;
 mod verifier;
 
-pub use rules::{Cause, Entry, Kind};
 pub use verified::Verified;
 pub use verifier::{Refusal, VerifyError, verify};
 
