@@ -127,7 +127,7 @@ module _ (T A : Type 0) (a : Item T A) (s : T → Type 0) (la : Lawful T A a s) 
   past : (f : List T) (t : T) (w g : List T) → g ≡ f ++ t ∷ w → (a.part (f ++ t ∷ []) → ⊥) → a.part g → ⊥
   past f t w g e never p = never (front_of_part (f ++ t ∷ []) w (subst (λ (z : List T). a.part z) (e ∙ sym (append_assoc f (t ∷ []) w)) p))
 
-  stopped_split : (ts f rest : List T) → StopsBefore a ts f rest → ts ≡ f ++ rest
+  pub stopped_split : (ts f rest : List T) → StopsBefore a ts f rest → ts ≡ f ++ rest
   stopped_split ts f [] h = h.0 ∙ sym (append-nil f)
   stopped_split ts f (t ∷ v) h = h.0
 

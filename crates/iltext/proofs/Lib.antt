@@ -1,6 +1,11 @@
+pub mod Contents
 pub mod Cut
-pub mod Flat
+pub mod DeclarationLaws
+pub mod Ends
+pub mod Extends
+pub mod InstructionLaws
 pub mod Laws
 pub mod LineEnds
 pub mod Marks
+pub mod Shallow
 pub mod Sources

@@ -5,7 +5,7 @@ use Rattle.ilgrammar.proofs.Repeats.{none_more, one_more}
 use Rattle.iltokens.specs.declared.lexed.Mark.TheVariants as marks
 use Rattle.iltext.specs.declared.token.Token.{Token}
 use Rattle.iltext.specs.Terminals.{Seen, mark_at, mark, line_ends}
-use Rattle.iltext.proofs.Laws.{Firm-line_end}
+use Rattle.iltext.proofs.Ends.{Firm-line_end}
 
 one_goes : (class : Token → Option Seen) (t : Token) (ts : List Token) → is_in (class t) ≡ true → one_read class (t ∷ ts) ≡ Ok (tt, ts)
 one_goes class t ts is = go (class t) is

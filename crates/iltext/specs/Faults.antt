@@ -1,22 +1,32 @@
 -- Faults of a text: their numbers (profile), their causes and their places.
-use Rattle.std.specs.Prelude.{◌≡◌, ℕ, List, [], ◌∷◌, length}
+use Rattle.std.specs.Prelude.{◌≡◌, ℕ, ◌+◌, ◌-◌, nat_lt, nat_le, Bool, true, false, ◌&&◌, not, if◌then◌else◌}
+use Rattle.std.specs.Prelude.{List, [], ◌∷◌, length, Option, Some, None}
+use Rattle.limits.specs.Limits.{most_nesting}
+use Rattle.iloperators.specs.Operators.{may_defer}
 use Rattle.ilsource.specs.Places.{line_at, col_at}
 use Rattle.iltokens.specs.declared.lexed.Cause.{Cause}
 use Rattle.iltokens.specs.declared.lexed.Cause.TheVariants as lexical
+use Rattle.iltokens.specs.declared.lexed.Mark.TheVariants as marks
+use Rattle.iltokens.specs.declared.lexed.What.TheVariants as whats
 use Rattle.iltext.specs.declared.fault.TextCause.{TextCause}
-use Rattle.iltext.specs.declared.fault.TextCause.TheVariants.{NotAscii, BadToken, Unexpected}
-use Rattle.iltext.specs.declared.fault.TextCause.TheVariants.{BadNumber, CommentOpen, TooLong}
+use Rattle.iltext.specs.declared.fault.TextCause.TheVariants.{NotAscii, BadToken, Unexpected, BadNumber, TooDeep}
+use Rattle.iltext.specs.declared.fault.TextCause.TheVariants.{NotNested, CommentOpen, TooLong}
 use Rattle.iltext.specs.declared.fault.TextFault.{TextFault}
 use Rattle.iltext.specs.declared.fault.TextFault.TheVariants as faults
+use Rattle.iltext.specs.declared.roles.Role.{Role}
+use Rattle.iltext.specs.declared.roles.Role.TheVariants as roles
 use Rattle.iltext.specs.declared.token.Kind.{Kind}
 use Rattle.iltext.specs.declared.token.Kind.TheVariants as kinds
 use Rattle.iltext.specs.declared.token.Token.{Token}
+use Rattle.iltext.specs.Roles.{role_of, is_inner}
 
 abbrev pub number_of_cause : TextCause → ℕ
 number_of_cause NotAscii = 2
 number_of_cause BadToken = 3
 number_of_cause Unexpected = 4
 number_of_cause BadNumber = 5
+number_of_cause TooDeep = 6
+number_of_cause NotNested = 7
 number_of_cause CommentOpen = 8
 number_of_cause TooLong = 9
 
@@ -24,27 +34,54 @@ abbrev pub number_of : TextFault → ℕ
 number_of faults.Memory = 1
 number_of (faults.At line col cause) = number_of_cause cause
 
+-- ---- parentheses of deferred operators
+
+abbrev pub is_deferrable : Option Role → Bool
+is_deferrable (Some (roles.Apply operator)) = may_defer operator
+is_deferrable _ = false
+
+-- whether the token is an operator that may be deferred
+abbrev pub defers : Kind → Bool
+defers kind = is_deferrable (role_of kind)
+
+-- how many are open after a token, where so many are open before it and such an operator stands just before it or not
+abbrev pub open_after : Bool → ℕ → Kind → ℕ
+open_after true count (kinds.Good (whats.Mark marks.Open)) = count + 1
+open_after before count (kinds.Good (whats.Mark marks.Close)) = count - 1
+open_after before count kind = count
+
+-- how many are open after tokens: `(` right after such an operator opens one, and `)` closes one, if one is open
+abbrev pub open_after_all : Bool → ℕ → List Token → ℕ
+open_after_all before count [] = count
+open_after_all before count (t ∷ ts) = open_after_all (defers t.kind) (open_after before count t.kind) ts
+
+-- ---- causes and places
+
 abbrev pub cause_of : Cause → TextCause
 cause_of lexical.NotAscii = NotAscii
 cause_of lexical.BadToken = BadToken
 cause_of lexical.BadNumber = BadNumber
 cause_of lexical.CommentOpen = CommentOpen
 
-abbrev pub cause_of_kind : Kind → TextCause
-cause_of_kind (kinds.Bad cause) = cause_of cause
-cause_of_kind _ = Unexpected
+-- the cause is what stands there, whatever was expected, where so many parentheses are open
+abbrev pub cause_of_kind : ℕ → Kind → TextCause
+cause_of_kind count (kinds.Bad cause) = cause_of cause
+cause_of_kind count (kinds.Good (whats.Mark marks.Open)) = if nat_le most_nesting count then TooDeep else Unexpected
+cause_of_kind count (kinds.Good (whats.Keyword word)) =
+    if nat_lt 0 count && not (is_inner word) then NotNested else Unexpected
+cause_of_kind count _ = Unexpected
 
--- the cause is what stands there, whatever was expected
-abbrev pub cause_at : List Token → TextCause
-cause_at [] = Unexpected
-cause_at (t ∷ ts) = cause_of_kind t.kind
+-- at the first of the tokens that are left, after those before it
+abbrev pub cause_at : List Token → List Token → TextCause
+cause_at before [] = Unexpected
+cause_at before (t ∷ ts) = cause_of_kind (open_after_all false 0 before) t.kind
 
 -- the place of the first of the tokens; the end of a text counts as a token just past its last byte
 abbrev pub place_at : List ℕ → List Token → ℕ
 place_at text [] = length text
 place_at text (t ∷ ts) = t.from
 
--- the fault is that of the first of the tokens
-abbrev pub Tells : List ℕ → List Token → TextFault → Type 0
-Tells text rest fault =
-    let at = place_at text rest in fault ≡ faults.At (line_at text at) (col_at text at) (cause_at rest)
+-- the fault is that of the first of the tokens that are left
+abbrev pub Reports : List ℕ → List Token → List Token → TextFault → Type 0
+Reports text before rest fault =
+    let at = place_at text rest in fault ≡ faults.At (line_at text at) (col_at text at) (cause_at before rest)

@@ -1,8 +1,11 @@
 pub mod Cutting
+pub mod Declarations
 pub mod Faults
-pub mod Operators
-pub mod Printed
+pub mod Instructions
+pub mod InstructionSteps
+pub mod Roles
 pub mod Parsing
 pub mod ParsingSteps
+pub mod Printed
 pub mod Terminals
 pub mod Texts

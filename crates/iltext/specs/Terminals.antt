@@ -1,6 +1,6 @@
 -- Single tokens as items of the grammar, and the line ends after them. Line ends matter only between instructions, so
 -- elsewhere each word, name or mark takes those that follow it.
-use Rattle.std.specs.Prelude.{Option, Some, None, Bool, true, false, if◌then◌else◌}
+use Rattle.std.specs.Prelude.{ℕ, ℤ, pos, Option, Some, None, Bool, true, false, if◌then◌else◌}
 use denote.Enum.Bare.{sameb}
 use Rattle.iltokens.specs.contracts.keyword.Keyword.{the_type as all_words}
 use Rattle.iltokens.specs.contracts.lexed.Mark.{the_type as all_marks}
@@ -8,8 +8,9 @@ use Rattle.ilgrammar.specs.Items.{Item, one, map, seq, many}
 use Rattle.ilsource.specs.declared.name.Name.{Name}
 use Rattle.ilsource.specs.declared.declaration.Constant.{Constant}
 use Rattle.ilsource.specs.declared.declaration.Constant.TheVariants as constants
-use Rattle.ilsource.specs.declared.instruction.Operand.{Operand}
-use Rattle.ilsource.specs.declared.instruction.Operand.TheVariants as operands
+use Rattle.iltrees.specs.declared.operand.Operand.{Operand}
+use Rattle.iltrees.specs.declared.operand.Operand.TheVariants as operands
+use Rattle.iltypes.specs.declared.value.Value.TheVariants as values
 use Rattle.iltokens.specs.declared.keyword.Keyword.{Keyword}
 use Rattle.iltokens.specs.declared.keyword.Keyword.TheVariants as words
 use Rattle.iltokens.specs.declared.lexed.Mark.{Mark}
@@ -70,19 +71,37 @@ constant_at _ = None
 unfoldable pub constant : Item Token Constant
 constant = one (λ t. constant_at t.kind)
 
-abbrev pub operand_word : Keyword → Option Operand
-operand_word words.True = Some (operands.Constant (constants.Bool true))
-operand_word words.False = Some (operands.Constant (constants.Bool false))
+abbrev pub number_at : Kind → Option ℤ
+number_at (kinds.Good (whats.Number n)) = Some n
+number_at _ = None
+
+-- a number
+unfoldable pub number : Item Token ℤ
+number = one (λ t. number_at t.kind)
+
+abbrev pub operand_word : Keyword → Option (Operand Name)
+operand_word words.True = Some (operands.Constant (values.Bool true))
+operand_word words.False = Some (operands.Constant (values.Bool false))
 operand_word _ = None
 
-abbrev pub operand_at : Kind → Token → Option Operand
+abbrev pub operand_at : Kind → Token → Option (Operand Name)
 operand_at (kinds.Good (whats.Keyword w)) t = operand_word w
-operand_at (kinds.Good whats.Name) t = Some (operands.Variable (record { from = t.from; to = t.to }))
+operand_at (kinds.Good (whats.Number n)) t = Some (operands.Constant (values.Int n))
+operand_at (kinds.Good (whats.Time n)) t = Some (operands.Constant (values.Int (pos n)))
+operand_at (kinds.Good whats.Name) t = Some (operands.Name (record { from = t.from; to = t.to }))
 operand_at _ t = None
 
--- a variable, TRUE or FALSE
-unfoldable pub operand : Item Token Operand
+-- a variable, TRUE, FALSE, a number, or a duration, which is the number of its milliseconds
+unfoldable pub operand : Item Token (Operand Name)
 operand = one (λ t. operand_at t.kind t)
+
+abbrev pub closing_at : Kind → ℕ → Option ℕ
+closing_at (kinds.Good (whats.Mark marks.Close)) at = Some at
+closing_at _ at = None
+
+-- ")", by its place
+unfoldable pub closing : Item Token ℕ
+closing = one (λ t. closing_at t.kind t.from)
 
 -- any number of line ends
 unfoldable pub line_ends : Item Token Seen
@@ -91,3 +110,11 @@ line_ends = map (λ x. tt) (many (mark marks.LineEnd))
 -- an item and the line ends after it
 abbrev pub spaced : {A : Type 0} → Item Token A → Item Token A
 spaced a = map (λ x. x.0) (seq a line_ends)
+
+-- the end of a line, and empty lines
+unfoldable pub line_break : Item Token Seen
+line_break = spaced (mark marks.LineEnd)
+
+-- an item, the end of its line, and empty lines
+abbrev pub ended : {A : Type 0} → Item Token A → Item Token A
+ended a = map (λ x. x.0) (seq a line_break)

@@ -1,26 +1,114 @@
-//! Declarations of variables (IEC 61131-3, 2.4.3).
+//! Declarations of types and of variables (IEC 61131-3, 2.3.3.1 and 2.4.3).
 
 ghost use Rattle.std.specs.Prelude.{◌≡◌, List, length};
 ghost use Rattle.ilgrammar.specs.Items.{begins};
 ghost use Rattle.ilgrammar.specs.Results.{Gives};
-ghost use Rattle.iltext.specs.Texts.{next_name, names, initial, declaration, declarations, vars};
+ghost use Rattle.iltext.specs.Declarations.{integer, simple, interval, range, specification};
+ghost use Rattle.iltext.specs.Declarations.{initial, typing, type_declaration};
+ghost use Rattle.iltext.specs.Declarations.{next_name, names, declaration, declarations, vars};
+ghost use Rattle.iltext.specs.Terminals.{spaced};
+ghost use Rattle.iltext.specs.Texts.{derived_type};
 
-use crate::reading::{spaced_constant, spaced_mark, spaced_name, spaced_word};
+use crate::reading::{
+    line_ends, spaced_constant, spaced_mark, spaced_name, spaced_number, spaced_word,
+};
 use crate::token::{Kind, Token};
 use ilgrammar::ReadError;
-use ilsource::{Constant, Declaration, Name};
+use iloperators::IntegerType;
+use ilsource::{Constant, Declaration, Name, Specification, TypeDeclaration};
 use iltokens::{Keyword, Mark, What};
 use std::alloc::Global;
 
-#[tactic(auto, unfolding(crate::specs::Texts::next_name, crate::specs::Terminals::mark))]
-fn begins_next_name(ts: &[Token]) -> bool
-    ensures { result ≡ begins next_name ts.now }
+/// SINT, INT, DINT, USINT, UINT or UDINT.
+#[tactic(auto, unfolding(crate::specs::Declarations::integer))]
+fn integer<'a>(ts: &'a [Token]) -> Result<(IntegerType, &'a [Token]), ReadError<'a, Token>>
+    ensures { Gives (λ x. (x.0, x.1.now)) result (integer.read ts.now) }
+{
+    match ts {
+        [first, rest @ ..] => {
+            let integer = match first.kind {
+                Kind::Good(What::Keyword(Keyword::Sint)) => IntegerType::Sint,
+                Kind::Good(What::Keyword(Keyword::Int)) => IntegerType::Int,
+                Kind::Good(What::Keyword(Keyword::Dint)) => IntegerType::Dint,
+                Kind::Good(What::Keyword(Keyword::Usint)) => IntegerType::Usint,
+                Kind::Good(What::Keyword(Keyword::Uint)) => IntegerType::Uint,
+                Kind::Good(What::Keyword(Keyword::Udint)) => IntegerType::Udint,
+                _ => return Err(ReadError::Fault(ts)),
+            };
+            Ok((integer, rest))
+        }
+        [] => Err(ReadError::Fault(ts)),
+    }
+}
+
+/// BOOL, TIME or the name of a type.
+#[tactic(auto, unfolding(crate::specs::Declarations::simple))]
+fn simple<'a>(ts: &'a [Token]) -> Result<(Specification, &'a [Token]), ReadError<'a, Token>>
+    ensures { Gives (λ x. (x.0, x.1.now)) result (simple.read ts.now) }
+{
+    match ts {
+        [first, rest @ ..] => {
+            let specification = match first.kind {
+                Kind::Good(What::Keyword(Keyword::Bool)) => Specification::Bool,
+                Kind::Good(What::Keyword(Keyword::Time)) => Specification::Time,
+                Kind::Good(What::Name) => Specification::Named(Name {
+                    from: first.from,
+                    to: first.to,
+                }),
+                _ => return Err(ReadError::Fault(ts)),
+            };
+            Ok((specification, rest))
+        }
+        [] => Err(ReadError::Fault(ts)),
+    }
+}
+
+/// `"(" number ".." number ")"`
+#[tactic(auto, unfolding(crate::specs::Declarations::interval))]
+fn interval<'a>(ts: &'a [Token]) -> Result<((i64, i64), &'a [Token]), ReadError<'a, Token>>
+    ensures { Gives (λ x. (x.0, x.1.now)) result (interval.read ts.now) }
+{
+    let rest = spaced_mark(ts, Mark::Open)?;
+    let (low, rest) = spaced_number(rest)?;
+    let rest = spaced_mark(rest, Mark::Range)?;
+    let (high, rest) = spaced_number(rest)?;
+    let rest = spaced_mark(rest, Mark::Close)?;
+    Ok(((low, high), rest))
+}
+
+/// An integer type, or a subrange of one.
+#[tactic(auto, unfolding(crate::specs::Declarations::range, crate::specs::Declarations::interval, crate::specs::Terminals::mark))]
+fn range<'a>(ts: &'a [Token]) -> Result<(Specification, &'a [Token]), ReadError<'a, Token>>
+    ensures { Gives (λ x. (x.0, x.1.now)) result (range.read ts.now) }
+{
+    let (base, rest) = integer(ts)?;
+    let rest = line_ends(rest);
+    match rest {
+        [
+            Token {
+                kind: Kind::Good(What::Mark(Mark::Open)),
+                ..
+            },
+            ..
+        ] => {
+            let ((low, high), rest) = interval(rest)?;
+            Ok((Specification::Subrange { base, low, high }, rest))
+        }
+        _ => Ok((Specification::Integer(base), rest)),
+    }
+}
+
+#[tactic(auto, unfolding(crate::specs::Declarations::simple))]
+fn begins_simple(ts: &[Token]) -> bool
+    ensures { result ≡ begins (spaced simple) ts.now }
 {
     matches!(
         ts,
         [
             Token {
-                kind: Kind::Good(What::Mark(Mark::Comma)),
+                kind: Kind::Good(
+                    What::Keyword(Keyword::Bool) | What::Keyword(Keyword::Time) | What::Name,
+                ),
                 ..
             },
             ..
@@ -28,37 +116,21 @@ fn begins_next_name(ts: &[Token]) -> bool
     )
 }
 
-/// `"," name`
-#[tactic(auto, unfolding(crate::specs::Texts::next_name))]
-fn next_name<'a>(ts: &'a [Token]) -> Result<(Name, &'a [Token]), ReadError<'a, Token>>
-    ensures { Gives (λ x. (x.0, x.1.now)) result (next_name.read ts.now) }
+/// The type that is written.
+#[tactic(auto, unfolding(crate::specs::Declarations::specification))]
+fn specification<'a>(ts: &'a [Token]) -> Result<(Specification, &'a [Token]), ReadError<'a, Token>>
+    ensures { Gives (λ x. (x.0, x.1.now)) result (specification.read ts.now) }
 {
-    let rest = spaced_mark(ts, Mark::Comma)?;
-    spaced_name(rest)
-}
-
-/// `name {"," name}`
-#[tactic(auto, unfolding(crate::specs::Texts::names))]
-fn names<'a>(
-    alloc: Global,
-    ts: &'a [Token],
-) -> Result<(Vec<Name>, &'a [Token]), ReadError<'a, Token>>
-    ensures { Gives (λ x. (x.0.items, x.1.now)) result (names.read ts.now) }
-{
-    let (first, rest) = spaced_name(ts)?;
-    let mut names = Vec::new(alloc);
-    names.push(first)?;
-    let mut rest = rest;
-    'more: while begins_next_name(rest) {
-        let (next, after) = next_name(rest)?;
-        names.push(next)?;
-        rest = after;
+    if begins_simple(ts) {
+        let (specification, rest) = simple(ts)?;
+        Ok((specification, line_ends(rest)))
+    } else {
+        range(ts)
     }
-    Ok((names, rest))
 }
 
 /// `[":=" constant]`
-#[tactic(auto, unfolding(crate::specs::Texts::initial, crate::specs::Terminals::mark))]
+#[tactic(auto, unfolding(crate::specs::Declarations::initial, crate::specs::Terminals::mark))]
 fn initial<'a>(ts: &'a [Token]) -> Result<(Option<Constant>, &'a [Token]), ReadError<'a, Token>>
     ensures { Gives (λ x. (x.0, x.1.now)) result (initial.read ts.now) }
 {
@@ -78,9 +150,87 @@ fn initial<'a>(ts: &'a [Token]) -> Result<(Option<Constant>, &'a [Token]), ReadE
     }
 }
 
-#[tactic(auto, unfolding(crate::specs::Texts::declaration, crate::specs::Texts::names, crate::specs::Terminals::name))]
-fn begins_declaration(ts: &[Token]) -> bool
-    ensures { result ≡ begins declaration ts.now }
+/// `":" specification [":=" constant] ";"`
+#[tactic(auto, unfolding(crate::specs::Declarations::typing))]
+fn typing<'a>(
+    ts: &'a [Token],
+) -> Result<((Specification, Option<Constant>), &'a [Token]), ReadError<'a, Token>>
+    ensures { Gives (λ x. (x.0, x.1.now)) result (typing.read ts.now) }
+{
+    let rest = spaced_mark(ts, Mark::Colon)?;
+    let (specification, rest) = specification(rest)?;
+    let (initial, rest) = initial(rest)?;
+    let rest = spaced_mark(rest, Mark::Semicolon)?;
+    Ok(((specification, initial), rest))
+}
+
+/// `name ":" specification [":=" constant] ";"`
+#[tactic(auto, unfolding(crate::specs::Declarations::type_declaration))]
+pub fn type_declaration<'a>(
+    ts: &'a [Token],
+) -> Result<(TypeDeclaration, &'a [Token]), ReadError<'a, Token>>
+    ensures { Gives (λ x. (x.0, x.1.now)) result (type_declaration.read ts.now) }
+{
+    let (name, rest) = spaced_name(ts)?;
+    let ((specification, initial), rest) = typing(rest)?;
+    let declaration = TypeDeclaration {
+        name,
+        specification,
+        initial,
+    };
+    Ok((declaration, rest))
+}
+
+#[tactic(auto, unfolding(crate::specs::Declarations::next_name, crate::specs::Terminals::mark))]
+fn begins_next_name(ts: &[Token]) -> bool
+    ensures { result ≡ begins next_name ts.now }
+{
+    matches!(
+        ts,
+        [
+            Token {
+                kind: Kind::Good(What::Mark(Mark::Comma)),
+                ..
+            },
+            ..
+        ]
+    )
+}
+
+/// `"," name`
+#[tactic(auto, unfolding(crate::specs::Declarations::next_name))]
+fn next_name<'a>(ts: &'a [Token]) -> Result<(Name, &'a [Token]), ReadError<'a, Token>>
+    ensures { Gives (λ x. (x.0, x.1.now)) result (next_name.read ts.now) }
+{
+    let rest = spaced_mark(ts, Mark::Comma)?;
+    spaced_name(rest)
+}
+
+/// `name {"," name}`
+#[tactic(auto, unfolding(crate::specs::Declarations::names))]
+fn names<'a>(
+    alloc: Global,
+    ts: &'a [Token],
+) -> Result<(Vec<Name>, &'a [Token]), ReadError<'a, Token>>
+    ensures { Gives (λ x. (x.0.items, x.1.now)) result (names.read ts.now) }
+{
+    let (first, rest) = spaced_name(ts)?;
+    let mut names = Vec::new(alloc);
+    names.push(first)?;
+    let mut rest = rest;
+    'more: while begins_next_name(rest) {
+        let (next, after) = next_name(rest)?;
+        names.push(next)?;
+        rest = after;
+    }
+    Ok((names, rest))
+}
+
+/// Whether a name stands first, with which declarations begin.
+#[tactic(auto, unfolding(crate::specs::Declarations::declaration, crate::specs::Declarations::names, crate::specs::Declarations::type_declaration, crate::specs::Texts::derived_type, crate::specs::Terminals::name))]
+pub fn begins_name(ts: &[Token]) -> bool
+    ensures variables { result ≡ begins declaration ts.now }
+    ensures types { result ≡ begins derived_type ts.now }
 {
     matches!(
         ts,
@@ -94,8 +244,8 @@ fn begins_declaration(ts: &[Token]) -> bool
     )
 }
 
-/// `name {"," name} ":" BOOL [":=" constant] ";"`
-#[tactic(auto, unfolding(crate::specs::Texts::declaration))]
+/// `name {"," name} ":" specification [":=" constant] ";"`
+#[tactic(auto, unfolding(crate::specs::Declarations::declaration))]
 fn declaration<'a>(
     alloc: Global,
     ts: &'a [Token],
@@ -103,13 +253,11 @@ fn declaration<'a>(
     ensures { Gives (λ x. (x.0, x.1.now)) result (declaration.read ts.now) }
 {
     let (names, rest) = names(alloc, ts)?;
-    let rest = spaced_mark(rest, Mark::Colon)?;
-    let rest = spaced_word(rest, Keyword::Bool)?;
-    let (initial, rest) = initial(rest)?;
-    let rest = spaced_mark(rest, Mark::Semicolon)?;
-    Ok((Declaration::new(names, initial), rest))
+    let ((specification, initial), rest) = typing(rest)?;
+    Ok((Declaration::new(names, specification, initial), rest))
 }
 
+/// `{declaration}`
 fn declarations<'a>(
     alloc: Global,
     ts: &'a [Token],
@@ -118,7 +266,7 @@ fn declarations<'a>(
 {
     let mut all = Vec::new(alloc);
     let mut rest = ts;
-    'all: while begins_declaration(rest) {
+    'all: while begins_name(rest) {
         let (one, after) = declaration(alloc, rest)?;
         all.push(one)?;
         rest = after;
@@ -127,7 +275,7 @@ fn declarations<'a>(
 }
 
 /// `VAR {declaration} END_VAR`
-#[tactic(auto, unfolding(crate::specs::Texts::vars))]
+#[tactic(auto, unfolding(crate::specs::Declarations::vars))]
 pub fn vars<'a>(
     alloc: Global,
     ts: &'a [Token],

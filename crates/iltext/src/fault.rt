@@ -1,11 +1,15 @@
 //! Why a text was refused.
 
-ghost use Rattle.std.specs.Prelude.{◌≡◌, ◌≤◌, length, Some};
-ghost use Rattle.iltext.specs.Faults.{number_of, number_of_cause, cause_at, place_at, Tells};
+ghost use Rattle.std.specs.Prelude.{◌≡◌, ◌≤◌, length, false, Some};
+ghost use Rattle.iltext.specs.Faults.{number_of, number_of_cause, cause_of_kind, cause_at};
+ghost use Rattle.iltext.specs.Faults.{is_deferrable, defers, open_after, open_after_all};
+ghost use Rattle.iltext.specs.Faults.{place_at, Reports};
 
+use crate::roles::{Role, is_inner, role_of};
 use crate::token::{Kind, Token};
 use ilsource::Place;
-use iltokens::Cause;
+use iltokens::{Cause, Mark, What};
+use limits::MOST_NESTING;
 use std::fmt;
 use thiserror::Error;
 
@@ -20,6 +24,10 @@ pub enum TextCause {
     Unexpected,
     /// A number or time outside its limit.
     BadNumber,
+    /// A `(` where 32 parentheses of operators are open.
+    TooDeep,
+    /// A reserved word that stands only outside parentheses.
+    NotNested,
     /// A comment without end.
     CommentOpen,
     /// A text of more than 1,048,576 bytes.
@@ -36,6 +44,8 @@ impl TextCause {
             TextCause::BadToken => 3,
             TextCause::Unexpected => 4,
             TextCause::BadNumber => 5,
+            TextCause::TooDeep => 6,
+            TextCause::NotNested => 7,
             TextCause::CommentOpen => 8,
             TextCause::TooLong => 9,
         }
@@ -82,9 +92,40 @@ impl TextFault {
     }
 }
 
-/// What stands at the first of these tokens.
-fn cause_at(rest: &[Token]) -> TextCause
-    ensures { result ≡ cause_at rest.now }
+/// Whether a token is an operator that may be deferred.
+fn defers(kind: Kind) -> bool
+    ensures { result ≡ defers kind }
+{
+    match role_of(kind) {
+        Some(Role::Apply(operator)) => operator.may_defer(),
+        _ => false,
+    }
+}
+
+/// How many parentheses of operators are open after these tokens.
+fn open_after(before: &[Token]) -> usize
+    ensures { result ≡ open_after_all false 0 before.now }
+{
+    let mut count: usize = 0;
+    let mut deferred = false;
+    'tokens: for token in before {
+        match token.kind {
+            Kind::Good(What::Mark(Mark::Open)) => {
+                if deferred {
+                    count += 1;
+                }
+            }
+            Kind::Good(What::Mark(Mark::Close)) => count = count.saturating_sub(1),
+            _ => {}
+        }
+        deferred = defers(token.kind);
+    }
+    count
+}
+
+/// What stands at the first of the tokens that are left, after those before it.
+fn cause_at(before: &[Token], rest: &[Token]) -> TextCause
+    ensures { result ≡ cause_at before.now rest.now }
 {
     match rest {
         [] => TextCause::Unexpected,
@@ -93,6 +134,20 @@ fn cause_at(rest: &[Token]) -> TextCause
             Kind::Bad(Cause::BadToken) => TextCause::BadToken,
             Kind::Bad(Cause::BadNumber) => TextCause::BadNumber,
             Kind::Bad(Cause::CommentOpen) => TextCause::CommentOpen,
+            Kind::Good(What::Mark(Mark::Open)) => {
+                if open_after(before) >= MOST_NESTING {
+                    TextCause::TooDeep
+                } else {
+                    TextCause::Unexpected
+                }
+            }
+            Kind::Good(What::Keyword(word)) => {
+                if open_after(before) > 0 && !is_inner(word) {
+                    TextCause::NotNested
+                } else {
+                    TextCause::Unexpected
+                }
+            }
             _ => TextCause::Unexpected,
         },
     }
@@ -109,15 +164,15 @@ fn place_at(text: &[u8], rest: &[Token]) -> usize
     }
 }
 
-/// The fault at the first of the tokens that are left.
-pub fn fault_at(text: &[u8], rest: &[Token]) -> TextFault
+/// The fault at the first of the tokens that are left, after those before it.
+pub fn fault_at(text: &[u8], before: &[Token], rest: &[Token]) -> TextFault
     requires { place_at text.now rest.now ≤ length text.now }
-    ensures { Tells text.now rest.now result }
+    ensures { Reports text.now before.now rest.now result }
 {
     let place = Place::of(text, place_at(text, rest));
     TextFault::At {
         line: place.line,
         col: place.col,
-        cause: cause_at(rest),
+        cause: cause_at(before, rest),
     }
 }

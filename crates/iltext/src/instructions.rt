@@ -3,170 +3,159 @@
 ghost use Rattle.std.specs.Prelude.{◌≡◌, List, length};
 ghost use Rattle.ilgrammar.specs.Items.{begins};
 ghost use Rattle.ilgrammar.specs.Results.{Gives};
-ghost use Rattle.iltext.specs.Operators.{class_of_word, class_of, taken, written};
-ghost use Rattle.iltext.specs.Texts.{instruction, line, lines};
+ghost use Rattle.iltext.specs.Instructions.{line_of, applied, on_content, content, operands};
+ghost use Rattle.iltext.specs.Instructions.{instruction, line, lines};
 
-use crate::reading::{line_ends, mark, name, operand};
-use crate::token::{Kind, Token};
+use crate::parentheses::{bounds, content, may_open};
+use crate::reading::{closing, line_break, mark, name, operand};
+use crate::roles::{Role, role_of};
+use crate::token::Token;
 use ilgrammar::ReadError;
-use ilsource::{Instruction, Line, Name, Operand};
-use iltokens::{Keyword, Mark, What};
-use iltypes::BooleanOperator;
+use iloperators::Operator;
+use ilsource::Name;
+use iltokens::Mark;
+use iltrees::{Instruction, Line, Nested};
+use limits::MOST_NESTING;
 use std::alloc::Global;
 
-/// An operator that takes an operand.
-#[derive(Clone, Copy, PartialEq, Eq, Debug)]
-pub enum Taker {
-    /// LD, LDN
-    Load(bool),
-    /// AND, OR, XOR and their negated forms
-    Apply(BooleanOperator, bool),
-}
-
-/// An operator that writes a variable.
-#[derive(Clone, Copy, PartialEq, Eq, Debug)]
-pub enum Writer {
-    /// ST, STN
-    Store(bool),
-    Set,
-    Reset,
-}
-
-/// What a token does as an operator.
-#[derive(Clone, Copy, PartialEq, Eq, Debug)]
-pub enum Class {
-    Takes(Taker),
-    Writes(Writer),
-    Not,
-    Other,
-}
-
-fn class_of_word(word: Keyword) -> Class
-    ensures { result ≡ class_of_word word }
+/// An instruction at the place of its operator.
+fn line_of(at: usize, instruction: Instruction<Name, Name>) -> Line<Name, Name>
+    ensures { result ≡ line_of at instruction }
 {
-    match word {
-        Keyword::Ld => Class::Takes(Taker::Load(false)),
-        Keyword::Ldn => Class::Takes(Taker::Load(true)),
-        Keyword::And => Class::Takes(Taker::Apply(BooleanOperator::And, false)),
-        Keyword::Andn => Class::Takes(Taker::Apply(BooleanOperator::And, true)),
-        Keyword::Or => Class::Takes(Taker::Apply(BooleanOperator::Or, false)),
-        Keyword::Orn => Class::Takes(Taker::Apply(BooleanOperator::Or, true)),
-        Keyword::Xor => Class::Takes(Taker::Apply(BooleanOperator::Xor, false)),
-        Keyword::Xorn => Class::Takes(Taker::Apply(BooleanOperator::Xor, true)),
-        Keyword::St => Class::Writes(Writer::Store(false)),
-        Keyword::Stn => Class::Writes(Writer::Store(true)),
-        Keyword::S => Class::Writes(Writer::Set),
-        Keyword::R => Class::Writes(Writer::Reset),
-        Keyword::Not => Class::Not,
-        _ => Class::Other,
+    Line {
+        at,
+        label: None,
+        instruction: Some(instruction),
     }
 }
 
-pub fn class_of(kind: Kind) -> Class
-    ensures { result ≡ class_of kind }
+/// `"(" content ")"`, after an operator.
+#[tactic(auto, unfolding(crate::specs::Instructions::on_content))]
+fn on_content<'a>(
+    alloc: Global,
+    operator: Operator,
+    at: usize,
+    ts: &'a [Token],
+) -> Result<(Line<Name, Name>, &'a [Token]), ReadError<'a, Token>>
+    ensures { Gives (λ x. (x.0, x.1.now)) result ((on_content (content 31) operator at).read ts.now) }
 {
-    match kind {
-        Kind::Good(What::Keyword(word)) => class_of_word(word),
-        Kind::Good(What::Mark(Mark::Ampersand)) => Class::Takes(Taker::Apply(
-            BooleanOperator::And,
-            false,
-        )),
-        Kind::Good(What::Mark(Mark::AmpersandNot)) => Class::Takes(Taker::Apply(
-            BooleanOperator::And,
-            true,
-        )),
-        _ => Class::Other,
+    let rest = mark(ts, Mark::Open)?;
+    let mut pieces = Vec::new(alloc);
+    let rest = content(MOST_NESTING - 1, at, &mut pieces, rest)?;
+    let (close, rest) = closing(rest)?;
+    let nested = Nested::new(pieces);
+    let instruction = Instruction::Deferred {
+        operator,
+        nested,
+        close,
+    };
+    Ok((line_of(at, instruction), rest))
+}
+
+/// What an operator is applied to: an operand, or parentheses.
+fn applied<'a>(
+    alloc: Global,
+    operator: Operator,
+    at: usize,
+    ts: &'a [Token],
+) -> Result<(Line<Name, Name>, &'a [Token]), ReadError<'a, Token>>
+    ensures { Gives (λ x. (x.0, x.1.now)) result ((applied 32 operator at).read ts.now) }
+{
+    if may_open(MOST_NESTING, operator, ts) {
+        on_content(alloc, operator, at, ts)
+    } else {
+        let (operand, rest) = operand(ts)?;
+        Ok((line_of(at, Instruction::Apply(operator, operand)), rest))
     }
 }
 
-fn taken(taker: Taker, operand: Operand) -> Instruction
-    ensures { result ≡ taken taker operand }
+/// What follows an operator at a place.
+fn operands<'a>(
+    alloc: Global,
+    role: Role,
+    at: usize,
+    ts: &'a [Token],
+) -> Result<(Line<Name, Name>, &'a [Token]), ReadError<'a, Token>>
+    ensures { Gives (λ x. (x.0, x.1.now)) result ((operands (applied 32) role at).read ts.now) }
 {
-    match taker {
-        Taker::Load(negated) => Instruction::Load { negated, operand },
-        Taker::Apply(operator, negated) => Instruction::Apply {
-            operator,
-            negated,
-            operand,
-        },
-    }
+    let (instruction, rest) = match role {
+        Role::Load { negated } => {
+            let (operand, rest) = operand(ts)?;
+            (Instruction::Load { negated, operand }, rest)
+        }
+        Role::Apply(operator) => return applied(alloc, operator, at, ts),
+        Role::Transform(function) => (Instruction::Transform(function), ts),
+        Role::Limit => {
+            let ((low, high), rest) = bounds(ts)?;
+            (Instruction::Limit { low, high }, rest)
+        }
+        Role::Store { negated } => {
+            let (variable, rest) = name(ts)?;
+            (Instruction::Store { negated, variable }, rest)
+        }
+        Role::Set => {
+            let (variable, rest) = name(ts)?;
+            (Instruction::Set(variable), rest)
+        }
+        Role::Reset => {
+            let (variable, rest) = name(ts)?;
+            (Instruction::Reset(variable), rest)
+        }
+    };
+    Ok((line_of(at, instruction), rest))
 }
 
-fn written(writer: Writer, variable: Name) -> Instruction
-    ensures { result ≡ written writer variable }
-{
-    match writer {
-        Writer::Store(negated) => Instruction::Store { negated, variable },
-        Writer::Set => Instruction::Set(variable),
-        Writer::Reset => Instruction::Reset(variable),
-    }
-}
-
-/// An operator with what it takes or writes, and the operator's place.
-#[tactic(auto, unfolding(crate::specs::Texts::instruction))]
-fn instruction<'a>(ts: &'a [Token]) -> Result<(Line, &'a [Token]), ReadError<'a, Token>>
+/// An operator and what follows it.
+#[tactic(auto, unfolding(crate::specs::Instructions::instruction))]
+fn instruction<'a>(
+    alloc: Global,
+    ts: &'a [Token],
+) -> Result<(Line<Name, Name>, &'a [Token]), ReadError<'a, Token>>
     ensures { Gives (λ x. (x.0, x.1.now)) result (instruction.read ts.now) }
 {
     match ts {
-        [first, rest @ ..] => {
-            let at = first.from;
-            match class_of(first.kind) {
-                Class::Takes(taker) => {
-                    let (operand, rest) = operand(rest)?;
-                    let instruction = taken(taker, operand);
-                    Ok((Line { at, instruction }, rest))
-                }
-                Class::Writes(writer) => {
-                    let (variable, rest) = name(rest)?;
-                    let instruction = written(writer, variable);
-                    Ok((Line { at, instruction }, rest))
-                }
-                Class::Not => {
-                    let instruction = Instruction::Not;
-                    Ok((Line { at, instruction }, rest))
-                }
-                Class::Other => Err(ReadError::Fault(ts)),
-            }
-        }
+        [first, rest @ ..] => match role_of(first.kind) {
+            Some(role) => operands(alloc, role, first.from, rest),
+            None => Err(ReadError::Fault(ts)),
+        },
         [] => Err(ReadError::Fault(ts)),
     }
 }
 
 /// An instruction, its line end, and the empty lines after it.
-#[tactic(auto, unfolding(crate::specs::Texts::line))]
-fn line<'a>(ts: &'a [Token]) -> Result<(Line, &'a [Token]), ReadError<'a, Token>>
+#[tactic(auto, unfolding(crate::specs::Instructions::line))]
+fn line<'a>(
+    alloc: Global,
+    ts: &'a [Token],
+) -> Result<(Line<Name, Name>, &'a [Token]), ReadError<'a, Token>>
     ensures { Gives (λ x. (x.0, x.1.now)) result (line.read ts.now) }
 {
-    let (line, rest) = instruction(ts)?;
-    let rest = mark(rest, Mark::LineEnd)?;
-    Ok((line, line_ends(rest)))
+    let (line, rest) = instruction(alloc, ts)?;
+    let rest = line_break(rest)?;
+    Ok((line, rest))
 }
 
-#[tactic(auto, unfolding(crate::specs::Texts::line, crate::specs::Texts::instruction))]
+#[tactic(auto, unfolding(crate::specs::Instructions::line, crate::specs::Instructions::instruction))]
 fn begins_line(ts: &[Token]) -> bool
     ensures { result ≡ begins line ts.now }
 {
     match ts {
         [] => false,
-        [first, ..] => match class_of(first.kind) {
-            Class::Takes(_) => true,
-            Class::Writes(_) => true,
-            Class::Not => true,
-            Class::Other => false,
-        },
+        [first, ..] => role_of(first.kind).is_some(),
     }
 }
 
+/// `{line}`
 pub fn lines<'a>(
     alloc: Global,
     ts: &'a [Token],
-) -> Result<(Vec<Line>, &'a [Token]), ReadError<'a, Token>>
+) -> Result<(Vec<Line<Name, Name>>, &'a [Token]), ReadError<'a, Token>>
     ensures { Gives (λ x. (x.0.items, x.1.now)) result (lines.read ts.now) }
 {
     let mut all = Vec::new(alloc);
     let mut rest = ts;
     'all: while begins_line(rest) {
-        let (one, after) = line(rest)?;
+        let (one, after) = line(alloc, rest)?;
         all.push(one)?;
         rest = after;
     }

@@ -3,8 +3,8 @@
 //! What crosses the boundary: [`parse`], which gives a [`Source`] exactly where the bytes spell it,
 //! or a [`TextFault`] with line, column and cause. Read specs/Parsing.antt first: a text's tokens
 //! (specs/Cutting.antt) are those of `iltokens`; the grammar is a set of items over them
-//! (specs/Texts.antt), whose reading is exact by the laws of `ilgrammar`; a fault stands at the first
-//! token that goes on as no text. For tests, src/plain.rt has a table of which token goes on where.
+//! (specs/Texts.antt, Declarations.antt and Instructions.antt), whose reading is exact by the laws of
+//! `ilgrammar`; a fault stands at the first token that goes on as no text (specs/Faults.antt).
 
 #![tactic(auto)]
 
@@ -12,16 +12,13 @@ mod cutting;
 mod declarations;
 mod fault;
 mod instructions;
+mod parentheses;
 mod parser;
-#[cfg(test)]
-mod plain;
 mod programs;
 mod reading;
+mod roles;
 mod token;
 
 pub use fault::{TextCause, TextFault};
 pub use ilsource::Source;
 pub use parser::parse;
-
-#[cfg(test)]
-mod tests;

@@ -11,7 +11,7 @@ use crate::fault::{TextCause, TextFault, fault_at};
 use crate::programs::whole_text;
 use crate::token::Token;
 use ilgrammar::ReadError;
-use ilsource::{Program, Source};
+use ilsource::{Element, Source};
 use limits::is_too_long;
 use std::alloc::Global;
 
@@ -52,18 +52,21 @@ fn parse_tokens(alloc: Global, text: &[u8], ts: &[Token]) -> Result<Source, Text
     ensures { IsParsed text.now ts.now result }
 {
     match whole_text(alloc, ts) {
-        Ok(programs) => with_text(alloc, text, programs),
+        Ok(elements) => with_text(alloc, text, elements),
         Err(ReadError::Memory) => Err(TextFault::Memory),
-        Err(ReadError::Fault(rest)) => Err(fault_at(text, rest)),
+        Err(ReadError::Fault(rest)) => {
+            let (before, _) = ts.split_at(ts.len() - rest.len());
+            Err(fault_at(text, before, rest))
+        }
     }
 }
 
-/// The source program of these programs.
-fn with_text(alloc: Global, text: &[u8], programs: Vec<Program>) -> Result<Source, TextFault>
-    ensures { IsSourceOf text.now programs.items result }
+/// The source program of these types and programs.
+fn with_text(alloc: Global, text: &[u8], elements: Vec<Element>) -> Result<Source, TextFault>
+    ensures { IsSourceOf text.now elements.items result }
 {
     match Vec::from_slice(alloc, text) {
-        Ok(bytes) => Ok(Source::new(bytes, programs)),
+        Ok(bytes) => Ok(Source::new(bytes, elements)),
         Err(_) => Err(TextFault::Memory),
     }
 }

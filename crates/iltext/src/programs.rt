@@ -1,21 +1,23 @@
-//! Programs and whole texts.
+//! Programs, TYPE blocks and whole texts.
 
-ghost use Rattle.std.specs.Prelude.{◌≡◌, List, length, map, IfOk};
+ghost use Rattle.std.specs.Prelude.{◌≡◌, List, length};
 ghost use Rattle.ilgrammar.specs.Items.{begins};
 ghost use Rattle.ilgrammar.specs.Stops.{whole_read};
 ghost use Rattle.ilgrammar.specs.Results.{Gives};
-ghost use Rattle.iltext.specs.Texts.{vars, blocks, program, programs, text, flat};
+ghost use Rattle.iltext.specs.Declarations.{vars};
+ghost use Rattle.iltext.specs.Texts.{blocks, program, derived_type, derived_types};
+ghost use Rattle.iltext.specs.Texts.{types, unit, units, text};
 
-use crate::declarations::vars;
+use crate::declarations::{begins_name, type_declaration, vars};
 use crate::instructions::lines;
 use crate::reading::{line_ends, spaced_name, spaced_word};
 use crate::token::{Kind, Token};
 use ilgrammar::ReadError;
-use ilsource::{Declaration, Program};
+use ilsource::{Declaration, Element, Program};
 use iltokens::{Keyword, What};
-use std::alloc::{AllocError, Global};
+use std::alloc::Global;
 
-#[tactic(auto, unfolding(crate::specs::Texts::vars, crate::specs::Terminals::word))]
+#[tactic(auto, unfolding(crate::specs::Declarations::vars, crate::specs::Terminals::word))]
 fn begins_vars(ts: &[Token]) -> bool
     ensures { result ≡ begins vars ts.now }
 {
@@ -31,45 +33,19 @@ fn begins_vars(ts: &[Token]) -> bool
     )
 }
 
-#[tactic(auto, unfolding(crate::specs::Texts::program, crate::specs::Terminals::word))]
-fn begins_program(ts: &[Token]) -> bool
-    ensures { result ≡ begins program ts.now }
-{
-    matches!(
-        ts,
-        [
-            Token {
-                kind: Kind::Good(What::Keyword(Keyword::Program)),
-                ..
-            },
-            ..
-        ]
-    )
-}
-
-/// The declarations of all blocks in one list.
-fn joined(alloc: Global, blocks: Vec<Vec<Declaration>>) -> Result<Vec<Declaration>, AllocError>
-    ensures { IfOk result (λ v. v.items ≡ flat (map (λ b. b.items) blocks.items)) }
-{
-    let mut all = Vec::new(alloc);
-    'each: for block in blocks {
-        let mut block = block;
-        all.append(&mut block)?;
-    }
-    Ok(all)
-}
-
+/// `{vars}`, as one list.
 fn blocks<'a>(
     alloc: Global,
     ts: &'a [Token],
-) -> Result<(Vec<Vec<Declaration>>, &'a [Token]), ReadError<'a, Token>>
-    ensures { Gives (λ x. (map (λ b. b.items) x.0.items, x.1.now)) result (blocks.read ts.now) }
+) -> Result<(Vec<Declaration>, &'a [Token]), ReadError<'a, Token>>
+    ensures { Gives (λ x. (x.0.items, x.1.now)) result (blocks.read ts.now) }
 {
     let mut all = Vec::new(alloc);
     let mut rest = ts;
     'all: while begins_vars(rest) {
         let (one, after) = vars(alloc, rest)?;
-        all.push(one)?;
+        let mut one = one;
+        all.append(&mut one)?;
         rest = after;
     }
     Ok((all, rest))
@@ -85,38 +61,129 @@ fn program<'a>(
 {
     let rest = spaced_word(ts, Keyword::Program)?;
     let (name, rest) = spaced_name(rest)?;
-    let (blocks, rest) = blocks(alloc, rest)?;
+    let (declarations, rest) = blocks(alloc, rest)?;
     let (lines, rest) = lines(alloc, rest)?;
     let rest = spaced_word(rest, Keyword::EndProgram)?;
-    let declarations = joined(alloc, blocks)?;
     Ok((Program::new(name, declarations, lines), rest))
 }
 
-fn programs<'a>(
+/// A type declaration, as an element of the text.
+#[tactic(auto, unfolding(crate::specs::Texts::derived_type))]
+fn derived_type<'a>(ts: &'a [Token]) -> Result<(Element, &'a [Token]), ReadError<'a, Token>>
+    ensures { Gives (λ x. (x.0, x.1.now)) result (derived_type.read ts.now) }
+{
+    let (declaration, rest) = type_declaration(ts)?;
+    Ok((Element::DerivedType(declaration), rest))
+}
+
+/// `{type_declaration}`
+fn derived_types<'a>(
     alloc: Global,
     ts: &'a [Token],
-) -> Result<(Vec<Program>, &'a [Token]), ReadError<'a, Token>>
-    ensures { Gives (λ x. (x.0.items, x.1.now)) result (programs.read ts.now) }
+) -> Result<(Vec<Element>, &'a [Token]), ReadError<'a, Token>>
+    ensures { Gives (λ x. (x.0.items, x.1.now)) result (derived_types.read ts.now) }
 {
     let mut all = Vec::new(alloc);
     let mut rest = ts;
-    'all: while begins_program(rest) {
-        let (one, after) = program(alloc, rest)?;
+    'all: while begins_name(rest) {
+        let (one, after) = derived_type(rest)?;
         all.push(one)?;
         rest = after;
     }
     Ok((all, rest))
 }
 
-/// The programs that the tokens spell.
+/// `TYPE {type_declaration} END_TYPE`
+#[tactic(auto, unfolding(crate::specs::Texts::types))]
+fn types<'a>(
+    alloc: Global,
+    ts: &'a [Token],
+) -> Result<(Vec<Element>, &'a [Token]), ReadError<'a, Token>>
+    ensures { Gives (λ x. (x.0.items, x.1.now)) result (types.read ts.now) }
+{
+    let rest = spaced_word(ts, Keyword::Type)?;
+    let (all, rest) = derived_types(alloc, rest)?;
+    let rest = spaced_word(rest, Keyword::EndType)?;
+    Ok((all, rest))
+}
+
+#[tactic(auto, unfolding(crate::specs::Texts::types, crate::specs::Terminals::word))]
+fn begins_types(ts: &[Token]) -> bool
+    ensures { result ≡ begins types ts.now }
+{
+    matches!(
+        ts,
+        [
+            Token {
+                kind: Kind::Good(What::Keyword(Keyword::Type)),
+                ..
+            },
+            ..
+        ]
+    )
+}
+
+/// A TYPE block or a program.
+#[tactic(auto, unfolding(crate::specs::Texts::unit))]
+fn unit<'a>(
+    alloc: Global,
+    ts: &'a [Token],
+) -> Result<(Vec<Element>, &'a [Token]), ReadError<'a, Token>>
+    ensures { Gives (λ x. (x.0.items, x.1.now)) result (unit.read ts.now) }
+{
+    if begins_types(ts) {
+        types(alloc, ts)
+    } else {
+        let (program, rest) = program(alloc, ts)?;
+        let mut all = Vec::new(alloc);
+        all.push(Element::Program(program))?;
+        Ok((all, rest))
+    }
+}
+
+#[tactic(auto, unfolding(crate::specs::Texts::unit, crate::specs::Texts::types, crate::specs::Texts::program, crate::specs::Terminals::word))]
+fn begins_unit(ts: &[Token]) -> bool
+    ensures { result ≡ begins unit ts.now }
+{
+    matches!(
+        ts,
+        [
+            Token {
+                kind: Kind::Good(What::Keyword(Keyword::Type) | What::Keyword(Keyword::Program)),
+                ..
+            },
+            ..
+        ]
+    )
+}
+
+/// `{unit}`, as one list.
+fn units<'a>(
+    alloc: Global,
+    ts: &'a [Token],
+) -> Result<(Vec<Element>, &'a [Token]), ReadError<'a, Token>>
+    ensures { Gives (λ x. (x.0.items, x.1.now)) result (units.read ts.now) }
+{
+    let mut all = Vec::new(alloc);
+    let mut rest = ts;
+    'all: while begins_unit(rest) {
+        let (one, after) = unit(alloc, rest)?;
+        let mut one = one;
+        all.append(&mut one)?;
+        rest = after;
+    }
+    Ok((all, rest))
+}
+
+/// The types and programs that the tokens spell.
 #[tactic(auto, unfolding(crate::specs::Texts::text))]
-pub fn whole_text<'a>(alloc: Global, ts: &'a [Token]) -> Result<Vec<Program>, ReadError<'a, Token>>
+pub fn whole_text<'a>(alloc: Global, ts: &'a [Token]) -> Result<Vec<Element>, ReadError<'a, Token>>
     ensures { Gives (λ v. v.items) result (whole_read text ts.now) }
 {
     let rest = line_ends(ts);
-    let (programs, rest) = programs(alloc, rest)?;
+    let (elements, rest) = units(alloc, rest)?;
     match rest {
-        [] => Ok(programs),
+        [] => Ok(elements),
         [_, ..] => Err(ReadError::Fault(rest)),
     }
 }

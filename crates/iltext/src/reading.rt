@@ -3,12 +3,15 @@
 ghost use Rattle.std.specs.Prelude.{◌≡◌, ◌<◌, List, length, IsTrue, Ok};
 ghost use Rattle.ilgrammar.specs.Items.{begins};
 ghost use Rattle.ilgrammar.specs.Results.{Gives};
-ghost use Rattle.iltext.specs.Terminals.{word, mark, name, constant, operand, line_ends, spaced};
+ghost use Rattle.iltext.specs.Terminals.{word, mark, name, number, constant, operand, closing};
+ghost use Rattle.iltext.specs.Terminals.{line_ends, spaced, line_break};
 
 use crate::token::{Kind, Token};
 use ilgrammar::ReadError;
-use ilsource::{Constant, Name, Operand};
+use ilsource::{Constant, Name};
 use iltokens::{Keyword, Mark, What};
+use iltrees::Operand;
+use iltypes::Value;
 
 /// This reserved word.
 #[tactic(auto, unfolding(crate::specs::Terminals::word))]
@@ -93,28 +96,54 @@ pub fn constant<'a>(ts: &'a [Token]) -> Result<(Constant, &'a [Token]), ReadErro
     }
 }
 
-/// A variable, TRUE or FALSE.
-#[tactic(auto, unfolding(crate::specs::Terminals::operand))]
-pub fn operand<'a>(ts: &'a [Token]) -> Result<(Operand, &'a [Token]), ReadError<'a, Token>>
-    ensures { Gives (λ x. (x.0, x.1.now)) result (operand.read ts.now) }
+/// A number.
+#[tactic(auto, unfolding(crate::specs::Terminals::number))]
+pub fn number<'a>(ts: &'a [Token]) -> Result<(i64, &'a [Token]), ReadError<'a, Token>>
+    ensures { Gives (λ x. (x.0, x.1.now)) result (number.read ts.now) }
 {
     match ts {
         [first, rest @ ..] => match first.kind {
-            Kind::Good(What::Keyword(Keyword::True)) => Ok((
-                Operand::Constant(Constant::Bool(true)),
-                rest,
-            )),
-            Kind::Good(What::Keyword(Keyword::False)) => Ok((
-                Operand::Constant(Constant::Bool(false)),
-                rest,
-            )),
-            Kind::Good(What::Name) => Ok((
-                Operand::Variable(Name {
+            Kind::Good(What::Number(number)) => Ok((number, rest)),
+            _ => Err(ReadError::Fault(ts)),
+        },
+        [] => Err(ReadError::Fault(ts)),
+    }
+}
+
+/// A variable, TRUE, FALSE, a number, or a duration, which is the number of its milliseconds.
+#[tactic(auto, unfolding(crate::specs::Terminals::operand))]
+pub fn operand<'a>(ts: &'a [Token]) -> Result<(Operand<Name>, &'a [Token]), ReadError<'a, Token>>
+    ensures { Gives (λ x. (x.0, x.1.now)) result (operand.read ts.now) }
+{
+    match ts {
+        [first, rest @ ..] => {
+            let operand = match first.kind {
+                Kind::Good(What::Keyword(Keyword::True)) => Operand::Constant(Value::Bool(true)),
+                Kind::Good(What::Keyword(Keyword::False)) => Operand::Constant(Value::Bool(false)),
+                Kind::Good(What::Number(number)) => Operand::Constant(Value::Int(number)),
+                Kind::Good(What::Time(milliseconds)) => Operand::Constant(Value::Int(i64::from(
+                    milliseconds,
+                ))),
+                Kind::Good(What::Name) => Operand::Name(Name {
                     from: first.from,
                     to: first.to,
                 }),
-                rest,
-            )),
+                _ => return Err(ReadError::Fault(ts)),
+            };
+            Ok((operand, rest))
+        }
+        [] => Err(ReadError::Fault(ts)),
+    }
+}
+
+/// `)`, by its place.
+#[tactic(auto, unfolding(crate::specs::Terminals::closing))]
+pub fn closing<'a>(ts: &'a [Token]) -> Result<(usize, &'a [Token]), ReadError<'a, Token>>
+    ensures { Gives (λ x. (x.0, x.1.now)) result (closing.read ts.now) }
+{
+    match ts {
+        [first, rest @ ..] => match first.kind {
+            Kind::Good(What::Mark(Mark::Close)) => Ok((first.from, rest)),
             _ => Err(ReadError::Fault(ts)),
         },
         [] => Err(ReadError::Fault(ts)),
@@ -122,9 +151,10 @@ pub fn operand<'a>(ts: &'a [Token]) -> Result<(Operand, &'a [Token]), ReadError<
 }
 
 /// Whether a line end stands first.
-#[tactic(auto, unfolding(crate::specs::Terminals::mark))]
-fn begins_line_end(ts: &[Token]) -> bool
+#[tactic(auto, unfolding(crate::specs::Terminals::mark, crate::specs::Terminals::line_break))]
+pub fn begins_line_end(ts: &[Token]) -> bool
     ensures begins { result ≡ begins (mark Mark.LineEnd) ts.now }
+    ensures breaks { result ≡ begins line_break ts.now }
     ensures some { IsTrue result → 0 < length ts.now }
 {
     matches!(
@@ -151,6 +181,14 @@ pub fn line_ends(ts: &[Token]) -> &[Token]
     rest
 }
 
+/// The end of a line, and the empty lines after it.
+#[tactic(auto, unfolding(crate::specs::Terminals::line_break))]
+pub fn line_break(ts: &[Token]) -> Result<&[Token], ReadError<'_, Token>>
+    ensures { Gives (λ rest. (tt, rest.now)) result (line_break.read ts.now) }
+{
+    spaced_mark(ts, Mark::LineEnd)
+}
+
 /// This reserved word and the line ends after it.
 pub fn spaced_word<'a>(
     ts: &'a [Token],
@@ -175,6 +213,14 @@ pub fn spaced_name<'a>(ts: &'a [Token]) -> Result<(Name, &'a [Token]), ReadError
     ensures { Gives (λ x. (x.0, x.1.now)) result ((spaced name).read ts.now) }
 {
     let (found, rest) = name(ts)?;
+    Ok((found, line_ends(rest)))
+}
+
+/// A number and the line ends after it.
+pub fn spaced_number<'a>(ts: &'a [Token]) -> Result<(i64, &'a [Token]), ReadError<'a, Token>>
+    ensures { Gives (λ x. (x.0, x.1.now)) result ((spaced number).read ts.now) }
+{
+    let (found, rest) = number(ts)?;
     Ok((found, line_ends(rest)))
 }
 

@@ -2,8 +2,8 @@ use Rattle.std.proofs.Common.{◌≡◌, true, false}
 use Rattle.std.proofs.lemmas.Result.{err_from_is_err_and}
 use Rattle.ilgrammar.specs.Items.{begins}
 use Rattle.ilgrammar.proofs.Loops.{goes_on, fails, is_done, shrinks}
-use Rattle.iltext.specs.Texts.{declaration, declarations}
-use Rattle.iltext.proofs.Laws.{Firm-declaration}
+use Rattle.iltext.specs.Declarations.{declaration, declarations}
+use Rattle.iltext.proofs.DeclarationLaws.{Firm-declaration}
 use Rattle.iltext.proofs.declarations.declarations.Goals as goal
 
 pub returns-in_err-one : goal.returns-in_err-one

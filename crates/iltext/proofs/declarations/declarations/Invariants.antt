@@ -1,5 +1,5 @@
 use Rattle.std.proofs.Common.{◌≡◌, length}
-use Rattle.iltext.specs.Texts.{declarations}
+use Rattle.iltext.specs.Declarations.{declarations}
 use Rattle.ilgrammar.proofs.Loops.{with_front}
 use Rattle.iltext.proofs.declarations.declarations.Given as goal
 

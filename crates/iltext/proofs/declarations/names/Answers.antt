@@ -2,8 +2,8 @@ use Rattle.std.proofs.Common.{◌≡◌, true, false}
 use Rattle.std.proofs.lemmas.Result.{err_from_is_err_and}
 use Rattle.ilgrammar.specs.Items.{begins}
 use Rattle.ilgrammar.proofs.Loops.{goes_on, fails, is_done, shrinks}
-use Rattle.iltext.specs.Texts.{more_names, next_name}
-use Rattle.iltext.proofs.Laws.{Firm-next_name}
+use Rattle.iltext.specs.Declarations.{more_names, next_name}
+use Rattle.iltext.proofs.DeclarationLaws.{Firm-next_name}
 use Rattle.iltext.proofs.declarations.names.Goals as goal
 
 pub returns-in_err-next : goal.returns-in_err-next

@@ -1,5 +1,5 @@
 use Rattle.std.proofs.Common.{◌≡◌, length}
-use Rattle.iltext.specs.Texts.{more_names, names}
+use Rattle.iltext.specs.Declarations.{more_names, names}
 use Rattle.ilgrammar.proofs.Loops.{with_front}
 use Rattle.iltext.proofs.declarations.names.Given as goal
 

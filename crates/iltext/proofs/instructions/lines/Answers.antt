@@ -2,8 +2,8 @@ use Rattle.std.proofs.Common.{◌≡◌, true, false}
 use Rattle.std.proofs.lemmas.Result.{err_from_is_err_and}
 use Rattle.ilgrammar.specs.Items.{begins}
 use Rattle.ilgrammar.proofs.Loops.{goes_on, fails, is_done, shrinks}
-use Rattle.iltext.specs.Texts.{line, lines}
-use Rattle.iltext.proofs.Laws.{Firm-line}
+use Rattle.iltext.specs.Instructions.{line, lines}
+use Rattle.iltext.proofs.InstructionLaws.{Firm-line}
 use Rattle.iltext.proofs.instructions.lines.Goals as goal
 
 pub returns-in_err-one : goal.returns-in_err-one

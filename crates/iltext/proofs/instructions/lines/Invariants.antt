@@ -1,5 +1,5 @@
 use Rattle.std.proofs.Common.{◌≡◌, length}
-use Rattle.iltext.specs.Texts.{lines}
+use Rattle.iltext.specs.Instructions.{lines}
 use Rattle.ilgrammar.proofs.Loops.{with_front}
 use Rattle.iltext.proofs.instructions.lines.Given as goal
 

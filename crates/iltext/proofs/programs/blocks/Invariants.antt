@@ -1,10 +1,12 @@
-use Rattle.std.proofs.Common.{◌≡◌, length, map}
-use Rattle.iltext.specs.Texts.{blocks}
-use Rattle.ilgrammar.proofs.Loops.{with_front}
+use Rattle.std.proofs.Common.{◌≡◌, length}
+use Rattle.ilgrammar.specs.Items.{many}
+use Rattle.ilgrammar.specs.Results.{extend}
+use Rattle.iltext.specs.Texts.{flat, blocks}
+use Rattle.iltext.specs.Declarations.{vars}
 use Rattle.iltext.proofs.programs.blocks.Given as goal
 
 abbrev pub invariant-all : goal.invariant-all
-invariant-all l = with_front (map (λ b. b.items) l.all.items) (blocks.read l.rest) ≡ blocks.read l.fn.ts
+invariant-all l = extend flat l.all.items ((many vars).read l.rest) ≡ blocks.read l.fn.ts
 
 abbrev pub decreases-all : goal.decreases-all
 decreases-all l = length l.rest

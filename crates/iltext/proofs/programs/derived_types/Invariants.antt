@@ -1,10 +1,10 @@
 use Rattle.std.proofs.Common.{◌≡◌, length}
-use Rattle.iltext.specs.Texts.{programs}
+use Rattle.iltext.specs.Texts.{derived_types}
 use Rattle.ilgrammar.proofs.Loops.{with_front}
-use Rattle.iltext.proofs.programs.programs.Given as goal
+use Rattle.iltext.proofs.programs.derived_types.Given as goal
 
 abbrev pub invariant-all : goal.invariant-all
-invariant-all l = with_front l.all.items (programs.read l.rest) ≡ programs.read l.fn.ts
+invariant-all l = with_front l.all.items (derived_types.read l.rest) ≡ derived_types.read l.fn.ts
 
 abbrev pub decreases-all : goal.decreases-all
 decreases-all l = length l.rest

@@ -1,0 +1,163 @@
+-- The items of declarations are lawful.
+use Rattle.std.proofs.Common.{◌≡◌, ℕ, ℤ, true, false, List, Option, refl}
+use Rattle.iloperators.specs.declared.function.IntegerType.{IntegerType}
+use Rattle.iloperators.specs.declared.function.IntegerType.TheVariants as integers
+use Rattle.ilgrammar.specs.Items.{lead, is_in}
+use Rattle.ilgrammar.proofs.Laws.{Lawful}
+use Rattle.ilgrammar.proofs.Firm.{Firm, Firm-one, Firm-map, Firm-seq, Firm-seq_open, Firm-lead, Firm-alt, Firm-fewer}
+use Rattle.ilgrammar.proofs.Firm.{from_opt, from_many}
+use Rattle.ilsource.specs.declared.name.Name.{Name}
+use Rattle.ilsource.specs.declared.declaration.Constant.{Constant}
+use Rattle.ilsource.specs.declared.declaration.Specification.{Specification}
+use Rattle.ilsource.specs.declared.declaration.Specification.TheVariants as specifications
+use Rattle.ilsource.specs.declared.declaration.TypeDeclaration.{TypeDeclaration}
+use Rattle.ilsource.specs.Programs.{Variables}
+use Rattle.iltokens.specs.declared.keyword.Keyword.{Keyword}
+use Rattle.iltokens.specs.declared.keyword.Keyword.TheVariants as words
+use Rattle.iltokens.specs.declared.lexed.Mark.TheVariants as marks
+use Rattle.iltokens.specs.declared.lexed.What.TheVariants as whats
+use Rattle.iltext.specs.declared.token.Kind.{Kind}
+use Rattle.iltext.specs.declared.token.Kind.TheVariants as kinds
+use Rattle.iltext.specs.declared.token.Token.{Token}
+use Rattle.iltext.specs.Terminals.{word, mark, name, spaced}
+use Rattle.iltext.specs.Declarations.{integer_word, integer, simple_word, simple, interval, range, specification}
+use Rattle.iltext.specs.Declarations.{initial, typing, type_declaration}
+use Rattle.iltext.specs.Declarations.{next_name, more_names, names, declaration, declarations, vars}
+use Rattle.iltext.proofs.Marks.{Anything, token_of, Firm-word, Firm-mark, apart_word, apart_mark}
+use Rattle.iltext.proofs.Ends.{NoEnd, Firm-name, Firm-number, Firm-constant, Firm-spaced}
+use Rattle.iltext.proofs.Ends.{word_no_end, mark_no_end, name_no_end, number_no_end, constant_no_end}
+
+-- ---- what may not follow
+
+abbrev NoComma : Token → Type 0
+NoComma t = (mark marks.Comma).starts t ≡ false
+
+abbrev NoAssign : Token → Type 0
+NoAssign t = (mark marks.Assign).starts t ≡ false
+
+abbrev NoOpen : Token → Type 0
+NoOpen t = (mark marks.Open).starts t ≡ false
+
+abbrev pub NoName : Token → Type 0
+NoName t = name.starts t ≡ false
+
+-- ---- types
+
+Firm-integer : Firm Token IntegerType integer Anything
+unfolding integer
+Firm-integer = Firm-one _ (token_of (kinds.Good (whats.Keyword words.Int)) 0 0) integers.Int refl
+
+Firm-simple : Firm Token Specification simple Anything
+unfolding simple
+Firm-simple = Firm-one _ (token_of (kinds.Good (whats.Keyword words.Bool)) 0 0) specifications.Bool refl
+
+Firm-interval : Firm Token (ℤ × ℤ) interval NoEnd
+unfolding interval
+Firm-interval = Firm-map _ (Firm-seq (Firm-spaced (Firm-mark marks.Open)) (λ t e. number_no_end t.kind t.from t.to e)
+    (Firm-seq (Firm-spaced Firm-number) (λ t e. mark_no_end marks.Range refl t e)
+    (Firm-seq (Firm-spaced (Firm-mark marks.Range)) (λ t e. number_no_end t.kind t.from t.to e)
+    (Firm-seq (Firm-spaced Firm-number) (λ t e. mark_no_end marks.Close refl t e)
+    (Firm-spaced (Firm-mark marks.Close))))))
+
+Firm-range : Firm Token Specification range (λ t. NoEnd t × NoOpen t)
+unfolding range interval
+Firm-range = Firm-map _ (Firm-fewer (λ t. NoEnd t × NoOpen t) (λ t e. (e.0, e))
+    (Firm-seq_open (Firm-spaced Firm-integer) (λ t e. mark_no_end marks.Open refl t e) (from_opt Firm-interval)))
+
+integer_apart : (w : Keyword) → is_in (integer_word w) ≡ true → is_in (simple_word w) ≡ false
+integer_apart words.Bool e = absurd cc
+integer_apart words.Time e = absurd cc
+integer_apart _ e = refl
+
+range_apart : (k : Kind) (f g : ℕ) → range.starts (token_of k f g) ≡ true → (spaced simple).starts (token_of k f g) ≡ false
+unfolding range integer simple
+range_apart (kinds.Good (whats.Keyword w)) f g e = integer_apart w e
+range_apart _ f g e = absurd cc
+
+Firm-specification : Firm Token Specification specification (λ t. NoEnd t × NoOpen t)
+unfolding specification
+Firm-specification = Firm-fewer (λ t. NoEnd t × NoOpen t) (λ t e. (e.0, e))
+    (Firm-alt (Firm-spaced Firm-simple) (λ t e. range_apart t.kind t.from t.to e) Firm-range)
+
+specification_no_end : (k : Kind) (f g : ℕ) → specification.starts (token_of k f g) ≡ true → NoEnd (token_of k f g)
+unfolding specification range integer simple mark
+specification_no_end (kinds.Good (whats.Mark m)) f g e = absurd cc
+specification_no_end _ f g e = refl
+
+Lawful-initial : Lawful Token (Option Constant) initial (λ t. NoEnd t × NoAssign t)
+unfolding initial
+Lawful-initial = from_opt (Firm-map _
+    (Firm-seq (Firm-spaced (Firm-mark marks.Assign)) (λ t e. constant_no_end t.kind t.from t.to e)
+    (Firm-spaced Firm-constant)))
+
+semicolon_apart : (t : Token) → (mark marks.Semicolon).starts t ≡ true → NoEnd t × NoAssign t
+unfolding mark
+semicolon_apart t e = (
+  mark_no_end marks.Semicolon refl t e,
+  apart_mark marks.Semicolon (mark marks.Assign).starts (λ f g. refl) t.kind t.from t.to e,
+)
+
+begins_value : (k : Kind) (f g : ℕ) → (lead initial (spaced (mark marks.Semicolon))).starts (token_of k f g) ≡ true
+    → NoEnd (token_of k f g) × NoOpen (token_of k f g)
+unfolding initial mark
+begins_value (kinds.Good (whats.Mark marks.LineEnd)) f g e = absurd cc
+begins_value (kinds.Good (whats.Mark marks.Open)) f g e = absurd cc
+begins_value _ f g e = (refl, refl)
+
+Firm-typing : Firm Token (Specification × Option Constant) typing NoEnd
+unfolding typing
+Firm-typing = Firm-map _
+    (Firm-seq (Firm-spaced (Firm-mark marks.Colon)) (λ t e. specification_no_end t.kind t.from t.to e)
+    (Firm-seq Firm-specification (λ t e. begins_value t.kind t.from t.to e)
+    (Firm-lead Lawful-initial (λ t e. semicolon_apart t e) (Firm-spaced (Firm-mark marks.Semicolon)))))
+
+typing_apart : (t : Token) → typing.starts t ≡ true → NoEnd t × NoComma t
+unfolding typing mark
+typing_apart t e = (
+  mark_no_end marks.Colon refl t e,
+  apart_mark marks.Colon (mark marks.Comma).starts (λ f g. refl) t.kind t.from t.to e,
+)
+
+pub Firm-type_declaration : Firm Token TypeDeclaration type_declaration NoEnd
+unfolding type_declaration
+Firm-type_declaration = Firm-map _ (Firm-seq (Firm-spaced Firm-name) (λ t e. (typing_apart t e).0) Firm-typing)
+
+-- ---- variables
+
+pub Firm-next_name : Firm Token Name next_name NoEnd
+unfolding next_name
+Firm-next_name = Firm-map _ (Firm-seq (Firm-spaced (Firm-mark marks.Comma)) (λ t e. name_no_end t.kind t.from t.to e)
+    (Firm-spaced Firm-name))
+
+Lawful-more_names : Lawful Token (List Name) more_names (λ t. NoEnd t × NoComma t)
+unfolding more_names next_name
+Lawful-more_names = from_many (λ t e. mark_no_end marks.Comma refl t e) Firm-next_name
+
+Firm-names : Firm Token (List Name) names (λ t. NoEnd t × NoComma t)
+unfolding names more_names next_name
+Firm-names = Firm-fewer (λ t. NoEnd t × NoComma t) (λ t e. (e.0, e))
+    (Firm-map _ (Firm-seq_open (Firm-spaced Firm-name) (λ t e. mark_no_end marks.Comma refl t e) Lawful-more_names))
+
+pub Firm-declaration : Firm Token Variables declaration NoEnd
+unfolding declaration
+Firm-declaration = Firm-map _ (Firm-seq Firm-names (λ t e. typing_apart t e) Firm-typing)
+
+Lawful-declarations : Lawful Token (List Variables) declarations (λ t. NoEnd t × NoName t)
+unfolding declarations declaration names
+Lawful-declarations = from_many (λ t e. name_no_end t.kind t.from t.to e) Firm-declaration
+
+-- the word that ends a block begins neither a line end nor a declaration
+pub last_apart : (w : Keyword) (t : Token) → (word w).starts t ≡ true → NoEnd t × NoName t
+unfolding name
+last_apart w t e = (word_no_end w t e, apart_word w name.starts (λ f g. refl) t.kind t.from t.to e)
+
+inside_no_end : (k : Kind) (f g : ℕ) → (lead declarations (spaced (word words.EndVar))).starts (token_of k f g) ≡ true
+    → NoEnd (token_of k f g)
+unfolding declarations declaration names name word mark
+inside_no_end (kinds.Good (whats.Mark m)) f g e = absurd cc
+inside_no_end _ f g e = refl
+
+pub Firm-vars : Firm Token (List Variables) vars NoEnd
+unfolding vars
+Firm-vars = Firm-map _ (Firm-seq (Firm-spaced (Firm-word words.Var)) (λ t e. inside_no_end t.kind t.from t.to e)
+    (Firm-lead Lawful-declarations (λ t e. last_apart words.EndVar t e) (Firm-spaced (Firm-word words.EndVar))))

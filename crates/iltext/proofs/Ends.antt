@@ -1,0 +1,98 @@
+-- Single tokens and the line ends after them: each is lawful, and none but a line end begins as one.
+use Rattle.std.proofs.Common.{◌≡◌, ℕ, ℤ, pos, true, false, refl}
+use Rattle.ilgrammar.specs.Items.{Item}
+use Rattle.ilgrammar.proofs.Laws.{Lawful, Lawful-fewer, Lawful-map}
+use Rattle.ilgrammar.proofs.Firm.{Firm, Firm-one, Firm-map, Firm-seq, Firm-seq_open, Firm-fewer, from_many}
+use Rattle.ilsource.specs.declared.name.Name.{Name}
+use Rattle.ilsource.specs.declared.declaration.Constant.{Constant}
+use Rattle.ilsource.specs.declared.declaration.Constant.TheVariants as constants
+use Rattle.iltokens.specs.declared.keyword.Keyword.{Keyword}
+use Rattle.iltokens.specs.declared.keyword.Keyword.TheVariants as words
+use Rattle.iltokens.specs.declared.lexed.Mark.{Mark}
+use Rattle.iltokens.specs.declared.lexed.Mark.TheVariants as marks
+use Rattle.iltokens.specs.declared.lexed.What.TheVariants as whats
+use Rattle.iltrees.specs.declared.operand.Operand.{Operand}
+use Rattle.iltrees.specs.declared.operand.Operand.TheVariants as operands
+use Rattle.iltypes.specs.declared.value.Value.TheVariants as values
+use Rattle.iltext.specs.declared.token.Kind.{Kind}
+use Rattle.iltext.specs.declared.token.Kind.TheVariants as kinds
+use Rattle.iltext.specs.declared.token.Token.{Token}
+use Rattle.iltext.specs.Terminals.{Seen, word, same_mark, mark, name, number, constant, operand, closing}
+use Rattle.iltext.specs.Terminals.{line_ends, spaced, line_break, ended}
+use Rattle.iltext.proofs.Marks.{Anything, token_of, Firm-mark, apart_word, apart_mark}
+
+-- ---- single tokens
+
+pub Firm-name : Firm Token Name name Anything
+unfolding name
+Firm-name = Firm-one _ (token_of (kinds.Good whats.Name) 0 0) (record { from = 0; to = 0 }) refl
+
+pub Firm-number : Firm Token ℤ number Anything
+unfolding number
+Firm-number = Firm-one _ (token_of (kinds.Good (whats.Number (pos 0))) 0 0) (pos 0) refl
+
+pub Firm-constant : Firm Token Constant constant Anything
+unfolding constant
+Firm-constant = Firm-one _ (token_of (kinds.Good (whats.Keyword words.True)) 0 0) (constants.Bool true) refl
+
+pub Firm-operand : Firm Token (Operand Name) operand Anything
+unfolding operand
+Firm-operand =
+    Firm-one _ (token_of (kinds.Good (whats.Keyword words.True)) 0 0) (operands.Constant (values.Bool true)) refl
+
+pub Firm-closing : Firm Token ℕ closing Anything
+unfolding closing
+Firm-closing = Firm-one _ (token_of (kinds.Good (whats.Mark marks.Close)) 0 0) 0 refl
+
+-- ---- line ends
+
+abbrev pub NoEnd : Token → Type 0
+NoEnd t = (mark marks.LineEnd).starts t ≡ false
+
+pub Firm-line_end : Firm Token Seen (mark marks.LineEnd) Anything
+Firm-line_end = Firm-mark marks.LineEnd
+
+pub Lawful-line_ends : Lawful Token Seen line_ends NoEnd
+unfolding line_ends
+Lawful-line_ends =
+    Lawful-fewer _ _ _ _ NoEnd (λ t e. (tt, e)) (Lawful-map _ _ _ _ _ _ (from_many (λ t e. tt) Firm-line_end))
+
+pub Firm-spaced : {A : Type 0} {a : Item Token A} → Firm Token A a Anything → Firm Token A (spaced a) NoEnd
+Firm-spaced x = Firm-map _ (Firm-fewer NoEnd (λ t e. (tt, e)) (Firm-seq_open x (λ t e. tt) Lawful-line_ends))
+
+pub Firm-line_break : Firm Token Seen line_break NoEnd
+unfolding line_break
+Firm-line_break = Firm-spaced Firm-line_end
+
+pub Firm-ended : {A : Type 0} {a : Item Token A} → Firm Token A a Anything → Firm Token A (ended a) NoEnd
+Firm-ended x = Firm-map _ (Firm-seq x (λ t e. tt) Firm-line_break)
+
+-- ---- no line end begins them
+
+pub word_no_end : (w : Keyword) (t : Token) → (word w).starts t ≡ true → NoEnd t
+unfolding mark
+word_no_end w t e = apart_word w (mark marks.LineEnd).starts (λ f g. refl) t.kind t.from t.to e
+
+pub mark_no_end : (m : Mark) → same_mark m marks.LineEnd ≡ false → (t : Token) → (mark m).starts t ≡ true → NoEnd t
+unfolding mark
+mark_no_end m other t e = apart_mark m (mark marks.LineEnd).starts (λ f g. rw other refl) t.kind t.from t.to e
+
+pub name_no_end : (k : Kind) (f g : ℕ) → name.starts (token_of k f g) ≡ true → NoEnd (token_of k f g)
+unfolding name mark
+name_no_end (kinds.Good whats.Name) f g e = refl
+name_no_end _ f g e = absurd cc
+
+pub number_no_end : (k : Kind) (f g : ℕ) → number.starts (token_of k f g) ≡ true → NoEnd (token_of k f g)
+unfolding number mark
+number_no_end (kinds.Good (whats.Number n)) f g e = refl
+number_no_end _ f g e = absurd cc
+
+pub constant_no_end : (k : Kind) (f g : ℕ) → constant.starts (token_of k f g) ≡ true → NoEnd (token_of k f g)
+unfolding constant mark
+constant_no_end (kinds.Good (whats.Mark m)) f g e = absurd cc
+constant_no_end _ f g e = refl
+
+pub operand_no_end : (k : Kind) (f g : ℕ) → operand.starts (token_of k f g) ≡ true → NoEnd (token_of k f g)
+unfolding operand mark
+operand_no_end (kinds.Good (whats.Mark m)) f g e = absurd cc
+operand_no_end _ f g e = refl

@@ -1,0 +1,161 @@
+-- The items of instructions are lawful, in parentheses to any depth and outside them.
+use Rattle.std.proofs.Common.{◌≡◌, ◌||◌, ℕ, zero, suc, Bool, true, false, List, refl}
+use Rattle.limits.specs.Limits.{most_nesting}
+use Rattle.iloperators.specs.declared.operator.Operator.{Operator}
+use Rattle.iloperators.specs.Operators.{may_defer}
+use Rattle.iltrees.specs.declared.operand.Operand.{Operand}
+use Rattle.iltrees.specs.Trees.{Tree}
+use Rattle.ilgrammar.specs.Items.{Item, is_in}
+use Rattle.ilgrammar.proofs.Laws.{Lawful}
+use Rattle.ilgrammar.proofs.Selects.{Lawful-empty}
+use Rattle.ilgrammar.proofs.Firm.{Firm, Firm-one, Firm-map, Firm-seq, Firm-seq_open, Firm-alt, Firm-fewer, Firm-select}
+use Rattle.ilgrammar.proofs.Firm.{from_many}
+use Rattle.ilsource.specs.declared.name.Name.{Name}
+use Rattle.iltokens.specs.declared.keyword.Keyword.TheVariants as words
+use Rattle.iltokens.specs.declared.lexed.Mark.TheVariants as marks
+use Rattle.iltokens.specs.declared.lexed.What.TheVariants as whats
+use Rattle.iltext.specs.declared.roles.Role.{Role}
+use Rattle.iltext.specs.declared.roles.Role.TheVariants as roles
+use Rattle.iltext.specs.declared.token.Kind.{Kind}
+use Rattle.iltext.specs.declared.token.Kind.TheVariants as kinds
+use Rattle.iltext.specs.declared.token.Token.{Token}
+use Rattle.iltext.specs.Roles.{role_of_word, role_at, inner_role_at}
+use Rattle.iltext.specs.Terminals.{mark, operand, closing, line_break, ended}
+use Rattle.iltext.specs.Instructions.{TextLine, on_operand, on_content, on_either, bounds, operands, load, beginning}
+use Rattle.iltext.specs.Instructions.{inner_of, content_of, applied, inner, content, instruction, line, lines}
+use Rattle.iltext.proofs.Marks.{Anything, token_of, Firm-mark}
+use Rattle.iltext.proofs.Ends.{NoEnd, Firm-name, Firm-operand, Firm-closing, Firm-line_break, Firm-ended, operand_no_end}
+
+-- ---- what follows an operator
+
+Firm-on_operand : (operator : Operator) (at : ℕ) → Firm Token TextLine (on_operand operator at) Anything
+unfolding on_operand
+Firm-on_operand operator at = Firm-map _ Firm-operand
+
+-- what may not follow an instruction in parentheses
+abbrev NoInner : Token → Type 0
+NoInner t = NoEnd t × (is_in (inner_role_at t) ≡ false)
+
+closing_apart : (k : Kind) (f g : ℕ) → closing.starts (token_of k f g) ≡ true → NoInner (token_of k f g)
+unfolding closing mark
+closing_apart (kinds.Good (whats.Mark marks.Close)) f g e = (refl, refl)
+closing_apart _ f g e = absurd cc
+
+module _ (content : ℕ → Item Token (Tree Name)) (law : (at : ℕ) → Firm Token (Tree Name) (content at) NoInner)
+    (operator : Operator) (at : ℕ) where
+  Firm-on_content : Firm Token TextLine (on_content content operator at) Anything
+  unfolding on_content
+  Firm-on_content = Firm-map _ (Firm-seq (Firm-mark marks.Open) (λ t e. tt)
+      (Firm-seq (law at) (λ t e. closing_apart t.kind t.from t.to e) Firm-closing))
+
+  operand_apart : (k : Kind) (f g : ℕ) → (on_operand operator at).starts (token_of k f g) ≡ true
+      → (on_content content operator at).starts (token_of k f g) ≡ false
+  unfolding on_operand on_content operand mark
+  operand_apart (kinds.Good (whats.Mark m)) f g e = absurd cc
+  operand_apart _ f g e = refl
+
+  Firm-on_either : (may : Bool) → Firm Token TextLine (on_either may content operator at) Anything
+  Firm-on_either true = Firm-fewer Anything (λ t e. (tt, tt))
+      (Firm-alt Firm-on_content (λ t e. operand_apart t.kind t.from t.to e) (Firm-on_operand operator at))
+  Firm-on_either false = Firm-on_operand operator at
+
+Firm-bounds : Firm Token (Operand Name × Operand Name) bounds Anything
+unfolding bounds
+Firm-bounds = Firm-map _ (Firm-seq Firm-operand (λ t e. tt)
+    (Firm-seq (Firm-mark marks.Comma) (λ t e. tt) Firm-operand))
+
+abbrev AreFirm : (Operator → ℕ → Item Token TextLine) → Type 0
+AreFirm applied = (operator : Operator) (at : ℕ) → Firm Token TextLine (applied operator at) Anything
+
+Lawful-operands : (applied : Operator → ℕ → Item Token TextLine) → AreFirm applied → (role : Role) (at : ℕ)
+    → Lawful Token TextLine (operands applied role at) Anything
+Lawful-operands applied law (roles.Load negated) at = (Firm-map _ Firm-operand).lawful
+Lawful-operands applied law (roles.Apply operator) at = (law operator at).lawful
+Lawful-operands applied law (roles.Transform function) at = Lawful-empty _ _ _
+Lawful-operands applied law roles.Limit at = (Firm-map _ Firm-bounds).lawful
+Lawful-operands applied law (roles.Store negated) at = (Firm-map _ Firm-name).lawful
+Lawful-operands applied law roles.Set at = (Firm-map _ Firm-name).lawful
+Lawful-operands applied law roles.Reset at = (Firm-map _ Firm-name).lawful
+
+-- ---- what stands in parentheses
+
+abbrev load_word : Token
+load_word = token_of (kinds.Good (whats.Keyword words.Ld)) 0 0
+
+Firm-load : Firm Token (Tree Name) load Anything
+unfolding load role_of_word
+Firm-load = Firm-map _ (Firm-seq (Firm-one _ load_word (false, 0) refl) (λ t e. tt) Firm-operand)
+
+load_no_end : (k : Kind) (f g : ℕ) → (ended load).starts (token_of k f g) ≡ true → NoEnd (token_of k f g)
+unfolding load mark
+load_no_end (kinds.Good (whats.Mark marks.LineEnd)) f g e = absurd cc
+load_no_end _ f g e = refl
+
+break_apart : (t : Token) → operand.starts t ≡ true → line_break.starts t ≡ false
+unfolding line_break
+break_apart t e = operand_no_end t.kind t.from t.to e
+
+Firm-beginning : (at : ℕ) → Firm Token (Tree Name) (beginning at) NoEnd
+unfolding beginning
+Firm-beginning at = Firm-fewer NoEnd (λ t e. (e, e))
+    (Firm-alt (Firm-map _ (Firm-seq Firm-line_break (λ t e. load_no_end t.kind t.from t.to e) (Firm-ended Firm-load)))
+    (λ t e. break_apart t e) (Firm-ended (Firm-map _ Firm-operand)))
+
+Firm-inner_of : (applied : Operator → ℕ → Item Token TextLine) → AreFirm applied
+    → Firm Token TextLine (inner_of applied) Anything
+unfolding inner_of role_of_word
+Firm-inner_of applied law = Firm-fewer Anything (λ t e. (tt, tt))
+    (Firm-select (Firm-one _ load_word (roles.Load false, 0) refl) (λ x t e. tt)
+    (λ x. Lawful-operands applied law x.0 x.1))
+
+inner_no_end : (k : Kind) (f g : ℕ) → is_in (inner_role_at (token_of k f g)) ≡ true → NoEnd (token_of k f g)
+unfolding mark
+inner_no_end (kinds.Good (whats.Mark marks.LineEnd)) f g e = absurd cc
+inner_no_end _ f g e = refl
+
+begins_inner : (applied : Operator → ℕ → Item Token TextLine) (t : Token)
+    → (ended (inner_of applied)).starts t ≡ is_in (inner_role_at t)
+unfolding inner_of
+begins_inner applied t = refl
+
+Firm-content_of : (applied : Operator → ℕ → Item Token TextLine) → AreFirm applied
+    → (at : ℕ) → Firm Token (Tree Name) (content_of applied at) NoInner
+unfolding content_of
+Firm-content_of applied law at =
+    let inside = λ (t : Token) (e : (ended (inner_of applied)).starts t ≡ true).
+    inner_no_end t.kind t.from t.to (rw begins_inner at e) in
+    Firm-fewer NoInner (λ t e. (e.0, (e.0, rw begins_inner e.1)))
+    (Firm-map _ (Firm-seq_open (Firm-beginning at) inside (from_many inside (Firm-ended (Firm-inner_of applied law)))))
+
+pub Firm-applied : (more : ℕ) → AreFirm (applied more)
+unfolding applied
+Firm-applied zero operator at = Firm-on_operand operator at
+Firm-applied (suc more) operator at =
+    Firm-on_either _ (Firm-content_of (applied more) (Firm-applied more)) operator at (may_defer operator)
+
+pub Firm-inner_line : (more : ℕ) → Firm Token TextLine (ended (inner more)) NoEnd
+Firm-inner_line more = Firm-ended (Firm-inner_of (applied more) (Firm-applied more))
+
+-- ---- lines
+
+Firm-instruction : Firm Token TextLine instruction Anything
+unfolding instruction role_of_word
+Firm-instruction = Firm-fewer Anything (λ t e. (tt, tt))
+    (Firm-select (Firm-one _ load_word (roles.Load false, 0) refl) (λ x t e. tt)
+    (λ x. Lawful-operands (applied most_nesting) (Firm-applied most_nesting) x.0 x.1))
+
+pub Firm-line : Firm Token TextLine line NoEnd
+unfolding line
+Firm-line = Firm-ended Firm-instruction
+
+abbrev pub NoLine : Token → Type 0
+NoLine t = line.starts t ≡ false
+
+pub line_no_end : (k : Kind) (f g : ℕ) → line.starts (token_of k f g) ≡ true → NoEnd (token_of k f g)
+unfolding line instruction mark
+line_no_end (kinds.Good (whats.Mark marks.LineEnd)) f g e = absurd cc
+line_no_end _ f g e = refl
+
+pub Lawful-lines : Lawful Token (List TextLine) lines (λ t. NoEnd t × NoLine t)
+unfolding lines
+Lawful-lines = from_many (λ t e. line_no_end t.kind t.from t.to e) Firm-line

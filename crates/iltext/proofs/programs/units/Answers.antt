@@ -1,0 +1,38 @@
+use Rattle.std.proofs.Common.{◌≡◌, true, false, List, ◌++◌, Ok, refl}
+use Rattle.std.proofs.lemmas.Result.{err_from_is_err_and}
+use Rattle.ilgrammar.specs.Items.{begins}
+use Rattle.ilgrammar.specs.Results.{extend}
+use Rattle.ilgrammar.proofs.Loops.{adds_on, adds_none, all_added, shrinks}
+use Rattle.iltext.specs.Texts.{unit, units}
+use Rattle.iltext.proofs.Laws.{Firm-unit}
+use Rattle.iltext.proofs.Extends.{fails_extended}
+use Rattle.iltext.proofs.programs.units.Goals as goal
+
+pub all-init : goal.all-init
+unfolding units
+all-init c = rw c.new-all.ensures.items refl
+
+pub returns-in_err-one : goal.returns-in_err-one
+unfolding units
+returns-in_err-one c =
+    let p = err_from_is_err_and c.from_residual.result c.from_residual.ensures.1 in
+    let is : begins unit c.all.rest.now ≡ true = cc in
+    let fails = fails_extended _ _ (λ xs. xs) _ c.all.all.items _ c.in_err-one.ensures in
+    rw (p.1, p.2) (adds_none _ _ _ (λ xs. xs) _ _ Firm-unit _ _ _ _ is fails c.all.invariant)
+
+pub all-smaller : goal.all-smaller
+all-smaller c = shrinks _ _ _ _ Firm-unit _ _ _ c.in_ok-one.ensures
+
+pub all-preserved : goal.all-preserved
+unfolding units
+all-preserved c =
+    let is : begins unit c.all.rest.now ≡ true = cc in
+    let one : extend (λ xs. xs) c.all.all.items (unit.read c.all.rest.now) ≡ Ok (c.all.all.items ++ c.in_ok-one.one.items, c.in_ok-one.after.now) =
+    rw c.in_ok-one.ensures refl in
+    rw c.in_ok-append.ensures.items (adds_on _ _ _ (λ xs. xs) _ _ Firm-unit _ _ _ _ _ is one c.all.invariant)
+
+pub returns : goal.returns
+unfolding units
+returns c =
+    let is : begins unit c.all.rest.now ≡ false = cc in
+    all_added _ _ _ (λ xs. xs) _ _ Firm-unit _ _ _ is c.all.invariant

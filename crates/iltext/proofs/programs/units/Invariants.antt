@@ -1,0 +1,11 @@
+use Rattle.std.proofs.Common.{◌≡◌, length}
+use Rattle.ilgrammar.specs.Items.{many}
+use Rattle.ilgrammar.specs.Results.{extend}
+use Rattle.iltext.specs.Texts.{flat, unit, units}
+use Rattle.iltext.proofs.programs.units.Given as goal
+
+abbrev pub invariant-all : goal.invariant-all
+invariant-all l = extend flat l.all.items ((many unit).read l.rest) ≡ units.read l.fn.ts
+
+abbrev pub decreases-all : goal.decreases-all
+decreases-all l = length l.rest

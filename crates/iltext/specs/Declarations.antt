@@ -1,0 +1,107 @@
+-- Declarations of types and of variables (IEC 61131-3, 2.3.3.1 and 2.4.3, with this project's profile), as items over
+-- tokens.
+use Rattle.std.specs.Prelude.{ℤ, List, ◌∷◌, Option, Some, None}
+use Rattle.iloperators.specs.declared.function.IntegerType.{IntegerType}
+use Rattle.iloperators.specs.declared.function.IntegerType.TheVariants as integers
+use Rattle.ilgrammar.specs.Items.{Item, one, map, seq, lead, opt, alt, many}
+use Rattle.ilsource.specs.declared.name.Name.{Name}
+use Rattle.ilsource.specs.declared.declaration.Constant.{Constant}
+use Rattle.ilsource.specs.declared.declaration.Specification.{Specification}
+use Rattle.ilsource.specs.declared.declaration.Specification.TheVariants as specifications
+use Rattle.ilsource.specs.declared.declaration.TypeDeclaration.{TypeDeclaration}
+use Rattle.ilsource.specs.Programs.{Variables}
+use Rattle.iltokens.specs.declared.keyword.Keyword.{Keyword}
+use Rattle.iltokens.specs.declared.keyword.Keyword.TheVariants as words
+use Rattle.iltokens.specs.declared.lexed.Mark.TheVariants as marks
+use Rattle.iltokens.specs.declared.lexed.What.TheVariants as whats
+use Rattle.iltext.specs.declared.token.Kind.{Kind}
+use Rattle.iltext.specs.declared.token.Kind.TheVariants as kinds
+use Rattle.iltext.specs.declared.token.Token.{Token}
+use Rattle.iltext.specs.Terminals.{word, mark, name, number, constant, spaced}
+
+-- ---- types
+
+abbrev pub integer_word : Keyword → Option IntegerType
+integer_word words.Sint = Some integers.Sint
+integer_word words.Int = Some integers.Int
+integer_word words.Dint = Some integers.Dint
+integer_word words.Usint = Some integers.Usint
+integer_word words.Uint = Some integers.Uint
+integer_word words.Udint = Some integers.Udint
+integer_word _ = None
+
+abbrev pub integer_at : Kind → Option IntegerType
+integer_at (kinds.Good (whats.Keyword w)) = integer_word w
+integer_at _ = None
+
+-- SINT, INT, DINT, USINT, UINT, UDINT
+unfoldable pub integer : Item Token IntegerType
+integer = one (λ t. integer_at t.kind)
+
+abbrev pub simple_word : Keyword → Option Specification
+simple_word words.Bool = Some specifications.Bool
+simple_word words.Time = Some specifications.Time
+simple_word _ = None
+
+abbrev pub simple_at : Kind → Token → Option Specification
+simple_at (kinds.Good (whats.Keyword w)) t = simple_word w
+simple_at (kinds.Good whats.Name) t = Some (specifications.Named (record { from = t.from; to = t.to }))
+simple_at _ t = None
+
+-- BOOL, TIME, the name of a type
+unfoldable pub simple : Item Token Specification
+simple = one (λ t. simple_at t.kind t)
+
+-- "(" number ".." number ")"
+unfoldable pub interval : Item Token (ℤ × ℤ)
+interval = map (λ x. (x.1.0, x.1.1.1.0))
+    (seq (spaced (mark marks.Open)) (seq (spaced number) (seq (spaced (mark marks.Range))
+    (seq (spaced number) (spaced (mark marks.Close))))))
+
+abbrev pub within : IntegerType → Option (ℤ × ℤ) → Specification
+within base None = specifications.Integer base
+within base (Some x) = specifications.Subrange base x.0 x.1
+
+-- an integer type, or a subrange of one
+unfoldable pub range : Item Token Specification
+range = map (λ x. within x.0 x.1) (seq (spaced integer) (opt interval))
+
+unfoldable pub specification : Item Token Specification
+specification = alt (spaced simple) range
+
+-- [":=" constant]
+unfoldable pub initial : Item Token (Option Constant)
+initial = opt (map (λ x. x.1) (seq (spaced (mark marks.Assign)) (spaced constant)))
+
+-- ":" specification [":=" constant] ";"
+unfoldable pub typing : Item Token (Specification × Option Constant)
+typing = map (λ x. (x.1.0, x.1.1.0))
+    (seq (spaced (mark marks.Colon)) (seq specification (lead initial (spaced (mark marks.Semicolon)))))
+
+-- name typing
+unfoldable pub type_declaration : Item Token TypeDeclaration
+type_declaration = map (λ x. record { name = x.0; specification = x.1.0; initial = x.1.1 }) (seq (spaced name) typing)
+
+-- ---- variables
+
+-- "," name
+unfoldable pub next_name : Item Token Name
+next_name = map (λ x. x.1) (seq (spaced (mark marks.Comma)) (spaced name))
+
+unfoldable pub more_names : Item Token (List Name)
+more_names = many next_name
+
+-- name {"," name}
+unfoldable pub names : Item Token (List Name)
+names = map (λ x. x.0 ∷ x.1) (seq (spaced name) more_names)
+
+-- names typing
+unfoldable pub declaration : Item Token Variables
+declaration = map (λ x. record { names = x.0; specification = x.1.0; initial = x.1.1 }) (seq names typing)
+
+unfoldable pub declarations : Item Token (List Variables)
+declarations = many declaration
+
+-- VAR {declaration} END_VAR
+unfoldable pub vars : Item Token (List Variables)
+vars = map (λ x. x.1.0) (seq (spaced (word words.Var)) (lead declarations (spaced (word words.EndVar))))
