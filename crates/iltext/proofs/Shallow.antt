@@ -1,7 +1,7 @@
 -- Lines that are read have no more parentheses open at once than the limit, and no jump, return or call.
 use Rattle.std.proofs.Common.{◌≡◌, ℕ, zero, suc, ◌+◌, ◌≤◌, Bool, true, false, List, [], ◌∷◌, Option, Some, None}
 use Rattle.std.specs.Prelude.{⊤}
-use Rattle.std.proofs.Common.{Result, Ok, inl, inr, sym, subst, ◌∙◌, arith}
+use Rattle.std.proofs.Common.{Result, Ok, inl, inr, refl, sym, subst, ◌∙◌, arith}
 use Rattle.limits.specs.Limits.{most_nesting}
 use Rattle.iloperators.specs.declared.operator.Operator.{Operator}
 use Rattle.iloperators.specs.Operators.{may_defer}
@@ -24,7 +24,7 @@ HasRoom more (Some (instructions.Deferred operator u close)) = depth u + 1 ≤ m
 HasRoom more _ = ⊤
 
 abbrev Fits : ℕ → TextLine → Type 0
-Fits more line = HasRoom more line.instruction × IsStraight line.instruction
+Fits more line = HasRoom more line.instruction × ((line.label ≡ None) × IsStraight line.instruction)
 
 abbrev AllFit : ℕ → Item Token TextLine → Type 0
 AllFit more item = (ts : List Token) (line : TextLine) → item.whole ts line → Fits more line
@@ -37,17 +37,17 @@ AllWithin more item = (ts : List Token) (t : Tree Name) → item.whole ts t → 
 module _ (more : ℕ) where
   operand_fits : (operator : Operator) (at : ℕ) → AllFit more (on_operand operator at)
   unfolding on_operand
-  operand_fits operator at ts l w = subst (Fits more) (sym w.2) (tt, tt)
+  operand_fits operator at ts l w = subst (Fits more) (sym w.2) (tt, (refl, tt))
 
   operands_fit : (of : Operator → ℕ → Item Token TextLine) → ((operator : Operator) (at : ℕ) → AllFit more (of operator at))
       → (role : Role) (at : ℕ) → AllFit more (operands of role at)
-  operands_fit of fit (roles.Load negated) at ts l w = subst (Fits more) (sym w.2) (tt, tt)
+  operands_fit of fit (roles.Load negated) at ts l w = subst (Fits more) (sym w.2) (tt, (refl, tt))
   operands_fit of fit (roles.Apply operator) at ts l w = fit operator at ts l w
-  operands_fit of fit (roles.Transform function) at ts l w = subst (Fits more) (sym w.1) (tt, tt)
-  operands_fit of fit roles.Limit at ts l w = subst (Fits more) (sym w.2) (tt, tt)
-  operands_fit of fit (roles.Store negated) at ts l w = subst (Fits more) (sym w.2) (tt, tt)
-  operands_fit of fit roles.Set at ts l w = subst (Fits more) (sym w.2) (tt, tt)
-  operands_fit of fit roles.Reset at ts l w = subst (Fits more) (sym w.2) (tt, tt)
+  operands_fit of fit (roles.Transform function) at ts l w = subst (Fits more) (sym w.1) (tt, (refl, tt))
+  operands_fit of fit roles.Limit at ts l w = subst (Fits more) (sym w.2) (tt, (refl, tt))
+  operands_fit of fit (roles.Store negated) at ts l w = subst (Fits more) (sym w.2) (tt, (refl, tt))
+  operands_fit of fit roles.Set at ts l w = subst (Fits more) (sym w.2) (tt, (refl, tt))
+  operands_fit of fit roles.Reset at ts l w = subst (Fits more) (sym w.2) (tt, (refl, tt))
 
   -- ---- what stands in parentheses
 
@@ -97,7 +97,7 @@ either_fits : (more : ℕ) (content : ℕ → Item Token (Tree Name)) → ((at :
 unfolding on_content
 either_fits more content within true operator at ts l (inl w) =
     let inside = within at w.1.4.0 w.0.1.0 w.1.4.3 in
-    subst (Fits (suc more)) (sym w.2) (omega arith, tt)
+    subst (Fits (suc more)) (sym w.2) (omega arith, (refl, tt))
 either_fits more content within true operator at ts l (inr w) = operand_fits (suc more) operator at ts l w
 either_fits more content within false operator at ts l w = operand_fits (suc more) operator at ts l w
 
@@ -128,7 +128,7 @@ all_fit ts [] w = (tt, tt)
 all_fit ts (l ∷ ls) w =
     let first = line_fits w.0 l w.3 in
     let others = all_fit w.1 ls w.4 in
-    ((shallow_one l.instruction first.0, others.0), (first.1, others.1))
+    ((shallow_one l.instruction first.0, others.0), (first.1.0, first.1.1, others.1))
 
 whole_fit : (ts : List Token) (ls : List TextLine) → lines.whole ts ls → AreShallow ls × AreStraight ls
 unfolding lines
