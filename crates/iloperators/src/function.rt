@@ -54,6 +54,7 @@ pub enum Function {
 
 impl Function {
     /// What the function gives of `value`, where that is defined.
+    #[inline(always)]
     pub fn apply(self, value: Value) -> Value
         requires { IsSome (value_of_function self value) }
         ensures { value_of_function self value ≡ Some result }

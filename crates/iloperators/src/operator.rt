@@ -37,6 +37,7 @@ pub enum Operator {
 
 impl Operator {
     /// `left OP right`, which has a value.
+    #[inline(always)]
     pub fn apply(self, left: Value, right: Value) -> Value
         requires { IsSome (value_of_operator self left right) }
         ensures { value_of_operator self left right ≡ Some result }
