@@ -1,2 +1,2 @@
+pub mod MachineSteps
 pub mod Scans
-pub mod Truths

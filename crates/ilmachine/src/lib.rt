@@ -14,6 +14,7 @@
 mod machine;
 mod scans;
 mod snapshot;
+mod word;
 
 pub use scans::{ScanResult, Work, scan, scan_into};
 pub use snapshot::Snapshot;
