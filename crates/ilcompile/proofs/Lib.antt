@@ -1,7 +1,11 @@
-pub mod Constants
-pub mod Laying
+pub mod Meant
+pub mod CodeEnds
 pub mod Lawful
-pub mod Meaning
-pub mod Places
-pub mod Theorem
-pub mod Words
+pub mod LineRuns
+pub mod Runs
+pub mod ScanRuns
+pub mod Served
+pub mod Stands
+pub mod Starts
+pub mod TestTasks
+pub mod TreeRuns

@@ -2,27 +2,29 @@ use Rattle.std.proofs.Common.{◌∙◌, sym, subst}
 use Rattle.ilcode.specs.Listings.{IsLawful}
 use Rattle.ilcompile.specs.Meant.{IsMeant}
 use Rattle.ilcompile.proofs.Lawful.{laid_out_lawful, parts_are}
-use Rattle.ilcompile.proofs.Theorem.{is_meant}
+use Rattle.ilcompile.proofs.Meant.{is_meant}
 use Rattle.ilcompile.proofs.compiler.lay_out.Goals as goal
 
 pub new-requires : goal.new-requires
 new-requires c =
     let laid =
-    parts_are c.args.buses c.args.task.now _ _ _ _ _
-    (c.in_ok-constants.ensures.items ∙ c.constants.ensures.constants)
-    (rw c.slots.ensures.slots at c.in_ok-slots.ensures)
-    (rw c.instances.ensures.instances at c.in_ok-starts.ensures)
-    (rw (c.constants-2.ensures.constants, c.instances-2.ensures.instances) at c.in_ok-words.ensures)
-    (rw c.instances-3.ensures.instances at c.in_ok-lines.ensures) in
-    subst IsLawful (sym laid) (laid_out_lawful c.args.buses c.args.task.now c.requires.first c.requires.last c.requires.limits)
+    parts_are c.args.buses c.args.text.now c.args.task.now _ _ _ _ _
+    (c.in_ok-constants.ensures.items ∙ c.as_slice.ensures.value ∙ c.constants.ensures.value)
+    (rw c.slots.ensures.value at c.in_ok-slots.ensures)
+    (rw (c.constants-2.ensures.value, c.instances.ensures.value) at c.in_ok-starts.ensures.starts)
+    (rw (c.constants-2.ensures.value, c.instances.ensures.value) at c.in_ok-starts.ensures.words)
+    (rw c.instances-2.ensures.value at c.in_ok-lines.ensures) in
+    subst IsLawful (sym laid)
+    (laid_out_lawful c.args.buses c.args.text.now c.args.task.now c.requires.first c.requires.last c.requires.limits)
 
 pub returns-clause-meaning : goal.returns-clause-meaning
 returns-clause-meaning c =
     let laid =
-    parts_are c.args.buses c.args.task.now _ _ _ _ _
-    (c.in_ok-constants.ensures.items ∙ c.constants.ensures.constants)
-    (rw c.slots.ensures.slots at c.in_ok-slots.ensures)
-    (rw c.instances.ensures.instances at c.in_ok-starts.ensures)
-    (rw (c.constants-2.ensures.constants, c.instances-2.ensures.instances) at c.in_ok-words.ensures)
-    (rw c.instances-3.ensures.instances at c.in_ok-lines.ensures) in
-    subst (IsMeant c.args.task.now) (sym (c.new.ensures ∙ laid)) (is_meant c.args.buses c.args.task.now c.requires.limits)
+    parts_are c.args.buses c.args.text.now c.args.task.now _ _ _ _ _
+    (c.in_ok-constants.ensures.items ∙ c.as_slice.ensures.value ∙ c.constants.ensures.value)
+    (rw c.slots.ensures.value at c.in_ok-slots.ensures)
+    (rw (c.constants-2.ensures.value, c.instances.ensures.value) at c.in_ok-starts.ensures.starts)
+    (rw (c.constants-2.ensures.value, c.instances.ensures.value) at c.in_ok-starts.ensures.words)
+    (rw c.instances-2.ensures.value at c.in_ok-lines.ensures) in
+    subst (IsMeant c.args.task.now) (sym (c.new.ensures ∙ laid))
+    (is_meant c.args.buses c.args.text.now c.args.task.now c.requires.limits)

@@ -1,0 +1,67 @@
+-- A run that comes to the end of a code with some values, or is stuck, ends so and not otherwise.
+use Rattle.std.proofs.Common.{◌≡◌, ℕ, zero, suc, Bool, List, [], length, Option, Some, None, refl}
+use Rattle.std.proofs.Common.{sym, ap, ◌∙◌, subst, arith}
+use Rattle.std.specs.Option.{option_and_then}
+use Rattle.std.proofs.lemmas.Option.{slice_get_past, slice_get_within}
+use Rattle.iltypes.specs.declared.value.Value.{Value}
+use Rattle.ilcode.specs.Listings.{Listing}
+use Rattle.ilcode.specs.Steps.{Configuration, at, step_by, step, start, Ends}
+use Rattle.ilcode.specs.Steps as code_steps
+use Rattle.ilcompile.proofs.Runs.{Leads, after, same_last}
+use Rattle.ilcompile.proofs.ScanRuns.{Comes}
+
+-- a run with one step more at its end is one with one step more at its beginning
+module _ {S : Type 0} (f : S → Option S) where
+  over : (o : Option S) → o ≡ option_and_then (after f zero) o
+  over None = refl
+  over (Some d) = refl
+
+  over_more : (n : ℕ) → ((d : S) → option_and_then f (after f n d) ≡ option_and_then (after f n) (f d)) → (o : Option S)
+      → option_and_then f (option_and_then (after f n) o) ≡ option_and_then (after f (suc n)) o
+  over_more n h None = refl
+  over_more n h (Some d) = h d
+
+  last_step : (n : ℕ) (c : S) → option_and_then f (after f n c) ≡ option_and_then (after f n) (f c)
+  last_step zero c = over (f c)
+  last_step (suc n) c = over_more n (last_step n) (f c)
+
+same_after : (code : Listing) (n : ℕ) (c : Configuration) → code_steps.after code c n ≡ after (step code) n c
+same_after code zero c = refl
+same_after code (suc n) c = ap (option_and_then (step code)) (same_after code n c) ∙ last_step (step code) n c
+
+module _ (code : Listing) (same : ℕ → ℕ → Bool) where
+  end_last : (slots : List Value) (r : Option Value) → step code (at (length code.instructions) slots r []) ≡ None
+  end_last slots r =
+      ap (step_by code (at (length code.instructions) slots r []))
+      (slice_get_past code.instructions (length code.instructions) (omega arith))
+
+  leads_by : (from to : List Value) (n : ℕ) → (e : Ends code from n to)
+      → Leads (step code) (start from) (at (length code.instructions) to e.result [])
+  leads_by from to n e = record { steps = n; is = sym (same_after code n (start from)) ∙ e.run.is }
+
+  pub one_end : (from to : List Value) (n : ℕ) (o : Option (List Value)) → Comes code same (start from) o
+      → Ends code from n to → o ≡ Some to
+  one_end from to n None h e =
+      let end = at (length code.instructions) to e.result [] in
+      let same =
+      same_last (step code) (start from) h.last end h.leads h.none_on (leads_by from to n e)
+      (end_last to e.result) in
+      let within = slice_get_within code.instructions h.last.place h.word h.stands in
+      let place = ap (λ (c : Configuration). c.place) same in
+      absurd (omega arith)
+  one_end from to n (Some s) h e =
+      let end = at (length code.instructions) to e.result [] in
+      let same =
+      same_last (step code) (start from) (at (length code.instructions) s h.0 []) end h.1 (end_last s h.0)
+      (leads_by from to n e) (end_last to e.result) in
+      ap (λ (c : Configuration). Some c.slots) same
+
+  pub some_end : (from to : List Value) (o : Option (List Value)) → Comes code same (start from) o → o ≡ Some to
+      → (n : ℕ) × Ends code from n to
+  some_end from to None h e = absurd cc
+  some_end from to (Some s) h e =
+      let q : s ≡ to = cc in (
+        h.1.steps,
+        subst (λ x. Ends code from h.1.steps x) q
+            (record { result = h.0; run = record { is = same_after code h.1.steps (start from) ∙ h.1.is } }),
+      )

@@ -1,0 +1,87 @@
+-- The code of a task does what the task means.
+use Rattle.std.proofs.Common.{◌≡◌, ℕ, suc, ◌+◌, List, [], ◌∷◌, ◌++◌, Bool, true, false, cond, ◌||◌, Some, refl, sym}
+use Rattle.std.proofs.Common.{ap, subst, arith}
+use Rattle.std.specs.Prelude.{slice_get, not, flat_map, map, IfSome}
+use Rattle.std.specs.List.{list_any}
+use Rattle.iltypes.specs.declared.value.Value.{Value}
+use Rattle.iltrees.specs.declared.operand.Operand.{Operand}
+use Rattle.iltrees.specs.declared.operand.Operand.TheVariants.{Name, Constant}
+use Rattle.iltrees.specs.declared.instruction.Line.{Line}
+use Rattle.iltrees.specs.declared.uses.Use.{Use}
+use Rattle.iltrees.specs.Uses.{uses_in}
+use Rattle.iltrees.specs.Words.{AreShallow, AreStraight}
+use Rattle.ilplan.specs.Constants.{same_value, constant_in, AreAmong}
+use Rattle.ilplan.specs.Plans.{PlannedInstance, PlannedTask, KeepsLimits, all_lines}
+use Rattle.ilplan.specs.PlanMeaning.{number_same}
+use Rattle.ilplan.proofs.EachOnce.{same_is}
+use Rattle.ilplan.proofs.Used.{uses_among}
+use Rattle.ilcode.specs.Listings.{Listing}
+use Rattle.ilcompile.specs.Layout.{number_of, programs_of, laid_out}
+use Rattle.ilcompile.specs.Meant.{IsMeant}
+use Rattle.ilcompile.proofs.Stands.{Each}
+use Rattle.ilcompile.proofs.Served.{IsServed, AreServed, served_front, served_back}
+use Rattle.ilcompile.proofs.LineRuns.{IsFit}
+use Rattle.ilcompile.proofs.ScanRuns.{all_run}
+use Rattle.ilcompile.proofs.CodeEnds.{one_end, some_end}
+
+-- a constant that is in the table stands at its number
+stands : (v : Value) (constants : List Value) → list_any (same_value v) constants ≡ true
+    → slice_get constants (number_of constants v) ≡ Some v
+stands v [] e = absurd cc
+stands v (c ∷ constants) e = go (same_value v c) (λ t. same_is v c t) e (stands v constants)
+  where
+    go : (b : Bool) → (b ≡ true → v ≡ c) → (b || list_any (same_value v) constants) ≡ true
+        → (list_any (same_value v) constants ≡ true → slice_get constants (number_of constants v) ≡ Some v)
+        → slice_get (c ∷ constants) (cond (not b) (1 + number_of constants v) 0) ≡ Some v
+    go true same f more = ap (λ x. Some x) (sym (same refl))
+    go false same f more =
+        let n : suc (number_of constants v) ≡ 1 + number_of constants v = omega arith in
+        subst (λ k. slice_get (c ∷ constants) k ≡ Some v) n (more f)
+
+module _ (constants : List Value) where
+  operand_served : (o : Operand ℕ) → IfSome (constant_in o) (λ v. list_any (same_value v) constants ≡ true)
+      → IsServed constants o
+  operand_served (Name slot) h = tt
+  operand_served (Constant value) h = stands value constants h
+
+  all_served : (uses : List (Use ℕ)) → AreAmong constants uses → AreServed constants uses
+  all_served [] h = tt
+  all_served (u ∷ uses) h = (operand_served u.operand h.0, all_served uses h.1)
+
+  lines_fit : (lines : List (Line ℕ ℕ)) → AreShallow lines → AreStraight lines
+      → AreServed constants (flat_map uses_in lines) → Each (IsFit constants) lines
+  lines_fit [] sh st sv = tt
+  lines_fit (line ∷ lines) sh st sv =
+      let mine = served_front constants (uses_in line) (flat_map uses_in lines) sv in
+      let others = served_back constants (uses_in line) (flat_map uses_in lines) sv in
+      ((sh.0, st.1, mine), lines_fit lines sh.1 st.2 others)
+
+module _ {X : Type 0} (K : X → Type 0) where
+  each_front : (a b : List X) → Each K (a ++ b) → Each K a
+  each_front [] b h = tt
+  each_front (x ∷ a) b h = (h.0, each_front a b h.1)
+
+  each_back : (a b : List X) → Each K (a ++ b) → Each K b
+  each_back [] b h = h
+  each_back (x ∷ a) b h = each_back a b h.1
+
+  each_part : {Y : Type 0} (f : Y → List X) (ys : List Y) → Each K (flat_map f ys) → Each (Each K) (map f ys)
+  each_part f [] h = tt
+  each_part f (y ∷ ys) h =
+      (each_front (f y) (flat_map f ys) h, each_part f ys (each_back (f y) (flat_map f ys) h))
+
+programs_fit : (t : PlannedTask) → KeepsLimits t → Each (Each (IsFit t.constants)) (programs_of t.instances)
+programs_fit t k =
+    let lines = all_lines t.instances in
+    let among = subst (λ cs. AreAmong cs (flat_map uses_in lines)) (sym k.constants) (uses_among lines) in
+    each_part (IsFit t.constants) (λ (i : PlannedInstance). i.lines) t.instances
+    (lines_fit t.constants lines k.shallow k.straight (all_served t.constants (flat_map uses_in lines) among))
+
+pub is_meant : (buses : ℕ) (text : List ℕ) (t : PlannedTask) → KeepsLimits t → IsMeant t (laid_out buses text t)
+is_meant buses text t k =
+    let code : Listing = laid_out buses text t in
+    let comes = all_run code number_same (programs_of t.instances) refl refl (programs_fit t k) in
+    record {
+      runs = λ from to h. some_end code number_same from to _ (comes from) h;
+      means = λ from to steps e. one_end code number_same from to steps _ (comes from) e;
+    }

@@ -1,0 +1,299 @@
+-- The run of a code is the runs of its programs, one after another.
+use Rattle.std.proofs.Common.{◌≡◌, ℕ, zero, suc, ◌+◌, ◌<◌, ◌≤◌, List, [], ◌∷◌, ◌++◌, length, Bool, true, false, cond}
+use Rattle.std.proofs.Common.{Option, Some, None, refl, sym, ap, ◌∙◌, subst, arith, append_assoc, length-append}
+use Rattle.std.specs.Prelude.{◌==◌, slice_get, ⊤}
+use Rattle.std.specs.Option.{option_and_then}
+use Rattle.std.proofs.lemmas.Bool.Decides.{nat_tests}
+use Rattle.std.proofs.lemmas.List.{append-nil}
+use Rattle.std.proofs.lemmas.Option.{slice_get_within}
+use Rattle.iltypes.specs.declared.value.Value.{Value}
+use Rattle.iltrees.specs.declared.instruction.Line.{Line}
+use Rattle.iltrees.specs.Meaning.{Access, On}
+use Rattle.iltrees.specs.Passes.{passes, scan}
+use Rattle.ilcode.specs.declared.instruction.Instruction.{Instruction as Word}
+use Rattle.ilcode.specs.Listings.{Listing}
+use Rattle.ilcode.specs.Steps.{Configuration, at, effect, is_start, if_closed, entered, step_by, step}
+use Rattle.ilcode.proofs.Runs.{effect_place}
+use Rattle.ilcompile.specs.Layout.{words_of_lines, words_of_programs, starts_from}
+use Rattle.ilplan.specs.PlanMeaning.{slots_of}
+use Rattle.ilcompile.proofs.Runs.{Leads, after, none, prepend, leads_on, first_step}
+use Rattle.ilcompile.proofs.Stands.{Each, HasWords, has_rest}
+use Rattle.ilcompile.proofs.Starts.{Programs, UpTo, one_more, none_between, one_there}
+use Rattle.ilcompile.proofs.TreeRuns.{plain, Stuck}
+use Rattle.ilcompile.proofs.LineRuns.{IsFit, Passes, lines_run}
+
+-- how a run comes to the programs that are left
+abbrev pub Ready : Programs → Option Value → Type 0
+Ready [] r = ⊤
+Ready (lines ∷ more) r = r ≡ None
+
+module _ (code : Listing) (same : ℕ → ℕ → Bool) where
+  abbrev access : Access ℕ (List Value)
+  access = slots_of code.slots
+
+  -- the run of the code comes to a word that is undefined there
+  pub record CodeStuck (c : Configuration) : Type 0 where
+    pub last : Configuration
+    pub leads : Leads (step code) c last
+    pub none_on : step code last ≡ None
+    pub word : Word
+    pub stands : slice_get code.instructions last.place ≡ Some word
+
+  -- the run of the code comes to its end with these values, or is stuck
+  abbrev pub Comes : Configuration → Option (List Value) → Type 0
+  Comes c None = CodeStuck c
+  Comes c (Some s) = (r : Option Value) × Leads (step code) c (at (length code.instructions) s r [])
+
+  comes_later : (c d : Configuration) (o : Option (List Value)) → Leads (step code) c d → Comes d o → Comes c o
+  comes_later c d None l h =
+      record {
+        last = h.last;
+        leads = leads_on (step code) c d h.last l h.leads;
+        none_on = h.none_on;
+        word = h.word;
+        stands = h.stands;
+      }
+  comes_later c d (Some s) l h =
+      (h.0, leads_on (step code) c d (at (length code.instructions) s h.0 []) l h.1)
+
+  unequal : (m n : ℕ) → m < n → (m == n) ≡ false
+  unequal m n h = grind (arith, nat_tests)
+
+  -- nothing is done where no program begins and the code doesn't end
+  entered_quiet : (d : Configuration) → is_start code d.place ≡ false → d.place < length code.instructions
+      → entered code d ≡ Some d
+  entered_quiet d h lt =
+      ap
+      (λ b. cond b (if_closed d.nesting (record d { result = None }))
+      (cond (d.place == length code.instructions) (if_closed d.nesting d) (Some d)))
+      h
+      ∙ ap (λ b. cond b (if_closed d.nesting d) (Some d)) (unequal d.place (length code.instructions) lt)
+
+  -- the words up to the end of one program, and those after them
+  module _ (front rest : List Word) (base : ℕ) (is : code.instructions ≡ front ++ rest)
+      (quiet : (p : ℕ) → base < p → p < length front → is_start code p ≡ false) where
+    abbrev part : Configuration → Option Configuration
+    part = plain code front
+
+    word_of_both : (xs ys : List Word) (p : ℕ) (w : Word) → slice_get xs p ≡ Some w → slice_get (xs ++ ys) p ≡ Some w
+    word_of_both [] ys p w e = absurd cc
+    word_of_both (x ∷ xs) ys zero w e = e
+    word_of_both (x ∷ xs) ys (suc p) w e = word_of_both xs ys p w e
+
+    word_here : (p : ℕ) (w : Word) → slice_get front p ≡ Some w → slice_get code.instructions p ≡ Some w
+    word_here p w e = ap (λ ws. slice_get ws p) is ∙ word_of_both front rest p w e
+
+    -- a step of the whole is that of the part, and then perhaps a start or the end
+    whole_step : (c : Configuration) (w : Word) → slice_get front c.place ≡ Some w
+        → step code c ≡ option_and_then (entered code) (part c)
+    whole_step c w e =
+        ap (step_by code c) (word_here c.place w e)
+        ∙ sym (ap (λ o. option_and_then (entered code) (option_and_then (effect code c) o)) e)
+
+    -- a step of the part is that of a word, and leads further on, not past its end
+    record IsWord (c d : Configuration) : Type 0 where
+      word : Word
+      stands : slice_get front c.place ≡ Some word
+      later : c.place < d.place
+      within : d.place ≤ length front
+
+    known_by : (c d : Configuration) (o : Option Word) → slice_get front c.place ≡ o
+        → option_and_then (effect code c) o ≡ Some d → IsWord c d
+    known_by c d None e f = absurd cc
+    known_by c d (Some w) e f =
+        let lt = slice_get_within front c.place w e in
+        let place = effect_place code c d w f in
+        record { word = w; stands = e; later = omega arith; within = omega arith }
+
+    known : (c d : Configuration) → part c ≡ Some d → IsWord c d
+    known c d e = known_by c d (slice_get front c.place) refl e
+
+    quiet_step : (c d : Configuration) → base ≤ c.place → part c ≡ Some d → d.place < length front
+        → step code c ≡ Some d
+    quiet_step c d h e lt =
+        let k = known c d e in
+        let later = k.later in
+        let long = ap length is ∙ length-append front rest in
+        whole_step c k.word k.stands
+        ∙ (ap (option_and_then (entered code)) e
+        ∙ entered_quiet d (quiet d.place (omega arith) lt) (omega arith))
+
+    inside : (n : ℕ) (m d : Configuration) → after part n m ≡ Some d → d.place < length front → m.place < length front
+    inside zero m d e h = let q : m ≡ d = cc in let p = ap (λ (x : Configuration). x.place) q in omega arith
+    inside (suc n) m d e h =
+        first_step part n d (part m) e
+        (λ m2 p q. let k = known m m2 p in slice_get_within front m.place k.word k.stands)
+
+    -- up to a place before the end of the part the whole runs as the part
+    lift_inside : (n : ℕ) (c d : Configuration) → base ≤ c.place → after part n c ≡ Some d → d.place < length front
+        → Leads (step code) c d
+    lift_inside zero c d h e lt = let q : c ≡ d = cc in subst (λ x. Leads (step code) c x) q (none (step code) c)
+    lift_inside (suc n) c d h e lt =
+        first_step part n d (part c) e (λ m p q.
+        let k = known c m p in let later = k.later in
+        prepend (step code) c m d (quiet_step c m h p (inside n m d q lt)) (lift_inside n m d (omega arith) q lt))
+
+    -- and on to what is entered behind it
+    lift_run : (n : ℕ) (c d e : Configuration) → base ≤ c.place → after part (suc n) c ≡ Some d
+        → entered code d ≡ Some e → Leads (step code) c e
+    lift_run zero c d e h run enter =
+        first_step part zero d (part c) run (λ m p q.
+        let z : m ≡ d = cc in
+        let k = known c m p in
+        prepend (step code) c e e
+        (whole_step c k.word k.stands
+        ∙ (ap (option_and_then (entered code)) p ∙ (ap (entered code) z ∙ enter)))
+        (none (step code) e))
+    lift_run (suc n) c d e h run enter =
+        first_step part (suc n) d (part c) run (λ m p q.
+        let k = known c m p in let later = k.later in
+        let lt = first_step part n d (part m) q
+        (λ m2 p2 q2. let k2 = known m m2 p2 in slice_get_within front m.place k2.word k2.stands) in
+        prepend (step code) c m e (quiet_step c m h p lt) (lift_run n m d e (omega arith) q enter))
+
+    lift_stuck : (c : Configuration) → base ≤ c.place → Stuck code front c → CodeStuck c
+    lift_stuck c h s =
+        let lt = slice_get_within front s.last.place s.word s.stands in
+        record {
+          last = s.last;
+          leads = lift_inside s.leads.steps c s.last h s.leads.is lt;
+          none_on =
+              whole_step s.last s.word s.stands ∙ ap (option_and_then (entered code)) s.none;
+          word = s.word;
+          stands = word_here s.last.place s.word s.stands;
+        }
+
+    -- where the part's run comes to its end, the run of the whole goes on from there
+    on_end : (n : ℕ) (c : Configuration) (s : List Value) (r r' : Option Value) (o : Option (List Value))
+        → base ≤ c.place → after part n c ≡ Some (at (length front) s r [])
+        → entered code (at (length front) s r []) ≡ Some (at (length front) s r' [])
+        → (c ≡ at (length front) s r [] → Comes (at (length front) s r []) o) → Comes (at (length front) s r' []) o
+        → Comes c o
+    on_end zero c s r r' o h run enter same later =
+        let q : c ≡ at (length front) s r [] = cc in subst (λ x. Comes x o) (sym q) (same q)
+    on_end (suc n) c s r r' o h run enter same later =
+        comes_later c (at (length front) s r' []) o
+        (lift_run n c (at (length front) s r []) (at (length front) s r' []) h run enter) later
+
+  -- the programs that are left, where the words and the starts of those before stand in front
+  record Left (front : List Word) (before : List ℕ) (p : ℕ) (more : Programs) : Type 0 where
+    place : p ≡ length front
+    words : code.instructions ≡ front ++ words_of_programs code.constants more
+    starts : code.starts ≡ before ++ starts_from code.constants p more
+    behind : UpTo p before
+
+  next_left : (front : List Word) (before : List ℕ) (p : ℕ) (lines : List (Line ℕ ℕ)) (more : Programs)
+      → Left front before p (lines ∷ more)
+      → Left (front ++ words_of_lines code.constants lines) (before ++ p ∷ [])
+      (p + length (words_of_lines code.constants lines)) more
+  next_left front before p lines more l =
+      let ws = words_of_lines code.constants lines in
+      let e = l.place in
+      record {
+        place = omega (arith, length-append front ws);
+        words = l.words ∙ sym (append_assoc front ws (words_of_programs code.constants more));
+        starts = l.starts ∙ sym (append_assoc before (p ∷ []) (starts_from code.constants (p + length ws) more));
+        behind = one_more before p (p + length ws) (omega arith) l.behind;
+      }
+
+  quiet_here : (front : List Word) (before : List ℕ) (p q : ℕ) (more : Programs)
+      → Left front (before ++ p ∷ []) q more → UpTo p before → (n : ℕ) → p < n → n < length front
+      → is_start code n ≡ false
+  quiet_here front before p q more l behind n lo hi =
+      let e = l.place in
+      ap (λ ss. is_start (record code { starts = ss }) n) l.starts
+      ∙ none_between code.constants (before ++ p ∷ []) more p q n (one_more before p p (omega arith) behind) lo
+      (omega arith)
+
+  ends_code : (front : List Word) (before : List ℕ) (q : ℕ) (more : Programs) → Left front before q more
+      → more ≡ [] → length code.instructions ≡ q
+  ends_code front before q more l e =
+      ap length (l.words ∙ ap (λ m. front ++ words_of_programs code.constants m) e ∙ append-nil front) ∙ sym l.place
+
+  -- what is entered with nothing open: at a start there is no result
+  enters : (c : Configuration) (starts ends : Bool)
+      → (r : Option Value)
+      × (cond starts (Some (record c { result = None })) (cond ends (Some c) (Some c)) ≡ Some (record c { result = r }))
+      × (starts ≡ true → r ≡ None)
+  enters c true ends = (None, refl, λ e. refl)
+  enters c false true = (c.result, refl, λ e. absurd cc)
+  enters c false false = (c.result, refl, λ e. absurd cc)
+
+  -- at the end of a program the next one begins, with no result
+  begins_next : (more : Programs) (q : ℕ) (before : List ℕ) (s : List Value) (r : Option Value)
+      → code.starts ≡ before ++ starts_from code.constants q more
+      → (r' : Option Value) × (entered code (at q s r []) ≡ Some (at q s r' [])) × Ready more r'
+  begins_next more q before s r e =
+      let k = enters (at q s r []) (is_start code q) (q == length code.instructions) in
+      (k.0, k.1, ready more e k.0 k.2)
+    where
+      ready : (ms : Programs) → code.starts ≡ before ++ starts_from code.constants q ms → (x : Option Value)
+          → (is_start code q ≡ true → x ≡ None) → Ready ms x
+      ready [] f x h = tt
+      ready (lines ∷ ms) f x h =
+          h (ap (λ ss. is_start (record code { starts = ss }) q) f
+          ∙ one_there before (starts_from code.constants (q + length (words_of_lines code.constants lines)) ms) q)
+
+  ready_none : (more : Programs) (r : Option Value) → None ≡ r → Ready more r
+  ready_none [] r e = tt
+  ready_none (lines ∷ more) r e = sym e
+
+  -- one program, where it is known how the run goes on behind it
+  go_on : (front : List Word) (before : List ℕ) (p : ℕ) (lines : List (Line ℕ ℕ)) (more : Programs)
+      → Left front before p (lines ∷ more)
+      → (l : Left (front ++ words_of_lines code.constants lines) (before ++ p ∷ [])
+      (p + length (words_of_lines code.constants lines)) more)
+      → (s : List Value) (o : Option (List Value))
+      → Passes code (front ++ words_of_lines code.constants lines) same
+      (p + length (words_of_lines code.constants lines)) (at p s None []) o
+      → ((s1 : List Value) (r1 : Option Value) → Ready more r1
+      → Comes (at (p + length (words_of_lines code.constants lines)) s1 r1 []) (scan same access more s1))
+      → Comes (at p s None []) (option_and_then (scan same access more) o)
+  go_on front before p lines more old l s None h next =
+      let q = p + length (words_of_lines code.constants lines) in
+      let f = front ++ words_of_lines code.constants lines in
+      lift_stuck f (words_of_programs code.constants more) p l.words
+      (λ n lo hi. quiet_here f before p q more l old.behind n lo hi) (at p s None []) (omega arith) h
+  go_on front before p lines more old l s (Some s1) h next =
+      let q = p + length (words_of_lines code.constants lines) in
+      let f = front ++ words_of_lines code.constants lines in
+      let left = scan same access more s1 in
+      let b = begins_next more q (before ++ p ∷ []) s1 h.0 l.starts in
+      let run = subst (λ n. Leads (plain code f) (at p s None []) (at n s1 h.0 [])) l.place h.1 in
+      on_end f (words_of_programs code.constants more) p l.words
+      (λ n lo hi. quiet_here f before p q more l old.behind n lo hi)
+      run.steps (at p s None []) s1 h.0 b.0 left (omega arith) run.is
+      (subst (λ n. entered code (at n s1 h.0 []) ≡ Some (at n s1 b.0 [])) l.place b.1)
+      (λ e. subst (λ n. Comes (at n s1 h.0 []) left) l.place
+      (next s1 h.0 (ready_none more h.0 (ap (λ (x : Configuration). x.result) e))))
+      (subst (λ n. Comes (at n s1 b.0 []) left) l.place (next s1 b.0 b.2))
+
+  -- all programs that are left
+  programs_run : (programs : Programs) (front : List Word) (before : List ℕ) (p : ℕ)
+      → Left front before p programs → Each (Each (IsFit code.constants)) programs → (s : List Value) (r : Option Value)
+      → Ready programs r → Comes (at p s r []) (scan same access programs s)
+  programs_run [] front before p l fit s r ready =
+      let e = ends_code front before p [] l refl in
+      (r, subst (λ n. Leads (step code) (at p s r []) (at n s r [])) (sym e) (none (step code) (at p s r [])))
+  programs_run (lines ∷ more) front before p l fit s r ready =
+      let ws = words_of_lines code.constants lines in
+      let q = p + length ws in
+      let l' = next_left front before p lines more l in
+      let has = subst (λ n. HasWords (front ++ ws) n ws) (sym l.place) (has_rest ws front) in
+      let passed = passes same access lines On None s in
+      let comes = (lines_run code (front ++ ws) same q lines p has fit.0 refl On None s).2 in
+      subst (λ x. Comes (at p s x []) (option_and_then (scan same access more) passed)) (sym ready)
+      (go_on front before p lines more l l' s passed comes
+      (λ s1 r1 rd. programs_run more (front ++ ws) (before ++ p ∷ []) q l' fit.1 s1 r1 rd))
+
+  -- from the first word on
+  pub all_run : (programs : Programs) → code.instructions ≡ words_of_programs code.constants programs
+      → code.starts ≡ starts_from code.constants 0 programs → Each (Each (IsFit code.constants)) programs
+      → (s : List Value) → Comes (at 0 s None []) (scan same access programs s)
+  all_run programs words starts fit s =
+      programs_run programs [] [] 0 (record { place = refl; words = words; starts = starts; behind = tt }) fit s None
+      (first programs)
+    where
+      first : (ps : Programs) → Ready ps None
+      first [] = tt
+      first (lines ∷ more) = refl

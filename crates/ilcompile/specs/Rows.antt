@@ -1,0 +1,101 @@
+-- Worked layouts. The text has a line feed at each place, so that what is at place k stands on line k + 1.
+use Rattle.std.specs.Prelude.{◌≡◌, ℕ, pos, true, false, List, [], ◌∷◌, map, flat_map, replicate, Some}
+use Rattle.std.specs.Prelude.{None, length, ⊤}
+use Rattle.iltypes.specs.declared.value.IlType.TheVariants as types
+use Rattle.iltypes.specs.declared.value.Value.{Value}
+use Rattle.iltypes.specs.declared.value.Value.TheVariants as values
+use Rattle.iloperators.specs.declared.operator.Operator.TheVariants.{Mul, Sub, Eq, Min, Max}
+use Rattle.iltrees.specs.declared.operand.Operand.{Operand}
+use Rattle.iltrees.specs.declared.operand.Operand.TheVariants.{Name, Constant}
+use Rattle.iltrees.specs.declared.instruction.Instruction.{Instruction}
+use Rattle.iltrees.specs.declared.instruction.Instruction.TheVariants as instructions
+use Rattle.iltrees.specs.declared.instruction.Line.{Line}
+use Rattle.iltrees.specs.Trees as trees
+use Rattle.ilsource.specs.declared.name.Name.{Name as NameInText}
+use Rattle.ilplan.specs.declared.instance.Slot.{Slot}
+use Rattle.ilplan.specs.Constants.{different_constants}
+use Rattle.ilplan.specs.Plans.{PlannedTask, task_of}
+use Rattle.ilcode.specs.declared.instruction.Operand.TheVariants as operands
+use Rattle.ilcode.specs.declared.instruction.Instruction.{Instruction as Word}
+use Rattle.ilcode.specs.declared.instruction.Instruction.TheVariants as words
+use Rattle.ilcode.specs.Listings.{listing_of}
+use Rattle.ilcompile.specs.Layout.{laid_out}
+
+abbrev pub no_name : NameInText
+no_name = record { from = 0; to = 0 }
+
+abbrev pub slot : Slot
+slot = record { instance = no_name; variable = no_name; value_type = types.Bool; initial = values.Bool false }
+
+-- a task with these programs, two variables and the constants
+abbrev pub task : List (List (Line ℕ ℕ)) → List Value → PlannedTask
+task programs constants =
+    task_of [] false (slot ∷ slot ∷ []) constants (map (λ lines. record { name = no_name; lines = lines }) programs)
+
+-- on two buses they are laid out with these constants, starts, words, and a line for each of these
+abbrev pub AreLaidOut : List (List (Line ℕ ℕ)) → List Value → List ℕ → List Word → List ℕ → Type 0
+AreLaidOut programs constants starts ws numbers =
+    laid_out 2 (replicate 20 10) (task programs (different_constants (flat_map (λ lines. lines) programs)))
+    ≡ listing_of 2 constants (types.Bool ∷ types.Bool ∷ []) starts ws numbers
+
+abbrev pub truth : Value
+truth = values.Bool true
+
+abbrev pub whole : ℕ → Value
+whole n = values.Int (pos n)
+
+-- the line of an instruction at a place
+abbrev pub line : ℕ → Instruction ℕ ℕ → Line ℕ ℕ
+line at i = record { at = at; label = None; instruction = Some i }
+
+-- LD, ST
+abbrev pub ld : ℕ → Operand ℕ → Line ℕ ℕ
+ld at o = line at (instructions.Load false o)
+
+abbrev pub st : ℕ → ℕ → Line ℕ ℕ
+st at slot = line at (instructions.Store false slot)
+
+-- LD 3, SUB( a, MUL 2, ), ST b
+abbrev pub difference : List (Line ℕ ℕ)
+difference =
+    ld 2 (Constant (whole 3))
+    ∷ line 3 (instructions.Deferred Sub (trees.Apply (trees.Load 3 false (Name 0)) 4 Mul (Constant (whole 2))) 5)
+    ∷ st 6 1 ∷ []
+
+abbrev pub words_of_difference : List Word
+words_of_difference =
+    words.Load false (operands.Constant 0) ∷ words.Open Sub ∷ words.Load false (operands.Slot 0)
+    ∷ words.Apply Mul (operands.Constant 1) ∷ words.Close ∷ words.Store false 1 ∷ []
+
+-- LD a, LIMIT 0, 254, ST a
+abbrev pub limited : List (Line ℕ ℕ)
+limited = ld 2 (Name 0) ∷ line 3 (instructions.Limit (Constant (whole 0)) (Constant (whole 254))) ∷ st 4 0 ∷ []
+
+abbrev pub words_of_limited : List Word
+words_of_limited =
+    words.Load false (operands.Slot 0) ∷ words.Apply Max (operands.Constant 0)
+    ∷ words.Apply Min (operands.Constant 1) ∷ words.Store false 0 ∷ []
+
+-- LDN TRUE, S a; a program without lines; and LD 1, EQ 1, LD TRUE, STN b
+abbrev pub in_turn : List (List (Line ℕ ℕ))
+in_turn =
+    (line 2 (instructions.Load true (Constant truth)) ∷ line 3 (instructions.Set 0) ∷ []) ∷ []
+    ∷ (ld 8 (Constant (whole 1)) ∷ line 9 (instructions.Apply Eq (Constant (whole 1))) ∷ ld 10 (Constant truth)
+    ∷ line 11 (instructions.Store true 1) ∷ [])
+    ∷ []
+
+abbrev pub words_in_turn : List Word
+words_in_turn =
+    words.Load true (operands.Constant 0) ∷ words.Set 0 ∷ words.Load false (operands.Constant 1)
+    ∷ words.Apply Eq (operands.Constant 1) ∷ words.Load false (operands.Constant 0) ∷ words.Store true 1 ∷ []
+
+-- each line loads a constant
+abbrev pub AreLoads : List (Line ℕ ℕ) → Type 0
+AreLoads [] = ⊤
+AreLoads (line ∷ lines) = ((value : Value) × (line ≡ ld 0 (Constant value))) × AreLoads lines
+
+-- so many lines load a constant each, and these are the constants
+pub record LoadConstants (lines : List (Line ℕ ℕ)) (constants : List Value) (number : ℕ) : Type 0 where
+  pub are : AreLoads lines
+  pub all : constants ≡ different_constants lines
+  pub long : length lines ≡ number
