@@ -5,7 +5,7 @@ ghost use Rattle.iltypes.specs.Values.{AreOf};
 
 use iltypes::{IlType, Value};
 
-mod limits;
+mod calls;
 mod numbers;
 mod truths;
 
