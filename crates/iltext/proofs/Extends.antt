@@ -1,8 +1,7 @@
 -- Adding to a list what is read.
-use Rattle.std.proofs.Common.{◌≡◌, List, ◌++◌, Result, Ok, Err, refl, sym, ap, ◌∙◌}
+use Rattle.std.proofs.Common.{◌≡◌, List, ◌++◌, Result, Ok, Err, refl, sym, ap}
 use Rattle.ilgrammar.specs.declared.ReadError.{ReadError}
 use Rattle.ilgrammar.specs.declared.ReadError.TheVariants as errors
-use Rattle.ilgrammar.specs.Items.{◌>>=◌}
 use Rattle.ilgrammar.specs.Results.{Fails, extend}
 use Rattle.iltext.specs.declared.token.Token.{Token}
 

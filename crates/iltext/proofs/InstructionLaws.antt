@@ -1,5 +1,5 @@
 -- The items of instructions are lawful, in parentheses to any depth and outside them.
-use Rattle.std.proofs.Common.{◌≡◌, ◌||◌, ℕ, zero, suc, Bool, true, false, List, refl}
+use Rattle.std.proofs.Common.{◌≡◌, ℕ, zero, suc, Bool, true, false, List, refl}
 use Rattle.limits.specs.Limits.{most_nesting}
 use Rattle.iloperators.specs.declared.operator.Operator.{Operator}
 use Rattle.iloperators.specs.Operators.{may_defer}
@@ -19,10 +19,10 @@ use Rattle.iltext.specs.declared.roles.Role.TheVariants as roles
 use Rattle.iltext.specs.declared.token.Kind.{Kind}
 use Rattle.iltext.specs.declared.token.Kind.TheVariants as kinds
 use Rattle.iltext.specs.declared.token.Token.{Token}
-use Rattle.iltext.specs.Roles.{role_of_word, role_at, inner_role_at}
+use Rattle.iltext.specs.Roles.{role_of_word, inner_role_at}
 use Rattle.iltext.specs.Terminals.{mark, operand, closing, line_break, ended}
 use Rattle.iltext.specs.Instructions.{TextLine, on_operand, on_content, on_either, bounds, operands, load, beginning}
-use Rattle.iltext.specs.Instructions.{inner_of, content_of, applied, inner, content, instruction, line, lines}
+use Rattle.iltext.specs.Instructions.{inner_of, content_of, applied, inner, instruction, line, lines}
 use Rattle.iltext.proofs.Marks.{Anything, token_of, Firm-mark}
 use Rattle.iltext.proofs.Ends.{NoEnd, Firm-name, Firm-operand, Firm-closing, Firm-line_break, Firm-ended, operand_no_end}
 

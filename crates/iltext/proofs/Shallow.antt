@@ -1,14 +1,14 @@
 -- Lines that are read have no more parentheses open at once than the limit, and no jump, return or call.
 use Rattle.std.proofs.Common.{◌≡◌, ℕ, zero, suc, ◌+◌, ◌≤◌, Bool, true, false, List, [], ◌∷◌, Option, Some, None}
 use Rattle.std.specs.Prelude.{⊤}
-use Rattle.std.proofs.Common.{Result, Ok, inl, inr, refl, sym, subst, ◌∙◌, arith}
+use Rattle.std.proofs.Common.{Ok, inl, inr, refl, sym, subst, ◌∙◌, arith}
 use Rattle.limits.specs.Limits.{most_nesting}
 use Rattle.iloperators.specs.declared.operator.Operator.{Operator}
 use Rattle.iloperators.specs.Operators.{may_defer}
 use Rattle.iltrees.specs.declared.instruction.Instruction.TheVariants as instructions
 use Rattle.iltrees.specs.Trees.{Tree, depth}
 use Rattle.iltrees.specs.Words.{IsShallow, AreShallow, IsStraight, AreStraight}
-use Rattle.ilgrammar.specs.Items.{Item, many, many_whole}
+use Rattle.ilgrammar.specs.Items.{Item, many_whole}
 use Rattle.ilsource.specs.declared.name.Name.{Name}
 use Rattle.iltext.specs.declared.roles.Role.{Role}
 use Rattle.iltext.specs.declared.roles.Role.TheVariants as roles

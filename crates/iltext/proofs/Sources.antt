@@ -1,11 +1,11 @@
 -- What the tokens of a text are read as is what the text spells, or its first fault.
 use Rattle.std.proofs.Common.{◌≡◌, ℕ, suc, ◌-◌, ◌≤◌, List, [], ◌∷◌, ◌++◌, length, take, Result, Ok, Err, IfOk, All}
-use Rattle.std.proofs.Common.{inl, inr, refl, sym, ap, subst, ◌∙◌, arith}
+use Rattle.std.proofs.Common.{inl, inr, sym, ap, subst, ◌∙◌, arith}
 use Rattle.std.proofs.lemmas.List.{length-append, take_at}
 use Rattle.std.proofs.Math.Decide.{dec_le}
 use Rattle.std.proofs.Math.Nat.{lt_of_not-le}
 use Rattle.std.specs.Prelude.{◌<◌, ◌↔◌, Bool, false, IsTrue, IfErr}
-use Rattle.ilgrammar.specs.Stops.{FaultAt, StopsBefore, whole_read}
+use Rattle.ilgrammar.specs.Stops.{StopsBefore, whole_read}
 use Rattle.ilgrammar.proofs.Exact.{whole_found, whole_only, whole_fault, stopped_split, one_fault, no_fault}
 use Rattle.limits.specs.Limits.{most_bytes}
 use Rattle.ilsource.specs.declared.source.Element.{Element}

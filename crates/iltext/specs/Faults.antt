@@ -1,6 +1,6 @@
 -- Faults of a text: their numbers (profile), their causes and their places.
 use Rattle.std.specs.Prelude.{◌≡◌, ℕ, ◌+◌, ◌-◌, nat_lt, nat_le, Bool, true, false, ◌&&◌, not, if◌then◌else◌}
-use Rattle.std.specs.Prelude.{List, [], ◌∷◌, length, Option, Some, None}
+use Rattle.std.specs.Prelude.{List, [], ◌∷◌, length, Option, Some}
 use Rattle.limits.specs.Limits.{most_nesting}
 use Rattle.iloperators.specs.Operators.{may_defer}
 use Rattle.ilsource.specs.Places.{line_at, col_at}

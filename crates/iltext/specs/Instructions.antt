@@ -15,7 +15,6 @@ use Rattle.ilsource.specs.declared.name.Name.{Name}
 use Rattle.iltokens.specs.declared.lexed.Mark.TheVariants as marks
 use Rattle.iltext.specs.declared.roles.Role.{Role}
 use Rattle.iltext.specs.declared.roles.Role.TheVariants as roles
-use Rattle.iltext.specs.declared.token.Kind.{Kind}
 use Rattle.iltext.specs.declared.token.Token.{Token}
 use Rattle.iltext.specs.Roles.{role_of, role_at, inner_role_at}
 use Rattle.iltext.specs.Terminals.{mark, name, operand, closing, line_break, ended}

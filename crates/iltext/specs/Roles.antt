@@ -1,5 +1,5 @@
 -- What operators do, by their words (IEC 61131-3, 3.2.2 and 2.5.1.5).
-use Rattle.std.specs.Prelude.{ℕ, Bool, true, false, ◌||◌, if◌then◌else◌, List, [], ◌∷◌, Option, Some, None}
+use Rattle.std.specs.Prelude.{ℕ, Bool, true, false, if◌then◌else◌, List, [], ◌∷◌, Option, Some, None}
 use Rattle.std.specs.Option.{option_map, option_and_then}
 use Rattle.ilgrammar.specs.Items.{is_in}
 use Rattle.iltokens.specs.declared.keyword.Keyword.{Keyword}

@@ -22,3 +22,6 @@ mod token;
 pub use fault::{TextCause, TextFault};
 pub use ilsource::Source;
 pub use parser::parse;
+
+#[cfg(test)]
+mod tests;

@@ -2,9 +2,8 @@ use Rattle.std.proofs.Common.{◌≡◌, true, false, refl, sym, ◌∙◌}
 use Rattle.std.proofs.lemmas.Result.{err_from_is_err_and}
 use Rattle.ilgrammar.specs.Items.{begins}
 use Rattle.ilgrammar.proofs.Loops.{adds_on, adds_none, all_added, adding_shrinks}
-use Rattle.iltrees.specs.Trees.{pieces_of}
 use Rattle.iltext.specs.Terminals.{ended}
-use Rattle.iltext.specs.Instructions.{on_operand, inner}
+use Rattle.iltext.specs.Instructions.{inner}
 use Rattle.iltext.specs.InstructionSteps.{pieces_in, may_open}
 use Rattle.iltext.proofs.Contents.{begun, not_begun, by_content, operand_fails, operand_applied}
 use Rattle.iltext.proofs.Extends.{fails_extended}

@@ -1,4 +1,4 @@
-use Rattle.std.proofs.Common.{◌≡◌, true, false, List, ◌++◌, Ok, refl}
+use Rattle.std.proofs.Common.{◌≡◌, true, false, ◌++◌, Ok, refl}
 use Rattle.std.proofs.lemmas.Result.{err_from_is_err_and}
 use Rattle.ilgrammar.specs.Items.{begins}
 use Rattle.ilgrammar.specs.Results.{extend}

@@ -1,0 +1,269 @@
+//! Source programs printed as texts, one instruction a line.
+
+use iloperators::{Function, IntegerType, Operator};
+use ilsource::{Constant, Element, Name, Program, Source, Specification, TypeDeclaration};
+use iltrees::{Action, Instruction, Line, Operand};
+use iltypes::Value;
+use std::alloc::{AllocError, Global};
+
+/// A text that grows.
+#[derive(Drop)]
+struct Page<'a> {
+    text: &'a [u8],
+    out: Vec<u8>,
+}
+
+impl Page<'_> {
+    fn add(&mut self, word: &[u8]) -> Result<(), AllocError> {
+        self.out.extend_from_slice(word)
+    }
+
+    fn add_name(&mut self, name: Name) -> Result<(), AllocError> {
+        let word = name.text(self.text);
+        self.out.extend_from_slice(word)
+    }
+
+    fn add_number(&mut self, alloc: Global, number: i64) -> Result<(), AllocError> {
+        let digits = format!(in alloc; "{number}")?;
+        self.add(digits.as_bytes())
+    }
+
+    fn add_constant(&mut self, alloc: Global, constant: Constant) -> Result<(), AllocError> {
+        match constant {
+            Constant::Bool(true) => self.add(b"TRUE"),
+            Constant::Bool(false) => self.add(b"FALSE"),
+            Constant::Number(number) => self.add_number(alloc, number),
+            Constant::Time(milliseconds) => {
+                self.add(b"T#")?;
+                self.add_number(alloc, i64::from(milliseconds))?;
+                self.add(b"ms")
+            }
+        }
+    }
+
+    fn add_specification(
+        &mut self,
+        alloc: Global,
+        specification: Specification,
+    ) -> Result<(), AllocError> {
+        match specification {
+            Specification::Bool => self.add(b"BOOL"),
+            Specification::Time => self.add(b"TIME"),
+            Specification::Integer(base) => self.add(type_name(base)),
+            Specification::Subrange { base, low, high } => {
+                self.add(type_name(base))?;
+                self.add(b"(")?;
+                self.add_number(alloc, low)?;
+                self.add(b"..")?;
+                self.add_number(alloc, high)?;
+                self.add(b")")
+            }
+            Specification::Named(name) => self.add_name(name),
+        }
+    }
+
+    fn add_typing(
+        &mut self,
+        alloc: Global,
+        specification: Specification,
+        initial: Option<Constant>,
+    ) -> Result<(), AllocError> {
+        self.add(b" : ")?;
+        self.add_specification(alloc, specification)?;
+        if let Some(constant) = initial {
+            self.add(b" := ")?;
+            self.add_constant(alloc, constant)?;
+        }
+        self.add(b";")
+    }
+
+    fn add_operand(&mut self, alloc: Global, operand: Operand<Name>) -> Result<(), AllocError> {
+        match operand {
+            Operand::Name(name) => self.add_name(name),
+            Operand::Constant(Value::Bool(true)) => self.add(b"TRUE"),
+            Operand::Constant(Value::Bool(false)) => self.add(b"FALSE"),
+            Operand::Constant(Value::Int(number)) => self.add_number(alloc, number),
+        }
+    }
+
+    /// A word, an operand, and the end of the line.
+    fn add_with(
+        &mut self,
+        alloc: Global,
+        word: &[u8],
+        operand: Operand<Name>,
+    ) -> Result<(), AllocError> {
+        self.add(word)?;
+        self.add(b" ")?;
+        self.add_operand(alloc, operand)?;
+        self.add(b"\n")
+    }
+
+    fn add_function(&mut self, function: Function) -> Result<(), AllocError> {
+        match function {
+            Function::Not => self.add(b"NOT\n"),
+            Function::Abs => self.add(b"ABS\n"),
+            Function::Convert(target) => {
+                self.add(b"_TO_")?;
+                self.add(type_name(target))?;
+                self.add(b"\n")
+            }
+        }
+    }
+
+    fn add_action(&mut self, alloc: Global, action: Action<Name>) -> Result<(), AllocError> {
+        match action {
+            Action::Load { negated, operand } => self.add_with(alloc, load_name(negated), operand),
+            Action::Apply(operator, operand) => {
+                self.add_with(alloc, operator_name(operator), operand)
+            }
+            Action::Transform(function) => self.add_function(function),
+            Action::Open(operator) => {
+                self.add(operator_name(operator))?;
+                self.add(b"(\n")
+            }
+            Action::Close => self.add(b")\n"),
+        }
+    }
+
+    fn add_instruction(
+        &mut self,
+        alloc: Global,
+        instruction: &Instruction<Name, Name>,
+    ) -> Result<(), AllocError> {
+        match instruction {
+            Instruction::Load { negated, operand } => {
+                self.add_with(alloc, load_name(*negated), *operand)
+            }
+            Instruction::Apply(operator, operand) => {
+                self.add_with(alloc, operator_name(*operator), *operand)
+            }
+            Instruction::Deferred {
+                operator,
+                nested,
+                ..
+            } => {
+                self.add_action(alloc, Action::Open(*operator))?;
+                for piece in nested.pieces() {
+                    self.add_action(alloc, piece.action)?;
+                }
+                self.add_action(alloc, Action::Close)
+            }
+            Instruction::Transform(function) => self.add_function(*function),
+            Instruction::Limit { low, high } => {
+                self.add(b"LIMIT ")?;
+                self.add_operand(alloc, *low)?;
+                self.add_with(alloc, b",", *high)
+            }
+            Instruction::Store { negated, variable } => {
+                let word: &[u8] = if *negated { b"STN" } else { b"ST" };
+                self.add_with(alloc, word, Operand::Name(*variable))
+            }
+            Instruction::Set(variable) => self.add_with(alloc, b"S", Operand::Name(*variable)),
+            Instruction::Reset(variable) => self.add_with(alloc, b"R", Operand::Name(*variable)),
+            Instruction::Jump(..) | Instruction::Return(_) | Instruction::Call { .. } => {
+                self.add(b"?\n")
+            }
+        }
+    }
+
+    fn add_program(&mut self, alloc: Global, program: &Program) -> Result<(), AllocError> {
+        self.add(b"PROGRAM ")?;
+        self.add_name(program.name())?;
+        for declaration in program.declarations() {
+            self.add(b" VAR ")?;
+            for (number, name) in declaration.names().iter().enumerate() {
+                self.add(if number == 0 { b"" } else { b", " })?;
+                self.add_name(*name)?;
+            }
+            self.add_typing(alloc, declaration.specification(), declaration.initial())?;
+            self.add(b" END_VAR")?;
+        }
+        self.add(b"\n")?;
+        for line in program.lines() {
+            if let Some(instruction) = &line.instruction {
+                self.add_instruction(alloc, instruction)?;
+            }
+        }
+        self.add(b"END_PROGRAM\n")
+    }
+
+    fn add_type(&mut self, alloc: Global, declared: &TypeDeclaration) -> Result<(), AllocError> {
+        self.add(b"TYPE ")?;
+        self.add_name(declared.name)?;
+        self.add_typing(alloc, declared.specification, declared.initial)?;
+        self.add(b" END_TYPE\n")
+    }
+}
+
+fn type_name(base: IntegerType) -> &'static [u8] {
+    match base {
+        IntegerType::Sint => b"SINT",
+        IntegerType::Int => b"INT",
+        IntegerType::Dint => b"DINT",
+        IntegerType::Usint => b"USINT",
+        IntegerType::Uint => b"UINT",
+        IntegerType::Udint => b"UDINT",
+    }
+}
+
+fn load_name(negated: bool) -> &'static [u8] {
+    if negated { b"LDN" } else { b"LD" }
+}
+
+fn operator_name(operator: Operator) -> &'static [u8] {
+    match operator {
+        Operator::And { negated: false } => b"AND",
+        Operator::And { negated: true } => b"ANDN",
+        Operator::Or { negated: false } => b"OR",
+        Operator::Or { negated: true } => b"ORN",
+        Operator::Xor { negated: false } => b"XOR",
+        Operator::Xor { negated: true } => b"XORN",
+        Operator::Add => b"ADD",
+        Operator::Sub => b"SUB",
+        Operator::Mul => b"MUL",
+        Operator::Div => b"DIV",
+        Operator::Mod => b"MOD",
+        Operator::Gt => b"GT",
+        Operator::Ge => b"GE",
+        Operator::Eq => b"EQ",
+        Operator::Ne => b"NE",
+        Operator::Le => b"LE",
+        Operator::Lt => b"LT",
+        Operator::Min => b"MIN",
+        Operator::Max => b"MAX",
+    }
+}
+
+/// The lines of a program, without the program around them.
+pub fn shown_lines(
+    alloc: Global,
+    text: &[u8],
+    lines: &[Line<Name, Name>],
+) -> Result<Vec<u8>, AllocError> {
+    let mut page = Page {
+        text,
+        out: Vec::new(alloc),
+    };
+    for line in lines {
+        if let Some(instruction) = &line.instruction {
+            page.add_instruction(alloc, instruction)?;
+        }
+    }
+    Ok(page.out)
+}
+
+/// The text of a source program: a block for each declaration, and `OP(` alone on its line.
+pub fn shown(alloc: Global, source: &Source) -> Result<Vec<u8>, AllocError> {
+    let mut page = Page {
+        text: source.text(),
+        out: Vec::new(alloc),
+    };
+    for element in source.elements() {
+        match element {
+            Element::DerivedType(declared) => page.add_type(alloc, declared)?,
+            Element::Program(program) => page.add_program(alloc, program)?,
+        }
+    }
+    Ok(page.out)
+}
