@@ -1,8 +1,10 @@
 -- What the words of a line say (profile): a keyword, then numbers, each in its range, and no word more. Numbers are decimal;
 -- the 24 bits of an event's frame are six hexadecimal digits.
-use Rattle.std.specs.Prelude.{ℕ, ◌-◌, ◌==◌, List, [], ◌∷◌, Option, Some, None, option_map, codes, bytes_eq, if◌then◌else◌}
+use Rattle.std.specs.Prelude.{ℕ, ◌-◌, ◌==◌, List, [], ◌∷◌, Option, Some, None, option_map, option_and_then, slice_get, codes, bytes_eq, if◌then◌else◌}
 use Rattle.limits.specs.Limits.{most_buses}
 use Rattle.wordlines.specs.WordLines.{number_in, hex_number}
+use Rattle.daliframe.specs.declared.schemes.EventScheme.{EventScheme}
+use Rattle.daliframe.specs.declared.schemes.EventScheme.TheVariants as scheme
 use Rattle.scenario.specs.declared.entries.FrameFate.{FrameFate}
 use Rattle.scenario.specs.declared.entries.FrameFate.TheVariants.{Lost, Damaged, Fault}
 use Rattle.scenario.specs.declared.entries.Entry.{Entry}
@@ -36,6 +38,18 @@ frame_in (word ∷ rest) = option_map (λ frame. (frame, rest)) (hex_number word
 -- the number of a bus, below that of the buses
 abbrev pub bus_in : List (List ℕ) → Option (ℕ × List (List ℕ))
 bus_in words = number_in (most_buses - 1) words
+
+-- the event schemes in the order of their numbers, from 0 (IEC 62386-103, clause 9)
+abbrev pub event_schemes : List EventScheme
+event_schemes = scheme.Instance ∷ scheme.Device ∷ scheme.DeviceInstance ∷ scheme.DeviceGroup ∷ scheme.InstanceGroup ∷ []
+
+abbrev pub scheme_with : ℕ → Option EventScheme
+scheme_with number = slice_get event_schemes number
+
+-- an event scheme, by its number
+abbrev pub scheme_in : List (List ℕ) → Option (EventScheme × List (List ℕ))
+scheme_in words =
+    option_and_then (λ taken. option_map (λ named. (named, taken.1)) (scheme_with taken.0)) (number_in 255 words)
 
 -- `gear b s`
 abbrev pub gear_of : List (List ℕ) → Option Entry
@@ -71,7 +85,7 @@ instance_of words =
     first (number_in 63 rest) (λ short rest.
     first (number_in 31 rest) (λ number rest.
     first (number_in 31 rest) (λ kind rest.
-    first (number_in 4 rest) (λ scheme rest.
+    first (scheme_in rest) (λ scheme rest.
     first (number_in 255 rest) (λ value rest. at_end rest (Instance bus short number kind scheme value)))))))
 
 -- `reply b n lost`, `damaged` or `fault`, where n counts from 1

@@ -1,6 +1,6 @@
 //! The entries of a scenario.
 
-use daliframe::{BusNumber, Frame24, InstanceNumber, InstanceType, ShortAddress};
+use daliframe::{BusNumber, EventScheme, Frame24, InstanceNumber, InstanceType, ShortAddress};
 
 /// What becomes of a frame that is sent.
 #[derive(Clone, Copy, Debug, PartialEq, Eq)]
@@ -46,8 +46,8 @@ pub enum Entry {
         number: InstanceNumber,
         /// The instance type (IEC 62386-103).
         kind: InstanceType,
-        /// The event scheme, 0 to 4 (IEC 62386-103).
-        scheme: u8,
+        /// The event scheme (IEC 62386-103).
+        scheme: EventScheme,
         /// The input value.
         value: u8,
     },

@@ -1,16 +1,17 @@
 //! The lines of a scenario.
 
-ghost use Rattle.std.specs.Prelude.{◌≡◌, ◌-◌, Some, None, MatchOption};
-ghost use Rattle.limits.specs.Limits.{most_buses};
+ghost use Rattle.std.specs.Prelude.{◌≡◌, ◌<◌, ◌-◌, Some, None, MatchOption};
 ghost use Rattle.wordlines.specs.WordLines.{words, IsTaken};
 ghost use Rattle.scenario.specs.Saying.{said, said_after, gear_of, lamp_failure_of, memory_of};
 ghost use Rattle.scenario.specs.Saying.{device_of, instance_of, reply_of};
+ghost use Rattle.scenario.specs.Saying.{scheme_in, scheme_with};
 ghost use Rattle.scenario.specs.Saying.{hear_fault_of, tick_of, event_of, fate_of, fate_in};
 ghost use Rattle.scenario.specs.Saying.{frame_in, at_end};
 
 use crate::entries::{Entry, FrameFate};
-use daliframe::{BusNumber, Frame24, InstanceNumber, InstanceType, ShortAddress};
-use limits::MOST_BUSES;
+use daliframe::{
+    BusNumber, EventScheme, Frame24, InstanceNumber, InstanceType, Number, ShortAddress,
+};
 use wordlines::{Words, hex_of};
 
 /// What a line says that isn't skipped.
@@ -53,8 +54,8 @@ fn entry_after(keyword: &[u8], words: Words<'_>) -> Option<Entry>
 fn gear(mut words: Words<'_>) -> Option<Entry>
     ensures { result ≡ gear_of words.entry }
 {
-    let bus = bus_number(&mut words)?;
-    let short = short_address(&mut words)?;
+    let bus: BusNumber = next_number(&mut words)?;
+    let short: ShortAddress = next_number(&mut words)?;
     ended(&words, Entry::Gear { bus, short })
 }
 
@@ -62,8 +63,8 @@ fn gear(mut words: Words<'_>) -> Option<Entry>
 fn lamp_failure(mut words: Words<'_>) -> Option<Entry>
     ensures { result ≡ lamp_failure_of words.entry }
 {
-    let bus = bus_number(&mut words)?;
-    let short = short_address(&mut words)?;
+    let bus: BusNumber = next_number(&mut words)?;
+    let short: ShortAddress = next_number(&mut words)?;
     ended(&words, Entry::LampFailure { bus, short })
 }
 
@@ -71,8 +72,8 @@ fn lamp_failure(mut words: Words<'_>) -> Option<Entry>
 fn memory(mut words: Words<'_>) -> Option<Entry>
     ensures { result ≡ memory_of words.entry }
 {
-    let bus = bus_number(&mut words)?;
-    let short = short_address(&mut words)?;
+    let bus: BusNumber = next_number(&mut words)?;
+    let short: ShortAddress = next_number(&mut words)?;
     let bank = words.byte(u8::MAX)?;
     let offset = words.byte(u8::MAX)?;
     let value = words.byte(u8::MAX)?;
@@ -92,8 +93,8 @@ fn memory(mut words: Words<'_>) -> Option<Entry>
 fn device(mut words: Words<'_>) -> Option<Entry>
     ensures { result ≡ device_of words.entry }
 {
-    let bus = bus_number(&mut words)?;
-    let short = short_address(&mut words)?;
+    let bus: BusNumber = next_number(&mut words)?;
+    let short: ShortAddress = next_number(&mut words)?;
     ended(&words, Entry::Device { bus, short })
 }
 
@@ -101,11 +102,11 @@ fn device(mut words: Words<'_>) -> Option<Entry>
 fn instance(mut words: Words<'_>) -> Option<Entry>
     ensures { result ≡ instance_of words.entry }
 {
-    let bus = bus_number(&mut words)?;
-    let short = short_address(&mut words)?;
-    let number = instance_number(&mut words)?;
-    let kind = instance_type(&mut words)?;
-    let scheme = words.byte(4)?;
+    let bus: BusNumber = next_number(&mut words)?;
+    let short: ShortAddress = next_number(&mut words)?;
+    let number: InstanceNumber = next_number(&mut words)?;
+    let kind: InstanceType = next_number(&mut words)?;
+    let scheme = event_scheme(&mut words)?;
     let value = words.byte(u8::MAX)?;
     ended(
         &words,
@@ -124,7 +125,7 @@ fn instance(mut words: Words<'_>) -> Option<Entry>
 fn reply(mut words: Words<'_>) -> Option<Entry>
     ensures { result ≡ reply_of words.entry }
 {
-    let bus = bus_number(&mut words)?;
+    let bus: BusNumber = next_number(&mut words)?;
     let place = words.number(u64::MAX)?;
     let fate = fate(&mut words)?;
     if place == 0 {
@@ -137,7 +138,7 @@ fn reply(mut words: Words<'_>) -> Option<Entry>
 fn hear_fault(mut words: Words<'_>) -> Option<Entry>
     ensures { result ≡ hear_fault_of words.entry }
 {
-    let bus = bus_number(&mut words)?;
+    let bus: BusNumber = next_number(&mut words)?;
     ended(&words, Entry::HearFault { bus })
 }
 
@@ -153,7 +154,7 @@ fn tick(mut words: Words<'_>) -> Option<Entry>
 fn event(mut words: Words<'_>) -> Option<Entry>
     ensures { result ≡ event_of words.entry }
 {
-    let bus = bus_number(&mut words)?;
+    let bus: BusNumber = next_number(&mut words)?;
     let frame = frame(&mut words)?;
     ended(&words, Entry::Event { bus, frame })
 }
@@ -165,32 +166,27 @@ fn ended(words: &Words<'_>, entry: Entry) -> Option<Entry>
     if words.is_empty() { Some(entry) } else { None }
 }
 
-/// Takes the number of a bus.
-fn bus_number(words: &mut Words<'_>) -> Option<BusNumber>
-    ensures { IsTaken (most_buses - 1) words.old words.new result }
+/// Takes a number below the limit of its type.
+fn next_number<Of, const LIMIT: u8>(words: &mut Words<'_>) -> Option<Number<Of, LIMIT>>
+    requires { 0 < LIMIT }
+    ensures { IsTaken (LIMIT - 1) words.old words.new result }
 {
-    BusNumber::new(words.byte(MOST_BUSES - 1)?)
+    Number::new(words.byte(LIMIT - 1)?)
 }
 
-/// Takes a short address.
-fn short_address(words: &mut Words<'_>) -> Option<ShortAddress>
-    ensures { IsTaken 63 words.old words.new result }
+/// Takes the number of an event scheme.
+fn event_scheme(words: &mut Words<'_>) -> Option<EventScheme>
+    ensures { MatchOption result (scheme_in words.old ≡ None)
+        (λ scheme. scheme_in words.old ≡ Some (scheme, words.new)) }
 {
-    ShortAddress::new(words.byte(63)?)
+    scheme_with(words.byte(u8::MAX)?)
 }
 
-/// Takes the number of an instance.
-fn instance_number(words: &mut Words<'_>) -> Option<InstanceNumber>
-    ensures { IsTaken 31 words.old words.new result }
+/// The event scheme of a number, where it has one.
+fn scheme_with(number: u8) -> Option<EventScheme>
+    ensures { result ≡ scheme_with number }
 {
-    InstanceNumber::new(words.byte(31)?)
-}
-
-/// Takes the type of an instance.
-fn instance_type(words: &mut Words<'_>) -> Option<InstanceType>
-    ensures { IsTaken 31 words.old words.new result }
-{
-    InstanceType::new(words.byte(31)?)
+    EventScheme::new(number)
 }
 
 /// Takes the word that says what becomes of a frame.

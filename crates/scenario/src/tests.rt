@@ -1,7 +1,7 @@
 //! Scenarios as they are written, with what they say, and the line of each fault.
 
 use crate::{Entry, FrameFate, Happening, ScenarioCause, ScenarioFault, parse};
-use daliframe::{BusNumber, Frame24, InstanceNumber, InstanceType, ShortAddress};
+use daliframe::{BusNumber, EventScheme, Frame24, InstanceNumber, InstanceType, ShortAddress};
 use std::alloc::{AllocError, Global};
 use std::test::Fail;
 
@@ -49,7 +49,7 @@ fn device_lines() -> Option<[Entry; 2]> {
             short,
             number,
             kind: InstanceType::new(31)?,
-            scheme: 4,
+            scheme: EventScheme::InstanceGroup,
             value: 255,
         },
     ])

@@ -1,9 +1,12 @@
 -- What simulated instances of control devices become by a frame, and what they answer (profile).
-use Rattle.std.specs.Prelude.{ℕ, ◌==◌, nat_le, Bool, true, false, ◌&&◌, if◌then◌else◌, Option, Some, None}
+use Rattle.std.specs.Prelude.{ℕ, ◌==◌, Bool, true, false, ◌&&◌, if◌then◌else◌, Option, Some, None}
 use Rattle.daliframe.specs.declared.forward.Frame.{Frame}
 use Rattle.daliframe.specs.declared.forward.Frame.TheVariants.{Forward16, Forward24}
 use Rattle.daliframe.specs.declared.forward24.Fields24.{Fields24}
 use Rattle.daliframe.specs.declared.forward24.Fields24.TheVariants as said
+use Rattle.daliframe.specs.declared.schemes.EventScheme.{EventScheme}
+use Rattle.daliframe.specs.EventSchemes.{scheme_number}
+use Rattle.scenario.specs.Saying.{scheme_with}
 use Rattle.simbus.specs.declared.instances.DeviceCommand.{DeviceCommand}
 use Rattle.simbus.specs.declared.instances.DeviceCommand.TheVariants.{Enable, Disable, SetEventScheme, QueryInstanceType}
 use Rattle.simbus.specs.declared.instances.DeviceCommand.TheVariants.{QueryEventScheme, QueryInputValue, Nothing}
@@ -34,11 +37,16 @@ command_to instance said.OtherCommand = Nothing
 abbrev pub variables_of : Instance → InstanceVariables
 variables_of instance = record { scheme = instance.scheme; is_enabled = true }
 
--- the settings act only as a pair, and the event scheme is taken from DTR0 where it is one of the five
+-- the variables with this event scheme, where there is one
+abbrev pub with_scheme : Option EventScheme → InstanceVariables → InstanceVariables
+with_scheme None v = v
+with_scheme (Some scheme) v = record v { scheme = scheme }
+
+-- the settings act only as a pair, and the event scheme is taken from DTR0 where that is the number of one
 abbrev pub after_device_command : Bool → ℕ → DeviceCommand → InstanceVariables → InstanceVariables
 after_device_command is_pair dtr0 Enable v = if is_pair then record v { is_enabled = true } else v
 after_device_command is_pair dtr0 Disable v = if is_pair then record v { is_enabled = false } else v
-after_device_command is_pair dtr0 SetEventScheme v = if is_pair && nat_le dtr0 4 then record v { scheme = dtr0 } else v
+after_device_command is_pair dtr0 SetEventScheme v = if is_pair then with_scheme (scheme_with dtr0) v else v
 after_device_command is_pair dtr0 QueryInstanceType v = v
 after_device_command is_pair dtr0 QueryEventScheme v = v
 after_device_command is_pair dtr0 QueryInputValue v = v
@@ -66,7 +74,7 @@ dtr0_after_frame (Forward24 frame) dtr0 = dtr0_after_fields (device_fields_of fr
 -- the answer to a command
 abbrev pub device_answer : Instance → DeviceCommand → InstanceVariables → Option ℕ
 device_answer instance QueryInstanceType v = Some instance.instance_type
-device_answer instance QueryEventScheme v = Some v.scheme
+device_answer instance QueryEventScheme v = Some (scheme_number v.scheme)
 device_answer instance QueryInputValue v = Some instance.value
 device_answer instance Enable v = None
 device_answer instance Disable v = None

@@ -4,10 +4,7 @@ ghost use Rattle.simbus.specs.Instances.{device_command_of, command_to, variable
 ghost use Rattle.simbus.specs.Instances.{instance_after_fields, instance_fields_answer};
 ghost use Rattle.simbus.specs.Histories.{is_instance};
 
-use daliframe::{Fields24, InstanceNumber, InstanceType, ShortAddress};
-
-/// The greatest number of an event scheme.
-const MAX_SCHEME: u8 = 4;
+use daliframe::{EventScheme, Fields24, InstanceNumber, InstanceType, ShortAddress};
 
 /// A simulated instance of a control device, as a scenario declares it.
 #[derive(Clone, Copy, Debug, PartialEq, Eq)]
@@ -16,7 +13,7 @@ pub struct Instance {
     pub address: ShortAddress,
     pub number: InstanceNumber,
     pub instance_type: InstanceType,
-    pub scheme: u8,
+    pub scheme: EventScheme,
     /// The answer to QUERY INPUT VALUE.
     pub value: u8,
 }
@@ -24,8 +21,7 @@ pub struct Instance {
 /// What commands change of an instance.
 #[derive(Clone, Copy, Debug, PartialEq, Eq)]
 pub struct InstanceVariables {
-    /// The event scheme, 0 to 4.
-    pub scheme: u8,
+    pub scheme: EventScheme,
     /// Whether ENABLE INSTANCE or DISABLE INSTANCE was the last of the two; at first it is enabled.
     pub is_enabled: bool,
 }
@@ -100,8 +96,8 @@ impl Instance {
                 is_enabled: false,
                 ..variables
             },
-            DeviceCommand::SetEventScheme if is_pair && dtr0 <= MAX_SCHEME => InstanceVariables {
-                scheme: dtr0,
+            DeviceCommand::SetEventScheme if is_pair => InstanceVariables {
+                scheme: EventScheme::new(dtr0).unwrap_or(variables.scheme),
                 ..variables
             },
             _ => variables,
@@ -114,7 +110,7 @@ impl Instance {
     {
         match self.command(fields) {
             DeviceCommand::QueryInstanceType => Some(self.instance_type.number()),
-            DeviceCommand::QueryEventScheme => Some(variables.scheme),
+            DeviceCommand::QueryEventScheme => Some(variables.scheme.number()),
             DeviceCommand::QueryInputValue => Some(self.value),
             _ => None,
         }

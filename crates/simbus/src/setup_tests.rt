@@ -1,7 +1,7 @@
 //! What a scenario says of its buses, and the worked example of its language.
 use crate::{BusSetup, FrameFate, SimBus, parse};
 use buslink::{Bus, perform};
-use daliframe::{Address, BusNumber, Frame, Frame16, Frame24};
+use daliframe::{Address, BusNumber, EventScheme, Frame, Frame16, Frame24};
 use gearcmd::{Command, GearSetCommand, Request, TaskKind};
 use std::test::Fail;
 use transact::{Outcome, Reply, Transaction};
@@ -19,7 +19,7 @@ fn setup_of_one_bus(rt: HostRuntime) -> Result<(), Fail> {
     assert!(rt; !setup.gears[0].lamp_failure && setup.gears[1].lamp_failure);
     assert_eq!(rt; setup.memory.len(), 1);
     assert_eq!(rt; setup.instances.len(), 1);
-    assert!(rt; setup.instances[0].scheme == 3);
+    assert!(rt; setup.instances[0].scheme == EventScheme::DeviceGroup);
     assert_eq!(rt; setup.script.len(), 1);
     assert!(rt; setup.script[0].fate == FrameFate::Lost);
     assert_eq!(rt; setup.arrivals.len(), 2);

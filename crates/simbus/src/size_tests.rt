@@ -1,7 +1,7 @@
 //! Buses at the limits of a scenario, and a thousand frames on one bus.
 use crate::{BusSetup, ScriptedClock, SimBus, parse};
 use buslink::{Bus, Clock};
-use daliframe::{BusNumber, Frame, Frame16, Frame24, InstanceNumber, ShortAddress};
+use daliframe::{BusNumber, EventScheme, Frame, Frame16, Frame24, InstanceNumber, ShortAddress};
 use std::alloc::{AllocError, Global};
 use std::test::Fail;
 use transact::Reply;
@@ -53,7 +53,10 @@ fn each_gear_and_instance_of_a_full_bus_answers(rt: HostRuntime) -> Result<(), F
     }
     let last = ShortAddress::new(63).ok_or("short 63")?;
     let first = InstanceNumber::new(0).ok_or("instance 0")?;
-    assert!(rt; bus.instance(last, first).map(|variables| variables.scheme) == Some(2));
+    assert!(rt;
+        bus.instance(last, first).map(|variables| variables.scheme)
+            == Some(EventScheme::DeviceInstance)
+    );
     assert_eq!(rt; bus.sent().len(), 228);
     Ok(())
 }

@@ -49,7 +49,7 @@ fn setup(alloc: Global, gears: u8) -> Result<BusSetup, Fail> {
         address,
         number,
         instance_type: InstanceType::new(1).ok_or("type 1")?,
-        scheme: 0,
+        scheme: EventScheme::Instance,
         value: 9,
     })?;
     Ok(setup)
