@@ -1,8 +1,9 @@
 //! The limits of this project's profile, each once for all crates.
 //!
-//! What crosses the boundary: constants for code, and [`is_too_long`] for the bytes of a file. The numbers that contracts cite
-//! stand in specs/Limits.antt as literals, apart from the constants, so that a constant that is changed is refused wherever a
-//! contract speaks of its limit: `is_too_long(text)` is the question that texts, bindings and scenarios ask first.
+//! What crosses the boundary: constants for code, and [`is_too_long`] for the bytes of a file. The
+//! numbers that contracts cite stand in specs/Limits.antt as literals, apart from the constants, so
+//! that a constant that is changed is refused wherever a contract speaks of its limit:
+//! `is_too_long(text)` is the question that texts, bindings and scenarios ask first.
 #![tactic(auto)]
 
 ghost use Rattle.std.specs.Prelude.{◌↔◌, ◌<◌, length, IsTrue};
