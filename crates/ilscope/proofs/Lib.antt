@@ -8,4 +8,5 @@ pub mod OneFault
 pub mod OneMore
 pub mod Spelling
 pub mod Subranges
+pub mod Typed
 pub mod WholeScope

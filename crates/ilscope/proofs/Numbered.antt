@@ -1,6 +1,7 @@
 -- Look-ups in a table to which each name is added where it is new, and names that are given again.
-use Rattle.std.proofs.Common.{◌≡◌, ℕ, zero, suc, ◌+◌, ◌<◌, List, [], ◌∷◌, ◌++◌, map, length, take, get_or, Bool, true, false, refl, ap, sym, ◌∙◌, subst, ◌⊎◌, inl, inr, arith}
-use Rattle.std.specs.Prelude.{Option, Some, None, option_map, is_some, bytes_eq, IsTrue, IsSome, if◌then◌else◌}
+use Rattle.std.proofs.Common.{◌≡◌, ℕ, suc, ◌+◌, ◌<◌, List, [], ◌∷◌, ◌++◌, map, length, take, get_or, Bool, true}
+use Rattle.std.proofs.Common.{false, refl, ap, sym, ◌∙◌, subst, ◌⊎◌, inl, inr, arith}
+use Rattle.std.specs.Prelude.{Option, Some, None, option_map, is_some, bytes_eq, IsSome, if◌then◌else◌}
 use Rattle.std.specs.Map.{lookup}
 use Rattle.std.specs.Option.{option_or}
 use Rattle.std.proofs.lemmas.List.{get_or_default, length-map, length-take-le}
@@ -11,15 +12,15 @@ use Rattle.ilscope.specs.Kept.{Kept, with_new}
 use Rattle.ilscope.specs.Order.{lesser_of_two}
 use Rattle.ilscope.specs.ScopeSteps.{OfCause}
 use Rattle.ilscope.specs.Tables.{first_at}
-use Rattle.ilscope.specs.declared.fault.NameCause.{NameCause}
 use Rattle.ilscope.specs.declared.fault.NameCause.TheVariants.{Twice}
 use Rattle.ilscope.specs.declared.found.Found.{Found}
 use Rattle.ilscope.proofs.Gathered.{best_same, or_else}
-use Rattle.ilscope.proofs.Least.{both_least, some_append, some_front, some_last, take_more}
+use Rattle.ilscope.proofs.Least.{both_least, some_append, some_front, take_more}
 
 -- ---- one key more
 
-later_key : {X : Type 0} (is : Bool) (x : X) (o p : Option X) (c : Bool) (y : X) → p ≡ option_or o (if c then Some y else None) →
+later_key : {X : Type 0} (is : Bool) (x : X) (o p : Option X) (c : Bool) (y : X)
+    → p ≡ option_or o (if c then Some y else None) →
     (if is then Some x else p) ≡ option_or (if is then Some x else o) (if c then Some y else None)
 later_key true x o p c y e = refl
 later_key false x o p c y e = e
@@ -28,7 +29,8 @@ lookup-last : {X : Type 0} (kept : Kept X) (test : List ℕ → Bool) (k : List 
     lookup test (kept ++ (k, value) ∷ []) ≡ option_or (lookup test kept) (if test k then Some value else None)
 lookup-last [] test k value = refl
 lookup-last (e ∷ es) test k value =
-    later_key (test e.0) e.1 (lookup test es) (lookup test (es ++ (k, value) ∷ [])) (test k) value (lookup-last es test k value)
+    later_key (test e.0) e.1 (lookup test es) (lookup test (es ++ (k, value) ∷ [])) (test k) value
+    (lookup-last es test k value)
 
 later_place : (is : Bool) (o : Option ℕ) (c : Bool) (n : ℕ) →
     (if is then Some 0 else option_map suc (option_or o (if c then Some n else None))) ≡
@@ -41,14 +43,16 @@ later_place false None false n = refl
 first_at-last : {X : Type 0} (test : X → Bool) (xs : List X) (x : X) →
     first_at test (xs ++ x ∷ []) ≡ option_or (first_at test xs) (if test x then Some (length xs) else None)
 first_at-last test [] x = refl
-first_at-last test (y ∷ ys) x = rw (first_at-last test ys x) (later_place (test y) (first_at test ys) (test x) (length ys))
+first_at-last test (y ∷ ys) x =
+    rw (first_at-last test ys x) (later_place (test y) (first_at test ys) (test x) (length ys))
 
 -- where a key is known, nothing is new
 known : {X : Type 0} (kept : Kept X) (k key : List ℕ) (value : X) → is_some (lookup (bytes_eq k) kept) ≡ true →
     lookup (bytes_eq key) kept ≡ option_or (lookup (bytes_eq key) kept) (if bytes_eq key k then Some value else None)
 known {X} kept k key value e = cases (lookup (bytes_eq key) kept) (bytes_eq key k) refl refl
   where
-    cases : (o : Option X) (b : Bool) → lookup (bytes_eq key) kept ≡ o → bytes_eq key k ≡ b → o ≡ option_or o (if b then Some value else None)
+    cases : (o : Option X) (b : Bool) → lookup (bytes_eq key) kept ≡ o → bytes_eq key k ≡ b
+        → o ≡ option_or o (if b then Some value else None)
     cases (Some x) b f g = refl
     cases None false f g = refl
     cases None true f g =
@@ -57,17 +61,20 @@ known {X} kept k key value e = cases (lookup (bytes_eq key) kept) (bytes_eq key 
         absurd cc
 
 pub lookup-with_new : {X : Type 0} (kept : Kept X) (k key : List ℕ) (value : X) →
-    lookup (bytes_eq key) (with_new kept k value) ≡ option_or (lookup (bytes_eq key) kept) (if bytes_eq key k then Some value else None)
+    lookup (bytes_eq key) (with_new kept k value) ≡ option_or (lookup (bytes_eq key) kept)
+    (if bytes_eq key k then Some value else None)
 lookup-with_new {X} kept k key value = cases (is_some (lookup (bytes_eq k) kept)) refl
   where
     cases : (b : Bool) → is_some (lookup (bytes_eq k) kept) ≡ b →
-        lookup (bytes_eq key) (if b then kept else kept ++ (k, value) ∷ []) ≡ option_or (lookup (bytes_eq key) kept) (if bytes_eq key k then Some value else None)
+        lookup (bytes_eq key) (if b then kept else kept ++ (k, value) ∷ []) ≡ option_or (lookup (bytes_eq key) kept)
+        (if bytes_eq key k then Some value else None)
     cases true e = known kept k key value e
     cases false e = lookup-last kept (bytes_eq key) k value
 
 -- ---- what is found
 
-test_more : (b : Bool) (o : Option ℕ) → is_some (if b then Some 0 else option_map suc o) ≡ true → (b ≡ true) ⊎ (is_some o ≡ true)
+test_more : (b : Bool) (o : Option ℕ) → is_some (if b then Some 0 else option_map suc o) ≡ true
+    → (b ≡ true) ⊎ (is_some o ≡ true)
 test_more true o h = inl refl
 test_more false None h = absurd cc
 test_more false (Some n) h = inr refl
@@ -83,15 +90,18 @@ test_later false (Some n) h = refl
 
 -- a key is found exactly where it is that of some element
 module _ {X : Type 0} (spelled : X → List ℕ) where
-  pub found_some : (xs : List X) (key : List ℕ) → is_some (first_at (bytes_eq key) (map spelled xs)) ≡ true → SomeOf (λ x. spelled x ≡ key) xs
+  pub found_some : (xs : List X) (key : List ℕ) → is_some (first_at (bytes_eq key) (map spelled xs)) ≡ true
+      → SomeOf (λ x. spelled x ≡ key) xs
   found_some [] key h = absurd cc
   found_some (x ∷ xs) key h =
       or_else (λ e. inl (sym ((bytes_eq-Decides key (spelled x)).0 e))) (λ r. inr (found_some xs key r))
       (test_more (bytes_eq key (spelled x)) (first_at (bytes_eq key) (map spelled xs)) h)
 
-  pub some_found : (xs : List X) (key : List ℕ) → SomeOf (λ x. spelled x ≡ key) xs → is_some (first_at (bytes_eq key) (map spelled xs)) ≡ true
+  pub some_found : (xs : List X) (key : List ℕ) → SomeOf (λ x. spelled x ≡ key) xs
+      → is_some (first_at (bytes_eq key) (map spelled xs)) ≡ true
   some_found [] key s = absurd s
-  some_found (x ∷ xs) key (inl e) = test_first (bytes_eq key (spelled x)) _ ((bytes_eq-Decides key (spelled x)).1 (sym e))
+  some_found (x ∷ xs) key (inl e) =
+      test_first (bytes_eq key (spelled x)) _ ((bytes_eq-Decides key (spelled x)).1 (sym e))
   some_found (x ∷ xs) key (inr s) = test_later (bytes_eq key (spelled x)) _ (some_found xs key s)
 
 pub map_last : {X Y : Type 0} (f : X → Y) (xs : List X) (x : X) → map f (xs ++ x ∷ []) ≡ map f xs ++ f x ∷ []
@@ -106,12 +116,15 @@ module _ (spelled : Name → List ℕ) (ns : List Name) (i : ℕ) (d : Name) (be
       (key : List ℕ) → lookup (bytes_eq key) new ≡ first_at (bytes_eq key) (map spelled (take (i + 1) ns))
   numbers_more table new e h key =
       let next : Name = get_or ns i d in
-      let front_next : take (i + 1) ns ≡ take i ns ++ next ∷ [] = take_more ns i next below (get_or_default ns i d next below) in
-      let short : length (map spelled (take i ns)) ≡ i = length-map (take i ns) spelled ∙ length-take-le i ns (omega arith) in
+      let front_next : take (i + 1) ns ≡ take i ns ++ next ∷ [] =
+      take_more ns i next below (get_or_default ns i d next below) in
+      let short : length (map spelled (take i ns)) ≡ i =
+      length-map (take i ns) spelled ∙ length-take-le i ns (omega arith) in
       ap (λ (kept : Kept ℕ). lookup (bytes_eq key) kept) e
       ∙ lookup-with_new table (spelled (get_or ns i d)) key i
       ∙ ap (λ (o : Option ℕ). option_or o (if bytes_eq key (spelled next) then Some i else None)) (h key)
-      ∙ ap (λ (n : ℕ). option_or (first_at (bytes_eq key) (map spelled (take i ns))) (if bytes_eq key (spelled next) then Some n else None)) (sym short)
+      ∙ ap (λ (n : ℕ). option_or (first_at (bytes_eq key) (map spelled (take i ns)))
+      (if bytes_eq key (spelled next) then Some n else None)) (sym short)
       ∙ sym (first_at-last (bytes_eq key) (map spelled (take i ns)) (spelled next))
       ∙ ap (λ (ks : List (List ℕ)). first_at (bytes_eq key) ks) (sym (map_last spelled (take i ns) next))
       ∙ ap (λ (ms : List Name). first_at (bytes_eq key) (map spelled ms)) (sym front_next)
@@ -155,7 +168,8 @@ module _ (spelled : Name → List ℕ) (ns : List Name) (i : ℕ) (d : Name) (be
   pub twice_more : (table : Kept ℕ) (a b : Option Found) →
       ((key : List ℕ) → lookup (bytes_eq key) table ≡ first_at (bytes_eq key) (map spelled (take i ns))) →
       IsLeastOf (OfCause Twice (IsTwiceIn spelled (take i ns))) a →
-      IsLeastOf (OfCause Twice (λ place. IsSome (lookup (bytes_eq (spelled (get_or ns i d))) table) × (place ≡ (get_or ns i d).from))) b →
+      IsLeastOf (OfCause Twice
+      (λ place. IsSome (lookup (bytes_eq (spelled (get_or ns i d))) table) × (place ≡ (get_or ns i d).from))) b →
       IsLeastOf (OfCause Twice (IsTwiceIn spelled (take (i + 1) ns))) (lesser_of_two a b)
   twice_more table a b t h k =
       let x : Name = get_or ns i d in
@@ -166,13 +180,19 @@ module _ (spelled : Name → List ℕ) (ns : List Name) (i : ℕ) (d : Name) (be
       let from : SomeOf (λ m. spelled m ≡ spelled x) front → IsSome (lookup (bytes_eq (spelled x)) table) =
       λ s. rw (t (spelled x)) (some_found spelled front (spelled x) s)
       in
-      subst (λ (ms : List Name). IsLeastOf (OfCause Twice (IsTwiceIn spelled ms)) (lesser_of_two a b)) (sym (take_more ns i x below (get_or_default ns i d x below)))
+      subst (λ (ms : List Name). IsLeastOf (OfCause Twice (IsTwiceIn spelled ms)) (lesser_of_two a b))
+      (sym (take_more ns i x below (get_or_default ns i d x below)))
       (best_same _ _ (lesser_of_two a b)
       (λ place cause q.
       or_else (λ s. (s.0, later_front (λ e m. (spelled e ≡ spelled m) × (place ≡ m.from)) front x s.1))
-      (λ s. (s.0, later_at (λ e m. (spelled e ≡ spelled m) × (place ≡ m.from)) front x [] (with_any (λ m. spelled m ≡ spelled x) front s.1.1 (to s.1.0)))) q)
+      (λ s. (
+        s.0,
+        later_at (λ e m. (spelled e ≡ spelled m) × (place ≡ m.from)) front x []
+            (with_any (λ m. spelled m ≡ spelled x) front s.1.1 (to s.1.0)),
+      )) q)
       (λ place cause s.
       or_else (λ r. inl (s.0, r))
       (λ r. let u = some_any (λ m. spelled m ≡ spelled x) front r in inr (s.0, (from u.0, u.1)))
       (later_append (λ e m. (spelled e ≡ spelled m) × (place ≡ m.from)) front x s.1))
-      (both_least (OfCause Twice (IsTwiceIn spelled front)) (OfCause Twice (λ place. IsSome (lookup (bytes_eq (spelled x)) table) × (place ≡ x.from))) a b h k))
+      (both_least (OfCause Twice (IsTwiceIn spelled front))
+      (OfCause Twice (λ place. IsSome (lookup (bytes_eq (spelled x)) table) × (place ≡ x.from))) a b h k))

@@ -36,7 +36,8 @@ same_at p q a b (inl lt) (inr g) = absurd (omega (arith, lt, g.0))
 same_at p q a b (inr h) (inl gt) = absurd (omega (arith, gt, h.0))
 same_at p q a b (inr h) (inr g) = (h.0, same_cause a b (omega (arith, h.1, g.1)))
 
-least_is_one : (F : ℕ → NameCause → Type 0) (p q : ℕ) (a b : NameCause) → IsLeast F p a → IsLeast F q b → (p ≡ q) × (a ≡ b)
+least_is_one : (F : ℕ → NameCause → Type 0) (p q : ℕ) (a b : NameCause) → IsLeast F p a → IsLeast F q b
+    → (p ≡ q) × (a ≡ b)
 least_is_one F p q a b h g = same_at p q a b (h.least q b g.is) (g.least p a h.is)
 
 -- what is found is one at most
@@ -48,7 +49,8 @@ one_least F (Some a) (Some b) h g =
     let same : (a.at ≡ b.at) × (a.cause ≡ b.cause) = least_is_one F a.at b.at a.cause b.cause h g in
     λ i. Some (record { at = same.0 i; cause = same.1 i })
 
-pub one_report : (text : List ℕ) (F : ℕ → NameCause → Type 0) (a b : NameFault) → ReportsLeast text F a → ReportsLeast text F b → a ≡ b
+pub one_report : (text : List ℕ) (F : ℕ → NameCause → Type 0) (a b : NameFault) → ReportsLeast text F a
+    → ReportsLeast text F b → a ≡ b
 one_report text F Memory b h g = absurd h
 one_report text F (At line col cause) Memory h g = absurd g
 one_report text F (At line col cause) (At row place its) h g =

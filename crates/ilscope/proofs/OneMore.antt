@@ -1,22 +1,25 @@
 -- What is gathered from some elements, with one element more.
-use Rattle.std.proofs.Common.{◌≡◌, ℕ, List, [], ◌∷◌, ◌++◌, map, Bool, refl, ap, sym, ◌∙◌, subst, ◌⊎◌, inl, inr, append-nil}
+use Rattle.std.proofs.Common.{◌≡◌, ℕ, List, [], ◌∷◌, ◌++◌, map, Bool, refl, ap, sym, ◌∙◌, subst, inl, inr}
+use Rattle.std.proofs.Common.{append-nil}
 use Rattle.std.specs.Prelude.{Option, Some, None, filter_map, flat_map, bytes_eq, if◌then◌else◌}
 use Rattle.std.specs.Map.{lookup}
 use Rattle.std.specs.Option.{option_or}
 use Rattle.std.proofs.lemmas.List.{map-append}
 use Rattle.std.proofs.lemmas.List.Elements.{filter_map-append}
 use Rattle.ilsource.specs.Names.{text_of}
-use Rattle.ilsource.specs.Programs.{Variables, Written}
+use Rattle.ilsource.specs.Programs.{Variables}
 use Rattle.ilsource.specs.declared.declaration.TypeDeclaration.{TypeDeclaration}
 use Rattle.ilsource.specs.declared.name.Name.{Name}
 use Rattle.ilsource.specs.declared.source.Element.{Element}
 use Rattle.ilsource.specs.declared.source.Element.TheVariants as elements
-use Rattle.ilscope.specs.DataTypes.{Types, declared_type, types_below}
-use Rattle.ilscope.specs.Declarations.{DeclaredProgram, Standing, above_next, declared_program, names_of, standing, type_of, variable, variables_in, variables_of}
+use Rattle.ilscope.specs.DataTypes.{TypeNames, declared_type, types_below}
+use Rattle.ilscope.specs.Declarations.{DeclaredProgram, Standing, above_next, declared_program, names_of, standing}
+use Rattle.ilscope.specs.Declarations.{type_of, variable, variables_in, variables_of}
 use Rattle.ilscope.specs.Faults.{SomeOf, IsLeastOf, IsTwiceIn}
 use Rattle.ilscope.specs.Kept.{Kept, types_in, with_new}
 use Rattle.ilscope.specs.Order.{lesser_of_two}
-use Rattle.ilscope.specs.ScopeSteps.{AreAllNumbers, AreNumbersOf, IsFaultIn, IsFaultOfElement, IsGathered, OfCause, above_all}
+use Rattle.ilscope.specs.ScopeSteps.{AreAllNumbers, AreNumbersOf, IsFaultIn, IsFaultOfElement, IsGathered, OfCause}
+use Rattle.ilscope.specs.ScopeSteps.{above_all}
 use Rattle.ilscope.specs.Tables.{first_at}
 use Rattle.ilscope.specs.declared.data_type.DataType.{DataType}
 use Rattle.ilscope.specs.declared.fault.NameCause.TheVariants.{Twice}
@@ -38,26 +41,33 @@ pub standing-last : (above : List TypeDeclaration) (front : List Element) (eleme
     standing above (front ++ element ∷ []) ≡ standing above front ++ last_of above front element ∷ []
 standing-last above [] element = refl
 standing-last above (e ∷ es) element =
-    ap (λ (more : List Standing). record { above = above; element = e } ∷ more) (standing-last (above_next above e) es element)
+    ap (λ (more : List Standing). record { above = above; element = e } ∷ more)
+    (standing-last (above_next above e) es element)
 
 module _ (spelled : Name → List ℕ) (front : List Element) (element : Element) where
   faults_more : (least fault : Option Found) →
       IsLeastOf (λ place cause. SomeOf (λ one. IsFaultOfElement spelled one place cause) (standing [] front)) least →
       IsLeastOf (IsFaultOfElement spelled (last_of [] front element)) fault →
-      IsLeastOf (λ place cause. SomeOf (λ one. IsFaultOfElement spelled one place cause) (standing [] (front ++ element ∷ []))) (lesser_of_two least fault)
+      IsLeastOf (λ place cause. SomeOf (λ one. IsFaultOfElement spelled one place cause)
+      (standing [] (front ++ element ∷ []))) (lesser_of_two least fault)
   faults_more least fault h k =
-      subst (λ (all : List Standing). IsLeastOf (λ place cause. SomeOf (λ one. IsFaultOfElement spelled one place cause) all) (lesser_of_two least fault))
+      subst (λ (all : List Standing). IsLeastOf
+      (λ place cause. SomeOf (λ one. IsFaultOfElement spelled one place cause) all) (lesser_of_two least fault))
       (sym (standing-last [] front element))
       (best_same _ _ (lesser_of_two least fault)
       (λ place cause q.
-      or_else (λ s. some_front (λ one. IsFaultOfElement spelled one place cause) (standing [] front) (last_of [] front element) s)
-      (λ p. some_last (λ one. IsFaultOfElement spelled one place cause) (standing [] front) (last_of [] front element) p) q)
-      (λ place cause s. some_append (λ one. IsFaultOfElement spelled one place cause) (standing [] front) (last_of [] front element) s)
+      or_else (λ s. some_front (λ one. IsFaultOfElement spelled one place cause) (standing [] front)
+      (last_of [] front element) s)
+      (λ p. some_last (λ one. IsFaultOfElement spelled one place cause) (standing [] front) (last_of [] front element)
+      p) q)
+      (λ place cause s. some_append (λ one. IsFaultOfElement spelled one place cause) (standing [] front)
+      (last_of [] front element) s)
       (both_least (λ place cause. SomeOf (λ one. IsFaultOfElement spelled one place cause) (standing [] front))
       (IsFaultOfElement spelled (last_of [] front element)) least fault h k))
 
   programs_more : filter_map (declared_program spelled) (standing [] (front ++ element ∷ [])) ≡
-      filter_map (declared_program spelled) (standing [] front) ++ filter_map (declared_program spelled) (last_of [] front element ∷ [])
+      filter_map (declared_program spelled) (standing [] front) ++ filter_map (declared_program spelled)
+      (last_of [] front element ∷ [])
   programs_more =
       ap (λ (all : List Standing). filter_map (declared_program spelled) all) (standing-last [] front element)
       ∙ filter_map-append (declared_program spelled) (standing [] front) (last_of [] front element ∷ [])
@@ -66,7 +76,8 @@ abbrev declaration_of : TypeDeclaration → Variables
 declaration_of type = record { names = type.name ∷ []; specification = type.specification; initial = type.initial }
 
 -- what is gathered, with one type more
-pub type_added : (lower : List ℕ) (front : List Element) (types new : Kept (Option DataType)) (programs : List DeclaredProgram) (numbers : List (Kept ℕ))
+pub type_added : (lower : List ℕ) (front : List Element) (types new : Kept (Option DataType))
+    (programs : List DeclaredProgram) (numbers : List (Kept ℕ))
     (least fault : Option Found) (type : TypeDeclaration) (meaning : Option DataType) →
     IsGathered lower front types programs numbers least →
     IsLeastOf (IsFaultIn (types_in lower types) (declaration_of type)) fault →
@@ -78,17 +89,19 @@ type_added lower front types new programs numbers least fault type meaning h f m
     let above : List TypeDeclaration = above_all [] front in
     let same : types_in lower types ≡ types_below spelled above = λ i name. h.meant name i in
     let meant : meaning ≡ declared_type (types_below spelled above) type.specification type.initial =
-    m ∙ ap (λ (t : Types). declared_type t type.specification type.initial) same
+    m ∙ ap (λ (t : TypeNames). declared_type t type.specification type.initial) same
     in
     let one : IsLeastOf (IsFaultIn (types_below spelled above) (declaration_of type)) fault =
-    subst (λ (t : Types). IsLeastOf (IsFaultIn t (declaration_of type)) fault) same f
+    subst (λ (t : TypeNames). IsLeastOf (IsFaultIn t (declaration_of type)) fault) same f
     in
     record {
       meant = λ name.
           ap (λ (kept : Kept (Option DataType)). lookup (bytes_eq (spelled name)) kept) e
           ∙ lookup-with_new types (spelled type.name) (spelled name) meaning
-          ∙ (λ i. option_or (h.meant name i) (if bytes_eq (spelled name) (spelled type.name) then Some (meant i) else None))
-          ∙ ap (λ (a : List TypeDeclaration). types_below spelled a name) (sym (above_all-last [] front (elements.DerivedType type)));
+          ∙ (λ i. option_or (h.meant name i)
+          (if bytes_eq (spelled name) (spelled type.name) then Some (meant i) else None))
+          ∙ ap (λ (a : List TypeDeclaration). types_below spelled a name)
+          (sym (above_all-last [] front (elements.DerivedType type)));
       declared =
           h.declared
           ∙ sym (append-nil (filter_map (declared_program spelled) (standing [] front)))
@@ -96,11 +109,14 @@ type_added lower front types new programs numbers least fault type meaning h f m
       numbered = h.numbered;
       fault =
           faults_more spelled front (elements.DerivedType type) least fault h.fault
-          (best_same _ _ fault (λ place cause p. inr (inl p)) (λ place cause q. or_else (λ t. absurd t.1) (λ s. or_else (λ p. p) (λ no. absurd no) s) q) one);
+          (best_same _ _ fault (λ place cause p. inr (inl p))
+          (λ place cause q. or_else (λ t. absurd t.1) (λ s. or_else (λ p. p) (λ no. absurd no) s) q) one);
     }
 
-numbers_last : (spelled : Name → List ℕ) (programs : List DeclaredProgram) (numbers : List (Kept ℕ)) (program : DeclaredProgram) (table : Kept ℕ) →
-    AreAllNumbers spelled programs numbers → AreNumbersOf spelled program table → AreAllNumbers spelled (programs ++ program ∷ []) (numbers ++ table ∷ [])
+numbers_last : (spelled : Name → List ℕ) (programs : List DeclaredProgram) (numbers : List (Kept ℕ))
+    (program : DeclaredProgram) (table : Kept ℕ) →
+    AreAllNumbers spelled programs numbers → AreNumbersOf spelled program table
+    → AreAllNumbers spelled (programs ++ program ∷ []) (numbers ++ table ∷ [])
 numbers_last spelled [] [] program table h k = (k, tt)
 numbers_last spelled [] (n ∷ ns) program table h k = absurd h
 numbers_last spelled (p ∷ ps) [] program table h k = absurd h
@@ -111,18 +127,20 @@ names-variables type [] = refl
 names-variables type (n ∷ ns) = ap (λ (ms : List Name). n ∷ ms) (names-variables type ns)
 
 -- the variables of a program have its names
-pub names-variables_of : (types_above : Types) (declarations : List Variables) →
+pub names-variables_of : (types_above : TypeNames) (declarations : List Variables) →
     map (λ v. v.name) (flat_map (variables_in types_above) declarations) ≡ flat_map (λ d. d.names) declarations
 names-variables_of types_above [] = refl
 names-variables_of types_above (d ∷ ds) =
     map-append (λ v. v.name) (variables_in types_above d) (flat_map (variables_in types_above) ds)
     ∙ (λ i. names-variables (type_of types_above d) d.names i ++ names-variables_of types_above ds i)
 
-first_at-map : {X Y : Type 0} (test : Y → Bool) (f : X → Y) (xs : List X) → first_at (λ x. test (f x)) xs ≡ first_at test (map f xs)
+first_at-map : {X Y : Type 0} (test : Y → Bool) (f : X → Y) (xs : List X)
+    → first_at (λ x. test (f x)) xs ≡ first_at test (map f xs)
 first_at-map test f [] = refl
 first_at-map test f (x ∷ xs) = rw (first_at-map test f xs) refl
 
-pub numbered_by : (spelled : Name → List ℕ) (variables : List Variable) (names : List Name) (key : List ℕ) → map (λ v. v.name) variables ≡ names →
+pub numbered_by : (spelled : Name → List ℕ) (variables : List Variable) (names : List Name) (key : List ℕ)
+    → map (λ v. v.name) variables ≡ names →
     first_at (λ v. bytes_eq key (spelled v.name)) variables ≡ first_at (bytes_eq key) (map spelled names)
 numbered_by spelled variables names key e =
     first_at-map (λ n. bytes_eq key (spelled n)) (λ v. v.name) variables
@@ -130,15 +148,18 @@ numbered_by spelled variables names key e =
     ∙ ap (λ (ns : List Name). first_at (bytes_eq key) (map spelled ns)) e
 
 -- what is gathered, with one program more
-pub program_added : (lower : List ℕ) (front : List Element) (types : Kept (Option DataType)) (programs : List DeclaredProgram) (numbers : List (Kept ℕ))
+pub program_added : (lower : List ℕ) (front : List Element) (types : Kept (Option DataType))
+    (programs : List DeclaredProgram) (numbers : List (Kept ℕ))
     (least twice fault : Option Found) (declared : DeclaredProgram) (names : List Name) (table : Kept ℕ) →
     IsGathered lower front types programs numbers least →
     declared.variables ≡ variables_of (types_in lower types) declared.program →
     names ≡ names_of declared.program →
     ((key : List ℕ) → lookup (bytes_eq key) table ≡ first_at (bytes_eq key) (map (text_of lower) names)) →
     IsLeastOf (OfCause Twice (IsTwiceIn (text_of lower) names)) twice →
-    IsLeastOf (λ place cause. SomeOf (λ d. IsFaultIn (types_in lower types) d place cause) declared.program.declarations) fault →
-    IsGathered lower (front ++ elements.Program declared.program ∷ []) types (programs ++ declared ∷ []) (numbers ++ table ∷ [])
+    IsLeastOf (λ place cause. SomeOf (λ d. IsFaultIn (types_in lower types) d place cause)
+    declared.program.declarations) fault →
+    IsGathered lower (front ++ elements.Program declared.program ∷ []) types (programs ++ declared ∷ [])
+    (numbers ++ table ∷ [])
     (lesser_of_two least (lesser_of_two twice fault))
 program_added lower front types programs numbers least twice fault declared names table h v n t a f =
     let spelled = text_of lower in
@@ -146,19 +167,29 @@ program_added lower front types programs numbers least twice fault declared name
     let element : Element = elements.Program declared.program in
     let same : types_in lower types ≡ types_below spelled above = λ i name. h.meant name i in
     let all : map (λ v. v.name) declared.variables ≡ names =
-    ap (λ (vs : List Variable). map (λ v. v.name) vs) v ∙ names-variables_of (types_in lower types) declared.program.declarations ∙ sym n
+    ap (λ (vs : List Variable). map (λ v. v.name) vs) v
+    ∙ names-variables_of (types_in lower types) declared.program.declarations ∙ sym n
     in
-    let its : declared ≡ record { program = declared.program; variables = variables_of (types_below spelled above) declared.program } =
-    λ i. record { program = declared.program; variables = (v ∙ ap (λ (t : Types). variables_of t declared.program) same) i }
+    let its : declared ≡ record
+    { program = declared.program; variables = variables_of (types_below spelled above) declared.program } =
+    λ i. record {
+      program = declared.program;
+      variables =
+          (v ∙ ap (λ (t : TypeNames). variables_of t declared.program) same) i;
+    }
     in
     record {
-      meant = λ name. h.meant name ∙ ap (λ (a : List TypeDeclaration). types_below spelled a name) (sym (above_all-last [] front element));
+      meant = λ name. h.meant name
+          ∙ ap (λ (a : List TypeDeclaration). types_below spelled a name) (sym (above_all-last [] front element));
       declared = (λ i. h.declared i ++ its i ∷ []) ∙ sym (programs_more spelled front element);
-      numbered = numbers_last spelled programs numbers declared table h.numbered (λ key. t key ∙ sym (numbered_by spelled declared.variables names key all));
+      numbered = numbers_last spelled programs numbers declared table h.numbered
+          (λ key. t key ∙ sym (numbered_by spelled declared.variables names key all));
       fault =
           faults_more spelled front element least (lesser_of_two twice fault) h.fault
           (both_least (OfCause Twice (IsTwiceIn spelled (names_of declared.program)))
-          (λ place cause. SomeOf (λ d. IsFaultIn (types_below spelled above) d place cause) declared.program.declarations) twice fault
+          (λ place cause. SomeOf (λ d. IsFaultIn (types_below spelled above) d place cause)
+          declared.program.declarations) twice fault
           (subst (λ (ns : List Name). IsLeastOf (OfCause Twice (IsTwiceIn spelled ns)) twice) n a)
-          (subst (λ (t : Types). IsLeastOf (λ place cause. SomeOf (λ d. IsFaultIn t d place cause) declared.program.declarations) fault) same f));
+          (subst (λ (t : TypeNames). IsLeastOf
+          (λ place cause. SomeOf (λ d. IsFaultIn t d place cause) declared.program.declarations) fault) same f));
     }

@@ -30,7 +30,8 @@ numbers_given range first = given (int_le range.lo range.hi) (λ is. record { le
     given : (is : Bool) (ordered : T is → range.lo ≤ℤ range.hi) → T is →
         option_map (λ r. numbers_of r first) (range_if range.lo range.hi is ordered) ≡ Some (numbers_of range first)
     given true ordered t =
-        ap (λ (o : range.lo ≤ℤ range.hi). Some (numbers_of (record { lo = range.lo; hi = range.hi; ordered = o }) first))
+        ap (λ (o : range.lo ≤ℤ range.hi). Some
+        (numbers_of (record { lo = range.lo; hi = range.hi; ordered = o }) first))
         (order_prop range.lo range.hi (ordered tt) range.ordered)
     given false ordered t = absurd t
 
@@ -38,7 +39,8 @@ module _ {X : Type 0} (least greatest low high : ℤ) (x : Option X) where
   within_base : least ≤ℤ low → high ≤ℤ greatest → (if int_le least low && int_le high greatest then x else None) ≡ x
   within_base a b = rw (le_to least low a, le_to high greatest b) refl
 
-  outside_base : ((least ≤ℤ low) × (high ≤ℤ greatest) → ⊥) → (if int_le least low && int_le high greatest then x else None) ≡ None
+  outside_base : ((least ≤ℤ low) × (high ≤ℤ greatest) → ⊥)
+      → (if int_le least low && int_le high greatest then x else None) ≡ None
   outside_base out = cases (int_le least low) (int_le high greatest) refl refl
     where
       cases : (a b : Bool) → int_le least low ≡ a → int_le high greatest ≡ b → (if a && b then x else None) ≡ None
@@ -47,8 +49,10 @@ module _ {X : Type 0} (least greatest low high : ℤ) (x : Option X) where
       cases false b e f = refl
 
 -- a range within its base, and one that has numbers outside it
-module _ (range outer : Range) (least greatest low high : ℤ) (p : outer.lo ≡ least) (q : outer.hi ≡ greatest) (r : range.lo ≡ low) (s : range.hi ≡ high) where
-  pub subrange_within : (first : ℤ) (type : DataType) → IsWithin range outer → first ≡ low → whole_numbers range.lo range.hi first ≡ Some type →
+module _ (range outer : Range) (least greatest low high : ℤ) (p : outer.lo ≡ least) (q : outer.hi ≡ greatest)
+    (r : range.lo ≡ low) (s : range.hi ≡ high) where
+  pub subrange_within : (first : ℤ) (type : DataType) → IsWithin range outer → first ≡ low
+      → whole_numbers range.lo range.hi first ≡ Some type →
       Some type ≡ (if int_le least low && int_le high greatest then whole_numbers low high low else None)
   subrange_within first type h f e =
       sym
@@ -56,6 +60,7 @@ module _ (range outer : Range) (least greatest low high : ℤ) (p : outer.lo ≡
       ∙ (λ i. whole_numbers (sym r i) (sym s i) (sym f i))
       ∙ e)
 
-  pub subrange_outside : {X : Type 0} (x : Option X) → (IsWithin range outer → ⊥) → None ≡ (if int_le least low && int_le high greatest then x else None)
+  pub subrange_outside : {X : Type 0} (x : Option X) → (IsWithin range outer → ⊥)
+      → None ≡ (if int_le least low && int_le high greatest then x else None)
   subrange_outside x out =
       sym (outside_base least greatest low high x (λ h. out (record { low = rw (p, r) h.0; high = rw (q, s) h.1 })))

@@ -4,7 +4,6 @@ use Rattle.std.specs.Prelude.{Option, filter_map}
 use Rattle.ilsource.specs.Names.{folded, text_of}
 use Rattle.ilsource.specs.Trees.{Tree}
 use Rattle.ilsource.specs.declared.name.Name.{Name}
-use Rattle.ilscope.specs.DataTypes.{Types}
 use Rattle.ilscope.specs.Declarations.{DeclaredProgram, declared_program, name_of, standing}
 use Rattle.ilscope.specs.Faults.{SomeOf, IsLeastOf, IsTwiceIn}
 use Rattle.ilscope.specs.Kept.{Kept}
@@ -20,7 +19,8 @@ use Rattle.ilscope.proofs.Spelling.{key_is}
 pub spelled_is : (lower text : List ℕ) → lower ≡ lowered text → text_of lower ≡ folded text
 spelled_is lower text e = λ i name. (ap (λ (w : List ℕ). text_of w name) e ∙ key_is text name) i
 
-pub whole_scope : (tree : Tree) (lower : List ℕ) (types : Kept (Option DataType)) (programs : List DeclaredProgram) (numbers : List (Kept ℕ))
+pub whole_scope : (tree : Tree) (lower : List ℕ) (types : Kept (Option DataType)) (programs : List DeclaredProgram)
+    (numbers : List (Kept ℕ))
     (least twice : Option Found) → lower ≡ lowered tree.text →
     IsGathered lower tree.elements types programs numbers least →
     IsLeastOf (OfCause Twice (IsTwiceIn (text_of lower) (map name_of tree.elements))) twice →
@@ -29,10 +29,14 @@ whole_scope tree lower types programs numbers least twice e h k =
     let same : text_of lower ≡ folded tree.text = spelled_is lower tree.text e in
     record {
       text = e;
-      declared = h.declared ∙ ap (λ (s : Name → List ℕ). filter_map (declared_program s) (standing [] tree.elements)) same;
+      declared = h.declared
+          ∙ ap (λ (s : Name → List ℕ). filter_map (declared_program s) (standing [] tree.elements)) same;
       numbered = subst (λ (s : Name → List ℕ). AreAllNumbers s programs numbers) same h.numbered;
       fault =
           all_declared tree least twice
-          (subst (λ (s : Name → List ℕ). IsLeastOf (λ place cause. SomeOf (λ one. IsFaultOfElement s one place cause) (standing [] tree.elements)) least) same h.fault)
-          (subst (λ (s : Name → List ℕ). IsLeastOf (OfCause Twice (IsTwiceIn s (map name_of tree.elements))) twice) same k);
+          (subst (λ (s : Name → List ℕ). IsLeastOf
+          (λ place cause. SomeOf (λ one. IsFaultOfElement s one place cause) (standing [] tree.elements)) least) same
+          h.fault)
+          (subst (λ (s : Name → List ℕ). IsLeastOf (OfCause Twice (IsTwiceIn s (map name_of tree.elements))) twice) same
+          k);
     }

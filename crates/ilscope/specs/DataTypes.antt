@@ -1,5 +1,5 @@
--- What types mean as they are written: the values of a variable, and the one that it has at first (IEC 61131-3, 2.3.1 and
--- 2.3.3; TIME is a range of milliseconds by the profile).
+-- What types mean as they are written: the values of a variable, and the one that it has at first (IEC 61131-3, 2.3.1
+-- and 2.3.3; TIME is a range of milliseconds by the profile).
 use Rattle.std.specs.Prelude.{ℤ, pos, ◌≤ℤ◌, int_le, List, [], ◌∷◌, Bool, true, false, ◌&&◌, T, bytes_eq, if◌then◌else◌}
 use Rattle.std.specs.Prelude.{ℕ, Option, Some, None, option_map, option_and_then, unwrap_or}
 use Rattle.std.specs.Option.{option_or}
@@ -34,13 +34,13 @@ whole_numbers low high first =
     (λ range. record { value_type = types.Int range; initial = values.Int first })
     (range_if low high (int_le low high) (λ is. record { le = is }))
 
--- what names mean as those of types: none where no type has the name; no data type where its declaration is at fault
-abbrev pub Types : Type 0
-Types = Name → Option (Option DataType)
+-- what names mean as those of types: none where no type has the name, and no data type where the type is at fault
+abbrev pub TypeNames : Type 0
+TypeNames = Name → Option (Option DataType)
 
--- what a specification means: the variables of a type begin with 0, those of a subrange with its lower limit; none where a
+-- what a specification means: variables begin with FALSE or 0, those of a subrange with its lower limit; none where a
 -- subrange is empty or is not within its base, and where a name means no data type
-abbrev pub data_type : Types → Specification → Option DataType
+abbrev pub data_type : TypeNames → Specification → Option DataType
 data_type types_above specifications.Bool = Some truth_values
 data_type types_above specifications.Time = whole_numbers (pos 0) (pos 4294967295) (pos 0)
 data_type types_above (specifications.Integer base) = whole_numbers (least_of base) (greatest_of base) (pos 0)
@@ -74,13 +74,13 @@ with_initial (Some constant) type =
     option_map (λ value. record { value_type = type.value_type; initial = value }) (value_in type.value_type constant)
 
 -- what a declaration of this type and initial value means; none where it is at fault, or its type is
-abbrev pub declared_type : Types → Specification → Option Constant → Option DataType
+abbrev pub declared_type : TypeNames → Specification → Option Constant → Option DataType
 declared_type types_above specification initial =
     option_and_then (with_initial initial) (data_type types_above specification)
 
--- what names mean below these types, of which the nearest stands first: what the first declaration of a type of that name
--- means below the types above it; `spelled` is how names are compared
-abbrev pub types_below : (Name → List ℕ) → List TypeDeclaration → Types
+-- what names mean below these types, of which the nearest stands first: what the first type of that name means below
+-- the types above it; `spelled` is how names are compared
+abbrev pub types_below : (Name → List ℕ) → List TypeDeclaration → TypeNames
 types_below spelled [] name = None
 types_below spelled (type ∷ above) name =
     option_or

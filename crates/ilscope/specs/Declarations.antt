@@ -7,7 +7,7 @@ use Rattle.ilsource.specs.declared.declaration.TypeDeclaration.{TypeDeclaration}
 use Rattle.ilsource.specs.declared.name.Name.{Name}
 use Rattle.ilsource.specs.declared.source.Element.{Element}
 use Rattle.ilsource.specs.declared.source.Element.TheVariants.{DerivedType, Program}
-use Rattle.ilscope.specs.DataTypes.{Types, truth_values, declared_type, types_below}
+use Rattle.ilscope.specs.DataTypes.{TypeNames, truth_values, declared_type, types_below}
 use Rattle.ilscope.specs.declared.data_type.DataType.{DataType}
 use Rattle.ilscope.specs.declared.variable.Variable.{Variable}
 
@@ -42,7 +42,7 @@ abbrev pub names_of : Written → List Name
 names_of program = flat_map (λ d. d.names) program.declarations
 
 -- what a declaration means; FALSE of BOOL, whatever is written, where it or its type is at fault
-abbrev pub type_of : Types → Variables → DataType
+abbrev pub type_of : TypeNames → Variables → DataType
 type_of types_above declaration =
     unwrap_or (declared_type types_above declaration.specification declaration.initial) truth_values
 
@@ -50,11 +50,11 @@ abbrev pub variable : DataType → Name → Variable
 variable type name = record { name = name; value_type = type.value_type; initial = type.initial }
 
 -- the variables of one declaration
-abbrev pub variables_in : Types → Variables → List Variable
+abbrev pub variables_in : TypeNames → Variables → List Variable
 variables_in types_above declaration = map (variable (type_of types_above declaration)) declaration.names
 
 -- a program's variables, in declared order
-abbrev pub variables_of : Types → Written → List Variable
+abbrev pub variables_of : TypeNames → Written → List Variable
 variables_of types_above program = flat_map (variables_in types_above) program.declarations
 
 -- a program with its variables

@@ -10,7 +10,7 @@ use Rattle.ilsource.specs.declared.declaration.Specification.{Specification}
 use Rattle.ilsource.specs.declared.declaration.Specification.TheVariants as specifications
 use Rattle.ilsource.specs.declared.name.Name.{Name}
 use Rattle.ilscope.specs.Causes.{number_of}
-use Rattle.ilscope.specs.DataTypes.{Types, data_type, types_below, value_in}
+use Rattle.ilscope.specs.DataTypes.{TypeNames, data_type, types_below, value_in}
 use Rattle.ilscope.specs.Declarations.{standing, declarations_in, name_of, names_of}
 use Rattle.ilscope.specs.declared.data_type.DataType.{DataType}
 use Rattle.ilscope.specs.declared.fault.NameCause.{NameCause}
@@ -28,14 +28,14 @@ SomeLater R [] = ⊥
 SomeLater R (x ∷ xs) = SomeOf (R x) xs ⊎ SomeLater R xs
 
 -- some declaration has the property, where the names of types mean this above it
-abbrev pub SomeDeclaration : (Types → Variables → Type 0) → Tree → Type 0
+abbrev pub SomeDeclaration : (TypeNames → Variables → Type 0) → Tree → Type 0
 SomeDeclaration P tree =
     SomeOf
     (λ one. SomeOf (P (types_below (folded tree.text) one.above)) (declarations_in one.element))
     (standing [] tree.elements)
 
 -- no type above has the name that the specification has at the place
-abbrev pub IsUnknownIn : Types → ℕ → Specification → Type 0
+abbrev pub IsUnknownIn : TypeNames → ℕ → Specification → Type 0
 IsUnknownIn types_above place (specifications.Named name) = (types_above name ≡ None) × (place ≡ name.from)
 IsUnknownIn types_above place _ = ⊥
 
@@ -67,7 +67,7 @@ IsBadInitial (Some type) (Some constant) = value_in type.value_type constant ≡
 IsBadInitial _ _ = ⊥
 
 -- the declaration has such a subrange or initial value, and its first name stands at the place
-abbrev pub IsBadIn : Types → ℕ → Variables → Type 0
+abbrev pub IsBadIn : TypeNames → ℕ → Variables → Type 0
 IsBadIn types_above place declaration =
     (IsBadSubrange declaration.specification
     ⊎ IsBadInitial (data_type types_above declaration.specification) declaration.initial)

@@ -1,7 +1,7 @@
 -- What is kept under names.
 use Rattle.std.specs.Prelude.{ℕ, List, [], ◌∷◌, ◌++◌, Option, is_some, bytes_eq, if◌then◌else◌}
 use Rattle.std.specs.Map.{lookup}
-use Rattle.ilscope.specs.DataTypes.{Types}
+use Rattle.ilscope.specs.DataTypes.{TypeNames}
 use Rattle.ilsource.specs.Names.{text_of}
 use Rattle.ilscope.specs.declared.data_type.DataType.{DataType}
 
@@ -14,5 +14,5 @@ abbrev pub with_new : {X : Type 0} → Kept X → List ℕ → X → Kept X
 with_new kept key value = if is_some (lookup (bytes_eq key) kept) then kept else kept ++ (key, value) ∷ []
 
 -- what names mean by what is kept under them, in a text with letters in lower case
-abbrev pub types_in : List ℕ → Kept (Option DataType) → Types
+abbrev pub types_in : List ℕ → Kept (Option DataType) → TypeNames
 types_in lower kept name = lookup (bytes_eq (text_of lower name)) kept

@@ -8,9 +8,9 @@ use Rattle.ilsource.specs.declared.declaration.TypeDeclaration.{TypeDeclaration}
 use Rattle.ilsource.specs.declared.name.Name.{Name}
 use Rattle.ilsource.specs.declared.source.Element.{Element}
 use Rattle.ilsource.specs.declared.source.Element.TheVariants.{DerivedType, Program}
-use Rattle.ilscope.specs.DataTypes.{Types, types_below}
-use Rattle.ilscope.specs.Declarations.{DeclaredProgram, Standing, above_next, declarations_in, declared_program, declared_programs}
-use Rattle.ilscope.specs.Declarations.{names_of, standing}
+use Rattle.ilscope.specs.DataTypes.{TypeNames, types_below}
+use Rattle.ilscope.specs.Declarations.{DeclaredProgram, Standing, above_next, declarations_in, declared_program}
+use Rattle.ilscope.specs.Declarations.{declared_programs, names_of, standing}
 use Rattle.ilscope.specs.Faults.{SomeOf, IsBadIn, IsFaultOfDeclarations, IsLeastOf, IsTwiceIn, IsUnknownIn}
 use Rattle.ilscope.specs.Kept.{Kept, types_in}
 use Rattle.ilscope.specs.Tables.{first_at, lowered}
@@ -24,7 +24,7 @@ abbrev pub OfCause : NameCause → (ℕ → Type 0) → ℕ → NameCause → Ty
 OfCause its At place cause = (cause ≡ its) × At place
 
 -- a fault of what one declaration says
-abbrev pub IsFaultIn : Types → Variables → ℕ → NameCause → Type 0
+abbrev pub IsFaultIn : TypeNames → Variables → ℕ → NameCause → Type 0
 IsFaultIn types_above declaration place cause =
     OfCause Unknown (λ at. IsUnknownIn types_above at declaration.specification) place cause
     ⊎ OfCause BadDeclaration (λ at. IsBadIn types_above at declaration) place cause
@@ -57,17 +57,18 @@ abbrev pub above_all : List TypeDeclaration → List Element → List TypeDeclar
 above_all above [] = above
 above_all above (element ∷ more) = above_all (above_next above element) more
 
--- what is gathered from the elements up to a place: what the types mean, the programs with their variables, for each the
--- numbers of these, and the least fault
+-- what is gathered from the elements up to a place: what the types mean, the programs with their variables, for each
+-- program the numbers of these, and the least fault
 pub record IsGathered (lower : List ℕ) (front : List Element) (types : Kept (Option DataType))
     (programs : List DeclaredProgram) (numbers : List (Kept ℕ)) (least : Option Found) : Type 0 where
   pub meant : (name : Name) → types_in lower types name ≡ types_below (text_of lower) (above_all [] front) name
   pub declared : programs ≡ filter_map (declared_program (text_of lower)) (standing [] front)
   pub numbered : AreAllNumbers (text_of lower) programs numbers
-  pub fault : IsLeastOf (λ place cause. SomeOf (λ one. IsFaultOfElement (text_of lower) one place cause) (standing [] front)) least
+  pub fault : IsLeastOf
+      (λ place cause. SomeOf (λ one. IsFaultOfElement (text_of lower) one place cause) (standing [] front)) least
 
--- the parts of a scope: the text in lower case, the programs with their variables, for each the numbers of these, and the
--- least fault of declarations
+-- the parts of a scope: the text in lower case, the programs with their variables, for each program the numbers of
+-- these, and the least fault of declarations
 pub record IsScopeOf (tree : Tree) (lower : List ℕ) (programs : List DeclaredProgram) (numbers : List (Kept ℕ))
     (least : Option Found) : Type 0 where
   pub text : lower ≡ lowered tree.text

@@ -15,4 +15,5 @@ first_at test (x ∷ xs) = if test x then Some 0 else option_map suc (first_at t
 
 -- the number of the first variable with the name; `spelled` is how names are compared
 abbrev pub variable_number : (Name → List ℕ) → List Variable → Name → Option ℕ
-variable_number spelled variables name = first_at (λ variable. bytes_eq (spelled name) (spelled variable.name)) variables
+variable_number spelled variables name =
+    first_at (λ variable. bytes_eq (spelled name) (spelled variable.name)) variables

@@ -39,8 +39,8 @@ impl DataType {
         }
     }
 
-    /// The type with the initial value that is written, if one is; `None` where the type does not have
-    /// it.
+    /// The type with the initial value that is written, if one is; `None` where the type does not
+    /// have it.
     pub(crate) fn with_initial(self, initial: Option<Constant>) -> Option<DataType>
         ensures { result ≡ with_initial initial self }
     {
@@ -52,7 +52,8 @@ impl DataType {
     }
 }
 
-/// What a constant means where it is given to a variable, or `None` where the type does not have it.
+/// What a constant means where it is given to a variable of the type, or `None` where the type does
+/// not have it.
 pub(crate) fn value_in(value_type: IlType, constant: Constant) -> Option<Value>
     ensures { result ≡ value_in value_type constant }
 {

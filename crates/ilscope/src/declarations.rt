@@ -1,7 +1,8 @@
 //! Faults of declarations.
 
 ghost use Rattle.std.specs.Prelude.{◌≡◌, ◌↔◌, ℕ, IsTrue};
-ghost use Rattle.ilscope.specs.Faults.{IsBadIn, IsBadInitial, IsBadSubrange, IsLeastOf, IsUnknownIn, SomeOf};
+ghost use Rattle.ilscope.specs.Faults.{IsBadIn, IsBadInitial, IsBadSubrange, IsUnknownIn};
+ghost use Rattle.ilscope.specs.Faults.{IsLeastOf, SomeOf};
 ghost use Rattle.ilscope.specs.Kept.{types_in};
 ghost use Rattle.ilscope.specs.ScopeSteps.{IsFaultIn, OfCause};
 ghost use Rattle.ilscope.specs.declared.fault.NameCause.TheVariants.{BadDeclaration, Unknown};
@@ -9,13 +10,14 @@ ghost use Rattle.ilscope.specs.declared.fault.NameCause.TheVariants.{BadDeclarat
 use crate::data_type::{DataType, value_in};
 use crate::fault::NameCause;
 use crate::found::{Found, lesser_of};
-use crate::types::{Types, data_type, type_of_name};
+use crate::types::{DeclaredTypes, data_type, type_of_name};
 use ilsource::{Constant, Declaration, Name, Specification};
 
-/// The least fault of what some declarations say below these types. `lower` is the text in lower case.
+/// The least fault of what some declarations say below these types. `lower` is the text in lower
+/// case.
 pub(crate) fn fault_of_all(
     lower: &[u8],
-    types: &Types,
+    types: &DeclaredTypes,
     declarations: &[Declaration],
 ) -> Option<Found>
     ensures { IsLeastOf (λ place cause. SomeOf
@@ -38,7 +40,7 @@ pub(crate) fn fault_of_all(
 /// The least fault of what a declaration says below these types.
 pub(crate) fn fault_of(
     lower: &[u8],
-    types: &Types,
+    types: &DeclaredTypes,
     names: &[Name],
     specification: Specification,
     initial: Option<Constant>,
@@ -53,7 +55,7 @@ pub(crate) fn fault_of(
 }
 
 /// The fault of a type's name that no type above has.
-fn unknown_type(lower: &[u8], types: &Types, specification: Specification) -> Option<Found>
+fn unknown_type(lower: &[u8], types: &DeclaredTypes, specification: Specification) -> Option<Found>
     ensures { IsLeastOf (OfCause Unknown
         (λ place. IsUnknownIn (types_in lower.now types.now) place specification)) result }
 {
@@ -72,7 +74,7 @@ fn unknown_type(lower: &[u8], types: &Types, specification: Specification) -> Op
 /// The fault of a declaration with a bad subrange or a bad initial value.
 fn bad_declaration(
     lower: &[u8],
-    types: &Types,
+    types: &DeclaredTypes,
     names: &[Name],
     specification: Specification,
     initial: Option<Constant>,

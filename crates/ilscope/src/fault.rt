@@ -10,13 +10,14 @@ use thiserror::Error;
 /// What is wrong with a name or a declaration.
 #[derive(Clone, Copy, PartialEq, Eq, Debug)]
 pub enum NameCause {
-    /// A name that isn't declared.
+    /// A name that is not declared; a type's name that is not declared above.
     Unknown,
     /// A name that is declared again.
     Twice,
     /// A declaration or an instruction that exceeds a limit.
     TooMany,
-    /// An initial value that isn't of the variable's type.
+    /// A subrange that is empty or has numbers outside its base, or an initial value that the type
+    /// does not have.
     BadDeclaration,
 }
 
@@ -88,7 +89,7 @@ impl<T: Drop> From<AllocFailed<T>> for NameFault {
 }
 
 impl NameFault {
-    /// The number that is printed: 1 for want of memory, else that of the cause.
+    /// The number that is printed: 1 out of memory, else that of the cause.
     pub fn number(&self) -> u8
         ensures { result ≡ fault_number self.now }
     {

@@ -16,7 +16,8 @@ impl Found {
     ghost use Rattle.std.specs.Prelude.{◌≡◌};
     ghost use Rattle.ilscope.specs.Order.{comes_before};
 
-    /// Whether this one is told before `other`: at a lesser place, or there with a lesser cause.
+    /// Whether this one is reported before `other`: it stands at a lesser place, or there with a
+    /// lesser cause.
     fn comes_before(self, other: Found) -> bool
         ensures { result ≡ comes_before self other }
     {
@@ -24,7 +25,7 @@ impl Found {
     }
 }
 
-/// The one that is told of what was found in two parts.
+/// The one that is reported of what was found in two parts.
 pub fn lesser_of(one: Option<Found>, other: Option<Found>) -> Option<Found>
     ensures { result ≡ lesser_of_two one other }
 {

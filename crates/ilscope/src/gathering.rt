@@ -11,7 +11,7 @@ use crate::found::{Found, lesser_of};
 use crate::names::Names;
 use crate::numbers::numbers_of;
 use crate::program_scope::ProgramScope;
-use crate::types::{Types, declared_type};
+use crate::types::{DeclaredTypes, declared_type};
 use crate::variables::{names_of, variables_of};
 use ilsource::{Element, Name, Program, TypeDeclaration};
 use std::alloc::{AllocError, Global};
@@ -19,7 +19,7 @@ use std::alloc::{AllocError, Global};
 /// What is gathered from the elements up to a place.
 #[derive(Drop)]
 pub(crate) struct Gathering<'a> {
-    pub(crate) types: Types,
+    pub(crate) types: DeclaredTypes,
     pub(crate) programs: Vec<ProgramScope<'a>>,
     pub(crate) numbers: Vec<Names<usize>>,
     pub(crate) least: Option<Found>,

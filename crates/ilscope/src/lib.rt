@@ -1,5 +1,15 @@
-//! What a source program declares: the variables of each program, with their types and initial values, and the least fault
-//! of the declarations.
+//! What a source program declares: its types, and the variables of each program.
+//!
+//! What crosses the boundary: [`Scope`], which is made of an [`ilsource::Source`]. It has each
+//! program with its [`Variable`]s, and the least fault of the declarations: [`NameFault`], with its
+//! line, its column and its [`NameCause`]; [`Found`] is a fault at its place in the text. The
+//! definitions to read first are `type_of` (specs/Declarations.antt), what a declaration means, and
+//! `IsFaultOfDeclarations` (specs/Faults.antt).
+//!
+//! ```text
+//! let scope = Scope::of(alloc, &source, &binding)?;
+//! if let Some(fault) = scope.fault() { /* name fault 3 at 4:9 */ }
+//! ```
 #![tactic(auto)]
 
 mod data_type;
@@ -20,3 +30,6 @@ pub use found::{Found, lesser_of};
 pub use program_scope::ProgramScope;
 pub use scope::{Scope, report_of};
 pub use variable::Variable;
+
+#[cfg(test)]
+mod tests;

@@ -20,7 +20,8 @@ impl<T> Model for Names<T> {
 }
 
 impl<T: Copy> Names<T> {
-    ghost use Rattle.std.specs.Prelude.{◌≡◌, ◌↔◌, [], ◌∷◌, ◌++◌, None, OnOk, IfOk, IsNone, IsTrue, bytes_eq};
+    ghost use Rattle.std.specs.Prelude.{◌≡◌, ◌↔◌, [], ◌∷◌, ◌++◌, bytes_eq};
+    ghost use Rattle.std.specs.Prelude.{None, OnOk, IfOk, IsNone, IsTrue};
     ghost use Rattle.std.specs.Map.{lookup};
     ghost use Rattle.ilscope.specs.Kept.{with_new};
 
@@ -40,11 +41,12 @@ impl<T: Copy> Names<T> {
         self.entries.get(key).copied()
     }
 
-    /// Keeps `value` under the name `key`, which is in lower case, where it is new, and says whether it
-    /// was.
+    /// Keeps `value` under the name `key`, which is in lower case, where the name is new, and says
+    /// whether it was.
     pub(crate) fn add(&mut self, alloc: Global, key: &[u8], value: T) -> Result<bool, AllocError>
         ensures kept { OnOk result (self.new ≡ with_new self.old key.now value) }
-        ensures new { IfOk result (λ new. IsTrue new ↔ IsNone (lookup (bytes_eq key.now) self.old)) }
+        ensures new { IfOk result (λ new.
+            IsTrue new ↔ IsNone (lookup (bytes_eq key.now) self.old)) }
     {
         if self.get(key).is_some() {
             return Ok(false);

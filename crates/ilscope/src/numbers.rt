@@ -15,8 +15,8 @@ use crate::names::Names;
 use ilsource::Name;
 use std::alloc::{AllocError, Global};
 
-/// Under each name the number of the first that is spelled alike, and the least fault of a name that
-/// is given again. `lower` is the text in lower case.
+/// Under each name the number of the first that is spelled alike, and the least fault of a name
+/// that is given again. `lower` is the text in lower case.
 pub(crate) fn numbers_of(
     alloc: Global,
     lower: &[u8],

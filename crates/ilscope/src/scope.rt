@@ -1,7 +1,7 @@
 //! Scopes: what is declared, with the least fault of declarations.
 //!
-//! Neither limits nor names in instructions are looked at here: their faults are reported when names
-//! are resolved.
+//! Neither limits nor names in instructions are looked at here: their faults are reported when
+//! names are resolved.
 
 ghost use Rattle.std.specs.Prelude.{◌≡◌, IfOk};
 ghost use Rattle.ilscope.specs.Reports.{IsReportOf, IsReportOfOption};
@@ -45,7 +45,9 @@ impl<'a> Model for Scope<'a> {
 }
 
 impl<'a> Scope<'a> {
-    ghost use Rattle.std.specs.Prelude.{◌≡◌, ◌<◌, ◌↔◌, ℕ, IfOk, IsTrue, MatchOption, length, slice_get, Some};
+    ghost use Rattle.std.specs.Prelude.{◌≡◌, ◌<◌, ◌↔◌, ℕ, All, IfOk, IsTrue, MatchOption, Some};
+    ghost use Rattle.std.specs.Prelude.{length, slice_get};
+    ghost use Rattle.iltypes.specs.Values.{IsOf};
     ghost use Rattle.ilsource.specs.Names.{SameName, folded};
     ghost use Rattle.ilscope.specs.Declarations.{DeclaredProgram, declared_programs, names_of};
     ghost use Rattle.ilscope.specs.Faults.{SomeOf, IsFaultOfDeclarations, IsLeastOf};
@@ -54,8 +56,8 @@ impl<'a> Scope<'a> {
     ghost use Rattle.ilscope.specs.declared.fault.NameCause.{NameCause};
     ghost use Rattle.ilscope.specs.declared.fault.NameFault.{NameFault};
 
-    /// What `source` declares.
-    // Located variables will be declared by the binding's buses; so it is a part of the call.
+    /// What `source` declares. Located variables, which are to come, will be looked up in the
+    /// binding.
     pub fn of(
         alloc: Global,
         source: &'a Source,
@@ -112,12 +114,14 @@ impl<'a> Scope<'a> {
     /// The programs in order, each with its variables.
     pub fn programs(&self) -> &[ProgramScope<'a>]
         ensures value { result.now ≡ declared_programs self.now }
+        // Each initial value is one of its variable's type.
+        ensures typed { All (λ p. All (λ v. IsOf v.initial v.value_type) p.variables) result.now }
     {
         &self.programs
     }
 
-    /// The number of the first variable with this name, in the program with this number, which is below
-    /// the number of programs.
+    /// The number of the first variable with this name, in the program with this number, which is
+    /// below the number of programs.
     pub fn variable_number(&self, program: usize, name: Name) -> Option<usize>
         requires { program < length (declared_programs self.now) }
         ensures { (p : DeclaredProgram) → slice_get (declared_programs self.now) program ≡ Some p
@@ -126,8 +130,8 @@ impl<'a> Scope<'a> {
         self.numbers[program].get(name.text(&self.lower))
     }
 
-    /// Whether the program with this number, which is below the number of programs, declares a variable
-    /// of this name.
+    /// Whether the program with this number, which is below the number of programs, declares a
+    /// variable of this name.
     pub fn declares(&self, program: usize, name: Name) -> bool
         requires { program < length (declared_programs self.now) }
         ensures { (p : DeclaredProgram) → slice_get (declared_programs self.now) program ≡ Some p

@@ -1,4 +1,4 @@
-//! Declared types, and what specifications mean above which they stand.
+//! What specifications and declarations mean below the types that are declared above them.
 
 ghost use Rattle.std.specs.Prelude.{◌≡◌, None};
 ghost use Rattle.ilscope.specs.DataTypes.{data_type, declared_type};
@@ -12,10 +12,15 @@ use ilsource::{Constant, Name, Specification};
 use iltypes::Range;
 
 /// What each type that is declared above a place means; nothing where its declaration is at fault.
-pub(crate) type Types = Names<Option<DataType>>;
+pub(crate) type DeclaredTypes = Names<Option<DataType>>;
 
-/// What a type's name means, or `None` where no type above has it. `lower` is the text in lower case.
-pub(crate) fn type_of_name(lower: &[u8], types: &Types, name: Name) -> Option<Option<DataType>>
+/// What a type's name means, or `None` where no type above has it. `lower` is the text in lower
+/// case.
+pub(crate) fn type_of_name(
+    lower: &[u8],
+    types: &DeclaredTypes,
+    name: Name,
+) -> Option<Option<DataType>>
     ensures { result ≡ types_in lower.now types.now name }
 {
     types.get(name.text(lower))
@@ -36,7 +41,7 @@ pub(crate) fn subrange(base: IntegerType, low: i64, high: i64) -> Option<DataTyp
 /// What a specification means below these types.
 pub(crate) fn data_type(
     lower: &[u8],
-    types: &Types,
+    types: &DeclaredTypes,
     specification: Specification,
 ) -> Option<DataType>
     ensures { result ≡ data_type (types_in lower.now types.now) specification }
@@ -59,7 +64,7 @@ pub(crate) fn data_type(
 /// What a declaration means below these types.
 pub(crate) fn declared_type(
     lower: &[u8],
-    types: &Types,
+    types: &DeclaredTypes,
     specification: Specification,
     initial: Option<Constant>,
 ) -> Option<DataType>

@@ -5,7 +5,7 @@ ghost use Rattle.ilscope.specs.Declarations.{names_of, variable, variables_of};
 ghost use Rattle.ilscope.specs.Kept.{types_in};
 
 use crate::data_type::DataType;
-use crate::types::{Types, declared_type};
+use crate::types::{DeclaredTypes, declared_type};
 use crate::variable::Variable;
 use ilsource::{Name, Program};
 use std::alloc::{AllocError, Global};
@@ -14,7 +14,7 @@ use std::alloc::{AllocError, Global};
 pub(crate) fn variables_of(
     alloc: Global,
     lower: &[u8],
-    types: &Types,
+    types: &DeclaredTypes,
     program: &Program,
 ) -> Result<Vec<Variable>, AllocError>
     ensures { IfOk result (λ v.

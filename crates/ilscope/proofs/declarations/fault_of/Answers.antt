@@ -10,5 +10,7 @@ returns c =
     let types_above = types_in c.args.lower.now c.args.types.now in
     rw c.lesser_of.ensures
     (both_least (OfCause Unknown (λ at. IsUnknownIn types_above at c.args.specification))
-    (OfCause BadDeclaration (λ at. IsBadIn types_above at (record { names = c.args.names.now; specification = c.args.specification; initial = c.args.initial })))
+    (OfCause BadDeclaration
+    (λ at. IsBadIn types_above at
+    (record { names = c.args.names.now; specification = c.args.specification; initial = c.args.initial })))
     c.unknown_type.result c.bad_declaration.result c.unknown_type.ensures c.bad_declaration.ensures)

@@ -10,13 +10,24 @@ use Rattle.ilscope.proofs.declarations.fault_of_all.Goals as goal
 pub loop-declaration-preserved : goal.loop-declaration-preserved
 loop-declaration-preserved c =
     rw c.lesser_of-least.ensures
-    (least_of_more (IsFaultIn (types_in c.args.lower.now c.args.types.now)) c.args.declarations.now c.loop-declaration.declaration-index
-    c.declaration-item.result c.loop-declaration.least c.fault_of-fault.result c.loop-declaration-test.true c.declaration-item.is
+    (least_of_more (IsFaultIn (types_in c.args.lower.now c.args.types.now)) c.args.declarations.now
+    c.loop-declaration.declaration-index
+    c.declaration-item.result c.loop-declaration.least c.fault_of-fault.result c.loop-declaration-test.true
+    c.declaration-item.is
     c.loop-declaration.invariant
-    (subst (λ (d : Variables). IsLeastOf (IsFaultIn (types_in c.args.lower.now c.args.types.now) d) c.fault_of-fault.result)
-    (λ i. record { names = c.names.ensures i; specification = c.specification.ensures i; initial = c.initial.ensures i }) c.fault_of-fault.ensures))
+    (subst (λ (d : Variables). IsLeastOf (IsFaultIn (types_in c.args.lower.now c.args.types.now) d)
+    c.fault_of-fault.result)
+    (λ i. record {
+      names = c.names.ensures i;
+      specification = c.specification.ensures i;
+      initial =
+          c.initial.ensures i;
+    }) c.fault_of-fault.ensures))
 
 pub returns : goal.returns
 returns c =
-    subst (λ (ds : List Variables). IsLeastOf (λ place cause. SomeOf (λ d. IsFaultIn (types_in c.args.lower.now c.args.types.now) d place cause) ds) c.loop-declaration.least)
-    (take_all c.loop-declaration.declaration-index c.args.declarations.now c.loop-declaration-test.false) c.loop-declaration.invariant
+    subst (λ (ds : List Variables). IsLeastOf
+    (λ place cause. SomeOf (λ d. IsFaultIn (types_in c.args.lower.now c.args.types.now) d place cause) ds)
+    c.loop-declaration.least)
+    (take_all c.loop-declaration.declaration-index c.args.declarations.now c.loop-declaration-test.false)
+    c.loop-declaration.invariant

@@ -6,4 +6,5 @@ use Rattle.ilscope.proofs.declarations.fault_of_all.Given as goal
 
 abbrev pub invariant-loop-declaration : goal.invariant-loop-declaration
 invariant-loop-declaration l =
-    IsLeastOf (λ place cause. SomeOf (λ d. IsFaultIn (types_in l.lower l.types) d place cause) (take l.declaration-index l.declarations)) l.least
+    IsLeastOf (λ place cause. SomeOf (λ d. IsFaultIn (types_in l.lower l.types) d place cause)
+    (take l.declaration-index l.declarations)) l.least

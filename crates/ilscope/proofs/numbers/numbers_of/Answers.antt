@@ -1,4 +1,4 @@
-use Rattle.std.proofs.Common.{◌≡◌, ℕ, List, ap, ◌∙◌, map, subst, take}
+use Rattle.std.proofs.Common.{List, ap, ◌∙◌, map, subst}
 use Rattle.std.specs.Prelude.{bytes_eq}
 use Rattle.std.proofs.lemmas.List.{take_all}
 use Rattle.ilsource.specs.Names.{text_of}
@@ -19,18 +19,21 @@ loop-number-preserved c =
     let spelled = text_of c.args.lower.now in
     record {
       numbers =
-          numbers_more spelled c.args.names.now c.loop-number.number first c.loop-number-test.true c.loop-number.numbers c.add_name.new.numbers
+          numbers_more spelled c.args.names.now c.loop-number.number first c.loop-number-test.true c.loop-number.numbers
+          c.add_name.new.numbers
           c.in_ok-again.ensures.numbers c.loop-number.invariant.numbers;
       twice =
           rw c.lesser_of-least.ensures
-          (twice_more spelled c.args.names.now c.loop-number.number first c.loop-number-test.true c.loop-number.numbers c.loop-number.least c.in_ok-again.again
+          (twice_more spelled c.args.names.now c.loop-number.number first c.loop-number-test.true c.loop-number.numbers
+          c.loop-number.least c.in_ok-again.again
           c.loop-number.invariant.numbers c.loop-number.invariant.twice c.in_ok-again.ensures.twice);
     }
 
 pub returns-clause-numbers : goal.returns-clause-numbers
 returns-clause-numbers c key =
     c.loop-number.invariant.numbers key
-    ∙ ap (λ (ns : List Name). first_at (bytes_eq key) (map (text_of c.args.lower.now) ns)) (take_all c.loop-number.number c.args.names.now c.loop-number-test.false)
+    ∙ ap (λ (ns : List Name). first_at (bytes_eq key) (map (text_of c.args.lower.now) ns))
+    (take_all c.loop-number.number c.args.names.now c.loop-number-test.false)
 
 pub returns-clause-twice : goal.returns-clause-twice
 returns-clause-twice c =

@@ -10,6 +10,7 @@ use Rattle.ilscope.proofs.numbers.numbers_of.Given as goal
 
 abbrev pub invariant-loop-number : goal.invariant-loop-number
 invariant-loop-number l = record {
-  numbers : (key : List ℕ) → lookup (bytes_eq key) l.numbers ≡ first_at (bytes_eq key) (map (text_of l.lower) (take l.number l.names));
+  numbers : (key : List ℕ)
+      → lookup (bytes_eq key) l.numbers ≡ first_at (bytes_eq key) (map (text_of l.lower) (take l.number l.names));
   twice : IsLeastOf (OfCause Twice (IsTwiceIn (text_of l.lower) (take l.number l.names))) l.least;
 }

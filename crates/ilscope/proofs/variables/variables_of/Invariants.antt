@@ -6,4 +6,5 @@ use Rattle.ilscope.proofs.variables.variables_of.Given as goal
 
 abbrev pub invariant-loop-declaration : goal.invariant-loop-declaration
 invariant-loop-declaration l =
-    l.variables.items ≡ flat_map (variables_in (types_in l.fn.lower l.fn.types)) (take l.declaration-index l.fn.program.declarations)
+    l.variables.items ≡ flat_map (variables_in (types_in l.fn.lower l.fn.types))
+    (take l.declaration-index l.fn.program.declarations)

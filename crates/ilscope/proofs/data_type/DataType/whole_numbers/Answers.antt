@@ -7,4 +7,5 @@ use Rattle.ilscope.proofs.data_type.DataType.whole_numbers.Goals as goal
 pub returns : goal.returns
 returns c =
     numbers_given c.args.range c.args.first
-    ∙ ap (λ (first : ℤ). Some (numbers_of c.args.range first)) (sym (again w64 c.args.first c.args.first c.ranges.first refl))
+    ∙ ap (λ (first : ℤ). Some (numbers_of c.args.range first))
+    (sym (again w64 c.args.first c.args.first c.ranges.first refl))

@@ -17,13 +17,17 @@ returns c front h =
     let program : c.args.program.now ≡ c.new.result.program = sym c.new.ensures.program in
     rw (c.lesser_of-self.ensures, c.lesser_of.ensures, c.in_ok-push.ensures.items, c.in_ok-push-2.ensures.items)
     (subst
-    (λ (p : Written). IsGathered lower (front ++ elements.Program p ∷ []) old.types (old.programs.items ++ c.new.result ∷ [])
-    (old.numbers.items ++ c.in_ok-numbers.numbers ∷ []) (lesser_of_two old.least (lesser_of_two c.in_ok-numbers.twice c.fault_of_all-fault.result)))
+    (λ (p : Written). IsGathered lower (front ++ elements.Program p ∷ []) old.types
+    (old.programs.items ++ c.new.result ∷ [])
+    (old.numbers.items ++ c.in_ok-numbers.numbers ∷ [])
+    (lesser_of_two old.least (lesser_of_two c.in_ok-numbers.twice c.fault_of_all-fault.result)))
     c.new.ensures.program
-    (program_added lower front old.types old.programs.items old.numbers.items old.least c.in_ok-numbers.twice c.fault_of_all-fault.result c.new.result
+    (program_added lower front old.types old.programs.items old.numbers.items old.least c.in_ok-numbers.twice
+    c.fault_of_all-fault.result c.new.result
     c.deref.result.now c.in_ok-numbers.numbers h
     (c.new.ensures.variables ∙ c.in_ok-variables.ensures ∙ ap (variables_of types_above) program)
     (c.deref.ensures.value ∙ c.in_ok-names.ensures ∙ ap names_of program)
     c.in_ok-numbers.ensures.numbers c.in_ok-numbers.ensures.twice
-    (subst (λ (ds : List Variables). IsLeastOf (λ place cause. SomeOf (λ d. IsFaultIn types_above d place cause) ds) c.fault_of_all-fault.result)
+    (subst (λ (ds : List Variables). IsLeastOf (λ place cause. SomeOf (λ d. IsFaultIn types_above d place cause) ds)
+    c.fault_of_all-fault.result)
     (c.declarations.ensures ∙ ap (λ (p : Written). p.declarations) program) c.fault_of_all-fault.ensures)))

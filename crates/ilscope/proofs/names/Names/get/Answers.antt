@@ -1,7 +1,6 @@
-use Rattle.std.proofs.Common.{◌∙◌, ap, List, ℕ}
+use Rattle.std.proofs.Common.{◌∙◌, ap}
 use Rattle.std.specs.Prelude.{bytes_eq}
 use Rattle.std.specs.Map.{lookup}
-use Rattle.ilscope.specs.Kept.{Kept}
 use Rattle.ilscope.proofs.Kept.{lookup-kept}
 use Rattle.ilscope.proofs.names.Names.get.Goals as goal
 

@@ -1,4 +1,4 @@
-use Rattle.std.proofs.Common.{◌≡◌, ◌∙◌, ap, refl, List, ℕ, ◌++◌, ◌∷◌, []}
+use Rattle.std.proofs.Common.{◌≡◌, ◌∙◌, ap, refl}
 use Rattle.std.specs.Prelude.{bytes_eq, None}
 use Rattle.std.specs.Map.{lookup}
 use Rattle.ilscope.proofs.Kept.{kept, kept-insert_entry}
@@ -6,7 +6,8 @@ use Rattle.ilscope.proofs.names.Names.push.Goals as goal
 
 pub returns : goal.returns
 returns g c =
-    let absent : lookup (bytes_eq c.in_ok-from_slice.field-0.items) (kept (λ k. k.items) c.self.inside.entries.entries) ≡ None =
+    let absent : lookup (bytes_eq c.in_ok-from_slice.field-0.items)
+    (kept (λ k. k.items) c.self.inside.entries.entries) ≡ None =
     rw (c.in_ok-from_slice.ensures.items, c.self.view_is) c.requires
     in
     ap (kept (λ k. k.items)) c.in_ok-insert.ensures.entries

@@ -1,7 +1,7 @@
-use Rattle.std.proofs.Common.{◌≡◌, ◌<◌, ◌∙◌, ap, sym, subst, length, List, ℕ, arith, get_or}
+use Rattle.std.proofs.Common.{◌≡◌, ◌∙◌, ap, sym, subst, length, List, ℕ, arith}
 use Rattle.std.specs.Prelude.{bytes_eq, slice_get, Some}
 use Rattle.std.specs.Map.{lookup}
-use Rattle.ilsource.specs.Names.{folded, text_of}
+use Rattle.ilsource.specs.Names.{folded}
 use Rattle.ilsource.specs.Trees.{Tree}
 use Rattle.ilscope.specs.Declarations.{DeclaredProgram, declared_programs}
 use Rattle.ilscope.specs.Kept.{Kept}
@@ -13,7 +13,8 @@ use Rattle.ilscope.proofs.scope.Scope.variable_number.Goals as goal
 pub index-requires : goal.index-requires
 index-requires c =
     let inside = c.self.inside in
-    let many = as_many (folded inside.source.now.text) inside.programs.items inside.numbers.items c.self.invariant.numbered in
+    let many = as_many (folded inside.source.now.text) inside.programs.items inside.numbers.items
+    c.self.invariant.numbered in
     let programs = ap (λ (ps : List DeclaredProgram). length ps) c.self.invariant.declared in
     let here = ap (λ (t : Tree). length (declared_programs t)) c.self.view_is in
     let below = c.requires in
@@ -30,9 +31,11 @@ returns c p e =
     in
     let numbers : AreNumbersOf (folded tree.text) p c.index.result.now =
     subst (λ (n : Kept ℕ). AreNumbersOf (folded tree.text) p n) (sym c.index.ensures)
-    (numbers_at (folded tree.text) inside.programs.items inside.numbers.items c.args.program p c.index.result.now c.self.invariant.numbered at)
+    (numbers_at (folded tree.text) inside.programs.items inside.numbers.items c.args.program p c.index.result.now
+    c.self.invariant.numbered at)
     in
     c.get.ensures
     ∙ ap (λ (key : List ℕ). lookup (bytes_eq key) c.index.result.now) c.text.ensures
-    ∙ number_is tree.text c.deref.result.now p c.index.result.now c.args.name (c.deref.ensures.value ∙ c.self.invariant.text) numbers
+    ∙ number_is tree.text c.deref.result.now p c.index.result.now c.args.name
+    (c.deref.ensures.value ∙ c.self.invariant.text) numbers
     ∙ ap (λ (t : Tree). variable_number (folded t.text) p.variables c.args.name) c.self.view_is

@@ -1,0 +1,337 @@
+//! What declarations mean and which fault of them is reported, and each public call once.
+
+use crate::{Found, NameCause, NameFault, Scope, lesser_of, report_of};
+use binding::Binding;
+use iloperators::IntegerType::{Int, Udint, Usint};
+use ilsource::{
+    Constant, Declaration, Element, Name, Program, Source, Specification, TypeDeclaration,
+};
+use iltypes::{IlType, Range, Value};
+use std::alloc::{AllocError, Global};
+use std::process::Abort;
+use std::test::Fail;
+
+/// A specification as a row has it.
+#[derive(Clone, Copy)]
+enum Kind<'a> {
+    Is(Specification),
+    Named(&'a str),
+}
+
+/// Names that are declared together: those of types one by one.
+type Row<'a> = (&'a [&'a str], Kind<'a>, Option<Constant>);
+
+const BOOL: Kind<'static> = Kind::Is(Specification::Bool);
+
+const TIME: Kind<'static> = Kind::Is(Specification::Time);
+
+const INT: Kind<'static> = Kind::Is(Specification::Integer(Int));
+
+const fn within(base: iloperators::IntegerType, low: i64, high: i64) -> Kind<'static> {
+    Kind::Is(Specification::Subrange { base, low, high })
+}
+
+/// A text with one name a line, in the order in which they are written.
+#[derive(Drop)]
+struct Draft {
+    text: Vec<u8>,
+    elements: Vec<Element>,
+}
+
+impl Draft {
+    fn name(&mut self, word: &str) -> Result<Name, AllocError> {
+        let from = self.text.len();
+        self.text.extend_from_slice(word.as_bytes())?;
+        let to = self.text.len();
+        self.text.push(b'\n')?;
+        Ok(Name { from, to })
+    }
+
+    fn specification(&mut self, kind: Kind<'_>) -> Result<Specification, AllocError> {
+        Ok(match kind {
+            Kind::Is(specification) => specification,
+            Kind::Named(word) => Specification::Named(self.name(word)?),
+        })
+    }
+
+    fn add_types(&mut self, rows: &[Row<'_>]) -> Result<(), AllocError> {
+        for (names, kind, initial) in rows {
+            for word in *names {
+                let declared = TypeDeclaration {
+                    name: self.name(word)?,
+                    specification: self.specification(*kind)?,
+                    initial: *initial,
+                };
+                self.elements.push(Element::DerivedType(declared))?;
+            }
+        }
+        Ok(())
+    }
+
+    fn add_program(
+        &mut self,
+        alloc: Global,
+        word: &str,
+        rows: &[Row<'_>],
+    ) -> Result<(), AllocError> {
+        let name = self.name(word)?;
+        let mut declarations = Vec::new(alloc);
+        for (words, kind, initial) in rows {
+            let mut names = Vec::new(alloc);
+            for word in *words {
+                names.push(self.name(word)?)?;
+            }
+            let specification = self.specification(*kind)?;
+            declarations.push(Declaration::new(names, specification, *initial))?;
+        }
+        let program = Program::new(name, declarations, Vec::new(alloc));
+        self.elements.push(Element::Program(program))?;
+        Ok(())
+    }
+}
+
+/// The source program of these types and then the program `Main` with these variables.
+fn source(alloc: Global, types: &[Row<'_>], variables: &[Row<'_>]) -> Result<Source, AllocError> {
+    let mut draft = Draft {
+        text: Vec::new(alloc),
+        elements: Vec::new(alloc),
+    };
+    draft.add_types(types)?;
+    draft.add_program(alloc, "Main", variables)?;
+    Ok(Source::new(draft.text, draft.elements))
+}
+
+/// What is reported must be this, with the line of the name, or nothing.
+fn report(
+    rt: &impl Abort,
+    alloc: Global,
+    types: &[Row<'_>],
+    variables: &[Row<'_>],
+    wanted: &str,
+) -> Result<(), Fail> {
+    let source = source(alloc, types, variables)?;
+    let scope = Scope::of(alloc, &source, &Binding::one_bus())?;
+    match scope.fault() {
+        None => assert_eq!(rt; "", wanted),
+        Some(fault) => assert_eq!(rt; fault.to_string(alloc)?.as_str(), wanted),
+    }
+    assert_eq!(rt; scope.least().is_none(), wanted.is_empty());
+    Ok(())
+}
+
+#[test]
+fn faults_of_types(rt: HostRuntime) -> Result<(), Fail> {
+    let alloc = rt.alloc();
+    let level = within(Usint, 1, 254);
+    let seven = Some(Constant::Number(7));
+    let truth = Some(Constant::Bool(true));
+    let rows: [(&[Row<'_>], &str); 16] = [
+        (
+            &[(&["A"], INT, seven), (&["B"], Kind::Named("a"), None)],
+            "",
+        ),
+        (
+            &[(&["A"], Kind::Named("B"), None), (&["B"], INT, None)],
+            "name fault 2 at 2:1",
+        ),
+        (&[(&["A"], Kind::Named("A"), None)], "name fault 2 at 2:1"),
+        (&[(&["A"], Kind::Named("B"), truth)], "name fault 2 at 2:1"),
+        (&[(&["A", "a"], INT, None)], "name fault 3 at 2:1"),
+        (&[(&["MAIN"], INT, None)], "name fault 3 at 2:1"),
+        (&[(&["A"], within(Int, 5, 1), None)], "name fault 12 at 1:1"),
+        (
+            &[(&["A"], within(Usint, 0, 256), None)],
+            "name fault 12 at 1:1",
+        ),
+        (
+            &[(&["A"], within(Usint, -1, 5), None)],
+            "name fault 12 at 1:1",
+        ),
+        (&[(&["A"], within(Usint, 0, 255), None)], ""),
+        (
+            &[(&["A"], level, Some(Constant::Number(255)))],
+            "name fault 12 at 1:1",
+        ),
+        (&[(&["A"], level, Some(Constant::Time(254)))], ""),
+        (&[(&["A"], INT, truth)], "name fault 12 at 1:1"),
+        (&[(&["A"], TIME, seven)], ""),
+        (
+            &[(&["A"], TIME, Some(Constant::Number(-1)))],
+            "name fault 12 at 1:1",
+        ),
+        (
+            &[
+                (&["A"], level, None),
+                (&["B"], Kind::Named("A"), Some(Constant::Number(0))),
+            ],
+            "name fault 12 at 2:1",
+        ),
+    ];
+    for (types, wanted) in rows {
+        report(&rt, alloc, types, &[], wanted)?;
+    }
+    Ok(())
+}
+
+#[test]
+fn faults_of_variables(rt: HostRuntime) -> Result<(), Fail> {
+    let alloc = rt.alloc();
+    let two = Some(Constant::Number(2));
+    let bad: &[Row<'_>] = &[(&["Bad"], within(Int, 5, 1), None)];
+    let rows: [(&[Row<'_>], &[Row<'_>], &str); 10] = [
+        (&[], &[(&["a", "b"], BOOL, Some(Constant::Number(1)))], ""),
+        (&[], &[(&["a", "b"], BOOL, two)], "name fault 12 at 2:1"),
+        (
+            &[],
+            &[(&["a"], BOOL, Some(Constant::Time(1)))],
+            "name fault 12 at 2:1",
+        ),
+        (&[], &[(&["a", "A"], BOOL, None)], "name fault 3 at 3:1"),
+        (&[], &[(&["a", "A"], BOOL, two)], "name fault 12 at 2:1"),
+        (
+            &[],
+            &[(&["a", "b"], Kind::Named("T"), two)],
+            "name fault 2 at 4:1",
+        ),
+        (
+            &[],
+            &[(&["a"], within(Usint, 9, 8), None)],
+            "name fault 12 at 2:1",
+        ),
+        (
+            &[(&["T"], INT, None)],
+            &[(&["T"], Kind::Named("t"), two)],
+            "",
+        ),
+        // The type's own fault comes first, and the variable has none from it.
+        (
+            bad,
+            &[(&["a"], Kind::Named("Bad"), two)],
+            "name fault 12 at 1:1",
+        ),
+        (
+            &[(&["T"], Kind::Named("U"), None)],
+            &[(&["a"], Kind::Named("T"), two)],
+            "name fault 2 at 2:1",
+        ),
+    ];
+    for (types, variables, wanted) in rows {
+        report(&rt, alloc, types, variables, wanted)?;
+    }
+    Ok(())
+}
+
+/// The type from `low` to `high`.
+fn numbers(low: i64, high: i64) -> Result<IlType, Fail> {
+    Ok(IlType::Int(Range::new(low, high).ok_or("low is not above high")?))
+}
+
+#[test]
+fn variables_have_types_and_initial_values(rt: HostRuntime) -> Result<(), Fail> {
+    let alloc = rt.alloc();
+    let types: &[Row<'_>] = &[
+        (&["Level"], within(Int, -5, 254), None),
+        (&["Dim"], Kind::Named("LEVEL"), Some(Constant::Number(9))),
+        (&["Dim"], INT, None),
+        (&["Switch"], BOOL, Some(Constant::Number(1))),
+        (&["Bad"], within(Int, 5, 1), None),
+    ];
+    let of_level = numbers(-5, 254)?;
+    let rows = [
+        (BOOL, None, IlType::Bool, Value::Bool(false)),
+        (
+            BOOL,
+            Some(Constant::Number(1)),
+            IlType::Bool,
+            Value::Bool(true),
+        ),
+        (TIME, None, numbers(0, 4_294_967_295)?, Value::Int(0)),
+        (
+            TIME,
+            Some(Constant::Time(5)),
+            numbers(0, 4_294_967_295)?,
+            Value::Int(5),
+        ),
+        (INT, None, numbers(-32_768, 32_767)?, Value::Int(0)),
+        (within(Udint, 3, 7), None, numbers(3, 7)?, Value::Int(3)),
+        (Kind::Named("level"), None, of_level, Value::Int(-5)),
+        // The first declaration is meant.
+        (Kind::Named("dim"), None, of_level, Value::Int(9)),
+        (
+            Kind::Named("Dim"),
+            Some(Constant::Time(3)),
+            of_level,
+            Value::Int(3),
+        ),
+        (Kind::Named("Switch"), None, IlType::Bool, Value::Bool(true)),
+        (
+            Kind::Named("Bad"),
+            Some(Constant::Number(3)),
+            IlType::Bool,
+            Value::Bool(false),
+        ),
+    ];
+    for (kind, initial, value_type, value) in rows {
+        let source = source(alloc, types, &[(&["x", "y"], kind, initial)])?;
+        let scope = Scope::of(alloc, &source, &Binding::one_bus())?;
+        assert_eq!(rt; scope.programs().len(), 1);
+        let program = &scope.programs()[0];
+        assert_eq!(rt; program.program().declarations().len(), 1);
+        assert_eq!(rt; program.variables().len(), 2);
+        for variable in program.variables() {
+            assert_eq!(rt; variable.value_type, value_type, "{value:?}");
+            assert_eq!(rt; variable.initial, value);
+        }
+    }
+    Ok(())
+}
+
+#[test]
+fn names_are_looked_up(rt: HostRuntime) -> Result<(), Fail> {
+    let alloc = rt.alloc();
+    let source = source(
+        alloc,
+        &[(&["b"], INT, None)],
+        &[(&["a", "B", "A"], BOOL, None)],
+    )?;
+    let scope = Scope::of(alloc, &source, &Binding::one_bus())?;
+    assert_eq!(rt; scope.source().text().len(), source.text().len());
+    // The text is `b Main a B A`, with a line for each.
+    let rows = [
+        (0, Some(1)),
+        (7, Some(0)),
+        (9, Some(1)),
+        (11, Some(0)),
+        (2, None),
+    ];
+    assert_eq!(rt; scope.programs().len(), 1);
+    for program in 0..scope.programs().len() {
+        for (from, number) in rows {
+            let name = Name { from, to: from + 1 };
+            let given = scope.variable_number(program, name);
+            assert_eq!(rt; given, number, "the name at {from}");
+            assert_eq!(rt; scope.declares(program, name), number.is_some());
+        }
+    }
+    Ok(())
+}
+
+#[test]
+fn the_fault_at_the_least_place_is_reported(rt: HostRuntime) -> Result<(), Fail> {
+    let alloc = rt.alloc();
+    let fault = |at, cause| Some(Found { at, cause });
+    let twice = fault(5, NameCause::Twice);
+    let Some(found) = lesser_of(fault(5, NameCause::BadDeclaration), twice) else {
+        panic!(rt; "a fault");
+    };
+    let text = report_of(b"a\n  bc", found).to_string(alloc)?;
+    assert_eq!(rt; text.as_str(), "name fault 3 at 2:4");
+    assert_eq!(rt;
+        lesser_of(twice, fault(4, NameCause::BadDeclaration)).map(|f| f.at),
+        Some(4)
+    );
+    assert_eq!(rt; NameCause::TooMany.number(), 11);
+    assert_eq!(rt; NameFault::Memory.number(), 1);
+    assert_eq!(rt; NameFault::Memory.to_string(alloc)?.as_str(), "no memory");
+    Ok(())
+}
