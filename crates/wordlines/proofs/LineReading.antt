@@ -1,6 +1,7 @@
--- Files that are read line by line, whatever their rules: the lines lead to one state at most, the first bad line is one, and
--- where the lines lead on there is none; and what reading one line more adds to what was read.
-use Rattle.std.proofs.Common.{◌≡◌, ℕ, zero, suc, ◌+◌, List, [], ◌∷◌, ◌++◌, length, refl, ap, sym, subst, ◌∙◌, inl, inr, arith, append_assoc, append-nil, length-append}
+-- Files that are read line by line, whatever their rules: the lines lead to one state at most, the first bad line is
+-- one, and where the lines lead on there is none; and what reading one line more adds to what was read.
+use Rattle.std.proofs.Common.{◌≡◌, ℕ, zero, suc, ◌+◌, List, [], ◌∷◌, ◌++◌, length, refl, ap, sym, subst, ◌∙◌, inl, inr}
+use Rattle.std.proofs.Common.{arith, append_assoc, append-nil, length-append}
 use Rattle.std.proofs.Math.Decide.{dec_le}
 use Rattle.std.proofs.Math.Nat.{lt_of_not-le}
 use Rattle.std.specs.Prelude.{◌<◌, ◌≤◌, ◌↔◌, Bool, false, IsTrue}
@@ -14,10 +15,12 @@ SayOne {Entry} {State} rules = (said : List (List ℕ)) (e f : Entry) → rules.
 
 module _ (Entry State : Type 0) (rules : LineRules Entry State) where
   -- one more line
-  lead-push : (state : State) (before : List (List ℕ)) (line : List ℕ) (here next : State) → AllLead rules state before here
+  lead-push : (state : State) (before : List (List ℕ)) (line : List ℕ) (here next : State)
+      → AllLead rules state before here
       → Leads rules here line next → AllLead rules state (before ++ line ∷ []) next
   lead-push state [] line here next all leads = (next, subst (λ (s : State). Leads rules s line next) all leads, refl)
-  lead-push state (first ∷ before) line here next all leads = (all.0, all.1, lead-push all.0 before line here next all.2 leads)
+  lead-push state (first ∷ before) line here next all leads =
+      (all.0, all.1, lead-push all.0 before line here next all.2 leads)
 
   -- the place of the first bad line, counted from 0
   abbrev BadFrom : State → List (List ℕ) → ℕ → Type 0
@@ -25,25 +28,31 @@ module _ (Entry State : Type 0) (rules : LineRules Entry State) where
   BadFrom state (line ∷ more) zero = (next : State) → ¬ Leads rules state line next
   BadFrom state (line ∷ more) (suc k) = (next : State) × Leads rules state line next × BadFrom next more k
 
-  bad_from : (state : State) (before : List (List ℕ)) (line : List ℕ) (after : List (List ℕ)) (here : State) → AllLead rules state before here
+  bad_from : (state : State) (before : List (List ℕ)) (line : List ℕ) (after : List (List ℕ)) (here : State)
+      → AllLead rules state before here
       → ((next : State) → ¬ Leads rules here line next) → BadFrom state (before ++ line ∷ after) (length before)
   bad_from state [] line after here all bad = subst (λ (s : State). (next : State) → ¬ Leads rules s line next) all bad
-  bad_from state (first ∷ before) line after here all bad = (all.0, all.1, bad_from all.0 before line after here all.2 bad)
+  bad_from state (first ∷ before) line after here all bad =
+      (all.0, all.1, bad_from all.0 before line after here all.2 bad)
 
-  first_bad_from : (start : State) (all : List (List ℕ)) (number : ℕ) → (f : IsFirstBad rules start all number) → BadFrom start all (length f.before)
+  first_bad_from : (start : State) (all : List (List ℕ)) (number : ℕ) → (f : IsFirstBad rules start all number)
+      → BadFrom start all (length f.before)
   first_bad_from start all number f =
-      subst (λ (ls : List (List ℕ)). BadFrom start ls (length f.before)) (sym f.is) (bad_from start f.before f.line f.after f.state f.good f.bad)
+      subst (λ (ls : List (List ℕ)). BadFrom start ls (length f.before)) (sym f.is)
+      (bad_from start f.before f.line f.after f.state f.good f.bad)
 
   module _ (one : SayOne rules) where
     -- a line leads to one state
-    leads_one : (state : State) (line : List ℕ) (a b : State) → Leads rules state line a → Leads rules state line b → a ≡ b
+    leads_one : (state : State) (line : List ℕ) (a b : State) → Leads rules state line a → Leads rules state line b
+        → a ≡ b
     leads_one state line a b (inl s) (inl t) = s.1 ∙ sym t.1
     leads_one state line a b (inl s) (inr t) = absurd (t.1.read s.0)
     leads_one state line a b (inr s) (inl t) = absurd (s.1.read t.0)
     leads_one state line a b (inr s) (inr t) =
         s.2 ∙ (ap (λ (e : Entry). rules.after state e) (one (words line) s.0 t.0 s.1.says t.1.says) ∙ sym t.2)
 
-    pub all_lead_one : (state : State) (all : List (List ℕ)) (a b : State) → AllLead rules state all a → AllLead rules state all b → a ≡ b
+    pub all_lead_one : (state : State) (all : List (List ℕ)) (a b : State) → AllLead rules state all a
+        → AllLead rules state all b → a ≡ b
     all_lead_one state [] a b h k = h ∙ sym k
     all_lead_one state (line ∷ more) a b h k =
         let next = leads_one state line h.0 k.0 h.1 k.1 in
@@ -58,7 +67,8 @@ module _ (Entry State : Type 0) (rules : LineRules Entry State) where
         let next = leads_one state line h.0 m.0 h.1 m.1 in
         ap suc (bad_one m.0 more j k (subst (λ (s : State). BadFrom s more j) next h.2) m.2)
 
-    bad_not_led : (state : State) (all : List (List ℕ)) (k : ℕ) (last : State) → BadFrom state all k → ¬ AllLead rules state all last
+    bad_not_led : (state : State) (all : List (List ℕ)) (k : ℕ) (last : State) → BadFrom state all k
+        → ¬ AllLead rules state all last
     bad_not_led state [] k last h t = h
     bad_not_led state (line ∷ more) zero last h t = h t.0 t.1
     bad_not_led state (line ∷ more) (suc k) last h t =
@@ -66,15 +76,19 @@ module _ (Entry State : Type 0) (rules : LineRules Entry State) where
         bad_not_led t.0 more k last (subst (λ (s : State). BadFrom s more k) next h.2) t.2
 
     -- the first bad line is one
-    pub first_bad_one : (start : State) (all : List (List ℕ)) (j k : ℕ) → IsFirstBad rules start all j → IsFirstBad rules start all k → j ≡ k
+    pub first_bad_one : (start : State) (all : List (List ℕ)) (j k : ℕ) → IsFirstBad rules start all j
+        → IsFirstBad rules start all k → j ≡ k
     first_bad_one start all j k f g =
-        let places = bad_one start all (length f.before) (length g.before) (first_bad_from start all j f) (first_bad_from start all k g) in
+        let places = bad_one start all (length f.before) (length g.before) (first_bad_from start all j f)
+        (first_bad_from start all k g) in
         omega (arith, places, f.counted, g.counted)
 
     -- where the lines lead on, none is bad
-    pub led_not_bad : (start : State) (all : List (List ℕ)) (number : ℕ) (last : State) → IsFirstBad rules start all number
+    pub led_not_bad : (start : State) (all : List (List ℕ)) (number : ℕ) (last : State)
+        → IsFirstBad rules start all number
         → ¬ AllLead rules start all last
-    led_not_bad start all number last f t = bad_not_led start all (length f.before) last (first_bad_from start all number f) t
+    led_not_bad start all number last f t =
+        bad_not_led start all (length f.before) last (first_bad_from start all number f) t
 
   -- the lines before those of the rest led to this state, and the next line has this number
   pub record IsRead (start : State) (bytes rest : List ℕ) (state : State) (number : ℕ) : Type 0 where
@@ -86,24 +100,29 @@ module _ (Entry State : Type 0) (rules : LineRules Entry State) where
   pub none_read : (start : State) (bytes : List ℕ) → IsRead start bytes bytes start 1
   none_read start bytes = record { before = []; is = refl; good = refl; counted = refl }
 
-  pub line_read : (start : State) (bytes rest after : List ℕ) (state next : State) (number : ℕ) (line : List ℕ) → IsRead start bytes rest state number
+  pub line_read : (start : State) (bytes rest after : List ℕ) (state next : State) (number : ℕ) (line : List ℕ)
+      → IsRead start bytes rest state number
       → lines rest ≡ line ∷ lines after → Leads rules state line next → IsRead start bytes after next (number + 1)
   line_read start bytes rest after state next number line r first leads =
       record {
         before = r.before ++ line ∷ [];
-        is = r.is ∙ (ap (λ (ls : List (List ℕ)). r.before ++ ls) first ∙ sym (append_assoc r.before (line ∷ []) (lines after)));
+        is = r.is ∙ (ap (λ (ls : List (List ℕ)). r.before ++ ls) first
+            ∙ sym (append_assoc r.before (line ∷ []) (lines after)));
         good = lead-push start r.before line state next r.good leads;
         counted = omega (arith, length-append r.before (line ∷ []), r.counted);
       }
 
   -- no entry, and the line isn't skipped: it is the first bad one
-  pub no_leads : (state : State) (line : List ℕ) → ¬ IsSkipped line → ((entry : Entry) → ¬ Adds rules state line entry) → (next : State)
+  pub no_leads : (state : State) (line : List ℕ) → ¬ IsSkipped line → ((entry : Entry) → ¬ Adds rules state line entry)
+      → (next : State)
       → ¬ Leads rules state line next
   no_leads state line read nothing next (inl s) = read s.0
   no_leads state line read nothing next (inr s) = nothing s.0 s.1
 
-  pub bad_read : (start : State) (bytes rest after : List ℕ) (state : State) (number : ℕ) (line : List ℕ) → IsRead start bytes rest state number
-      → lines rest ≡ line ∷ lines after → ((next : State) → ¬ Leads rules state line next) → IsFirstBad rules start (lines bytes) number
+  pub bad_read : (start : State) (bytes rest after : List ℕ) (state : State) (number : ℕ) (line : List ℕ)
+      → IsRead start bytes rest state number
+      → lines rest ≡ line ∷ lines after → ((next : State) → ¬ Leads rules state line next)
+      → IsFirstBad rules start (lines bytes) number
   bad_read start bytes rest after state number line r first bad =
       record {
         before = r.before;

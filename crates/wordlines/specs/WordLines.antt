@@ -1,17 +1,20 @@
--- Lines of words (profile): a line ends with LF or CR LF, and the last needs no end; between two words stands exactly one
--- space (32). Empty lines and those that begin with `#` (35) are skipped. Numbers are digits alone, and may begin with 0.
-use Rattle.std.specs.Prelude.{◌≡◌, ℕ, ◌==◌, nat_lt, nat_le, Bool, true, ◌&&◌, if◌then◌else◌, List, [], ◌∷◌, length, Option, Some, None, option_map}
+-- Lines of words (profile): a line ends with LF or CR LF, and the last needs no end; between two words stands exactly
+-- one space (32). Empty lines and those that begin with `#` (35) are skipped. Numbers are digits alone, and may begin
+-- with 0.
+use Rattle.std.specs.Prelude.{◌≡◌, ℕ, ◌==◌, nat_lt, nat_le, Bool, true, ◌&&◌, if◌then◌else◌, List, [], ◌∷◌, length}
+use Rattle.std.specs.Prelude.{Option, Some, None, option_map, ⊤}
 use Rattle.std.specs.List.{slice_split}
 use Rattle.std.specs.Char.{digit_value}
 use Rattle.std.specs.Str.Parse.{digits_value}
 
--- the parts between the spaces: where two spaces meet, or one stands at an end, a part is empty, and that is no word of a line
+-- the parts between the spaces: where two spaces meet, or one stands at an end, a part is empty, and that is no word of
+-- a line
 abbrev pub words : List ℕ → List (List ℕ)
 words line = slice_split (λ byte. byte == 32) line
 
 -- nothing, or a comment
 abbrev pub IsSkipped : List ℕ → Type 0
-IsSkipped [] = Unit {0}
+IsSkipped [] = ⊤
 IsSkipped (byte ∷ bytes) = byte ≡ 35
 
 -- each byte is a digit in the radix, whose letters are of either case
@@ -22,7 +25,8 @@ are_digits radix (byte ∷ bytes) = nat_lt (digit_value byte) radix && are_digit
 -- the number that decimal digits alone spell, one or more, where it is at most `most`
 abbrev pub number_upto : ℕ → List ℕ → Option ℕ
 number_upto most digits =
-    if (nat_lt 0 (length digits) && are_digits 10 digits) && nat_le (digits_value 10 digits) most then Some (digits_value 10 digits) else None
+    if (nat_lt 0 (length digits) && are_digits 10 digits) && nat_le (digits_value 10 digits) most then Some
+    (digits_value 10 digits) else None
 
 -- the number that exactly six hexadecimal digits spell
 abbrev pub hex_number : List ℕ → Option ℕ
