@@ -14,16 +14,19 @@ IsJudged bytes (Err Memory) = ⊥
 IsJudged bytes (Err (At line BadLine)) = IsBadBinding bytes line
 IsJudged bytes (Err (At line TooLong)) = IsTooLong bytes line
 
-pub binding_judged : (bytes : List ℕ) (r : Result Wiring BindFault) → IsJudged bytes r → (wiring : Wiring) → (r ≡ Ok wiring) ↔ IsBinding bytes wiring
+pub binding_judged : (bytes : List ℕ) (r : Result Wiring BindFault) → IsJudged bytes r → (wiring : Wiring)
+    → (r ≡ Ok wiring) ↔ IsBinding bytes wiring
 binding_judged bytes (Ok w) j wiring = (
   λ e. let same : w ≡ wiring = cc in subst (IsBinding bytes) same j,
   λ b. ap Ok (tell_one (lines bytes) w wiring j.lead b.lead),
 )
 binding_judged bytes (Err Memory) j wiring = absurd j
-binding_judged bytes (Err (At line BadLine)) j wiring = (λ e. cc, λ b. absurd (told_no_fault (lines bytes) line wiring j.fault b.lead))
+binding_judged bytes (Err (At line BadLine)) j wiring =
+    (λ e. cc, λ b. absurd (told_no_fault (lines bytes) line wiring j.fault b.lead))
 binding_judged bytes (Err (At line TooLong)) j wiring = (λ e. cc, λ b. absurd (omega (arith, j.long, b.short)))
 
-pub bad_line_judged : (bytes : List ℕ) (r : Result Wiring BindFault) → IsJudged bytes r → (line : ℕ) → (r ≡ Err (At line BadLine)) ↔ IsBadBinding bytes line
+pub bad_line_judged : (bytes : List ℕ) (r : Result Wiring BindFault) → IsJudged bytes r → (line : ℕ)
+    → (r ≡ Err (At line BadLine)) ↔ IsBadBinding bytes line
 bad_line_judged bytes (Ok w) j line = (λ e. cc, λ b. absurd (told_no_fault (lines bytes) line w b.fault j.lead))
 bad_line_judged bytes (Err Memory) j line = absurd j
 bad_line_judged bytes (Err (At at BadLine)) j line = (
@@ -32,7 +35,8 @@ bad_line_judged bytes (Err (At at BadLine)) j line = (
 )
 bad_line_judged bytes (Err (At at TooLong)) j line = (λ e. cc, λ b. absurd (omega (arith, j.long, b.short)))
 
-pub too_long_judged : (bytes : List ℕ) (r : Result Wiring BindFault) → IsJudged bytes r → (line : ℕ) → (r ≡ Err (At line TooLong)) ↔ IsTooLong bytes line
+pub too_long_judged : (bytes : List ℕ) (r : Result Wiring BindFault) → IsJudged bytes r → (line : ℕ)
+    → (r ≡ Err (At line TooLong)) ↔ IsTooLong bytes line
 too_long_judged bytes (Ok w) j line = (λ e. cc, λ b. absurd (omega (arith, j.short, b.long)))
 too_long_judged bytes (Err Memory) j line = absurd j
 too_long_judged bytes (Err (At at BadLine)) j line = (λ e. cc, λ b. absurd (omega (arith, j.short, b.long)))

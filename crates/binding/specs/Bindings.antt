@@ -1,5 +1,5 @@
--- Which bytes are a binding, what it says, and which line of others is at fault (profile): lines of words, of which `buses N`
--- comes first, and once.
+-- Which bytes are a binding, what it says, and which line of others is at fault (profile): lines of words, of which
+-- `buses N` comes first, and once.
 use Rattle.std.specs.Prelude.{◌≡◌, ℕ, ◌<◌, ◌≤◌, ◌⊎◌, List, [], ◌∷◌, length, codes, Option, Some, None}
 use Rattle.std.specs.Str.Lines.{lines}
 use Rattle.limits.specs.Limits.{most_bytes, most_buses}

@@ -20,6 +20,7 @@ lines-preserved c =
           let skipped : c.is_skipped.result ≡ true = w.if-not-is_skipped.false in
           record {
             room = omega arith;
-            read = skipped_read c.args.bytes.now c.lines.rest.now after c.lines.told now c.lines.line line read first (c.is_skipped.ensures.0 skipped) w.told-is;
+            read = skipped_read c.args.bytes.now c.lines.rest.now after c.lines.told now c.lines.line line read first
+                (c.is_skipped.ensures.0 skipped) w.told-is;
           }
     ]
