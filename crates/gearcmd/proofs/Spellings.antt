@@ -2,15 +2,19 @@
 use Rattle.std.proofs.Common.{◌≡◌, ◌<◌, ◌≤◌, ◌⊎◌, inl, inr, refl, slice_index, length, arith}
 use Rattle.daliframe.specs.declared.addressing.Address.TheVariants.{Short}
 use Rattle.daliframe.specs.declared.schemes.EventScheme.{EventScheme}
-use Rattle.daliframe.specs.declared.schemes.EventScheme.TheVariants.{Instance, Device, DeviceInstance, DeviceGroup, InstanceGroup}
+use Rattle.daliframe.specs.declared.schemes.EventScheme.TheVariants.{Instance, Device, DeviceInstance, DeviceGroup}
+use Rattle.daliframe.specs.declared.schemes.EventScheme.TheVariants.{InstanceGroup}
 use Rattle.daliframe.specs.EventSchemes.{scheme_number}
 use Rattle.gearcmd.specs.declared.requests.Command.{Command}
-use Rattle.gearcmd.specs.declared.requests.Command.TheVariants.{GearLevel, GearDo, GearSet, GearPair, GearAsk, GearRead, DevDo, DevScheme, DevAsk}
+use Rattle.gearcmd.specs.declared.requests.Command.TheVariants.{GearLevel, GearDo, GearSet, GearPair, GearAsk, GearRead}
+use Rattle.gearcmd.specs.declared.requests.Command.TheVariants.{DevDo, DevScheme, DevAsk}
 use Rattle.gearcmd.specs.declared.requests.TaskKind.{TaskKind}
 use Rattle.gearcmd.specs.declared.requests.TaskKind.TheVariants.{Cyclic, Event}
-use Rattle.gearcmd.specs.Commands.{gear_do_opcodes, gear_set_opcodes, gear_pair_opcodes, gear_ask_opcodes, dev_do_opcodes, dev_ask_opcodes}
+use Rattle.gearcmd.specs.Commands.{gear_do_opcodes, gear_set_opcodes, gear_pair_opcodes, gear_ask_opcodes}
+use Rattle.gearcmd.specs.Commands.{dev_do_opcodes, dev_ask_opcodes}
 use Rattle.gearcmd.specs.Requests.{frames_of, class_of, task_class, IsCommand, read_opcode, set_event_scheme_opcode}
-use Rattle.gearcmd.proofs.Tables.{gear_do_class, gear_set_class, gear_pair_class, gear_ask_class, dev_do_class, dev_ask_class}
+use Rattle.gearcmd.proofs.Tables.{gear_do_class, gear_set_class, gear_pair_class, gear_ask_class, dev_do_class}
+use Rattle.gearcmd.proofs.Tables.{dev_ask_class}
 use Rattle.gearcmd.specs.FrameLists.{IsLegal, most_frames}
 
 -- the number of a scheme is at most 4
@@ -41,7 +45,22 @@ frames_of_legal (GearRead a b o) task h =
 frames_of_legal (DevDo a i k) task h =
     (refl, refl, inr (a, i, slice_index dev_do_opcodes k, h.0, h.1, dev_do_class k h.2, refl))
 frames_of_legal (DevScheme a i s) task h =
-    inl (refl, refl, inr ((scheme_number s, scheme_limit s, refl), (a, i, set_event_scheme_opcode, h.0, h.1, refl, refl)))
+    inl (
+      refl,
+      refl,
+      inr (
+        (scheme_number s, scheme_limit s, refl),
+        (
+          a,
+          i,
+          set_event_scheme_opcode,
+          h.0,
+          h.1,
+          refl,
+          refl,
+        ),
+      ),
+    )
 frames_of_legal (DevAsk a i k) task h =
     inr (refl, inr (a, i, slice_index dev_ask_opcodes k, h.0, h.1, dev_ask_class k h.2, refl))
 

@@ -24,7 +24,8 @@ pub record FrameList : Type 0 where
 -- a direct level to some address
 abbrev pub IsLevel : Frame → Type 0
 IsLevel frame =
-    (address : Address) × (level : ℕ) × IsAddress address × (level < 2 ^ 8) × (frame ≡ Forward16 (level_frame address level))
+    (address : Address) × (level : ℕ) × IsAddress address × (level < 2 ^ 8)
+    × (frame ≡ Forward16 (level_frame address level))
 
 -- a command of this class to some control gear
 abbrev pub IsGearCommand : OpcodeClass → Frame → Type 0

@@ -5,4 +5,5 @@ use Rattle.gearcmd.proofs.lines.BehindBlanksDisplay.fmt.Given as goal
 
 abbrev pub invariant-loop-frame : goal.invariant-loop-frame
 invariant-loop-frame g l =
-    IsPlainFormatter l.initial.f → HasWritten g.W.Write.write_str_gives l.initial.f (printed_frames (take l.frame-index l.frame-items)) l.f
+    IsPlainFormatter l.initial.f → HasWritten g.W.Write.write_str_gives l.initial.f
+    (printed_frames (take l.frame-index l.frame-items)) l.f
