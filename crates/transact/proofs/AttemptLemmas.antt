@@ -7,7 +7,8 @@ use Rattle.transact.specs.declared.marks.Sent.{Sent}
 use Rattle.transact.specs.declared.marks.Outcome.{Outcome}
 use Rattle.gearcmd.specs.FrameLists.{FrameList}
 use Rattle.transact.specs.Marks.{IsBroken, outcome_of}
-use Rattle.transact.specs.Attempts.{Attempt, IsAttempt, IsReport, ReportParts, Spells, most_retries, marks_of, all_marks, all_sent, last_mark}
+use Rattle.transact.specs.Attempts.{Attempt, IsAttempt, IsReport, ReportParts, Spells, most_retries, marks_of}
+use Rattle.transact.specs.Attempts.{all_marks, all_sent, last_mark}
 
 -- a front of count frames with these marks before its last one
 record Front (count : ℕ) (xs : List Mark) (x : Mark) : Type 0 where
@@ -38,7 +39,8 @@ same_front count (m ∷ xs) [] x y r s f g e =
 same_front zero (m ∷ xs) (n ∷ ys) x y r s f g e = absurd (let h : suc (length xs) < 0 = f.within in omega arith)
 same_front (suc count) (m ∷ xs) (n ∷ ys) x y r s f g e =
     let tails : (xs ++ x ∷ []) ++ r ≡ (ys ++ y ∷ []) ++ s = cc in
-    let rest : (xs ≡ ys) × (x ≡ y) × (r ≡ s) = same_front count xs ys x y r s (shorter count m xs x f) (shorter count n ys y g) tails in
+    let rest : (xs ≡ ys) × (x ≡ y) × (r ≡ s) =
+    same_front count xs ys x y r s (shorter count m xs x f) (shorter count n ys y g) tails in
     let tail : xs ≡ ys = rest.0 in
     (cc, rest.1, rest.2)
 
@@ -50,8 +52,10 @@ pub same_attempt : (count : ℕ) (a b : Attempt) (r s : List Mark) → IsAttempt
     → marks_of a ++ r ≡ marks_of b ++ s → (a ≡ b) × (r ≡ s)
 same_attempt count a b r s f g e =
     let both : (a.before ≡ b.before) × (a.last ≡ b.last) × (r ≡ s) =
-    same_front count a.before b.before a.last b.last r s (front_of count a f) (front_of count b g) e in
-    (ap (λ (xs : List Mark). record a { before = xs }) both.0 ∙ ap (λ (mark : Mark). record b { last = mark }) both.1, both.2)
+    same_front count a.before b.before a.last b.last r s (front_of count a f) (front_of count b g) e in (
+      ap (λ (xs : List Mark). record a { before = xs }) both.0 ∙ ap (λ (mark : Mark). record b { last = mark }) both.1,
+      both.2,
+    )
 
 none_more : (retries : ℕ) (a b : Attempt) → (a.last ≡ Lost → suc retries ≡ 0) → b.last ≡ Lost → a ≡ b → ⊥
 none_more retries a b settled lost e =
@@ -73,18 +77,21 @@ same_reading zero count (a ∷ b ∷ xs) ys f g e = absurd f
 same_reading (suc retries) count (a ∷ b ∷ xs) (c ∷ []) f g e =
     absurd (none_more retries c a g.1 f.1 (sym (same_attempt count a c (all_marks (b ∷ xs)) [] f.0 g.0 e).0))
 same_reading (suc retries) count (a ∷ b ∷ xs) (c ∷ d ∷ ys) f g e =
-    let firsts : (a ≡ c) × (all_marks (b ∷ xs) ≡ all_marks (d ∷ ys)) = same_attempt count a c (all_marks (b ∷ xs)) (all_marks (d ∷ ys)) f.0 g.0 e in
+    let firsts : (a ≡ c) × (all_marks (b ∷ xs) ≡ all_marks (d ∷ ys)) =
+    same_attempt count a c (all_marks (b ∷ xs)) (all_marks (d ∷ ys)) f.0 g.0 e in
     let first : a ≡ c = firsts.0 in
     let rest : b ∷ xs ≡ d ∷ ys = same_reading retries count (b ∷ xs) (d ∷ ys) f.2 g.2 firsts.1 in
     cc
 
 -- marks spell one report of a transaction
-pub same_report : (list : FrameList) (marks : List Mark) (a b : ReportParts) → Spells list marks a → Spells list marks b → a ≡ b
+pub same_report : (list : FrameList) (marks : List Mark) (a b : ReportParts) → Spells list marks a → Spells list marks b
+    → a ≡ b
 same_report list marks a b s t =
     let same : s.attempts ≡ t.attempts =
     same_reading most_retries (length list.frames) s.attempts t.attempts s.legal t.legal (sym s.spelled ∙ t.spelled) in
     let sent : a.attempts ≡ b.attempts = s.sent ∙ ap (all_sent list) same ∙ sym t.sent in
-    let outcome : a.outcome ≡ b.outcome = s.outcome ∙ ap (λ (xs : List Attempt). outcome_of (last_mark xs)) same ∙ sym t.outcome in
+    let outcome : a.outcome ≡ b.outcome = s.outcome ∙ ap (λ (xs : List Attempt). outcome_of (last_mark xs)) same
+    ∙ sym t.outcome in
     ap (λ (l : FrameList). record a { transaction = l }) (s.transaction ∙ sym t.transaction)
     ∙ ap (λ (xs : List Sent). record a { transaction = b.transaction; attempts = xs }) sent
     ∙ ap (λ (o : Outcome). record b { outcome = o }) outcome

@@ -24,4 +24,5 @@ returns c =
     Decides-like _ (same_parts c.args.self.now c.args.other.now)
     (λ e. (ap (λ (list : FrameList). list.frames) e, ap (λ (list : FrameList). list.first_priority) e))
     (Decides-at _ _ c.eq.ensures
-    (Decides-and _ _ (slice_eq-Decides same_frame _ _ _ refl) (Decides-eqb c.args.self.now.first_priority c.args.other.now.first_priority)))
+    (Decides-and _ _ (slice_eq-Decides same_frame _ _ _ refl)
+    (Decides-eqb c.args.self.now.first_priority c.args.other.now.first_priority)))
