@@ -8,7 +8,8 @@ use Rattle.transact.specs.declared.marks.Mark.TheVariants.{Lost, Failed}
 use Rattle.transact.specs.declared.marks.Sent.{Sent}
 use Rattle.gearcmd.specs.FrameLists.{FrameList}
 use Rattle.transact.specs.Marks.{outcome_of}
-use Rattle.transact.specs.Attempts.{most_retries, Attempt, IsAttempt, IsReport, ReportParts, Spells, marks_of, sent_with, all_sent, last_mark}
+use Rattle.transact.specs.Attempts.{most_retries, Attempt, IsAttempt, IsReport, ReportParts, Spells, marks_of}
+use Rattle.transact.specs.Attempts.{sent_with, all_sent, last_mark}
 use Rattle.buslink.specs.BusLog.{BusLog, one_more_failure}
 use Rattle.buslink.specs.Performing.{failures_after, after_report}
 
@@ -22,31 +23,38 @@ all_frames P (f ∷ frames) first (m ∷ marks) h =
     (h 0 m (omega arith)) (all_frames P frames 1 marks (λ k d lt. h (suc k) d (omega arith)))
 
 -- in an attempt only the last mark is Failed
-in_attempt : (count : ℕ) (a : Attempt) (Q : Type 0) → IsAttempt count a → (a.last ≡ Failed → Q) → All (λ (m : Mark). m ≡ Failed → Q) (marks_of a)
+in_attempt : (count : ℕ) (a : Attempt) (Q : Type 0) → IsAttempt count a → (a.last ≡ Failed → Q)
+    → All (λ (m : Mark). m ≡ Failed → Q) (marks_of a)
 in_attempt count a Q is last =
     All-append (λ (m : Mark). m ≡ Failed → Q) a.before (a.last ∷ [])
     (λ k d lt e. absurd (is.unbroken k d lt (rw e tt)))
     (All-cons (λ (m : Mark). m ≡ Failed → Q) a.last [] last (λ k d lt. absurd (omega arith)))
 
-in_report : (list : FrameList) (retries : ℕ) (attempts : List Attempt) (Q : Type 0) → IsReport retries (length list.frames) attempts
+in_report : (list : FrameList) (retries : ℕ) (attempts : List Attempt) (Q : Type 0)
+    → IsReport retries (length list.frames) attempts
     → (last_mark attempts ≡ Failed → Q) → All (λ (s : Sent). s.mark ≡ Failed → Q) (all_sent list attempts)
 in_report list retries [] Q h last = absurd h
 in_report list retries (a ∷ []) Q h last =
     All-append (λ (s : Sent). s.mark ≡ Failed → Q) (sent_with list.frames list.first_priority (marks_of a)) []
-    (all_frames (λ (m : Mark). m ≡ Failed → Q) list.frames list.first_priority (marks_of a) (in_attempt (length list.frames) a Q h.0 last))
+    (all_frames (λ (m : Mark). m ≡ Failed → Q) list.frames list.first_priority (marks_of a)
+    (in_attempt (length list.frames) a Q h.0 last))
     (λ k d lt. absurd (omega arith))
 in_report list zero (a ∷ b ∷ more) Q h last = absurd h
 in_report list (suc retries) (a ∷ b ∷ more) Q h last =
-    All-append (λ (s : Sent). s.mark ≡ Failed → Q) (sent_with list.frames list.first_priority (marks_of a)) (all_sent list (b ∷ more))
-    (all_frames (λ (m : Mark). m ≡ Failed → Q) list.frames list.first_priority (marks_of a) (in_attempt (length list.frames) a Q h.0 (λ failed. absurd (apart h.1 failed))))
+    All-append (λ (s : Sent). s.mark ≡ Failed → Q) (sent_with list.frames list.first_priority (marks_of a))
+    (all_sent list (b ∷ more))
+    (all_frames (λ (m : Mark). m ≡ Failed → Q) list.frames list.first_priority (marks_of a)
+    (in_attempt (length list.frames) a Q h.0 (λ failed. absurd (apart h.1 failed))))
     (in_report list retries (b ∷ more) Q h.2 last)
   where
     apart : a.last ≡ Lost → a.last ≡ Failed → ⊥
     apart lost failed = let e : Lost ≡ Failed = sym lost ∙ failed in cc
 
-pub failed_where_risen : (list : FrameList) (marks : List Mark) (r : ReportParts) (old new : BusLog) → Spells list marks r → new ≡ after_report r new.spare old
+pub failed_where_risen : (list : FrameList) (marks : List Mark) (r : ReportParts) (old new : BusLog)
+    → Spells list marks r → new ≡ after_report r new.spare old
     → All (λ (s : Sent). s.mark ≡ Failed → new.failures ≡ one_more_failure old.failures) r.attempts
 failed_where_risen list marks r old new s told =
     let risen : last_mark s.attempts ≡ Failed → new.failures ≡ one_more_failure old.failures = λ failed.
-    ap (λ (log : BusLog). log.failures) told ∙ ap (λ o. failures_after o old.failures) (s.outcome ∙ ap outcome_of failed) in
+    ap (λ (log : BusLog). log.failures) told ∙ ap (λ o. failures_after o old.failures)
+    (s.outcome ∙ ap outcome_of failed) in
     rw s.sent (in_report list most_retries s.attempts (new.failures ≡ one_more_failure old.failures) s.legal risen)
