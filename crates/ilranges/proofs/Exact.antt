@@ -21,7 +21,8 @@ use Rattle.ilranges.specs.ResultSteps.{IsVerdict}
 -- ---- causes
 
 same_number : (Arising : Cause → Type 0) (one other : Cause)
-    → ((f a g b : Range) → Arising (causes.OutOfRange f a) → Arising (causes.OutOfRange g b) → causes.OutOfRange f a ≡ causes.OutOfRange g b)
+    → ((f a g b : Range) → Arising (causes.OutOfRange f a) → Arising (causes.OutOfRange g b)
+    → causes.OutOfRange f a ≡ causes.OutOfRange g b)
     → Arising one → Arising other → number_of one ≤ number_of other → number_of other ≤ number_of one → one ≡ other
 same_number Arising causes.WrongType causes.WrongType h p q l m = refl
 same_number Arising causes.NoResult causes.NoResult h p q l m = refl
@@ -34,7 +35,8 @@ same_number Arising causes.BadSlot causes.BadSlot h p q l m = refl
 same_number Arising one other h p q l m = absurd (omega arith)
 
 pub one_cause : (Arising : Cause → Type 0) (one other : Cause)
-    → ((f a g b : Range) → Arising (causes.OutOfRange f a) → Arising (causes.OutOfRange g b) → causes.OutOfRange f a ≡ causes.OutOfRange g b)
+    → ((f a g b : Range) → Arising (causes.OutOfRange f a) → Arising (causes.OutOfRange g b)
+    → causes.OutOfRange f a ≡ causes.OutOfRange g b)
     → IsLeastCause Arising one → IsLeastCause Arising other → one ≡ other
 one_cause Arising one other h p q =
     same_number Arising one other h p.arises q.arises (p.least other q.arises) (q.least one p.arises)
@@ -119,7 +121,8 @@ mixed operator range (values.Bool b) (values.Int z) p q = truth_and_number opera
 mixed operator range (values.Bool b) (values.Bool c) p q = absurd q
 mixed operator range (values.Int z) y p q = absurd p
 
-pub mixed_round : (operator : Operator) (range : Range) → Arises operator (knowns.Int range) knowns.Bool causes.WrongType
+pub mixed_round : (operator : Operator) (range : Range)
+    → Arises operator (knowns.Int range) knowns.Bool causes.WrongType
 mixed_round operator range (values.Int z) (values.Bool b) p q = number_and_truth operator z b
 mixed_round operator range (values.Int z) (values.Int y) p q = absurd q
 mixed_round operator range (values.Bool b) y p q = absurd p

@@ -13,7 +13,7 @@ use Rattle.ilranges.specs.declared.cause.Cause.TheVariants as causes
 use Rattle.ilranges.specs.declared.known.Known.{Known}
 use Rattle.ilranges.specs.declared.known.Known.TheVariants as knowns
 use Rattle.ilranges.specs.Causes.{number_of, IsLeastCause}
-use Rattle.ilranges.specs.Changes.{takes, if_right}
+use Rattle.ilranges.specs.WordSteps.{takes, if_right}
 use Rattle.ilranges.specs.Functions.{IsAfterFunction, ArisesAtFunction}
 use Rattle.ilranges.specs.Knowns.{IsKnown}
 use Rattle.ilranges.specs.Refusals as refusals

@@ -13,7 +13,7 @@ use Rattle.ilranges.specs.declared.cause.Cause.TheVariants as causes
 use Rattle.ilranges.specs.declared.known.Known.{Known}
 use Rattle.ilranges.specs.declared.known.Known.TheVariants as knowns
 use Rattle.ilranges.specs.Causes.{number_of, IsLeastCause}
-use Rattle.ilranges.specs.Changes.{may_modify, if_right}
+use Rattle.ilranges.specs.WordSteps.{may_modify, if_right}
 use Rattle.ilranges.specs.Knowns.{IsOfKind, known_of_type}
 use Rattle.ilranges.specs.Refusals as refusals
 use Rattle.ilranges.specs.Rules.{IsModified}

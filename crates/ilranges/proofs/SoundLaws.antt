@@ -27,7 +27,8 @@ use Rattle.ilcode.specs.declared.instruction.Operand.TheVariants.{Slot, Constant
 use Rattle.ilcode.specs.declared.instruction.Instruction.{Instruction}
 use Rattle.ilcode.specs.declared.instruction.Instruction.TheVariants as words
 use Rattle.ilcode.specs.Listings.{Listing}
-use Rattle.ilcode.specs.Steps.{Configuration, at, opened, value_of, with_result, with_slots, sets, opens, closes, effect}
+use Rattle.ilcode.specs.Steps.{Configuration, at, opened, value_of, with_result, with_slots, sets}
+use Rattle.ilcode.specs.Steps.{opens, closes, effect}
 use Rattle.ilranges.specs.declared.cause.Cause.TheVariants as causes
 use Rattle.ilranges.specs.declared.entry.Entry.{Entry}
 use Rattle.ilranges.specs.declared.known.Known.{Known}

@@ -8,7 +8,7 @@ use Rattle.iloperators.specs.declared.operator.Operator.TheVariants as operators
 use Rattle.iloperators.specs.Operators.{value_of_operator}
 use Rattle.ilranges.specs.declared.known.Known.{Known}
 use Rattle.ilranges.specs.declared.known.Known.TheVariants as knowns
-use Rattle.ilranges.specs.Changes.{takes}
+use Rattle.ilranges.specs.WordSteps.{takes}
 use Rattle.ilranges.specs.Knowns.{IsOfKind}
 use Rattle.ilranges.specs.Refusals.{IsWrongForOperator}
 

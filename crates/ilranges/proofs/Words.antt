@@ -1,5 +1,6 @@
 -- A word's own causes beside parentheses that stay open.
-use Rattle.std.proofs.Common.{◌≡◌, ℕ, ◌<◌, ◌≤◌, ◌+◌, ◌-◌, List, [], ◌∷◌, length, Option, Some, None, Result, Ok, Err, Bool, true, false}
+use Rattle.std.proofs.Common.{◌≡◌, ℕ, ◌<◌, ◌≤◌, ◌+◌, ◌-◌, List, [], ◌∷◌, length, Option, Some, None}
+use Rattle.std.proofs.Common.{Result, Ok, Err, Bool, true, false}
 use Rattle.std.proofs.Common.{refl, ap, sym, arith, ◌∙◌}
 use Rattle.std.specs.Prelude.{nat_lt, MatchResult, if◌then◌else◌}
 use Rattle.std.proofs.lemmas.Bool.Decides.{nat_tests}
@@ -14,7 +15,7 @@ use Rattle.ilranges.specs.declared.entry.Entry.{Entry}
 use Rattle.ilranges.specs.declared.known.Known.{Known}
 use Rattle.ilranges.specs.declared.nesting.KnownOpened.{KnownOpened}
 use Rattle.ilranges.specs.Causes.{number_of, IsLeastCause}
-use Rattle.ilranges.specs.Changes.{changed, least_beside}
+use Rattle.ilranges.specs.WordSteps.{changed, least_beside}
 use Rattle.ilranges.specs.Refusals.{StaysOpen, open_after, ArisesBeforeNesting, ArisesAtWord}
 use Rattle.ilranges.specs.Rules.{IsAfterWord, IsRule, Opens, Closes}
 use Rattle.ilranges.proofs.Lawful.{lawful_before}

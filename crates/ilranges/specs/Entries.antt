@@ -35,8 +35,8 @@ pub record IsOpenedInto (opened wider : KnownOpened) : Type 0 where
   pub operator : opened.operator ≡ wider.operator
   pub saved : IsKnownWithin opened.saved wider.saved
 
--- what the first entry says is within what the second says: slot by slot, of the current result, and of each parenthesis
--- that is open, of which both have as many
+-- what the first entry says is within what the second says: slot by slot, of the current result, and of each
+-- parenthesis that is open, of which both have as many
 pub record IsInto (entry wider : Entry) : Type 0 where
   pub slots : AllZip IsKnownWithin entry.slots wider.slots
   pub result : IsResultInto entry.result wider.result

@@ -1,5 +1,4 @@
 pub mod Causes
-pub mod Changes
 pub mod Entries
 pub mod Fits
 pub mod FunctionSteps
@@ -7,7 +6,6 @@ pub mod Functions
 pub mod Joins
 pub mod Knowns
 pub mod Laws
-pub mod Nestings
 pub mod Passing
 pub mod PassingSteps
 pub mod Refusals
@@ -16,3 +14,4 @@ pub mod Results
 pub mod Rules
 pub mod Stores
 pub mod WordLaws
+pub mod WordSteps

@@ -26,24 +26,28 @@ use Rattle.ilranges.specs.Knowns.{IsOfKind, known_of_type}
 use Rattle.ilranges.specs.Results.{Arises}
 use Rattle.ilranges.specs.Stores.{ArisesAtStore}
 
--- ---- wrong types: no values of the kinds that are known have a value. Where nothing is known, any value may stand
+-- ---- wrong types: no values of the kinds that are known have a value
 
+-- a value of this kind may stand there: any, where nothing is known
 abbrev pub MayBe : Value → Option Known → Type 0
 MayBe value None = ⊤
 MayBe value (Some known) = IsOfKind value known
 
--- the slot's type is of the value's kind, where there is such a slot
+-- a slot of this type may take a value of this kind: any, where there is no such slot
 abbrev pub MayTake : Option IlType → Value → Type 0
 MayTake None value = ⊤
 MayTake (Some type) value = IsOfKind value (known_of_type type)
 
+-- LD, LDN
 abbrev pub IsWrongForLoad : Bool → Option Known → Type 0
 IsWrongForLoad negated operand = (x : Value) → MayBe x operand → IsNone (modified negated x)
 
+-- an operator
 abbrev pub IsWrongForOperator : Operator → Option Known → Option Known → Type 0
 IsWrongForOperator operator left right =
     (x y : Value) → MayBe x left → MayBe y right → IsNone (value_of_operator operator x y)
 
+-- ST, STN
 abbrev pub IsWrongForStore : Bool → Option Known → Option IlType → Type 0
 IsWrongForStore negated result type =
     (x y : Value) → MayBe x result → modified negated x ≡ Some y → ¬ MayTake type y
@@ -78,7 +82,7 @@ ArisesAtTransform function None causes.NoResult = ⊤
 ArisesAtTransform function None _ = ⊥
 ArisesAtTransform function (Some operand) cause = ArisesAtFunction function operand cause
 
--- the number is not within the range of the slot
+-- the number is not within the range of the slot, which the modifier N does not change
 abbrev pub IsOutOfSlot : Option Known → Option IlType → Range → Range → Type 0
 IsOutOfSlot (Some result) (Some type) found allowed = ArisesAtStore result type (causes.OutOfRange found allowed)
 IsOutOfSlot _ _ found allowed = ⊥
@@ -108,6 +112,7 @@ abbrev pub ArisesAtClosing : Operator → Known → Option Known → Cause → T
 ArisesAtClosing operator saved result causes.NoResult = IsNone result
 ArisesAtClosing operator saved result cause = ArisesAtOperator operator (Some saved) result cause
 
+-- `)`, with the parentheses that are open
 abbrev pub ArisesAtClose : List KnownOpened → Option Known → Cause → Type 0
 ArisesAtClose [] result causes.NoResult = IsNone result
 ArisesAtClose [] result causes.EmptyNesting = ⊤
@@ -115,6 +120,7 @@ ArisesAtClose [] result _ = ⊥
 ArisesAtClose (innermost ∷ nesting) result cause =
     ArisesAtClosing innermost.operator innermost.saved result cause
 
+-- the word's own causes
 abbrev pub ArisesBeforeNesting : Listing → Entry → Instruction → Cause → Type 0
 ArisesBeforeNesting code entry (words.Load negated operand) cause =
     ArisesAtLoad negated (known_of code entry operand) cause

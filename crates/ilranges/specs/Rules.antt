@@ -65,6 +65,7 @@ pub record Writes (entry : Entry) (slot : ℕ) (IsWritten : Known → Type 0) (a
   pub written : IsWritten stored
   pub is : after ≡ record entry { slots = slice_set entry.slots slot stored }
 
+-- an open parenthesis
 abbrev pub waiting : Operator → Known → KnownOpened
 waiting operator saved = record { operator = operator; saved = saved }
 
@@ -80,7 +81,7 @@ Closes entry [] after = ⊥
 Closes entry (innermost ∷ nesting) after =
     Gives entry nesting (IsApplied innermost.operator (Some innermost.saved) entry.result) after
 
--- what is known after the word; S and R leave a truth value where one was
+-- what is known after the word, from its operand and what was known before; S and R write a truth value where one was
 abbrev pub IsAfterWord : Listing → Entry → Instruction → Entry → Type 0
 IsAfterWord code entry (words.Load negated operand) after =
     Gives entry entry.nesting (IsLoaded negated (known_of code entry operand)) after

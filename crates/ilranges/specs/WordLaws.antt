@@ -1,5 +1,5 @@
--- Laws of the rules: where a word has a rule, no run goes wrong at it; and who knows more before a word knows more after
--- it, and is refused only where who knows less is refused too.
+-- Laws of the rules: where a word has a rule, no run goes wrong at it; and who knows more before a word knows more
+-- after it, and is refused only where who knows less is refused too.
 use Rattle.std.specs.Prelude.{◌≡◌, ℕ, List, Some, slice_get}
 use Rattle.iltypes.specs.declared.value.Value.{Value}
 use Rattle.iltypes.specs.Values.{AreOf}

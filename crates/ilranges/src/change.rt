@@ -2,7 +2,7 @@
 
 ghost use Rattle.std.specs.Prelude.{◌≡◌, ◌≤◌, length};
 ghost use Rattle.limits.specs.Limits.{most_nesting};
-ghost use Rattle.ilranges.specs.Changes.{changed};
+ghost use Rattle.ilranges.specs.WordSteps.{changed};
 
 use crate::entry::Entry;
 use crate::known::Known;

@@ -1,6 +1,6 @@
 //! Parentheses that are open, as far as they are known.
 
-ghost use Rattle.std.specs.Prelude.{◌≡◌, ◌<◌, ◌≤◌, [], ◌∷◌, length, MatchOption};
+ghost use Rattle.std.specs.Prelude.{◌≡◌, ◌<◌, ◌≤◌, [], ◌∷◌, drop, length, slice_get};
 
 use crate::known::Known;
 use arrayvec::ArrayVec;
@@ -41,7 +41,6 @@ impl Model for Nesting {
 
 impl Nesting {
     ghost use Rattle.limits.specs.Limits.{most_nesting};
-    ghost use Rattle.ilranges.specs.Nestings.{without_first};
 
     /// Nothing is open.
     pub fn new() -> Nesting
@@ -62,9 +61,7 @@ impl Nesting {
 
     /// The innermost, where something is open.
     pub fn innermost(&self) -> Option<KnownOpened>
-        ensures { MatchOption result
-            (self.now ≡ [])
-            (λ innermost. self.now ≡ innermost ∷ without_first self.now) }
+        ensures value { result ≡ slice_get self.now 0 }
     {
         self.items.last().copied()
     }
@@ -79,7 +76,7 @@ impl Nesting {
 
     /// The innermost, where something is open, is open no more.
     pub fn close(&mut self)
-        ensures { self.new ≡ without_first self.old }
+        ensures { self.new ≡ drop 1 self.old }
     {
         let _ = self.items.pop();
     }

@@ -2,7 +2,7 @@
 
 ghost use Rattle.std.specs.Prelude.{◌≡◌, ◌↔◌, IsTrue, MatchResult};
 ghost use Rattle.ilranges.specs.Causes.{IsLeastCause};
-ghost use Rattle.ilranges.specs.Changes.{takes, may_modify, if_right};
+ghost use Rattle.ilranges.specs.WordSteps.{takes, may_modify, if_right};
 ghost use Rattle.ilranges.specs.Refusals.{ArisesAtLoad, ArisesAtApply, ArisesAtTransform};
 ghost use Rattle.ilranges.specs.Refusals.{ArisesAtStoring, ArisesAtSet};
 ghost use Rattle.ilranges.specs.Refusals.{ArisesAtClosing};

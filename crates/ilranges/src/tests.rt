@@ -6,6 +6,8 @@ use crate::{Cause, Known, more_known_before_is_more_known_after, passing};
 use iloperators::{Function, IntegerType, Operator};
 use iltypes::{IlType, Range};
 
+mod words;
+
 const LEAST: i64 = -9_223_372_036_854_775_808;
 
 const GREATEST: i64 = 9_223_372_036_854_775_807;
@@ -99,11 +101,15 @@ fn functions(rt: HostRuntime) {
     assert_eq!(rt; Known::Bool.after_function(to_usint), Err(Cause::WrongType));
     let numbers = [
         Cause::WrongType.number(),
+        Cause::NoResult.number(),
+        Cause::EmptyNesting.number(),
+        Cause::OpenNesting.number(),
         Cause::MayBeZero.number(),
         outside.number(),
         Cause::TooBig.number(),
+        Cause::BadSlot.number(),
     ];
-    assert_eq!(rt; numbers.as_slice(), [2, 6, 7, 8].as_slice());
+    assert_eq!(rt; numbers.as_slice(), [2, 3, 4, 5, 6, 7, 8, 11].as_slice());
 }
 
 #[test]

@@ -5,7 +5,7 @@ ghost use Rattle.std.specs.Prelude.{IsTrue, MatchResult, OnErr};
 ghost use Rattle.limits.specs.Limits.{most_nesting};
 ghost use Rattle.ilcode.specs.Steps.{is_start};
 ghost use Rattle.ilranges.specs.Causes.{IsLeastCause};
-ghost use Rattle.ilranges.specs.Changes.{changed, least_beside};
+ghost use Rattle.ilranges.specs.WordSteps.{changed, least_beside};
 ghost use Rattle.ilranges.specs.Entries.{known_of};
 ghost use Rattle.ilranges.specs.Refusals.{ArisesBeforeNesting, ArisesAtOpen, ArisesAtClose};
 ghost use Rattle.ilranges.specs.Refusals.{ArisesAtWord, StaysOpen, open_after};

@@ -1,5 +1,5 @@
 use Rattle.std.proofs.Common.{sym, ◌∙◌, ap}
-use Rattle.ilranges.specs.Changes.{may_modify}
+use Rattle.ilranges.specs.WordSteps.{may_modify}
 use Rattle.ilranges.proofs.LeastStores.{no_slot, nothing_stored, neither_stored}
 use Rattle.ilranges.proofs.rules.store.Goals as goal
 

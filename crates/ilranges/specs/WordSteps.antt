@@ -1,5 +1,5 @@
 -- What the steps of after_word give.
-use Rattle.std.specs.Prelude.{◌∷◌, None, Some, slice_set, Bool, true, false, nat_lt, if◌then◌else◌}
+use Rattle.std.specs.Prelude.{◌∷◌, drop, None, Some, slice_set, Bool, true, false, nat_lt, if◌then◌else◌}
 use Rattle.std.specs.Prelude.{Result, Ok, Err}
 use Rattle.iloperators.specs.declared.operator.Operator.{Operator}
 use Rattle.iloperators.specs.declared.operator.Operator.TheVariants as operators
@@ -11,7 +11,6 @@ use Rattle.ilranges.specs.declared.entry.Entry.{Entry}
 use Rattle.ilranges.specs.declared.known.Known.{Known}
 use Rattle.ilranges.specs.declared.known.Known.TheVariants as knowns
 use Rattle.ilranges.specs.Causes.{number_of}
-use Rattle.ilranges.specs.Nestings.{without_first}
 
 -- the entry after the change
 abbrev pub changed : Entry → Change → Entry
@@ -22,7 +21,7 @@ changed entry changes.Keep = entry
 changed entry (changes.Open opened) =
     record { slots = entry.slots; result = None; nesting = opened ∷ entry.nesting }
 changed entry (changes.Close known) =
-    record { slots = entry.slots; result = Some known; nesting = without_first entry.nesting }
+    record { slots = entry.slots; result = Some known; nesting = drop 1 entry.nesting }
 
 -- whether the operator takes some value of the kind
 abbrev pub takes : Operator → Known → Bool
