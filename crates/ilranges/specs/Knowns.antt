@@ -10,7 +10,7 @@ use Rattle.iltypes.specs.Ranges.{Holds, IsWithin}
 use Rattle.ilranges.specs.declared.known.Known.{Known}
 use Rattle.ilranges.specs.declared.known.Known.TheVariants as knowns
 
--- of a variable that its value is of the type
+-- what is known of a variable: that its value is of the type
 abbrev pub known_of_type : IlType → Known
 known_of_type types.Bool = knowns.Bool
 known_of_type (types.Int range) = knowns.Int range
@@ -19,7 +19,7 @@ known_of_type (types.Int range) = knowns.Int range
 abbrev pub only : ℤ → Range
 only number = record { lo = number; hi = number; ordered = ≤ℤ_refl number }
 
--- of a constant which number it is
+-- what is known of a constant: which number it is
 abbrev pub known_of_value : Value → Known
 known_of_value (values.Bool truth) = knowns.Bool
 known_of_value (values.Int number) = knowns.Int (only number)

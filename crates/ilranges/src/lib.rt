@@ -1,12 +1,12 @@
-//! What is known of a value before and after an operator, with which a verifier follows a program.
+//! What is known before and after each word of a code, with which a verifier follows a program.
 //!
-//! What crosses the boundary: [`Known`], a kind with a range for numbers, and [`Cause`], why an
-//! instruction is refused. A value lies in what is known by `IsKnown` (specs/Knowns.antt), and
-//! `Known::after` gives what holds all results of an operator and no more: `IsAfter`
-//! (specs/Results.antt, to be read first), or the least cause that arises there.
+//! What crosses the boundary: [`Entry`], all that is known at a place, [`after_word`], which makes
+//! of it what is known after a word or reports the least [`Cause`], and [`Known`], a kind with a
+//! range for numbers. The rules are `IsAfterWord` (specs/Rules.antt, to be read first) and
+//! `ArisesAtWord` (specs/Refusals.antt), over `IsAfter` of an operator (specs/Results.antt).
 //!
 //! ```text
-//! let sum = Known::after(Operator::Add, level, step)?;
+//! after_word(code, place, &mut entry, word)?;
 //! ```
 #![tactic(auto)]
 
