@@ -1,82 +1,130 @@
--- A name's slot number is where the first slot of that name is found.
-use Rattle.std.proofs.Common.{◌≡◌, ℕ, zero, suc, List, [], ◌∷◌, Bool, true, false, ◌&&◌, ◌⊎◌, inl, inr, refl, sym, ◌∙◌}
-use Rattle.std.specs.Prelude.{Option, Some, None, IsSomeAnd, option_map, slice_get, take, if◌then◌else◌}
-use Rattle.std.proofs.lemmas.Slice.Eq.{bytes_eq-Decides}
+-- A name's number is the place of its variable in the store.
+use Rattle.std.proofs.Common.{◌≡◌, ℕ, zero, suc, ◌+◌, ◌<◌, List, [], ◌∷◌, ◌++◌, map, length, Bool, true, false, ◌&&◌, ◌||◌, cond, refl, sym, ap, ◌∙◌, subst, arith, length-append}
+use Rattle.std.specs.Prelude.{Option, Some, None, option_map, flat_map, bytes_eq, ⊤}
+use Rattle.std.specs.Option.{option_map_or}
+use Rattle.std.specs.List.{list_any, position_or_len}
+use Rattle.std.proofs.Math.ListN.{length-map}
+use Rattle.std.proofs.lemmas.Grind.{flat_map-append}
 use Rattle.ilsource.specs.declared.name.Name.{Name}
 use Rattle.ilsource.specs.Names.{folded}
-use Rattle.ilscope.specs.Faults.{SomeOf}
-use Rattle.ilscope.specs.Tables.{first_at}
-use Rattle.ilsyms.specs.SlotLines.{IsUnder, IsNumberOf}
-use Rattle.ilsyms.specs.declared.planned.Slot.{Slot}
-use Rattle.ilsyms.proofs.Paired.{has_name}
+use Rattle.ilscope.specs.Declarations.{DeclaredProgram}
+use Rattle.ilscope.specs.Tables.{first_at, variable_number}
+use Rattle.ilscope.specs.declared.variable.Variable.{Variable}
+use Rattle.ilplan.specs.declared.instance.Slot.{Slot}
+use Rattle.ilsyms.specs.Meaning.{same_name, is_under, place_in_store}
+use Rattle.ilsyms.specs.PlanningSteps.{Numbering, number_of}
+use Rattle.ilsyms.specs.Variables.{slot, slots_of_program, slots_of}
+use Rattle.ilsyms.proofs.Labels.{either, same_as}
 
-true_false : (b : Bool) → b ≡ true → b ≡ false → ⊥
-true_false true t f = cc
-true_false false t f = cc
+-- past elements that fail
+pub passed_over : {X : Type 0} (test : X → Bool) (xs ys : List X) → list_any test xs ≡ false
+    → position_or_len test (xs ++ ys) ≡ length xs + position_or_len test ys
+passed_over test [] ys e = omega arith
+passed_over test (x ∷ xs) ys e =
+    either (test x)
+    (λ t. absurd (let g : true ≡ false = rw t at e in cc))
+    (λ f. rw f (let more = passed_over test xs ys (rw f at e) in omega (arith, more)))
 
-not_true : (b : Bool) → (b ≡ true → ⊥) → b ≡ false
-not_true true h = absurd (h refl)
-not_true false h = refl
+pub none_passes : {X : Type 0} (test : X → Bool) (xs : List X) → list_any test xs ≡ false
+    → position_or_len test xs ≡ length xs
+none_passes test [] e = refl
+none_passes test (x ∷ xs) e =
+    either (test x)
+    (λ t. absurd (let g : true ≡ false = rw t at e in cc))
+    (λ f. rw f (let more = none_passes test xs (rw f at e) in omega (arith, more)))
 
-neither : {A B : Type 0} → (A → ⊥) → (B → ⊥) → A ⊎ B → ⊥
-neither f g (inl a) = f a
-neither f g (inr b) = g b
+any_append : {X : Type 0} (test : X → Bool) (xs ys : List X) → list_any test xs ≡ false → list_any test ys ≡ false
+    → list_any test (xs ++ ys) ≡ false
+any_append test [] ys e g = g
+any_append test (x ∷ xs) ys e g =
+    either (test x)
+    (λ t. absurd (let h : true ≡ false = rw t at e in cc))
+    (λ f. rw f (any_append test xs ys (rw f at e) g))
 
--- a test that decides a property
-module _ {X : Type 0} (test : X → Bool) (P : X → Type 0) (to : (x : X) → test x ≡ true → P x) (from : (x : X) → P x → test x ≡ true) where
-  first_to : (xs : List X) (k : ℕ) → first_at test xs ≡ Some k → IsSomeAnd (slice_get xs k) P × (SomeOf P (take k xs) → ⊥)
-  first_to [] k e = absurd cc
-  first_to (x ∷ xs) k e = cases (first_to xs) (test x) refl (first_at test xs) refl k e
+-- the programs have other names
+abbrev pub AreOthers : List ℕ → Name → List DeclaredProgram → Type 0
+AreOthers text name [] = ⊤
+AreOthers text name (p ∷ ps) = (same_name text name p.program.name ≡ false) × AreOthers text name ps
+
+module _ (text : List ℕ) (instance name : Name) where
+  -- no slot of another instance is meant
+  other_slots : (p : DeclaredProgram) → same_name text instance p.program.name ≡ false
+      → (vs : List Variable) → list_any (is_under text instance name) (map (slot p.program.name) vs) ≡ false
+  other_slots p e [] = refl
+  other_slots p e (v ∷ vs) = rw e (other_slots p e vs)
+
+  others_slots : (ps : List DeclaredProgram) → AreOthers text instance ps
+      → list_any (is_under text instance name) (slots_of ps) ≡ false
+  others_slots [] o = refl
+  others_slots (p ∷ ps) o =
+      any_append (is_under text instance name) (slots_of_program p) (slots_of ps) (other_slots p o.0 p.variables)
+      (others_slots ps o.1)
+
+  -- a slot of the instance is meant where its variable is
+  own_slot : (v : Variable) → is_under text instance name (slot instance v) ≡ bytes_eq (folded text name) (folded text v.name)
+  own_slot v = let e = same_as text instance instance refl in rw e refl
+
+  own_place : (vs : List Variable) (rest : List Slot)
+      → position_or_len (is_under text instance name) (map (slot instance) vs ++ rest)
+      ≡ option_map_or (λ k. k) (variable_number (folded text) vs name)
+      (length vs + position_or_len (is_under text instance name) rest)
+  own_place [] rest = omega arith
+  own_place (v ∷ vs) rest =
+      let same = own_slot v in
+      either (bytes_eq (folded text name) (folded text v.name))
+      (λ t. rw (same, t) refl)
+      (λ f. rw (same, f) (next (variable_number (folded text) vs name) _ (own_place vs rest)))
     where
-      cases : ((k : ℕ) → first_at test xs ≡ Some k → IsSomeAnd (slice_get xs k) P × (SomeOf P (take k xs) → ⊥)) → (b : Bool) → test x ≡ b → (o : Option ℕ) → first_at test xs ≡ o → (k : ℕ) → (if b then Some 0 else option_map suc o) ≡ Some k →
-          IsSomeAnd (slice_get (x ∷ xs) k) P × (SomeOf P (take k (x ∷ xs)) → ⊥)
-      cases more true t o f zero e = (to x t, λ s. s)
-      cases more true t o f (suc k) e = absurd cc
-      cases more false t None f k e = absurd cc
-      cases more false t (Some j) f zero e = absurd cc
-      cases more false t (Some j) f (suc k) e =
-          let same : Some j ≡ Some k = cc in
-          let r = more k (f ∙ same) in
-          (r.0, neither (λ p. true_false (test x) (from x p) t) r.1)
+      next : (o : Option ℕ) (place : ℕ)
+          → place ≡ option_map_or (λ k. k) o (length vs + position_or_len (is_under text instance name) rest)
+          → 1 + place ≡ option_map_or (λ k. k) (option_map suc o)
+          (suc (length vs) + position_or_len (is_under text instance name) rest)
+      next None place e = omega arith
+      next (Some k) place e = omega arith
 
-  first_from : (xs : List X) (k : ℕ) → IsSomeAnd (slice_get xs k) P → (SomeOf P (take k xs) → ⊥) → first_at test xs ≡ Some k
-  first_from [] zero s n = absurd s
-  first_from [] (suc k) s n = absurd s
-  first_from (x ∷ xs) zero s n = rw (from x s) refl
-  first_from (x ∷ xs) (suc k) s n =
-      let other : test x ≡ false = not_true (test x) (λ t. n (inl (to x t))) in
-      rw (other, first_from xs k s (λ h. n (inr h))) refl
+shifted : (first end all : ℕ) (o : Option ℕ) → first + end ≡ all
+    → first + option_map_or (λ k. k) o end ≡ option_map_or (λ k. first + k) o all
+shifted first end all None e = e
+shifted first end all (Some k) e = refl
 
-both_true : (a b : Bool) → (a && b) ≡ true → (a ≡ true) × (b ≡ true)
-both_true true b h = (refl, h)
-both_true false b h = absurd cc
+-- a program among others with other names
+module _ (text : List ℕ) (front back : List DeclaredProgram) (p : DeclaredProgram) where
+  abbrev pub numbering : Numbering
+  numbering = record {
+    text = text;
+    variables = p.variables;
+    first = length (slots_of front);
+    all = length (slots_of (front ++ p ∷ back));
+  }
 
-true_both : (a b : Bool) → a ≡ true → b ≡ true → (a && b) ≡ true
-true_both true b h k = k
-true_both false b h k = absurd cc
+  pub number_is_place : (name : Name) → AreOthers text p.program.name front → AreOthers text p.program.name back
+      → place_in_store text (slots_of (front ++ p ∷ back)) p.program.name name ≡ number_of numbering name
+  number_is_place name before after =
+      let test = is_under text p.program.name name in
+      let parts = flat_map-append slots_of_program front (p ∷ back) in
+      let skip = passed_over test (slots_of front) (slots_of (p ∷ back)) (others_slots text p.program.name name front before) in
+      let own = own_place text p.program.name name p.variables (slots_of back) in
+      let rest = none_passes test (slots_of back) (others_slots text p.program.name name back after) in
+      let all = ap (λ (ss : List Slot). length ss) parts in
+      let back_of = length-append (slots_of_program p) (slots_of back) in
+      let own_many = length-map p.variables (slot p.program.name) in
+      let many = length-append (slots_of front) (slots_of (p ∷ back)) in
+      ap (λ (ss : List Slot). position_or_len test ss) parts
+      ∙ skip
+      ∙ ap (λ n. length (slots_of front) + n) own
+      ∙ shifted (length (slots_of front)) (length p.variables + position_or_len test (slots_of back))
+      (length (slots_of (front ++ p ∷ back))) (variable_number (folded text) p.variables name)
+      (omega (arith, all, back_of, own_many, many, rest))
 
-module _ (text : List ℕ) (instance variable : Name) where
-  has_to : (s : Slot) → has_name text (folded text instance) (folded text variable) s ≡ true → IsUnder text instance variable s
-  has_to s h =
-      let b = both_true _ _ h in
-      (sym ((bytes_eq-Decides (folded text instance) (folded text s.instance)).0 b.0), sym ((bytes_eq-Decides (folded text variable) (folded text s.variable)).0 b.1))
-
-  has_from : (s : Slot) → IsUnder text instance variable s → has_name text (folded text instance) (folded text variable) s ≡ true
-  has_from s u =
-      true_both _ _ ((bytes_eq-Decides (folded text instance) (folded text s.instance)).1 (sym u.0)) ((bytes_eq-Decides (folded text variable) (folded text s.variable)).1 (sym u.1))
-
-  pub found_number : (all : List Slot) (number : ℕ) → first_at (has_name text (folded text instance) (folded text variable)) all ≡ Some number →
-      IsNumberOf text all instance variable number
-  found_number all number e = first_to (has_name text (folded text instance) (folded text variable)) (IsUnder text instance variable) has_to has_from all number e
-
-  pub number_found : (all : List Slot) (number : ℕ) → IsNumberOf text all instance variable number →
-      first_at (has_name text (folded text instance) (folded text variable)) all ≡ Some number
-  number_found all number is = first_from (has_name text (folded text instance) (folded text variable)) (IsUnder text instance variable) has_to has_from all number is.0 is.1
-
-  -- a name stands for at most one number
-  pub one_number : (all : List Slot) (a b : ℕ) → IsNumberOf text all instance variable a → IsNumberOf text all instance variable b → a ≡ b
-  one_number all a b is its =
-      let e = number_found all a is in
-      let f = number_found all b its in
-      let g : Some a ≡ Some b = sym e ∙ f in
-      cc
+-- a variable's number is below how many there are
+pub number_below : (spelled : Name → List ℕ) (vs : List Variable) (name : Name) (k : ℕ)
+    → variable_number spelled vs name ≡ Some k → k < length vs
+number_below spelled [] name k e = absurd cc
+number_below spelled (v ∷ vs) name k e =
+    here (bytes_eq (spelled name) (spelled v.name)) (variable_number spelled vs name) (number_below spelled vs name) k e
+  where
+    here : (b : Bool) (o : Option ℕ) → ((j : ℕ) → o ≡ Some j → j < length vs) → (k : ℕ)
+        → cond b (Some 0) (option_map suc o) ≡ Some k → k < suc (length vs)
+    here true o below k e = let h : k ≡ 0 = cc in omega (arith, h)
+    here false None below k e = absurd cc
+    here false (Some j) below k e = let h : suc j ≡ k = cc in omega (arith, h, below j refl)

@@ -1,47 +1,68 @@
--- A scan of a source program over names and a scan of its task over slot numbers do the same.
-use Rattle.std.proofs.Common.{◌≡◌, ℕ, List, [], ◌∷◌, ◌++◌, map, length, refl, sym, subst, append_assoc}
-use Rattle.std.specs.Prelude.{None, flat_map, option_map}
+-- A scan of a source program over names and a scan of its task over numbers of slots leave the same store.
+use Rattle.std.proofs.Common.{◌≡◌, ℕ, List, [], ◌∷◌, map, refl, sym, ap, ◌∙◌}
+use Rattle.std.specs.Prelude.{Option, Some, None}
+use Rattle.std.specs.Option.{option_map, option_and_then}
 use Rattle.iltypes.specs.declared.value.Value.{Value}
+use Rattle.iltrees.specs.Meaning.{Access, On}
+use Rattle.iltrees.specs.Passes.{passes, scan}
+use Rattle.iltrees.specs.Renaming.{IsSeen, IsRenamed, rename_line}
+use Rattle.iltrees.proofs.KeptMeaning.{renamed_same, operand_same}
 use Rattle.ilsource.specs.declared.name.Name.{Name}
-use Rattle.ilsource.specs.Trees.{Variables, Written, Tree}
-use Rattle.ilsyms.specs.Declarations.{slot, slots_of_declaration, slots_of}
-use Rattle.ilsyms.specs.Meaning.{programs_scan}
-use Rattle.ilsyms.specs.PlanMeaning.{Standing, instances_scan, paired}
-use Rattle.ilsyms.specs.Plans.{PlannedInstance, PlannedTask}
-use Rattle.ilsyms.specs.Resolved.{Pairwise, IsInstanceOf, IsTaskOf, MeansTheSame}
-use Rattle.ilsyms.specs.declared.planned.Slot.{Slot}
-use Rattle.ilsyms.proofs.Paired.{AreBool}
-use Rattle.ilsyms.proofs.Simulation.{up, both, runs_same, runs_keep}
+use Rattle.ilsource.specs.Trees.{Tree}
+use Rattle.ilscope.specs.Declarations.{DeclaredProgram, declared_programs}
+use Rattle.ilplan.specs.declared.instance.Slot.{Slot}
+use Rattle.ilplan.specs.PlanMeaning.{slots_of, number_same, plan_scan}
+use Rattle.ilsyms.specs.Meaning.{same_name, place_in_store, names_in, programs_scan, source_scan}
+use Rattle.ilsyms.specs.Resolved.{slot_numbers, label_number, instance_of, task_of_tree}
+use Rattle.ilsyms.specs.Variables.{slots_of_tree}
+use Rattle.ilsyms.proofs.Labels.{labels_kept}
 
--- all slots are of BOOL
-bool_names : (name : Name) (initial : Value) (ns : List Name) (rest : List Slot) → AreBool rest → AreBool (map (slot name initial) ns ++ rest)
-bool_names name initial [] rest h = h
-bool_names name initial (n ∷ ns) rest h = (refl, bool_names name initial ns rest h)
+unchanged : (o : Option (List Value)) → o ≡ option_map (λ store. store) o
+unchanged None = refl
+unchanged (Some store) = refl
 
-bool_program : (name : Name) (ds : List Variables) (rest : List Slot) → AreBool rest → AreBool (flat_map (slots_of_declaration name) ds ++ rest)
-bool_program name [] rest h = h
-bool_program name (d ∷ ds) rest h =
-    rw (append_assoc (slots_of_declaration name d) (flat_map (slots_of_declaration name) ds) rest) (bool_names name _ d.names _ (bool_program name ds rest h))
+then_same : (k l : List Value → Option (List Value)) (o q : Option (List Value)) → ((store : List Value) → k store ≡ l store)
+    → o ≡ q → option_and_then k o ≡ option_and_then l q
+then_same k l o q e g = ap (option_and_then k) g ∙ go_on q
+  where
+    go_on : (q : Option (List Value)) → option_and_then k q ≡ option_and_then l q
+    go_on None = refl
+    go_on (Some store) = e store
 
-are_bool : (ps : List Written) → AreBool (slots_of ps)
-are_bool [] = tt
-are_bool (p ∷ ps) = bool_program p.name p.declarations (slots_of ps) (are_bool ps)
+module _ (text : List ℕ) (slots : List Slot) where
+  seen : (instance : Name)
+      → IsSeen (names_in text slots instance) (slots_of (map (λ s. s.value_type) slots)) (slot_numbers text slots instance)
+      (λ store. store)
+  seen instance = record {
+    read = λ s o.
+        operand_same (names_in text slots instance) (slots_of (map (λ s. s.value_type) slots))
+        (place_in_store text slots instance) (λ store. store) (λ s n. refl) s o;
+    write = λ s n v. unchanged _;
+    call = λ s n. refl;
+  }
 
-scans_same : (text : List ℕ) (all : List Slot) → AreBool all → (ps : List Written) (its : List PlannedInstance) → Pairwise (IsInstanceOf text all) ps its →
-    (xs : List Value) → length xs ≡ length all →
-    programs_scan text ps (paired text all xs) ≡ option_map (paired text all) (instances_scan (map (λ s. s.value_type) all) its xs)
-scans_same text all bools [] [] w xs h = refl
-scans_same text all bools [] (it ∷ its) w xs h = absurd w
-scans_same text all bools (p ∷ ps) [] w xs h = absurd w
-scans_same text all bools (p ∷ ps) (it ∷ its) w xs h =
-    let start : Standing = record { result = None; values = xs } in
-    let same = runs_same text p.name all bools p.lines it.lines w.0.lines start h in
-    let kept = runs_keep (map (λ s. s.value_type) all) it.lines start (length all) h in
-    rw same
-    (both (λ t. length t.values ≡ length all) (λ z. programs_scan text ps z.store) (λ t. instances_scan (map (λ s. s.value_type) all) its t.values)
-    (up text all) (paired text all) _ kept (λ t k. scans_same text all bools ps its w.1 t.values k))
+  program_same : (p : DeclaredProgram) (store : List Value)
+      → passes number_same (slots_of (map (λ s. s.value_type) slots)) (instance_of text slots p).lines On None store
+      ≡ passes (same_name text) (names_in text slots p.program.name) p.program.lines On None store
+  program_same p store =
+      let renamed : IsRenamed (same_name text) number_same (slot_numbers text slots p.program.name) p.program.lines (instance_of text slots p).lines =
+      record {
+        label = label_number text p.program.lines;
+        kept = labels_kept text p.program.lines;
+        is = refl;
+      }
+      in
+      renamed_same (names_in text slots p.program.name) (slots_of (map (λ s. s.value_type) slots))
+      (slot_numbers text slots p.program.name) (λ store. store) (seen p.program.name) (same_name text) number_same
+      p.program.lines (instance_of text slots p).lines renamed None store
+      ∙ sym (unchanged _)
 
--- a task of a source program means what the source program means
-pub means_the_same : (tree : Tree) (task : PlannedTask) → IsTaskOf tree task → MeansTheSame tree task
-means_the_same tree task is xs h =
-    scans_same tree.text task.slots (subst AreBool (sym is.slots) (are_bool tree.programs)) tree.programs task.instances is.instances xs h
+  programs_same : (ps : List DeclaredProgram) (store : List Value)
+      → scan number_same (slots_of (map (λ s. s.value_type) slots)) (map (λ i. i.lines) (map (instance_of text slots) ps)) store
+      ≡ programs_scan text slots ps store
+  programs_same [] store = refl
+  programs_same (p ∷ ps) store =
+      then_same _ (programs_scan text slots ps) _ _ (λ s. programs_same ps s) (program_same p store)
+
+pub means_the_same : (tree : Tree) (store : List Value) → plan_scan (task_of_tree tree) store ≡ source_scan tree store
+means_the_same tree store = programs_same tree.text (slots_of_tree tree) (declared_programs tree) store

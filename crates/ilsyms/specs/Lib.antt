@@ -1,12 +1,6 @@
 pub mod CountingSteps
-pub mod Declarations
 pub mod Faults
 pub mod Meaning
-pub mod PlanMeaning
 pub mod PlanningSteps
-pub mod Plans
-pub mod Printed
 pub mod Resolved
-pub mod ResolvingSteps
-pub mod SlotLines
-pub mod Stores
+pub mod Variables

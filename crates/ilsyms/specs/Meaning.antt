@@ -1,89 +1,50 @@
--- What a source program means, over names (IEC 61131-3, 3.2): an operator makes a new current result of the current result
--- and its operand. A use of no result, a value of a wrong kind and a name that isn't declared have no case.
-use Rattle.std.specs.Prelude.{ℕ, List, [], ◌∷◌, Option, Some, None, Bool, true, false, option_and_then}
-use Rattle.iltypes.specs.declared.operator.BooleanOperator.{BooleanOperator}
+-- What a source program means, over names (IEC 61131-3, 2.4.3, 2.7.2 and 3.2). A store has a value for each variable of
+-- each instance, in declared order. A name in an instance's lines is that of the instance's first variable that is spelled
+-- alike; letter case does not matter.
+use Rattle.std.specs.Prelude.{ℕ, List, [], ◌∷◌, map, slice_get, bytes_eq, Bool, ◌&&◌, Option, Some, None}
+use Rattle.std.specs.Option.{option_and_then}
+use Rattle.std.specs.List.{position_or_len}
 use Rattle.iltypes.specs.declared.value.Value.{Value}
-use Rattle.iltypes.specs.declared.value.Value.TheVariants as values
-use Rattle.iltypes.specs.Operators.{opposite, opposite_if, result_of}
-use Rattle.ilsource.specs.declared.instruction.Operand.{Operand}
-use Rattle.ilsource.specs.declared.instruction.Operand.TheVariants.{Variable, Constant}
-use Rattle.ilsource.specs.declared.instruction.Instruction.{Instruction}
-use Rattle.ilsource.specs.declared.instruction.Instruction.TheVariants.{Load, Apply, Not, Store, Set, Reset}
-use Rattle.ilsource.specs.declared.instruction.Line.{Line}
+use Rattle.iltypes.specs.Slots.{written}
+use Rattle.iltrees.specs.Meaning.{Access, On}
+use Rattle.iltrees.specs.Passes.{passes}
+use Rattle.ilsource.specs.declared.name.Name.{Name}
 use Rattle.ilsource.specs.Names.{folded}
-use Rattle.ilsource.specs.Trees.{Written, Tree}
-use Rattle.ilsyms.specs.Declarations.{constant_value}
-use Rattle.ilsyms.specs.Stores.{Entry, value_under, with_value}
+use Rattle.ilsource.specs.Trees.{Tree}
+use Rattle.ilscope.specs.Declarations.{DeclaredProgram, declared_programs}
+use Rattle.ilplan.specs.declared.instance.Slot.{Slot}
+use Rattle.ilsyms.specs.Variables.{slots_of_tree}
 
--- between two instructions: the current result, or none, and the store
-pub record Between : Type 0 where
-  pub result : Option Value
-  pub store : List Entry
+-- both are spelled alike, in a text
+abbrev pub same_name : List ℕ → Name → Name → Bool
+same_name text one other = bytes_eq (folded text one) (folded text other)
 
--- an operand's value, in an instance of this name
-abbrev pub operand_value : List ℕ → List ℕ → List Entry → Operand → Option Value
-operand_value text instance store (Variable name) = value_under instance (folded text name) store
-operand_value text instance store (Constant constant) = Some (constant_value constant)
+-- the slot is that of a variable of this name of an instance of that name
+abbrev pub is_under : List ℕ → Name → Name → Slot → Bool
+is_under text instance variable s = same_name text instance s.instance && same_name text variable s.variable
 
--- on with a truth value as the current result
-abbrev pub goes_on : Bool → List Entry → Option Between
-goes_on truth store = Some (record { result = Some (values.Bool truth); store = store })
+-- the place in a store of the value of an instance's variable; past the last value where there is no such variable
+abbrev pub place_in_store : List ℕ → List Slot → Name → Name → ℕ
+place_in_store text slots instance variable = position_or_len (is_under text instance variable) slots
 
--- LD, LDN
-abbrev pub loads : Bool → Option Value → List Entry → Option Between
-loads negated (Some (values.Bool truth)) store = goes_on (opposite_if negated truth) store
-loads negated _ store = None
+-- how the names in an instance's lines are read and written, with these variables; there are no block instances to call
+abbrev pub names_in : List ℕ → List Slot → Name → Access Name (List Value)
+names_in text slots instance =
+    record {
+      read = λ store name. slice_get store (place_in_store text slots instance name);
+      write = λ store name value.
+          written (map (λ s. s.value_type) slots) store (place_in_store text slots instance name) value;
+      call = λ store name. None;
+    }
 
--- AND, OR, XOR, ANDN, ORN, XORN
-abbrev pub applies : BooleanOperator → Bool → Option Value → Option Value → List Entry → Option Between
-applies operator negated (Some (values.Bool result)) (Some (values.Bool truth)) store =
-    goes_on (result_of operator result (opposite_if negated truth)) store
-applies operator negated _ _ store = None
-
--- NOT
-abbrev pub inverts : Option Value → List Entry → Option Between
-inverts (Some (values.Bool result)) store = goes_on (opposite result) store
-inverts _ store = None
-
--- ST, STN: a BOOL variable that has a value takes the current result, which stays
-abbrev pub stores : List ℕ → List ℕ → Bool → Option Value → Option Value → List Entry → Option Between
-stores instance variable negated (Some (values.Bool result)) (Some old) store =
-    goes_on result (with_value instance variable (values.Bool (opposite_if negated result)) store)
-stores instance variable negated _ _ store = None
-
--- S, R: where the current result is TRUE, a BOOL variable that has a value takes TRUE or FALSE; the current result stays
-abbrev pub sets : List ℕ → List ℕ → Bool → Option Value → Option Value → List Entry → Option Between
-sets instance variable written (Some (values.Bool true)) (Some old) store =
-    goes_on true (with_value instance variable (values.Bool written) store)
-sets instance variable written (Some (values.Bool false)) (Some old) store = goes_on false store
-sets instance variable written _ _ store = None
-
--- what an instruction does in an instance of this name
-abbrev pub does : List ℕ → List ℕ → Instruction → Between → Option Between
-does text instance (Load negated operand) b = loads negated (operand_value text instance b.store operand) b.store
-does text instance (Apply operator negated operand) b =
-    applies operator negated b.result (operand_value text instance b.store operand) b.store
-does text instance Not b = inverts b.result b.store
-does text instance (Store negated name) b =
-    stores instance (folded text name) negated b.result (value_under instance (folded text name) b.store) b.store
-does text instance (Set name) b =
-    sets instance (folded text name) true b.result (value_under instance (folded text name) b.store) b.store
-does text instance (Reset name) b =
-    sets instance (folded text name) false b.result (value_under instance (folded text name) b.store) b.store
-
--- what lines do, one after another
-abbrev pub runs : List ℕ → List ℕ → List Line → Between → Option Between
-runs text instance [] b = Some b
-runs text instance (line ∷ lines) b = option_and_then (runs text instance lines) (does text instance line.instruction b)
-
--- the store after the instances of these programs, in order, each from its first line with no result
-abbrev pub programs_scan : List ℕ → List Written → List Entry → Option (List Entry)
-programs_scan text [] store = Some store
-programs_scan text (program ∷ programs) store =
+-- the store that the instances of these programs leave, one after another, where they leave one
+abbrev pub programs_scan : List ℕ → List Slot → List DeclaredProgram → List Value → Option (List Value)
+programs_scan text slots [] store = Some store
+programs_scan text slots (p ∷ programs) store =
     option_and_then
-    (λ b. programs_scan text programs b.store)
-    (runs text (folded text program.name) program.lines (record { result = None; store = store }))
+    (programs_scan text slots programs)
+    (passes (same_name text) (names_in text slots p.program.name) p.program.lines On None store)
 
--- the meaning of a scan of the task
-abbrev pub source_scan : Tree → List Entry → Option (List Entry)
-source_scan tree store = programs_scan tree.text tree.programs store
+-- the store that a scan of the text's task leaves
+abbrev pub source_scan : Tree → List Value → Option (List Value)
+source_scan tree store = programs_scan tree.text (slots_of_tree tree) (declared_programs tree) store

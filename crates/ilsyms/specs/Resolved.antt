@@ -1,47 +1,47 @@
 -- The plan of a source program: without a configuration one cyclic task `main`, with an instance of each program in order
--- (profile), whose lines are the program's with names replaced by slot numbers.
-use Rattle.std.specs.Prelude.{◌≡◌, ℕ, List, [], ◌∷◌, length, false, codes, option_map, ⊤}
-use Rattle.iltypes.specs.declared.value.Value.{Value}
-use Rattle.ilsource.specs.Trees.{Written, Tree}
-use Rattle.ilsyms.specs.Declarations.{slots_of, lines_of, constants_of, each_once}
-use Rattle.ilsyms.specs.Meaning.{source_scan}
-use Rattle.ilsyms.specs.PlanMeaning.{plan_scan, paired}
-use Rattle.ilsyms.specs.Plans.{PlannedInstance, PlannedTask, Planned}
-use Rattle.ilsyms.specs.SlotLines.{IsLineOf}
-use Rattle.ilsyms.specs.declared.planned.Slot.{Slot}
+-- (profile), whose lines are the program's with names replaced by the numbers of slots.
+use Rattle.std.specs.Prelude.{ℕ, List, [], ◌∷◌, map, false, codes}
+use Rattle.std.specs.List.{position_or_len}
+use Rattle.iltrees.specs.declared.instruction.Line.{Line}
+use Rattle.iltrees.specs.Passes.{has_label}
+use Rattle.iltrees.specs.Renaming.{NewNames, by_name, rename_line}
+use Rattle.ilsource.specs.declared.name.Name.{Name}
+use Rattle.ilsource.specs.Trees.{Tree}
+use Rattle.ilscope.specs.Declarations.{DeclaredProgram, declared_programs}
+use Rattle.ilplan.specs.declared.instance.Slot.{Slot}
+use Rattle.ilplan.specs.Constants.{different_constants}
+use Rattle.ilplan.specs.Plans.{PlannedInstance, PlannedTask, Planned, task_of, plan_of}
+use Rattle.ilsyms.specs.Meaning.{same_name, place_in_store}
+use Rattle.ilsyms.specs.Variables.{slots_of_tree, lines_of}
 
--- the lists are equally long, and what stands at the same place in both is so related
-abbrev pub Pairwise : {X Y : Type 0} → (X → Y → Type 0) → List X → List Y → Type 0
-Pairwise R [] [] = ⊤
-Pairwise R (x ∷ xs) (y ∷ ys) = R x y × Pairwise R xs ys
-Pairwise R _ _ = ⊥
+-- each name in an instance's lines as the number of its slot; constants stay
+abbrev pub slot_numbers : List ℕ → List Slot → Name → NewNames Name ℕ
+slot_numbers text slots instance =
+    record {
+      operand = by_name (place_in_store text slots instance);
+      name = place_in_store text slots instance;
+    }
 
--- the instance has the program's name, and its lines over these slots
-pub record IsInstanceOf (text : List ℕ) (all : List Slot) (program : Written) (instance : PlannedInstance) : Type 0 where
-  pub name : instance.name ≡ program.name
-  pub lines : Pairwise (IsLineOf text all program.name) program.lines instance.lines
+-- a label as the number of the first line that has it
+abbrev pub label_number : List ℕ → List (Line Name Name) → Name → ℕ
+label_number text lines label = position_or_len (λ line. has_label (same_name text) label line.label) lines
 
--- the task has each program's variables as slots, with their initial values, the different constants of all lines in order of
--- first use, and an instance of each program
-pub record IsTaskOf (tree : Tree) (task : PlannedTask) : Type 0 where
-  pub name : task.name ≡ codes "main"
-  pub cyclic : task.event ≡ false
-  pub slots : task.slots ≡ slots_of tree.programs
-  pub constants : task.constants ≡ each_once (constants_of (lines_of tree.programs))
-  pub instances : Pairwise (IsInstanceOf tree.text task.slots) tree.programs task.instances
+-- the instance of a program
+abbrev pub instance_of : List ℕ → List Slot → DeclaredProgram → PlannedInstance
+instance_of text slots p =
+    record {
+      name = p.program.name;
+      lines = map
+          (rename_line (slot_numbers text slots p.program.name) (label_number text p.program.lines))
+          p.program.lines;
+    }
 
--- the plan has that task alone
-pub record IsPlanOf (tree : Tree) (buses : ℕ) (plan : Planned) : Type 0 where
-  pub text : plan.text ≡ tree.text
-  pub bus : plan.buses ≡ buses
-  pub globals : plan.globals ≡ []
-  pub task : PlannedTask
-  pub only : plan.tasks ≡ task ∷ []
-  pub is : IsTaskOf tree task
+-- the task
+abbrev pub task_of_tree : Tree → PlannedTask
+task_of_tree tree =
+    task_of (codes "main") false (slots_of_tree tree) (different_constants (lines_of (declared_programs tree)))
+    (map (instance_of tree.text (slots_of_tree tree)) (declared_programs tree))
 
--- from any values of the slots a scan over names, with each value under its slot's name, and a scan of the task have a case
--- for each other, with the same store after
-abbrev pub MeansTheSame : Tree → PlannedTask → Type 0
-MeansTheSame tree task =
-    (slots : List Value) → length slots ≡ length task.slots →
-    source_scan tree (paired tree.text task.slots slots) ≡ option_map (paired tree.text task.slots) (plan_scan task slots)
+-- the plan, on this many buses
+abbrev pub plan_of_tree : Tree → ℕ → Planned
+plan_of_tree tree buses = plan_of tree.text buses [] (task_of_tree tree ∷ [])

@@ -1,73 +1,135 @@
 //! Resolving the names of a source program.
 
-ghost use Rattle.std.specs.Prelude.{◌≡◌, ℕ, IfOk, IfErr, OnOk, MatchResult};
-ghost use Rattle.ilsyms.specs.CountingSteps.{counting};
-ghost use Rattle.ilsyms.specs.Declarations.{slots_of};
-ghost use Rattle.ilsyms.specs.ResolvingSteps.{the_task, the_plan};
-ghost use Rattle.ilsyms.specs.Faults.{IsFault, IsWellNamed};
-ghost use Rattle.ilsyms.specs.Plans.{Planned, PlannedTask};
-ghost use Rattle.ilsyms.specs.Resolved.{IsPlanOf, IsTaskOf, MeansTheSame};
+ghost use Rattle.std.specs.Prelude.{◌≡◌, List, Some, IfOk, IfErr, OnOk, map, slice_get};
+ghost use Rattle.iltypes.specs.Values.{AreOf};
+ghost use Rattle.iltypes.specs.declared.value.Value.{Value};
+ghost use Rattle.limits.specs.Limits.{most_instances, most_slots};
+ghost use Rattle.ilscope.specs.Declarations.{declared_programs};
 ghost use Rattle.ilscope.specs.Faults.{IsLeastOf};
-ghost use Rattle.ilscope.specs.Told.{IsMemoryOrTellsLeast, TellsLeast};
+ghost use Rattle.ilscope.specs.Reports.{IsMemoryOrReportsLeast, ReportsLeast};
+ghost use Rattle.ilscope.specs.ScopeSteps.{OfCause};
+ghost use Rattle.ilscope.specs.declared.fault.NameCause.TheVariants.{TooMany};
 ghost use Rattle.ilscope.specs.declared.fault.NameFault.{NameFault};
+ghost use Rattle.ilplan.specs.PlanMeaning.{plan_scan};
+ghost use Rattle.ilsyms.specs.CountingSteps.{AreCounted};
+ghost use Rattle.ilsyms.specs.Faults.{IsFault, IsTooMany, IsWellNamed};
+ghost use Rattle.ilsyms.specs.Meaning.{source_scan};
+ghost use Rattle.ilsyms.specs.Resolved.{plan_of_tree, task_of_tree};
+ghost use Rattle.ilsyms.specs.Variables.{lines_of, slots_of_tree, uses_of};
 
-use crate::constants::different_constants;
-use crate::excess::{instance_past, slot_past, too_many, word_past};
-use crate::plan::{Plan, Task};
-use crate::planned::Slot;
+use crate::counting::Counted;
 use crate::planning::plan_instances;
-use crate::slots::all_slots;
-use crate::uses::unknown_uses;
+use crate::slots::slots_of;
+use crate::unknown::unknown_variable;
+use crate::words::word_past;
 use binding::Binding;
-use ilscope::{Found, NameFault, Scope, lesser_of, told};
+use ilplan::{Constants, Plan, Slot, Task};
+use ilscope::{Found, NameCause, NameFault, ProgramScope, Scope, lesser_of, report_of};
 use ilsource::Source;
-use iltypes::Value;
+use limits::{MOST_INSTANCES, MOST_SLOTS};
 use std::alloc::{AllocError, Global};
 
-/// The plan of a source program, or the least place at which a fault of names stands and the least cause there.
+/// The plan of a source program, or its least fault of names: the one at the least place, and there
+/// with the least cause.
+///
+/// # Errors
+///
+/// The least fault, or the allocator is out of memory.
 pub fn resolve(alloc: Global, source: &Source, binding: &Binding) -> Result<Plan, NameFault>
-    ensures plan { IfOk result (λ plan. IsPlanOf source.now binding.now.buses plan) }
-    // A source program and a number of buses have at most one plan.
-    ensures one_plan { (buses : ℕ) (a b : Planned) → IsPlanOf source.now buses a → IsPlanOf source.now buses b → a ≡ b }
-    // A scan of its task does what a scan over names does.
-    ensures same_meaning { (task : PlannedTask) → IsTaskOf source.now task → MeansTheSame source.now task }
+    ensures plan { IfOk result (λ plan. plan ≡ plan_of_tree source.now binding.now.buses) }
+    // A scan of its task leaves what a scan over names leaves.
+    ensures same_meaning { (store : List Value)
+        → plan_scan (task_of_tree source.now) store ≡ source_scan source.now store }
     ensures named { OnOk result (IsWellNamed source.now) }
-    ensures fault { IfErr result (λ fault. IsMemoryOrTellsLeast source.now.text (IsFault source.now) fault) }
-    // A source program has at most one fault to tell.
-    ensures one_fault { (a b : NameFault) → TellsLeast source.now.text (IsFault source.now) a
-        → TellsLeast source.now.text (IsFault source.now) b → a ≡ b }
+    ensures fault { IfErr result (λ fault.
+        IsMemoryOrReportsLeast source.now.text (IsFault source.now) fault) }
+    // A source program has at most one fault to report.
+    ensures one_fault { (a b : NameFault) → ReportsLeast source.now.text (IsFault source.now) a
+        → ReportsLeast source.now.text (IsFault source.now) b → a ≡ b }
 {
     resolved(alloc, source, binding)
 }
 
-/// The one plan, or the least fault.
+/// The plan, or the least fault.
 fn resolved(alloc: Global, source: &Source, binding: &Binding) -> Result<Plan, NameFault>
-    ensures { MatchResult result
-        (λ plan. IsWellNamed source.now × (plan ≡ the_plan source.now binding.now.buses))
-        (λ fault. IsMemoryOrTellsLeast source.now.text (IsFault source.now) fault) }
+    ensures plan { IfOk result (λ plan. plan ≡ plan_of_tree source.now binding.now.buses) }
+    ensures named { OnOk result (IsWellNamed source.now) }
+    ensures fault { IfErr result (λ fault.
+        IsMemoryOrReportsLeast source.now.text (IsFault source.now) fault) }
 {
     let scope = Scope::of(alloc, source, binding)?;
-    let slots = all_slots(alloc, source.programs())?;
-    let (constants, past) = different_constants(alloc, source.programs())?;
-    if let Some(found) = least_of(&scope, &slots, past) {
-        return Err(told(source.text(), found));
+    let slots = slots_of(alloc, scope.programs())?;
+    let counted = Counted::of(alloc, scope.programs())?;
+    if let Some(found) = least_of(alloc, &scope, &slots, &counted)? {
+        return Err(report_of(source.text(), found));
     }
-    let task = main_task(alloc, &scope, slots, constants)?;
+    let task = main_task(alloc, &scope, slots, counted.constants)?;
     Ok(plan_with(alloc, source, binding, task)?)
 }
 
-/// The least fault: of declarations, of names in instructions, and of limits.
-fn least_of(scope: &Scope<'_>, slots: &[Slot], past: Option<usize>) -> Option<Found>
-    requires slots { slots.now ≡ slots_of scope.now.programs }
-    requires past { past ≡ (counting scope.now.programs).excess }
-    ensures { IsLeastOf (IsFault scope.now) result }
+/// The least fault: of declarations, of names in lines, and of limits.
+fn least_of(
+    alloc: Global,
+    scope: &Scope<'_>,
+    slots: &[Slot],
+    counted: &Counted,
+) -> Result<Option<Found>, AllocError>
+    requires slots { slots.now ≡ slots_of_tree scope.now }
+    requires counted { AreCounted (uses_of (lines_of (declared_programs scope.now)))
+        counted.now.constants counted.now.excess }
+    ensures { IfOk result (λ found. IsLeastOf (IsFault scope.now) found) }
 {
-    let programs = scope.source().programs();
-    let least = lesser_of(scope.least(), unknown_uses(scope));
-    let least = lesser_of(least, too_many(instance_past(programs)));
-    let least = lesser_of(least, too_many(slot_past(slots)));
-    let least = lesser_of(least, too_many(word_past(programs)));
-    lesser_of(least, too_many(past))
+    let unknown = unknown_variable(alloc, scope)?;
+    let too_many = too_many(alloc, scope, slots, counted.excess)?;
+    Ok(lesser_of(lesser_of(scope.least(), unknown), too_many))
+}
+
+/// The least fault of what exceeds a limit. `excess` is the place of the constant that does.
+fn too_many(
+    alloc: Global,
+    scope: &Scope<'_>,
+    slots: &[Slot],
+    excess: Option<usize>,
+) -> Result<Option<Found>, AllocError>
+    requires slots { slots.now ≡ slots_of_tree scope.now }
+    requires excess { (constants : List Value) × AreCounted
+        (uses_of (lines_of (declared_programs scope.now))) constants excess }
+    ensures { IfOk result (λ found. IsLeastOf (OfCause TooMany (IsTooMany scope.now)) found) }
+{
+    let programs = scope.programs();
+    let word = word_past(alloc, programs)?;
+    let least = lesser_of(
+        exceeding(instance_past(programs)),
+        exceeding(slot_past(slots)),
+    );
+    Ok(lesser_of(lesser_of(least, exceeding(word)), exceeding(excess)))
+}
+
+/// The place of the program that exceeds the greatest number of instances.
+fn instance_past(programs: &[ProgramScope<'_>]) -> Option<usize>
+    ensures { result ≡ slice_get (map (λ p. p.program.name.from) programs.now) most_instances }
+{
+    let program = programs.get(MOST_INSTANCES)?;
+    Some(program.program().name().from)
+}
+
+/// The place of the variable that exceeds the greatest number of slots.
+fn slot_past(slots: &[Slot]) -> Option<usize>
+    ensures { result ≡ slice_get (map (λ s. s.variable.from) slots.now) most_slots }
+{
+    let slot = slots.get(MOST_SLOTS)?;
+    Some(slot.variable.from)
+}
+
+/// The fault of what exceeds a limit at this place, where there is such.
+fn exceeding(place: Option<usize>) -> Option<Found>
+    ensures { IsLeastOf (OfCause TooMany (λ at. place ≡ Some at)) result }
+{
+    let at = place?;
+    Some(Found {
+        at,
+        cause: NameCause::TooMany,
+    })
 }
 
 /// The one task of a source program that has no fault.
@@ -75,14 +137,14 @@ fn main_task(
     alloc: Global,
     scope: &Scope<'_>,
     slots: Vec<Slot>,
-    constants: Vec<Value>,
+    constants: Constants,
 ) -> Result<Task, AllocError>
     requires named { IsWellNamed scope.now }
-    requires slots { slots.items ≡ slots_of scope.now.programs }
-    requires constants { constants.items ≡ (counting scope.now.programs).constants }
-    ensures { IfOk result (λ task. task ≡ the_task scope.now) }
+    requires slots { slots.items ≡ slots_of_tree scope.now }
+    requires constants { constants ≡ (task_of_tree scope.now).constants }
+    ensures { IfOk result (λ task. task ≡ task_of_tree scope.now) }
 {
-    let instances = plan_instances(alloc, scope)?;
+    let instances = plan_instances(alloc, scope, slots.len())?;
     let name = String::from_str(alloc, "main")?;
     Ok(Task::new(name, false, slots, constants, instances))
 }
@@ -94,8 +156,8 @@ fn plan_with(
     binding: &Binding,
     task: Task,
 ) -> Result<Plan, AllocError>
-    requires { task ≡ the_task source.now }
-    ensures { IfOk result (λ plan. plan ≡ the_plan source.now binding.now.buses) }
+    requires { task ≡ task_of_tree source.now }
+    ensures { IfOk result (λ plan. plan ≡ plan_of_tree source.now binding.now.buses) }
 {
     let mut tasks = Vec::new(alloc);
     tasks.push(task)?;

@@ -1,79 +1,70 @@
-use Rattle.std.proofs.Common.{◌≡◌, ◌+◌, ◌<◌, ap, ◌∙◌, arith, get_or, length, take, List, [], sym}
-use Rattle.ilsource.specs.Trees.{Tree, Written}
-use Rattle.ilscope.specs.Tables.{lowered, declared_names}
-use Rattle.ilsyms.proofs.Tables.{declared_is}
-use Rattle.ilsyms.specs.PlanningSteps.{table_of}
-use Rattle.ilsyms.specs.PlanningSteps.{Planning, planning, with_instance, with_instances}
-use Rattle.std.proofs.lemmas.List.Sums.{fold_more}
-use Rattle.ilsyms.proofs.Tables.{got, room, known_at}
+use Rattle.std.proofs.Common.{◌≡◌, ℕ, ◌<◌, ◌∙◌, ap, get_or, length, List, [], ◌∷◌, ◌++◌, map, arith, sym, subst}
+use Rattle.iltrees.specs.Renaming.{rename_line}
+use Rattle.iltrees.specs.Words.{AreShallow, AreStraight}
+use Rattle.ilsource.specs.Programs.{Written}
+use Rattle.ilsource.specs.declared.name.Name.{Name}
+use Rattle.ilplan.specs.Plans.{PlannedInstance}
+use Rattle.ilsyms.specs.PlanningSteps.{numbers}
+use Rattle.ilscope.specs.Declarations.{DeclaredProgram, declared_programs}
+use Rattle.ilscope.specs.declared.fault.NameCause.TheVariants.{Twice}
+use Rattle.ilsyms.proofs.Distinct.{programs_apart}
+use Rattle.ilsyms.proofs.Limits.{few_slots}
+use Rattle.ilsyms.proofs.Planned.{planned_more, slots_fit, slots_more, shallow_more, straight_more}
 use Rattle.ilsyms.proofs.planning.plan_instances.Goals as goal
 
-pub plan_lines-requires-clause-known : goal.plan_lines-requires-clause-known
-plan_lines-requires-clause-known c =
-    let tree = c.args.scope.now in
-    let ps = c.programs-program-items.ensures ∙ ap (λ (t : Tree). t.programs) c.source-source.ensures in
-    let item : c.program-item.result ≡ get_or c.args.scope.now.programs c.loop-number.number c.program-item.result =
-    c.program-item.is ∙ ap (λ (qs : List Written). get_or qs c.loop-number.number c.program-item.result) ps
+pub new-numbering-requires-clause-fits : goal.new-numbering-requires-clause-fits
+new-numbering-requires-clause-fits c =
+    let items = c.programs-program-items.ensures.value in
+    let all = declared_programs c.args.scope.now in
+    let is : c.program-item.result ≡ get_or all c.loop-number.number c.program-item.result =
+    c.program-item.is ∙ ap (λ (qs : List DeclaredProgram). get_or qs c.loop-number.number c.program-item.result) items
     in
-    let below : c.loop-number.number < length c.args.scope.now.programs = rw (← ps) c.loop-number-test.true in
-    let names : c.variables-names.result.now ≡ table_of (lowered c.args.scope.now.text) c.program-item.result =
-    got (declared_names c.args.scope.now.text) c.args.scope.now.programs c.loop-number.number c.program-item.result _ c.variables-names.ensures item below
-    ∙ declared_is c.args.scope.now.text c.program-item.result
-    in
-    rw (c.lower.ensures, names, c.lines.ensures)
-    (known_at (lowered c.args.scope.now.text) c.args.scope.now.programs c.loop-number.number c.program-item.result item below c.requires.known)
-
-pub plan_lines-requires-clause-fits : goal.plan_lines-requires-clause-fits
-plan_lines-requires-clause-fits c =
-    let ps = c.programs-program-items.ensures ∙ ap (λ (t : Tree). t.programs) c.source-source.ensures in
-    let item : c.program-item.result ≡ get_or c.args.scope.now.programs c.loop-number.number c.program-item.result =
-    c.program-item.is ∙ ap (λ (qs : List Written). get_or qs c.loop-number.number c.program-item.result) ps
-    in
-    let below : c.loop-number.number < length c.args.scope.now.programs = rw (← ps) c.loop-number-test.true in
-    let names : c.variables-names.result.now ≡ table_of (lowered c.args.scope.now.text) c.program-item.result =
-    got (declared_names c.args.scope.now.text) c.args.scope.now.programs c.loop-number.number c.program-item.result _ c.variables-names.ensures item below
-    ∙ declared_is c.args.scope.now.text c.program-item.result
-    in
-    let base = ap (λ (p : Planning). p.base) c.loop-number.invariant.planned in
-    let fits = room c.args.scope.now.text (lowered c.args.scope.now.text) c.args.scope.now.programs c.loop-number.number c.program-item.result item below in
-    rw (names, base) (omega (arith, fits, c.requires.few))
-
-pub overflow_add-base : goal.overflow_add-base
-overflow_add-base c =
-    let ps = c.programs-program-items.ensures ∙ ap (λ (t : Tree). t.programs) c.source-source.ensures in
-    let item : c.program-item.result ≡ get_or c.args.scope.now.programs c.loop-number.number c.program-item.result =
-    c.program-item.is ∙ ap (λ (qs : List Written). get_or qs c.loop-number.number c.program-item.result) ps
-    in
-    let below : c.loop-number.number < length c.args.scope.now.programs = rw (← ps) c.loop-number-test.true in
-    let names : c.variables-names.result.now ≡ table_of (lowered c.args.scope.now.text) c.program-item.result =
-    got (declared_names c.args.scope.now.text) c.args.scope.now.programs c.loop-number.number c.program-item.result _ c.variables-names.ensures item below
-    ∙ declared_is c.args.scope.now.text c.program-item.result
-    in
-    let base = ap (λ (p : Planning). p.base) c.loop-number.invariant.planned in
-    let fits = room c.args.scope.now.text (lowered c.args.scope.now.text) c.args.scope.now.programs c.loop-number.number c.program-item.result item below in
-    rw (c.len-base.ensures.count, names, base) (omega (arith, fits, c.requires.few))
+    let below : c.loop-number.number < length all = rw (← items) c.loop-number-test.true in
+    let fit = slots_fit c.args.scope.now.text all c.loop-number.number c.program-item.result is below in
+    let few = few_slots c.args.scope.now c.requires.named in
+    let first = c.loop-number.invariant.first in
+    omega (arith, fit, few, first)
 
 pub loop-number-preserved : goal.loop-number-preserved
 loop-number-preserved c =
-    let ps = c.programs-program-items.ensures ∙ ap (λ (t : Tree). t.programs) c.source-source.ensures in
-    let item : c.program-item.result ≡ get_or c.args.scope.now.programs c.loop-number.number c.program-item.result =
-    c.program-item.is ∙ ap (λ (qs : List Written). get_or qs c.loop-number.number c.program-item.result) ps
+    let items = c.programs-program-items.ensures.value in
+    let all = declared_programs c.args.scope.now in
+    let is : c.program-item.result ≡ get_or all c.loop-number.number c.program-item.result =
+    c.program-item.is ∙ ap (λ (qs : List DeclaredProgram). get_or qs c.loop-number.number c.program-item.result) items
     in
-    let below : c.loop-number.number < length c.args.scope.now.programs = rw (← ps) c.loop-number-test.true in
-    let names : c.variables-names.result.now ≡ table_of (lowered c.args.scope.now.text) c.program-item.result =
-    got (declared_names c.args.scope.now.text) c.args.scope.now.programs c.loop-number.number c.program-item.result _ c.variables-names.ensures item below
-    ∙ declared_is c.args.scope.now.text c.program-item.result
+    let below : c.loop-number.number < length all = rw (← items) c.loop-number-test.true in
+    let apart = programs_apart c.args.scope.now (λ place s. c.requires.named place Twice s) in
+    let written = c.program-written.ensures.value in
+    let lines : c.program-written.result.now.lines ≡ c.program-item.result.program.lines =
+    ap (λ (w : Written). w.lines) written
     in
-    let step : Planning → Written → Planning = with_instance c.args.scope.now.text (lowered c.args.scope.now.text) in
-    let next = fold_more step (planning [] 0) c.args.scope.now.programs c.loop-number.number c.program-item.result below in
-    let here : step (planning c.loop-number.instances.items c.loop-number.base) c.program-item.result ≡ with_instances c.args.scope.now.text (lowered c.args.scope.now.text) (planning [] 0) (take (c.loop-number.number + 1) c.args.scope.now.programs) =
-    ap (λ (p : Planning). step p c.program-item.result) c.loop-number.invariant.planned
-    ∙ ap (λ (p : Written). step (with_instances c.args.scope.now.text (lowered c.args.scope.now.text) (planning [] 0) (take c.loop-number.number c.args.scope.now.programs)) p) item
-    ∙ sym next
+    let renamed = λ (label : Name → ℕ).
+    c.in_ok-lines.ensures label
+    ∙ (λ i. map (rename_line (numbers (c.new-numbering.ensures i)) label) ((c.lines.ensures.value ∙ lines) i))
+    in
+    let one : c.new.result ≡ record { name = c.program-item.result.program.name; lines = c.in_ok-lines.lines.items } =
+    c.new.ensures
+    ∙ (λ i. record {
+      name = (c.name.ensures ∙ ap (λ (w : Written). w.name) written) i;
+      lines = c.in_ok-lines.lines.items;
+    })
     in
     record {
-      planned =
-          rw (c.in_ok-push.ensures.items, c.new.ensures, c.name.ensures, c.in_ok-lines.ensures.lines, c.loop-number.invariant.text, c.lower.ensures, c.len-base.ensures.count, names, c.lines.ensures)
-          here;
-      text = c.in_ok-lines.ensures.text ∙ c.loop-number.invariant.text;
+      instances =
+          c.in_ok-push.ensures.items
+          ∙ ap (λ (one : PlannedInstance). c.loop-number.instances.items ++ one ∷ []) one
+          ∙ planned_more c.args.scope.now.text all c.loop-number.number c.program-item.result is below apart
+          c.loop-number.first c.args.all c.loop-number.invariant.first c.requires.all c.in_ok-lines.lines.items renamed
+          c.loop-number.instances.items c.loop-number.invariant.instances;
+      first =
+          let more = slots_more c.args.scope.now.text all c.loop-number.number c.program-item.result is below in
+          let own = ap length c.variables.ensures.value in
+          let first = c.loop-number.invariant.first in
+          omega (arith, more, own, first);
+      shallow =
+          shallow_more c.args.scope.now.text all c.loop-number.number c.program-item.result is below c.loop-number.invariant.shallow
+          (subst AreShallow lines c.lines.ensures.shallow);
+      straight =
+          straight_more c.args.scope.now.text all c.loop-number.number c.program-item.result is below c.loop-number.invariant.straight
+          (subst AreStraight lines c.lines.ensures.straight);
     }

@@ -1,12 +1,16 @@
-use Rattle.ilsyms.proofs.Clean.{clean}
-use Rattle.ilsyms.proofs.Limits.{limits}
+use Rattle.std.proofs.Common.{rules, subst, sym, ap, ◌≡◌, ◌∙◌}
+use Rattle.std.specs.Prelude.{false}
+use Rattle.ilplan.specs.Plans.{PlannedTask, KeepsLimits, task_of}
+use Rattle.ilsyms.specs.Resolved.{task_of_tree}
+use Rattle.ilsyms.proofs.Limits.{keeps_limits}
+use Rattle.ilsyms.proofs.TypedSlots.{initials_typed}
 use Rattle.ilsyms.proofs.resolving.main_task.Goals as goal
 
-pub plan_instances-requires-clause-known : goal.plan_instances-requires-clause-known
-plan_instances-requires-clause-known c = (clean c.args.scope.now c.requires.named).uses
-
-pub plan_instances-requires-clause-few : goal.plan_instances-requires-clause-few
-plan_instances-requires-clause-few c = (limits c.args.scope.now c.requires.named).most_slots
-
 pub new-requires : goal.new-requires
-new-requires c = rw (c.in_ok-name.ensures.ok, c.requires.slots, c.requires.constants, c.in_ok-instances.ensures) (limits c.args.scope.now c.requires.named)
+new-requires c =
+    subst (λ (t : PlannedTask). KeepsLimits t)
+    (λ i. task_of
+    (sym c.in_ok-name.ensures.ok i) false (sym c.requires.slots i) (sym c.requires.constants i)
+    (sym c.in_ok-instances.ensures.instances i))
+    (keeps_limits c.args.scope.now c.requires.named c.in_ok-instances.ensures.shallow
+    c.in_ok-instances.ensures.straight (initials_typed c.args.scope.now))

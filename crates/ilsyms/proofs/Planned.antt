@@ -1,0 +1,117 @@
+-- The instances of programs, one program after another.
+use Rattle.std.proofs.Common.{◌≡◌, ℕ, suc, ◌+◌, ◌<◌, ◌≤◌, List, [], ◌∷◌, ◌++◌, map, length, take, drop, get_or}
+use Rattle.std.proofs.Common.{refl, sym, ap, ◌∙◌, subst, add-one, arith, length-append}
+use Rattle.std.proofs.Math.ListN.{length-map}
+use Rattle.std.proofs.Math.Seq.{drop-cons}
+use Rattle.std.proofs.lemmas.Grind.{flat_map-append}
+use Rattle.std.proofs.lemmas.List.{append-nil, map-append, take-append-drop}
+use Rattle.std.proofs.lemmas.List.Folds.{length-flat_map-take}
+use Rattle.iltrees.specs.declared.instruction.Line.{Line}
+use Rattle.iltrees.specs.Words.{AreShallow, AreStraight}
+use Rattle.iltrees.specs.Renaming.{NewNames, by_name, rename_line}
+use Rattle.ilsource.specs.declared.name.Name.{Name}
+use Rattle.ilscope.specs.Declarations.{DeclaredProgram}
+use Rattle.ilscope.proofs.Least.{take_more}
+use Rattle.ilplan.specs.declared.instance.Slot.{Slot}
+use Rattle.ilplan.specs.Plans.{PlannedInstance}
+use Rattle.ilsyms.specs.PlanningSteps.{Numbering, number_of, numbers}
+use Rattle.ilsyms.specs.Resolved.{slot_numbers, label_number, instance_of}
+use Rattle.ilsyms.specs.Variables.{slot, slots_of_program, slots_of, lines_of}
+use Rattle.ilsyms.proofs.Distinct.{AreApart, others_around}
+use Rattle.ilsyms.proofs.Numbers.{AreOthers, numbering, number_is_place}
+use Rattle.ilsyms.proofs.Renamed.{shallow_append, straight_append}
+
+-- a list in which an element stands
+parted : {X : Type 0} (xs : List X) (i : ℕ) (x : X) → x ≡ get_or xs i x → i < length xs
+    → take i xs ++ x ∷ drop (i + 1) xs ≡ xs
+parted xs i x is below =
+    rw add-one
+    (ap (λ y. take i xs ++ y ∷ drop (suc i) xs) is
+    ∙ ap (λ ys. take i xs ++ ys) (sym (drop-cons xs i x below))
+    ∙ take-append-drop i xs)
+
+-- the numbers that are given are the places in the store
+numbers_are : (text : List ℕ) (front back : List DeclaredProgram) (p : DeclaredProgram)
+    → AreApart text (front ++ p ∷ back)
+    → numbers (numbering text front back p) ≡ slot_numbers text (slots_of (front ++ p ∷ back)) p.program.name
+numbers_are text front back p apart =
+    let others = others_around text front back p apart in
+    λ i. record {
+      operand = by_name (λ name. sym (number_is_place text front back p name others.0 others.1) i);
+      name = λ name. sym (number_is_place text front back p name others.0 others.1) i;
+    }
+
+-- the program's instance, where its lines have these numbers
+instance_is : (text : List ℕ) (front back : List DeclaredProgram) (p : DeclaredProgram) (lines : List (Line ℕ ℕ))
+    → AreApart text (front ++ p ∷ back)
+    → ((label : Name → ℕ) → lines ≡ map (rename_line (numbers (numbering text front back p)) label) p.program.lines)
+    → lines ≡ (instance_of text (slots_of (front ++ p ∷ back)) p).lines
+instance_is text front back p lines apart h =
+    let label = label_number text p.program.lines in
+    h label
+    ∙ ap (λ (new : NewNames Name ℕ). map (rename_line new label) p.program.lines) (numbers_are text front back p apart)
+
+module _ (text : List ℕ) (ps : List DeclaredProgram) (i : ℕ) (p : DeclaredProgram) (is : p ≡ get_or ps i p)
+    (below : i < length ps) where
+  -- with one program more
+  pub planned_more : AreApart text ps → (first all : ℕ) → first ≡ length (slots_of (take i ps))
+      → all ≡ length (slots_of ps) → (lines : List (Line ℕ ℕ))
+      → ((label : Name → ℕ)
+      → lines
+      ≡ map
+      (rename_line (numbers (record { text = text; variables = p.variables; first = first; all = all })) label)
+      p.program.lines)
+      → (instances : List PlannedInstance) → instances ≡ map (instance_of text (slots_of ps)) (take i ps)
+      → instances ++ record { name = p.program.name; lines = lines } ∷ []
+      ≡ map (instance_of text (slots_of ps)) (take (i + 1) ps)
+  planned_more apart first all e g lines h instances so_far =
+      let front = take i ps in
+      let back = drop (i + 1) ps in
+      let whole : front ++ p ∷ back ≡ ps = parted ps i p is below in
+      let g : all ≡ length (slots_of (front ++ p ∷ back)) = g ∙ ap (λ qs. length (slots_of qs)) (sym whole) in
+      let named : (label : Name → ℕ)
+      → lines ≡ map (rename_line (numbers (numbering text front back p)) label) p.program.lines =
+      λ label. h label ∙ (λ j. map (rename_line (numbers (record { text = text; variables = p.variables; first = e j; all = g j })) label) p.program.lines)
+      in
+      let there = instance_is text front back p lines (subst (AreApart text) (sym whole) apart) named in
+      let here : lines ≡ (instance_of text (slots_of ps) p).lines =
+      there ∙ ap (λ qs. (instance_of text (slots_of qs) p).lines) whole
+      in
+      (λ j. so_far j ++ record { name = p.program.name; lines = here j } ∷ [])
+      ∙ sym (map-append (instance_of text (slots_of ps)) front (p ∷ []))
+      ∙ ap (map (instance_of text (slots_of ps))) (sym (take_more ps i p below is))
+
+  lines_more : lines_of (take (i + 1) ps) ≡ lines_of (take i ps) ++ p.program.lines
+  lines_more =
+      ap lines_of (take_more ps i p below is)
+      ∙ flat_map-append (λ q. q.program.lines) (take i ps) (p ∷ [])
+      ∙ ap (λ ls. lines_of (take i ps) ++ ls) (append-nil p.program.lines)
+
+  -- its slots are among all
+  pub slots_fit : length (slots_of (take i ps)) + length p.variables ≤ length (slots_of ps)
+  slots_fit =
+      let fit = length-flat_map-take slots_of_program ps i p below in
+      let own = ap (λ q. length (slots_of_program q)) (sym is) in
+      let many = length-map p.variables (slot p.program.name) in
+      omega (arith, fit, own, many)
+
+  -- and so many are before the next
+  pub slots_more : length (slots_of (take i ps)) + length p.variables ≡ length (slots_of (take (i + 1) ps))
+  slots_more =
+      let more = ap (λ qs. length (slots_of qs)) (take_more ps i p below is) in
+      let parts = ap (λ (ss : List Slot). length ss) (flat_map-append slots_of_program (take i ps) (p ∷ [])) in
+      let both = length-append (slots_of (take i ps)) (slots_of (p ∷ [])) in
+      let own = length-append (slots_of_program p) [] in
+      let many = length-map p.variables (slot p.program.name) in
+      omega (arith, more, parts, both, own, many)
+
+  -- the lines up to the next
+  pub shallow_more : AreShallow (lines_of (take i ps)) → AreShallow p.program.lines
+      → AreShallow (lines_of (take (i + 1) ps))
+  shallow_more before own =
+      subst AreShallow (sym lines_more) (shallow_append (lines_of (take i ps)) p.program.lines before own)
+
+  pub straight_more : AreStraight (lines_of (take i ps)) → AreStraight p.program.lines
+      → AreStraight (lines_of (take (i + 1) ps))
+  straight_more before own =
+      subst AreStraight (sym lines_more) (straight_append (lines_of (take i ps)) p.program.lines before own)

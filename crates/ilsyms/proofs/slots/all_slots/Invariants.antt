@@ -1,6 +1,0 @@
-use Rattle.std.proofs.Common.{◌≡◌, take}
-use Rattle.ilsyms.specs.Declarations.{slots_of}
-use Rattle.ilsyms.proofs.slots.all_slots.Given as goal
-
-abbrev pub invariant-loop-program : goal.invariant-loop-program
-invariant-loop-program l = l.slots.items ≡ slots_of (take l.program-index l.programs)

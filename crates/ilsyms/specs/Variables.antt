@@ -1,0 +1,35 @@
+-- The variables of a source program's task, its lines and what they use, in the order of the text. Without a
+-- configuration a text has one task with one instance of each program, under the program's name (profile).
+use Rattle.std.specs.Prelude.{ℕ, List, flat_map, map}
+use Rattle.iltrees.specs.declared.instruction.Line.{Line}
+use Rattle.iltrees.specs.declared.uses.Use.{Use}
+use Rattle.iltrees.specs.Uses.{uses_in}
+use Rattle.ilsource.specs.declared.name.Name.{Name}
+use Rattle.ilsource.specs.Trees.{Tree}
+use Rattle.ilscope.specs.declared.variable.Variable.{Variable}
+use Rattle.ilscope.specs.Declarations.{DeclaredProgram, declared_programs}
+use Rattle.ilplan.specs.declared.instance.Slot.{Slot}
+
+-- the slot of a variable of an instance
+abbrev pub slot : Name → Variable → Slot
+slot instance v =
+    record { instance = instance; variable = v.name; value_type = v.value_type; initial = v.initial }
+
+-- the slots of a program's instance
+abbrev pub slots_of_program : DeclaredProgram → List Slot
+slots_of_program p = map (slot p.program.name) p.variables
+
+-- the slots of programs' instances: the variables of the first, in declared order, then those of the next
+abbrev pub slots_of : List DeclaredProgram → List Slot
+slots_of programs = flat_map slots_of_program programs
+
+abbrev pub slots_of_tree : Tree → List Slot
+slots_of_tree tree = slots_of (declared_programs tree)
+
+-- the lines of the programs, one program after another
+abbrev pub lines_of : List DeclaredProgram → List (Line Name Name)
+lines_of programs = flat_map (λ p. p.program.lines) programs
+
+-- what they use
+abbrev pub uses_of : List (Line Name Name) → List (Use Name)
+uses_of lines = flat_map uses_in lines

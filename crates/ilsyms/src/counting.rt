@@ -1,0 +1,69 @@
+//! The different constants of a task.
+
+use crate::uses::uses_of;
+use ilplan::Constants;
+use ilscope::ProgramScope;
+use ilsource::Name;
+use iltrees::{Operand, Use};
+use limits::MOST_CONSTANTS;
+use std::alloc::{AllocError, Global};
+
+/// The different constants of some uses, and the place of the use that makes them too many.
+#[derive(Drop)]
+pub(crate) struct Counted {
+    pub(crate) constants: Constants,
+    pub(crate) excess: Option<usize>,
+}
+
+impl Counted {
+    ghost use Rattle.std.specs.Prelude.{[], ◌∷◌, ◌++◌, List, IfOk, OnOk};
+    ghost use Rattle.iltrees.specs.declared.uses.Use.{Use};
+    ghost use Rattle.ilsource.specs.declared.name.Name.{Name};
+    ghost use Rattle.ilsyms.specs.CountingSteps.{AreCounted};
+    ghost use Rattle.ilsyms.specs.Variables.{lines_of, uses_of};
+
+    /// Those of the programs' lines.
+    pub(crate) fn of(alloc: Global, programs: &[ProgramScope<'_>]) -> Result<Counted, AllocError>
+        ensures { IfOk result (λ c.
+            AreCounted (uses_of (lines_of programs.now)) c.constants c.excess) }
+    {
+        let mut counted = Counted {
+            constants: Constants::new(alloc),
+            excess: None,
+        };
+        for program in programs {
+            let uses = uses_of(alloc, program.program())?;
+            counted.add_uses(&uses)?;
+        }
+        Ok(counted)
+    }
+
+    /// Counts some uses more.
+    fn add_uses(&mut self, uses: &[Use<Name>]) -> Result<(), AllocError>
+        ensures { OnOk result ((before : List (Use Name))
+            → AreCounted before self.old.constants self.old.excess
+            → AreCounted (before ++ uses.now) self.new.constants self.new.excess) }
+    {
+        for used in uses {
+            self.add(*used)?;
+        }
+        Ok(())
+    }
+
+    /// Counts one use more.
+    fn add(&mut self, used: Use<Name>) -> Result<(), AllocError>
+        ensures { OnOk result ((before : List (Use Name))
+            → AreCounted before self.old.constants self.old.excess
+            → AreCounted (before ++ used ∷ []) self.new.constants self.new.excess) }
+    {
+        let Operand::Constant(value) = used.operand else {
+            return Ok(());
+        };
+        let known = self.constants.len();
+        self.constants.add(value)?;
+        if known == MOST_CONSTANTS && known < self.constants.len() {
+            self.excess = Some(used.at);
+        }
+        Ok(())
+    }
+}
