@@ -19,3 +19,6 @@ mod words;
 pub use ilplan::{Instance, Plan, Slot, Task};
 pub use ilscope::{NameCause, NameFault, Scope};
 pub use resolving::resolve;
+
+#[cfg(test)]
+mod tests;

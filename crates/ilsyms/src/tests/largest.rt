@@ -1,0 +1,73 @@
+//! Source programs at the limits, and one past each: a body that gives up above some size would
+//! answer out of memory.
+
+ghost use Rattle.std.specs.Prelude.{◌≤◌};
+
+use crate::resolve;
+use binding::Binding;
+use ilsource::{Declaration, Element, Name, Program, Source, Specification};
+use std::alloc::{AllocError, Global};
+use std::test::Fail;
+
+/// A letter for a number.
+fn letter(number: usize) -> u8 {
+    b'a' + (number % 26) as u8
+}
+
+/// The text `aaabaacaa..`, and each three letters of it as a name.
+fn different_names(alloc: Global, count: usize) -> Result<(Vec<u8>, Vec<Name>), AllocError>
+    requires { count ≤ 17576 }
+{
+    let mut text = Vec::new(alloc);
+    let mut names = Vec::new(alloc);
+    for number in 0..count {
+        text.push(letter(number))?;
+        text.push(letter(number / 26))?;
+        text.push(letter(number / 676))?;
+        names.push(Name {
+            from: 3 * number,
+            to: 3 * number + 3,
+        })?;
+    }
+    Ok((text, names))
+}
+
+/// `a plan`, or the fault that is printed.
+fn answer(alloc: Global, text: Vec<u8>, elements: Vec<Element>) -> Result<String, Fail> {
+    let source = Source::new(text, elements);
+    match resolve(alloc, &source, &Binding::one_bus()) {
+        Ok(_) => Ok(String::from_str(alloc, "a plan")?),
+        Err(fault) => Ok(fault.to_string(alloc)?),
+    }
+}
+
+#[test]
+fn programs(rt: HostRuntime) -> Result<(), Fail> {
+    let alloc = rt.alloc();
+    for (count, wanted) in [(64, "a plan"), (65, "name fault 11 at 1:193")] {
+        let (text, names) = different_names(alloc, count)?;
+        let mut elements = Vec::new(alloc);
+        for name in &names {
+            let program = Program::new(*name, Vec::new(alloc), Vec::new(alloc));
+            elements.push(Element::Program(program))?;
+        }
+        assert_eq!(rt; answer(alloc, text, elements)?.as_str(), wanted);
+    }
+    Ok(())
+}
+
+#[test]
+fn variables(rt: HostRuntime) -> Result<(), Fail> {
+    let alloc = rt.alloc();
+    for (count, wanted) in [(4096, "a plan"), (4097, "name fault 11 at 1:12289")] {
+        let (text, names) = different_names(alloc, count)?;
+        let mut declarations = Vec::new(alloc);
+        declarations.push(Declaration::new(names, Specification::Bool, None))?;
+        let mut elements = Vec::new(alloc);
+        let name = Name { from: 0, to: 1 };
+        let program = Program::new(name, declarations, Vec::new(alloc));
+        elements.push(Element::Program(program))?;
+        assert_eq!(rt; answer(alloc, text, elements)?.as_str(), wanted);
+    }
+    Ok(())
+}
