@@ -1,5 +1,5 @@
 -- The task of a source program that has no fault keeps the limits.
-use Rattle.std.proofs.Common.{◌≡◌, ℕ, zero, suc, ◌≤◌, List, [], ◌∷◌, map, length, refl, sym, ap, ◌∙◌, ◌⊎◌, inl, inr, arith}
+use Rattle.std.proofs.Common.{◌≡◌, ℕ, zero, suc, ◌≤◌, List, [], ◌∷◌, map, length, refl, sym, ap, inl, inr, arith}
 use Rattle.std.specs.Prelude.{Option, Some, None, slice_get, flat_map}
 use Rattle.std.proofs.Math.ListN.{length-map}
 use Rattle.std.proofs.lemmas.List.Concat.{length-flat_map}
@@ -10,7 +10,7 @@ use Rattle.ilscope.specs.Declarations.{declared_programs}
 use Rattle.ilscope.specs.declared.fault.NameCause.TheVariants.{TooMany}
 use Rattle.limits.specs.Limits.{most_words}
 use Rattle.ilplan.specs.Plans.{KeepsLimits, all_lines, types_of, initials_of}
-use Rattle.ilsyms.specs.Faults.{IsTooMany, IsWellNamed}
+use Rattle.ilsyms.specs.Faults.{IsWellNamed}
 use Rattle.ilsyms.specs.Resolved.{instance_of, task_of_tree}
 use Rattle.ilsyms.specs.Variables.{slots_of_tree, lines_of, uses_of}
 use Rattle.ilsyms.proofs.CountedUses.{few_constants}

@@ -1,6 +1,6 @@
 -- A name's number is the place of its variable in the store.
-use Rattle.std.proofs.Common.{◌≡◌, ℕ, zero, suc, ◌+◌, ◌<◌, List, [], ◌∷◌, ◌++◌, map, length, Bool, true, false, ◌&&◌, ◌||◌, cond, refl, sym, ap, ◌∙◌, subst, arith, length-append}
-use Rattle.std.specs.Prelude.{Option, Some, None, option_map, flat_map, bytes_eq, ⊤}
+use Rattle.std.proofs.Common.{◌≡◌, ℕ, suc, ◌+◌, ◌<◌, List, [], ◌∷◌, ◌++◌, map, length, Bool, true, false, cond, refl, ap, ◌∙◌, arith, length-append}
+use Rattle.std.specs.Prelude.{Option, Some, None, option_map, bytes_eq, ⊤}
 use Rattle.std.specs.Option.{option_map_or}
 use Rattle.std.specs.List.{list_any, position_or_len}
 use Rattle.std.proofs.Math.ListN.{length-map}
@@ -8,7 +8,7 @@ use Rattle.std.proofs.lemmas.Grind.{flat_map-append}
 use Rattle.ilsource.specs.declared.name.Name.{Name}
 use Rattle.ilsource.specs.Names.{folded}
 use Rattle.ilscope.specs.Declarations.{DeclaredProgram}
-use Rattle.ilscope.specs.Tables.{first_at, variable_number}
+use Rattle.ilscope.specs.Tables.{variable_number}
 use Rattle.ilscope.specs.declared.variable.Variable.{Variable}
 use Rattle.ilplan.specs.declared.instance.Slot.{Slot}
 use Rattle.ilsyms.specs.Meaning.{same_name, is_under, place_in_store}

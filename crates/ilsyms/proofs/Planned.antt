@@ -1,6 +1,6 @@
 -- The instances of programs, one program after another.
 use Rattle.std.proofs.Common.{◌≡◌, ℕ, suc, ◌+◌, ◌<◌, ◌≤◌, List, [], ◌∷◌, ◌++◌, map, length, take, drop, get_or}
-use Rattle.std.proofs.Common.{refl, sym, ap, ◌∙◌, subst, add-one, arith, length-append}
+use Rattle.std.proofs.Common.{sym, ap, ◌∙◌, subst, add-one, arith, length-append}
 use Rattle.std.proofs.Math.ListN.{length-map}
 use Rattle.std.proofs.Math.Seq.{drop-cons}
 use Rattle.std.proofs.lemmas.Grind.{flat_map-append}
@@ -14,11 +14,11 @@ use Rattle.ilscope.specs.Declarations.{DeclaredProgram}
 use Rattle.ilscope.proofs.Least.{take_more}
 use Rattle.ilplan.specs.declared.instance.Slot.{Slot}
 use Rattle.ilplan.specs.Plans.{PlannedInstance}
-use Rattle.ilsyms.specs.PlanningSteps.{Numbering, number_of, numbers}
+use Rattle.ilsyms.specs.PlanningSteps.{numbers}
 use Rattle.ilsyms.specs.Resolved.{slot_numbers, label_number, instance_of}
 use Rattle.ilsyms.specs.Variables.{slot, slots_of_program, slots_of, lines_of}
 use Rattle.ilsyms.proofs.Distinct.{AreApart, others_around}
-use Rattle.ilsyms.proofs.Numbers.{AreOthers, numbering, number_is_place}
+use Rattle.ilsyms.proofs.Numbers.{numbering, number_is_place}
 use Rattle.ilsyms.proofs.Renamed.{shallow_append, straight_append}
 
 -- a list in which an element stands

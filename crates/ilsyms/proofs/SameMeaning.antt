@@ -3,9 +3,9 @@ use Rattle.std.proofs.Common.{◌≡◌, ℕ, List, [], ◌∷◌, map, refl, sy
 use Rattle.std.specs.Prelude.{Option, Some, None}
 use Rattle.std.specs.Option.{option_map, option_and_then}
 use Rattle.iltypes.specs.declared.value.Value.{Value}
-use Rattle.iltrees.specs.Meaning.{Access, On}
+use Rattle.iltrees.specs.Meaning.{On}
 use Rattle.iltrees.specs.Passes.{passes, scan}
-use Rattle.iltrees.specs.Renaming.{IsSeen, IsRenamed, rename_line}
+use Rattle.iltrees.specs.Renaming.{IsSeen, IsRenamed}
 use Rattle.iltrees.proofs.KeptMeaning.{renamed_same, operand_same}
 use Rattle.ilsource.specs.declared.name.Name.{Name}
 use Rattle.ilsource.specs.Trees.{Tree}

@@ -1,5 +1,5 @@
 -- The initial values of slots are of their types.
-use Rattle.std.proofs.Common.{ℕ, zero, suc, List, [], ◌∷◌, ◌++◌, map, arith}
+use Rattle.std.proofs.Common.{suc, List, [], ◌∷◌, ◌++◌, map, arith}
 use Rattle.std.specs.Prelude.{All}
 use Rattle.iltypes.specs.Values.{AreOf}
 use Rattle.ilsource.specs.declared.name.Name.{Name}

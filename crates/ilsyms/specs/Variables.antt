@@ -1,6 +1,6 @@
 -- The variables of a source program's task, its lines and what they use, in the order of the text. Without a
 -- configuration a text has one task with one instance of each program, under the program's name (profile).
-use Rattle.std.specs.Prelude.{ℕ, List, flat_map, map}
+use Rattle.std.specs.Prelude.{List, flat_map, map}
 use Rattle.iltrees.specs.declared.instruction.Line.{Line}
 use Rattle.iltrees.specs.declared.uses.Use.{Use}
 use Rattle.iltrees.specs.Uses.{uses_in}

@@ -1,4 +1,4 @@
-use Rattle.std.proofs.Common.{◌≡◌, ℕ, ◌<◌, ◌∙◌, ap, get_or, length, List, [], ◌∷◌, ◌++◌, map, arith, sym, subst}
+use Rattle.std.proofs.Common.{◌≡◌, ℕ, ◌<◌, ◌∙◌, ap, get_or, length, List, [], ◌∷◌, ◌++◌, map, arith, subst}
 use Rattle.iltrees.specs.Renaming.{rename_line}
 use Rattle.iltrees.specs.Words.{AreShallow, AreStraight}
 use Rattle.ilsource.specs.Programs.{Written}

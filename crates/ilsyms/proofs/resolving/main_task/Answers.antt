@@ -1,7 +1,6 @@
-use Rattle.std.proofs.Common.{rules, subst, sym, ap, ◌≡◌, ◌∙◌}
+use Rattle.std.proofs.Common.{subst, sym}
 use Rattle.std.specs.Prelude.{false}
 use Rattle.ilplan.specs.Plans.{PlannedTask, KeepsLimits, task_of}
-use Rattle.ilsyms.specs.Resolved.{task_of_tree}
 use Rattle.ilsyms.proofs.Limits.{keeps_limits}
 use Rattle.ilsyms.proofs.TypedSlots.{initials_typed}
 use Rattle.ilsyms.proofs.resolving.main_task.Goals as goal

@@ -1,4 +1,4 @@
-use Rattle.std.proofs.Common.{rules, ap, sym, subst, ◌≡◌, ◌∙◌, ◌++◌, [], List, take}
+use Rattle.std.proofs.Common.{ap, sym, subst, ◌∙◌, ◌++◌, [], List, take}
 use Rattle.std.specs.Prelude.{None}
 use Rattle.iltrees.specs.declared.uses.Use.{Use}
 use Rattle.ilsource.specs.Programs.{Written}

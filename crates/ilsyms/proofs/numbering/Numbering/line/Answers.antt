@@ -1,8 +1,6 @@
-use Rattle.std.proofs.Common.{◌≡◌, ◌∙◌, ℕ, sym, ap, Option, Some, None}
+use Rattle.std.proofs.Common.{◌≡◌, ◌∙◌, sym, ap, Some, None}
 use Rattle.std.specs.Option.{option_map}
-use Rattle.iltrees.specs.declared.instruction.Instruction.{Instruction}
 use Rattle.iltrees.specs.Renaming.{rename}
-use Rattle.ilsource.specs.declared.name.Name.{Name}
 use Rattle.ilsyms.specs.PlanningSteps.{numbers}
 use Rattle.ilsyms.proofs.Renamed.{no_label}
 use Rattle.ilsyms.proofs.numbering.Numbering.line.Goals as goal

@@ -1,4 +1,4 @@
-use Rattle.std.proofs.Common.{◌≡◌, ◌∙◌, [], ◌∷◌, ◌++◌, map, sym, ap, take}
+use Rattle.std.proofs.Common.{◌∙◌, [], ◌∷◌, ◌++◌, map, sym, ap, take}
 use Rattle.std.proofs.lemmas.List.{take_all, map-append}
 use Rattle.iltrees.specs.Renaming.{rename_line}
 use Rattle.ilscope.proofs.Least.{take_more}
