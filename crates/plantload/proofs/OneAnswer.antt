@@ -1,6 +1,8 @@
 -- A text is loaded as one thing at most: its setup, or the one fault that stands against it.
-use Rattle.std.proofs.Common.{◌≡◌, ℕ, zero, suc, ◌<◌, List, [], ◌∷◌, Result, Ok, Err, Some, refl, sym, ap, ◌∙◌, subst, arith, inl, inr}
+use Rattle.std.proofs.Common.{◌≡◌, ℕ, ◌<◌, List, [], ◌∷◌, Result, Ok, Err, Some, refl, sym, ap, ap₂, ◌∙◌, subst, arith}
+use Rattle.std.proofs.Common.{inl, inr}
 use Rattle.std.specs.Prelude.{slice_get}
+use Rattle.std.specs.List.{AllZip}
 use Rattle.std.proofs.lemmas.Bool.{cases_lt}
 use Rattle.ilsource.specs.Trees.{Tree}
 use Rattle.iltext.specs.Parsing.{IsText}
@@ -16,20 +18,20 @@ use Rattle.ilsyms.proofs.OnePlan.{one_plan}
 use Rattle.ilcode.specs.declared.instruction.Instruction.{Instruction}
 use Rattle.ilcode.specs.Listings.{Listing}
 use Rattle.ilcode.specs.Paths.{IsBound}
-use Rattle.ilcompile.specs.Layout.{laid_out}
 use Rattle.ilverify.specs.declared.verifier.Refusal.{Refusal}
-use Rattle.ilverify.specs.Certificates.{IsCertified, IsRefusal}
+use Rattle.ilverify.specs.Certificates.{IsRefusal}
 use Rattle.ilverify.specs.Verdicts.{Accepted}
 use Rattle.ilverify.proofs.Refusals.{same_refusal}
-use Rattle.plantload.specs.Loaded.{AreCodes, IsCodeOf, Loaded, Refused}
+use Rattle.plantload.specs.Loaded.{AreCodes, IsCodeOf, Loaded, Refused, listing_for}
 use Rattle.plantload.specs.Loading.{IsFirstRefused, IsLoadFault, IsLoaded, IsPlanFault, IsPlanOfText, IsSetup}
 use Rattle.plantload.specs.declared.fault.LoadFault.{LoadFault}
 use Rattle.plantload.specs.declared.fault.LoadFault.TheVariants.{Memory, Text, Name, Code}
+use Rattle.plantload.proofs.CodeLemmas.{certified_at}
 
 -- ---- codes
 
 -- words have one greatest path's length
-pub same_bound : (words : List Instruction) (a b : ℕ) → IsBound words a → IsBound words b → a ≡ b
+same_bound : (words : List Instruction) (a b : ℕ) → IsBound words a → IsBound words b → a ≡ b
 same_bound words a b h g =
     let up = g.greatest h.path h.is in
     let down = h.greatest g.path g.is in
@@ -38,37 +40,30 @@ same_bound words a b h g =
     omega (arith, up, down, mine, its)
 
 -- a task has one code
-same_code : (buses : ℕ) (t : PlannedTask) (a b : Accepted) → IsCodeOf buses t a → IsCodeOf buses t b → a ≡ b
-same_code buses t a b h g =
+same_code : (plan : Planned) (t : PlannedTask) (a b : Accepted) → IsCodeOf plan t a → IsCodeOf plan t b → a ≡ b
+same_code plan t a b h g =
     let code : a.code ≡ b.code = h.laid ∙ sym g.laid in
-    let bound : a.bound ≡ b.bound =
-    same_bound b.code.instructions a.bound b.bound (subst (λ (l : Listing). IsBound l.instructions a.bound) code h.bound) g.bound in
+    let mine = subst (λ (l : Listing). IsBound l.instructions a.bound) code h.bound in
+    let bound : a.bound ≡ b.bound = same_bound b.code.instructions a.bound b.bound mine g.bound in
     λ i. record { code = code i; bound = bound i }
 
-same_codes : (buses : ℕ) (tasks : List PlannedTask) (a b : List Accepted) → AreCodes buses tasks a → AreCodes buses tasks b → a ≡ b
-same_codes buses [] [] [] h g = refl
-same_codes buses [] [] (y ∷ b) h g = absurd g
-same_codes buses [] (x ∷ a) b h g = absurd h
-same_codes buses (t ∷ tasks) [] b h g = absurd h
-same_codes buses (t ∷ tasks) (x ∷ a) [] h g = absurd g
-same_codes buses (t ∷ tasks) (x ∷ a) (y ∷ b) h g =
-    let e = same_code buses t x y h.0 g.0 in
-    let f = same_codes buses tasks a b h.1 g.1 in
-    cc
+codes_same : (plan : Planned) (tasks : List PlannedTask) (a b : List Accepted) → AllZip (IsCodeOf plan) tasks a
+    → AllZip (IsCodeOf plan) tasks b → a ≡ b
+codes_same plan [] [] [] h g = refl
+codes_same plan [] [] (y ∷ b) h g = absurd g
+codes_same plan [] (x ∷ a) b h g = absurd h
+codes_same plan (t ∷ tasks) [] b h g = absurd h
+codes_same plan (t ∷ tasks) (x ∷ a) [] h g = absurd g
+codes_same plan (t ∷ tasks) (x ∷ a) (y ∷ b) h g =
+    ap₂ (λ (c : Accepted) (cs : List Accepted). c ∷ cs) (same_code plan t x y h.0 g.0) (codes_same plan tasks a b h.1 g.1)
 
-certified_at : (buses : ℕ) (tasks : List PlannedTask) (codes : List Accepted) (k : ℕ) (t : PlannedTask) → AreCodes buses tasks codes
-    → slice_get tasks k ≡ Some t → IsCertified (laid_out buses t)
-certified_at buses [] codes zero t h e = absurd (cc)
-certified_at buses [] codes (suc k) t h e = absurd (cc)
-certified_at buses (x ∷ tasks) [] k t h e = absurd h
-certified_at buses (x ∷ tasks) (code ∷ codes) zero t h e =
-    let same : x ≡ t = cc in subst (λ (u : PlannedTask). IsCertified (laid_out buses u)) same h.0.certified
-certified_at buses (x ∷ tasks) (code ∷ codes) (suc k) t h e = certified_at buses tasks codes k t h.1 e
+same_codes : (plan : Planned) (a b : List Accepted) → AreCodes plan a → AreCodes plan b → a ≡ b
+same_codes plan a b h g = codes_same plan plan.tasks a b h g
 
 -- where all tasks have codes, none is refused
-pub none_refused : (plan : Planned) (codes : List Accepted) (k : ℕ) (refusal : Refusal) → AreCodes plan.buses plan.tasks codes
+none_refused : (plan : Planned) (codes : List Accepted) (k : ℕ) (refusal : Refusal) → AreCodes plan codes
     → IsFirstRefused plan k refusal → ⊥
-none_refused plan codes k refusal h f = f.refused.uncertified (certified_at plan.buses plan.tasks codes k f.task h f.is)
+none_refused plan codes k refusal h f = f.refused.uncertified (certified_at plan codes k f.task h f.is)
 
 -- a plan has one first task that is refused
 same_number : (plan : Planned) (j k : ℕ) (r q : Refusal) → IsFirstRefused plan j r → IsFirstRefused plan k q → j ≡ k
@@ -86,9 +81,11 @@ same_reason plan k r q f g =
     let mine = f.is in
     let its = g.is in
     let task : g.task ≡ f.task = cc in
-    same_refusal (laid_out plan.buses f.task) r q f.refused (subst (λ (t : PlannedTask). IsRefusal (laid_out plan.buses t) q) task g.refused)
+    let its_refusal = subst (λ (t : PlannedTask). IsRefusal (listing_for plan t) q) task g.refused in
+    same_refusal (listing_for plan f.task) r q f.refused its_refusal
 
-pub same_refused : (plan : Planned) (j k : ℕ) (r q : Refusal) → IsFirstRefused plan j r → IsFirstRefused plan k q → (j ≡ k) × (r ≡ q)
+same_refused : (plan : Planned) (j k : ℕ) (r q : Refusal) → IsFirstRefused plan j r → IsFirstRefused plan k q
+    → (j ≡ k) × (r ≡ q)
 same_refused plan j k r q f g =
     let number = same_number plan j k r q f g in
     (number, same_reason plan k r q (subst (λ (n : ℕ). IsFirstRefused plan n r) number f) g)
@@ -104,8 +101,8 @@ module _ (buses : ℕ) (bytes : List ℕ) where
   pub same_setup : (a b : Loaded) → IsSetup buses bytes a → IsSetup buses bytes b → a ≡ b
   same_setup a b h g =
       let plan : a.plan ≡ b.plan = same_plan a.plan b.plan h.plan g.plan in
-      let codes : a.codes ≡ b.codes =
-      same_codes b.plan.buses b.plan.tasks a.codes b.codes (subst (λ (p : Planned). AreCodes p.buses p.tasks a.codes) plan h.codes) g.codes in
+      let mine = subst (λ (p : Planned). AreCodes p a.codes) plan h.codes in
+      let codes : a.codes ≡ b.codes = same_codes b.plan a.codes b.codes mine g.codes in
       λ i. record { plan = plan i; codes = codes i }
 
   -- bytes with a plan have no fault of texts and names
@@ -140,15 +137,16 @@ module _ (buses : ℕ) (bytes : List ℕ) where
   no_fault setup (Code refused) h f =
       let plan : setup.plan ≡ refused.plan = same_plan setup.plan refused.plan h.plan f.0 in
       none_refused refused.plan setup.codes refused.task refused.refusal
-      (subst (λ (p : Planned). AreCodes p.buses p.tasks setup.codes) plan h.codes) f.1
+      (subst (λ (p : Planned). AreCodes p setup.codes) plan h.codes) f.1
 
   -- bytes have one first task that is refused
   pub same_refused_task : (a b : Refused) → IsPlanOfText buses bytes a.plan → IsFirstRefused a.plan a.task a.refusal
       → IsPlanOfText buses bytes b.plan → IsFirstRefused b.plan b.task b.refusal → a ≡ b
   same_refused_task a b p f q g =
       let plan : a.plan ≡ b.plan = same_plan a.plan b.plan p q in
+      let mine = subst (λ (x : Planned). IsFirstRefused x a.task a.refusal) plan f in
       let rest : (a.task ≡ b.task) × (a.refusal ≡ b.refusal) =
-      same_refused b.plan a.task b.task a.refusal b.refusal (subst (λ (x : Planned). IsFirstRefused x a.task a.refusal) plan f) g in
+      same_refused b.plan a.task b.task a.refusal b.refusal mine g in
       λ i. record { plan = plan i; task = rest.0 i; refusal = rest.1 i }
 
   pub same_fault : (a b : LoadFault) → IsLoadFault buses bytes a → IsLoadFault buses bytes b → a ≡ b

@@ -1,12 +1,14 @@
 -- What is loaded of a text, as contracts see it: a plan, and for each of its tasks an accepted code (IEC 61131-3,
 -- 2.7.2, and profile).
-use Rattle.std.specs.Prelude.{◌≡◌, ℕ, List, [], ◌∷◌, map, ⊤}
+use Rattle.std.specs.Prelude.{◌≡◌, ℕ, List, map}
 use Rattle.std.specs.Arc.{arc_value}
+use Rattle.std.specs.List.{AllZip}
 use Rattle.std.specs.declared.alloc.Global.{Global}
 use Rattle.std.specs.declared.sync.Arc.{Arc}
 use Rattle.ilsyms.specs.Plans.{Planned, PlannedTask}
-use Rattle.ilcompile.specs.Layout.{laid_out}
+use Rattle.ilcode.specs.Listings.{Listing}
 use Rattle.ilcode.specs.Paths.{IsBound}
+use Rattle.ilcompile.specs.Layout.{laid_out}
 use Rattle.ilverify.specs.declared.verifier.Refusal.{Refusal}
 use Rattle.ilverify.specs.Certificates.{IsCertified}
 use Rattle.ilverify.specs.Verdicts.{Accepted}
@@ -32,16 +34,16 @@ refused_of plan task refusal = record { plan = plan; task = task; refusal = refu
 abbrev pub accepted_of : List (Arc Accepted Global) → List Accepted
 accepted_of codes = map (λ c. arc_value c) codes
 
--- the code is what is laid out for the task on this many buses; it has a certificate; and its bound is its greatest
--- path
-pub record IsCodeOf (buses : ℕ) (task : PlannedTask) (code : Accepted) : Type 0 where
-  pub laid : code.code ≡ laid_out buses task
-  pub certified : IsCertified (laid_out buses task)
+-- the code that is laid out for a task of a plan
+abbrev pub listing_for : Planned → PlannedTask → Listing
+listing_for plan task = laid_out plan.buses task
+
+-- the code is what is laid out for the task; it has a certificate; and its bound is its greatest path
+pub record IsCodeOf (plan : Planned) (task : PlannedTask) (code : Accepted) : Type 0 where
+  pub laid : code.code ≡ listing_for plan task
+  pub certified : IsCertified (listing_for plan task)
   pub bound : IsBound code.code.instructions code.bound
 
--- for each task, in order, its code
-abbrev pub AreCodes : ℕ → List PlannedTask → List Accepted → Type 0
-AreCodes buses [] [] = ⊤
-AreCodes buses (task ∷ tasks) (code ∷ codes) = IsCodeOf buses task code × AreCodes buses tasks codes
-AreCodes buses [] (code ∷ codes) = ⊥
-AreCodes buses (task ∷ tasks) [] = ⊥
+-- for each task of the plan, in order, its code
+abbrev pub AreCodes : Planned → List Accepted → Type 0
+AreCodes plan codes = AllZip (IsCodeOf plan) plan.tasks codes

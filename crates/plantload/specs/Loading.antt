@@ -7,10 +7,9 @@ use Rattle.ilsyms.specs.Faults.{IsFault, IsWellNamed}
 use Rattle.ilsyms.specs.Plans.{Planned, PlannedTask}
 use Rattle.ilsyms.specs.Resolved.{IsPlanOf}
 use Rattle.ilscope.specs.Told.{TellsLeast}
-use Rattle.ilcompile.specs.Layout.{laid_out}
 use Rattle.ilverify.specs.declared.verifier.Refusal.{Refusal}
 use Rattle.ilverify.specs.Certificates.{IsCertified, IsRefusal}
-use Rattle.plantload.specs.Loaded.{AreCodes, Loaded}
+use Rattle.plantload.specs.Loaded.{AreCodes, Loaded, listing_for}
 use Rattle.plantload.specs.declared.fault.LoadFault.{LoadFault}
 use Rattle.plantload.specs.declared.fault.LoadFault.TheVariants.{Memory, Text, Name, Code}
 
@@ -24,15 +23,15 @@ pub record IsPlanOfText (buses : ℕ) (bytes : List ℕ) (plan : Planned) : Type
 -- the bytes' plan, with the code of each of its tasks
 pub record IsSetup (buses : ℕ) (bytes : List ℕ) (setup : Loaded) : Type 0 where
   pub plan : IsPlanOfText buses bytes setup.plan
-  pub codes : AreCodes setup.plan.buses setup.plan.tasks setup.codes
+  pub codes : AreCodes setup.plan setup.codes
 
 -- the task of this number is the first whose code has no certificate, and this is its refusal
 pub record IsFirstRefused (plan : Planned) (number : ℕ) (refusal : Refusal) : Type 0 where
   pub task : PlannedTask
   pub is : slice_get plan.tasks number ≡ Some task
   pub before : (k : ℕ) (t : PlannedTask) → k < number → slice_get plan.tasks k ≡ Some t
-      → IsCertified (laid_out plan.buses t)
-  pub refused : IsRefusal (laid_out plan.buses task) refusal
+      → IsCertified (listing_for plan t)
+  pub refused : IsRefusal (listing_for plan task) refusal
 
 -- why the bytes have no plan: the text's first fault, else the least fault of its names
 abbrev pub IsPlanFault : List ℕ → LoadFault → Type 0
@@ -59,8 +58,8 @@ IsLoaded buses bytes (Ok setup) = IsSetup buses bytes setup
 IsLoaded buses bytes (Err fault) = IsLoadFault buses bytes fault
 
 -- the allocator is out of memory, which may be at any time, or it is such a fault
-abbrev pub OrMemory : (LoadFault → Type 0) → LoadFault → Type 0
-OrMemory Faults Memory = ⊤
-OrMemory Faults (Text fault) = Faults (Text fault)
-OrMemory Faults (Name fault) = Faults (Name fault)
-OrMemory Faults (Code refused) = Faults (Code refused)
+abbrev pub IsLoadFaultOrMemory : (LoadFault → Type 0) → LoadFault → Type 0
+IsLoadFaultOrMemory Faults Memory = ⊤
+IsLoadFaultOrMemory Faults (Text fault) = Faults (Text fault)
+IsLoadFaultOrMemory Faults (Name fault) = Faults (Name fault)
+IsLoadFaultOrMemory Faults (Code refused) = Faults (Code refused)

@@ -45,14 +45,14 @@ impl RefusedTask {
 
     /// The plan.
     pub fn plan(&self) -> &Plan
-        ensures { result.now ≡ self.now.plan }
+        ensures value { result.now ≡ self.now.plan }
     {
         &self.plan
     }
 
     /// The task's number in the plan.
     pub fn task(&self) -> usize
-        ensures same { result ≡ self.now.task }
+        ensures value { result ≡ self.now.task }
         ensures within { result < length self.now.plan.tasks }
     {
         self.task
@@ -60,7 +60,7 @@ impl RefusedTask {
 
     /// The task's name, as declared.
     pub fn task_name(&self) -> &str
-        ensures { option_map (λ t. t.name) (slice_get self.now.plan.tasks self.now.task)
+        ensures value { option_map (λ t. t.name) (slice_get self.now.plan.tasks self.now.task)
             ≡ Some result.now }
     {
         self.plan.task_name(self.task)
@@ -68,7 +68,7 @@ impl RefusedTask {
 
     /// The refusal of the task's code.
     pub fn refusal(&self) -> Refusal
-        ensures { result ≡ self.now.refusal }
+        ensures value { result ≡ self.now.refusal }
     {
         self.refusal
     }

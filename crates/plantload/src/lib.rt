@@ -7,9 +7,9 @@
 //! the definition to read first: a text has at most one such answer.
 #![tactic(auto)]
 
-pub mod fault;
-pub mod loading;
-pub mod setup;
+mod fault;
+mod loading;
+mod setup;
 
 pub use fault::{LoadFault, RefusedTask};
 pub use loading::{load, plan_of, setup_of};

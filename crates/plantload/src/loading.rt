@@ -3,11 +3,10 @@
 ghost use Rattle.std.specs.Prelude.{◌≡◌, ◌<◌, length, Result, IfErr, IfOk, IfSome, slice_get};
 ghost use Rattle.std.specs.Arc.{arc_value};
 ghost use Rattle.ilcode.specs.Paths.{IsBound};
-ghost use Rattle.ilcompile.specs.Layout.{laid_out};
 ghost use Rattle.ilverify.specs.Certificates.{IsError};
-ghost use Rattle.plantload.specs.Loaded.{AreCodes, IsCodeOf, Loaded};
+ghost use Rattle.plantload.specs.Loaded.{AreCodes, IsCodeOf, Loaded, listing_for};
 ghost use Rattle.plantload.specs.Loading.{IsCodeFault, IsLoadFault, IsLoaded, IsPlanFault};
-ghost use Rattle.plantload.specs.Loading.{IsPlanOfText, IsSetup, OrMemory};
+ghost use Rattle.plantload.specs.Loading.{IsLoadFaultOrMemory, IsPlanOfText, IsSetup};
 ghost use Rattle.plantload.specs.PrintedFaults.{of_error};
 ghost use Rattle.plantload.specs.declared.fault.LoadFault.{LoadFault};
 
@@ -29,7 +28,7 @@ use std::sync::Arc;
 /// That fault, or that the allocator is out of memory.
 pub fn load(alloc: Global, text: &[u8], binding: &Binding) -> Result<Setup, LoadFault>
     ensures setup { IfOk result (IsSetup binding.now.buses text.now) }
-    ensures fault { IfErr result (OrMemory (IsLoadFault binding.now.buses text.now)) }
+    ensures fault { IfErr result (IsLoadFaultOrMemory (IsLoadFault binding.now.buses text.now)) }
     // A text has at most one answer, but for out of memory.
     ensures one { (a b : Result Loaded LoadFault) → IsLoaded binding.now.buses text.now a
         → IsLoaded binding.now.buses text.now b → a ≡ b }
@@ -45,7 +44,7 @@ pub fn load(alloc: Global, text: &[u8], binding: &Binding) -> Result<Setup, Load
 /// That fault, or that the allocator is out of memory.
 pub fn plan_of(alloc: Global, text: &[u8], binding: &Binding) -> Result<Plan, LoadFault>
     ensures plan { IfOk result (IsPlanOfText binding.now.buses text.now) }
-    ensures fault { IfErr result (OrMemory (IsPlanFault text.now)) }
+    ensures fault { IfErr result (IsLoadFaultOrMemory (IsPlanFault text.now)) }
 {
     let source = parse(alloc, text)?;
     let plan = resolve(alloc, &source, binding)?;
@@ -59,8 +58,8 @@ pub fn plan_of(alloc: Global, text: &[u8], binding: &Binding) -> Result<Plan, Lo
 /// That task with its refusal, or that the allocator is out of memory.
 pub fn setup_of(alloc: Global, plan: Plan) -> Result<Setup, LoadFault>
     ensures plan { IfOk result (λ setup. setup.plan ≡ plan) }
-    ensures codes { IfOk result (λ setup. AreCodes plan.buses plan.tasks setup.codes) }
-    ensures fault { IfErr result (OrMemory (IsCodeFault plan)) }
+    ensures codes { IfOk result (λ setup. AreCodes plan setup.codes) }
+    ensures fault { IfErr result (IsLoadFaultOrMemory (IsCodeFault plan)) }
 {
     let mut codes = Vec::new(alloc);
     for task in 0..plan.tasks() {
@@ -87,9 +86,9 @@ fn fault_of(plan: Plan, task: usize, error: VerifyError) -> LoadFault
 fn code_of(alloc: Global, plan: &Plan, task: usize) -> Result<Arc<Verified>, VerifyError>
     requires { task < length plan.now.tasks }
     ensures code { IfOk result (λ code. IfSome (slice_get plan.now.tasks task)
-        (λ t. IsCodeOf plan.now.buses t (arc_value code))) }
+        (λ t. IsCodeOf plan.now t (arc_value code))) }
     ensures error { IfErr result (λ error. IfSome (slice_get plan.now.tasks task)
-        (λ t. IsError (laid_out plan.now.buses t) error)) }
+        (λ t. IsError (listing_for plan.now t) error)) }
 {
     let code = compile(alloc, plan, task).map_err(VerifyError::Memory)?;
     let verified = verify(alloc, code)?;

@@ -20,7 +20,7 @@ impl Model for Setup {
 
     ghost view = { λ s. record { plan = s.plan; codes = accepted_of s.codes.items } };
 
-    ghost invariant = { λ s. AreCodes s.plan.buses s.plan.tasks (accepted_of s.codes.items) };
+    ghost invariant = { λ s. AreCodes s.plan (accepted_of s.codes.items) };
 }
 
 impl Setup {
@@ -30,7 +30,7 @@ impl Setup {
 
     /// The setup of a plan and its tasks' codes.
     pub(crate) fn new(plan: Plan, codes: Vec<Arc<Verified>>) -> Setup
-        requires { AreCodes plan.buses plan.tasks (accepted_of codes.items) }
+        requires { AreCodes plan (accepted_of codes.items) }
         ensures { result ≡ loaded_of plan (accepted_of codes.items) }
     {
         Setup { plan, codes }
@@ -38,8 +38,8 @@ impl Setup {
 
     /// The plan.
     pub fn plan(&self) -> &Plan
-        ensures same { result.now ≡ self.now.plan }
-        ensures codes { AreCodes self.now.plan.buses self.now.plan.tasks self.now.codes }
+        ensures value { result.now ≡ self.now.plan }
+        ensures codes { AreCodes self.now.plan self.now.codes }
     {
         &self.plan
     }
@@ -47,9 +47,9 @@ impl Setup {
     /// The verified code of the task of this number.
     pub fn code(&self, task: usize) -> &Arc<Verified>
         requires { task < length self.now.plan.tasks }
-        ensures code { slice_get self.now.codes task ≡ Some (arc_value result.now) }
+        ensures value { slice_get self.now.codes task ≡ Some (arc_value result.now) }
         ensures of_task { IfSome (slice_get self.now.plan.tasks task)
-            (λ t. IsCodeOf self.now.plan.buses t (arc_value result.now)) }
+            (λ t. IsCodeOf self.now.plan t (arc_value result.now)) }
     {
         &self.codes[task]
     }

@@ -1,32 +1,35 @@
 use Rattle.std.proofs.Common.{◌≡◌, ◌<◌, length, Some, ap, ◌∙◌, arith, sym, subst}
 use Rattle.std.specs.Prelude.{slice_get, IfSome}
 use Rattle.std.specs.Arc.{arc_value}
-use Rattle.plantload.specs.Loaded.{Loaded, IsCodeOf}
+use Rattle.plantload.specs.Loaded.{Loaded, IsCodeOf, accepted_of}
 use Rattle.plantload.proofs.CodeLemmas.{as_many_shared, code_at, shared_at}
 use Rattle.plantload.proofs.setup.Setup.code.Goals as goal
 
 below : (c : goal.After-self) → c.args.task < length c.self.inside.codes.items
 below c =
-    let many = as_many_shared c.self.inside.plan.buses c.self.inside.plan.tasks c.self.inside.codes.items c.self.invariant in
+    let many = as_many_shared c.self.inside.plan c.self.inside.codes.items c.self.invariant in
     let same = ap (λ (l : Loaded). length l.plan.tasks) c.self.view_is in
     omega (arith, many, same, c.requires)
 
 pub index-requires : goal.index-requires
 index-requires c = let within = below c in omega (arith, within, c.self.inside.codes.ok)
 
-pub returns-clause-code : goal.returns-clause-code
-returns-clause-code c =
-    let many = as_many_shared c.self.inside.plan.buses c.self.inside.plan.tasks c.self.inside.codes.items c.self.invariant in
+pub returns-clause-value : goal.returns-clause-value
+returns-clause-value c =
+    let inside = c.self.inside in
+    let many = as_many_shared inside.plan inside.codes.items c.self.invariant in
     let same = ap (λ (l : Loaded). length l.plan.tasks) c.self.view_is in
-    let within : c.args.task < length c.self.inside.codes.items = omega (arith, many, same, c.requires) in
+    let within : c.args.task < length inside.codes.items = omega (arith, many, same, c.requires) in
     ap (λ (l : Loaded). slice_get l.codes c.args.task) (sym c.self.view_is)
-    ∙ shared_at c.self.inside.codes.items c.args.task c.index.result.now within c.index.ensures
+    ∙ shared_at inside.codes.items c.args.task c.index.result.now within c.index.ensures
 
 pub returns-clause-of_task : goal.returns-clause-of_task
 returns-clause-of_task c =
-    let many = as_many_shared c.self.inside.plan.buses c.self.inside.plan.tasks c.self.inside.codes.items c.self.invariant in
+    let inside = c.self.inside in
+    let code = arc_value c.index.result.now in
+    let many = as_many_shared inside.plan inside.codes.items c.self.invariant in
     let same = ap (λ (l : Loaded). length l.plan.tasks) c.self.view_is in
-    let within : c.args.task < length c.self.inside.codes.items = omega (arith, many, same, c.requires) in
-    let there = shared_at c.self.inside.codes.items c.args.task c.index.result.now within c.index.ensures in
-    subst (λ (l : Loaded). IfSome (slice_get l.plan.tasks c.args.task) (λ t. IsCodeOf l.plan.buses t (arc_value c.index.result.now))) c.self.view_is
-    (code_at _ _ _ c.args.task (arc_value c.index.result.now) c.self.invariant there)
+    let within : c.args.task < length inside.codes.items = omega (arith, many, same, c.requires) in
+    let there = shared_at inside.codes.items c.args.task c.index.result.now within c.index.ensures in
+    subst (λ (l : Loaded). IfSome (slice_get l.plan.tasks c.args.task) (λ t. IsCodeOf l.plan t code)) c.self.view_is
+    (code_at inside.plan (accepted_of inside.codes.items) c.args.task code c.self.invariant there)
