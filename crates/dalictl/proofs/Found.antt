@@ -17,9 +17,12 @@ pub text_given : (f : Found) (id : Text) (text : Option (Bor Text)) → option_m
     → given (option_map (λ s. s.now) text) ≡ given (first_of id (rows_of f))
 text_given f id text is = ap given (text_found f id text is)
 
-module _ {E : Type 0} (Gives : List ℕ → Result ℕ E → Type 0) (parses : (text : List ℕ) (read : Result ℕ E) → Gives text read → ParsesUnsigned 32 10 text read) (default : ℕ) where
+module _ {E : Type 0} (Gives : List ℕ → Result ℕ E → Type 0)
+    (parses : (text : List ℕ) (read : Result ℕ E) → Gives text read → ParsesUnsigned 32 10 text read)
+    (default : ℕ) where
   -- the number that was read of a text
-  number_read : (text : Text) (read : Option ℕ) → ReadsOne Gives text read → IsNumber default (Some text) (unwrap_or read default)
+  number_read : (text : Text) (read : Option ℕ) → ReadsOne Gives text read
+      → IsNumber default (Some text) (unwrap_or read default)
   number_read text (Some n) reads = λ numeral small. (parses text (Ok n) reads).1
   number_read text None reads = λ numeral small. absurd (parses text (Err reads.0) reads.1 (numeral, small))
 
@@ -28,7 +31,8 @@ module _ {E : Type 0} (Gives : List ℕ → Result ℕ E → Type 0) (parses : (
       → ((text : Text) → one_text f id ≡ Some text → ReadsOne Gives text read)
       → IsNumber default (one_of id (rows_of f)) (unwrap_or read default)
   number_given f id read none value =
-      subst (λ (text : Option Text). IsNumber default text (unwrap_or read default)) (one_text-rows f id) (go (one_text f id) refl)
+      subst (λ (text : Option Text). IsNumber default text (unwrap_or read default)) (one_text-rows f id)
+      (go (one_text f id) refl)
     where
       go : (text : Option Text) → one_text f id ≡ text → IsNumber default text (unwrap_or read default)
       go None is = ap (λ (o : Option ℕ). unwrap_or o default) (none is)

@@ -1,9 +1,9 @@
+mod BindingStops
+mod FileFronts
 mod Found
-mod Initials
 mod MadeScans
 mod MeantScans
 mod OneStep
 mod Parsed
 mod ReportedLines
-mod Taken
-mod Told
+mod TaskNames

@@ -1,9 +1,10 @@
 -- Scans of a task of a text have one answer at most.
-use Rattle.std.proofs.Common.{◌≡◌, ℕ, zero, suc, ◌+◌, ◌*◌, ◌<◌, List, [], ◌∷◌, ◌++◌, length, Option, Some, None, Result, Ok, Err, refl, sym, ap, ◌∙◌, subst, arith, inl, inr}
+use Rattle.std.proofs.Common.{◌≡◌, ℕ, zero, suc, ◌+◌, ◌*◌, ◌<◌, List, [], ◌∷◌, ◌++◌, length, Option, Some, None}
+use Rattle.std.proofs.Common.{Result, Ok, Err, refl, sym, ap, ◌∙◌, subst, arith, inl, inr}
 use Rattle.std.specs.Prelude.{slice_get}
 use Rattle.std.proofs.lemmas.Bool.{cases_lt}
 use Rattle.iltypes.specs.declared.value.Value.{Value}
-use Rattle.ilsyms.specs.Plans.{Planned, PlannedTask}
+use Rattle.ilplan.specs.Plans.{Planned, PlannedTask, initials_of}
 use Rattle.ilcode.specs.Listings.{Listing}
 use Rattle.ilcode.specs.Steps.{Configuration, at, after, start, Ends}
 use Rattle.ilcode.proofs.Runs.{run_place}
@@ -17,43 +18,45 @@ use Rattle.dalictl.specs.declared.scans.Taken.{Taken}
 use Rattle.dalictl.specs.declared.stop.Stop.{Stop}
 use Rattle.dalictl.specs.declared.stop.Stop.TheVariants.{Memory, Binding, Load, NoTask}
 use Rattle.dalictl.specs.Answered.{IsAfterName, IsChecked, IsFirstCalled, IsStep, IsStepStop, IsStepped, NoneIsCalled}
-use Rattle.dalictl.specs.Stepping.{AreScansOf, IsScanAt, Run, ScansTo, initials_of}
+use Rattle.dalictl.specs.Stepping.{AreScansOf, IsScanAt, Run, ScansTo}
 
 -- ---- scans
 
 -- a run ends after one number of steps, with one list of values
-same_end : (code : Listing) (from : List Value) (m n : ℕ) (a b : List Value) → Ends code from m a → Ends code from n b → (m ≡ n) × (a ≡ b)
+same_end : (code : Listing) (from : List Value) (m n : ℕ) (a b : List Value) → Ends code from m a → Ends code from n b
+    → (m ≡ n) × (a ≡ b)
 same_end code from m n a b h g =
-    let mine : length code.instructions ≡ m = run_place code from m _ h.run.is in
-    let its : length code.instructions ≡ n = run_place code from n _ g.run.is in
+    let end = length code.instructions in
+    let mine : end ≡ m = run_place code from m _ h.run.is in
+    let its : end ≡ n = run_place code from n _ g.run.is in
     let steps : m ≡ n = sym mine ∙ its in
-    let one : after code (start from) n ≡ Some (at (length code.instructions) a h.result) =
-    subst (λ (k : ℕ). after code (start from) k ≡ Some (at (length code.instructions) a h.result)) steps h.run.is in
-    let both : Some (at (length code.instructions) a h.result) ≡ Some (at (length code.instructions) b g.result) = sym one ∙ g.run.is in
-    let ends : at (length code.instructions) a h.result ≡ at (length code.instructions) b g.result = cc in
+    let one = subst (λ (k : ℕ). after code (start from) k ≡ Some (at end a h.result [])) steps h.run.is in
+    let both : Some (at end a h.result []) ≡ Some (at end b g.result []) = sym one ∙ g.run.is in
+    let ends : at end a h.result [] ≡ at end b g.result [] = cc in
     (steps, ap (λ (c : Configuration). c.slots) ends)
 
-same_scan : (code : Accepted) (moment : ℕ) (from : List Value) (s t : Taken) (a b : List Value) → IsScanAt code moment from s a
-    → IsScanAt code moment from t b → (s ≡ t) × (a ≡ b)
+same_scan : (code : Accepted) (moment : ℕ) (from : List Value) (s t : Taken) (a b : List Value)
+    → IsScanAt code moment from s a → IsScanAt code moment from t b → (s ≡ t) × (a ≡ b)
 same_scan code moment from s t a b h g =
     let ends = same_end code.code from s.steps t.steps a b h.scan.run g.scan.run in
     let moments = h.at_moment ∙ sym g.at_moment in
     (λ i. record { moment = moments i; steps = ends.0 i }, ends.1)
 
 -- the scans and the values that two runs of the same scans leave
-same_scans : (code : Accepted) (every scans : ℕ) (from : List Value) (s t : List Taken) (a b : List Value) → ScansTo code every scans from s a
-    → ScansTo code every scans from t b → (s ≡ t) × (a ≡ b)
+same_scans : (code : Accepted) (every scans : ℕ) (from : List Value) (s t : List Taken) (a b : List Value)
+    → ScansTo code every scans from s a → ScansTo code every scans from t b → (s ≡ t) × (a ≡ b)
 same_scans code every zero from s t a b h g = (h.0 ∙ sym g.0, h.1 ∙ sym g.1)
 same_scans code every (suc scans) from s t a b h g =
     let before = same_scans code every scans from h.0 g.0 h.1 g.1 h.3 g.3 in
-    let its : IsScanAt code (scans * every) g.1 h.2 a = subst (λ (vs : List Value). IsScanAt code (scans * every) vs h.2 a) before.1 h.4 in
-    let last = same_scan code (scans * every) g.1 h.2 g.2 a b its g.4 in
-    let fronts = before.0 in
-    let ends = last.0 in
-    (h.5 ∙ ap (λ (ts : List Taken). ts ++ h.2 ∷ []) fronts ∙ ap (λ (x : Taken). g.0 ++ x ∷ []) ends ∙ sym g.5, last.1)
+    let moment = scans * every in
+    let its = subst (λ (vs : List Value). IsScanAt code moment vs h.2 a) before.1 h.4 in
+    let last = same_scan code moment g.1 h.2 g.2 a b its g.4 in
+    let fronts = ap (λ (ts : List Taken). ts ++ h.2 ∷ []) before.0 in
+    let ends = ap (λ (x : Taken). g.0 ++ x ∷ []) last.0 in
+    (h.5 ∙ fronts ∙ ends ∙ sym g.5, last.1)
 
-same_runs : (setup : Loaded) (number scans every : ℕ) (s t : List Taken) (a b : List Value) → AreScansOf setup number scans every s a
-    → AreScansOf setup number scans every t b → (s ≡ t) × (a ≡ b)
+same_runs : (setup : Loaded) (number scans every : ℕ) (s t : List Taken) (a b : List Value)
+    → AreScansOf setup number scans every s a → AreScansOf setup number scans every t b → (s ≡ t) × (a ≡ b)
 same_runs setup number scans every s t a b h g =
     let mine = h.is in
     let its = g.is in
@@ -97,48 +100,56 @@ module _ (buses : ℕ) (bytes : List ℕ) where
   one_check (Err (NoTask x)) b h g = absurd h
 
   module _ (name : List ℕ) (scans every : ℕ) where
-    same_steps : (a b : Run) → IsStepped buses bytes name scans every a → IsStepped buses bytes name scans every b → a ≡ b
+    abbrev IsRun : Run → Type 0
+    IsRun made = IsStepped buses bytes name scans every made
+
+    -- no task of the text's plan has the name
+    abbrev HasNone : Type 0
+    HasNone = (plan : Planned) × IsPlanOfText buses bytes plan × NoneIsCalled plan name
+
+    same_steps : (a b : Run) → IsRun a → IsRun b → a ≡ b
     same_steps a b h g =
         let setup : a.setup ≡ b.setup = same_setup buses bytes a.setup b.setup h.loaded g.loaded in
-        let called : IsFirstCalled b.setup.plan name a.task = subst (λ (s : Loaded). IsFirstCalled s.plan name a.task) setup h.task in
+        let called = subst (λ (s : Loaded). IsFirstCalled s.plan name a.task) setup h.task in
         let task : a.task ≡ b.task = same_task b.setup.plan name a.task b.task called g.task in
-        let runs : AreScansOf b.setup b.task scans every a.each a.values =
-        subst (λ (k : ℕ). AreScansOf b.setup k scans every a.each a.values) task
-        (subst (λ (s : Loaded). AreScansOf s a.task scans every a.each a.values) setup h.runs) in
+        let mine = subst (λ (s : Loaded). AreScansOf s a.task scans every a.each a.values) setup h.runs in
+        let runs = subst (λ (k : ℕ). AreScansOf b.setup k scans every a.each a.values) task mine in
         let left = same_runs b.setup b.task scans every a.each b.each a.values b.values runs g.runs in
         λ i. record { setup = setup i; task = task i; each = left.0 i; values = left.1 i }
 
+    none_called : (plan : Planned) (task : ℕ) → IsPlanOfText buses bytes plan → IsFirstCalled plan name task
+        → ¬ HasNone
+    none_called plan task is called none =
+        let same : plan ≡ none.0 = same_plan buses bytes plan none.0 is none.1 in
+        let its : IsFirstCalled none.0 name task = subst (λ (x : Planned). IsFirstCalled x name task) same called in
+        none.2 task its.within its.is
+
     -- where a plan has no task of the name, no setup of the text has one
-    no_task : (a : Run) → IsStepped buses bytes name scans every a → (plan : Planned) → IsPlanOfText buses bytes plan → NoneIsCalled plan name → ⊥
-    no_task a h plan p none =
-        let same : a.setup.plan ≡ plan = same_plan buses bytes a.setup.plan plan h.loaded.plan p in
-        let called : IsFirstCalled plan name a.task = subst (λ (x : Planned). IsFirstCalled x name a.task) same h.task in
-        none a.task called.within called.is
+    no_task : (a : Run) → IsRun a → ¬ HasNone
+    no_task a h none = none_called a.setup.plan a.task h.loaded.plan h.task none
 
     -- nor is a fault of the text reported before that
-    no_task_or_fault : (fault : LoadFault) → IsLoadFault buses bytes fault → IsAfterName name fault → (plan : Planned) → IsPlanOfText buses bytes plan
-        → NoneIsCalled plan name → ⊥
-    no_task_or_fault load_faults.Memory f after plan p none = f
-    no_task_or_fault (load_faults.Text x) f after plan p none = none_against buses bytes plan (load_faults.Text x) p f
-    no_task_or_fault (load_faults.Name x) f after plan p none = none_against buses bytes plan (load_faults.Name x) p f
-    no_task_or_fault (load_faults.Code refused) f after plan p none =
-        let same : refused.plan ≡ plan = same_plan buses bytes refused.plan plan f.0 p in
-        let called : IsFirstCalled plan name after.0 = subst (λ (x : Planned). IsFirstCalled x name after.0) same after.1 in
-        none after.0 called.within called.is
+    no_task_or_fault : (fault : LoadFault) → IsLoadFault buses bytes fault → IsAfterName name fault → ¬ HasNone
+    no_task_or_fault load_faults.Memory f after none = f
+    no_task_or_fault (load_faults.Text x) f after none = none_against buses bytes none.0 (load_faults.Text x) none.1 f
+    no_task_or_fault (load_faults.Name x) f after none = none_against buses bytes none.0 (load_faults.Name x) none.1 f
+    no_task_or_fault (load_faults.Code refused) f after none = none_called refused.plan after.0 f.0 after.1 none
 
-    pub one_step : (a b : Result Run Stop) → IsStep buses bytes name scans every a → IsStep buses bytes name scans every b → a ≡ b
+    pub one_step : (a b : Result Run Stop) → IsStep buses bytes name scans every a
+        → IsStep buses bytes name scans every b → a ≡ b
     one_step (Ok a) (Ok b) h g = ap Ok (same_steps a b h g)
     one_step (Ok a) (Err (Load y)) h g = absurd (no_fault buses bytes a.setup y h.loaded g.0)
-    one_step (Ok a) (Err (NoTask y)) h g = absurd (no_task a h g.1.0 g.1.1 g.1.2)
+    one_step (Ok a) (Err (NoTask y)) h g = absurd (no_task a h g.1)
     one_step (Ok a) (Err Memory) h g = absurd g
     one_step (Ok a) (Err (Binding y)) h g = absurd g
     one_step (Err (Load x)) (Ok b) h g = absurd (no_fault buses bytes b.setup x g.loaded h.0)
-    one_step (Err (Load x)) (Err (Load y)) h g = ap (λ (f : LoadFault). Err (Load f)) (same_fault buses bytes x y h.0 g.0)
-    one_step (Err (Load x)) (Err (NoTask y)) h g = absurd (no_task_or_fault x h.0 h.1 g.1.0 g.1.1 g.1.2)
+    one_step (Err (Load x)) (Err (Load y)) h g =
+        ap (λ (f : LoadFault). Err (Load f)) (same_fault buses bytes x y h.0 g.0)
+    one_step (Err (Load x)) (Err (NoTask y)) h g = absurd (no_task_or_fault x h.0 h.1 g.1)
     one_step (Err (Load x)) (Err Memory) h g = absurd g
     one_step (Err (Load x)) (Err (Binding y)) h g = absurd g
-    one_step (Err (NoTask x)) (Ok b) h g = absurd (no_task b g h.1.0 h.1.1 h.1.2)
-    one_step (Err (NoTask x)) (Err (Load y)) h g = absurd (no_task_or_fault y g.0 g.1 h.1.0 h.1.1 h.1.2)
+    one_step (Err (NoTask x)) (Ok b) h g = absurd (no_task b g h.1)
+    one_step (Err (NoTask x)) (Err (Load y)) h g = absurd (no_task_or_fault y g.0 g.1 h.1)
     one_step (Err (NoTask x)) (Err (NoTask y)) h g = ap (λ (n : List ℕ). Err (NoTask n)) (h.0 ∙ sym g.0)
     one_step (Err (NoTask x)) (Err Memory) h g = absurd g
     one_step (Err (NoTask x)) (Err (Binding y)) h g = absurd g

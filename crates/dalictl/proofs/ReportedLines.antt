@@ -4,8 +4,8 @@ use Rattle.std.proofs.lemmas.List.{append_assoc}
 use Rattle.std.specs.Io.KnownBytes.{Appends}
 use Rattle.iltypes.specs.declared.value.Value.{Value}
 use Rattle.ilsource.specs.Names.{text_of}
-use Rattle.ilsyms.specs.declared.planned.Slot.{Slot}
-use Rattle.ilsyms.specs.Plans.{PlannedTask}
+use Rattle.ilplan.specs.declared.instance.Slot.{Slot}
+use Rattle.ilplan.specs.Plans.{PlannedTask}
 use Rattle.ilverify.specs.Verdicts.{Accepted}
 use Rattle.dalictl.specs.Printed.{printed_task, printed_variable}
 use Rattle.dalictl.specs.Reports.{first_lines, of_both}
@@ -18,12 +18,16 @@ appended (Some a) (Some b) None xs ys first second = absurd second
 appended (Some a) (Some b) (Some c) xs ys first second = rw (second, first) (append_assoc a xs ys)
 
 pub one_line_more : (a b c : Option (List ℕ)) (line : ℕ → List ℕ) (lines : ℕ) (text : List ℕ)
-    → Appends a b (first_lines line lines) → Appends b c (text ++ 10 ∷ []) → line lines ≡ text → Appends a c (first_lines line (lines + 1))
-one_line_more a b c line lines text before last is = rw (add-one, is, append_assoc (first_lines line lines) text (10 ∷ [])) (appended a b c _ _ before last)
+    → Appends a b (first_lines line lines) → Appends b c (text ++ 10 ∷ []) → line lines ≡ text
+    → Appends a c (first_lines line (lines + 1))
+one_line_more a b c line lines text before last is =
+    rw (add-one, is, append_assoc (first_lines line lines) text (10 ∷ [])) (appended a b c _ _ before last)
 
-pub task_is : (o : Option PlannedTask) (p : Option Accepted) (name : List ℕ) (words bound : ℕ) → option_map (λ t. t.name) o ≡ Some name
-    → option_map (λ a. length a.code.instructions) p ≡ Some words → option_map (λ a. a.bound) p ≡ Some bound
-    → of_both (λ task code. printed_task task.name (length code.code.instructions) code.bound) o p ≡ printed_task name words bound
+pub task_is : (o : Option PlannedTask) (p : Option Accepted) (name : List ℕ) (words bound : ℕ)
+    → option_map (λ t. t.name) o ≡ Some name → option_map (λ a. length a.code.instructions) p ≡ Some words
+    → option_map (λ a. a.bound) p ≡ Some bound
+    → of_both (λ task code. printed_task task.name (length code.code.instructions) code.bound) o p
+    ≡ printed_task name words bound
 task_is None p name words bound named worded bounded = absurd (cc)
 task_is (Some t) None name words bound named worded bounded = absurd (cc)
 task_is (Some t) (Some a) name words bound named worded bounded =
@@ -35,7 +39,8 @@ task_is (Some t) (Some a) name words bound named worded bounded =
 pub variable_is : (text : List ℕ) (o : Option Slot) (p : Option Value) (instance variable : List ℕ) (value : Value)
     → option_map (λ s. text_of text s.instance) o ≡ Some instance
     → option_map (λ s. text_of text s.variable) o ≡ Some variable → p ≡ Some value
-    → of_both (λ slot v. printed_variable (text_of text slot.instance) (text_of text slot.variable) v) o p ≡ printed_variable instance variable value
+    → of_both (λ slot v. printed_variable (text_of text slot.instance) (text_of text slot.variable) v) o p
+    ≡ printed_variable instance variable value
 variable_is text None p instance variable value is_instance is_variable is_value = absurd (cc)
 variable_is text (Some s) p instance variable value is_instance is_variable is_value =
     let i : text_of text s.instance ≡ instance = cc in

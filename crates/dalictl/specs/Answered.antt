@@ -5,11 +5,9 @@ use Rattle.std.specs.Prelude.{Some, slice_get, ⊤}
 use Rattle.std.specs.Char.{to_ascii_lowercase}
 use Rattle.iltypes.specs.declared.value.Value.{Value}
 use Rattle.ilsource.specs.Trees.{Tree}
-use Rattle.ilsyms.specs.Declarations.{slots_of}
+use Rattle.ilplan.specs.Plans.{Planned}
 use Rattle.ilsyms.specs.Meaning.{source_scan}
-use Rattle.ilsyms.specs.PlanMeaning.{paired}
-use Rattle.ilsyms.specs.Plans.{Planned}
-use Rattle.ilsyms.specs.Stores.{Entry}
+use Rattle.ilsyms.specs.Variables.{slots_of_tree}
 use Rattle.plantload.specs.Loaded.{Loaded}
 use Rattle.plantload.specs.Loading.{IsLoadFault, IsPlanOfText, IsSetup}
 use Rattle.plantload.specs.declared.fault.LoadFault.{LoadFault}
@@ -37,11 +35,11 @@ NoneIsCalled plan name = (k : ℕ) → k < length plan.tasks → ¬ (IsCalled pl
 -- ---- what stands against a text
 
 -- the allocator is out of memory, which may be at any time, or it is such a stop
-abbrev pub OrMemory : (Stop → Type 0) → Stop → Type 0
-OrMemory Stops Memory = ⊤
-OrMemory Stops (Binding fault) = Stops (Binding fault)
-OrMemory Stops (Load fault) = Stops (Load fault)
-OrMemory Stops (NoTask asked) = Stops (NoTask asked)
+abbrev pub IsStopOrMemory : (Stop → Type 0) → Stop → Type 0
+IsStopOrMemory Stops Memory = ⊤
+IsStopOrMemory Stops (Binding fault) = Stops (Binding fault)
+IsStopOrMemory Stops (Load fault) = Stops (Load fault)
+IsStopOrMemory Stops (NoTask asked) = Stops (NoTask asked)
 
 -- why a text isn't accepted: it isn't loaded
 abbrev pub IsCheckStop : ℕ → List ℕ → Stop → Type 0
@@ -63,28 +61,22 @@ IsStepStop buses bytes name _ = ⊥
 
 -- ---- what scans of a text leave
 
--- this many scans of the source program, each from the store that the one before left
-abbrev pub ScansMean : Tree → ℕ → List Entry → List Entry → Type 0
+-- this many scans of the source program, each from the values that the one before left
+abbrev pub ScansMean : Tree → ℕ → List Value → List Value → Type 0
 ScansMean tree zero from to = to ≡ from
 ScansMean tree (suc scans) from to =
-    (store : List Entry) × ScansMean tree scans from store × (source_scan tree store ≡ Some to)
+    (values : List Value) × ScansMean tree scans from values × (source_scan tree values ≡ Some to)
 
--- the store of a source program whose variables have these values, in declared order
-abbrev pub store_of : Tree → List Value → List Entry
-store_of tree values = paired tree.text (slots_of tree.programs) values
-
--- the initial values of its variables
-abbrev pub initial_values_of : Tree → List Value
-initial_values_of tree = map (λ s. s.initial) (slots_of tree.programs)
+-- the values of its variables before the first scan, in declared order
+abbrev pub initials_of_tree : Tree → List Value
+initials_of_tree tree = map (λ s. s.initial) (slots_of_tree tree)
 
 -- the variables after this many scans of the text, so many milliseconds apart, from their initial values, with the
 -- steps of each scan, which are those of the task's code from the variables before it and at most the code's bound
 pub record IsStepped (buses : ℕ) (bytes name : List ℕ) (scans every : ℕ) (made : Run) : Type 0 where
   pub loaded : IsSetup buses bytes made.setup
   pub task : IsFirstCalled made.setup.plan name made.task
-  pub values : ScansMean loaded.plan.tree scans (store_of loaded.plan.tree (initial_values_of loaded.plan.tree))
-      (store_of loaded.plan.tree made.values)
-  pub many_values : length made.values ≡ length (slots_of loaded.plan.tree.programs)
+  pub values : ScansMean loaded.plan.tree scans (initials_of_tree loaded.plan.tree) made.values
   pub many : length made.each ≡ scans
   pub runs : AreScansOf made.setup made.task scans every made.each made.values
   pub few : All (λ taken. taken.steps ≤ runs.code.bound) made.each

@@ -1,8 +1,8 @@
 pub mod Answered
 pub mod CommandLine
 pub mod Connected
+pub mod ExitStatuses
 pub mod Invocations
-pub mod Outcomes
 pub mod Printed
 pub mod Reports
 pub mod Responses

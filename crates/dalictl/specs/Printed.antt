@@ -3,7 +3,7 @@ use Rattle.std.specs.Prelude.{ℕ, List, ◌++◌, codes}
 use Rattle.std.specs.Fmt.{decimal}
 use Rattle.iltypes.specs.declared.value.Value.{Value}
 use Rattle.iltypes.specs.Printed as values
-use Rattle.ilsyms.specs.Printed.{printed_slot}
+use Rattle.ilplan.specs.Printed.{printed_slot}
 
 -- an accepted task: its words, and the bound
 abbrev pub printed_task : List ℕ → ℕ → ℕ → List ℕ

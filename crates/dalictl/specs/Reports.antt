@@ -2,14 +2,14 @@
 use Rattle.std.specs.Prelude.{◌≡◌, ℕ, zero, suc, List, [], ◌∷◌, ◌++◌, length, Option, Some, slice_get}
 use Rattle.std.specs.Io.KnownBytes.{Appends}
 use Rattle.ilsource.specs.Names.{text_of}
-use Rattle.ilsyms.specs.Plans.{slot_at}
+use Rattle.ilplan.specs.Plans.{slot_at}
 use Rattle.plantload.specs.Loaded.{Loaded}
 use Rattle.dalictl.specs.declared.answers.Answer.{Answer}
 use Rattle.dalictl.specs.declared.answers.Answer.TheVariants as answers
 use Rattle.dalictl.specs.declared.options.Invocation.{Invocation}
-use Rattle.dalictl.specs.declared.outcome.Outcome.{Outcome}
-use Rattle.dalictl.specs.declared.outcome.Outcome.TheVariants.{Accepted}
-use Rattle.dalictl.specs.Outcomes.{outcome_of_stop}
+use Rattle.dalictl.specs.declared.exit_status.ExitStatus.{ExitStatus}
+use Rattle.dalictl.specs.declared.exit_status.ExitStatus.TheVariants.{Accepted}
+use Rattle.dalictl.specs.ExitStatuses.{status_of_stop}
 use Rattle.dalictl.specs.Printed.{printed_task, printed_scan, printed_variable}
 use Rattle.dalictl.specs.Responses.{IsAnswer}
 use Rattle.dalictl.specs.Stepping.{Run}
@@ -20,7 +20,7 @@ abbrev pub first_lines : (ℕ → List ℕ) → ℕ → List ℕ
 first_lines line zero = []
 first_lines line (suc lines) = first_lines line lines ++ line lines ++ 10 ∷ []
 
--- what is said of both
+-- what is printed of both
 abbrev pub of_both : {A B : Type 0} → (A → B → List ℕ) → Option A → Option B → List ℕ
 of_both said (Some a) (Some b) = said a b
 of_both said _ _ = []
@@ -56,13 +56,14 @@ printed_answer (answers.Stepped made) =
 printed_answer (answers.Stopped stop) = printed_stop stop ++ 10 ∷ []
 
 -- how the program ends after an answer
-abbrev pub outcome_of : Answer → Outcome
-outcome_of (answers.Stopped stop) = outcome_of_stop stop
-outcome_of answer = Accepted
+abbrev pub status_of : Answer → ExitStatus
+status_of (answers.Stopped stop) = status_of_stop stop
+status_of answer = Accepted
 
 -- what a writer held, and what it holds after: the lines of an answer to the invocation are new, and the program ends
 -- as after that answer
-abbrev pub IsReport : Invocation → Option (List ℕ) → List ℕ → Option (List ℕ) → Option (List ℕ) → Outcome → Type 0
-IsReport invocation binding bytes before after outcome =
+abbrev pub IsReport : Invocation → Option (List ℕ) → List ℕ → Option (List ℕ) → Option (List ℕ) → ExitStatus
+    → Type 0
+IsReport invocation binding bytes before after status =
     (answer : Answer) × IsAnswer invocation binding bytes answer × Appends before after (printed_answer answer)
-    × (outcome ≡ outcome_of answer)
+    × (status ≡ status_of answer)

@@ -7,7 +7,7 @@ use Rattle.dalictl.specs.declared.answers.Answer.TheVariants as answers
 use Rattle.dalictl.specs.declared.options.Invocation.{Invocation}
 use Rattle.dalictl.specs.declared.options.Invocation.TheVariants.{Check, Step}
 use Rattle.dalictl.specs.declared.stop.Stop.{Stop}
-use Rattle.dalictl.specs.Answered.{IsCheckStop, IsStepStop, IsStepped, OrMemory}
+use Rattle.dalictl.specs.Answered.{IsCheckStop, IsStepStop, IsStepped, IsStopOrMemory}
 use Rattle.dalictl.specs.Connected.{IsConnected, IsBindingStop}
 
 -- what stands against an invocation on a text
@@ -20,7 +20,7 @@ abbrev pub IsMade : ℕ → List ℕ → Invocation → Answer → Type 0
 IsMade buses bytes (Check files) (answers.Checked setup) = IsSetup buses bytes setup
 IsMade buses bytes (Step files task scans every) (answers.Stepped made) =
     IsStepped buses bytes task.now scans every made
-IsMade buses bytes invocation (answers.Stopped stop) = OrMemory (IsInvocationStop buses bytes invocation) stop
+IsMade buses bytes invocation (answers.Stopped stop) = IsStopOrMemory (IsInvocationStop buses bytes invocation) stop
 IsMade buses bytes invocation answer = ⊥
 
 -- a binding's fault is reported, and nothing else of it

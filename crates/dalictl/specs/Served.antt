@@ -5,7 +5,7 @@ use Rattle.std.specs.Option.{option_copied}
 use Rattle.dalictl.specs.declared.files.Unread.{Unread}
 use Rattle.dalictl.specs.declared.options.Files.{Files}
 use Rattle.dalictl.specs.declared.options.Invocation.{Invocation}
-use Rattle.dalictl.specs.declared.outcome.Outcome.{Outcome}
+use Rattle.dalictl.specs.declared.exit_status.ExitStatus.{ExitStatus}
 use Rattle.dalictl.specs.declared.serve.Unserved.{Unserved}
 use Rattle.dalictl.specs.declared.serve.Unserved.TheVariants.{NotRead, NotPrinted}
 use Rattle.dalictl.specs.Reports.{IsReport}
@@ -19,12 +19,12 @@ IsGiven gives _ _ = ⊥
 
 -- the writer has the report of an answer to what the disk gave
 pub record IsServed (gives : List ℕ → List ℕ → Type 0) (invocation : Invocation) (before after : Option (List ℕ))
-    (outcome : Outcome) : Type 0 where
+    (status : ExitStatus) : Type 0 where
   pub binding : Option (List ℕ)
   pub bytes : List ℕ
   pub binding_given : IsGiven gives (option_copied (files_of invocation).binding) binding
   pub text_given : gives (files_of invocation).text.now bytes
-  pub report : IsReport invocation binding bytes before after outcome
+  pub report : IsReport invocation binding bytes before after status
 
 -- the binding at this path isn't read; or it is, and the text at this path isn't
 abbrev pub IsFirstUnread : (List ℕ → List ℕ → Type 0) → (List ℕ → Unread → Type 0) → Files → List ℕ → Unread → Type 0
@@ -40,5 +40,5 @@ IsUnserved gives fails invocation (NotPrinted error) = ⊤
 
 -- that the file at a path isn't read is reported
 abbrev pub IsNotRead : (List ℕ → Unread → Type 0) → List ℕ → Unserved → Type 0
-IsNotRead fails path (NotRead told why) = (told.now ≡ path) × fails path why
+IsNotRead fails path (NotRead named why) = (named.now ≡ path) × fails path why
 IsNotRead fails path (NotPrinted error) = ⊥

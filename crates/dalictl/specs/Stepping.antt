@@ -1,9 +1,7 @@
 -- Scans one after another (IEC 61131-3, 2.7.2).
-use Rattle.std.specs.Prelude.{◌≡◌, ℕ, ◌*◌, zero, suc, Some, slice_get, List, [], ◌∷◌, ◌++◌, length, map}
-use Rattle.ilsyms.specs.Plans.{PlannedTask}
-use Rattle.ilsyms.specs.PlanMeaning.{types_of}
+use Rattle.std.specs.Prelude.{◌≡◌, ℕ, ◌*◌, zero, suc, Some, slice_get, List, [], ◌∷◌, ◌++◌, length}
 use Rattle.iltypes.specs.declared.value.Value.{Value}
-use Rattle.iltypes.specs.Values.{AreOf}
+use Rattle.ilplan.specs.Plans.{PlannedTask, initials_of}
 use Rattle.ilverify.specs.Verdicts.{Accepted}
 use Rattle.ilmachine.specs.Scans.{IsScan}
 use Rattle.plantload.specs.Loaded.{Loaded}
@@ -21,14 +19,6 @@ ScansTo code every zero from each to = (each ≡ []) × (to ≡ from)
 ScansTo code every (suc scans) from each to =
     (before : List Taken) × (values : List Value) × (last : Taken) × ScansTo code every scans from before values
     × IsScanAt code (scans * every) values last to × (each ≡ before ++ last ∷ [])
-
--- the value of each variable before the first scan
-abbrev pub initials_of : PlannedTask → List Value
-initials_of task = map (λ s. s.initial) task.slots
-
--- the variables of each task begin in their types
-abbrev pub BeginInTypes : List PlannedTask → Type 0
-BeginInTypes tasks = (k : ℕ) (t : PlannedTask) → slice_get tasks k ≡ Some t → AreOf (initials_of t) (types_of t)
 
 -- scans of the task of this number by its code, from the initial values of its variables
 pub record AreScansOf (setup : Loaded) (number scans every : ℕ) (each : List Taken) (values : List Value) : Type 0 where

@@ -2,15 +2,15 @@
 
 ghost use Rattle.std.specs.Prelude.{◌≡◌, ◌<◌, length, map, slice_get, Result, IfErr, IfOk, IfSome};
 ghost use Rattle.std.specs.Prelude.{MatchOption};
-ghost use Rattle.ilsyms.specs.Plans.{KeepsLimits};
+ghost use Rattle.ilplan.specs.Plans.{KeepsLimits};
 ghost use Rattle.std.specs.Option.{option_copied};
 ghost use Rattle.plantload.specs.Loaded.{Loaded};
 ghost use Rattle.plantload.specs.Loading.{IsSetup};
 ghost use Rattle.dalictl.specs.Answered.{IsCheckStop, IsChecked, IsFirstCalled, IsStep, IsStepStop};
-ghost use Rattle.dalictl.specs.Answered.{IsStepped, NoneIsCalled, OrMemory};
+ghost use Rattle.dalictl.specs.Answered.{IsStepped, NoneIsCalled, IsStopOrMemory};
 ghost use Rattle.dalictl.specs.Connected.{IsConnected, IsBindingStop};
 ghost use Rattle.dalictl.specs.Responses.{IsAnswer, IsMade};
-ghost use Rattle.dalictl.specs.Stepping.{AreScansOf, BeginInTypes, Run};
+ghost use Rattle.dalictl.specs.Stepping.{AreScansOf, Run};
 ghost use Rattle.dalictl.specs.declared.stop.Stop.{Stop};
 
 use crate::options::Invocation;
@@ -19,7 +19,7 @@ use crate::scans::Scans;
 use crate::stepped::Stepped;
 use crate::stop::{AskedName, Stop};
 use binding::Binding;
-use ilsyms::{Plan, Slot};
+use ilplan::{Plan, Slot};
 use iltypes::Value;
 use plantload::{Setup, load, plan_of, setup_of};
 use std::alloc::{AllocError, Global};
@@ -84,7 +84,7 @@ pub fn binding_of(bytes: Option<&[u8]>) -> Result<Binding, Stop>
 /// The fault that the text isn't loaded for, or that the allocator is out of memory.
 pub fn check(alloc: Global, binding: &Binding, text: &[u8]) -> Result<Setup, Stop>
     ensures setup { IfOk result (IsSetup binding.now.buses text.now) }
-    ensures stop { IfErr result (OrMemory (IsCheckStop binding.now.buses text.now)) }
+    ensures stop { IfErr result (IsStopOrMemory (IsCheckStop binding.now.buses text.now)) }
     // A text has at most one answer, but for out of memory.
     ensures one { (a b : Result Loaded Stop) → IsChecked binding.now.buses text.now a
         → IsChecked binding.now.buses text.now b → a ≡ b }
@@ -108,7 +108,7 @@ pub fn step(
     every: u32,
 ) -> Result<Stepped, Stop>
     ensures made { IfOk result (IsStepped binding.now.buses text.now task.now scans every) }
-    ensures stop { IfErr result (OrMemory (IsStepStop binding.now.buses text.now task.now)) }
+    ensures stop { IfErr result (IsStopOrMemory (IsStepStop binding.now.buses text.now task.now)) }
     // A task of a text has at most one answer, but for out of memory.
     ensures one { (a b : Result Run Stop) → IsStep binding.now.buses text.now task.now scans every a
         → IsStep binding.now.buses text.now task.now scans every b → a ≡ b }
@@ -130,8 +130,7 @@ fn run(
     scans: u32,
     every: u32,
 ) -> Result<Scans, AllocError>
-    requires of_plan { task < length setup.now.plan.tasks }
-    requires in_types { BeginInTypes setup.now.plan.tasks }
+    requires { task < length setup.now.plan.tasks }
     ensures made { IfOk result (λ made. AreScansOf setup.now task scans every made.each.items
         made.values.items) }
     ensures limits { IfSome (slice_get setup.now.plan.tasks task) (λ t. KeepsLimits t) }

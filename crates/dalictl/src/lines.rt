@@ -3,11 +3,11 @@
 ghost use Rattle.std.specs.Prelude.{Some};
 ghost use Rattle.dalictl.specs.Printed.{printed_task, printed_scan, printed_variable};
 
-use ilsyms::SlotName;
+use ilplan::SlotName;
 use iltypes::Value;
 use std::fmt;
 
-/// An accepted task: its words, one an instruction, and the greatest number of them in a scan.
+/// An accepted task: the words of its code, and the greatest number of them in a scan.
 #[derive(Clone, Copy, Debug)]
 pub struct TaskLine<'a> {
     pub name: &'a str,

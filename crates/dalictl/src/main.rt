@@ -4,16 +4,15 @@
 //! (specs/CommandLine.antt), `serve` reads the files that it names, asks `answers`
 //! (specs/Responses.antt), and has `report` print the answer on a writer. The definition to read
 //! first is `IsStepped` (specs/Answered.antt), what `step` answers; the outermost one is `IsServed`
-//! (specs/Served.antt). How the program ends is an `Outcome`, with one exit status each. No
-//! contract can say which bytes the machine's disk gives, or what becomes of those that its
-//! terminal takes.
+//! (specs/Served.antt). How the program ends is an [`exit_status::ExitStatus`]. No contract can say
+//! which bytes the machine's disk gives, or what becomes of those that its terminal takes.
 #![tactic(auto)]
 
 mod answers;
+mod exit_status;
 mod files;
 mod lines;
 mod options;
-mod outcome;
 mod report;
 mod scans;
 mod serve;
@@ -24,7 +23,7 @@ mod stop;
 use std::process::ExitCode;
 
 fn main(rt: HostRuntime) -> ExitCode {
-    ExitCode::from(shell::run(&rt).status())
+    ExitCode::from(shell::run(&rt).number())
 }
 
 #[cfg(test)]

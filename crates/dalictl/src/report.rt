@@ -2,11 +2,11 @@
 
 ghost use Rattle.std.specs.Prelude.{◌≡◌, length, IfOk, OnOk};
 ghost use Rattle.std.specs.Io.KnownBytes.{Appends};
-ghost use Rattle.dalictl.specs.Reports.{first_lines, outcome_of, printed_answer, scan_line};
+ghost use Rattle.dalictl.specs.Reports.{first_lines, status_of, printed_answer, scan_line};
 ghost use Rattle.dalictl.specs.Reports.{task_line, variable_line};
 
 use crate::answers::Answer;
-use crate::outcome::Outcome;
+use crate::exit_status::ExitStatus;
 use crate::stepped::{Stepped, task_line};
 use plantload::Setup;
 use std::alloc::Global;
@@ -19,35 +19,35 @@ use std::io::{BufWriter, Write};
 /// # Errors
 ///
 /// The writer's, or that the allocator is out of memory.
-pub fn print<W: Write + Drop>(alloc: Global, to: W, answer: &Answer) -> io::Result<(W, Outcome)>
+pub fn print<W: Write + Drop>(alloc: Global, to: W, answer: &Answer) -> io::Result<(W, ExitStatus)>
     ensures text { IfOk result
         (λ done. Appends (W.contents to) (W.contents done.0) (printed_answer answer.now)) }
-    ensures outcome { IfOk result (λ done. done.1 ≡ outcome_of answer.now) }
+    ensures status { IfOk result (λ done. done.1 ≡ status_of answer.now) }
 {
     let mut out = BufWriter::new(alloc, to)?;
-    let outcome = report(&mut out, answer)?;
-    Ok((out.into_inner()?, outcome))
+    let status = report(&mut out, answer)?;
+    Ok((out.into_inner()?, status))
 }
 
 /// Writes the answer's lines; how the program ends.
-fn report<W: Write>(out: &mut W, answer: &Answer) -> io::Result<Outcome>
+fn report<W: Write>(out: &mut W, answer: &Answer) -> io::Result<ExitStatus>
     ensures text { OnOk result
         (Appends (W.contents out.old) (W.contents out.new) (printed_answer answer.now)) }
-    ensures outcome { IfOk result (λ outcome. outcome ≡ outcome_of answer.now) }
+    ensures status { IfOk result (λ status. status ≡ status_of answer.now) }
 {
     match answer {
         Answer::Checked(setup) => {
             tasks(out, setup)?;
-            Ok(Outcome::Accepted)
+            Ok(ExitStatus::Accepted)
         }
         Answer::Stepped(made) => {
             scans(out, made)?;
             variables(out, made)?;
-            Ok(Outcome::Accepted)
+            Ok(ExitStatus::Accepted)
         }
         Answer::Stopped(stop) => {
             writeln!(out, "{stop}")?;
-            Ok(Outcome::of_stop(stop))
+            Ok(ExitStatus::of_stop(stop))
         }
     }
 }

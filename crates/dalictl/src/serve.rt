@@ -5,9 +5,9 @@ ghost use Rattle.std.specs.Option.{option_copied};
 ghost use Rattle.dalictl.specs.Served.{IsGiven, IsNotRead, IsServed, IsUnserved};
 
 use crate::answers::respond;
+use crate::exit_status::ExitStatus;
 use crate::files::{Disk, Unread};
 use crate::options::Invocation;
-use crate::outcome::Outcome;
 use crate::report;
 use std::alloc::Global;
 use std::io;
@@ -44,7 +44,7 @@ pub fn serve<'a, D: Disk, W: Write + Drop>(
     disk: &D,
     to: W,
     invocation: Invocation<'a>,
-) -> Result<(W, Outcome), Unserved<'a>>
+) -> Result<(W, ExitStatus), Unserved<'a>>
     ensures served { IfOk result (λ done. IsServed (D.gives disk.now) invocation.entry
         (W.contents to) (W.contents done.0) done.1) }
     ensures unserved { IfErr result

@@ -1,21 +1,21 @@
 //! The program over a runtime: its words, its files and its terminal.
 
+use crate::exit_status::ExitStatus;
 use crate::files::{HostDisk, Unread};
 use crate::options::Invocation;
-use crate::outcome::Outcome;
 use crate::serve::Unserved;
 use crate::{options, serve};
 use std::rt::{Env, Files};
 use std::{env, io};
 
 /// Reads the command line and does what it asks for.
-pub fn run<R: Files + Env + Print + Eprint + AllocGlobal>(rt: &R) -> Outcome {
+pub fn run<R: Files + Env + Print + Eprint + AllocGlobal>(rt: &R) -> ExitStatus {
     match words(rt) {
         Ok(words) => run_words(rt, words.as_slice()),
         Err(error) => match error.kind() {
             io::ErrorKind::OutOfMemory => no_memory(rt),
             io::ErrorKind::InvalidData => not_text(rt),
-            _ => Outcome::Failed,
+            _ => ExitStatus::Failed,
         },
     }
 }
@@ -34,12 +34,12 @@ fn words<R: Env + AllocGlobal>(rt: &R) -> io::Result<Vec<String>> {
 }
 
 /// Does what these words ask for.
-fn run_words<R: Files + Print + Eprint + AllocGlobal>(rt: &R, words: &[String]) -> Outcome {
+fn run_words<R: Files + Print + Eprint + AllocGlobal>(rt: &R, words: &[String]) -> ExitStatus {
     match options::read(rt.alloc(), words) {
         Ok(invocation) => run_invocation(rt, invocation),
-        Err(error) => match Outcome::of_words(error.kind()) {
-            Outcome::Failed => no_memory(rt),
-            outcome => printed(rt, error.print(rt), outcome),
+        Err(error) => match ExitStatus::of_words(error.kind()) {
+            ExitStatus::Failed => no_memory(rt),
+            status => printed(rt, error.print(rt), status),
         },
     }
 }
@@ -48,45 +48,45 @@ fn run_words<R: Files + Print + Eprint + AllocGlobal>(rt: &R, words: &[String]) 
 fn run_invocation<R: Files + Print + Eprint + AllocGlobal>(
     rt: &R,
     invocation: Invocation,
-) -> Outcome {
+) -> ExitStatus {
     match serve::serve(rt.alloc(), &HostDisk { rt }, io::writer(rt), invocation) {
-        Ok((_, outcome)) => outcome,
+        Ok((_, status)) => status,
         Err(Unserved::NotRead { path, why }) => not_read(rt, path, why),
-        Err(Unserved::NotPrinted(error)) => printed(rt, Err(error), Outcome::Failed),
+        Err(Unserved::NotPrinted(error)) => printed(rt, Err(error), ExitStatus::Failed),
     }
 }
 
 /// Reports that a file wasn't read.
-fn not_read<R: Print + Eprint>(rt: &R, path: &str, why: Unread) -> Outcome {
+fn not_read<R: Print + Eprint>(rt: &R, path: &str, why: Unread) -> ExitStatus {
     match why {
         Unread::Memory => no_memory(rt),
-        Unread::Failed => printed(rt, eprintln!(rt; "cannot read {path}"), Outcome::Failed),
+        Unread::Failed => printed(rt, eprintln!(rt; "cannot read {path}"), ExitStatus::Failed),
     }
 }
 
 /// Reports that a word of the command line isn't text.
-fn not_text<R: Print + Eprint>(rt: &R) -> Outcome {
+fn not_text<R: Print + Eprint>(rt: &R) -> ExitStatus {
     printed(
         rt,
         eprintln!(rt; "error: an argument is not UTF-8"),
-        Outcome::Misused,
+        ExitStatus::Misused,
     )
 }
 
 /// Reports that the allocator is out of memory.
-fn no_memory<R: Print>(rt: &R) -> Outcome {
+fn no_memory<R: Print>(rt: &R) -> ExitStatus {
     let _ = println!(rt; "no memory");
-    Outcome::Failed
+    ExitStatus::Failed
 }
 
-/// The outcome, where what it goes with was printed. Wrong usage is wrong usage also where the
+/// The exit status, where what it goes with was printed. Wrong usage is wrong usage also where the
 /// message of it can't be printed.
-fn printed<R: Print>(rt: &R, done: io::Result<()>, outcome: Outcome) -> Outcome {
-    match (done, outcome) {
-        (Ok(()), _) | (Err(_), Outcome::Misused) => outcome,
+fn printed<R: Print>(rt: &R, done: io::Result<()>, status: ExitStatus) -> ExitStatus {
+    match (done, status) {
+        (Ok(()), _) | (Err(_), ExitStatus::Misused) => status,
         (Err(error), _) => match error.kind() {
             io::ErrorKind::OutOfMemory => no_memory(rt),
-            _ => Outcome::Failed,
+            _ => ExitStatus::Failed,
         },
     }
 }

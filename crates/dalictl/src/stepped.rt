@@ -19,9 +19,19 @@ pub struct Stepped {
 }
 
 impl Model for Stepped {
+    ghost use Rattle.std.specs.Prelude.{ℕ, List};
+    ghost use Rattle.std.specs.Coded.{codes, code_by};
+    ghost use Rattle.iltrees.specs.declared.nested.Piece.{Piece};
+    ghost use Rattle.iltrees.specs.Trees.{pieces_of};
+    ghost use Rattle.iltrees.specs.TreeSteps.{tree_of, tree_again};
     ghost use Rattle.dalictl.specs.Stepping.{HasTask, Run, run_of};
 
     ghost Value = { Run };
+
+    ghost coded = { Prim.hlevel (
+      codes,
+      code_by (List (Piece ℕ)) (Prim.hlevel codes) pieces_of tree_of tree_again,
+    ) };
 
     ghost view = { λ s. run_of s.setup s.task s.each.items s.values.items };
 
@@ -31,7 +41,7 @@ impl Model for Stepped {
 impl Stepped {
     ghost use Rattle.std.specs.Prelude.{◌≡◌, ◌<◌, length, slice_get, Some, option_map};
     ghost use Rattle.ilsource.specs.Names.{text_of};
-    ghost use Rattle.ilsyms.specs.Plans.{slot_at};
+    ghost use Rattle.ilplan.specs.Plans.{slot_at};
     ghost use Rattle.dalictl.specs.Stepping.{HasTask, Run, run_of};
 
     /// These scans of the task of this number.

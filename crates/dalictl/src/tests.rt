@@ -3,11 +3,16 @@
 
 mod at_limits;
 mod machine;
+mod numbers;
 mod reading;
 mod running;
 mod serving;
 
+use crate::options;
+use crate::serve::serve;
+use serving::Shelf;
 use std::alloc::{AllocError, Global};
+use std::test::Fail;
 
 /// The words of a line.
 fn words(alloc: Global, line: &str) -> Result<Vec<String>, AllocError> {
@@ -16,4 +21,29 @@ fn words(alloc: Global, line: &str) -> Result<Vec<String>, AllocError> {
         words.push(String::from_str(alloc, word)?)?;
     }
     Ok(words)
+}
+
+/// A text, a command line without the program's name, the exit status and what is printed.
+#[derive(Clone, Copy)]
+struct Row {
+    text: &'static str,
+    line: &'static str,
+    status: u8,
+    printed: &'static str,
+}
+
+/// Whether a row's command line, served with its text at `t.il`, prints just this and ends so.
+fn answers(alloc: Global, row: &Row) -> Result<bool, Fail> {
+    let line = format!(in alloc; "dalictl {}", row.line)?;
+    let words = words(alloc, &line)?;
+    let Ok(invocation) = options::read(alloc, &words) else {
+        return Err("it is an invocation".into());
+    };
+    let shelf = Shelf { text: row.text };
+    match serve(alloc, &shelf, Vec::new(alloc), invocation) {
+        Ok((lines, exit)) => {
+            Ok(lines.as_slice() == row.printed.as_bytes() && exit.number() == row.status)
+        }
+        Err(_) => Err("it is served".into()),
+    }
 }

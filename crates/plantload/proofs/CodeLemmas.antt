@@ -11,7 +11,7 @@ use Rattle.std.proofs.lemmas.Option.{slice_get-map, slice_get-get_or}
 use Rattle.std.proofs.lemmas.Slice.Zip.{AllZip-left, AllZip-long, AllZip-right, all_zipped_more}
 use Rattle.ilcode.specs.Listings.{Listing}
 use Rattle.ilcode.specs.Paths.{IsBound}
-use Rattle.ilsyms.specs.Plans.{Planned, PlannedTask}
+use Rattle.ilplan.specs.Plans.{Planned, PlannedTask}
 use Rattle.ilverify.specs.declared.verifier.VerifyError.{VerifyError}
 use Rattle.ilverify.specs.declared.verifier.VerifyError.TheVariants as verify_errors
 use Rattle.ilverify.specs.Certificates.{IsCertified, IsError, IsRefusal}
@@ -32,7 +32,8 @@ pub zipped_at : {A B : Type 0} (R : A → B → Type 0) (xs : List A) (ys : List
     → slice_get ys k ≡ Some y → IfSome (slice_get xs k) (λ x. R x y)
 zipped_at {A} {B} R xs ys k y h e =
     beside R (slice_get xs k) y
-    (subst (λ (o : Option B). MatchOption o ⊤ (λ z. IsSomeAnd (slice_get xs k) (λ x. R x z))) e (AllZip-right R xs ys h k))
+    (subst (λ (o : Option B). MatchOption o ⊤ (λ z. IsSomeAnd (slice_get xs k) (λ x. R x z))) e
+    (AllZip-right R xs ys h k))
 
 -- something stands beside each item of the first list
 partner : {A B : Type 0} (R : A → B → Type 0) (x : A) (o : Option B) → IsSomeAnd o (R x) → (y : B) × R x y

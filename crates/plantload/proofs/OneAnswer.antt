@@ -10,11 +10,10 @@ use Rattle.iltext.proofs.Sources.{is_one, is_one_fault, is_no_fault}
 use Rattle.ilscope.specs.declared.fault.NameFault.TheVariants as name_faults
 use Rattle.ilscope.specs.declared.fault.NameFault.{NameFault}
 use Rattle.ilsyms.specs.Faults.{IsFault}
-use Rattle.ilsyms.specs.Plans.{Planned, PlannedTask}
-use Rattle.ilsyms.specs.Resolved.{IsPlanOf}
-use Rattle.ilscope.specs.Told.{TellsLeast}
-use Rattle.ilscope.proofs.OneFault.{one_told}
-use Rattle.ilsyms.proofs.OnePlan.{one_plan}
+use Rattle.ilplan.specs.Plans.{Planned, PlannedTask}
+use Rattle.ilsyms.specs.Resolved.{plan_of_tree}
+use Rattle.ilscope.specs.Reports.{ReportsLeast}
+use Rattle.ilscope.proofs.OneFault.{one_report}
 use Rattle.ilcode.specs.declared.instruction.Instruction.{Instruction}
 use Rattle.ilcode.specs.Listings.{Listing}
 use Rattle.ilcode.specs.Paths.{IsBound}
@@ -55,7 +54,9 @@ codes_same plan [] (x ∷ a) b h g = absurd h
 codes_same plan (t ∷ tasks) [] b h g = absurd h
 codes_same plan (t ∷ tasks) (x ∷ a) [] h g = absurd g
 codes_same plan (t ∷ tasks) (x ∷ a) (y ∷ b) h g =
-    ap₂ (λ (c : Accepted) (cs : List Accepted). c ∷ cs) (same_code plan t x y h.0 g.0) (codes_same plan tasks a b h.1 g.1)
+    let first = same_code plan t x y h.0 g.0 in
+    let others = codes_same plan tasks a b h.1 g.1 in
+    ap₂ (λ (c : Accepted) (cs : List Accepted). c ∷ cs) first others
 
 same_codes : (plan : Planned) (a b : List Accepted) → AreCodes plan a → AreCodes plan b → a ≡ b
 same_codes plan a b h g = codes_same plan plan.tasks a b h g
@@ -96,7 +97,7 @@ module _ (buses : ℕ) (bytes : List ℕ) where
   pub same_plan : (a b : Planned) → IsPlanOfText buses bytes a → IsPlanOfText buses bytes b → a ≡ b
   same_plan a b h g =
       let tree : h.tree ≡ g.tree = is_one bytes h.tree g.tree h.spelled g.spelled in
-      one_plan g.tree buses a b (subst (λ (t : Tree). IsPlanOf t buses a) tree h.resolved) g.resolved
+      h.resolved ∙ ap (λ (t : Tree). plan_of_tree t buses) tree ∙ sym g.resolved
 
   pub same_setup : (a b : Loaded) → IsSetup buses bytes a → IsSetup buses bytes b → a ≡ b
   same_setup a b h g =
@@ -127,7 +128,8 @@ module _ (buses : ℕ) (bytes : List ℕ) where
   same_plan_fault (Name x) (Text y) h g = absurd (is_no_fault bytes h.0 y h.1 g)
   same_plan_fault (Name x) (Name y) h g =
       let tree : h.0 ≡ g.0 = is_one bytes h.0 g.0 h.1 g.1 in
-      ap Name (one_told g.0.text (IsFault g.0) x y (subst (λ (t : Tree). TellsLeast t.text (IsFault t) x) tree h.2) g.2)
+      let mine = subst (λ (t : Tree). ReportsLeast t.text (IsFault t) x) tree h.2 in
+      ap Name (one_report g.0.text (IsFault g.0) x y mine g.2)
 
   -- bytes with a setup have no fault
   pub no_fault : (setup : Loaded) (fault : LoadFault) → IsSetup buses bytes setup → IsLoadFault buses bytes fault → ⊥

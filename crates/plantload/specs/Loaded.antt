@@ -5,7 +5,7 @@ use Rattle.std.specs.Arc.{arc_value}
 use Rattle.std.specs.List.{AllZip}
 use Rattle.std.specs.declared.alloc.Global.{Global}
 use Rattle.std.specs.declared.sync.Arc.{Arc}
-use Rattle.ilsyms.specs.Plans.{Planned, PlannedTask}
+use Rattle.ilplan.specs.Plans.{Planned, PlannedTask}
 use Rattle.ilcode.specs.Listings.{Listing}
 use Rattle.ilcode.specs.Paths.{IsBound}
 use Rattle.ilcompile.specs.Layout.{laid_out}
@@ -36,7 +36,7 @@ accepted_of codes = map (λ c. arc_value c) codes
 
 -- the code that is laid out for a task of a plan
 abbrev pub listing_for : Planned → PlannedTask → Listing
-listing_for plan task = laid_out plan.buses task
+listing_for plan task = laid_out plan.buses plan.text task
 
 -- the code is what is laid out for the task; it has a certificate; and its bound is its greatest path
 pub record IsCodeOf (plan : Planned) (task : PlannedTask) (code : Accepted) : Type 0 where

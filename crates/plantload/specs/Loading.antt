@@ -3,10 +3,10 @@
 use Rattle.std.specs.Prelude.{◌≡◌, ℕ, ◌<◌, List, Result, Ok, Err, Some, slice_get, ⊤}
 use Rattle.ilsource.specs.Trees.{Tree}
 use Rattle.iltext.specs.Parsing.{IsText, IsTextFault}
+use Rattle.ilscope.specs.Reports.{ReportsLeast}
+use Rattle.ilplan.specs.Plans.{Planned, PlannedTask}
 use Rattle.ilsyms.specs.Faults.{IsFault, IsWellNamed}
-use Rattle.ilsyms.specs.Plans.{Planned, PlannedTask}
-use Rattle.ilsyms.specs.Resolved.{IsPlanOf}
-use Rattle.ilscope.specs.Told.{TellsLeast}
+use Rattle.ilsyms.specs.Resolved.{plan_of_tree}
 use Rattle.ilverify.specs.declared.verifier.Refusal.{Refusal}
 use Rattle.ilverify.specs.Certificates.{IsCertified, IsRefusal}
 use Rattle.plantload.specs.Loaded.{AreCodes, Loaded, listing_for}
@@ -18,7 +18,7 @@ pub record IsPlanOfText (buses : ℕ) (bytes : List ℕ) (plan : Planned) : Type
   pub tree : Tree
   pub spelled : IsText bytes tree
   pub named : IsWellNamed tree
-  pub resolved : IsPlanOf tree buses plan
+  pub resolved : plan ≡ plan_of_tree tree buses
 
 -- the bytes' plan, with the code of each of its tasks
 pub record IsSetup (buses : ℕ) (bytes : List ℕ) (setup : Loaded) : Type 0 where
@@ -36,7 +36,7 @@ pub record IsFirstRefused (plan : Planned) (number : ℕ) (refusal : Refusal) : 
 -- why the bytes have no plan: the text's first fault, else the least fault of its names
 abbrev pub IsPlanFault : List ℕ → LoadFault → Type 0
 IsPlanFault bytes (Text fault) = IsTextFault bytes fault
-IsPlanFault bytes (Name fault) = (tree : Tree) × IsText bytes tree × TellsLeast tree.text (IsFault tree) fault
+IsPlanFault bytes (Name fault) = (tree : Tree) × IsText bytes tree × ReportsLeast tree.text (IsFault tree) fault
 IsPlanFault bytes _ = ⊥
 
 -- why a plan has no codes: the first task that is refused

@@ -1,6 +1,6 @@
 -- The line that is printed of a task whose code is refused (profile).
 use Rattle.std.specs.Prelude.{ℕ, List, [], ◌++◌, Option, Some, None, codes, slice_get}
-use Rattle.ilsyms.specs.Plans.{PlannedTask}
+use Rattle.ilplan.specs.Plans.{PlannedTask}
 use Rattle.ilverify.specs.Printed.{printed}
 use Rattle.plantload.specs.Loaded.{Refused}
 

@@ -6,7 +6,7 @@ use Rattle.iltext.specs.Printed as texts
 use Rattle.ilscope.specs.declared.fault.NameFault.{NameFault}
 use Rattle.ilscope.specs.declared.fault.NameFault.TheVariants as name_faults
 use Rattle.ilscope.specs.Printed.{printed_name_fault}
-use Rattle.ilsyms.specs.Plans.{Planned}
+use Rattle.ilplan.specs.Plans.{Planned}
 use Rattle.ilverify.specs.declared.verifier.VerifyError.{VerifyError}
 use Rattle.ilverify.specs.declared.verifier.VerifyError.TheVariants as verify_errors
 use Rattle.plantload.specs.Loaded.{refused_of}

@@ -1,6 +1,7 @@
 //! Why a text isn't loaded.
 
-use ilsyms::{NameFault, Plan};
+use ilplan::Plan;
+use ilsyms::NameFault;
 use iltext::TextFault;
 use ilverify::Refusal;
 use std::alloc::{AllocError, AllocFailed};
@@ -17,10 +18,19 @@ pub struct RefusedTask {
 }
 
 impl Model for RefusedTask {
-    ghost use Rattle.std.specs.Prelude.{◌<◌, length};
+    ghost use Rattle.std.specs.Prelude.{◌<◌, length, ℕ, List};
+    ghost use Rattle.std.specs.Coded.{codes, code_by};
+    ghost use Rattle.iltrees.specs.declared.nested.Piece.{Piece};
+    ghost use Rattle.iltrees.specs.Trees.{pieces_of};
+    ghost use Rattle.iltrees.specs.TreeSteps.{tree_of, tree_again};
     ghost use Rattle.plantload.specs.Loaded.{Refused, refused_of};
 
     ghost Value = { Refused };
+
+    ghost coded = { Prim.hlevel (
+      codes,
+      code_by (List (Piece ℕ)) (Prim.hlevel codes) pieces_of tree_of tree_again,
+    ) };
 
     ghost view = { λ r. refused_of r.plan r.task r.refusal };
 

@@ -1,6 +1,6 @@
 //! What is loaded of a text.
 
-use ilsyms::Plan;
+use ilplan::Plan;
 use ilverify::Verified;
 use std::marker::Model;
 use std::sync::Arc;
@@ -10,17 +10,27 @@ use std::sync::Arc;
 pub struct Setup {
     plan: Plan,
     /// One for each task, in the plan's order.
-    codes: Vec<Arc<Verified>>,
+    verified: Vec<Arc<Verified>>,
 }
 
 impl Model for Setup {
+    ghost use Rattle.std.specs.Prelude.{ℕ, List};
+    ghost use Rattle.std.specs.Coded.{codes, code_by};
+    ghost use Rattle.iltrees.specs.declared.nested.Piece.{Piece};
+    ghost use Rattle.iltrees.specs.Trees.{pieces_of};
+    ghost use Rattle.iltrees.specs.TreeSteps.{tree_of, tree_again};
     ghost use Rattle.plantload.specs.Loaded.{AreCodes, Loaded, accepted_of};
 
     ghost Value = { Loaded };
 
-    ghost view = { λ s. record { plan = s.plan; codes = accepted_of s.codes.items } };
+    ghost coded = { Prim.hlevel (
+      codes,
+      code_by (List (Piece ℕ)) (Prim.hlevel codes) pieces_of tree_of tree_again,
+    ) };
 
-    ghost invariant = { λ s. AreCodes s.plan (accepted_of s.codes.items) };
+    ghost view = { λ s. record { plan = s.plan; codes = accepted_of s.verified.items } };
+
+    ghost invariant = { λ s. AreCodes s.plan (accepted_of s.verified.items) };
 }
 
 impl Setup {
@@ -29,11 +39,11 @@ impl Setup {
     ghost use Rattle.plantload.specs.Loaded.{AreCodes, IsCodeOf, Loaded, accepted_of, loaded_of};
 
     /// The setup of a plan and its tasks' codes.
-    pub(crate) fn new(plan: Plan, codes: Vec<Arc<Verified>>) -> Setup
-        requires { AreCodes plan (accepted_of codes.items) }
-        ensures { result ≡ loaded_of plan (accepted_of codes.items) }
+    pub(crate) fn new(plan: Plan, verified: Vec<Arc<Verified>>) -> Setup
+        requires { AreCodes plan (accepted_of verified.items) }
+        ensures { result ≡ loaded_of plan (accepted_of verified.items) }
     {
-        Setup { plan, codes }
+        Setup { plan, verified }
     }
 
     /// The plan.
@@ -51,6 +61,6 @@ impl Setup {
         ensures of_task { IfSome (slice_get self.now.plan.tasks task)
             (λ t. IsCodeOf self.now.plan t (arc_value result.now)) }
     {
-        &self.codes[task]
+        &self.verified[task]
     }
 }

@@ -39,6 +39,10 @@ fn the_first_fault_is_printed(rt: HostRuntime) -> Result<(), Fail> {
             "PROGRAM p\nVAR a : BOOL; END_VAR\nST a\nST b\nEND_PROGRAM\n",
             "name fault 2 at 4:4",
         ),
+        (
+            "PROGRAM p\nVAR x : SINT (-5..5); END_VAR\nLD x\nSUB 1\nST x\nEND_PROGRAM\n",
+            "task main refused 7 at word 2 line 5 found -6..4 allowed -5..5",
+        ),
     ];
     for (text, line) in rows {
         let Err(fault) = load(rt.alloc(), text.as_bytes(), &Binding::one_bus()) else {

@@ -96,7 +96,7 @@ const ROWS: [Row; 10] = [
 fn each_end_has_its_status(rt: HostRuntime) {
     for row in ROWS {
         let machine = Machine::new(rt.alloc(), row.words, row.text, b"buses 2");
-        let status = run(&machine).status();
+        let status = run(&machine).number();
         assert!(rt; status == row.status, "status {status} for {}", row.printed);
         assert!(rt; shows(&machine.printed, row.printed), "{}", row.printed);
         assert!(rt;
@@ -126,7 +126,7 @@ fn wrong_usage_is_explained_on_standard_error(rt: HostRuntime) {
     ];
     for (row, words) in lines.iter().enumerate() {
         let machine = Machine::new(rt.alloc(), words, ACCEPTED, b"");
-        assert!(rt; run(&machine).status() == 2, "row {row}");
+        assert!(rt; run(&machine).number() == 2, "row {row}");
         assert!(rt; shows(&machine.printed, ""), "row {row}");
         assert!(rt; !shows(&machine.complained, ""), "row {row}");
     }
@@ -135,7 +135,7 @@ fn wrong_usage_is_explained_on_standard_error(rt: HostRuntime) {
 #[test]
 fn help_is_printed_with_the_limits(rt: HostRuntime) {
     let machine = Machine::new(rt.alloc(), &[b"dalictl", b"--help"], b"", b"");
-    assert!(rt; run(&machine).status() == 0);
+    assert!(rt; run(&machine).number() == 0);
     assert!(rt;
         mentions(
             &machine.printed,
@@ -150,7 +150,7 @@ fn help_is_printed_with_the_limits(rt: HostRuntime) {
     );
     assert!(rt; shows(&machine.complained, ""));
     let machine = Machine::new(rt.alloc(), &[b"dalictl", b"step", b"--help"], b"", b"");
-    assert!(rt; run(&machine).status() == 0);
+    assert!(rt; run(&machine).number() == 0);
     assert!(rt;
         mentions(
             &machine.printed,
@@ -304,7 +304,7 @@ fn an_output_that_fails_has_its_status(rt: HostRuntime) {
         let mut machine = Machine::new(rt.alloc(), row.words, ACCEPTED, b"");
         machine.output_fails = row.output;
         machine.error_fails = row.error;
-        assert!(rt; run(&machine).status() == row.status, "row {number}");
+        assert!(rt; run(&machine).number() == row.status, "row {number}");
         assert!(rt; shows(&machine.printed, row.printed), "row {number}");
         assert!(rt;
             mentions(&machine.complained, row.complained),

@@ -1,15 +1,18 @@
-//! Worked rows, from the words of a command line to the printed lines, over files held in memory.
+//! What is read, and in which order: the text and the binding on a disk that is held in memory.
 
-use super::words;
+use super::{Row, answers, words};
 use crate::files::{Disk, Unread};
 use crate::options;
 use crate::serve::{Unserved, serve};
 use std::alloc::Global;
 use std::test::Fail;
 
-/// Texts by their paths.
+/// Texts and bindings by their paths.
 #[derive(Clone, Copy)]
-struct Shelf;
+pub struct Shelf {
+    /// The text at `t.il`.
+    pub text: &'static str,
+}
 
 const ACCEPTED: &str = "PROGRAM p\n\
     VAR a : BOOL := TRUE; b, c : BOOL; END_VAR\n\
@@ -17,22 +20,17 @@ const ACCEPTED: &str = "PROGRAM p\n\
 
 const WITHOUT_RESULT: &str = "PROGRAM p\nVAR c : BOOL; END_VAR\nST c\nEND_PROGRAM\n";
 
-const UNDECLARED: &str = "PROGRAM p\n\nLD x\nEND_PROGRAM\n";
-
 const EMPTY: &str = "PROGRAM p\nVAR a : BOOL; END_VAR\nEND_PROGRAM\n";
 
-/// The text at a path.
-fn text_at(path: &str) -> Option<&'static str> {
-    match path {
-        "accepted.il" => Some(ACCEPTED),
-        "without_result.il" => Some(WITHOUT_RESULT),
-        "undeclared.il" => Some(UNDECLARED),
-        "empty.il" => Some(EMPTY),
-        "cut.il" => Some("PROGRAM p\n"),
-        "open.il" => Some("(* a"),
-        "two" => Some("# a house\nbuses 2\n"),
-        "seventeen" => Some("# a town\nbuses 17\n"),
-        _ => None,
+impl Shelf {
+    /// The text or the binding at a path.
+    fn at(self, path: &str) -> Option<&'static str> {
+        match path {
+            "t.il" => Some(self.text),
+            "two" => Some("# a house\nbuses 2\n"),
+            "seventeen" => Some("# a town\nbuses 17\n"),
+            _ => None,
+        }
     }
 }
 
@@ -44,7 +42,7 @@ impl Disk for Shelf {
     ghost fails = { λ _ _ _. ⊤ };
 
     fn read(&self, alloc: Global, path: &str) -> Result<Vec<u8>, Unread> {
-        match text_at(path) {
+        match self.at(path) {
             None => Err(Unread::Failed),
             Some(text) => match Vec::from_slice(alloc, text.as_bytes()) {
                 Ok(bytes) => Ok(bytes),
@@ -54,121 +52,112 @@ impl Disk for Shelf {
     }
 }
 
-/// A command line, the exit status and what is printed.
-#[derive(Clone, Copy)]
-struct Row {
-    line: &'static str,
-    status: u8,
-    printed: &'static str,
-}
-
 const ROWS: [Row; 13] = [
     Row {
-        line: "dalictl check accepted.il",
+        text: ACCEPTED,
+        line: "check t.il",
         status: 0,
         printed: "task main words 4 bound 4\n",
     },
     Row {
-        line: "dalictl step accepted.il main",
+        text: ACCEPTED,
+        line: "step t.il main",
         status: 0,
         printed: "scan 0 steps 4 bound 4\np.a = FALSE\np.b = FALSE\np.c = TRUE\n",
     },
     Row {
-        line: "dalictl step accepted.il MAIN --scans 2 --bind two",
+        text: ACCEPTED,
+        line: "step t.il MAIN --scans 2 --bind two",
         status: 0,
         printed: "scan 0 steps 4 bound 4\nscan 1 steps 4 bound 4\n\
             p.a = TRUE\np.b = FALSE\np.c = FALSE\n",
     },
     Row {
-        line: "dalictl check without_result.il",
+        text: WITHOUT_RESULT,
+        line: "check t.il",
         status: 1,
         printed: "task main refused 3 at word 0 line 3\n",
     },
     Row {
-        line: "dalictl step without_result.il main",
+        text: WITHOUT_RESULT,
+        line: "step t.il main",
         status: 1,
         printed: "task main refused 3 at word 0 line 3\n",
     },
     Row {
-        line: "dalictl step without_result.il other",
+        text: WITHOUT_RESULT,
+        line: "step t.il other",
         status: 1,
         printed: "no task other\n",
     },
     Row {
-        line: "dalictl check undeclared.il",
+        text: "PROGRAM p\n\nLD x\nEND_PROGRAM\n",
+        line: "check t.il",
         status: 1,
         printed: "name fault 2 at 3:4\n",
     },
     Row {
-        line: "dalictl check empty.il",
+        text: EMPTY,
+        line: "check t.il",
         status: 0,
         printed: "task main words 0 bound 0\n",
     },
     Row {
-        line: "dalictl step empty.il main",
+        text: EMPTY,
+        line: "step t.il main",
         status: 0,
         printed: "scan 0 steps 0 bound 0\np.a = FALSE\n",
     },
     Row {
-        line: "dalictl check cut.il",
+        text: "PROGRAM p\n",
+        line: "check t.il",
         status: 1,
         printed: "text fault 4 at 2:1\n",
     },
     Row {
-        line: "dalictl check open.il --bind two",
+        text: "(* a",
+        line: "check t.il --bind two",
         status: 1,
         printed: "text fault 8 at 1:1\n",
     },
     Row {
-        line: "dalictl check open.il --bind seventeen",
+        text: "(* a",
+        line: "check t.il --bind seventeen",
         status: 1,
         printed: "bind fault at 2\n",
     },
     Row {
-        line: "dalictl step accepted.il main --bind seventeen",
+        text: ACCEPTED,
+        line: "step t.il main --bind seventeen",
         status: 1,
         printed: "bind fault at 2\n",
     },
 ];
 
 #[test]
-fn worked_rows_are_printed(rt: HostRuntime) -> Result<(), Fail> {
-    let alloc = rt.alloc();
-    for Row {
-        line,
-        status,
-        printed,
-    } in ROWS {
-        let words = words(alloc, line)?;
-        let Ok(invocation) = options::read(alloc, &words) else {
-            return Err("it is an invocation".into());
-        };
-        match serve(alloc, &Shelf, Vec::new(alloc), invocation) {
-            Ok((lines, exit)) => {
-                assert!(rt; lines.as_slice() == printed.as_bytes(), "{line}");
-                assert!(rt; exit.status() == status, "{line}");
-            }
-            Err(_) => return Err("it is served".into()),
-        }
+fn answers_are_printed(rt: HostRuntime) -> Result<(), Fail> {
+    for row in ROWS {
+        assert!(rt; answers(rt.alloc(), &row)?, "{}: {}", row.line, row.printed);
     }
     Ok(())
 }
 
 #[test]
-fn the_first_file_that_is_missing_is_told(rt: HostRuntime) -> Result<(), Fail> {
+fn the_first_file_that_is_missing_is_reported(rt: HostRuntime) -> Result<(), Fail> {
     let alloc = rt.alloc();
+    let shelf = Shelf { text: ACCEPTED };
     for (line, missing) in [
         ("dalictl check none.il", "none.il"),
         ("dalictl check none.il --bind two", "none.il"),
         ("dalictl check none.il --bind seventeen", "none.il"),
-        ("dalictl check accepted.il --bind none", "none"),
+        ("dalictl check t.il --bind none", "none"),
         ("dalictl check none.il --bind none", "none"),
     ] {
         let words = words(alloc, line)?;
         let Ok(invocation) = options::read(alloc, &words) else {
             return Err("it is an invocation".into());
         };
-        match serve(alloc, &Shelf, Vec::new(alloc), invocation) {
+        match serve(alloc, &shelf, Vec::new(alloc), invocation) {
             Err(Unserved::NotRead { path, why }) => {
                 assert!(rt; path == missing && why == Unread::Failed, "{line}");
             }

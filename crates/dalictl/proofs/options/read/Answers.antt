@@ -5,10 +5,19 @@ use Rattle.dalictl.proofs.options.read.Goals as goal
 
 pub returns-clause-taken : goal.returns-clause-taken
 returns-clause-taken c =
-    taken (map (λ word. string_bytes word) c.args.words.now) (app_of c.in_ok-command.field-0) c.in_ok-command.ensures (Ok c.in_ok-matches.matches) c.in_ok-matches.ensures.kinds
+    let words = map (λ word. string_bytes word) c.args.words.now in
+    let command = c.in_ok-command in
+    let matches = c.in_ok-matches in
+    taken words (app_of command.field-0) command.ensures (Ok matches.matches) matches.ensures.kinds
 
 pub returns-clause-invocation : goal.returns-clause-invocation
 returns-clause-invocation c =
+    let words = map (λ word. string_bytes word) c.args.words.now in
     let name = c.in-Some.name.now in
     let found = rows_of (found_of c.in-Some.found) in
-    (name, found, named (map (λ word. string_bytes word) c.args.words.now) (app_of c.in_ok-command.field-0) c.in_ok-command.ensures c.in_ok-matches.matches name found c.in_ok-matches.ensures.matches c.in-Some.ensures.name c.in-Some.ensures.rows, c.invocation_of.ensures)
+    let command = c.in_ok-command in
+    let matches = c.in_ok-matches in
+    let is = c.in-Some.ensures in
+    let has = matches.ensures.matches in
+    let spelled = named words (app_of command.field-0) command.ensures matches.matches name found has is.name is.rows in
+    (name, found, spelled, c.invocation_of.ensures)

@@ -6,6 +6,11 @@ use Rattle.dalictl.proofs.report.tasks.Goals as goal
 pub loop-task-preserved : goal.loop-task-preserved
 loop-task-preserved g c =
     let line = c.task_line in
-    one_line_more (g.W.Write.contents c.args.out.now) (g.W.Write.contents c.loop-task.out) (g.W.Write.contents c.writeln.new.self) (task_line c.args.setup.now) c.loop-task.task
-    (printed_task line.result.name.now line.result.words line.result.bound) c.loop-task.invariant c.in_ok-writeln.ensures.bytes
-    (task_is _ _ line.result.name.now line.result.words line.result.bound line.ensures.name line.ensures.words line.ensures.bound)
+    let shown = line.result in
+    let before = g.W.Write.contents c.args.out.now in
+    let so_far = g.W.Write.contents c.loop-task.out in
+    let text = printed_task shown.name.now shown.words shown.bound in
+    let said = line.ensures in
+    let is = task_is _ _ shown.name.now shown.words shown.bound said.name said.words said.bound in
+    one_line_more before so_far (g.W.Write.contents c.writeln.new.self) (task_line c.args.setup.now) c.loop-task.task
+    text c.loop-task.invariant c.in_ok-writeln.ensures.bytes is

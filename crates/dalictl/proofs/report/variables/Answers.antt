@@ -6,6 +6,10 @@ use Rattle.dalictl.proofs.report.variables.Goals as goal
 pub loop-slot-preserved : goal.loop-slot-preserved
 loop-slot-preserved g c =
     let line = c.variable_line in
-    one_line_more (g.W.Write.contents c.args.out.now) (g.W.Write.contents c.loop-slot.out) (g.W.Write.contents c.writeln.new.self) (variable_line c.args.made.now) c.loop-slot.slot
-    (printed_variable line.result.name.instance.bytes.now line.result.name.variable.bytes.now line.result.value) c.loop-slot.invariant c.in_ok-writeln.ensures.bytes
-    (variable_is _ _ _ _ _ line.result.value line.ensures.instance line.ensures.variable line.ensures.value)
+    let shown = line.result in
+    let before = g.W.Write.contents c.args.out.now in
+    let so_far = g.W.Write.contents c.loop-slot.out in
+    let text = printed_variable shown.name.instance.bytes.now shown.name.variable.bytes.now shown.value in
+    let is = variable_is _ _ _ _ _ shown.value line.ensures.instance line.ensures.variable line.ensures.value in
+    one_line_more before so_far (g.W.Write.contents c.writeln.new.self) (variable_line c.args.made.now) c.loop-slot.slot
+    text c.loop-slot.invariant c.in_ok-writeln.ensures.bytes is
