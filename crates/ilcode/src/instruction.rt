@@ -1,6 +1,6 @@
 //! The instructions of a code, one item a word.
 
-use iloperators::{Function, Operator};
+use iloperators::{Condition, Function, Operator};
 
 /// What an instruction is applied to.
 #[derive(Clone, Copy, PartialEq, Eq, Debug)]
@@ -32,4 +32,7 @@ pub enum Instruction {
     /// `)`: the operator that waits is applied to the result that waits with it and to the current
     /// one.
     Close,
+    /// JMP, JMPC, JMPCN, RET, RETC, RETCN: where the condition is met, control goes to the word at
+    /// the target's place, or ends where that is past the last.
+    Jump { condition: Condition, target: usize },
 }

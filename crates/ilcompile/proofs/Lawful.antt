@@ -16,7 +16,7 @@ use Rattle.iltrees.specs.declared.instruction.Instruction.TheVariants as instruc
 use Rattle.iltrees.specs.declared.instruction.Line.{Line}
 use Rattle.iltrees.specs.declared.nested.Piece.{Piece}
 use Rattle.iltrees.specs.Trees.{pieces_of}
-use Rattle.iltrees.specs.Words.{place_of, places_of, places_in, IsStraight, AreStraight}
+use Rattle.iltrees.specs.Words.{place_of, places_of, places_in, CallsNothing, CallNothing}
 use Rattle.iltrees.specs.Words as counts
 use Rattle.ilplan.specs.Plans.{PlannedInstance, PlannedTask, KeepsLimits, all_lines, types_of}
 use Rattle.ilcode.specs.declared.instruction.Instruction.{Instruction as Word}
@@ -29,7 +29,7 @@ use Rattle.ilcompile.specs.Layout.{starts_from, programs_of, laid_out}
 -- ---- as many words as places
 
 module _ (constants : List Value) where
-  word_places : (at : ℕ) (i : Instruction ℕ ℕ) → IsStraight (Some i)
+  word_places : (at : ℕ) (i : Instruction ℕ ℕ) → CallsNothing (Some i)
       → length (words_of constants i) ≡ length (places_of at i)
   word_places at (instructions.Load negated o) st = refl
   word_places at (instructions.Apply operator o) st = refl
@@ -52,16 +52,16 @@ module _ (constants : List Value) where
   word_places at (instructions.Return condition) st = absurd st
   word_places at (instructions.Call condition n xs) st = absurd st
 
-  line_places : (line : Line ℕ ℕ) → IsStraight line.instruction
+  line_places : (line : Line ℕ ℕ) → CallsNothing line.instruction
       → length (words_in constants line) ≡ length (places_in line)
   line_places line st = go line.instruction st
     where
-      go : (i : Option (Instruction ℕ ℕ)) → IsStraight i
+      go : (i : Option (Instruction ℕ ℕ)) → CallsNothing i
           → length (option_map_or (words_of constants) i []) ≡ length (option_map_or (places_of line.at) i [])
       go None st = refl
       go (Some i) st = word_places line.at i st
 
-  lines_places : (lines : List (Line ℕ ℕ)) → AreStraight lines
+  lines_places : (lines : List (Line ℕ ℕ)) → CallNothing lines
       → length (words_of_lines constants lines) ≡ length (flat_map places_in lines)
   lines_places [] st = refl
   lines_places (line ∷ lines) st =

@@ -17,7 +17,7 @@ use Rattle.iltrees.specs.declared.instruction.Line.{Line}
 use Rattle.iltrees.specs.declared.nested.Piece.{Piece}
 use Rattle.iltrees.specs.Trees.{pieces_of}
 use Rattle.iltrees.specs.Uses.{uses_of_piece, uses_of, uses_in}
-use Rattle.iltrees.specs.Words.{IsShallow, IsStraight}
+use Rattle.iltrees.specs.Words.{IsShallow, CallsNothing}
 use Rattle.iltrees.specs.Meaning.{Access, Way, On, To, Out, After, gives, leaves, operand_value}
 use Rattle.iltrees.specs.Meaning.{loaded, value, line_does}
 use Rattle.iltrees.specs.Passes.{has_label, takes, passes}
@@ -36,7 +36,7 @@ use Rattle.ilcompile.proofs.TreeRuns.{load_gives, apply_gives, transform_gives, 
 -- what is asked of a line: not too many parentheses, no jump, its constants in the table
 abbrev pub IsFit : List Value → Line ℕ ℕ → Type 0
 IsFit constants line =
-    IsShallow line.instruction × IsStraight line.instruction × AreServed constants (uses_in line)
+    IsShallow line.instruction × CallsNothing line.instruction × AreServed constants (uses_in line)
 
 module _ (code : Listing) (front : List Word) (same : ℕ → ℕ → Bool) (end : ℕ) where
   abbrev access : Access ℕ (List Value)
@@ -119,7 +119,7 @@ module _ (code : Listing) (front : List Word) (same : ℕ → ℕ → Bool) (end
     -- one line
     line_passes : (slots : List Value) (r : Option Value) (k : ℕ) (i : Option (Instruction ℕ ℕ))
         → HasWords front p (option_map_or (words_of code.constants) i [])
-        → n ≡ length (option_map_or (words_of code.constants) i []) → IsShallow i → IsStraight i
+        → n ≡ length (option_map_or (words_of code.constants) i []) → IsShallow i → CallsNothing i
         → AreServed code.constants (option_map_or (uses_of k) i [])
         → Passes (at p slots r []) (option_and_then rest (line_does access i r slots))
     line_passes slots r k None has e sh st sv =

@@ -9,7 +9,7 @@ use Rattle.iltrees.specs.declared.operand.Operand.TheVariants.{Name, Constant}
 use Rattle.iltrees.specs.declared.instruction.Line.{Line}
 use Rattle.iltrees.specs.declared.uses.Use.{Use}
 use Rattle.iltrees.specs.Uses.{uses_in}
-use Rattle.iltrees.specs.Words.{AreShallow, AreStraight}
+use Rattle.iltrees.specs.Words.{AreShallow, CallNothing}
 use Rattle.ilplan.specs.Constants.{same_value, constant_in, AreAmong}
 use Rattle.ilplan.specs.Plans.{PlannedInstance, PlannedTask, KeepsLimits, all_lines}
 use Rattle.ilplan.specs.PlanMeaning.{number_same}
@@ -48,7 +48,7 @@ module _ (constants : List Value) where
   all_served [] h = tt
   all_served (u ∷ uses) h = (operand_served u.operand h.0, all_served uses h.1)
 
-  lines_fit : (lines : List (Line ℕ ℕ)) → AreShallow lines → AreStraight lines
+  lines_fit : (lines : List (Line ℕ ℕ)) → AreShallow lines → CallNothing lines
       → AreServed constants (flat_map uses_in lines) → Each (IsFit constants) lines
   lines_fit [] sh st sv = tt
   lines_fit (line ∷ lines) sh st sv =

@@ -11,7 +11,7 @@ use Rattle.iltrees.specs.declared.operand.Operand.TheVariants.{Constant}
 use Rattle.iltrees.specs.declared.instruction.Line.{Line}
 use Rattle.iltrees.specs.declared.uses.Use.{Use}
 use Rattle.iltrees.specs.Uses.{uses_in}
-use Rattle.iltrees.specs.Words.{words_in, words_of_lines, AreShallow, AreStraight}
+use Rattle.iltrees.specs.Words.{words_in, words_of_lines, AreShallow, CallNothing}
 use Rattle.ilplan.specs.Constants.{with_constant, constant_in, constants_used, different_constants, each_once}
 use Rattle.ilplan.proofs.EachOnce.{each_once_more}
 use Rattle.ilplan.specs.Plans.{KeepsLimits}
@@ -28,10 +28,10 @@ loads_shallow [] h = tt
 loads_shallow (line ∷ lines) h =
     subst (λ (l : Line ℕ ℕ). AreShallow (l ∷ lines)) (sym h.0.1) (tt, loads_shallow lines h.1)
 
-loads_straight : (lines : List (Line ℕ ℕ)) → AreLoads lines → AreStraight lines
+loads_straight : (lines : List (Line ℕ ℕ)) → AreLoads lines → CallNothing lines
 loads_straight [] h = tt
 loads_straight (line ∷ lines) h =
-    subst (λ (l : Line ℕ ℕ). AreStraight (l ∷ lines)) (sym h.0.1) (refl, tt, loads_straight lines h.1)
+    subst (λ (l : Line ℕ ℕ). CallNothing (l ∷ lines)) (sym h.0.1) (refl, tt, loads_straight lines h.1)
 
 loads_words : (lines : List (Line ℕ ℕ)) → AreLoads lines → words_of_lines lines ≡ length lines
 loads_words [] h = refl
@@ -77,7 +77,7 @@ longest_keeps lines constants h e =
       most_constants = omega arith;
       most_words = omega (arith, ap (λ (ls : List (Line ℕ ℕ)). words_of_lines ls) all, loads_words lines h.are);
       shallow = subst (λ (ls : List (Line ℕ ℕ)). AreShallow ls) all (loads_shallow lines h.are);
-      straight = subst (λ (ls : List (Line ℕ ℕ)). AreStraight ls) all (loads_straight lines h.are);
+      straight = subst (λ (ls : List (Line ℕ ℕ)). CallNothing ls) all (loads_straight lines h.are);
       constants = h.all ∙ ap (λ (ls : List (Line ℕ ℕ)). different_constants ls) all;
       initials = (tt, (tt, tt));
     }

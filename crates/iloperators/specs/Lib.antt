@@ -1,2 +1,4 @@
+pub mod Comparisons
+pub mod Conditions
 pub mod Functions
 pub mod Operators

@@ -7,9 +7,11 @@
 //! no test; `has_value` is the test, and `try_apply` both.
 #![tactic(auto)]
 
+mod condition;
 pub mod function;
 pub mod operator;
 
+pub use condition::Condition;
 pub use function::{Function, IntegerType, modify};
 pub use operator::Operator;
 

@@ -5,7 +5,7 @@ use Rattle.iltypes.specs.declared.value.IlType.{IlType}
 use Rattle.iltypes.specs.declared.value.Value.{Value}
 use Rattle.iltypes.specs.Values.{AreOf}
 use Rattle.iltrees.specs.declared.instruction.Line.{Line}
-use Rattle.iltrees.specs.Words.{words_of_lines, AreShallow, AreStraight}
+use Rattle.iltrees.specs.Words.{words_of_lines, AreShallow, CallNothing}
 use Rattle.ilsource.specs.declared.name.Name.{Name}
 use Rattle.ilplan.specs.declared.instance.Slot.{Slot}
 use Rattle.ilplan.specs.Constants.{different_constants}
@@ -49,7 +49,7 @@ initials_of task = map (λ s. s.initial) task.slots
 abbrev pub all_lines : List PlannedInstance → List (Line ℕ ℕ)
 all_lines instances = flat_map (λ i. i.lines) instances
 
--- what holds of each task: it has no more of anything than the limits, its lines are straight, its constants are the
+-- what holds of each task: it has no more of anything than the limits, its lines call nothing, its constants are the
 -- different ones of its lines, and each slot is at first of its type
 pub record KeepsLimits (task : PlannedTask) : Type 0 where
   pub most_instances : length task.instances ≤ limits.most_instances
@@ -57,7 +57,7 @@ pub record KeepsLimits (task : PlannedTask) : Type 0 where
   pub most_constants : length task.constants ≤ limits.most_constants
   pub most_words : words_of_lines (all_lines task.instances) ≤ limits.most_words
   pub shallow : AreShallow (all_lines task.instances)
-  pub straight : AreStraight (all_lines task.instances)
+  pub calls : CallNothing (all_lines task.instances)
   pub constants : task.constants ≡ different_constants (all_lines task.instances)
   pub initials : AreOf (initials_of task) (types_of task)
 

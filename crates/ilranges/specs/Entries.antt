@@ -10,14 +10,15 @@ use Rattle.ilranges.specs.declared.entry.Entry.{Entry}
 use Rattle.ilranges.specs.declared.known.Known.{Known}
 use Rattle.ilranges.specs.declared.nesting.KnownOpened.{KnownOpened}
 use Rattle.ilranges.specs.Knowns.{known_of_type, known_of_value, IsKnownWithin}
+use Rattle.ilranges.specs.Marks.{IsMarkInto}
 
 -- before the first word each slot has a value of its type, there is no current result, and nothing is open
 abbrev pub opening : Listing → Entry
-opening code = record { slots = map known_of_type code.slots; result = None; nesting = [] }
+opening code = record { slots = map known_of_type code.slots; result = None; mark = None; nesting = [] }
 
--- where control comes to a place there is no current result if a program begins there
+-- where control comes to a place there is no current result, and so no mark, if a program begins there
 abbrev pub arriving : Listing → ℕ → Entry → Entry
-arriving code place entry = if is_start code place then record entry { result = None } else entry
+arriving code place entry = if is_start code place then record entry { result = None; mark = None } else entry
 
 -- what is known of an operand, where its table has it
 abbrev pub known_of : Listing → Entry → Operand → Option Known
@@ -35,9 +36,10 @@ pub record IsOpenedInto (opened wider : KnownOpened) : Type 0 where
   pub operator : opened.operator ≡ wider.operator
   pub saved : IsKnownWithin opened.saved wider.saved
 
--- what the first entry says is within what the second says: slot by slot, of the current result, and of each
--- parenthesis that is open, of which both have as many
+-- what the first entry says is within what the second says: slot by slot, of the current result, which has the same
+-- mark or, in the second, none, and of each parenthesis that is open, of which both have as many
 pub record IsInto (entry wider : Entry) : Type 0 where
   pub slots : AllZip IsKnownWithin entry.slots wider.slots
   pub result : IsResultInto entry.result wider.result
+  pub mark : IsMarkInto entry.mark wider.mark
   pub nesting : AllZip IsOpenedInto entry.nesting wider.nesting

@@ -10,6 +10,7 @@ use Rattle.ilranges.specs.declared.entry.Entry.{Entry}
 use Rattle.ilranges.specs.declared.known.Known.{Known}
 use Rattle.ilranges.specs.declared.nesting.KnownOpened.{KnownOpened}
 use Rattle.ilranges.specs.Knowns.{IsKnown}
+use Rattle.ilranges.specs.Marks.{IsMarked}
 
 -- there is a current result and it is known so, where a current result is known
 abbrev pub IsResultKnown : Option Value → Option Known → Type 0
@@ -27,4 +28,5 @@ pub record Fits (code : Listing) (entry : Entry) (c : Configuration) : Type 0 wh
   pub typed : AreOf c.slots code.slots
   pub slots : AllZip IsKnown c.slots entry.slots
   pub result : IsResultKnown c.result entry.result
+  pub mark : IsMarked c.slots c.result entry.mark
   pub nesting : AllZip IsOpenedKnown c.nesting entry.nesting

@@ -1,7 +1,9 @@
--- What is known where two ways meet.
+-- What is known where two ways meet: of one value, and of all.
 use Rattle.std.specs.Prelude.{◌⊎◌}
 use Rattle.iltypes.specs.declared.value.Value.{Value}
+use Rattle.ilranges.specs.declared.entry.Entry.{Entry}
 use Rattle.ilranges.specs.declared.known.Known.{Known}
+use Rattle.ilranges.specs.Entries.{IsInto}
 use Rattle.ilranges.specs.Knowns.{IsKnown, AreReached}
 
 -- the value is known as the one or as the other
@@ -17,3 +19,15 @@ pub record IsJoin (one other known : Known) : Type 0 where
 pub record IsHeld (one other : Known) : Type 0 where
   pub known : Known
   pub each : (value : Value) → IsKnownAsEither one other value → IsKnown value known
+
+-- what is known on either way, and no less: all that both ways lead into, it leads into
+pub record IsMeeting (one other meeting : Entry) : Type 0 where
+  pub from_one : IsInto one meeting
+  pub from_other : IsInto other meeting
+  pub least : (wider : Entry) → IsInto one wider → IsInto other wider → IsInto meeting wider
+
+-- some entry holds what is known on either way
+pub record MayMeet (one other : Entry) : Type 0 where
+  pub wider : Entry
+  pub from_one : IsInto one wider
+  pub from_other : IsInto other wider

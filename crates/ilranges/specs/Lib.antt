@@ -1,4 +1,5 @@
 pub mod Causes
+pub mod Changes
 pub mod Entries
 pub mod Fits
 pub mod FunctionSteps
@@ -6,6 +7,7 @@ pub mod Functions
 pub mod Joins
 pub mod Knowns
 pub mod Laws
+pub mod Marks
 pub mod Passing
 pub mod PassingSteps
 pub mod Refusals

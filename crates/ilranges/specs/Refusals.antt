@@ -6,6 +6,8 @@ use Rattle.iltypes.specs.declared.range.Range.{Range}
 use Rattle.iltypes.specs.declared.value.IlType.{IlType}
 use Rattle.iltypes.specs.declared.value.Value.{Value}
 use Rattle.iltypes.specs.declared.value.Value.TheVariants as values
+use Rattle.iloperators.specs.declared.condition.Condition.{Condition}
+use Rattle.iloperators.specs.declared.condition.Condition.TheVariants.{Always}
 use Rattle.iloperators.specs.declared.function.Function.{Function}
 use Rattle.iloperators.specs.declared.operator.Operator.{Operator}
 use Rattle.iloperators.specs.Functions.{modified}
@@ -13,8 +15,7 @@ use Rattle.iloperators.specs.Operators.{value_of_operator}
 use Rattle.ilcode.specs.declared.instruction.Instruction.{Instruction}
 use Rattle.ilcode.specs.declared.instruction.Instruction.TheVariants as words
 use Rattle.ilcode.specs.Listings.{Listing}
-use Rattle.ilcode.specs.Paths.{LeadsTo}
-use Rattle.ilcode.specs.Steps.{is_start}
+use Rattle.ilcode.specs.Steps.{is_start, is_target}
 use Rattle.ilranges.specs.declared.cause.Cause.{Cause}
 use Rattle.ilranges.specs.declared.cause.Cause.TheVariants as causes
 use Rattle.ilranges.specs.declared.entry.Entry.{Entry}
@@ -120,19 +121,33 @@ ArisesAtClose [] result _ = ⊥
 ArisesAtClose (innermost ∷ nesting) result cause =
     ArisesAtClosing innermost.operator innermost.saved result cause
 
+-- a jump with the modifier C or CN takes a truth value
+abbrev pub ArisesAtCondition : Condition → Option Known → Cause → Type 0
+ArisesAtCondition Always result cause = ⊥
+ArisesAtCondition condition result causes.WrongType = ¬ MayBe (values.Bool true) result
+ArisesAtCondition condition result causes.NoResult = IsNone result
+ArisesAtCondition condition result _ = ⊥
+
+-- JMP, RET and the like, by whether the target is lawful
+abbrev pub ArisesAtJump : Condition → Bool → Option Known → Cause → Type 0
+ArisesAtJump condition lawful result causes.BadJump = ¬ IsTrue lawful
+ArisesAtJump condition lawful result cause = ArisesAtCondition condition result cause
+
 -- the word's own causes
-abbrev pub ArisesBeforeNesting : Listing → Entry → Instruction → Cause → Type 0
-ArisesBeforeNesting code entry (words.Load negated operand) cause =
+abbrev pub ArisesBeforeNesting : Listing → ℕ → Entry → Instruction → Cause → Type 0
+ArisesBeforeNesting code place entry (words.Load negated operand) cause =
     ArisesAtLoad negated (known_of code entry operand) cause
-ArisesBeforeNesting code entry (words.Apply operator operand) cause =
+ArisesBeforeNesting code place entry (words.Apply operator operand) cause =
     ArisesAtApply operator entry.result (known_of code entry operand) cause
-ArisesBeforeNesting code entry (words.Transform function) cause = ArisesAtTransform function entry.result cause
-ArisesBeforeNesting code entry (words.Store negated slot) cause =
+ArisesBeforeNesting code place entry (words.Transform function) cause = ArisesAtTransform function entry.result cause
+ArisesBeforeNesting code place entry (words.Store negated slot) cause =
     ArisesAtStoring negated entry.result (slice_get code.slots slot) cause
-ArisesBeforeNesting code entry (words.Set slot) cause = ArisesAtSet entry.result (slice_get code.slots slot) cause
-ArisesBeforeNesting code entry (words.Reset slot) cause = ArisesAtSet entry.result (slice_get code.slots slot) cause
-ArisesBeforeNesting code entry (words.Open operator) cause = ArisesAtOpen entry.result cause
-ArisesBeforeNesting code entry words.Close cause = ArisesAtClose entry.nesting entry.result cause
+ArisesBeforeNesting code place entry (words.Set slot) cause = ArisesAtSet entry.result (slice_get code.slots slot) cause
+ArisesBeforeNesting code place entry (words.Reset slot) cause = ArisesAtSet entry.result (slice_get code.slots slot) cause
+ArisesBeforeNesting code place entry (words.Open operator) cause = ArisesAtOpen entry.result cause
+ArisesBeforeNesting code place entry words.Close cause = ArisesAtClose entry.nesting entry.result cause
+ArisesBeforeNesting code place entry (words.Jump condition target) cause =
+    ArisesAtJump condition (is_target code place target) entry.result cause
 
 -- ---- parentheses that stay open
 
@@ -142,20 +157,24 @@ open_after (words.Open operator) count = count + 1
 open_after words.Close count = count - 1
 open_after _ count = count
 
--- the word leads on to the end of its program: to where another begins, or to the end of the code
-pub record EndsProgram (code : Listing) (place : ℕ) (word : Instruction) : Type 0 where
-  pub to : ℕ
-  pub leads : LeadsTo word place to
-  pub ends : IsTrue (is_start code to) ⊎ (to ≡ length code.instructions)
+-- nothing may be open at the place: a program begins there, the code ends, or a jump leads there
+abbrev pub IsClosedAt : Listing → ℕ → Bool → Type 0
+IsClosedAt code place met = IsTrue (is_start code place) ⊎ (place ≡ length code.instructions) ⊎ IsTrue met
 
--- a parenthesis stays open at the end of a program, or more are opened than there is room for
-abbrev pub StaysOpen : Listing → ℕ → Instruction → ℕ → Type 0
-StaysOpen code place word count = (0 < count) × EndsProgram code place word ⊎ most_nesting < count
+-- nothing may be open after the word: where it leads on to such a place, and at a jump
+abbrev pub HasToClose : Listing → ℕ → Bool → Instruction → Type 0
+HasToClose code place met (words.Jump condition target) = ⊤
+HasToClose code place met word = IsClosedAt code (place + 1) met
+
+-- a parenthesis stays open where nothing may be, or more are opened than there is room for
+abbrev pub StaysOpen : Listing → ℕ → Bool → Instruction → ℕ → Type 0
+StaysOpen code place met word count = (0 < count) × HasToClose code place met word ⊎ most_nesting < count
 
 -- ---- all causes
 
--- the cause arises at the word before which this is known; causes arise independently of one another
-abbrev pub ArisesAtWord : Listing → ℕ → Entry → Instruction → Cause → Type 0
-ArisesAtWord code place entry word causes.OpenNesting =
-    StaysOpen code place word (open_after word (length entry.nesting))
-ArisesAtWord code place entry word cause = ArisesBeforeNesting code entry word cause
+-- the cause arises at the word before which this is known, where `met` says whether a jump leads to the next place;
+-- causes arise independently of one another
+abbrev pub ArisesAtWord : Listing → ℕ → Bool → Entry → Instruction → Cause → Type 0
+ArisesAtWord code place met entry word causes.OpenNesting =
+    StaysOpen code place met word (open_after word (length entry.nesting))
+ArisesAtWord code place met entry word cause = ArisesBeforeNesting code place entry word cause

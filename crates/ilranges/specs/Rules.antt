@@ -1,10 +1,15 @@
--- The rules of the verifier (profile): what is known after a word, from what is known before it and from what the
--- operators, functions and stores give (Results, Functions, Stores).
-use Rattle.std.specs.Prelude.{◌≡◌, ℕ, Bool, true, false, List, [], ◌∷◌, Option, Some, None, slice_get, slice_set, ⊤}
+-- The rules of the verifier (profile): what is known after a word on each way that it leads, from what is known before
+-- it and from what the operators, functions and stores give (Results, Functions, Stores).
+use Rattle.std.specs.Prelude.{◌≡◌, ℕ, ℤ, ◌+◌, ◌⊎◌, Bool, true, false, List, [], ◌∷◌, Option, Some, None}
+use Rattle.std.specs.Prelude.{slice_get, slice_set, ⊤}
+use Rattle.iltypes.specs.Arithmetic.{IsLeast}
+use Rattle.iltypes.specs.declared.range.Range.{Range}
 use Rattle.iltypes.specs.declared.value.IlType.{IlType}
 use Rattle.iltypes.specs.declared.value.IlType.TheVariants as types
 use Rattle.iltypes.specs.declared.value.Value.{Value}
 use Rattle.iltypes.specs.Values.{IsOf}
+use Rattle.iloperators.specs.declared.condition.Condition.{Condition}
+use Rattle.iloperators.specs.declared.condition.Condition.TheVariants.{Always, IfTrue, IfFalse}
 use Rattle.iloperators.specs.declared.function.Function.{Function}
 use Rattle.iloperators.specs.declared.function.Function.TheVariants as functions
 use Rattle.iloperators.specs.declared.operator.Operator.{Operator}
@@ -15,10 +20,14 @@ use Rattle.ilranges.specs.declared.cause.Cause.{Cause}
 use Rattle.ilranges.specs.declared.entry.Entry.{Entry}
 use Rattle.ilranges.specs.declared.known.Known.{Known}
 use Rattle.ilranges.specs.declared.known.Known.TheVariants as knowns
+use Rattle.ilranges.specs.declared.mark.Mark.{Mark}
+use Rattle.ilranges.specs.declared.mark.Mark.TheVariants.{Test}
 use Rattle.ilranges.specs.declared.nesting.KnownOpened.{KnownOpened}
 use Rattle.ilranges.specs.Entries.{known_of}
 use Rattle.ilranges.specs.Functions.{IsAfterFunction}
 use Rattle.ilranges.specs.Knowns.{IsKnown}
+use Rattle.ilranges.specs.Marks.{mark_of_load, mark_of_apply, mark_of_function, constant_of}
+use Rattle.ilranges.specs.Passing.{IsPassing}
 use Rattle.ilranges.specs.Refusals.{ArisesAtWord}
 use Rattle.ilranges.specs.Results.{IsAfter}
 
@@ -53,13 +62,18 @@ abbrev pub MaySet : Option Known → Option IlType → Type 0
 MaySet (Some knowns.Bool) (Some types.Bool) = ⊤
 MaySet _ _ = ⊥
 
--- the word leaves a current result, with these parentheses open
-pub record Gives (entry : Entry) (nesting : List KnownOpened) (IsGiven : Known → Type 0) (after : Entry) : Type 0 where
+-- the word leaves a current result with this mark, and these parentheses open
+pub record Gives (entry : Entry) (nesting : List KnownOpened) (mark_of : Known → Option Mark) (IsGiven : Known → Type 0)
+    (after : Entry) : Type 0 where
   pub known : Known
   pub given : IsGiven known
-  pub is : after ≡ record { slots = entry.slots; result = Some known; nesting = nesting }
+  pub is : after ≡ record { slots = entry.slots; result = Some known; mark = mark_of known; nesting = nesting }
 
--- the word stores to the slot, which is known as what was stored from then on; the current result stays
+-- no mark, whatever is known
+abbrev pub unmarked : Known → Option Mark
+unmarked known = None
+
+-- the word stores to the slot, which is known as what was stored from then on; the current result and its mark stay
 pub record Writes (entry : Entry) (slot : ℕ) (IsWritten : Known → Type 0) (after : Entry) : Type 0 where
   pub stored : Known
   pub written : IsWritten stored
@@ -73,30 +87,92 @@ waiting operator saved = record { operator = operator; saved = saved }
 abbrev pub Opens : Entry → Operator → Option Known → Entry → Type 0
 Opens entry operator None after = ⊥
 Opens entry operator (Some saved) after =
-    after ≡ record { slots = entry.slots; result = None; nesting = waiting operator saved ∷ entry.nesting }
+    after ≡ record {
+      slots = entry.slots;
+      result = None;
+      mark = None;
+      nesting = waiting operator saved ∷ entry.nesting;
+    }
 
 -- `)`: the operator that waits is applied to the result that waits with it and the current one
 abbrev pub Closes : Entry → List KnownOpened → Entry → Type 0
 Closes entry [] after = ⊥
 Closes entry (innermost ∷ nesting) after =
-    Gives entry nesting (IsApplied innermost.operator (Some innermost.saved) entry.result) after
+    Gives entry nesting unmarked (IsApplied innermost.operator (Some innermost.saved) entry.result) after
 
--- what is known after the word, from its operand and what was known before; S and R write a truth value where one was
-abbrev pub IsAfterWord : Listing → Entry → Instruction → Entry → Type 0
-IsAfterWord code entry (words.Load negated operand) after =
-    Gives entry entry.nesting (IsLoaded negated (known_of code entry operand)) after
-IsAfterWord code entry (words.Apply operator operand) after =
-    Gives entry entry.nesting (IsApplied operator entry.result (known_of code entry operand)) after
-IsAfterWord code entry (words.Transform function) after =
-    Gives entry entry.nesting (IsTransformed function entry.result) after
-IsAfterWord code entry (words.Store negated slot) after =
+-- what is known after a word that leads to the next place alone, from its operand and what was known before; S and R
+-- write a truth value where one was
+abbrev pub IsEntryAfter : Listing → Entry → Instruction → Entry → Type 0
+IsEntryAfter code entry (words.Load negated operand) after =
+    Gives entry entry.nesting (mark_of_load negated operand) (IsLoaded negated (known_of code entry operand)) after
+IsEntryAfter code entry (words.Apply operator operand) after =
+    Gives entry entry.nesting (λ _. mark_of_apply entry.mark operator (constant_of code operand))
+    (IsApplied operator entry.result (known_of code entry operand)) after
+IsEntryAfter code entry (words.Transform function) after =
+    Gives entry entry.nesting (λ _. mark_of_function entry.mark function) (IsTransformed function entry.result) after
+IsEntryAfter code entry (words.Store negated slot) after =
     Writes entry slot (IsStored negated entry.result (slice_get code.slots slot)) after
-IsAfterWord code entry (words.Set slot) after = MaySet entry.result (slice_get code.slots slot) × (after ≡ entry)
-IsAfterWord code entry (words.Reset slot) after = MaySet entry.result (slice_get code.slots slot) × (after ≡ entry)
-IsAfterWord code entry (words.Open operator) after = Opens entry operator entry.result after
-IsAfterWord code entry words.Close after = Closes entry entry.nesting after
+IsEntryAfter code entry (words.Set slot) after = MaySet entry.result (slice_get code.slots slot) × (after ≡ entry)
+IsEntryAfter code entry (words.Reset slot) after = MaySet entry.result (slice_get code.slots slot) × (after ≡ entry)
+IsEntryAfter code entry (words.Open operator) after = Opens entry operator entry.result after
+IsEntryAfter code entry words.Close after = Closes entry entry.nesting after
+IsEntryAfter code entry (words.Jump condition target) after = ⊥
 
--- no cause arises at the word, and this is known after it
-pub record IsRule (code : Listing) (place : ℕ) (entry : Entry) (word : Instruction) (after : Entry) : Type 0 where
-  pub lawful : (cause : Cause) → ¬ ArisesAtWord code place entry word cause
-  pub leaves : IsAfterWord code entry word after
+-- ---- ways
+
+-- what is known on the way to the next place and on the way to a jump's target; nothing where no value goes that way
+pub record Ways : Type 0 where
+  pub next : Option Entry
+  pub target : Option Entry
+
+-- the slot holds the least range of the numbers that pass the test, if any does
+pub record IsKept (entry : Entry) (slot : ℕ) (comparison : Operator) (outcome : Bool) (limit : ℤ) (range : Range)
+    (way : Entry) : Type 0 where
+  pub kept : Range
+  pub least : IsLeast (IsPassing comparison outcome limit range) kept
+  pub is : way ≡ record entry { slots = slice_set entry.slots slot (knowns.Int kept) }
+
+-- what is known where a slot's number passes a test, of the slot as it was known; nothing where none can
+abbrev pub IsTested : Entry → ℕ → Operator → Bool → ℤ → Option Known → Option Entry → Type 0
+IsTested entry slot comparison outcome limit (Some (knowns.Int range)) (Some way) =
+    IsKept entry slot comparison outcome limit range way
+IsTested entry slot comparison outcome limit (Some (knowns.Int range)) None =
+    (number : ℤ) → ¬ IsPassing comparison outcome limit range number
+IsTested entry slot comparison outcome limit _ way = way ≡ Some entry
+
+-- what is known where the current result has this outcome: all that was, and what a test says
+abbrev pub IsRefined : Entry → Bool → Option Mark → Option Entry → Type 0
+IsRefined entry outcome (Some (Test slot comparison limit)) way =
+    IsTested entry slot comparison outcome limit (slice_get entry.slots slot) way
+IsRefined entry outcome _ way = way ≡ Some entry
+
+-- a jump goes to its target where the current result has one outcome, and on where it has the other; it keeps the
+-- current result and its mark
+abbrev pub AreJumped : Condition → Entry → Ways → Type 0
+AreJumped Always entry ways = (ways.target ≡ Some entry) × (ways.next ≡ None)
+AreJumped IfTrue entry ways = IsRefined entry true entry.mark ways.target × IsRefined entry false entry.mark ways.next
+AreJumped IfFalse entry ways = IsRefined entry false entry.mark ways.target × IsRefined entry true entry.mark ways.next
+
+-- to the next place alone
+pub record AreOnward (IsAfter : Entry → Type 0) (ways : Ways) : Type 0 where
+  pub after : Entry
+  pub leaves : IsAfter after
+  pub next : ways.next ≡ Some after
+  pub target : ways.target ≡ None
+
+-- what is known on each way from the word
+abbrev pub AreWaysOf : Listing → Entry → Instruction → Ways → Type 0
+AreWaysOf code entry (words.Jump condition target) ways = AreJumped condition entry ways
+AreWaysOf code entry word ways = AreOnward (IsEntryAfter code entry word) ways
+
+-- the word at a place leads to another, where this is known
+abbrev pub IsWay : Instruction → ℕ → Ways → ℕ → Entry → Type 0
+IsWay (words.Jump condition target) place ways to after =
+    (to ≡ target) × (ways.target ≡ Some after) ⊎ (to ≡ place + 1) × (ways.next ≡ Some after)
+IsWay word place ways to after = (to ≡ place + 1) × (ways.next ≡ Some after)
+
+-- no cause arises at the word, and this is known on the ways from it
+pub record IsRule (code : Listing) (place : ℕ) (met : Bool) (entry : Entry) (word : Instruction) (ways : Ways)
+    : Type 0 where
+  pub lawful : (cause : Cause) → ¬ ArisesAtWord code place met entry word cause
+  pub leaves : AreWaysOf code entry word ways

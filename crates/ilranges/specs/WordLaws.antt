@@ -1,6 +1,6 @@
 -- Laws of the rules: where a word has a rule, no run goes wrong at it; and who knows more before a word knows more
 -- after it, and is refused only where who knows less is refused too.
-use Rattle.std.specs.Prelude.{◌≡◌, ℕ, List, Some, slice_get}
+use Rattle.std.specs.Prelude.{◌≡◌, ℕ, Bool, IsTrue, List, Option, Some, None, slice_get, ⊤}
 use Rattle.iltypes.specs.declared.value.Value.{Value}
 use Rattle.iltypes.specs.Values.{AreOf}
 use Rattle.ilcode.specs.declared.instruction.Instruction.{Instruction}
@@ -13,32 +13,37 @@ use Rattle.ilranges.specs.Causes.{IsLeastCause}
 use Rattle.ilranges.specs.Entries.{opening, arriving, IsInto}
 use Rattle.ilranges.specs.Fits.{Fits}
 use Rattle.ilranges.specs.Refusals.{ArisesAtWord}
-use Rattle.ilranges.specs.Rules.{IsAfterWord, IsRule}
+use Rattle.ilranges.specs.Rules.{Ways, AreWaysOf, IsWay, IsRule}
 
--- the word is defined, and leaves what the rule says
-pub record Goes (code : Listing) (c : Configuration) (word : Instruction) (after : Entry) : Type 0 where
+-- the word is defined, and leads to where the rule says what is known
+pub record Goes (code : Listing) (c : Configuration) (word : Instruction) (ways : Ways) : Type 0 where
   pub to : Configuration
   pub is : effect code c word ≡ Some to
-  pub leads : LeadsTo word c.place to.place
+  pub leads : LeadsTo code word c.place to.place
+  pub after : Entry
+  pub way : IsWay word c.place ways to.place after
   pub fits : Fits code after to
 
 -- from each configuration that is as the entry says, where the word has a rule
 abbrev pub IsSoundAt : Instruction → Type 0
 IsSoundAt word =
-    (code : Listing) (entry after : Entry) (c : Configuration) → IsRule code c.place entry word after
-    → Fits code entry c → Goes code c word after
+    (code : Listing) (met : Bool) (entry : Entry) (ways : Ways) (c : Configuration)
+    → IsRule code c.place met entry word ways → Fits code entry c → Goes code c word ways
 
--- the step is defined, and what is known after the word holds where it leads
-pub record Steps (code : Listing) (c : Configuration) (word : Instruction) (after : Entry) : Type 0 where
+-- the step is defined, and what is known on a way from the word holds where the step leads
+pub record Steps (code : Listing) (c : Configuration) (word : Instruction) (ways : Ways) : Type 0 where
   pub to : Configuration
   pub is : step code c ≡ Some to
-  pub leads : LeadsTo word c.place to.place
+  pub leads : LeadsTo code word c.place to.place
+  pub after : Entry
+  pub way : IsWay word c.place ways to.place after
   pub fits : Fits code (arriving code to.place after) to
 
 abbrev pub IsSafeAt : Instruction → Type 0
 IsSafeAt word =
-    (code : Listing) (entry after : Entry) (c : Configuration) → slice_get code.instructions c.place ≡ Some word
-    → IsRule code c.place entry word after → Fits code entry c → Steps code c word after
+    (code : Listing) (met : Bool) (entry : Entry) (ways : Ways) (c : Configuration)
+    → slice_get code.instructions c.place ≡ Some word → IsRule code c.place met entry word ways → Fits code entry c
+    → Steps code c word ways
 
 -- any values of the slots' types are as the first entry says
 abbrev pub IsFitAtStart : Type 0
@@ -50,21 +55,29 @@ IsFitWider =
     (code : Listing) (entry wider : Entry) (c : Configuration) → IsInto entry wider → Fits code entry c
     → Fits code wider c
 
--- who knows more before the word knows more after it
+-- no value goes a way, or what is known on it is within what the other says
+abbrev pub IsWayInto : Option Entry → Option Entry → Type 0
+IsWayInto None wider = ⊤
+IsWayInto (Some way) None = ⊥
+IsWayInto (Some way) (Some wider) = IsInto way wider
+
+-- who knows more before the word knows more on each way from it
 abbrev pub KeepsEntryOrder : Instruction → Type 0
 KeepsEntryOrder word =
-    (code : Listing) (entry after wider wider_after : Entry) → IsInto entry wider
-    → IsAfterWord code entry word after → IsAfterWord code wider word wider_after → IsInto after wider_after
+    (code : Listing) (entry wider : Entry) (ways wider_ways : Ways) → IsInto entry wider
+    → AreWaysOf code entry word ways → AreWaysOf code wider word wider_ways
+    → IsWayInto ways.next wider_ways.next × IsWayInto ways.target wider_ways.target
 
--- what is refused where more is known is refused where less is
+-- what is refused where more is known is refused where less is, and where jumps lead that led there before
 abbrev pub KeepsWordRefusals : Instruction → Type 0
 KeepsWordRefusals word =
-    (code : Listing) (place : ℕ) (entry wider wider_after : Entry) (cause : Cause) → IsInto entry wider
-    → ArisesAtWord code place entry word cause → ¬ IsRule code place wider word wider_after
+    (code : Listing) (place : ℕ) (met wider_met : Bool) (entry wider : Entry) (wider_ways : Ways) (cause : Cause)
+    → IsInto entry wider → (IsTrue met → IsTrue wider_met) → ArisesAtWord code place met entry word cause
+    → ¬ IsRule code place wider_met wider word wider_ways
 
 -- the least cause is one
 abbrev pub HasOneCause : Instruction → Type 0
 HasOneCause word =
-    (code : Listing) (place : ℕ) (entry : Entry) (one other : Cause)
-    → IsLeastCause (ArisesAtWord code place entry word) one
-    → IsLeastCause (ArisesAtWord code place entry word) other → one ≡ other
+    (code : Listing) (place : ℕ) (met : Bool) (entry : Entry) (one other : Cause)
+    → IsLeastCause (ArisesAtWord code place met entry word) one
+    → IsLeastCause (ArisesAtWord code place met entry word) other → one ≡ other

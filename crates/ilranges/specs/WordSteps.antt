@@ -12,17 +12,6 @@ use Rattle.ilranges.specs.declared.known.Known.{Known}
 use Rattle.ilranges.specs.declared.known.Known.TheVariants as knowns
 use Rattle.ilranges.specs.Causes.{number_of}
 
--- the entry after the change
-abbrev pub changed : Entry → Change → Entry
-changed entry (changes.Give known) =
-    record { slots = entry.slots; result = Some known; nesting = entry.nesting }
-changed entry (changes.Write slot known) = record entry { slots = slice_set entry.slots slot known }
-changed entry changes.Keep = entry
-changed entry (changes.Open opened) =
-    record { slots = entry.slots; result = None; nesting = opened ∷ entry.nesting }
-changed entry (changes.Close known) =
-    record { slots = entry.slots; result = Some known; nesting = drop 1 entry.nesting }
-
 -- whether the operator takes some value of the kind
 abbrev pub takes : Operator → Known → Bool
 takes (operators.And negated) (knowns.Int range) = false

@@ -26,6 +26,8 @@ pub enum Cause {
     },
     /// A result may leave 64 signed bits.
     TooBig,
+    /// A jump leads backward, past the start of the next program, or past the end.
+    BadJump,
     /// The word names a slot or a constant that its table does not have.
     BadSlot,
 }
@@ -33,7 +35,7 @@ pub enum Cause {
 impl Cause {
     ghost use Rattle.ilranges.specs.Causes.{number_of};
 
-    /// The number that is printed: 2 to 8, or 11 (profile).
+    /// The number that is printed: 2 to 9, or 11 (profile).
     pub fn number(self) -> u8
         ensures { result ≡ number_of self }
     {
@@ -45,6 +47,7 @@ impl Cause {
             Cause::MayBeZero => 6,
             Cause::OutOfRange { .. } => 7,
             Cause::TooBig => 8,
+            Cause::BadJump => 9,
             Cause::BadSlot => 11,
         }
     }

@@ -1,19 +1,20 @@
-//! What a word changes of what is known.
+//! What a word changes of what is known, on each way from it.
 
-ghost use Rattle.std.specs.Prelude.{◌≡◌, ◌≤◌, length};
-ghost use Rattle.limits.specs.Limits.{most_nesting};
-ghost use Rattle.ilranges.specs.WordSteps.{changed};
+ghost use Rattle.std.specs.Prelude.{◌≡◌, OnOk};
+ghost use Rattle.ilranges.specs.Changes.{changed};
 
 use crate::entry::Entry;
 use crate::known::Known;
+use crate::mark::Mark;
 use crate::nesting::KnownOpened;
+use std::alloc::AllocError;
 
-/// What a word changes.
+/// What a word changes on one way from it.
 #[derive(Clone, Copy, Debug)]
-pub(crate) enum Change {
-    /// There is a current result, known so.
-    Give(Known),
-    /// The slot of this number is known so.
+pub enum Change {
+    /// There is a current result, known so, with this mark.
+    Give(Known, Option<Mark>),
+    /// The slot of this number is known so; the current result and its mark stay.
     Write(usize, Known),
     /// Nothing.
     Keep,
@@ -23,24 +24,37 @@ pub(crate) enum Change {
     Close(Known),
 }
 
+/// What a word changes on the way to the next place and on that to a jump's target; `None` where no
+/// value goes that way.
+#[derive(Clone, Copy, Debug)]
+pub struct Changes {
+    pub next: Option<Change>,
+    pub target: Option<Change>,
+}
+
 impl Change {
     /// Changes what is known.
-    pub(crate) fn apply(self, entry: &mut Entry)
-        requires { length (changed entry.old self).nesting ≤ most_nesting }
-        ensures { entry.new ≡ changed entry.old self }
+    pub fn apply(self, entry: &mut Entry) -> Result<(), AllocError>
+        ensures { OnOk result (entry.new ≡ changed entry.old self) }
     {
         match self {
-            Change::Give(known) => entry.result = Some(known),
-            Change::Write(slot, known) => entry.slots.set(slot, known),
+            Change::Give(known, mark) => {
+                entry.result = Some(known);
+                entry.mark = mark;
+            }
+            Change::Write(slot, known) => entry.slots.set(slot, known)?,
             Change::Keep => {}
             Change::Open(opened) => {
-                entry.nesting.open(opened);
+                entry.nesting.open(opened)?;
                 entry.result = None;
+                entry.mark = None;
             }
             Change::Close(known) => {
                 entry.nesting.close();
                 entry.result = Some(known);
+                entry.mark = None;
             }
         }
+        Ok(())
     }
 }

@@ -1,8 +1,9 @@
 //! What is known before a word.
 
-ghost use Rattle.std.specs.Prelude.{◌≡◌, IfOk};
+ghost use Rattle.std.specs.Prelude.{◌≡◌, IfOk, OnOk};
 
 use crate::known::Known;
+use crate::mark::Mark;
 use crate::nesting::Nesting;
 use crate::slots::Slots;
 use crate::word::is_start;
@@ -16,12 +17,15 @@ pub struct Entry {
     pub slots: Slots,
     /// What is known of the current result, or `None` where there may be none.
     pub result: Option<Known>,
+    /// What the current result says of a slot, where it says something.
+    pub mark: Option<Mark>,
     /// The parentheses that are open.
     pub nesting: Nesting,
 }
 
 impl Entry {
     ghost use Rattle.ilranges.specs.Entries.{opening, arriving};
+    ghost use Rattle.ilranges.specs.Joins.{IsMeeting, MayMeet};
 
     /// What is known before the first word: each slot has a value of its type, there is no current
     /// result, and nothing is open.
@@ -31,16 +35,44 @@ impl Entry {
         Ok(Entry {
             slots: Slots::new(alloc, code.slots())?,
             result: None,
-            nesting: Nesting::new(),
+            mark: None,
+            nesting: Nesting::new(alloc),
         })
     }
 
-    /// What is known where control comes to the place: at the start of a program no current result.
+    /// What is known where control comes to the place: at the start of a program no current result,
+    /// and so no mark.
     pub fn arrive(&mut self, code: &Code, place: usize)
         ensures { self.new ≡ arriving code.now place self.old }
     {
         if is_start(code, place) {
             self.result = None;
+            self.mark = None;
         }
+    }
+
+    /// The same, with the ranges of the slots shared.
+    pub fn share(&self) -> Result<Entry, AllocError>
+        ensures { IfOk result (λ entry. entry ≡ self.now) }
+    {
+        Ok(Entry {
+            slots: self.slots.share()?,
+            result: self.result,
+            mark: self.mark,
+            nesting: self.nesting.share()?,
+        })
+    }
+
+    /// What is known on either way, where two ways meet.
+    pub fn join(&mut self, other: &Entry) -> Result<(), AllocError>
+        requires { MayMeet self.old other.now }
+        ensures { OnOk result (IsMeeting self.old other.now self.new) }
+    {
+        self.slots.join(&other.slots)?;
+        self.result = join_results(self.result, other.result);
+        if self.mark != other.mark {
+            self.mark = None;
+        }
+        Ok(())
     }
 }

@@ -1,12 +1,13 @@
 //! What is known before and after each word of a code, with which a verifier follows a program.
 //!
-//! What crosses the boundary: [`Entry`], all that is known at a place, [`after_word`], which makes
-//! of it what is known after a word or reports the least [`Cause`], and [`Known`], a kind with a
-//! range for numbers. The rules are `IsAfterWord` (specs/Rules.antt, to be read first) and
+//! What crosses the boundary: [`Entry`], all that is known at a place, [`after_word`], which says
+//! what a word changes of it on each way from the word ([`Changes`]) or reports the least [`Cause`],
+//! and [`Known`], a kind with a range for numbers. The rules are `AreWaysOf` (specs/Rules.antt, to be read first) and
 //! `ArisesAtWord` (specs/Refusals.antt), over `IsAfter` of an operator (specs/Results.antt).
 //!
 //! ```text
-//! after_word(code, place, &mut entry, word)?;
+//! let changes = after_word(code, place, met, &entry, word)?;
+//! changes.next.apply(&mut entry)?;
 //! ```
 #![tactic(auto)]
 
@@ -16,16 +17,19 @@ mod comparison;
 mod entry;
 mod known;
 mod law;
+mod mark;
 mod nesting;
 mod rules;
 mod slots;
 mod word;
 
 pub use cause::Cause;
+pub use change::{Change, Changes};
 pub use comparison::passing;
 pub use entry::Entry;
 pub use known::Known;
 pub use law::{least_cause_is_one, more_known_before_is_more_known_after, words_are_safe};
+pub use mark::Mark;
 pub use nesting::{KnownOpened, Nesting};
 pub use slots::Slots;
 pub use word::after_word;

@@ -1,10 +1,10 @@
 //! Parentheses that are open, as far as they are known.
 
-ghost use Rattle.std.specs.Prelude.{◌≡◌, ◌<◌, ◌≤◌, [], ◌∷◌, drop, length, slice_get};
+ghost use Rattle.std.specs.Prelude.{◌≡◌, [], ◌∷◌, drop, length, slice_get, IfOk, OnOk};
 
 use crate::known::Known;
-use arrayvec::ArrayVec;
 use iloperators::Operator;
+use std::alloc::{AllocError, Global};
 use std::marker::Model;
 
 /// An open parenthesis (IEC 61131-3, 3.2.2): the operator before it, and what is known of the
@@ -24,10 +24,10 @@ impl Default for KnownOpened {
     }
 }
 
-/// The parentheses that are open, at most 32, the innermost first.
+/// The parentheses that are open, the innermost first.
 #[derive(Debug, Drop)]
 pub struct Nesting {
-    items: ArrayVec<KnownOpened, 32>,
+    items: Vec<KnownOpened>,
 }
 
 impl Model for Nesting {
@@ -40,21 +40,18 @@ impl Model for Nesting {
 }
 
 impl Nesting {
-    ghost use Rattle.limits.specs.Limits.{most_nesting};
-
     /// Nothing is open.
-    pub fn new() -> Nesting
+    pub fn new(alloc: Global) -> Nesting
         ensures { result ≡ [] }
     {
         Nesting {
-            items: ArrayVec::new(),
+            items: Vec::new(alloc),
         }
     }
 
-    /// How many parentheses are open: at most 32.
+    /// How many parentheses are open.
     pub fn len(&self) -> usize
-        ensures value { result ≡ length self.now }
-        ensures few { length self.now ≤ most_nesting }
+        ensures { result ≡ length self.now }
     {
         self.items.len()
     }
@@ -66,12 +63,11 @@ impl Nesting {
         self.items.last().copied()
     }
 
-    /// One more is open, where there is room.
-    pub fn open(&mut self, opened: KnownOpened)
-        requires { length self.old < most_nesting }
-        ensures { self.new ≡ opened ∷ self.old }
+    /// One more is open.
+    pub fn open(&mut self, opened: KnownOpened) -> Result<(), AllocError>
+        ensures { OnOk result (self.new ≡ opened ∷ self.old) }
     {
-        self.items.push(opened);
+        self.items.push(opened)
     }
 
     /// The innermost, where something is open, is open no more.
@@ -79,5 +75,14 @@ impl Nesting {
         ensures { self.new ≡ drop 1 self.old }
     {
         let _ = self.items.pop();
+    }
+
+    /// The same.
+    pub fn share(&self) -> Result<Nesting, AllocError>
+        ensures { IfOk result (λ nesting. nesting ≡ self.now) }
+    {
+        Ok(Nesting {
+            items: self.items.clone()?,
+        })
     }
 }

@@ -44,8 +44,8 @@ impl Slots {
     }
 
     /// The slot, where there is one, is known so from now on.
-    pub fn set(&mut self, slot: usize, known: Known)
-        ensures { self.new ≡ slice_set self.old slot known }
+    pub fn set(&mut self, slot: usize, known: Known) -> Result<(), AllocError>
+        ensures { OnOk result (self.new ≡ slice_set self.old slot known) }
     {
         if slot < self.items.len() {
             self.items[slot] = known;

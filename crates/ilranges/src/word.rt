@@ -159,24 +159,23 @@ fn least_cause(judged: Result<Change, Cause>) -> Cause
     }
 }
 
-/// What is known before the word at the place becomes what is known after it (profile), or the
-/// least cause that arises there is reported; then nothing is changed.
+/// What the word at the place changes of what is known before it, on each way from it (profile), or
+/// the least cause that arises there. `met` says whether a jump leads to the next place.
 pub fn after_word(
     code: &Code,
     place: usize,
-    entry: &mut Entry,
+    met: bool,
+    entry: &Entry,
     word: Instruction,
-) -> Result<(), Cause>
+) -> Result<Changes, Cause>
     requires { place < length code.now.instructions }
-    ensures rule { MatchResult result
-        (λ _. IsRule code.now place entry.old word entry.new)
-        (IsLeastCause (ArisesAtWord code.now place entry.old word)) }
-    ensures unchanged { OnErr result (entry.new ≡ entry.old) }
+    ensures { MatchResult result
+        (λ changes. IsRule code.now place met entry.now word (ways_of entry.now changes))
+        (IsLeastCause (ArisesAtWord code.now place met entry.now word)) }
 {
-    let judged = judge(code, entry, word);
-    if stays_open(code, place, word, entry.nesting.len()) {
+    let judged = judge(code, place, entry, word);
+    if stays_open(code, place, met, word, entry.nesting.len()) {
         return Err(least_cause(judged));
     }
-    judged?.apply(entry);
-    Ok(())
+    judged
 }

@@ -20,7 +20,7 @@ impl Model for Program {
     ghost use Rattle.iltrees.specs.declared.nested.Piece.{Piece};
     ghost use Rattle.iltrees.specs.Trees.{pieces_of};
     ghost use Rattle.iltrees.specs.TreeSteps.{tree_of, tree_again};
-    ghost use Rattle.iltrees.specs.Words.{AreShallow, AreStraight};
+    ghost use Rattle.iltrees.specs.Words.{AreShallow, CallNothing};
     ghost use Rattle.ilsource.specs.declared.name.Name.{Name};
     ghost use Rattle.ilsource.specs.Programs.{Written};
 
@@ -37,18 +37,18 @@ impl Model for Program {
       lines = p.lines.items;
     } };
 
-    ghost invariant = { λ p. AreShallow p.lines.items × AreStraight p.lines.items };
+    ghost invariant = { λ p. AreShallow p.lines.items × CallNothing p.lines.items };
 }
 
 impl Program {
     ghost use Rattle.std.specs.Prelude.{◌≡◌};
-    ghost use Rattle.iltrees.specs.Words.{AreShallow, AreStraight};
+    ghost use Rattle.iltrees.specs.Words.{AreShallow, CallNothing};
     ghost use Rattle.ilsource.specs.Programs.{Written};
 
     /// The program of these declarations and lines.
     pub fn new(name: Name, declarations: Vec<Declaration>, lines: Vec<Line<Name, Name>>) -> Program
         requires shallow { AreShallow lines.items }
-        requires straight { AreStraight lines.items }
+        requires calls { CallNothing lines.items }
         ensures name { result.name ≡ name }
         ensures declarations { result.declarations ≡ declarations.items }
         ensures lines { result.lines ≡ lines.items }
@@ -78,7 +78,7 @@ impl Program {
     pub fn lines(&self) -> &[Line<Name, Name>]
         ensures value { result.now ≡ self.now.lines }
         ensures shallow { AreShallow self.now.lines }
-        ensures straight { AreStraight self.now.lines }
+        ensures calls { CallNothing self.now.lines }
     {
         &self.lines
     }

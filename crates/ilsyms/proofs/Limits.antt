@@ -4,7 +4,7 @@ use Rattle.std.specs.Prelude.{Option, Some, None, slice_get, flat_map}
 use Rattle.std.proofs.Math.ListN.{length-map}
 use Rattle.std.proofs.lemmas.List.Concat.{length-flat_map}
 use Rattle.iltypes.specs.Values.{AreOf}
-use Rattle.iltrees.specs.Words.{places_in, words_of_lines, AreShallow, AreStraight}
+use Rattle.iltrees.specs.Words.{places_in, words_of_lines, AreShallow, CallNothing}
 use Rattle.ilsource.specs.Trees.{Tree}
 use Rattle.ilscope.specs.Declarations.{declared_programs}
 use Rattle.ilscope.specs.declared.fault.NameCause.TheVariants.{TooMany}
@@ -46,7 +46,7 @@ module _ (tree : Tree) (named : IsWellNamed tree) where
       let counted = length-flat_map places_in (all_lines (task_of_tree tree).instances) in
       omega (arith, least, same, counted)
 
-  pub keeps_limits : AreShallow (lines_of (declared_programs tree)) → AreStraight (lines_of (declared_programs tree))
+  pub keeps_limits : AreShallow (lines_of (declared_programs tree)) → CallNothing (lines_of (declared_programs tree))
       → AreOf (initials_of (task_of_tree tree)) (types_of (task_of_tree tree)) → KeepsLimits (task_of_tree tree)
   keeps_limits shallow straight initials = record {
     most_instances =

@@ -7,7 +7,7 @@ use Rattle.std.proofs.lemmas.Grind.{flat_map-append}
 use Rattle.std.proofs.lemmas.List.{append-nil, map-append, take-append-drop}
 use Rattle.std.proofs.lemmas.List.Folds.{length-flat_map-take}
 use Rattle.iltrees.specs.declared.instruction.Line.{Line}
-use Rattle.iltrees.specs.Words.{AreShallow, AreStraight}
+use Rattle.iltrees.specs.Words.{AreShallow, CallNothing}
 use Rattle.iltrees.specs.Renaming.{NewNames, by_name, rename_line}
 use Rattle.ilsource.specs.declared.name.Name.{Name}
 use Rattle.ilscope.specs.Declarations.{DeclaredProgram}
@@ -111,7 +111,7 @@ module _ (text : List ℕ) (ps : List DeclaredProgram) (i : ℕ) (p : DeclaredPr
   shallow_more before own =
       subst AreShallow (sym lines_more) (shallow_append (lines_of (take i ps)) p.program.lines before own)
 
-  pub straight_more : AreStraight (lines_of (take i ps)) → AreStraight p.program.lines
-      → AreStraight (lines_of (take (i + 1) ps))
+  pub straight_more : CallNothing (lines_of (take i ps)) → CallNothing p.program.lines
+      → CallNothing (lines_of (take (i + 1) ps))
   straight_more before own =
-      subst AreStraight (sym lines_more) (straight_append (lines_of (take i ps)) p.program.lines before own)
+      subst CallNothing (sym lines_more) (straight_append (lines_of (take i ps)) p.program.lines before own)

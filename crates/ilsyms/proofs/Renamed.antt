@@ -9,7 +9,7 @@ use Rattle.iltrees.specs.declared.instruction.Line.{Line}
 use Rattle.iltrees.specs.declared.operand.Operand.{Operand}
 use Rattle.iltrees.specs.declared.operand.Operand.TheVariants.{Name as Named, Constant}
 use Rattle.iltrees.specs.declared.uses.Use.{Use}
-use Rattle.iltrees.specs.Words.{places_in, AreShallow, AreStraight}
+use Rattle.iltrees.specs.Words.{places_in, AreShallow, CallNothing}
 use Rattle.iltrees.specs.Uses.{uses_in}
 use Rattle.iltrees.specs.Renaming.{rename_use, rename_line}
 use Rattle.iltrees.proofs.KeptSizes.{places_kept, uses_kept, still_shallow, still_straight}
@@ -25,7 +25,7 @@ pub shallow_append : {N L : Type 0} (xs ys : List (Line N L)) → AreShallow xs 
 shallow_append [] ys h k = k
 shallow_append (x ∷ xs) ys h k = (h.0, shallow_append xs ys h.1 k)
 
-pub straight_append : {N L : Type 0} (xs ys : List (Line N L)) → AreStraight xs → AreStraight ys → AreStraight (xs ++ ys)
+pub straight_append : {N L : Type 0} (xs ys : List (Line N L)) → CallNothing xs → CallNothing ys → CallNothing (xs ++ ys)
 straight_append [] ys h k = k
 straight_append (x ∷ xs) ys h k = (h.0, h.1, straight_append xs ys h.2 k)
 
@@ -33,7 +33,7 @@ left_shallow : {N L : Type 0} (xs ys : List (Line N L)) → AreShallow (xs ++ ys
 left_shallow [] ys h = (tt, h)
 left_shallow (x ∷ xs) ys h = let rest = left_shallow xs ys h.1 in ((h.0, rest.0), rest.1)
 
-left_straight : {N L : Type 0} (xs ys : List (Line N L)) → AreStraight (xs ++ ys) → AreStraight xs × AreStraight ys
+left_straight : {N L : Type 0} (xs ys : List (Line N L)) → CallNothing (xs ++ ys) → CallNothing xs × CallNothing ys
 left_straight [] ys h = (tt, h)
 left_straight (x ∷ xs) ys h = let rest = left_straight xs ys h.2 in ((h.0, h.1, rest.0), rest.1)
 
@@ -85,7 +85,7 @@ module _ (text : List ℕ) (slots : List Slot) (instance : Name) (label : Name �
   shallow_of (line ∷ lines) h =
       (still_shallow (slot_numbers text slots instance) label line.instruction h.0, shallow_of lines h.1)
 
-  straight_of : (lines : List (Line Name Name)) → AreStraight lines → AreStraight (renamed lines)
+  straight_of : (lines : List (Line Name Name)) → CallNothing lines → CallNothing (renamed lines)
   straight_of [] h = tt
   straight_of (line ∷ lines) h = (
     no_label label line.label h.0,
@@ -142,7 +142,7 @@ module _ (text : List ℕ) (slots : List Slot) where
       (shallow_of text slots p.program.name (label_number text p.program.lines) p.program.lines parts.0)
       (all_shallow ps parts.1)
 
-  pub all_straight : (ps : List DeclaredProgram) → AreStraight (lines_of ps) → AreStraight (planned ps)
+  pub all_straight : (ps : List DeclaredProgram) → CallNothing (lines_of ps) → CallNothing (planned ps)
   all_straight [] h = tt
   all_straight (p ∷ ps) h =
       let parts = left_straight p.program.lines (lines_of ps) h in

@@ -2,15 +2,15 @@
 use Rattle.std.proofs.Common.{◌≡◌, ℕ, zero, suc, ◌<◌, List, [], ◌∷◌, length, get_or, arith, sym, subst}
 use Rattle.std.specs.Prelude.{None}
 use Rattle.iltrees.specs.declared.instruction.Line.{Line}
-use Rattle.iltrees.specs.Words.{IsStraight, AreStraight}
+use Rattle.iltrees.specs.Words.{CallsNothing, CallNothing}
 
-at_place : {N L : Type 0} (lines : List (Line N L)) (i : ℕ) (d : Line N L) → i < length lines → AreStraight lines
-    → ((get_or lines i d).label ≡ None) × IsStraight (get_or lines i d).instruction
+at_place : {N L : Type 0} (lines : List (Line N L)) (i : ℕ) (d : Line N L) → i < length lines → CallNothing lines
+    → ((get_or lines i d).label ≡ None) × CallsNothing (get_or lines i d).instruction
 at_place [] i d b s = absurd (omega (arith, b))
 at_place (x ∷ xs) zero d b s = (s.0, s.1)
 at_place (x ∷ xs) (suc i) d b s = at_place xs i d (omega (arith, b)) s.2
 
 pub straight_at : {N L : Type 0} (lines : List (Line N L)) (i : ℕ) (line : Line N L) → line ≡ get_or lines i line
-    → i < length lines → AreStraight lines → (line.label ≡ None) × IsStraight line.instruction
+    → i < length lines → CallNothing lines → (line.label ≡ None) × CallsNothing line.instruction
 straight_at lines i line is b s =
-    subst (λ l. (l.label ≡ None) × IsStraight l.instruction) (sym is) (at_place lines i line b s)
+    subst (λ l. (l.label ≡ None) × CallsNothing l.instruction) (sym is) (at_place lines i line b s)

@@ -40,7 +40,7 @@ impl<'a, 's> Model for Numbering<'a, 's> {
 impl<'a, 's> Numbering<'a, 's> {
     ghost use Rattle.std.specs.Prelude.{◌≡◌, ◌+◌, ◌<◌, ◌^◌, ℕ, IfOk, length, map, slice_get, Some, None};
     ghost use Rattle.iltrees.specs.Renaming.{rename_action, rename_tree, rename, rename_line};
-    ghost use Rattle.iltrees.specs.Words.{IsStraight, AreStraight};
+    ghost use Rattle.iltrees.specs.Words.{CallsNothing, CallNothing};
     ghost use Rattle.ilsource.specs.declared.name.Name.{Name};
     ghost use Rattle.ilscope.specs.Declarations.{declared_programs};
     ghost use Rattle.ilsyms.specs.PlanningSteps.{Numbering, number_of, numbers};
@@ -127,7 +127,7 @@ impl<'a, 's> Numbering<'a, 's> {
         alloc: Global,
         instruction: &Instruction<Name, Name>,
     ) -> Result<Instruction<usize, usize>, AllocError>
-        requires { IsStraight (Some instruction.now) }
+        requires { CallsNothing (Some instruction.now) }
         ensures { IfOk result (λ i. (label : Name → ℕ)
             → i ≡ rename (numbers self.now) label instruction.now) }
     {
@@ -168,7 +168,7 @@ impl<'a, 's> Numbering<'a, 's> {
     /// A line.
     fn line(&self, alloc: Global, line: &Line<Name, Name>) -> Result<Line<usize, usize>, AllocError>
         requires label { line.now.label ≡ None }
-        requires straight { IsStraight line.now.instruction }
+        requires calls { CallsNothing line.now.instruction }
         ensures { IfOk result (λ l. (label : Name → ℕ)
             → l ≡ rename_line (numbers self.now) label line.now) }
     {
@@ -189,7 +189,7 @@ impl<'a, 's> Numbering<'a, 's> {
         alloc: Global,
         lines: &[Line<Name, Name>],
     ) -> Result<Vec<Line<usize, usize>>, AllocError>
-        requires { AreStraight lines.now }
+        requires { CallNothing lines.now }
         ensures { IfOk result (λ v. (label : Name → ℕ)
             → v.items ≡ map (rename_line (numbers self.now) label) lines.now) }
     {

@@ -1,7 +1,7 @@
 //! The instances of a task.
 
 ghost use Rattle.std.specs.Prelude.{◌≡◌, IfOk, OnOk, length, map};
-ghost use Rattle.iltrees.specs.Words.{AreShallow, AreStraight};
+ghost use Rattle.iltrees.specs.Words.{AreShallow, CallNothing};
 ghost use Rattle.ilscope.specs.Declarations.{declared_programs};
 ghost use Rattle.ilsyms.specs.Faults.{IsWellNamed};
 ghost use Rattle.ilsyms.specs.Resolved.{instance_of};
@@ -24,7 +24,7 @@ pub(crate) fn plan_instances(
     ensures instances { IfOk result (λ v. v.items
         ≡ map (instance_of scope.now.text (slots_of_tree scope.now)) (declared_programs scope.now)) }
     ensures shallow { OnOk result (AreShallow (lines_of (declared_programs scope.now))) }
-    ensures straight { OnOk result (AreStraight (lines_of (declared_programs scope.now))) }
+    ensures calls { OnOk result (CallNothing (lines_of (declared_programs scope.now))) }
 {
     let mut instances = Vec::new(alloc);
     let mut first = 0;

@@ -7,7 +7,7 @@ use Rattle.iloperators.specs.declared.operator.Operator.{Operator}
 use Rattle.iloperators.specs.Operators.{may_defer}
 use Rattle.iltrees.specs.declared.instruction.Instruction.TheVariants as instructions
 use Rattle.iltrees.specs.Trees.{Tree, depth}
-use Rattle.iltrees.specs.Words.{IsShallow, AreShallow, IsStraight, AreStraight}
+use Rattle.iltrees.specs.Words.{IsShallow, AreShallow, CallsNothing, CallNothing}
 use Rattle.ilgrammar.specs.Items.{Item, many_whole}
 use Rattle.ilsource.specs.declared.name.Name.{Name}
 use Rattle.iltext.specs.declared.roles.Role.{Role}
@@ -24,7 +24,7 @@ HasRoom more (Some (instructions.Deferred operator u close)) = depth u + 1 ≤ m
 HasRoom more _ = ⊤
 
 abbrev Fits : ℕ → TextLine → Type 0
-Fits more line = HasRoom more line.instruction × ((line.label ≡ None) × IsStraight line.instruction)
+Fits more line = HasRoom more line.instruction × ((line.label ≡ None) × CallsNothing line.instruction)
 
 abbrev AllFit : ℕ → Item Token TextLine → Type 0
 AllFit more item = (ts : List Token) (line : TextLine) → item.whole ts line → Fits more line
@@ -123,16 +123,16 @@ shallow_one : (i : Option TextInstruction) → HasRoom most_nesting i → IsShal
 shallow_one (Some (instructions.Deferred operator u close)) room = room
 shallow_one _ room = tt
 
-all_fit : (ts : List Token) (ls : List TextLine) → many_whole line ts ls → AreShallow ls × AreStraight ls
+all_fit : (ts : List Token) (ls : List TextLine) → many_whole line ts ls → AreShallow ls × CallNothing ls
 all_fit ts [] w = (tt, tt)
 all_fit ts (l ∷ ls) w =
     let first = line_fits w.0 l w.3 in
     let others = all_fit w.1 ls w.4 in
     ((shallow_one l.instruction first.0, others.0), (first.1.0, first.1.1, others.1))
 
-whole_fit : (ts : List Token) (ls : List TextLine) → lines.whole ts ls → AreShallow ls × AreStraight ls
+whole_fit : (ts : List Token) (ls : List TextLine) → lines.whole ts ls → AreShallow ls × CallNothing ls
 unfolding lines
 whole_fit ts ls w = all_fit ts ls w
 
-pub are_shallow : (ts rest : List Token) (ls : List TextLine) → lines.read ts ≡ Ok (ls, rest) → AreShallow ls × AreStraight ls
+pub are_shallow : (ts rest : List Token) (ls : List TextLine) → lines.read ts ≡ Ok (ls, rest) → AreShallow ls × CallNothing ls
 are_shallow ts rest ls e = let t = Lawful-lines.ok ts ls rest e in whole_fit t.front ls t.whole

@@ -9,13 +9,14 @@ use Rattle.iloperators.specs.Functions.{modified, value_of_function}
 use Rattle.iltrees.specs.declared.arguments.Argument.{Argument}
 use Rattle.iltrees.specs.declared.operand.Operand.{Operand}
 use Rattle.iltrees.specs.declared.operand.Operand.TheVariants.{Name, Constant}
-use Rattle.iltrees.specs.declared.instruction.Condition.TheVariants.{IfTrue}
+use Rattle.iloperators.specs.declared.condition.Condition.TheVariants.{IfTrue}
 use Rattle.iltrees.specs.declared.instruction.Instruction.{Instruction}
 use Rattle.iltrees.specs.declared.instruction.Instruction.TheVariants as instructions
 use Rattle.iltrees.specs.declared.instruction.Line.{Line}
 use Rattle.iltrees.specs.Trees.{Tree, Load, Reload, Apply, Transform, Deferred}
 use Rattle.iltrees.specs.Meaning.{Access, Way, On, To, Out, After, operand_value, loaded, value, after, gives, leaves}
-use Rattle.iltrees.specs.Meaning.{holds, chosen, passed, called, line_does}
+use Rattle.iloperators.specs.Conditions.{holds, chosen}
+use Rattle.iltrees.specs.Meaning.{passed, called, line_does}
 use Rattle.iltrees.specs.Passes.{has_label, takes, at_end, passes, scan}
 use Rattle.iltrees.specs.Renaming.{NewNames, by_name, rename_tree, rename_argument, rename, rename_line}
 use Rattle.iltrees.specs.Renaming.{IsSeen, IsKept, AreKept, IsRenamed, AreRenamed}

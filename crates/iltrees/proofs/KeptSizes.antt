@@ -6,14 +6,14 @@ use Rattle.std.proofs.Math.ListN.{length-map}
 use Rattle.std.proofs.lemmas.List.{map-append}
 use Rattle.std.proofs.lemmas.Simd.{map-map}
 use Rattle.iltrees.specs.declared.arguments.Argument.{Argument}
-use Rattle.iltrees.specs.declared.instruction.Condition.TheVariants.{Always, IfTrue, IfFalse}
+use Rattle.iloperators.specs.declared.condition.Condition.TheVariants.{Always, IfTrue, IfFalse}
 use Rattle.iltrees.specs.declared.instruction.Instruction.{Instruction}
 use Rattle.iltrees.specs.declared.instruction.Instruction.TheVariants as instructions
 use Rattle.iltrees.specs.declared.nested.Action.{Action}
 use Rattle.iltrees.specs.declared.nested.Action.TheVariants as actions
 use Rattle.iltrees.specs.declared.operand.Operand.TheVariants.{Name}
 use Rattle.iltrees.specs.Trees.{Tree, Load, Reload, Apply, Transform, Deferred, piece, pieces_of, depth}
-use Rattle.iltrees.specs.Words.{place_of, places_of, IsShallow, IsStraight}
+use Rattle.iltrees.specs.Words.{place_of, places_of, IsShallow, CallsNothing}
 use Rattle.iltrees.specs.Uses.{uses_of_action, uses_of_piece, uses_of_argument, uses_of}
 use Rattle.iltrees.specs.Renaming.{NewNames, rename_action, rename_piece, rename_tree}
 use Rattle.iltrees.specs.Renaming.{rename_argument, rename_use, rename}
@@ -102,7 +102,7 @@ module _ {N M L K : Type 0} (new : NewNames N M) (label : L → K) where
   still_shallow (Some (instructions.Deferred operator t close)) k = let e = depth_same new t in rw e k
   still_shallow _ k = tt
 
-  pub still_straight : (i : Option (Instruction N L)) → IsStraight i → IsStraight (option_map (rename new label) i)
+  pub still_straight : (i : Option (Instruction N L)) → CallsNothing i → CallsNothing (option_map (rename new label) i)
   still_straight (Some (instructions.Jump condition l)) h = absurd h
   still_straight (Some (instructions.Return condition)) h = absurd h
   still_straight (Some (instructions.Call condition n xs)) h = absurd h

@@ -5,15 +5,14 @@ use Rattle.std.specs.Prelude.{Bool, true, false, Option, Some, None, List, [], �
 use Rattle.std.specs.Option.{option_and_then}
 use Rattle.iltypes.specs.declared.value.Value.{Value}
 use Rattle.iltypes.specs.declared.value.Value.TheVariants as values
-use Rattle.iltypes.specs.Operators.{opposite}
 use Rattle.iloperators.specs.declared.operator.Operator.TheVariants.{Min, Max}
+use Rattle.iloperators.specs.declared.condition.Condition.TheVariants.{IfTrue}
+use Rattle.iloperators.specs.Conditions.{holds, chosen}
 use Rattle.iloperators.specs.Operators.{both}
 use Rattle.iloperators.specs.Functions.{modified, value_of_function}
 use Rattle.iltrees.specs.declared.arguments.Argument.{Argument}
 use Rattle.iltrees.specs.declared.operand.Operand.{Operand}
 use Rattle.iltrees.specs.declared.operand.Operand.TheVariants.{Name, Constant}
-use Rattle.iltrees.specs.declared.instruction.Condition.{Condition}
-use Rattle.iltrees.specs.declared.instruction.Condition.TheVariants.{Always, IfTrue, IfFalse}
 use Rattle.iltrees.specs.declared.instruction.Instruction.{Instruction}
 use Rattle.iltrees.specs.declared.instruction.Instruction.TheVariants as instructions
 use Rattle.iltrees.specs.Trees.{Tree, Load, Reload, Apply, Transform, Deferred}
@@ -69,19 +68,6 @@ gives (Some v) s = after On (Some v) s
 abbrev pub leaves : {L S : Type 0} → Option Value → Option S → Option (After L S)
 leaves r None = None
 leaves r (Some s) = after On r s
-
--- whether what has this condition is carried out at a result: C and CN ask for a truth value
-abbrev pub holds : Condition → Option Value → Option Bool
-holds Always r = Some true
-holds IfTrue (Some (values.Bool truth)) = Some truth
-holds IfFalse (Some (values.Bool truth)) = Some (opposite truth)
-holds _ _ = None
-
--- the one or, where the condition isn't met, the other
-abbrev pub chosen : {A : Type 0} → Option Bool → Option A → Option A → Option A
-chosen None x y = None
-chosen (Some true) x y = x
-chosen (Some false) x y = y
 
 -- the store after the arguments of a call, each stored at its port
 abbrev pub passed : {N S : Type 0} → Access N S → List (Argument N) → S → Option S

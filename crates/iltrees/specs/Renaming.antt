@@ -15,7 +15,7 @@ use Rattle.iltrees.specs.declared.uses.Use.{Use}
 use Rattle.iltrees.specs.Trees.{Tree, Load, Reload, Apply, Transform, Deferred, piece, pieces_of}
 use Rattle.iltrees.specs.Meaning.{Access, On, operand_value}
 use Rattle.iltrees.specs.Passes.{passes, scan}
-use Rattle.iltrees.specs.Words.{places_in, IsShallow, IsStraight}
+use Rattle.iltrees.specs.Words.{places_in, IsShallow, CallsNothing}
 use Rattle.iltrees.specs.Uses.{uses_in}
 
 -- new names: of operands, so that a constant may become a place in a table, and of what is stored to and called
@@ -115,14 +115,14 @@ ScansAreKept N M L K S T =
     → AreRenamed same same' new programs others → (s : S)
     → scan same' b others (view s) ≡ option_map view (scan same a programs s)
 
--- a renamed line has its words at the same places, no more parentheses open at once, and jumps nowhere where the line
+-- a renamed line has its words at the same places, no more parentheses open at once, and calls nothing where the line
 -- doesn't
 abbrev pub SizesAreKept : (N M L K : Type 0) → Type 0
 SizesAreKept N M L K =
     (new : NewNames N M) (label : L → K) (line : Line N L)
     → (places_in (rename_line new label line) ≡ places_in line)
     × (IsShallow line.instruction → IsShallow (rename_line new label line).instruction)
-    × (IsStraight line.instruction → IsStraight (rename_line new label line).instruction)
+    × (CallsNothing line.instruction → CallsNothing (rename_line new label line).instruction)
 
 -- the pieces of a renamed tree are the pieces of the tree, renamed
 abbrev pub PiecesAreKept : (N M : Type 0) → Type 0

@@ -8,8 +8,8 @@ use Rattle.iltypes.specs.declared.value.Value.TheVariants.{Bool as truth, Int}
 use Rattle.iloperators.specs.declared.operator.Operator.TheVariants.{Add, Sub, Div, Eq, Min}
 use Rattle.iltrees.specs.declared.operand.Operand.{Operand}
 use Rattle.iltrees.specs.declared.operand.Operand.TheVariants.{Name, Constant}
-use Rattle.iltrees.specs.declared.instruction.Condition.TheVariants.{Always, IfTrue}
-use Rattle.iltrees.specs.declared.instruction.Condition.{Condition}
+use Rattle.iloperators.specs.declared.condition.Condition.TheVariants.{Always, IfTrue}
+use Rattle.iloperators.specs.declared.condition.Condition.{Condition}
 use Rattle.iltrees.specs.declared.instruction.Instruction.{Instruction}
 use Rattle.iltrees.specs.declared.instruction.Instruction.TheVariants as instructions
 use Rattle.iltrees.specs.declared.instruction.Line.{Line}

@@ -5,7 +5,7 @@ use Rattle.std.specs.Prelude.{◌≡◌, ℕ, ◌+◌, ◌≤◌, List, [], ◌�
 use Rattle.std.specs.Prelude.{Option, Some, None, ⊤}
 use Rattle.std.specs.Option.{option_map_or}
 use Rattle.limits.specs.Limits.{most_nesting}
-use Rattle.iltrees.specs.declared.instruction.Condition.TheVariants.{Always, IfTrue, IfFalse}
+use Rattle.iloperators.specs.declared.condition.Condition.TheVariants.{Always, IfTrue, IfFalse}
 use Rattle.iltrees.specs.declared.instruction.Instruction.{Instruction}
 use Rattle.iltrees.specs.declared.instruction.Instruction.TheVariants as instructions
 use Rattle.iltrees.specs.declared.instruction.Line.{Line}
@@ -47,14 +47,11 @@ abbrev pub AreShallow : {N L : Type 0} → List (Line N L) → Type 0
 AreShallow [] = ⊤
 AreShallow (line ∷ lines) = IsShallow line.instruction × AreShallow lines
 
--- no jump, return or call: code has no words for them yet
-abbrev pub IsStraight : {N L : Type 0} → Option (Instruction N L) → Type 0
-IsStraight (Some (instructions.Jump condition l)) = ⊥
-IsStraight (Some (instructions.Return condition)) = ⊥
-IsStraight (Some (instructions.Call condition n xs)) = ⊥
-IsStraight _ = ⊤
+-- no call: code has no words for calls yet
+abbrev pub CallsNothing : {N L : Type 0} → Option (Instruction N L) → Type 0
+CallsNothing (Some (instructions.Call condition n xs)) = ⊥
+CallsNothing _ = ⊤
 
--- nor a label
-abbrev pub AreStraight : {N L : Type 0} → List (Line N L) → Type 0
-AreStraight [] = ⊤
-AreStraight (line ∷ lines) = (line.label ≡ None) × IsStraight line.instruction × AreStraight lines
+abbrev pub CallNothing : {N L : Type 0} → List (Line N L) → Type 0
+CallNothing [] = ⊤
+CallNothing (line ∷ lines) = CallsNothing line.instruction × CallNothing lines

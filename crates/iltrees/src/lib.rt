@@ -15,7 +15,7 @@ mod renaming;
 mod uses;
 
 pub use arguments::{Argument, Arguments};
-pub use instruction::{Condition, Instruction, Line};
+pub use instruction::{Instruction, Line};
 pub use nested::{Action, Nested, Piece};
 pub use operand::Operand;
 pub use renaming::renaming_keeps_the_meaning;

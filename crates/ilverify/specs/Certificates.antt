@@ -1,14 +1,15 @@
 -- Certificates (profile): an entry for each word, so that the rules lead from entry to entry.
-use Rattle.std.specs.Prelude.{◌≡◌, ℕ, ◌+◌, ◌<◌, List, length, Option, Some, None, IsTrue, slice_get, ⊤}
+use Rattle.std.specs.Prelude.{◌≡◌, ℕ, ◌+◌, ◌<◌, Bool, true, false, List, [], ◌∷◌, length, Option, Some, None}
+use Rattle.std.specs.Prelude.{IsTrue, slice_get, ⊤}
 use Rattle.ilcode.specs.declared.instruction.Instruction.{Instruction}
 use Rattle.ilcode.specs.Listings.{Listing}
-use Rattle.ilcode.specs.Paths.{IsNext}
 use Rattle.ilcode.specs.Steps.{is_start}
 use Rattle.ilranges.specs.Causes.{number_of, IsLeastCause}
 use Rattle.ilranges.specs.declared.entry.Entry.{Entry}
+use Rattle.ilranges.specs.declared.nesting.KnownOpened.{KnownOpened}
 use Rattle.ilranges.specs.Entries.{IsInto, opening}
 use Rattle.ilranges.specs.Refusals.{ArisesAtWord}
-use Rattle.ilranges.specs.Rules.{IsRule}
+use Rattle.ilranges.specs.Rules.{Ways, IsWay, IsRule}
 use Rattle.ilverify.specs.declared.verifier.Refusal.{Refusal}
 use Rattle.ilverify.specs.declared.verifier.VerifyError.{VerifyError}
 use Rattle.ilverify.specs.declared.verifier.VerifyError.TheVariants.{Memory, Refused}
@@ -23,20 +24,34 @@ pub record Leads (certificate : Certificate) (place : ℕ) (entry : Entry) : Typ
   pub is : slice_get certificate place ≡ Some (Some wider)
   pub into : IsInto entry wider
 
--- no cause arises at the word, and what it leaves leads into the entry of each successor
+-- nothing is open
+abbrev pub are_closed : List KnownOpened → Bool
+are_closed [] = true
+are_closed (innermost ∷ nesting) = false
+
+-- a place is reached where nothing is open
+abbrev pub is_closed : Option (Option Entry) → Bool
+is_closed (Some (Some entry)) = are_closed entry.nesting
+is_closed _ = false
+
+abbrev pub is_met : Certificate → ℕ → Bool
+is_met certificate place = is_closed (slice_get certificate place)
+
+-- no cause arises at the word, and what is known on each way from it leads into the entry of the word there
 pub record IsFine (code : Listing) (certificate : Certificate) (place : ℕ) (entry : Entry) (word : Instruction)
     : Type 0 where
-  pub after : Entry
-  pub rule : IsRule code place entry word after
-  pub leads : (to : ℕ) → IsNext code.instructions place to → Leads certificate to after
+  pub ways : Ways
+  pub rule : IsRule code place (is_met certificate (place + 1)) entry word ways
+  pub leads : (to : ℕ) (after : Entry) → IsWay word place ways to after → to < length code.instructions
+      → Leads certificate to after
 
 -- consistent at the words below a place: the first word's entry holds what is known at first, a start has no current
--- result, and each reached word is fine
+-- result and no mark, and each reached word is fine
 pub record IsConsistentBelow (code : Listing) (certificate : Certificate) (end : ℕ) : Type 0 where
   pub long : length certificate ≡ length code.instructions
   pub first : 0 < length code.instructions → Leads certificate 0 (opening code)
   pub starts : (place : ℕ) (entry : Entry) → IsTrue (is_start code place)
-      → slice_get certificate place ≡ Some (Some entry) → entry.result ≡ None
+      → slice_get certificate place ≡ Some (Some entry) → (entry.result ≡ None) × (entry.mark ≡ None)
   pub each : (place : ℕ) (entry : Entry) (word : Instruction) → place < end
       → slice_get code.instructions place ≡ Some word
       → slice_get certificate place ≡ Some (Some entry) → IsFine code certificate place entry word
@@ -65,7 +80,8 @@ pub record IsRefusal (code : Listing) (refusal : Refusal) : Type 0 where
   pub reached : slice_get certificate refusal.word ≡ Some (Some entry)
   pub word : Instruction
   pub is : slice_get code.instructions refusal.word ≡ Some word
-  pub cause : IsLeastCause (ArisesAtWord code refusal.word entry word) refusal.cause
+  pub cause : IsLeastCause (ArisesAtWord code refusal.word (is_met certificate (refusal.word + 1)) entry word)
+      refusal.cause
   pub line : slice_get code.lines refusal.word ≡ Some refusal.line
   pub none_further : (other : Certificate) → ¬ IsConsistentBelow code other (refusal.word + 1)
   pub uncertified : ¬ IsCertified code

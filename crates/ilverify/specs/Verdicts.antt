@@ -25,4 +25,4 @@ pub record IsVerified (code : Listing) (bound : ℕ) : Type 0 where
       → Runs code (start from) steps c → AreOf c.slots code.slots
   pub ends : (from : List Value) → AreOf from code.slots → Terminates code from
   pub few : (from : List Value) (steps : ℕ) (c : Configuration) → Runs code (start from) steps c → steps ≤ bound
-  pub greatest : IsBound code.instructions bound
+  pub greatest : IsBound code bound

@@ -2,7 +2,7 @@
 
 ghost use Rattle.std.specs.Prelude.{[], ◌∷◌, true, false};
 ghost use Rattle.iltypes.specs.declared.value.Value.TheVariants.{Bool as truth};
-ghost use Rattle.iltrees.specs.declared.instruction.Condition.TheVariants.{Always, IfTrue, IfFalse};
+ghost use Rattle.iloperators.specs.declared.condition.Condition.TheVariants.{Always, IfTrue, IfFalse};
 ghost use Rattle.iltrees.specs.Rows.{Ends, IsStuck, EndInTurn, AreStuck, whole, before_call};
 ghost use Rattle.iltrees.specs.Rows.{sum, sum_unbounded, guarded};
 ghost use Rattle.iltrees.specs.declared.operand.Operand.TheVariants.{Name};

@@ -1,6 +1,6 @@
 use Rattle.std.proofs.Common.{◌≡◌, ℕ, ◌<◌, ◌∙◌, ap, get_or, length, List, [], ◌∷◌, ◌++◌, map, arith, subst}
 use Rattle.iltrees.specs.Renaming.{rename_line}
-use Rattle.iltrees.specs.Words.{AreShallow, AreStraight}
+use Rattle.iltrees.specs.Words.{AreShallow, CallNothing}
 use Rattle.ilsource.specs.Programs.{Written}
 use Rattle.ilsource.specs.declared.name.Name.{Name}
 use Rattle.ilplan.specs.Plans.{PlannedInstance}
@@ -66,5 +66,5 @@ loop-number-preserved c =
           (subst AreShallow lines c.lines.ensures.shallow);
       straight =
           straight_more c.args.scope.now.text all c.loop-number.number c.program-item.result is below c.loop-number.invariant.straight
-          (subst AreStraight lines c.lines.ensures.straight);
+          (subst CallNothing lines c.lines.ensures.straight);
     }

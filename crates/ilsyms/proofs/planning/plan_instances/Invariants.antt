@@ -1,5 +1,5 @@
 use Rattle.std.proofs.Common.{◌≡◌, length, map, take}
-use Rattle.iltrees.specs.Words.{AreShallow, AreStraight}
+use Rattle.iltrees.specs.Words.{AreShallow, CallNothing}
 use Rattle.ilscope.specs.Declarations.{declared_programs}
 use Rattle.ilsyms.specs.Resolved.{instance_of}
 use Rattle.ilsyms.specs.Variables.{lines_of, slots_of, slots_of_tree}
@@ -12,5 +12,5 @@ invariant-loop-number l = record {
       ≡ map (instance_of l.fn.scope.text (slots_of_tree l.fn.scope)) (take l.number (declared_programs l.fn.scope));
   first : l.first ≡ length (slots_of (take l.number (declared_programs l.fn.scope)));
   shallow : AreShallow (lines_of (take l.number (declared_programs l.fn.scope)));
-  straight : AreStraight (lines_of (take l.number (declared_programs l.fn.scope)));
+  straight : CallNothing (lines_of (take l.number (declared_programs l.fn.scope)));
 }

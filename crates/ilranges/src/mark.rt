@@ -1,0 +1,16 @@
+//! What the current result says of a slot.
+
+use iloperators::Operator;
+
+/// What the current result says of the number in a slot (profile).
+#[derive(Clone, Copy, PartialEq, Eq, Debug)]
+pub enum Mark {
+    /// It is the number in the slot.
+    Copy(usize),
+    /// It is the outcome of `number OP limit`, of the number in the slot.
+    Test {
+        slot: usize,
+        comparison: Operator,
+        limit: i64,
+    },
+}
