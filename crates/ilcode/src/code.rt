@@ -1,5 +1,8 @@
 //! Codes.
 
+ghost use Rattle.std.specs.Prelude.{◌≡◌, nat_lt, ◌&&◌};
+ghost use Rattle.std.specs.List.{list_any};
+
 use crate::instruction::Instruction;
 use iltypes::{IlType, Value};
 use std::marker::Model;
@@ -33,6 +36,7 @@ impl Model for Code {
 impl Code {
     ghost use Rattle.std.specs.Prelude.{◌≡◌};
     ghost use Rattle.ilcode.specs.Listings.{Listing, IsLawful, listing_of};
+    ghost use Rattle.ilcode.specs.Steps.{is_target};
 
     /// The code of these parts: buses, constants, the slots' types, the places where programs
     /// begin, instructions, and a line for each of these.
@@ -95,10 +99,29 @@ impl Code {
         &self.instructions
     }
 
+    /// Whether a jump at the place may lead to the target: forward, no further than to the start of
+    /// the next program, or to the end.
+    pub fn is_target(&self, place: usize, target: usize) -> bool
+        ensures { result ≡ is_target self.now place target }
+    {
+        place < target
+            && target <= self.instructions.len()
+            && !begins_between(&self.starts, place, target)
+    }
+
     /// The line of the text that each instruction stands on, counted from 1.
     pub fn lines(&self) -> &[usize]
         ensures value { result.now ≡ self.now.lines }
     {
         &self.lines
     }
+}
+
+/// Whether a program begins between the two places.
+fn begins_between(starts: &[usize], place: usize, target: usize) -> bool
+    ensures { result ≡ list_any (λ start. nat_lt place start && nat_lt start target) starts.now }
+{
+    starts
+        .iter()
+        .any(|start| place < *start && *start < target)
 }
