@@ -102,19 +102,20 @@ module _ {N M L K : Type 0} (new : NewNames N M) (label : L → K) where
   still_shallow (Some (instructions.Deferred operator t close)) k = let e = depth_same new t in rw e k
   still_shallow _ k = tt
 
-  pub still_straight : (i : Option (Instruction N L)) → CallsNothing i → CallsNothing (option_map (rename new label) i)
-  still_straight (Some (instructions.Jump condition l)) h = absurd h
-  still_straight (Some (instructions.Return condition)) h = absurd h
-  still_straight (Some (instructions.Call condition n xs)) h = absurd h
-  still_straight None h = tt
-  still_straight (Some (instructions.Load negated o)) h = tt
-  still_straight (Some (instructions.Apply operator o)) h = tt
-  still_straight (Some (instructions.Deferred operator t close)) h = tt
-  still_straight (Some (instructions.Transform function)) h = tt
-  still_straight (Some (instructions.Limit low high)) h = tt
-  still_straight (Some (instructions.Store negated n)) h = tt
-  still_straight (Some (instructions.Set n)) h = tt
-  still_straight (Some (instructions.Reset n)) h = tt
+  pub still_calling_nothing : (i : Option (Instruction N L)) → CallsNothing i
+      → CallsNothing (option_map (rename new label) i)
+  still_calling_nothing (Some (instructions.Jump condition l)) h = tt
+  still_calling_nothing (Some (instructions.Return condition)) h = tt
+  still_calling_nothing (Some (instructions.Call condition n xs)) h = absurd h
+  still_calling_nothing None h = tt
+  still_calling_nothing (Some (instructions.Load negated o)) h = tt
+  still_calling_nothing (Some (instructions.Apply operator o)) h = tt
+  still_calling_nothing (Some (instructions.Deferred operator t close)) h = tt
+  still_calling_nothing (Some (instructions.Transform function)) h = tt
+  still_calling_nothing (Some (instructions.Limit low high)) h = tt
+  still_calling_nothing (Some (instructions.Store negated n)) h = tt
+  still_calling_nothing (Some (instructions.Set n)) h = tt
+  still_calling_nothing (Some (instructions.Reset n)) h = tt
 
   pub uses_kept : ((n : N) → new.operand (Name n) ≡ Name (new.name n)) → (at : ℕ) (i : Option (Instruction N L))
       → option_map_or (uses_of at) (option_map (rename new label) i) []

@@ -1,8 +1,8 @@
 -- The words of code that lines become, each with its place in the text (profile): one word each, but two of LIMIT (MAX
 -- and MIN); one for each piece between the two of `OP(` and `)`; one for each argument before that of CAL, and of CALC
 -- and CALCN a jump before all.
-use Rattle.std.specs.Prelude.{◌≡◌, ℕ, ◌+◌, ◌≤◌, List, [], ◌∷◌, ◌++◌, map, length, replicate, sum_by}
-use Rattle.std.specs.Prelude.{Option, Some, None, ⊤}
+use Rattle.std.specs.Prelude.{ℕ, ◌+◌, ◌≤◌, List, [], ◌∷◌, ◌++◌, map, length, replicate, sum_by}
+use Rattle.std.specs.Prelude.{Option, Some, ⊤}
 use Rattle.std.specs.Option.{option_map_or}
 use Rattle.limits.specs.Limits.{most_nesting}
 use Rattle.iloperators.specs.declared.condition.Condition.TheVariants.{Always, IfTrue, IfFalse}
