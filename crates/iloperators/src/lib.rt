@@ -1,16 +1,19 @@
 //! The operators of Instruction List and what they give (IEC 61131-3, 3.2.2 and 2.5.1.5).
 //!
 //! What crosses the boundary: [`Operator`], which makes a result of the current result and an
-//! operand, and [`Function`], which makes one of the current result alone. Each has one partial
-//! meaning, `value_of_operator` (specs/Operators.antt, to be read first) and `value_of_function`,
-//! which source, plan, code and machine cite alike. `apply` computes where there is a value, with
+//! operand, [`Function`], which makes one of the current result alone, and [`Condition`], under
+//! which a jump is carried out. Each has one partial meaning, `value_of_operator`
+//! (specs/Operators.antt, to be read first), `value_of_function` and `holds`, which source, plan,
+//! code and machine cite alike. `apply` computes where there is a value, with
 //! no test; `has_value` is the test, and `try_apply` both.
 #![tactic(auto)]
 
+mod comparison;
 mod condition;
-pub mod function;
-pub mod operator;
+mod function;
+mod operator;
 
+pub use comparison::turning_takes_the_opposite;
 pub use condition::Condition;
 pub use function::{Function, IntegerType, modify};
 pub use operator::Operator;

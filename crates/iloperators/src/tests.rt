@@ -1,6 +1,6 @@
 //! Truth tables, rows of arithmetic, and the limits of 64 bits.
 
-use crate::{Function, IntegerType, Operator, modify};
+use crate::{Condition, Function, IntegerType, Operator, modify, turning_takes_the_opposite};
 use iltypes::Value;
 
 /// `left OP right` of numbers.
@@ -111,6 +111,37 @@ fn comparisons(rt: HostRuntime) {
             assert_eq!(rt; given, Some(Value::Bool(truth)), "{left} {operator:?} 0");
         }
     }
+}
+
+#[test]
+fn turned_comparisons_have_the_opposite_outcome(rt: HostRuntime) {
+    turning_takes_the_opposite();
+    let rows = [
+        (Operator::Gt, Operator::Le),
+        (Operator::Ge, Operator::Lt),
+        (Operator::Eq, Operator::Ne),
+        (Operator::Min, Operator::Min),
+    ];
+    for (operator, turned) in rows {
+        assert!(rt; operator.turned() == turned && turned.turned() == operator);
+        assert_eq!(rt; operator.compares(), operator != Operator::Min);
+        assert_eq!(rt; turned.compares(), operator != Operator::Min);
+    }
+    assert!(rt; !Operator::Sub.compares() && !Operator::And { negated: true }.compares());
+}
+
+#[test]
+fn conditions(rt: HostRuntime) {
+    let table = [
+        (Condition::Always, true, true),
+        (Condition::IfTrue, false, true),
+        (Condition::IfFalse, true, false),
+    ];
+    for (condition, at_false, at_true) in table {
+        assert_eq!(rt; condition.is_met(Value::Bool(false)), at_false);
+        assert_eq!(rt; condition.is_met(Value::Bool(true)), at_true);
+    }
+    assert!(rt; Condition::Always.is_met(Value::Int(0)));
 }
 
 #[test]
