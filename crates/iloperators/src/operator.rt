@@ -1,7 +1,6 @@
 //! Operators on the current result and an operand.
 
 ghost use Rattle.std.specs.Prelude.{◌≡◌, ◌↔◌, IsTrue, IsSome, Some};
-ghost use Rattle.iloperators.specs.Comparisons.{compares, turned};
 ghost use Rattle.iloperators.specs.Operators.{value_of_operator, remainder, may_defer};
 
 use iltypes::{Value, opposite_if};
@@ -71,36 +70,6 @@ impl Operator {
             (Operator::Min, Value::Int(left), Value::Int(right)) => Value::Int(left.min(right)),
             (Operator::Max, Value::Int(left), Value::Int(right)) => Value::Int(left.max(right)),
             _ => unreachable!(),
-        }
-    }
-
-    /// Whether the operator gives a truth value of two numbers (IEC 61131-3, 2.5.1.5.4).
-    pub fn compares(self) -> bool
-        ensures { result ≡ compares self }
-    {
-        matches!(
-            self,
-            Operator::Gt
-                | Operator::Ge
-                | Operator::Eq
-                | Operator::Ne
-                | Operator::Le
-                | Operator::Lt
-        )
-    }
-
-    /// Of a comparison the one that holds of two numbers where this one does not.
-    pub fn turned(self) -> Operator
-        ensures { result ≡ turned self }
-    {
-        match self {
-            Operator::Gt => Operator::Le,
-            Operator::Ge => Operator::Lt,
-            Operator::Eq => Operator::Ne,
-            Operator::Ne => Operator::Eq,
-            Operator::Le => Operator::Gt,
-            Operator::Lt => Operator::Ge,
-            operator => operator,
         }
     }
 
