@@ -76,3 +76,11 @@ impl Entry {
         Ok(())
     }
 }
+
+/// What is known of the current result on either way.
+fn join_results(one: Option<Known>, other: Option<Known>) -> Option<Known> {
+    match (one, other) {
+        (Some(one), Some(other)) => one.join(other),
+        _ => None,
+    }
+}

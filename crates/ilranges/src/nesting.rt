@@ -67,7 +67,8 @@ impl Nesting {
     pub fn open(&mut self, opened: KnownOpened) -> Result<(), AllocError>
         ensures { OnOk result (self.new ≡ opened ∷ self.old) }
     {
-        self.items.push(opened)
+        self.items.push(opened)?;
+        Ok(())
     }
 
     /// The innermost, where something is open, is open no more.

@@ -1,6 +1,6 @@
 //! What is known of each slot.
 
-ghost use Rattle.std.specs.Prelude.{◌≡◌, map, slice_get, slice_set, IfOk};
+ghost use Rattle.std.specs.Prelude.{◌≡◌, map, slice_get, slice_set, IfOk, OnOk};
 
 use crate::known::Known;
 use iltypes::IlType;
@@ -50,5 +50,25 @@ impl Slots {
         if slot < self.items.len() {
             self.items[slot] = known;
         }
+        Ok(())
+    }
+
+    /// The same.
+    pub fn share(&self) -> Result<Slots, AllocError>
+        ensures { IfOk result (λ slots. slots ≡ self.now) }
+    {
+        Ok(Slots {
+            items: self.items.clone()?,
+        })
+    }
+
+    /// What is known of either, slot by slot.
+    pub fn join(&mut self, other: &Slots) -> Result<(), AllocError> {
+        for (one, other) in self.items.iter_mut().zip(other.items.iter()) {
+            if let Some(known) = one.join(*other) {
+                *one = known;
+            }
+        }
+        Ok(())
     }
 }

@@ -1,20 +1,23 @@
-//! What is known after a word, or why it is refused.
+//! What is known after a word on each way from it, or why it is refused.
 
-ghost use Rattle.std.specs.Prelude.{◌≡◌, ◌↔◌, ◌⊎◌, ◌≤◌, ◌<◌, ◌+◌, length, slice_get};
-ghost use Rattle.std.specs.Prelude.{IsTrue, MatchResult, OnErr};
-ghost use Rattle.limits.specs.Limits.{most_nesting};
+ghost use Rattle.std.specs.Prelude.{◌≡◌, ◌↔◌, ◌<◌, ◌+◌, length, slice_get, Some, None};
+ghost use Rattle.std.specs.Prelude.{IsTrue, MatchResult};
 ghost use Rattle.ilcode.specs.Steps.{is_start};
 ghost use Rattle.ilranges.specs.Causes.{IsLeastCause};
-ghost use Rattle.ilranges.specs.WordSteps.{changed, least_beside};
+ghost use Rattle.ilranges.specs.Changes.{changed, ways_of};
+ghost use Rattle.ilranges.specs.WordSteps.{IsJudged, least_beside};
 ghost use Rattle.ilranges.specs.Entries.{known_of};
 ghost use Rattle.ilranges.specs.Refusals.{ArisesBeforeNesting, ArisesAtOpen, ArisesAtClose};
-ghost use Rattle.ilranges.specs.Refusals.{ArisesAtWord, StaysOpen, open_after};
-ghost use Rattle.ilranges.specs.Rules.{IsAfterWord, IsRule, Opens, Closes};
+ghost use Rattle.ilranges.specs.Refusals.{ArisesAtWord, IsClosedAt, HasToClose, StaysOpen};
+ghost use Rattle.ilranges.specs.Refusals.{open_after};
+ghost use Rattle.ilranges.specs.Rules.{IsRule, Opens, Closes};
 
 use crate::cause::Cause;
-use crate::change::Change;
+use crate::change::{Change, Changes};
 use crate::entry::Entry;
+use crate::jump::{check_jump, jump};
 use crate::known::Known;
+use crate::marking::{constant_of, mark_of_apply, mark_of_function, mark_of_load};
 use crate::nesting::KnownOpened;
 use crate::rules;
 use ilcode::{Code, Instruction, Operand};
@@ -41,36 +44,51 @@ fn type_of(code: &Code, slot: usize) -> Option<IlType>
     code.slots().get(slot).copied()
 }
 
+/// What a word changes that leads to the next place alone.
+fn onward(change: Change) -> Changes
+    ensures next { result.next ≡ Some change }
+    ensures target { result.target ≡ None }
+{
+    Changes {
+        next: Some(change),
+        target: None,
+    }
+}
+
 /// What the word changes, or the least cause that arises at it before its parentheses.
-fn judge(code: &Code, entry: &Entry, word: Instruction) -> Result<Change, Cause>
+fn judge(code: &Code, place: usize, entry: &Entry, word: Instruction) -> Result<Changes, Cause>
     ensures { MatchResult result
-        (λ change. IsAfterWord code.now entry.now word (changed entry.now change))
-        (IsLeastCause (ArisesBeforeNesting code.now entry.now word)) }
+        (λ changes. IsJudged code.now place entry.now word (ways_of entry.now changes))
+        (IsLeastCause (ArisesBeforeNesting code.now place entry.now word)) }
 {
     match word {
         Instruction::Load { negated, operand } => {
             let known = rules::load(negated, known_of(code, entry, operand))?;
-            Ok(Change::Give(known))
+            Ok(onward(Change::Give(known, mark_of_load(negated, operand, known))))
         }
         Instruction::Apply(operator, operand) => {
-            let operand = known_of(code, entry, operand);
-            let known = rules::apply(operator, entry.result, operand)?;
-            Ok(Change::Give(known))
+            let known = rules::apply(operator, entry.result, known_of(code, entry, operand))?;
+            let mark = mark_of_apply(entry.mark, operator, constant_of(code, operand));
+            Ok(onward(Change::Give(known, mark)))
         }
         Instruction::Transform(function) => {
             let known = rules::transform(function, entry.result)?;
-            Ok(Change::Give(known))
+            Ok(onward(Change::Give(known, mark_of_function(entry.mark, function))))
         }
         Instruction::Store { negated, slot } => {
             let stored = rules::store(negated, entry.result, type_of(code, slot))?;
-            Ok(Change::Write(slot, stored))
+            Ok(onward(Change::Write(slot, stored)))
         }
         Instruction::Set(slot) | Instruction::Reset(slot) => {
             rules::check_set(entry.result, type_of(code, slot))?;
-            Ok(Change::Keep)
+            Ok(onward(Change::Keep))
         }
-        Instruction::Open(operator) => open(entry, operator),
-        Instruction::Close => close(entry),
+        Instruction::Open(operator) => Ok(onward(open(entry, operator)?)),
+        Instruction::Close => Ok(onward(close(entry)?)),
+        Instruction::Jump { condition, target } => {
+            check_jump(condition, code.is_target(place, target), entry.result)?;
+            Ok(jump(entry, condition))
+        }
     }
 }
 
@@ -102,18 +120,6 @@ fn close(entry: &Entry) -> Result<Change, Cause>
     }
 }
 
-/// How many parentheses are open after the word, of so many before it.
-fn count_after(word: Instruction, count: usize) -> usize
-    requires { count ≤ most_nesting }
-    ensures { result ≡ open_after word count }
-{
-    match word {
-        Instruction::Open(_) => count + 1,
-        Instruction::Close => count.saturating_sub(1),
-        _ => count,
-    }
-}
-
 /// Whether a program begins at the place.
 pub(crate) fn is_start(code: &Code, place: usize) -> bool
     ensures { result ≡ is_start code.now place }
@@ -121,30 +127,45 @@ pub(crate) fn is_start(code: &Code, place: usize) -> bool
     code.starts().contains(&place)
 }
 
-/// Whether the program ends after the word at the place: another one begins there, or the code
-/// ends.
-fn ends_program(code: &Code, place: usize) -> bool
-    requires { place < length code.now.instructions }
-    ensures { IsTrue result ↔ (IsTrue (is_start code.now (place + 1))
-        ⊎ (place + 1 ≡ length code.now.instructions)) }
+/// Whether nothing may be open at the place: a program begins there, the code ends, or, by `met`, a
+/// jump leads there.
+fn is_closed_at(code: &Code, place: usize, met: bool) -> bool
+    ensures { IsTrue result ↔ IsClosedAt code.now place met }
 {
-    let end = code.instructions().len();
-    let next = place + 1;
-    is_start(code, next) || next == end
+    is_start(code, place) || place == code.instructions().len() || met
 }
 
-/// Whether a parenthesis stays open at the end of a program, or one too many is opened.
-fn stays_open(code: &Code, place: usize, word: Instruction, count: usize) -> bool
-    requires place { place < length code.now.instructions }
-    requires count { count ≤ most_nesting }
-    ensures { IsTrue result ↔ StaysOpen code.now place word (open_after word count) }
+/// Whether nothing may be open after the word at the place.
+fn has_to_close(code: &Code, place: usize, met: bool, word: Instruction) -> bool
+    requires { place < length code.now.instructions }
+    ensures { IsTrue result ↔ HasToClose code.now place met word }
 {
-    let count = count_after(word, count);
-    count > MOST_NESTING || (count > 0 && ends_program(code, place))
+    match word {
+        Instruction::Jump { .. } => true,
+        _ => is_closed_at(code, place + 1, met),
+    }
+}
+
+/// Whether a parenthesis stays open where nothing may be open, or one too many is opened; so many
+/// are open before the word.
+fn stays_open(code: &Code, place: usize, met: bool, word: Instruction, count: usize) -> bool
+    requires { place < length code.now.instructions }
+    ensures { IsTrue result ↔ StaysOpen code.now place met word (open_after word count) }
+{
+    let most = if has_to_close(code, place, met, word) {
+        0
+    } else {
+        MOST_NESTING
+    };
+    match word {
+        Instruction::Open(_) => count >= most,
+        Instruction::Close => count.saturating_sub(1) > most,
+        _ => count > most,
+    }
 }
 
 /// The least cause at a word after which a parenthesis stays open.
-fn least_cause(judged: Result<Change, Cause>) -> Cause
+fn least_cause(judged: Result<Changes, Cause>) -> Cause
     ensures { result ≡ least_beside judged }
 {
     match judged {
