@@ -1,5 +1,5 @@
 -- Where a word leaves something no cause arises at it.
-use Rattle.std.proofs.Common.{◌≡◌, ℤ, List, [], ◌∷◌, Option, Some, None, Bool, true, false}
+use Rattle.std.proofs.Common.{◌≡◌, ℕ, ℤ, List, [], ◌∷◌, Option, Some, None, Bool, true, false}
 use Rattle.std.proofs.Common.{refl, sym, subst, inl, inr}
 use Rattle.std.specs.Prelude.{IsNone, slice_get}
 use Rattle.iltypes.specs.declared.range.Range.{Range}
@@ -169,22 +169,23 @@ close_lawful entry after [] h cause a = absurd h
 close_lawful entry after (innermost ∷ nesting) h cause a =
     closing_lawful innermost.operator innermost.saved entry.result h.known h.given cause a
 
--- where a word leaves something no cause arises at it before its parentheses
-pub lawful_before : (code : Listing) (entry : Entry) (word : Instruction) (after : Entry)
-    → rules.IsAfterWord code entry word after → (cause : Cause)
-    → ¬ refusals.ArisesBeforeNesting code entry word cause
-lawful_before code entry (words.Load negated operand) after h cause a =
+-- where a word leaves something for the next place alone no cause arises at it before its parentheses
+pub lawful_before : (code : Listing) (place : ℕ) (entry : Entry) (word : Instruction) (after : Entry)
+    → rules.IsEntryAfter code entry word after → (cause : Cause)
+    → ¬ refusals.ArisesBeforeNesting code place entry word cause
+lawful_before code place entry (words.Load negated operand) after h cause a =
     loaded_lawful negated (known_of code entry operand) h.known h.given cause a
-lawful_before code entry (words.Apply operator operand) after h cause a =
+lawful_before code place entry (words.Apply operator operand) after h cause a =
     apply_lawful operator entry.result (known_of code entry operand) h.known h.given cause a
-lawful_before code entry (words.Transform function) after h cause a =
+lawful_before code place entry (words.Transform function) after h cause a =
     transformed_lawful function entry.result h.known h.given cause a
-lawful_before code entry (words.Store negated slot) after h cause a =
+lawful_before code place entry (words.Store negated slot) after h cause a =
     stored_lawful negated entry.result (slice_get code.slots slot) h.stored h.written cause a
-lawful_before code entry (words.Set slot) after h cause a =
+lawful_before code place entry (words.Set slot) after h cause a =
     set_lawful entry.result (slice_get code.slots slot) h.0 cause a
-lawful_before code entry (words.Reset slot) after h cause a =
+lawful_before code place entry (words.Reset slot) after h cause a =
     set_lawful entry.result (slice_get code.slots slot) h.0 cause a
-lawful_before code entry (words.Open operator) after h cause a =
+lawful_before code place entry (words.Open operator) after h cause a =
     open_lawful entry after operator entry.result h cause a
-lawful_before code entry words.Close after h cause a = close_lawful entry after entry.nesting h cause a
+lawful_before code place entry words.Close after h cause a = close_lawful entry after entry.nesting h cause a
+lawful_before code place entry (words.Jump condition target) after h cause a = absurd h

@@ -6,13 +6,16 @@ pub mod Joins
 pub mod Lawful
 pub mod Least
 pub mod LeastStores
+pub mod Marking
 pub mod Monotone
 pub mod MonotoneFunctions
 pub mod OneCause
 pub mod Operations
 pub mod OrderLaws
+pub mod Refining
 pub mod RefusalLaws
 pub mod SafeLaws
 pub mod SoundLaws
 pub mod Takings
+pub mod WayLaws
 pub mod Words

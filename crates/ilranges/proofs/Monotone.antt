@@ -20,7 +20,7 @@ use Rattle.ilranges.specs.Laws.{KeepsOrder, KeepsRefusals}
 use Rattle.ilranges.proofs.Comparisons.{lt_from, ge_from}
 use Rattle.ilranges.proofs.Exact.{example, refuted}
 
-holds_wider : (r s : Range) (z : ℤ) → IsWithin r s → Holds r z → Holds s z
+pub holds_wider : (r s : Range) (z : ℤ) → IsWithin r s → Holds r z → Holds s z
 holds_wider r s z w h = record { low = omega (arith, ints, w.low, h.low); high = omega (arith, ints, w.high, h.high) }
 
 pub known_wider : (v : Value) (known wider : Known) → IsKnownWithin known wider → IsKnown v known → IsKnown v wider

@@ -1,9 +1,11 @@
 -- The least cause at a word is one: both ranges of a number out of range are those that are known there.
-use Rattle.std.proofs.Common.{◌≡◌, ℕ, List, [], ◌∷◌, Option, Some, None}
+use Rattle.std.proofs.Common.{◌≡◌, ℕ, List, [], ◌∷◌, Option, Some, None, Bool}
 use Rattle.std.specs.Prelude.{slice_get}
 use Rattle.iltypes.specs.declared.range.Range.{Range}
 use Rattle.iltypes.specs.declared.value.IlType.{IlType}
 use Rattle.iltypes.specs.declared.value.IlType.TheVariants as types
+use Rattle.iloperators.specs.declared.condition.Condition.{Condition}
+use Rattle.iloperators.specs.declared.condition.Condition.TheVariants.{Always, IfTrue, IfFalse}
 use Rattle.iloperators.specs.declared.function.Function.{Function}
 use Rattle.iloperators.specs.declared.operator.Operator.{Operator}
 use Rattle.ilcode.specs.declared.instruction.Instruction.{Instruction}
@@ -15,7 +17,8 @@ use Rattle.ilranges.specs.declared.known.Known.{Known}
 use Rattle.ilranges.specs.declared.known.Known.TheVariants as knowns
 use Rattle.ilranges.specs.declared.nesting.KnownOpened.{KnownOpened}
 use Rattle.ilranges.specs.Entries.{known_of}
-use Rattle.ilranges.specs.Refusals.{ArisesAtOperator, ArisesAtTransform, IsOutOfSlot, ArisesAtClose, ArisesAtWord}
+use Rattle.ilranges.specs.Refusals.{ArisesAtOperator, ArisesAtTransform, IsOutOfSlot, ArisesAtClose}
+use Rattle.ilranges.specs.Refusals.{ArisesAtCondition, ArisesAtWord}
 use Rattle.ilranges.specs.WordLaws.{HasOneCause}
 use Rattle.ilranges.proofs.Exact as exact
 use Rattle.ilranges.proofs.Functions.{same_outside}
@@ -53,20 +56,29 @@ none_at_close [] result f a h = h
 none_at_close (innermost ∷ nesting) result f a h =
     not_outside innermost.operator (Some innermost.saved) result f a h
 
-same_ranges : (code : Listing) (entry : Entry) (word : Instruction) (place : ℕ) (f a g b : Range)
-    → ArisesAtWord code place entry word (OutOfRange f a) → ArisesAtWord code place entry word (OutOfRange g b)
+none_at_condition : (condition : Condition) (result : Option Known) (f a : Range)
+    → ¬ ArisesAtCondition condition result (OutOfRange f a)
+none_at_condition Always result f a h = h
+none_at_condition IfTrue result f a h = h
+none_at_condition IfFalse result f a h = h
+
+same_ranges : (code : Listing) (place : ℕ) (met : Bool) (entry : Entry) (word : Instruction) (f a g b : Range)
+    → ArisesAtWord code place met entry word (OutOfRange f a) → ArisesAtWord code place met entry word (OutOfRange g b)
     → OutOfRange f a ≡ OutOfRange g b
-same_ranges code entry (words.Load negated operand) place f a g b h k = absurd h
-same_ranges code entry (words.Apply operator operand) place f a g b h k =
+same_ranges code place met entry (words.Load negated operand) f a g b h k = absurd h
+same_ranges code place met entry (words.Apply operator operand) f a g b h k =
     absurd (not_outside operator entry.result (known_of code entry operand) f a h)
-same_ranges code entry (words.Transform function) place f a g b h k = same_transform function entry.result f a g b h k
-same_ranges code entry (words.Store negated slot) place f a g b h k =
+same_ranges code place met entry (words.Transform function) f a g b h k =
+    same_transform function entry.result f a g b h k
+same_ranges code place met entry (words.Store negated slot) f a g b h k =
     same_slot entry.result (slice_get code.slots slot) f a g b h k
-same_ranges code entry (words.Set slot) place f a g b h k = absurd h
-same_ranges code entry (words.Reset slot) place f a g b h k = absurd h
-same_ranges code entry (words.Open operator) place f a g b h k = absurd h
-same_ranges code entry words.Close place f a g b h k = absurd (none_at_close entry.nesting entry.result f a h)
+same_ranges code place met entry (words.Set slot) f a g b h k = absurd h
+same_ranges code place met entry (words.Reset slot) f a g b h k = absurd h
+same_ranges code place met entry (words.Open operator) f a g b h k = absurd h
+same_ranges code place met entry words.Close f a g b h k = absurd (none_at_close entry.nesting entry.result f a h)
+same_ranges code place met entry (words.Jump condition target) f a g b h k =
+    absurd (none_at_condition condition entry.result f a h)
 
 pub one_cause : (word : Instruction) → HasOneCause word
-one_cause word code place entry one other h k =
-    exact.one_cause (ArisesAtWord code place entry word) one other (same_ranges code entry word place) h k
+one_cause word code place met entry one other h k =
+    exact.one_cause (ArisesAtWord code place met entry word) one other (same_ranges code place met entry word) h k

@@ -1,4 +1,4 @@
--- Who knows more before a word knows more after it.
+-- Who knows more before a word knows more after it, where it leads to the next place alone.
 use Rattle.std.proofs.Common.{◌≡◌, ℕ, zero, suc, Bool, true, false, List, [], ◌∷◌, Option, Some, None, refl, sym}
 use Rattle.std.proofs.Common.{subst, arith}
 use Rattle.std.specs.Prelude.{slice_get, slice_set, ⊤}
@@ -17,12 +17,14 @@ use Rattle.ilcode.specs.Listings.{Listing}
 use Rattle.ilranges.specs.declared.entry.Entry.{Entry}
 use Rattle.ilranges.specs.declared.known.Known.{Known}
 use Rattle.ilranges.specs.declared.known.Known.TheVariants as knowns
+use Rattle.ilranges.specs.declared.mark.Mark.{Mark}
 use Rattle.ilranges.specs.declared.nesting.KnownOpened.{KnownOpened}
 use Rattle.ilranges.specs.Entries.{known_of, IsResultInto, IsOpenedInto, IsInto}
 use Rattle.ilranges.specs.Knowns.{IsKnownWithin, known_of_value}
-use Rattle.ilranges.specs.Rules.{IsModified, IsLoaded, IsApplied, IsTransformed, IsStored, Gives, Writes}
-use Rattle.ilranges.specs.Rules.{Opens, Closes}
-use Rattle.ilranges.specs.WordLaws.{KeepsEntryOrder}
+use Rattle.ilranges.specs.Marks.{IsMarkInto, constant_of}
+use Rattle.ilranges.specs.Rules.{IsModified, IsLoaded, IsApplied, IsTransformed, IsStored, Gives, Writes, unmarked}
+use Rattle.ilranges.specs.Rules.{Opens, Closes, IsEntryAfter}
+use Rattle.ilranges.proofs.Marking.{load_marks, apply_marks, function_marks}
 use Rattle.ilranges.proofs.Monotone as operators
 use Rattle.ilranges.proofs.MonotoneFunctions as monotone
 
@@ -43,7 +45,7 @@ both_self : (known : Option Known) → IsBothWithin known known
 both_self None = tt
 both_self (Some known) = known_self known
 
-slot_within : (slots wider : List Known) (slot : ℕ) → AllZip IsKnownWithin slots wider
+pub slot_within : (slots wider : List Known) (slot : ℕ) → AllZip IsKnownWithin slots wider
     → IsBothWithin (slice_get slots slot) (slice_get wider slot)
 slot_within [] [] slot h = tt
 slot_within [] (y ∷ ys) slot h = absurd h
@@ -57,7 +59,7 @@ operand_within code entry wider (Slot slot) i = slot_within entry.slots wider.sl
 operand_within code entry wider (Constant constant) i =
     both_self (option_map known_of_value (slice_get code.constants constant))
 
-set_within : (slots wider : List Known) (slot : ℕ) (known other : Known) → AllZip IsKnownWithin slots wider
+pub set_within : (slots wider : List Known) (slot : ℕ) (known other : Known) → AllZip IsKnownWithin slots wider
     → IsKnownWithin known other → AllZip IsKnownWithin (slice_set slots slot known) (slice_set wider slot other)
 set_within [] [] slot known other h w = tt
 set_within [] (y ∷ ys) slot known other h w = absurd h
@@ -114,17 +116,20 @@ stored_within negated (Some known) (Some wider) (Some type) after other w h g =
 
 -- ---- what words leave
 
-into_of : (entry wider after other : Entry) → after ≡ entry → other ≡ wider → IsInto entry wider → IsInto after other
+pub into_of : (entry wider after other : Entry) → after ≡ entry → other ≡ wider → IsInto entry wider → IsInto after other
 into_of entry wider after other p q i =
     subst (λ (e : Entry). IsInto e other) (sym p) (subst (IsInto entry) (sym q) i)
 
-gives_into : (entry wider after other : Entry) (nesting wider_nesting : List KnownOpened) (P Q : Known → Type 0)
-    → IsInto entry wider → AllZip IsOpenedInto nesting wider_nesting
-    → ((known its : Known) → P known → Q its → IsKnownWithin known its) → Gives entry nesting P after
-    → Gives wider wider_nesting Q other → IsInto after other
-gives_into entry wider after other nesting wider_nesting P Q i n each h g =
+gives_into : (entry wider after other : Entry) (nesting wider_nesting : List KnownOpened)
+    (mark_of wider_mark_of : Known → Option Mark) (P Q : Known → Type 0) → IsInto entry wider
+    → AllZip IsOpenedInto nesting wider_nesting
+    → ((known its : Known) → P known → Q its → IsKnownWithin known its)
+    → ((known its : Known) → IsKnownWithin known its → IsMarkInto (mark_of known) (wider_mark_of its))
+    → Gives entry nesting mark_of P after → Gives wider wider_nesting wider_mark_of Q other → IsInto after other
+gives_into entry wider after other nesting wider_nesting mark_of wider_mark_of P Q i n each marks h g =
+    let w = each h.known g.known h.given g.given in
     into_of _ _ after other h.is g.is
-    (record { slots = i.slots; result = each h.known g.known h.given g.given; nesting = n })
+    (record { slots = i.slots; result = w; mark = marks h.known g.known w; nesting = n })
 
 writes_into : (entry wider after other : Entry) (slot : ℕ) (P Q : Known → Type 0) → IsInto entry wider
     → ((known its : Known) → P known → Q its → IsKnownWithin known its) → Writes entry slot P after
@@ -134,6 +139,7 @@ writes_into entry wider after other slot P Q i each h g =
       slots = set_within entry.slots wider.slots slot h.stored g.stored i.slots
           (each h.stored g.stored h.written g.written);
       result = i.result;
+      mark = i.mark;
       nesting = i.nesting;
     })
 
@@ -146,6 +152,7 @@ opens_into entry wider after other operator (Some saved) (Some wider_saved) i w 
     into_of _ _ after other h g (record {
       slots = i.slots;
       result = tt;
+      mark = tt;
       nesting = (record { operator = refl; saved = w }, i.nesting);
     })
 
@@ -155,31 +162,35 @@ closes_into : (entry wider after other : Entry) (nesting wider_nesting : List Kn
 closes_into entry wider after other [] wider_nesting i n h g = absurd h
 closes_into entry wider after other (x ∷ xs) [] i n h g = absurd g
 closes_into entry wider after other (x ∷ xs) (y ∷ ys) i n h g =
-    gives_into entry wider after other xs ys _ _ i n.1
+    gives_into entry wider after other xs ys unmarked unmarked _ _ i n.1
     (λ known its p q.
     applied_within y.operator (Some x.saved) (Some y.saved) entry.result wider.result known its n.0.saved i.result
     (subst (λ (o : Operator). IsApplied o (Some x.saved) entry.result known) n.0.operator p) q)
-    h g
+    (λ known its w. tt) h g
 
-pub keeps_order : (word : Instruction) → KeepsEntryOrder word
-keeps_order (words.Load negated operand) code entry after wider other i h g =
-    gives_into entry wider after other entry.nesting wider.nesting _ _ i i.nesting
+pub after_into : (word : Instruction) (code : Listing) (entry wider after other : Entry) → IsInto entry wider
+    → IsEntryAfter code entry word after → IsEntryAfter code wider word other → IsInto after other
+after_into (words.Load negated operand) code entry wider after other i h g =
+    gives_into entry wider after other entry.nesting wider.nesting _ _ _ _ i i.nesting
     (λ known its. loaded_within negated (known_of code entry operand) (known_of code wider operand) known its
-    (operand_within code entry wider operand i)) h g
-keeps_order (words.Apply operator operand) code entry after wider other i h g =
-    gives_into entry wider after other entry.nesting wider.nesting _ _ i i.nesting
+    (operand_within code entry wider operand i)) (load_marks negated operand) h g
+after_into (words.Apply operator operand) code entry wider after other i h g =
+    gives_into entry wider after other entry.nesting wider.nesting _ _ _ _ i i.nesting
     (λ known its.
     applied_within operator entry.result wider.result (known_of code entry operand) (known_of code wider operand)
-    known its i.result (both_into _ _ (operand_within code entry wider operand i))) h g
-keeps_order (words.Transform function) code entry after wider other i h g =
-    gives_into entry wider after other entry.nesting wider.nesting _ _ i i.nesting
-    (λ known its. transformed_within function entry.result wider.result known its i.result) h g
-keeps_order (words.Store negated slot) code entry after wider other i h g =
+    known its i.result (both_into _ _ (operand_within code entry wider operand i)))
+    (λ known its w. apply_marks entry.mark wider.mark operator (constant_of code operand) i.mark) h g
+after_into (words.Transform function) code entry wider after other i h g =
+    gives_into entry wider after other entry.nesting wider.nesting _ _ _ _ i i.nesting
+    (λ known its. transformed_within function entry.result wider.result known its i.result)
+    (λ known its w. function_marks entry.mark wider.mark function i.mark) h g
+after_into (words.Store negated slot) code entry wider after other i h g =
     writes_into entry wider after other slot _ _ i
     (λ known its. stored_within negated entry.result wider.result (slice_get code.slots slot) known its i.result) h g
-keeps_order (words.Set slot) code entry after wider other i h g = into_of entry wider after other h.1 g.1 i
-keeps_order (words.Reset slot) code entry after wider other i h g = into_of entry wider after other h.1 g.1 i
-keeps_order (words.Open operator) code entry after wider other i h g =
+after_into (words.Set slot) code entry wider after other i h g = into_of entry wider after other h.1 g.1 i
+after_into (words.Reset slot) code entry wider after other i h g = into_of entry wider after other h.1 g.1 i
+after_into (words.Open operator) code entry wider after other i h g =
     opens_into entry wider after other operator entry.result wider.result i i.result h g
-keeps_order words.Close code entry after wider other i h g =
+after_into words.Close code entry wider after other i h g =
     closes_into entry wider after other entry.nesting wider.nesting i i.nesting h g
+after_into (words.Jump condition target) code entry wider after other i h g = absurd h

@@ -1,7 +1,7 @@
 -- What is refused where more is known before a word is refused where less is.
-use Rattle.std.proofs.Common.{ℕ, List, [], ◌∷◌, Option, Some, None, Bool, refl, sym, subst}
-use Rattle.std.proofs.Common.{arith}
-use Rattle.std.specs.Prelude.{slice_get}
+use Rattle.std.proofs.Common.{ℕ, ◌+◌, List, [], ◌∷◌, Option, Some, None, Bool, true, IsTrue, inl, inr}
+use Rattle.std.proofs.Common.{refl, sym, subst, arith}
+use Rattle.std.specs.Prelude.{IsNone, slice_get}
 use Rattle.std.specs.List.{AllZip}
 use Rattle.std.proofs.lemmas.Int.{ints}
 use Rattle.std.proofs.lemmas.Slice.Zip.{AllZip-long}
@@ -9,13 +9,17 @@ use Rattle.iltypes.specs.declared.range.Range.{Range}
 use Rattle.iltypes.specs.declared.value.IlType.{IlType}
 use Rattle.iltypes.specs.declared.value.IlType.TheVariants as types
 use Rattle.iltypes.specs.declared.value.Value.{Value}
+use Rattle.iltypes.specs.declared.value.Value.TheVariants as values
 use Rattle.iltypes.specs.Ranges.{IsWithin}
 use Rattle.iltypes.specs.Values.{IsOf}
+use Rattle.iloperators.specs.declared.condition.Condition.{Condition}
+use Rattle.iloperators.specs.declared.condition.Condition.TheVariants.{Always, IfTrue, IfFalse}
 use Rattle.iloperators.specs.declared.function.Function.{Function}
 use Rattle.iloperators.specs.declared.operator.Operator.{Operator}
 use Rattle.ilcode.specs.declared.instruction.Instruction.{Instruction}
 use Rattle.ilcode.specs.declared.instruction.Instruction.TheVariants as words
 use Rattle.ilcode.specs.Listings.{Listing}
+use Rattle.ilcode.specs.Steps.{is_target}
 use Rattle.ilranges.specs.declared.cause.Cause.{Cause}
 use Rattle.ilranges.specs.declared.cause.Cause.TheVariants as causes
 use Rattle.ilranges.specs.declared.entry.Entry.{Entry}
@@ -150,38 +154,103 @@ close_kept wider after (x ∷ xs) (y ∷ ys) result n w g cause a =
 
 -- ---- words
 
-kept_before : (code : Listing) (entry wider : Entry) (word : Instruction) (after : Entry) → IsInto entry wider
-    → rules.IsAfterWord code wider word after → (cause : Cause)
-    → ¬ refusals.ArisesBeforeNesting code entry word cause
-kept_before code entry wider (words.Load negated operand) after i g cause a =
+kept_before : (code : Listing) (place : ℕ) (entry wider : Entry) (word : Instruction) (after : Entry)
+    → IsInto entry wider → rules.IsEntryAfter code wider word after → (cause : Cause)
+    → ¬ refusals.ArisesBeforeNesting code place entry word cause
+kept_before code place entry wider (words.Load negated operand) after i g cause a =
     load_kept negated (known_of code entry operand) (known_of code wider operand) g.known
     (operand_within code entry wider operand i) g.given cause a
-kept_before code entry wider (words.Apply operator operand) after i g cause a =
+kept_before code place entry wider (words.Apply operator operand) after i g cause a =
     apply_kept operator entry.result wider.result (known_of code entry operand) (known_of code wider operand) g.known
     i.result (both_into _ _ (operand_within code entry wider operand i)) g.given cause a
-kept_before code entry wider (words.Transform function) after i g cause a =
+kept_before code place entry wider (words.Transform function) after i g cause a =
     transform_kept function entry.result wider.result g.known i.result g.given cause a
-kept_before code entry wider (words.Store negated slot) after i g cause a =
+kept_before code place entry wider (words.Store negated slot) after i g cause a =
     store_kept negated entry.result wider.result (slice_get code.slots slot) g.stored i.result g.written cause a
-kept_before code entry wider (words.Set slot) after i g cause a =
+kept_before code place entry wider (words.Set slot) after i g cause a =
     set_kept entry.result wider.result (slice_get code.slots slot) i.result g.0 cause a
-kept_before code entry wider (words.Reset slot) after i g cause a =
+kept_before code place entry wider (words.Reset slot) after i g cause a =
     set_kept entry.result wider.result (slice_get code.slots slot) i.result g.0 cause a
-kept_before code entry wider (words.Open operator) after i g cause a =
+kept_before code place entry wider (words.Open operator) after i g cause a =
     open_kept wider after operator entry.result wider.result i.result g cause a
-kept_before code entry wider words.Close after i g cause a =
+kept_before code place entry wider words.Close after i g cause a =
     close_kept wider after entry.nesting wider.nesting entry.result i.nesting i.result g cause a
+kept_before code place entry wider (words.Jump condition target) after i g cause a = absurd g
+
+-- ---- jumps
+
+none_kept : (result wider : Option Known) → IsResultInto result wider → IsNone result → IsNone wider
+none_kept result None w n = refl
+none_kept None (Some wider) w n = absurd w
+none_kept (Some known) (Some wider) w n = let k : ⊥ = cc in absurd k
+
+-- what is no truth value is none by the wider either, where there is a result
+wrong_kept : (result wider : Option Known) → IsResultInto result wider → ¬ IsNone wider
+    → ¬ refusals.MayBe (values.Bool true) result → ¬ refusals.MayBe (values.Bool true) wider
+wrong_kept result None w n a b = n refl
+wrong_kept None (Some wider) w n a b = w
+wrong_kept (Some knowns.Bool) (Some wider) w n a b = a tt
+wrong_kept (Some (knowns.Int r)) (Some knowns.Bool) w n a b = w
+wrong_kept (Some (knowns.Int r)) (Some (knowns.Int s)) w n a b = b
+
+condition_kept : (condition : Condition) (result wider : Option Known) → IsResultInto result wider
+    → ¬ refusals.ArisesAtCondition condition wider causes.WrongType
+    → ¬ refusals.ArisesAtCondition condition wider causes.NoResult → (cause : Cause)
+    → ¬ refusals.ArisesAtCondition condition result cause
+condition_kept Always result wider w wrong none cause a = a
+condition_kept IfTrue result wider w wrong none causes.WrongType a = wrong (wrong_kept result wider w none a)
+condition_kept IfTrue result wider w wrong none causes.NoResult a = none (none_kept result wider w a)
+condition_kept IfTrue result wider w wrong none _ a = a
+condition_kept IfFalse result wider w wrong none causes.WrongType a = wrong (wrong_kept result wider w none a)
+condition_kept IfFalse result wider w wrong none causes.NoResult a = none (none_kept result wider w a)
+condition_kept IfFalse result wider w wrong none _ a = a
+
+-- whether the target is lawful does not depend on what is known
+jump_kept : (condition : Condition) (lawful : Bool) (result wider : Option Known) → IsResultInto result wider
+    → ¬ refusals.ArisesAtJump condition lawful wider causes.BadJump
+    → ¬ refusals.ArisesAtJump condition lawful wider causes.WrongType
+    → ¬ refusals.ArisesAtJump condition lawful wider causes.NoResult → (cause : Cause)
+    → ¬ refusals.ArisesAtJump condition lawful result cause
+jump_kept condition lawful result wider w bad wrong none causes.BadJump a = bad a
+jump_kept condition lawful result wider w bad wrong none cause a =
+    condition_kept condition result wider w wrong none cause a
+
+-- ---- parentheses that stay open
+
+-- a jump leads where one led before
+closed_kept : (code : Listing) (place : ℕ) (met wider_met : Bool) → (IsTrue met → IsTrue wider_met)
+    → refusals.IsClosedAt code place met → refusals.IsClosedAt code place wider_met
+closed_kept code place met wider_met m (inl s) = inl s
+closed_kept code place met wider_met m (inr (inl e)) = inr (inl e)
+closed_kept code place met wider_met m (inr (inr j)) = inr (inr (m j))
+
+has_to_close : (code : Listing) (place : ℕ) (met wider_met : Bool) (word : Instruction) → (IsTrue met → IsTrue wider_met)
+    → refusals.HasToClose code place met word → refusals.HasToClose code place wider_met word
+has_to_close code place met wider_met (words.Jump condition target) m h = tt
+has_to_close code place met wider_met word m h = closed_kept code (place + 1) met wider_met m h
+
+stays_open : (code : Listing) (place : ℕ) (met wider_met : Bool) (word : Instruction) (count : ℕ)
+    → (IsTrue met → IsTrue wider_met) → refusals.StaysOpen code place met word count
+    → refusals.StaysOpen code place wider_met word count
+stays_open code place met wider_met word count m (inl h) =
+    inl (h.0, has_to_close code place met wider_met word m h.1)
+stays_open code place met wider_met word count m (inr h) = inr h
 
 -- as many parentheses are open
-kept_open : (code : Listing) (place : ℕ) (entry wider : Entry) (word : Instruction) → IsInto entry wider
-    → refusals.ArisesAtWord code place entry word causes.OpenNesting
-    → refusals.ArisesAtWord code place wider word causes.OpenNesting
-kept_open code place entry wider word i a =
-    subst (λ (n : ℕ). refusals.StaysOpen code place word (refusals.open_after word n))
-    (sym (AllZip-long IsOpenedInto entry.nesting wider.nesting i.nesting)) a
+kept_open : (code : Listing) (place : ℕ) (met wider_met : Bool) (entry wider : Entry) (word : Instruction)
+    → IsInto entry wider → (IsTrue met → IsTrue wider_met)
+    → refusals.ArisesAtWord code place met entry word causes.OpenNesting
+    → refusals.ArisesAtWord code place wider_met wider word causes.OpenNesting
+kept_open code place met wider_met entry wider word i m a =
+    subst (λ (n : ℕ). refusals.StaysOpen code place wider_met word (refusals.open_after word n))
+    (sym (AllZip-long IsOpenedInto entry.nesting wider.nesting i.nesting))
+    (stays_open code place met wider_met word _ m a)
 
 pub keeps_refusals : (word : Instruction) → KeepsWordRefusals word
-keeps_refusals word code place entry wider after causes.OpenNesting i a r =
-    r.lawful causes.OpenNesting (kept_open code place entry wider word i a)
-keeps_refusals word code place entry wider after cause i a r =
-    kept_before code entry wider word after i r.leaves cause a
+keeps_refusals word code place met wider_met entry wider wider_ways causes.OpenNesting i m a r =
+    r.lawful causes.OpenNesting (kept_open code place met wider_met entry wider word i m a)
+keeps_refusals (words.Jump condition target) code place met wider_met entry wider wider_ways cause i m a r =
+    jump_kept condition (is_target code place target) entry.result wider.result i.result (r.lawful causes.BadJump)
+    (r.lawful causes.WrongType) (r.lawful causes.NoResult) cause a
+keeps_refusals word code place met wider_met entry wider wider_ways cause i m a r =
+    kept_before code place entry wider word r.leaves.after i r.leaves.leaves cause a

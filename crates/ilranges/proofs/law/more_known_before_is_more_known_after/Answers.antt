@@ -1,7 +1,7 @@
 use Rattle.ilranges.proofs.Monotone.{order, refusals}
 use Rattle.ilranges.proofs.MonotoneFunctions as functions
-use Rattle.ilranges.proofs.OrderLaws.{keeps_order}
 use Rattle.ilranges.proofs.RefusalLaws.{keeps_refusals}
+use Rattle.ilranges.proofs.WayLaws.{keeps_order}
 use Rattle.ilranges.proofs.law.more_known_before_is_more_known_after.Goals as goal
 
 pub returns-clause-order : goal.returns-clause-order
