@@ -1,3 +1,4 @@
+pub mod Bounds
 mod Lists
 mod Order
 mod Pass

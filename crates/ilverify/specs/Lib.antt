@@ -1,3 +1,4 @@
+pub mod BoundSteps
 pub mod Certificates
 pub mod PassSteps
 pub mod Printed

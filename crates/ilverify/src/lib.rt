@@ -11,6 +11,7 @@
 //! ```
 #![tactic(auto)]
 
+mod bound;
 mod verified;
 mod verifier;
 

@@ -1,0 +1,6 @@
+use Rattle.std.proofs.Common.{◌≡◌, ◌<◌, ◌+◌, length, ℕ, ◌≤◌}
+use Rattle.ilverify.specs.BoundSteps.{AreLongest}
+use Rattle.ilverify.proofs.bound.greatest_path.Given as goal
+
+abbrev pub invariant-loop-place : goal.invariant-loop-place
+invariant-loop-place l = AreLongest l.code l.longest.items l.place
