@@ -2,23 +2,35 @@
 
 ghost use Rattle.std.specs.Prelude.{◌≡◌, ℕ, ◌≤◌, List, [], length};
 ghost use Rattle.iltypes.specs.declared.value.Value.{Value};
-ghost use Rattle.ilcode.specs.declared.instruction.Instruction.{Instruction};
+ghost use Rattle.iltypes.specs.Values.{AreOf};
 ghost use Rattle.ilcode.specs.Listings.{Listing};
-ghost use Rattle.ilcode.specs.Paths.{IsBound};
-ghost use Rattle.ilcode.specs.Steps.{Configuration, start, Runs};
+ghost use Rattle.ilcode.specs.Paths.{IsPath, IsBound};
+ghost use Rattle.ilcode.specs.Steps.{Configuration, start, Runs, IsSafe, Ends};
 
-/// Control goes forward alone: a run has taken as many steps as its place says, and at its end
+/// Control goes forward alone: a run has taken no more steps than its place says, and at its end
 /// nothing is open.
 fn runs_go_forward()
     ensures place { (code : Listing) (from : List Value) (steps : ℕ) (c : Configuration)
-        → Runs code (start from) steps c → c.place ≡ steps }
+        → Runs code (start from) steps c → steps ≤ c.place }
     ensures within { (code : Listing) (from : List Value) (steps : ℕ) (c : Configuration)
-        → Runs code (start from) steps c → steps ≤ length code.instructions }
+        → Runs code (start from) steps c → c.place ≤ length code.instructions }
     ensures closed { (code : Listing) (from : List Value) (steps : ℕ) (c : Configuration)
         → Runs code (start from) steps c → c.place ≡ length code.instructions → c.nesting ≡ [] }
 {}
 
-/// The longest path has all words.
-fn a_bound_is_the_number_of_words()
-    ensures { (words : List Instruction) → IsBound words (length words) }
+/// A run goes along a path, so that it has no more steps than the bound, of which there is one.
+fn runs_go_along_paths()
+    ensures path { (code : Listing) (from : List Value) (steps : ℕ) (c : Configuration)
+        → Runs code (start from) steps c
+        → (path : List ℕ) × IsPath code path × (length path ≡ steps) }
+    ensures few { (code : Listing) (bound : ℕ) (from : List Value) (steps : ℕ) (c : Configuration)
+        → IsBound code bound → Runs code (start from) steps c → steps ≤ bound }
+    ensures one { (code : Listing) (bound other : ℕ) → IsBound code bound → IsBound code other
+        → bound ≡ other }
+{}
+
+/// Each run of a safe code ends.
+fn safe_runs_end()
+    ensures { (code : Listing) (from : List Value) → IsSafe code → AreOf from code.slots
+        → (steps : ℕ) × (to : List Value) × Ends code from steps to }
 {}
