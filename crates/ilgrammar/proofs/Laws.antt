@@ -1,10 +1,13 @@
 -- What holds of every item: reading is exact, in what it takes and where it stops.
-use Rattle.std.proofs.Common.{◌≡◌, Bool, true, false, cond, List, [], ◌∷◌, ◌++◌, Option, Some, None, Result, Ok, Err, ◌⊎◌, inl, inr, refl, sym, ap, subst, ◌∙◌, append_assoc, ◌||◌}
-use Rattle.ilgrammar.specs.Items.{◌>>=◌, Item, begins, one, one_whole, one_part, one_read, one_read_at, is_in, map, map_read, seq, lead, seq_read, opt, opt_read, alt, alt_read}
+use Rattle.std.proofs.Common.{◌≡◌, Bool, true, false, cond, List, [], ◌∷◌, ◌++◌, Option, Some, None, Result, Ok, Err}
+use Rattle.std.proofs.Common.{◌⊎◌, inl, inr, refl, sym, ap, subst, ◌∙◌, append_assoc, ◌||◌}
+use Rattle.ilgrammar.specs.Items.{◌>>=◌, Item, begins, one, one_whole, one_part, one_read, one_read_at, is_in, map}
+use Rattle.ilgrammar.specs.Items.{map_read, seq, lead, seq_read, opt, opt_read, alt, alt_read}
 
 -- ---- steps
 
-pub bind_ok : {T A B : Type 0} (r : Result A (List T)) (f : A → Result B (List T)) (y : B) → (r >>= f) ≡ Ok y → (x : A) × (r ≡ Ok x) × (f x ≡ Ok y)
+pub bind_ok : {T A B : Type 0} (r : Result A (List T)) (f : A → Result B (List T)) (y : B) → (r >>= f) ≡ Ok y
+    → (x : A) × (r ≡ Ok x) × (f x ≡ Ok y)
 bind_ok (Ok x) f y e = (x, refl, e)
 bind_ok (Err d) f y e = absurd cc
 
@@ -69,14 +72,16 @@ pub record Solid (T A : Type 0) (a : Item T A) : Type 0 where
 -- ---- one token
 
 module _ (T A : Type 0) (class : T → Option A) (sample : T) (value : A) (has : class sample ≡ Some value) where
-  one_at_ok : (o : Option A) (t : T) (ts : List T) (x : A) (rest : List T) → class t ≡ o → one_read_at o t ts ≡ Ok (x, rest) → Took T A (one class) (t ∷ ts) x rest
+  one_at_ok : (o : Option A) (t : T) (ts : List T) (x : A) (rest : List T) → class t ≡ o
+      → one_read_at o t ts ≡ Ok (x, rest) → Took T A (one class) (t ∷ ts) x rest
   one_at_ok None t ts x rest is e = absurd cc
   one_at_ok (Some y) t ts x rest is e =
       let made : A × List T = (y, ts) in
       subst (λ (z : A × List T). Took T A (one class) (t ∷ ts) z.0 z.1) (ok_is made (x, rest) e)
       (record { front = t ∷ []; parts = refl; whole = is; same = λ w h. rw is refl })
 
-  one_at_err : (o : Option A) (t : T) (ts rest : List T) → class t ≡ o → one_read_at o t ts ≡ Err rest → Refused T A (one class) (t ∷ ts) rest
+  one_at_err : (o : Option A) (t : T) (ts rest : List T) → class t ≡ o → one_read_at o t ts ≡ Err rest
+      → Refused T A (one class) (t ∷ ts) rest
   one_at_err None t ts rest is e =
       subst (λ (z : List T). Refused T A (one class) (t ∷ ts) z) (let e2 : t ∷ ts ≡ rest = cc in e2)
       (record { front = []; parts = refl; part = tt; same = none_same is })
@@ -119,7 +124,9 @@ module _ (T A : Type 0) (class : T → Option A) (sample : T) (value : A) (has :
   one_front (t ∷ ts) x h = (x, h)
 
   pub Lawful-one : Lawful T A (one class) (λ t. Unit {0})
-  Lawful-one = record { ok = one_ok; err = one_err; again = λ u x rest h s. one_again u x rest h; completes = one_completes; begun = one_begun; front = one_front; nothing = tt }
+  Lawful-one =
+      record { ok = one_ok; err = one_err; again = λ u x rest h s. one_again u x rest
+          h; completes = one_completes; begun = one_begun; front = one_front; nothing = tt }
 
 pub Solid-one : (T A : Type 0) (class : T → Option A) → Solid T A (one class)
 Solid-one T A class = record { none = λ x h. h }
@@ -129,8 +136,10 @@ Solid-one T A class = record { none = λ x h. h }
 abbrev then_second : {T A B : Type 0} → Item T B → A × List T → Result ((A × B) × List T) (List T)
 then_second b p = b.read p.1 >>= λ q. Ok ((p.0, q.0), q.1)
 
-module _ (T A B : Type 0) (a : Item T A) (b : Item T B) (sa sb : T → Type 0) (la : Lawful T A a sa) (lb : Lawful T B b sb) where
-  seq_ok : (ts : List T) (x : A × B) (rest : List T) → seq_read a b ts ≡ Ok (x, rest) → Took T (A × B) (seq a b) ts x rest
+module _ (T A B : Type 0) (a : Item T A) (b : Item T B) (sa sb : T → Type 0) (la : Lawful T A a sa)
+    (lb : Lawful T B b sb) where
+  seq_ok : (ts : List T) (x : A × B) (rest : List T) → seq_read a b ts ≡ Ok (x, rest)
+      → Took T (A × B) (seq a b) ts x rest
   seq_ok ts x rest e =
       let p = bind_ok (a.read ts) (λ p. b.read p.1 >>= λ q. Ok ((p.0, q.0), q.1)) (x, rest) e in
       let q = bind_ok (b.read p.0.1) (λ q. Ok ((p.0.0, q.0), q.1)) (x, rest) p.2 in
@@ -143,7 +152,8 @@ module _ (T A B : Type 0) (a : Item T A) (b : Item T B) (sa sb : T → Type 0) (
         parts = ta.parts ∙ ap (λ (r : List T). ta.front ++ r) tb.parts ∙ sym (append_assoc ta.front tb.front q.0.1);
         whole = (ta.front, tb.front, refl, ta.whole, tb.whole);
         same = λ w h.
-            let one = ta.same (tb.front ++ w) (subst (λ (r : List T). SameHead r (tb.front ++ w)) (sym tb.parts) (same_after tb.front q.0.1 w h)) in
+            let one = ta.same (tb.front ++ w)
+                (subst (λ (r : List T). SameHead r (tb.front ++ w)) (sym tb.parts) (same_after tb.front q.0.1 w h)) in
             let two = tb.same w h in
             rw (append_assoc ta.front tb.front w, one, two) refl;
       })
@@ -156,17 +166,21 @@ module _ (T A B : Type 0) (a : Item T A) (b : Item T B) (sa sb : T → Type 0) (
     | inr p ↦ second p
   ]
     where
-      second : (p : A × List T) × (a.read ts ≡ Ok p) × (then_second b p ≡ Err rest) → Refused T (A × B) (seq a b) ts rest
+      second : (p : A × List T) × (a.read ts ≡ Ok p) × (then_second b p ≡ Err rest)
+          → Refused T (A × B) (seq a b) ts rest
       second p = elim (bind_err (b.read p.0.1) (λ q. Ok ((p.0.0, q.0), q.1)) rest p.2) [
         | inl eb ↦
             let ta = la.ok ts p.0.0 p.0.1 p.1 in
             let rb = lb.err p.0.1 rest eb in
             record {
               front = ta.front ++ rb.front;
-              parts = ta.parts ∙ ap (λ (r : List T). ta.front ++ r) rb.parts ∙ sym (append_assoc ta.front rb.front rest);
+              parts = ta.parts ∙ ap (λ (r : List T). ta.front ++ r) rb.parts
+                  ∙ sym (append_assoc ta.front rb.front rest);
               part = inr (ta.front, rb.front, p.0.0, refl, ta.whole, rb.part);
               same = λ w h.
-                  let one = ta.same (rb.front ++ w) (subst (λ (r : List T). SameHead r (rb.front ++ w)) (sym rb.parts) (same_after rb.front rest w h)) in
+                  let one = ta.same (rb.front ++ w)
+                      (subst (λ (r : List T). SameHead r (rb.front ++ w)) (sym rb.parts)
+                          (same_after rb.front rest w h)) in
                   let two = rb.same w h in
                   rw (append_assoc ta.front rb.front w, one, two) refl;
             }
@@ -205,18 +219,23 @@ module _ (T A B : Type 0) (a : Item T A) (b : Item T B) (sa sb : T → Type 0) (
 
   -- b begins where a stops
   module _ (apart : (t : T) → b.starts t ≡ true → sa t) where
-    stops_before : (v : List T) (y : B) (rest : List T) → b.whole v y → (b.whole [] y → StopsAt sa rest) → StopsAt sa (v ++ rest)
+    stops_before : (v : List T) (y : B) (rest : List T) → b.whole v y → (b.whole [] y → StopsAt sa rest)
+        → StopsAt sa (v ++ rest)
     stops_before [] y rest w h = h w
     stops_before (t ∷ v) y rest w h = apart t (lb.begun t v y w)
 
-    seq_again_when : (u : List T) (x : A × B) (rest : List T) → (seq a b).whole u x → StopsAt sb rest → (b.whole [] x.1 → StopsAt sa rest) → seq_read a b (u ++ rest) ≡ Ok (x, rest)
+    seq_again_when : (u : List T) (x : A × B) (rest : List T) → (seq a b).whole u x → StopsAt sb rest
+        → (b.whole [] x.1 → StopsAt sa rest) → seq_read a b (u ++ rest) ≡ Ok (x, rest)
     seq_again_when u x rest h s empty =
         let one = la.again h.0 x.0 (h.1 ++ rest) h.3 (stops_before h.1 x.1 rest h.4 empty) in
         let two = lb.again h.1 x.1 rest h.4 s in
         rw (h.2, append_assoc h.0 h.1 rest, one, two) refl
 
     pub Lawful-seq : Solid T A a → Solid T B b → Lawful T (A × B) (seq a b) sb
-    Lawful-seq solid full = record { ok = seq_ok; err = seq_err; again = λ u x rest h s. seq_again_when u x rest h s (λ w. absurd (full.none x.1 w)); completes = seq_completes; begun = seq_begun solid; front = seq_front; nothing = inl la.nothing }
+    Lawful-seq solid full =
+        record { ok = seq_ok; err = seq_err; again = λ u x rest h s. seq_again_when u x rest h s
+            (λ w. absurd (full.none x.1 w)); completes =
+                seq_completes; begun = seq_begun solid; front = seq_front; nothing = inl la.nothing }
 
     both_stop : (rest : List T) → StopsAt (λ t. sa t × sb t) rest → StopsAt sa rest × StopsAt sb rest
     both_stop [] h = (tt, tt)
@@ -224,20 +243,34 @@ module _ (T A B : Type 0) (a : Item T A) (b : Item T B) (sa sb : T → Type 0) (
 
     -- where b may be nothing
     pub Lawful-seq_open : Solid T A a → Lawful T (A × B) (seq a b) (λ t. sa t × sb t)
-    Lawful-seq_open solid = record { ok = seq_ok; err = seq_err; again = λ u x rest h s. seq_again_when u x rest h (both_stop rest s).1 (λ w. (both_stop rest s).0); completes = seq_completes; begun = seq_begun solid; front = seq_front; nothing = inl la.nothing }
+    Lawful-seq_open solid =
+        record { ok = seq_ok; err = seq_err; again = λ u x rest h s. seq_again_when u x rest h (both_stop rest s).1
+            (λ w. (both_stop rest s).0); completes =
+                seq_completes; begun = seq_begun solid; front = seq_front; nothing = inl la.nothing }
 
-    lead_ok : (ts : List T) (x : A × B) (rest : List T) → seq_read a b ts ≡ Ok (x, rest) → Took T (A × B) (lead a b) ts x rest
-    lead_ok ts x rest e = let t = seq_ok ts x rest e in record { front = t.front; parts = t.parts; whole = t.whole; same = t.same }
+    lead_ok : (ts : List T) (x : A × B) (rest : List T) → seq_read a b ts ≡ Ok (x, rest)
+        → Took T (A × B) (lead a b) ts x rest
+    lead_ok ts x rest e =
+        let t = seq_ok ts x rest e in
+        record { front = t.front; parts = t.parts; whole = t.whole; same = t.same }
 
     lead_err : (ts rest : List T) → seq_read a b ts ≡ Err rest → Refused T (A × B) (lead a b) ts rest
-    lead_err ts rest e = let t = seq_err ts rest e in record { front = t.front; parts = t.parts; part = t.part; same = t.same }
+    lead_err ts rest e =
+        let t = seq_err ts rest e in
+        record { front = t.front; parts = t.parts; part = t.part; same = t.same }
 
     -- where both may be nothing
     pub Lawful-lead_open : Lawful T (A × B) (lead a b) (λ t. sa t × sb t)
-    Lawful-lead_open = record { ok = lead_ok; err = lead_err; again = λ u x rest h s. seq_again_when u x rest h (both_stop rest s).1 (λ w. (both_stop rest s).0); completes = seq_completes; begun = lead_begun; front = seq_front; nothing = inl la.nothing }
+    Lawful-lead_open =
+        record { ok = lead_ok; err = lead_err; again = λ u x rest h s. seq_again_when u x rest h (both_stop rest s).1
+            (λ w. (both_stop rest s).0); completes =
+                seq_completes; begun = lead_begun; front = seq_front; nothing = inl la.nothing }
 
     pub Lawful-lead : Solid T B b → Lawful T (A × B) (lead a b) sb
-    Lawful-lead full = record { ok = lead_ok; err = lead_err; again = λ u x rest h s. seq_again_when u x rest h s (λ w. absurd (full.none x.1 w)); completes = seq_completes; begun = lead_begun; front = seq_front; nothing = inl la.nothing }
+    Lawful-lead full =
+        record { ok = lead_ok; err = lead_err; again = λ u x rest h s. seq_again_when u x rest h s
+            (λ w. absurd (full.none x.1 w)); completes =
+                seq_completes; begun = lead_begun; front = seq_front; nothing = inl la.nothing }
 
 pub Solid-seq : (T A B : Type 0) (a : Item T A) (b : Item T B) → Solid T A a → Solid T (A × B) (seq a b)
 Solid-seq T A B a b solid = record { none = λ x h. go x h.0 h.1 h.2 h.3 }
@@ -255,7 +288,8 @@ module _ (T A B : Type 0) (f : A → B) (a : Item T A) (s : T → Type 0) (la : 
       let ta = la.ok ts p.0.0 p.0.1 p.1 in
       let made : B × List T = (f p.0.0, p.0.1) in
       subst (λ (z : B × List T). Took T B (map f a) ts z.0 z.1) (ok_is made (y, rest) p.2)
-      (record { front = ta.front; parts = ta.parts; whole = (p.0.0, ta.whole, refl); same = λ w h. rw (ta.same w h) refl })
+      (record { front = ta.front; parts = ta.parts; whole = (p.0.0, ta.whole, refl); same = λ w h. rw
+          (ta.same w h) refl })
 
   map_err : (ts rest : List T) → map_read f a ts ≡ Err rest → Refused T B (map f a) ts rest
   map_err ts rest e = elim (bind_err (a.read ts) (λ p. Ok (f p.0, p.1)) rest e) [
@@ -289,19 +323,22 @@ module _ (T A : Type 0) (a : Item T A) (s : T → Type 0) (la : Lawful T A a s) 
   front_begins [] x w h = absurd (solid.none x h)
   front_begins (t ∷ u) x w h = la.begun t u x h
 
-  opt_ok : (b : Bool) (ts : List T) (x : Option A) (rest : List T) → begins a ts ≡ b → cond b (some_of (a.read ts)) (Ok (None, ts)) ≡ Ok (x, rest) → Took T (Option A) (opt a) ts x rest
+  opt_ok : (b : Bool) (ts : List T) (x : Option A) (rest : List T) → begins a ts ≡ b
+      → cond b (some_of (a.read ts)) (Ok (None, ts)) ≡ Ok (x, rest) → Took T (Option A) (opt a) ts x rest
   opt_ok true ts x rest is e =
       let p = bind_ok (a.read ts) (λ p. Ok (Some p.0, p.1)) (x, rest) e in
       let ta = la.ok ts p.0.0 p.0.1 p.1 in
       let made : Option A × List T = (Some p.0.0, p.0.1) in
       subst (λ (z : Option A × List T). Took T (Option A) (opt a) ts z.0 z.1) (ok_is made (x, rest) p.2)
-      (record { front = ta.front; parts = ta.parts; whole = ta.whole; same = λ w h. rw (front_begins ta.front p.0.0 w ta.whole, ta.same w h) refl })
+      (record { front = ta.front; parts = ta.parts; whole = ta.whole; same = λ w h. rw
+          (front_begins ta.front p.0.0 w ta.whole, ta.same w h) refl })
   opt_ok false ts x rest is e =
       let made : Option A × List T = (None, ts) in
       subst (λ (z : Option A × List T). Took T (Option A) (opt a) ts z.0 z.1) (ok_is made (x, rest) e)
       (record { front = []; parts = refl; whole = refl; same = λ w h. rw (sym (same_begins a ts w h) ∙ is) refl })
 
-  opt_err : (b : Bool) (ts rest : List T) → begins a ts ≡ b → cond b (some_of (a.read ts)) (Ok (None, ts)) ≡ Err rest → Refused T (Option A) (opt a) ts rest
+  opt_err : (b : Bool) (ts rest : List T) → begins a ts ≡ b → cond b (some_of (a.read ts)) (Ok (None, ts)) ≡ Err rest
+      → Refused T (Option A) (opt a) ts rest
   opt_err true ts rest is e = elim (bind_err (a.read ts) (λ p. Ok (Some p.0, p.1)) rest e) [
     | inl ea ↦
         let ra = la.err ts rest ea in
@@ -310,7 +347,9 @@ module _ (T A : Type 0) (a : Item T A) (s : T → Type 0) (la : Lawful T A a s) 
           parts = ra.parts;
           part = ra.part;
           same = λ w h.
-              let same : begins a (ra.front ++ w) ≡ true = sym (same_begins a (ra.front ++ rest) (ra.front ++ w) (same_after ra.front rest w h)) ∙ ap (begins a) (sym ra.parts) ∙ is in
+              let same : begins a (ra.front ++ w) ≡ true = sym
+                  (same_begins a (ra.front ++ rest) (ra.front ++ w) (same_after ra.front rest w h)) ∙ ap (begins a)
+                  (sym ra.parts) ∙ is in
               rw (same, ra.same w h) refl;
         }
     | inr p ↦ let bad = p.2 in absurd cc
@@ -325,7 +364,8 @@ module _ (T A : Type 0) (a : Item T A) (s : T → Type 0) (la : Lawful T A a s) 
   stop_first [] h = tt
   stop_first (t ∷ ts) h = h.0
 
-  opt_again : (u : List T) (x : Option A) (rest : List T) → (opt a).whole u x → StopsAt (λ t. s t × (a.starts t ≡ false)) rest → opt_read a (u ++ rest) ≡ Ok (x, rest)
+  opt_again : (u : List T) (x : Option A) (rest : List T) → (opt a).whole u x
+      → StopsAt (λ t. s t × (a.starts t ≡ false)) rest → opt_read a (u ++ rest) ≡ Ok (x, rest)
   opt_again u None rest h st = rw (h, stop_begins rest st) refl
   opt_again u (Some x) rest h st = rw (front_begins u x rest h, la.again u x rest h (stop_first rest st)) refl
 
@@ -350,7 +390,8 @@ module _ (T A : Type 0) (a : Item T A) (s : T → Type 0) (la : Lawful T A a s) 
 
 -- ---- one of two
 
-module _ (T A : Type 0) (a b : Item T A) (sa sb : T → Type 0) (la : Lawful T A a sa) (lb : Lawful T A b sb) (solid : Solid T A a) (full : Solid T A b) (apart : (t : T) → b.starts t ≡ true → a.starts t ≡ false) where
+module _ (T A : Type 0) (a b : Item T A) (sa sb : T → Type 0) (la : Lawful T A a sa) (lb : Lawful T A b sb)
+    (solid : Solid T A a) (full : Solid T A b) (apart : (t : T) → b.starts t ≡ true → a.starts t ≡ false) where
   first_begins : (u : List T) (x : A) (w : List T) → a.whole u x → begins a (u ++ w) ≡ true
   first_begins [] x w h = absurd (solid.none x h)
   first_begins (t ∷ u) x w h = la.begun t u x h
@@ -359,30 +400,38 @@ module _ (T A : Type 0) (a b : Item T A) (sa sb : T → Type 0) (la : Lawful T A
   second_begins [] x w h = absurd (full.none x h)
   second_begins (t ∷ u) x w h = apart t (lb.begun t u x h)
 
-  alt_ok : (c : Bool) (ts : List T) (x : A) (rest : List T) → begins a ts ≡ c → cond c (a.read ts) (b.read ts) ≡ Ok (x, rest) → Took T A (alt a b) ts x rest
+  alt_ok : (c : Bool) (ts : List T) (x : A) (rest : List T) → begins a ts ≡ c
+      → cond c (a.read ts) (b.read ts) ≡ Ok (x, rest) → Took T A (alt a b) ts x rest
   alt_ok true ts x rest is e =
       let ta = la.ok ts x rest e in
-      record { front = ta.front; parts = ta.parts; whole = inl ta.whole; same = λ w h. rw (first_begins ta.front x w ta.whole, ta.same w h) refl }
+      record { front = ta.front; parts = ta.parts; whole = inl ta.whole; same = λ w h. rw
+          (first_begins ta.front x w ta.whole, ta.same w h) refl }
   alt_ok false ts x rest is e =
       let tb = lb.ok ts x rest e in
-      record { front = tb.front; parts = tb.parts; whole = inr tb.whole; same = λ w h. rw (second_begins tb.front x w tb.whole, tb.same w h) refl }
+      record { front = tb.front; parts = tb.parts; whole = inr tb.whole; same = λ w h. rw
+          (second_begins tb.front x w tb.whole, tb.same w h) refl }
 
   same_choice : (c : Bool) (ts u v w : List T) → begins a ts ≡ c → ts ≡ u ++ v → SameHead v w → begins a (u ++ w) ≡ c
-  same_choice c ts u v w is parts h = sym (same_begins a (u ++ v) (u ++ w) (same_after u v w h)) ∙ ap (begins a) (sym parts) ∙ is
+  same_choice c ts u v w is parts h =
+      sym (same_begins a (u ++ v) (u ++ w) (same_after u v w h)) ∙ ap (begins a) (sym parts) ∙ is
 
-  alt_err : (c : Bool) (ts rest : List T) → begins a ts ≡ c → cond c (a.read ts) (b.read ts) ≡ Err rest → Refused T A (alt a b) ts rest
+  alt_err : (c : Bool) (ts rest : List T) → begins a ts ≡ c → cond c (a.read ts) (b.read ts) ≡ Err rest
+      → Refused T A (alt a b) ts rest
   alt_err true ts rest is e =
       let ra = la.err ts rest e in
-      record { front = ra.front; parts = ra.parts; part = inl ra.part; same = λ w h. rw (same_choice true ts ra.front rest w is ra.parts h, ra.same w h) refl }
+      record { front = ra.front; parts = ra.parts; part = inl ra.part; same = λ w h. rw
+          (same_choice true ts ra.front rest w is ra.parts h, ra.same w h) refl }
   alt_err false ts rest is e =
       let rb = lb.err ts rest e in
-      record { front = rb.front; parts = rb.parts; part = inr rb.part; same = λ w h. rw (same_choice false ts rb.front rest w is rb.parts h, rb.same w h) refl }
+      record { front = rb.front; parts = rb.parts; part = inr rb.part; same = λ w h. rw
+          (same_choice false ts rb.front rest w is rb.parts h, rb.same w h) refl }
 
   alt_stop_first : (rest : List T) → StopsAt (λ t. sa t × sb t) rest → StopsAt sa rest × StopsAt sb rest
   alt_stop_first [] h = (tt, tt)
   alt_stop_first (t ∷ ts) h = h
 
-  alt_again : (u : List T) (x : A) (rest : List T) → (alt a b).whole u x → StopsAt (λ t. sa t × sb t) rest → alt_read a b (u ++ rest) ≡ Ok (x, rest)
+  alt_again : (u : List T) (x : A) (rest : List T) → (alt a b).whole u x → StopsAt (λ t. sa t × sb t) rest
+      → alt_read a b (u ++ rest) ≡ Ok (x, rest)
   alt_again u x rest (inl h) s = rw (first_begins u x rest h, la.again u x rest h (alt_stop_first rest s).0) refl
   alt_again u x rest (inr h) s = rw (second_begins u x rest h, lb.again u x rest h (alt_stop_first rest s).1) refl
 
@@ -424,8 +473,11 @@ Solid-lead T A B a b full = record { none = λ x h. go x h.0 h.1 h.2 h.4 }
     go x (d ∷ u) v e w = cc
 
 -- an item that stops at more may be said to stop at fewer
-pub Lawful-fewer : (T A : Type 0) (a : Item T A) (s r : T → Type 0) → ((t : T) → r t → s t) → Lawful T A a s → Lawful T A a r
-Lawful-fewer T A a s r sub la = record { ok = la.ok; err = la.err; again = λ u x rest h st. la.again u x rest h (at rest st); completes = la.completes; begun = la.begun; front = la.front; nothing = la.nothing }
+pub Lawful-fewer : (T A : Type 0) (a : Item T A) (s r : T → Type 0) → ((t : T) → r t → s t) → Lawful T A a s
+    → Lawful T A a r
+Lawful-fewer T A a s r sub la =
+    record { ok = la.ok; err = la.err; again = λ u x rest h st. la.again u x rest h
+        (at rest st); completes = la.completes; begun = la.begun; front = la.front; nothing = la.nothing }
   where
     at : (rest : List T) → StopsAt r rest → StopsAt s rest
     at [] h = tt

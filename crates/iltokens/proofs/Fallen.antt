@@ -1,5 +1,7 @@
 -- Which faults a front may have, and that only the end of the bytes is an end.
-use Rattle.std.proofs.Common.{◌≡◌, ℤ, ℕ, ◌+◌, ◌-◌, ◌^◌, ◌<◌, ◌≤◌, Bool, true, false, cond, eqb, leb, ltb, List, [], ◌∷◌, ◌++◌, length, drop, Option, Some, None, ◌&&◌, ◌||◌, refl, ap, arith, eqb-true, length-drop, length-append}
+use Rattle.std.proofs.Common.{◌≡◌, ℤ, ℕ, ◌+◌, ◌-◌, ◌^◌, ◌<◌, ◌≤◌, Bool, true, false, cond, eqb, leb, ltb, List, [], ◌∷◌}
+use Rattle.std.proofs.Common.{◌++◌, length, drop, Option, Some, None, ◌&&◌, ◌||◌, refl, ap, arith, eqb-true}
+use Rattle.std.proofs.Common.{length-drop, length-append}
 use Rattle.iltokens.specs.declared.lexed.Cause.TheVariants.{NotAscii, BadToken, BadNumber, CommentOpen}
 use Rattle.iltokens.specs.Blanks.{AreBlanks}
 use Rattle.iltokens.specs.NumberSteps.{unsigned, signed}
@@ -7,7 +9,9 @@ use Rattle.iltokens.specs.TimeSteps.{time}
 use Rattle.iltokens.specs.AddressSteps.{Place, address}
 use Rattle.iltokens.specs.Letters.{is_letter}
 use Rattle.iltokens.specs.Digits.{is_digit}
-use Rattle.iltokens.specs.FrontSteps.{Front, end, taken, fault, in_limits, number_front, number_at, time_front, word_at, address_front, address_at, colon_at, dot_at, ampersand_at, return_at, mark_at, front_at}
+use Rattle.iltokens.specs.FrontSteps.{Front, end, taken, fault, in_limits, number_front, number_at, time_front, word_at}
+use Rattle.iltokens.specs.FrontSteps.{address_front, address_at, colon_at, dot_at, ampersand_at, return_at, mark_at}
+use Rattle.iltokens.specs.FrontSteps.{front_at}
 use Rattle.iltokens.specs.Tokens.{IsAfterBlanks, BeginsWith}
 
 -- what a front that begins with a byte may be
@@ -104,13 +108,18 @@ front_fits b bs =
 
 -- ---- places
 
-pub after_blanks : (bytes : List ℕ) (at : ℕ) (rest u : List ℕ) (P : List ℕ → Type 0) (place : ℕ) → at ≤ length bytes → drop at bytes ≡ u ++ rest
+pub after_blanks : (bytes : List ℕ) (at : ℕ) (rest u : List ℕ) (P : List ℕ → Type 0) (place : ℕ) → at ≤ length bytes
+    → drop at bytes ≡ u ++ rest
     → AreBlanks u → P rest → place + length rest ≡ length bytes → IsAfterBlanks bytes at place P
-after_blanks bytes at rest u P place le e are h there = record { before = u; rest = rest; parts = e; blanks = are; here = omega (arith, length-drop at bytes, ap length e, length-append u rest); ahead = h }
+after_blanks bytes at rest u P place le e are h there =
+    record { before = u; rest = rest; parts = e; blanks = are; here = omega
+        (arith, length-drop at bytes, ap length e, length-append u rest); ahead = h }
 
-pub shorter : (bytes : List ℕ) (at : ℕ) (rest u : List ℕ) → drop at bytes ≡ u ++ rest → (length bytes - length rest) + length rest ≡ length bytes
+pub shorter : (bytes : List ℕ) (at : ℕ) (rest u : List ℕ) → drop at bytes ≡ u ++ rest
+    → (length bytes - length rest) + length rest ≡ length bytes
 shorter bytes at rest u e = omega (arith, length-drop at bytes, ap length e, length-append u rest)
 
-pub begins : (rest : List ℕ) (P : ℕ → Type 0) → ((b : ℕ) (bs : List ℕ) → rest ≡ b ∷ bs → P b) → (rest ≡ [] → ⊥) → BeginsWith P rest
+pub begins : (rest : List ℕ) (P : ℕ → Type 0) → ((b : ℕ) (bs : List ℕ) → rest ≡ b ∷ bs → P b) → (rest ≡ [] → ⊥)
+    → BeginsWith P rest
 begins [] P h n = n refl
 begins (b ∷ bs) P h n = h b bs refl

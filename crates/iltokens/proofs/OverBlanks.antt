@@ -1,6 +1,8 @@
 -- Going over blanks.
-use Rattle.std.proofs.Common.{◌≡◌, ℕ, zero, suc, ◌<◌, ◌≤◌, Bool, true, false, cond, eqb, List, [], ◌∷◌, length, Option, Some, None, Ok, Err, ◌&&◌, ◌||◌, refl, sym, subst, arith}
-use Rattle.iltokens.specs.BlankSteps.{after_comment, Blank, here, past, open_comment, comment_past, comment_at, blank_at, blank_then, blanks_read, blanks}
+use Rattle.std.proofs.Common.{◌≡◌, ℕ, zero, suc, ◌<◌, ◌≤◌, Bool, true, false, cond, eqb, List, [], ◌∷◌, length, Option}
+use Rattle.std.proofs.Common.{Some, None, Ok, Err, ◌&&◌, ◌||◌, refl, sym, subst, arith}
+use Rattle.iltokens.specs.BlankSteps.{after_comment, Blank, here, past, open_comment, comment_past, comment_at}
+use Rattle.iltokens.specs.BlankSteps.{blank_at, blank_then, blanks_read, blanks}
 
 abbrev Behind : ℕ → Option (List ℕ) → Type 0
 Behind n None = Unit {0}
@@ -20,7 +22,8 @@ comment_shrinks [] = tt
 comment_shrinks (b ∷ []) = tt
 comment_shrinks (b ∷ c ∷ bs) = go ((eqb b 42) && (eqb c 41)) (comment_shrinks (c ∷ bs))
   where
-    go : (t : Bool) → Behind (suc (length (c ∷ bs))) (after_comment (c ∷ bs)) → Behind (suc (length (b ∷ c ∷ bs))) (cond t (Some bs) (after_comment (c ∷ bs)))
+    go : (t : Bool) → Behind (suc (length (c ∷ bs))) (after_comment (c ∷ bs))
+        → Behind (suc (length (b ∷ c ∷ bs))) (cond t (Some bs) (after_comment (c ∷ bs)))
     go true h = omega arith
     go false h = more _ (after_comment (c ∷ bs)) h
 
@@ -56,7 +59,8 @@ same_fuel (suc n) zero [] ln lm = refl
 same_fuel (suc n) zero (b ∷ bs) ln lm = absurd (omega arith)
 same_fuel (suc n) (suc m) bs ln lm = go (same_fuel n m) (blank_at bs) refl
   where
-    go : ((rest : List ℕ) → length rest ≤ n → length rest ≤ m → blanks_read n rest ≡ blanks_read m rest) → (o : Blank) → o ≡ blank_at bs → blank_then o bs (λ rest. blanks_read n rest) ≡ blank_then o bs (λ rest. blanks_read m rest)
+    go : ((rest : List ℕ) → length rest ≤ n → length rest ≤ m → blanks_read n rest ≡ blanks_read m rest) → (o : Blank)
+        → o ≡ blank_at bs → blank_then o bs (λ rest. blanks_read n rest) ≡ blank_then o bs (λ rest. blanks_read m rest)
     go ih here e = refl
     go ih (past rest) e = let lt = past_shorter bs rest e in ih rest (omega arith) (omega arith)
     go ih open_comment e = refl
@@ -64,7 +68,9 @@ same_fuel (suc n) (suc m) bs ln lm = go (same_fuel n m) (blank_at bs) refl
 one_step : (n : ℕ) (bs rest : List ℕ) → length bs ≤ n → past rest ≡ blank_at bs → blanks_read n bs ≡ blanks rest
 unfolding blanks_read
 one_step zero bs rest le e = absurd (let lt = past_shorter bs rest e in omega arith)
-one_step (suc n) bs rest le e = let lt = past_shorter bs rest e in rw (sym e) (same_fuel n (length rest) rest (omega arith) (omega arith))
+one_step (suc n) bs rest le e =
+    let lt = past_shorter bs rest e in
+    rw (sym e) (same_fuel n (length rest) rest (omega arith) (omega arith))
 
 pub goes_over : (bs rest : List ℕ) → past rest ≡ blank_at bs → blanks rest ≡ blanks bs
 goes_over bs rest e = sym (one_step (length bs) bs rest (omega arith) e)

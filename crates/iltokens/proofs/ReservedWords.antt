@@ -1,5 +1,6 @@
 -- The reserved words are found in their table, each by its spelling, and no text is spelled as two of them.
-use Rattle.std.proofs.Common.{◌≡◌, ℕ, zero, suc, ◌-◌, ◌<◌, Bool, true, false, cond, List, [], ◌∷◌, ◌++◌, length, map, take, Option, Some, None, MatchOption, refl, sym, ap, subst, ◌∙◌, arith, length-append}
+use Rattle.std.proofs.Common.{◌≡◌, ℕ, zero, suc, ◌-◌, ◌<◌, Bool, true, false, cond, List, [], ◌∷◌, ◌++◌, length, map}
+use Rattle.std.proofs.Common.{take, Option, Some, None, MatchOption, refl, sym, ap, subst, ◌∙◌, arith, length-append}
 use Rattle.std.specs.Prelude.{slice_index_or}
 use Rattle.std.specs.List.{Contains}
 use Rattle.std.specs.Char.{to_ascii_lowercase}
@@ -26,16 +27,19 @@ row_found [] text w e = absurd cc
 row_found (k ∷ ks) text w e = go (str_eq_ignore_ascii_case k.0 text) refl e (row_found ks text w)
   where
     go : (b : Bool) → str_eq_ignore_ascii_case k.0 text ≡ b → cond b (Some k.1) (lookup ks text) ≡ Some w
-        → (lookup ks text ≡ Some w → (s : List ℕ) × Contains ks (s, w) × (map to_ascii_lowercase text ≡ map to_ascii_lowercase s))
+        → (lookup ks text ≡ Some w → (s : List ℕ) × Contains ks (s, w) ×
+            (map to_ascii_lowercase text ≡ map to_ascii_lowercase s))
         → (s : List ℕ) × Contains (k ∷ ks) (s, w) × (map to_ascii_lowercase text ≡ map to_ascii_lowercase s)
     go true is e ih =
         let same : k.1 ≡ w = cc in
-        (k.0, (0, omega arith, ap (λ (z : Keyword). (k.0, z)) same), sym ((bytes_eq-Decides (map to_ascii_lowercase k.0) (map to_ascii_lowercase text)).0 is))
+        (k.0, (0, omega arith, ap (λ (z : Keyword). (k.0, z)) same), sym
+            ((bytes_eq-Decides (map to_ascii_lowercase k.0) (map to_ascii_lowercase text)).0 is))
     go false is e ih = let f = ih e in (f.0, Contains-append_right (k ∷ []) ks (f.0, w) f.1, f.2)
 
 -- ---- what is spelled is found
 
-alike_found : (ks : List Row) (text s : List ℕ) → map to_ascii_lowercase text ≡ map to_ascii_lowercase s → lookup ks text ≡ lookup ks s
+alike_found : (ks : List Row) (text s : List ℕ) → map to_ascii_lowercase text ≡ map to_ascii_lowercase s
+    → lookup ks text ≡ lookup ks s
 alike_found [] text s e = refl
 alike_found (k ∷ ks) text s e = rw (e, alike_found ks text s e) refl
 
@@ -44,7 +48,8 @@ each_found : map (λ (k : Row). lookup reserved_words k.0) reserved_words ≡ ma
 unfolding reserved_words
 each_found = refl
 
-at_index : (f g : Row → Option Keyword) (ks : List Row) (i : ℕ) (k : Row) → map f ks ≡ map g ks → i < length ks → slice_index_or ks i k ≡ k → f k ≡ g k
+at_index : (f g : Row → Option Keyword) (ks : List Row) (i : ℕ) (k : Row) → map f ks ≡ map g ks → i < length ks
+    → slice_index_or ks i k ≡ k → f k ≡ g k
 at_index f g [] i k e lt is = absurd (omega arith)
 at_index f g (j ∷ ks) zero k e lt is = let same : f j ≡ g j = cc in subst (λ (z : Row). f z ≡ g z) is same
 at_index f g (j ∷ ks) (suc i) k e lt is = at_index f g ks i k (cc) (omega arith) is
@@ -53,11 +58,15 @@ pub is_found : (text : List ℕ) (w : Keyword) → IsSpelled text w → keyword 
 unfolding keyword
 is_found text w h =
     alike_found reserved_words text h.spelling h.alike
-    ∙ at_index (λ k. lookup reserved_words k.0) (λ k. Some k.1) reserved_words h.listed.0 (h.spelling, w) each_found h.listed.1 h.listed.2
+    ∙ at_index (λ k. lookup reserved_words k.0) (λ k. Some k.1) reserved_words h.listed.0
+        (h.spelling, w) each_found h.listed.1 h.listed.2
 
-pub decided : (text : List ℕ) (o : Option Keyword) → o ≡ keyword text → MatchOption o ((w : Keyword) → IsSpelled text w → ⊥) (λ w. IsSpelled text w)
+pub decided : (text : List ℕ) (o : Option Keyword) → o ≡ keyword text
+    → MatchOption o ((w : Keyword) → IsSpelled text w → ⊥) (λ w. IsSpelled text w)
 unfolding keyword
-decided text (Some w) e = let f = row_found reserved_words text w (sym e) in record { spelling = f.0; listed = f.1; alike = f.2 }
+decided text (Some w) e =
+    let f = row_found reserved_words text w (sym e) in
+    record { spelling = f.0; listed = f.1; alike = f.2 }
 decided text None e = λ w h. let found : keyword text ≡ Some w = is_found text w h in let bad = e ∙ found in cc
 
 -- ---- what a word is
@@ -66,7 +75,8 @@ pub keyword_kind : (u : List ℕ) (w : Keyword) → IsSpelled u w → word_kind 
 unfolding word_kind
 keyword_kind u w h = ap kind_of_word (is_found u w h)
 
-spelled_kind : (u : List ℕ) (o : Option Keyword) → MatchOption o ((w : Keyword) → IsSpelled u w → ⊥) (λ w. IsSpelled u w)
+spelled_kind : (u : List ℕ) (o : Option Keyword)
+    → MatchOption o ((w : Keyword) → IsSpelled u w → ⊥) (λ w. IsSpelled u w)
     → ((w : Keyword) → IsSpelled u w → ⊥) → kind_of_word o ≡ whats.Name
 spelled_kind u None h none = refl
 spelled_kind u (Some w) h none = absurd (none w h)
@@ -75,11 +85,13 @@ pub name_kind : (u : List ℕ) → ((w : Keyword) → IsSpelled u w → ⊥) →
 unfolding word_kind
 name_kind u none = spelled_kind u (keyword u) (decided u (keyword u) refl) none
 
-pub kind_is : (u : List ℕ) (o : Option Keyword) → MatchOption o ((w : Keyword) → IsSpelled u w → ⊥) (λ w. IsSpelled u w) → kind_of_word o ≡ word_kind u
+pub kind_is : (u : List ℕ) (o : Option Keyword) → MatchOption o ((w : Keyword) → IsSpelled u w → ⊥) (λ w. IsSpelled u w)
+    → kind_of_word o ≡ word_kind u
 kind_is u None h = sym (name_kind u h)
 kind_is u (Some w) h = sym (keyword_kind u w h)
 
-as_word : (u : List ℕ) → IsName u → (o : Option Keyword) → MatchOption o ((w : Keyword) → IsSpelled u w → ⊥) (λ w. IsSpelled u w) → Spells (kind_of_word o) u
+as_word : (u : List ℕ) → IsName u → (o : Option Keyword)
+    → MatchOption o ((w : Keyword) → IsSpelled u w → ⊥) (λ w. IsSpelled u w) → Spells (kind_of_word o) u
 as_word u name None h = (name, h)
 as_word u name (Some w) h = (name, h)
 

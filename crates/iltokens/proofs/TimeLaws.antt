@@ -1,5 +1,7 @@
 -- What is read as a duration spells it.
-use Rattle.std.proofs.Common.{◌≡◌, ℕ, ◌+◌, ◌-◌, ◌*◌, ◌^◌, ◌<◌, ◌≤◌, min, Bool, true, false, cond, eqb, leb, List, [], ◌∷◌, ◌++◌, Option, Some, None, ◌&&◌, ◌⊎◌, inl, inr, refl, sym, ap, ◌∙◌, append_assoc, arith, eqb-true}
+use Rattle.std.proofs.Common.{◌≡◌, ℕ, ◌+◌, ◌-◌, ◌*◌, ◌^◌, ◌<◌, ◌≤◌, min, Bool, true, false, cond, eqb, leb, List, []}
+use Rattle.std.proofs.Common.{◌∷◌, ◌++◌, Option, Some, None, ◌&&◌, ◌⊎◌, inl, inr, refl, sym, ap, ◌∙◌, append_assoc}
+use Rattle.std.proofs.Common.{arith, eqb-true}
 use Rattle.std.specs.Prelude.{codes}
 use Rattle.std.specs.Option.{option_or}
 use Rattle.std.proofs.Math.Nat.{le-mul_of_pos_right}
@@ -9,7 +11,8 @@ use Rattle.iltokens.specs.declared.time.Unit.TheVariants as units
 use Rattle.iltokens.specs.DigitSteps.{digits}
 use Rattle.iltokens.specs.WordSteps.{after_word}
 use Rattle.iltokens.specs.Times.{milliseconds}
-use Rattle.iltokens.specs.TimeSteps.{nothing_after, after_unit, scaled, with_unit, part, Parts, after_mark, parts_begin, added, with_part, parts, after_prefix, if_some, time_after, time}
+use Rattle.iltokens.specs.TimeSteps.{nothing_after, after_unit, scaled, with_unit, part, Parts, after_mark, parts_begin}
+use Rattle.iltokens.specs.TimeSteps.{added, with_part, parts, after_prefix, if_some, time_after, time}
 use Rattle.iltokens.specs.Spellings as forms
 use Rattle.iltokens.specs.Spellings.{Reads, IsPart, AreParts, IsTime}
 use Rattle.iltokens.proofs.DigitLaws.{capped, Found, digits_found}
@@ -25,16 +28,22 @@ unit_found : (unit : Unit) (bs : List ℕ) → WordAt (forms.letters unit) bs (a
 unfolding after_unit
 unit_found units.Day bs = word_found (codes "d") bs
 unit_found units.Hour bs = word_found (codes "h") bs
-unit_found units.Minute bs = unless (codes "m") bs (after_word (codes "ms") bs) (after_word (codes "m") bs) (word_found (codes "m") bs)
+unit_found units.Minute bs =
+    unless (codes "m") bs (after_word (codes "ms") bs) (after_word (codes "m") bs) (word_found (codes "m") bs)
 unit_found units.Second bs = word_found (codes "s") bs
 unit_found units.Millisecond bs = word_found (codes "ms") bs
 
-pub times_capped : (n base : ℕ) → n ≤ n * base → 0 < base → min (min n (2 ^ 64 - 1) * base) (2 ^ 64 - 1) ≡ min (n * base) (2 ^ 64 - 1)
+pub times_capped : (n base : ℕ) → n ≤ n * base → 0 < base
+    → min (min n (2 ^ 64 - 1) * base) (2 ^ 64 - 1) ≡ min (n * base) (2 ^ 64 - 1)
 times_capped n base le lt = go (leb n (2 ^ 64 - 1)) refl
   where
-    go : (t : Bool) → leb n (2 ^ 64 - 1) ≡ t → min (min n (2 ^ 64 - 1) * base) (2 ^ 64 - 1) ≡ min (n * base) (2 ^ 64 - 1)
+    go : (t : Bool) → leb n (2 ^ 64 - 1) ≡ t
+        → min (min n (2 ^ 64 - 1) * base) (2 ^ 64 - 1) ≡ min (n * base) (2 ^ 64 - 1)
     go true is = let low = leb-true n (2 ^ 64 - 1) is in let e : min n (2 ^ 64 - 1) ≡ n = omega arith in rw e refl
-    go false is = let high = leb-false n (2 ^ 64 - 1) is in let e : min n (2 ^ 64 - 1) ≡ 2 ^ 64 - 1 = omega arith in rw e (omega arith)
+    go false is =
+        let high = leb-false n (2 ^ 64 - 1) is in
+        let e : min n (2 ^ 64 - 1) ≡ 2 ^ 64 - 1 = omega arith in
+        rw e (omega arith)
 
 pub some_time : (unit : Unit) → 0 < milliseconds unit
 some_time units.Day = omega arith
@@ -47,7 +56,8 @@ pub scale_grows : (unit : Unit) (count : ℕ) → count ≤ count * milliseconds
 scale_grows unit count = le-mul_of_pos_right count (some_time unit)
 
 scaled_found : (unit : Unit) (bs number others : List ℕ) (count told : ℕ) (o : Option (List ℕ)) → bs ≡ number ++ others
-    → forms.Digits 10 number count → told ≡ capped count → WordAt (forms.letters unit) others o → Found (IsPart unit) bs (scaled unit told o)
+    → forms.Digits 10 number count → told
+    ≡ capped count → WordAt (forms.letters unit) others o → Found (IsPart unit) bs (scaled unit told o)
 scaled_found unit bs number others count told None e are kept w = tt
 scaled_found unit bs number others count told (Some rest) e are kept w = (
   number ++ w.0,
@@ -63,18 +73,22 @@ part_found unit bs = go (digits 10 bs) (digits_found 10 (omega arith) bs)
   where
     go : (o : Option (ℕ × List ℕ)) → Found (forms.Digits 10) bs o → Found (IsPart unit) bs (with_unit unit o)
     go None h = tt
-    go (Some read) h = scaled_found unit bs h.0 read.1 h.1 read.0 (after_unit unit read.1) h.2 h.3 h.4 (unit_found unit read.1)
+    go (Some read) h =
+        scaled_found unit bs h.0 read.1 h.1 read.0 (after_unit unit read.1) h.2 h.3 h.4 (unit_found unit read.1)
 
 -- ---- the parts so far
 
 abbrev GoodWhen : Bool → ℕ → List ℕ → ℕ → List ℕ → Type 0
 GoodWhen false limit bs total rest = (rest ≡ bs) × (total ≡ 0)
-GoodWhen true limit bs total rest = (v : List ℕ) × (value least : ℕ) × (bs ≡ v ++ rest) × AreParts least v value × (total ≡ capped value) × (limit ≤ least)
+GoodWhen true limit bs total rest =
+    (v : List ℕ) × (value least : ℕ) × (bs ≡ v ++ rest) × AreParts least v value × (total ≡ capped value) ×
+        (limit ≤ least)
 
 abbrev Good : ℕ → List ℕ → Parts → Type 0
 Good limit bs p = GoodWhen p.some limit bs p.total p.rest
 
-fewer : (some : Bool) (limit less : ℕ) (bs : List ℕ) (total : ℕ) (rest : List ℕ) → less < limit → GoodWhen some limit bs total rest
+fewer : (some : Bool) (limit less : ℕ) (bs : List ℕ) (total : ℕ) (rest : List ℕ) → less < limit
+    → GoodWhen some limit bs total rest
     → GoodWhen some less bs total rest
 fewer false limit less bs total rest lt h = h
 fewer true limit less bs total rest lt h = (h.0, h.1, h.2, h.3, h.4, h.5, let le = h.6 in omega arith)
@@ -91,18 +105,21 @@ marks : (rest : List ℕ) → (rest ≡ after_mark true rest) ⊎ (rest ≡ 95 �
 marks [] = inl refl
 marks (b ∷ bs) = go (eqb b 95) refl
   where
-    go : (t : Bool) → eqb b 95 ≡ t → (b ∷ bs ≡ cond (t && true) bs (b ∷ bs)) ⊎ (b ∷ bs ≡ 95 ∷ cond (t && true) bs (b ∷ bs))
+    go : (t : Bool) → eqb b 95 ≡ t
+        → (b ∷ bs ≡ cond (t && true) bs (b ∷ bs)) ⊎ (b ∷ bs ≡ 95 ∷ cond (t && true) bs (b ∷ bs))
     go true is = let x = eqb-true b 95 is in inr (rw x refl)
     go false is = inl refl
 
 abbrev pub state : ℕ → Bool → List ℕ → Parts
 state total some rest = record { total = total; some = some; rest = rest }
 
-pub summed : (total told value n : ℕ) → total ≡ capped value → told ≡ capped n → min (total + told) (2 ^ 64 - 1) ≡ capped (value + n)
+pub summed : (total told value n : ℕ) → total ≡ capped value → told ≡ capped n
+    → min (total + told) (2 ^ 64 - 1) ≡ capped (value + n)
 summed total told value n e f = omega arith
 
 module _ (unit : Unit) (limit : ℕ) (lt : milliseconds unit < limit) (bs : List ℕ) where
-  one_part : (some : Bool) (total : ℕ) (rest : List ℕ) → GoodWhen some limit bs total rest → (o : Option (ℕ × List ℕ)) → Found (IsPart unit) (after_mark some rest) o → Good (milliseconds unit) bs (added (state total some rest) o)
+  one_part : (some : Bool) (total : ℕ) (rest : List ℕ) → GoodWhen some limit bs total rest → (o : Option (ℕ × List ℕ))
+      → Found (IsPart unit) (after_mark some rest) o → Good (milliseconds unit) bs (added (state total some rest) o)
   one_part some total rest h None f = fewer some limit (milliseconds unit) bs total rest lt h
   one_part false total rest h (Some read) f = (
     f.0,
@@ -118,7 +135,8 @@ module _ (unit : Unit) (limit : ℕ) (lt : milliseconds unit < limit) (bs : List
       smaller : milliseconds unit < h.2
       smaller = let le = h.6 in omega arith
 
-      go : (rest ≡ after_mark true rest) ⊎ (rest ≡ 95 ∷ after_mark true rest) → Good (milliseconds unit) bs (added (state total true rest) (Some read))
+      go : (rest ≡ after_mark true rest) ⊎ (rest ≡ 95 ∷ after_mark true rest)
+          → Good (milliseconds unit) bs (added (state total true rest) (Some read))
       go (inl e) = (
         h.0 ++ f.0,
         h.1 + f.1,
@@ -132,7 +150,8 @@ module _ (unit : Unit) (limit : ℕ) (lt : milliseconds unit < limit) (bs : List
         h.0 ++ 95 ∷ f.0,
         h.1 + f.1,
         milliseconds unit,
-        h.3 ∙ ap (λ (z : List ℕ). h.0 ++ z) (e ∙ ap (λ (z : List ℕ). 95 ∷ z) f.2) ∙ sym (append_assoc h.0 (95 ∷ f.0) read.1),
+        h.3 ∙ ap (λ (z : List ℕ). h.0 ++ z) (e ∙ ap (λ (z : List ℕ). 95 ∷ z) f.2) ∙ sym
+            (append_assoc h.0 (95 ∷ f.0) read.1),
         AreParts.apart h.2 h.0 h.1 unit f.0 f.1 h.4 smaller f.3,
         summed total read.0 h.1 f.1 h.5 f.4,
         omega arith,
@@ -140,7 +159,9 @@ module _ (unit : Unit) (limit : ℕ) (lt : milliseconds unit < limit) (bs : List
 
   step : (p : Parts) → Good limit bs p → Good (milliseconds unit) bs (with_part unit p)
   unfolding with_part parts_begin
-  step p h = one_part p.some p.total p.rest h (part unit (after_mark p.some p.rest)) (part_found unit (after_mark p.some p.rest))
+  step p h =
+      one_part p.some p.total p.rest h (part unit (after_mark p.some p.rest))
+          (part_found unit (after_mark p.some p.rest))
 
 all_good : (bs : List ℕ) → Good 1 bs (parts bs)
 unfolding parts
@@ -157,15 +178,18 @@ abbrev PrefixAt : List ℕ → Option (List ℕ) → Type 0
 PrefixAt bs None = Prim.Unit {0}
 PrefixAt bs (Some rest) = (p : List ℕ) × (bs ≡ p ++ rest) × (Reads (codes "t#") p ⊎ Reads (codes "time#") p)
 
-prefix_either : (bs : List ℕ) (a b : Option (List ℕ)) → WordAt (codes "t#") bs a → WordAt (codes "time#") bs b → PrefixAt bs (option_or a b)
+prefix_either : (bs : List ℕ) (a b : Option (List ℕ)) → WordAt (codes "t#") bs a → WordAt (codes "time#") bs b
+    → PrefixAt bs (option_or a b)
 prefix_either bs (Some rest) b h k = (h.0, h.1, inl h.2)
 prefix_either bs None (Some rest) h k = (k.0, k.1, inr k.2)
 prefix_either bs None None h k = tt
 
-time_is : (bs p rest : List ℕ) → bs ≡ p ++ rest → (Reads (codes "t#") p ⊎ Reads (codes "time#") p) → (q : Parts) → Good 1 rest q → Found IsTime bs (if_some q)
+time_is : (bs p rest : List ℕ) → bs ≡ p ++ rest → (Reads (codes "t#") p ⊎ Reads (codes "time#") p) → (q : Parts)
+    → Good 1 rest q → Found IsTime bs (if_some q)
 time_is bs p rest e reads q h = go q.some q.total q.rest h
   where
-    go : (some : Bool) (total : ℕ) (others : List ℕ) → GoodWhen some 1 rest total others → Found IsTime bs (if_some (state total some others))
+    go : (some : Bool) (total : ℕ) (others : List ℕ) → GoodWhen some 1 rest total others
+        → Found IsTime bs (if_some (state total some others))
     go false total others h = tt
     go true total others h = (
       p ++ h.0,
@@ -177,7 +201,9 @@ time_is bs p rest e reads q h = go q.some q.total q.rest h
 
 pub time_found : (bs : List ℕ) → Found IsTime bs (time bs)
 unfolding time after_prefix
-time_found bs = go (after_prefix bs) (prefix_either bs (after_word (codes "t#") bs) (after_word (codes "time#") bs) (word_found (codes "t#") bs) (word_found (codes "time#") bs))
+time_found bs =
+    go (after_prefix bs) (prefix_either bs (after_word (codes "t#") bs) (after_word (codes "time#") bs)
+        (word_found (codes "t#") bs) (word_found (codes "time#") bs))
   where
     go : (o : Option (List ℕ)) → PrefixAt bs o → Found IsTime bs (time_after o)
     go None h = tt

@@ -1,5 +1,6 @@
 -- Words and letters that stand at the front are read, whatever follows them.
-use Rattle.std.proofs.Common.{◌≡◌, ℕ, ◌+◌, ◌<◌, ◌≤◌, Bool, true, false, cond, eqb, ltb, List, [], ◌∷◌, ◌++◌, length, map, Some, None, ◌||◌, ◌⊎◌, inl, inr, refl, ap, arith, eq-eqb}
+use Rattle.std.proofs.Common.{◌≡◌, ℕ, ◌+◌, ◌<◌, ◌≤◌, Bool, true, false, cond, eqb, ltb, List, [], ◌∷◌, ◌++◌, length}
+use Rattle.std.proofs.Common.{map, Some, None, ◌||◌, ◌⊎◌, inl, inr, refl, ap, arith, eq-eqb}
 use Rattle.std.specs.Char.{to_ascii_lowercase}
 use Rattle.std.specs.Int.{is_in_range}
 use Rattle.std.proofs.lemmas.Bool.{ltb-true, ltb-false}
@@ -29,7 +30,8 @@ differ [] bs = false
 differ (a ∷ ws) [] = false
 differ (a ∷ ws) (b ∷ bs) = cond (eqb b a) (differ ws bs) true
 
-pub word_other : (word other p rest : List ℕ) → Reads other p → differ word other ≡ true → after_word word (p ++ rest) ≡ None
+pub word_other : (word other p rest : List ℕ) → Reads other p → differ word other ≡ true
+    → after_word word (p ++ rest) ≡ None
 word_other [] other p rest h d = absurd cc
 word_other (a ∷ ws) [] p rest h d = absurd cc
 word_other (a ∷ ws) (b ∷ bs) [] rest h d = absurd cc
@@ -41,7 +43,9 @@ word_other (a ∷ ws) (b ∷ bs) (c ∷ p) rest h d = go (eqb b a) refl d (λ k.
     others : map to_ascii_lowercase p ≡ bs
     others = cc
 
-    go : (t : Bool) → eqb b a ≡ t → cond t (differ ws bs) true ≡ true → (differ ws bs ≡ true → after_word ws (p ++ rest) ≡ None) → cond (eqb (to_ascii_lowercase c) a) (after_word ws (p ++ rest)) None ≡ None
+    go : (t : Bool) → eqb b a ≡ t → cond t (differ ws bs) true ≡ true
+        → (differ ws bs ≡ true → after_word ws (p ++ rest) ≡ None)
+        → cond (eqb (to_ascii_lowercase c) a) (after_word ws (p ++ rest)) None ≡ None
     go true is d ih = let test : eqb (to_ascii_lowercase c) a ≡ true = rw one is in rw test (ih d)
     go false is d ih = let test : eqb (to_ascii_lowercase c) a ≡ false = rw one is in rw test refl
 
@@ -55,7 +59,8 @@ lower_is b k e = go (ltb b 65) refl e
     second true is low e = inr (e, low, ltb-true b 91 is)
     second false is low e = inl e
 
-    go : (t : Bool) → ltb b 65 ≡ t → cond t b (cond (ltb b 91) (b + 32) b) ≡ k → (b ≡ k) ⊎ ((b + 32 ≡ k) × (65 ≤ b) × (b < 91))
+    go : (t : Bool) → ltb b 65 ≡ t → cond t b (cond (ltb b 91) (b + 32) b) ≡ k
+        → (b ≡ k) ⊎ ((b + 32 ≡ k) × (65 ≤ b) × (b < 91))
     go true is e = inl e
     go false is e = second (ltb b 91) refl (ltb-false b 65 is) e
 
@@ -83,7 +88,8 @@ name_again [] rest h = after_shorter rest
     after_shorter [] = omega arith
     after_shorter (b ∷ bs) = go (is_name_byte b) (after_shorter bs)
       where
-        go : (t : Bool) → length (after_name bs) ≤ length bs → length (cond t (after_name bs) (b ∷ bs)) ≤ length (b ∷ bs)
+        go : (t : Bool) → length (after_name bs) ≤ length bs
+            → length (cond t (after_name bs) (b ∷ bs)) ≤ length (b ∷ bs)
         go true le = omega arith
         go false le = omega arith
 name_again (b ∷ w) rest h = let is = h.0 in rw is (name_again w rest h.1)
@@ -91,7 +97,9 @@ name_again (b ∷ w) rest h = let is = h.0 in rw is (name_again w rest h.1)
 -- the hash (35) at the end of a word
 pub hash_last : (word p : List ℕ) → Reads (word ++ 35 ∷ []) p → (q : List ℕ) × (p ≡ q ++ 35 ∷ [])
 hash_last [] [] h = absurd cc
-hash_last [] (b ∷ []) h = let e : to_ascii_lowercase b ≡ 35 = cc in ([], ap (λ (n : ℕ). n ∷ []) (lower_mark b 35 (omega arith) e))
+hash_last [] (b ∷ []) h =
+    let e : to_ascii_lowercase b ≡ 35 = cc in
+    ([], ap (λ (n : ℕ). n ∷ []) (lower_mark b 35 (omega arith) e))
 hash_last [] (b ∷ c ∷ p) h = absurd cc
 hash_last (w ∷ word) [] h = absurd cc
 hash_last (w ∷ word) (b ∷ p) h =
@@ -100,7 +108,8 @@ hash_last (w ∷ word) (b ∷ p) h =
     (b ∷ k.0, ap (λ (z : List ℕ). b ∷ z) k.1)
 
 -- name bytes stand before a hash
-pub before_hash : (u rest q others : List ℕ) → forms.AreNameBytes u → u ++ rest ≡ q ++ 35 ∷ others → length others < length rest
+pub before_hash : (u rest q others : List ℕ) → forms.AreNameBytes u → u ++ rest ≡ q ++ 35 ∷ others
+    → length others < length rest
 before_hash [] rest q others h e = sizes
   where
     open_size : (q : List ℕ) → length others < length (q ++ 35 ∷ others)
@@ -109,5 +118,11 @@ before_hash [] rest q others h e = sizes
 
     sizes : length others < length rest
     sizes = rw e (open_size q)
-before_hash (b ∷ u) rest [] others h e = let x : b ≡ 35 = cc in let name = h.0 in let bad : is_name_byte 35 ≡ true = rw x at name in absurd (let f : false ≡ true = bad in cc)
-before_hash (b ∷ u) rest (c ∷ q) others h e = let tail : u ++ rest ≡ q ++ 35 ∷ others = cc in before_hash u rest q others h.1 tail
+before_hash (b ∷ u) rest [] others h e =
+    let x : b ≡ 35 = cc in
+    let name = h.0 in
+    let bad : is_name_byte 35 ≡ true = rw x at name in
+    absurd (let f : false ≡ true = bad in cc)
+before_hash (b ∷ u) rest (c ∷ q) others h e =
+    let tail : u ++ rest ≡ q ++ 35 ∷ others = cc in
+    before_hash u rest q others h.1 tail

@@ -1,5 +1,6 @@
 -- Numbers (IEC 61131-3, 2.2.1): decimal, or `2#`, `8#`, `16#` and digits of that base.
-use Rattle.std.specs.Prelude.{ℕ, ℤ, pos, neg_ℤ, ◌^◌, List, [], ◌∷◌, Option, Some, None, Bool, true, false, ◌&&◌, ◌==◌, nat_lt, nat_le, if◌then◌else◌}
+use Rattle.std.specs.Prelude.{ℕ, ℤ, pos, neg_ℤ, ◌^◌, List, [], ◌∷◌, Option, Some, None, Bool, true, false, ◌&&◌, ◌==◌}
+use Rattle.std.specs.Prelude.{nat_lt, nat_le, if◌then◌else◌}
 use Rattle.std.specs.Option.{option_or}
 use Rattle.iltokens.specs.DigitSteps.{digits}
 

@@ -1,4 +1,5 @@
--- Reading durations, as the private functions do: `T#` or `TIME#`, then numbers with units in falling order, each at most
+-- Reading durations, as the private functions do: `T#` or `TIME#`, then numbers with units in falling order, each at
+-- most
 -- once.
 use Rattle.std.specs.Prelude.{ℕ, ◌+◌, ◌-◌, ◌*◌, ◌^◌, min, List, [], ◌∷◌, Option, Some, None}
 use Rattle.std.specs.Prelude.{Bool, true, false, ◌&&◌, ◌==◌, codes, if◌then◌else◌}

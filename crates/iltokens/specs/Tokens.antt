@@ -37,7 +37,8 @@ abbrev pub OutsideStands : List ℕ → Type 0
 OutsideStands rest = (front : List ℕ) × (what : What) × IsLongest rest front what × ¬ IsWithin what
 
 -- Nothing but blanks and comments stands before what is next, and no blank where it stands: the longest token, in its
--- limits; the end of the bytes; or a fault, which is a comment without end, a byte of 80 hex or more, another byte where
+-- limits; the end of the bytes; or a fault, which is a comment without end, a byte of 80 hex or more, another byte
+-- where
 -- no token begins, or the longest token, outside its limits.
 abbrev pub StandsNext : List ℕ → ℕ → Lexed → Type 0
 StandsNext bytes at (lexed.Token what from to) =
