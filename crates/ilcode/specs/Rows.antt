@@ -1,17 +1,19 @@
 -- Worked codes over four variables: three whole numbers from 0 to 254, and a truth value.
-use Rattle.std.specs.Prelude.{◌≡◌, ℕ, zero, suc, pos, negsuc, Bool, true, false, List, [], ◌∷◌, ◌++◌, length, Option}
+use Rattle.std.specs.Prelude.{◌≡◌, ℕ, zero, suc, ◌+◌, pos, negsuc, Bool, true, false, List, [], ◌∷◌, ◌++◌, length, Option}
 use Rattle.std.specs.Prelude.{Some, None}
+use Rattle.std.specs.Option.{option_map}
 use Rattle.iltypes.specs.declared.range.Range.{Range}
 use Rattle.iltypes.specs.declared.value.IlType.TheVariants as types
 use Rattle.iltypes.specs.declared.value.Value.{Value}
 use Rattle.iltypes.specs.declared.value.Value.TheVariants as values
+use Rattle.iloperators.specs.declared.condition.Condition.TheVariants.{Always, IfTrue, IfFalse}
 use Rattle.iloperators.specs.declared.function.Function.TheVariants.{Not, Convert}
 use Rattle.iloperators.specs.declared.function.IntegerType.TheVariants.{Usint}
 use Rattle.iloperators.specs.declared.operator.Operator.TheVariants.{And, Sub, Div}
 use Rattle.ilcode.specs.declared.instruction.Operand.TheVariants.{Slot, Constant}
 use Rattle.ilcode.specs.declared.instruction.Instruction.{Instruction}
 use Rattle.ilcode.specs.declared.instruction.Instruction.TheVariants.{Load, Apply, Transform, Store, Set, Reset}
-use Rattle.ilcode.specs.declared.instruction.Instruction.TheVariants.{Open, Close}
+use Rattle.ilcode.specs.declared.instruction.Instruction.TheVariants.{Open, Close, Jump}
 use Rattle.ilcode.specs.Listings.{Listing, listing_of}
 use Rattle.ilcode.specs.Steps.{at, after, start}
 
@@ -31,14 +33,25 @@ code_of starts words =
 abbrev pub slots_of : ℕ → ℕ → ℕ → Bool → List Value
 slots_of a b c d = whole a ∷ whole b ∷ whole c ∷ values.Bool d ∷ []
 
--- from these values the words come to their end with those, the current result is this one, and nothing is open
+-- from these values so many steps lead to the words' end with those, the current result is this one, and nothing is
+-- open
+abbrev pub ComeIn : ℕ → List ℕ → List Instruction → List Value → Option Value → List Value → Type 0
+ComeIn steps starts words from result to =
+    after (code_of starts words) (start from) steps ≡ Some (at (length words) to result [])
+
+-- a step for each word
 abbrev pub Come : List ℕ → List Instruction → List Value → Option Value → List Value → Type 0
-Come starts words from result to =
-    after (code_of starts words) (start from) (length words) ≡ Some (at (length words) to result [])
+Come starts words = ComeIn (length words) starts words
 
 -- from these values a word is undefined
 abbrev pub AreStuck : List ℕ → List Instruction → List Value → Type 0
 AreStuck starts words from = after (code_of starts words) (start from) (length words) ≡ None
+
+-- from these values so many steps lead to the word at the place, which is undefined
+abbrev pub AreStuckAt : ℕ → ℕ → List ℕ → List Instruction → List Value → Type 0
+AreStuckAt place steps starts words from =
+    (option_map (λ c. c.place) (after (code_of starts words) (start from) steps) ≡ Some place)
+    × (after (code_of starts words) (start from) (steps + 1) ≡ None)
 
 -- LD of the first, the second or the fourth variable
 abbrev pub ld_a : Instruction
@@ -95,3 +108,23 @@ set = ld_d ∷ Transform Not ∷ Set 3 ∷ []
 
 abbrev pub reset : List Instruction
 reset = ld_d ∷ Reset 3 ∷ []
+
+-- JMPC to a place, under LD d, before LD a, ST b
+abbrev pub jump_if : ℕ → List Instruction
+jump_if target = ld_d ∷ Jump IfTrue target ∷ ld_a ∷ Store false 1 ∷ []
+
+-- JMPCN
+abbrev pub jump_unless : ℕ → List Instruction
+jump_unless target = ld_d ∷ Jump IfFalse target ∷ ld_a ∷ Store false 1 ∷ []
+
+-- JMP before LD a, ST b
+abbrev pub jump : ℕ → List Instruction
+jump target = Jump Always target ∷ ld_a ∷ Store false 1 ∷ []
+
+-- LD d, RETC, STN d; and a program with LD a
+abbrev pub returning : List Instruction
+returning = ld_d ∷ Jump IfTrue 3 ∷ stn_d ∷ ld_a ∷ []
+
+-- LD d, AND(, LD d, JMPCN to the end, )
+abbrev pub jump_in_parentheses : List Instruction
+jump_in_parentheses = ld_d ∷ Open (And false) ∷ ld_d ∷ Jump IfFalse 5 ∷ Close ∷ []

@@ -121,7 +121,5 @@ impl Code {
 fn begins_between(starts: &[usize], place: usize, target: usize) -> bool
     ensures { result ≡ list_any (λ start. nat_lt place start && nat_lt start target) starts.now }
 {
-    starts
-        .iter()
-        .any(|start| place < *start && *start < target)
+    starts.iter().any(|start| place < *start && *start < target)
 }

@@ -40,6 +40,32 @@ fn a_code_gives_back_its_parts(rt: HostRuntime) -> Result<(), Fail> {
     Ok(())
 }
 
+#[test]
+fn targets_lie_ahead(rt: HostRuntime) -> Result<(), Fail> {
+    let alloc = rt.alloc();
+    let code = Code::new(
+        1,
+        Vec::new(alloc),
+        Vec::new(alloc),
+        vec![in alloc; 0usize, 2]?,
+        vec![in alloc; LOAD; 4]?,
+        vec![in alloc; 1usize; 4]?,
+    );
+    for (place, target, lawful) in [
+        (0, 0, false),
+        (0, 1, true),
+        (0, 2, true),
+        (0, 3, false),
+        (1, 0, false),
+        (2, 4, true),
+        (2, 5, false),
+        (3, 4, true),
+    ] {
+        assert_eq!(rt; code.is_target(place, target), lawful, "{place} {target}");
+    }
+    Ok(())
+}
+
 /// The code of these lists, with one start.
 fn code_of(
     alloc: Global,

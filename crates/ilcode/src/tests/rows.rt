@@ -4,9 +4,12 @@ ghost use Rattle.std.specs.Prelude.{[], ◌∷◌, true, false, Some, None};
 ghost use Rattle.iloperators.specs.declared.operator.Operator.TheVariants.{Sub};
 ghost use Rattle.ilcode.specs.declared.instruction.Instruction.TheVariants.{Open, Close};
 ghost use Rattle.iltypes.specs.declared.value.Value.TheVariants.{Bool as truth};
-ghost use Rattle.ilcode.specs.Rows.{Come, AreStuck, slots_of, whole};
+ghost use Rattle.ilcode.specs.Rows.{Come, ComeIn, AreStuck, AreStuckAt, slots_of, whole};
 ghost use Rattle.ilcode.specs.Rows.{ld, ld_a, ld_b, ld_d, st_a, st_d, stn_d};
 ghost use Rattle.ilcode.specs.Rows.{deferred, quotient, converted, nested, set, reset};
+ghost use Rattle.ilcode.specs.Rows.{jump, jump_if, jump_unless, returning, jump_in_parentheses};
+ghost use Rattle.ilcode.specs.declared.instruction.Instruction.TheVariants.{Jump};
+ghost use Rattle.iloperators.specs.declared.condition.Condition.TheVariants.{IfTrue};
 
 /// Values: what has one, and what has none.
 fn values()
@@ -58,4 +61,38 @@ fn programs()
     ensures empty_last { Come (0 ∷ 1 ∷ []) (ld_a ∷ []) (slots_of 9 5 2 true) None
         (slots_of 9 5 2 true) }
     ensures anew { AreStuck (0 ∷ 1 ∷ []) (ld_a ∷ st_a ∷ []) (slots_of 9 5 2 true) }
+{}
+
+/// Jumps: taken or not, forward alone, and no further than to the end.
+fn jumps()
+    ensures met { ComeIn 2 [] (jump_if 4) (slots_of 9 5 2 true) (Some (truth true))
+        (slots_of 9 5 2 true) }
+    ensures unmet { Come [] (jump_if 4) (slots_of 9 5 2 false) (Some (whole 9))
+        (slots_of 9 9 2 false) }
+    ensures unless { ComeIn 2 [] (jump_unless 4) (slots_of 9 5 2 false) (Some (truth false))
+        (slots_of 9 5 2 false) }
+    ensures not_unless { Come [] (jump_unless 4) (slots_of 9 5 2 true) (Some (whole 9))
+        (slots_of 9 9 2 true) }
+    ensures onto_a_word { AreStuckAt 2 1 [] (jump 2) (slots_of 9 5 2 true) }
+    ensures with_no_result { ComeIn 1 [] (jump 3) (slots_of 9 5 2 true) None
+        (slots_of 9 5 2 true) }
+    ensures backward { AreStuckAt 1 1 [] (jump_if 0) (slots_of 9 5 2 true) }
+    ensures to_itself { AreStuckAt 1 1 [] (jump_if 1) (slots_of 9 5 2 true) }
+    ensures past_the_end { AreStuckAt 1 1 [] (jump_if 5) (slots_of 9 5 2 true) }
+    ensures past_the_end_unmet { AreStuckAt 1 1 [] (jump_if 5) (slots_of 9 5 2 false) }
+{}
+
+/// What a jump needs: a truth value, nothing open, and no start between; a return leads to the
+/// next start, where there is no current result.
+fn conditions()
+    ensures of_a_number { AreStuckAt 1 1 [] (ld_a ∷ Jump IfTrue 2 ∷ []) (slots_of 9 5 2 true) }
+    ensures of_no_result { AreStuckAt 0 0 [] (Jump IfTrue 1 ∷ []) (slots_of 9 5 2 true) }
+    ensures open { AreStuckAt 3 3 [] jump_in_parentheses (slots_of 9 5 2 true) }
+    ensures past_a_start { AreStuckAt 1 1 (0 ∷ 3 ∷ []) (jump_if 4) (slots_of 9 5 2 true) }
+    ensures returned { ComeIn 3 (0 ∷ 3 ∷ []) returning (slots_of 9 5 2 true) (Some (whole 9))
+        (slots_of 9 5 2 true) }
+    ensures not_returned { Come (0 ∷ 3 ∷ []) returning (slots_of 9 5 2 false) (Some (whole 9))
+        (slots_of 9 5 2 true) }
+    ensures anew { AreStuckAt 2 2 (0 ∷ 2 ∷ []) (ld_d ∷ Jump IfTrue 2 ∷ Jump IfTrue 3 ∷ [])
+        (slots_of 9 5 2 true) }
 {}
