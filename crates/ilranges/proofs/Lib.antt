@@ -1,3 +1,4 @@
+pub mod Closing
 pub mod Comparisons
 pub mod Exact
 pub mod FitLaws

@@ -116,7 +116,8 @@ stored_within negated (Some known) (Some wider) (Some type) after other w h g =
 
 -- ---- what words leave
 
-pub into_of : (entry wider after other : Entry) → after ≡ entry → other ≡ wider → IsInto entry wider → IsInto after other
+pub into_of : (entry wider after other : Entry) → after ≡ entry → other ≡ wider → IsInto entry wider
+    → IsInto after other
 into_of entry wider after other p q i =
     subst (λ (e : Entry). IsInto e other) (sym p) (subst (IsInto entry) (sym q) i)
 

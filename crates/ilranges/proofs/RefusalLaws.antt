@@ -224,8 +224,9 @@ closed_kept code place met wider_met m (inl s) = inl s
 closed_kept code place met wider_met m (inr (inl e)) = inr (inl e)
 closed_kept code place met wider_met m (inr (inr j)) = inr (inr (m j))
 
-has_to_close : (code : Listing) (place : ℕ) (met wider_met : Bool) (word : Instruction) → (IsTrue met → IsTrue wider_met)
-    → refusals.HasToClose code place met word → refusals.HasToClose code place wider_met word
+has_to_close : (code : Listing) (place : ℕ) (met wider_met : Bool) (word : Instruction)
+    → (IsTrue met → IsTrue wider_met) → refusals.HasToClose code place met word
+    → refusals.HasToClose code place wider_met word
 has_to_close code place met wider_met (words.Jump condition target) m h = tt
 has_to_close code place met wider_met word m h = closed_kept code (place + 1) met wider_met m h
 
