@@ -6,7 +6,7 @@ use iltrees::Line;
 use std::marker::Model;
 
 /// `PROGRAM name { VAR .. END_VAR } { line } END_PROGRAM`. No more parentheses are open at one place
-/// than [`limits::MOST_NESTING`], and no line has a label, jump, return or call, which are to come.
+/// than [`limits::MOST_NESTING`], and no line calls a block, since calls are not read yet.
 #[derive(Drop)]
 pub struct Program {
     name: Name,
@@ -74,7 +74,7 @@ impl Program {
         &self.declarations
     }
 
-    /// Its lines that are not empty, in order.
+    /// Its lines that are not empty, in order: each has a label, an instruction or both.
     pub fn lines(&self) -> &[Line<Name, Name>]
         ensures value { result.now ≡ self.now.lines }
         ensures shallow { AreShallow self.now.lines }

@@ -9,7 +9,7 @@ use Rattle.ilgrammar.specs.Items.{Item, is_in}
 use Rattle.ilgrammar.proofs.Laws.{Lawful}
 use Rattle.ilgrammar.proofs.Selects.{Lawful-empty}
 use Rattle.ilgrammar.proofs.Firm.{Firm, Firm-one, Firm-map, Firm-seq, Firm-seq_open, Firm-alt, Firm-fewer, Firm-select}
-use Rattle.ilgrammar.proofs.Firm.{from_many}
+use Rattle.ilgrammar.proofs.Firm.{from_opt, from_many}
 use Rattle.ilsource.specs.declared.name.Name.{Name}
 use Rattle.iltokens.specs.declared.keyword.Keyword.TheVariants as words
 use Rattle.iltokens.specs.declared.lexed.Mark.TheVariants as marks
@@ -20,10 +20,10 @@ use Rattle.iltext.specs.declared.token.Kind.{Kind}
 use Rattle.iltext.specs.declared.token.Kind.TheVariants as kinds
 use Rattle.iltext.specs.declared.token.Token.{Token}
 use Rattle.iltext.specs.Roles.{role_of_word, inner_role_at}
-use Rattle.iltext.specs.Terminals.{mark, operand, closing, line_break, ended}
+use Rattle.iltext.specs.Terminals.{mark, name, operand, closing, line_break, ended}
 use Rattle.iltext.specs.Instructions.{TextLine, on_operand, on_content, on_either, bounds, operands, load, beginning}
-use Rattle.iltext.specs.Instructions.{inner_of, content_of, applied, inner, instruction, line, lines}
-use Rattle.iltext.proofs.Marks.{Anything, token_of, Firm-mark}
+use Rattle.iltext.specs.Instructions.{inner_of, content_of, applied, inner, instruction, label, with_label, line, lines}
+use Rattle.iltext.proofs.Marks.{Anything, token_of, Firm-mark, apart_mark}
 use Rattle.iltext.proofs.Ends.{NoEnd, Firm-name, Firm-operand, Firm-closing, Firm-line_break, Firm-ended, operand_no_end}
 
 -- ---- what follows an operator
@@ -76,6 +76,8 @@ Lawful-operands applied law roles.Limit at = (Firm-map _ Firm-bounds).lawful
 Lawful-operands applied law (roles.Store negated) at = (Firm-map _ Firm-name).lawful
 Lawful-operands applied law roles.Set at = (Firm-map _ Firm-name).lawful
 Lawful-operands applied law roles.Reset at = (Firm-map _ Firm-name).lawful
+Lawful-operands applied law (roles.Jump condition) at = (Firm-map _ Firm-name).lawful
+Lawful-operands applied law (roles.Return condition) at = Lawful-empty _ _ _
 
 -- ---- what stands in parentheses
 
@@ -144,15 +146,40 @@ Firm-instruction = Firm-fewer Anything (λ t e. (tt, tt))
     (Firm-select (Firm-one _ load_word (roles.Load false, 0) refl) (λ x t e. tt)
     (λ x. Lawful-operands (applied most_nesting) (Firm-applied most_nesting) x.0 x.1))
 
+Firm-label : Firm Token Name label Anything
+unfolding label
+Firm-label = Firm-map _ (Firm-seq Firm-name (λ t e. tt) (Firm-mark marks.Colon))
+
+-- what may not follow a label alone
+abbrev NoInstruction : Token → Type 0
+NoInstruction t = instruction.starts t ≡ false
+
+Firm-with_label : Firm Token TextLine with_label NoInstruction
+unfolding with_label
+Firm-with_label = Firm-map _ (Firm-fewer NoInstruction (λ t e. (tt, (tt, e)))
+    (Firm-seq_open Firm-label (λ t e. tt) (from_opt Firm-instruction)))
+
+instruction_apart : (k : Kind) (f g : ℕ) → instruction.starts (token_of k f g) ≡ true
+    → with_label.starts (token_of k f g) ≡ false
+unfolding instruction with_label label name
+instruction_apart (kinds.Good whats.Name) f g e = absurd cc
+instruction_apart _ f g e = refl
+
+end_apart : (t : Token) → line_break.starts t ≡ true → NoInstruction t
+unfolding line_break instruction
+end_apart t e = apart_mark marks.LineEnd instruction.starts (λ f g. refl) t.kind t.from t.to e
+
 pub Firm-line : Firm Token TextLine line NoEnd
 unfolding line
-Firm-line = Firm-ended Firm-instruction
+Firm-line = Firm-map _ (Firm-seq
+    (Firm-alt Firm-with_label (λ t e. instruction_apart t.kind t.from t.to e) Firm-instruction)
+    (λ t e. (end_apart t e, tt)) Firm-line_break)
 
 abbrev pub NoLine : Token → Type 0
 NoLine t = line.starts t ≡ false
 
 pub line_no_end : (k : Kind) (f g : ℕ) → line.starts (token_of k f g) ≡ true → NoEnd (token_of k f g)
-unfolding line instruction mark
+unfolding line with_label label name instruction mark
 line_no_end (kinds.Good (whats.Mark marks.LineEnd)) f g e = absurd cc
 line_no_end _ f g e = refl
 

@@ -15,7 +15,7 @@ use Rattle.iltext.specs.declared.token.Token.{Token}
 use Rattle.iltext.specs.Roles.{role_of_word}
 use Rattle.iltext.specs.Terminals.{Seen, word, mark, name, spaced}
 use Rattle.iltext.specs.Declarations.{type_declaration, vars}
-use Rattle.iltext.specs.Instructions.{TextLine, instruction, line, lines}
+use Rattle.iltext.specs.Instructions.{TextLine, instruction, label, with_label, line, lines}
 use Rattle.iltext.specs.Texts.{blocks, program, derived_type, derived_types, types, unit, units, text}
 use Rattle.iltext.proofs.Marks.{token_of, Firm-word, apart_word}
 use Rattle.iltext.proofs.Ends.{NoEnd, Firm-name, Firm-spaced, Lawful-line_ends, word_no_end, name_no_end}
@@ -28,7 +28,7 @@ abbrev NoVar : Token → Type 0
 NoVar t = (word words.Var).starts t ≡ false
 
 end_program_apart : (t : Token) → (word words.EndProgram).starts t ≡ true → NoEnd t × NoLine t
-unfolding line instruction role_of_word
+unfolding line with_label label name instruction role_of_word
 end_program_apart t e = (
   word_no_end words.EndProgram t e,
   apart_word words.EndProgram line.starts (λ f g. refl) t.kind t.from t.to e,
@@ -45,13 +45,13 @@ Lawful-blocks = Lawful-map _ _ _ _ _ _ (from_many (λ t e. word_no_end words.Var
 body_word_apart : (w : Keyword) (f g : ℕ)
     → (lead lines (spaced (word words.EndProgram))).starts (token_of (kinds.Good (whats.Keyword w)) f g) ≡ true
     → NoVar (token_of (kinds.Good (whats.Keyword w)) f g)
-unfolding lines line instruction role_of_word word
+unfolding lines line with_label label name instruction role_of_word word
 body_word_apart words.Var f g e = absurd cc
 body_word_apart _ f g e = refl
 
 body_apart : (k : Kind) (f g : ℕ) → (lead lines (spaced (word words.EndProgram))).starts (token_of k f g) ≡ true
     → NoEnd (token_of k f g) × NoVar (token_of k f g)
-unfolding lines line instruction word mark
+unfolding lines line with_label label name instruction word mark
 body_apart (kinds.Good (whats.Keyword w)) f g e = (refl, body_word_apart w f g e)
 body_apart (kinds.Good (whats.Mark marks.LineEnd)) f g e = absurd cc
 body_apart _ f g e = (refl, refl)
@@ -65,7 +65,7 @@ Firm-inside = Firm-lead {b = lead lines (spaced (word words.EndProgram))} Lawful
 inside_apart : (k : Kind) (f g : ℕ)
     → (lead blocks (lead lines (spaced (word words.EndProgram)))).starts (token_of k f g) ≡ true
     → NoEnd (token_of k f g)
-unfolding blocks vars lines line instruction word mark
+unfolding blocks vars lines line with_label label name instruction word mark
 inside_apart (kinds.Good (whats.Mark marks.LineEnd)) f g e = absurd cc
 inside_apart _ f g e = refl
 

@@ -1,21 +1,22 @@
--- Lines that are read have no more parentheses open at once than the limit, and no jump, return or call.
+-- Lines that are read have no more parentheses open at once than the limit, and no call.
 use Rattle.std.proofs.Common.{◌≡◌, ℕ, zero, suc, ◌+◌, ◌≤◌, Bool, true, false, List, [], ◌∷◌, Option, Some, None}
 use Rattle.std.specs.Prelude.{⊤}
-use Rattle.std.proofs.Common.{Ok, inl, inr, refl, sym, subst, ◌∙◌, arith}
+use Rattle.std.proofs.Common.{Ok, inl, inr, sym, subst, ◌∙◌, arith}
 use Rattle.limits.specs.Limits.{most_nesting}
 use Rattle.iloperators.specs.declared.operator.Operator.{Operator}
 use Rattle.iloperators.specs.Operators.{may_defer}
 use Rattle.iltrees.specs.declared.instruction.Instruction.TheVariants as instructions
 use Rattle.iltrees.specs.Trees.{Tree, depth}
 use Rattle.iltrees.specs.Words.{IsShallow, AreShallow, CallsNothing, CallNothing}
-use Rattle.ilgrammar.specs.Items.{Item, many_whole}
+use Rattle.ilgrammar.specs.Items.{Item, alt, opt_whole, many_whole}
 use Rattle.ilsource.specs.declared.name.Name.{Name}
 use Rattle.iltext.specs.declared.roles.Role.{Role}
 use Rattle.iltext.specs.declared.roles.Role.TheVariants as roles
 use Rattle.iltext.specs.declared.token.Token.{Token}
 use Rattle.iltext.specs.Terminals.{ended}
 use Rattle.iltext.specs.Instructions.{TextInstruction, TextLine, grown, grows, grows_by, on_operand, on_content, on_either}
-use Rattle.iltext.specs.Instructions.{operands, load, beginning, inner_of, content_of, applied, instruction, line, lines}
+use Rattle.iltext.specs.Instructions.{operands, load, beginning, inner_of, content_of, applied, instruction, labelled, with_label}
+use Rattle.iltext.specs.Instructions.{line, lines}
 use Rattle.iltext.proofs.InstructionLaws.{Lawful-lines}
 
 -- parentheses of the instruction have room, where so many may be open at once
@@ -24,7 +25,7 @@ HasRoom more (Some (instructions.Deferred operator u close)) = depth u + 1 ≤ m
 HasRoom more _ = ⊤
 
 abbrev Fits : ℕ → TextLine → Type 0
-Fits more line = HasRoom more line.instruction × ((line.label ≡ None) × CallsNothing line.instruction)
+Fits more line = HasRoom more line.instruction × CallsNothing line.instruction
 
 abbrev AllFit : ℕ → Item Token TextLine → Type 0
 AllFit more item = (ts : List Token) (line : TextLine) → item.whole ts line → Fits more line
@@ -37,17 +38,19 @@ AllWithin more item = (ts : List Token) (t : Tree Name) → item.whole ts t → 
 module _ (more : ℕ) where
   operand_fits : (operator : Operator) (at : ℕ) → AllFit more (on_operand operator at)
   unfolding on_operand
-  operand_fits operator at ts l w = subst (Fits more) (sym w.2) (tt, (refl, tt))
+  operand_fits operator at ts l w = subst (Fits more) (sym w.2) (tt, tt)
 
   operands_fit : (of : Operator → ℕ → Item Token TextLine) → ((operator : Operator) (at : ℕ) → AllFit more (of operator at))
       → (role : Role) (at : ℕ) → AllFit more (operands of role at)
-  operands_fit of fit (roles.Load negated) at ts l w = subst (Fits more) (sym w.2) (tt, (refl, tt))
+  operands_fit of fit (roles.Load negated) at ts l w = subst (Fits more) (sym w.2) (tt, tt)
   operands_fit of fit (roles.Apply operator) at ts l w = fit operator at ts l w
-  operands_fit of fit (roles.Transform function) at ts l w = subst (Fits more) (sym w.1) (tt, (refl, tt))
-  operands_fit of fit roles.Limit at ts l w = subst (Fits more) (sym w.2) (tt, (refl, tt))
-  operands_fit of fit (roles.Store negated) at ts l w = subst (Fits more) (sym w.2) (tt, (refl, tt))
-  operands_fit of fit roles.Set at ts l w = subst (Fits more) (sym w.2) (tt, (refl, tt))
-  operands_fit of fit roles.Reset at ts l w = subst (Fits more) (sym w.2) (tt, (refl, tt))
+  operands_fit of fit (roles.Transform function) at ts l w = subst (Fits more) (sym w.1) (tt, tt)
+  operands_fit of fit roles.Limit at ts l w = subst (Fits more) (sym w.2) (tt, tt)
+  operands_fit of fit (roles.Store negated) at ts l w = subst (Fits more) (sym w.2) (tt, tt)
+  operands_fit of fit roles.Set at ts l w = subst (Fits more) (sym w.2) (tt, tt)
+  operands_fit of fit roles.Reset at ts l w = subst (Fits more) (sym w.2) (tt, tt)
+  operands_fit of fit (roles.Jump condition) at ts l w = subst (Fits more) (sym w.2) (tt, tt)
+  operands_fit of fit (roles.Return condition) at ts l w = subst (Fits more) (sym w.1) (tt, tt)
 
   -- ---- what stands in parentheses
 
@@ -97,7 +100,7 @@ either_fits : (more : ℕ) (content : ℕ → Item Token (Tree Name)) → ((at :
 unfolding on_content
 either_fits more content within true operator at ts l (inl w) =
     let inside = within at w.1.4.0 w.0.1.0 w.1.4.3 in
-    subst (Fits (suc more)) (sym w.2) (omega arith, (refl, tt))
+    subst (Fits (suc more)) (sym w.2) (omega arith, tt)
 either_fits more content within true operator at ts l (inr w) = operand_fits (suc more) operator at ts l w
 either_fits more content within false operator at ts l w = operand_fits (suc more) operator at ts l w
 
@@ -115,9 +118,19 @@ unfolding instruction
 instruction_fits ts l w =
     operands_fit most_nesting (applied most_nesting) (applied_fits most_nesting) w.2.0 w.2.1 w.1 l w.5
 
+labelled_fits : (n : Name) (ts : List Token) (o : Option TextLine)
+    → opt_whole instruction ts o → Fits most_nesting (labelled n o)
+labelled_fits n ts None w = (tt, tt)
+labelled_fits n ts (Some l) w = instruction_fits ts l w
+
+content_fits : AllFit most_nesting (alt with_label instruction)
+unfolding with_label
+content_fits ts l (inl w) = subst (Fits most_nesting) (sym w.2) (labelled_fits w.0.0 w.1.1 w.0.1 w.1.4)
+content_fits ts l (inr w) = instruction_fits ts l w
+
 line_fits : AllFit most_nesting line
 unfolding line
-line_fits ts l w = ended_fits most_nesting instruction instruction_fits ts l w
+line_fits ts l w = ended_fits most_nesting (alt with_label instruction) content_fits ts l w
 
 shallow_one : (i : Option TextInstruction) → HasRoom most_nesting i → IsShallow i
 shallow_one (Some (instructions.Deferred operator u close)) room = room
@@ -128,7 +141,7 @@ all_fit ts [] w = (tt, tt)
 all_fit ts (l ∷ ls) w =
     let first = line_fits w.0 l w.3 in
     let others = all_fit w.1 ls w.4 in
-    ((shallow_one l.instruction first.0, others.0), (first.1.0, first.1.1, others.1))
+    ((shallow_one l.instruction first.0, others.0), (first.1, others.1))
 
 whole_fit : (ts : List Token) (ls : List TextLine) → lines.whole ts ls → AreShallow ls × CallNothing ls
 unfolding lines

@@ -10,7 +10,7 @@ use Rattle.iltrees.specs.declared.instruction.Instruction.TheVariants as instruc
 use Rattle.iltrees.specs.declared.instruction.Line.{Line}
 use Rattle.iltrees.specs.declared.operand.Operand.{Operand}
 use Rattle.iltrees.specs.Trees.{Tree, Load, Reload, Apply, Transform, Deferred}
-use Rattle.ilgrammar.specs.Items.{Item, one, empty, map, seq, select, alt, many}
+use Rattle.ilgrammar.specs.Items.{Item, one, empty, map, seq, select, opt, alt, many}
 use Rattle.ilsource.specs.declared.name.Name.{Name}
 use Rattle.iltokens.specs.declared.lexed.Mark.TheVariants as marks
 use Rattle.iltext.specs.declared.roles.Role.{Role}
@@ -25,7 +25,7 @@ TextInstruction = Instruction Name Name
 abbrev pub TextLine : Type 0
 TextLine = Line Name Name
 
--- an instruction at the place of its operator
+-- an instruction at the place of its operator, with no label
 abbrev pub line_of : ℕ → TextInstruction → TextLine
 line_of at i = record { at = at; label = None; instruction = Some i }
 
@@ -77,6 +77,8 @@ operands applied roles.Limit at = map (λ x. line_of at (instructions.Limit x.0 
 operands applied (roles.Store negated) at = map (λ n. line_of at (instructions.Store negated n)) name
 operands applied roles.Set at = map (λ n. line_of at (instructions.Set n)) name
 operands applied roles.Reset at = map (λ n. line_of at (instructions.Reset n)) name
+operands applied (roles.Jump condition) at = map (λ n. line_of at (instructions.Jump condition n)) name
+operands applied (roles.Return condition) at = empty (line_of at (instructions.Return condition))
 
 -- ---- what stands in parentheses
 
@@ -117,9 +119,22 @@ content more at = content_of (applied more) at
 unfoldable pub instruction : Item Token TextLine
 instruction = select (one role_at) (λ x. operands (applied most_nesting) x.0 x.1)
 
--- instruction end-of-line
+-- name ":"
+unfoldable pub label : Item Token Name
+label = map (λ x. x.0) (seq name (mark marks.Colon))
+
+-- the line of an instruction, with a label before it; the place of a label alone is the label's
+abbrev pub labelled : Name → Option TextLine → TextLine
+labelled n None = record { at = n.from; label = Some n; instruction = None }
+labelled n (Some line) = record { at = line.at; label = Some n; instruction = line.instruction }
+
+-- name ":" [instruction]
+unfoldable pub with_label : Item Token TextLine
+with_label = map (λ x. labelled x.0 x.1) (seq label (opt instruction))
+
+-- [name ":"] [instruction] end-of-line, where a label, an instruction or both are written
 unfoldable pub line : Item Token TextLine
-line = ended instruction
+line = ended (alt with_label instruction)
 
 unfoldable pub lines : Item Token (List TextLine)
 lines = many line

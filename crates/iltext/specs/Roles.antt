@@ -30,11 +30,13 @@ role_of (kinds.Good (whats.Mark marks.Ampersand)) = role_of_word words.And
 role_of (kinds.Good (whats.Mark marks.AmpersandNot)) = role_of_word words.Andn
 role_of _ = None
 
--- whether it may stand in parentheses: all that leaves a value, and nothing that writes a variable
+-- whether it may stand in parentheses: all that leaves a value, and nothing that writes a variable or leads elsewhere
 abbrev pub may_nest : Role → Bool
 may_nest (roles.Store negated) = false
 may_nest roles.Set = false
 may_nest roles.Reset = false
+may_nest (roles.Jump condition) = false
+may_nest (roles.Return condition) = false
 may_nest _ = true
 
 abbrev pub nesting : Role → Option Role

@@ -1,5 +1,5 @@
 -- The grammar of texts (IEC 61131-3, 2.3.3.1, 2.4.3 and 3.2, with this project's profile), as items over tokens. Lines
--- without an instruction are left out, and each line needs its end of line.
+-- with neither a label nor an instruction are left out, and each line needs its end of line.
 use Rattle.std.specs.Prelude.{List, [], ◌∷◌, flat_map}
 use Rattle.ilgrammar.specs.Items.{Item, map, seq, lead, alt, many}
 use Rattle.ilsource.specs.Programs.{Variables, Written}

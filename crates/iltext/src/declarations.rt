@@ -6,6 +6,7 @@ ghost use Rattle.ilgrammar.specs.Results.{Gives};
 ghost use Rattle.iltext.specs.Declarations.{integer, simple, interval, range, specification};
 ghost use Rattle.iltext.specs.Declarations.{initial, typing, type_declaration};
 ghost use Rattle.iltext.specs.Declarations.{next_name, names, declaration, declarations, vars};
+ghost use Rattle.iltext.specs.Instructions.{with_label};
 ghost use Rattle.iltext.specs.Terminals.{spaced};
 ghost use Rattle.iltext.specs.Texts.{derived_type};
 
@@ -226,11 +227,12 @@ fn names<'a>(
     Ok((names, rest))
 }
 
-/// Whether a name stands first, with which declarations begin.
-#[tactic(auto, unfolding(crate::specs::Declarations::declaration, crate::specs::Declarations::names, crate::specs::Declarations::type_declaration, crate::specs::Texts::derived_type, crate::specs::Terminals::name))]
+/// Whether a name stands first, with which declarations and labels begin.
+#[tactic(auto, unfolding(crate::specs::Declarations::declaration, crate::specs::Declarations::names, crate::specs::Declarations::type_declaration, crate::specs::Texts::derived_type, crate::specs::Instructions::with_label, crate::specs::Instructions::label, crate::specs::Terminals::name))]
 pub fn begins_name(ts: &[Token]) -> bool
     ensures variables { result ≡ begins declaration ts.now }
     ensures types { result ≡ begins derived_type ts.now }
+    ensures labels { result ≡ begins with_label ts.now }
 {
     matches!(
         ts,

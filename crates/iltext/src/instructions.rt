@@ -4,8 +4,9 @@ ghost use Rattle.std.specs.Prelude.{◌≡◌, List, length};
 ghost use Rattle.ilgrammar.specs.Items.{begins};
 ghost use Rattle.ilgrammar.specs.Results.{Gives};
 ghost use Rattle.iltext.specs.Instructions.{line_of, applied, on_content, content, operands};
-ghost use Rattle.iltext.specs.Instructions.{instruction, line, lines};
+ghost use Rattle.iltext.specs.Instructions.{instruction, label, with_label, line, lines};
 
+use crate::declarations::begins_name;
 use crate::parentheses::{bounds, content, may_open};
 use crate::reading::{closing, line_break, mark, name, operand};
 use crate::roles::{Role, role_of};
@@ -18,7 +19,7 @@ use iltrees::{Instruction, Line, Nested};
 use limits::MOST_NESTING;
 use std::alloc::Global;
 
-/// An instruction at the place of its operator.
+/// An instruction at the place of its operator, with no label.
 fn line_of(at: usize, instruction: Instruction<Name, Name>) -> Line<Name, Name>
     ensures { result ≡ line_of at instruction }
 {
@@ -101,6 +102,11 @@ fn operands<'a>(
             let (variable, rest) = name(ts)?;
             (Instruction::Reset(variable), rest)
         }
+        Role::Jump(condition) => {
+            let (label, rest) = name(ts)?;
+            (Instruction::Jump(condition, label), rest)
+        }
+        Role::Return(condition) => (Instruction::Return(condition), ts),
     };
     Ok((line_of(at, instruction), rest))
 }
@@ -122,7 +128,51 @@ fn instruction<'a>(
     }
 }
 
-/// An instruction, its line end, and the empty lines after it.
+#[tactic(auto, unfolding(crate::specs::Instructions::instruction))]
+fn begins_instruction(ts: &[Token]) -> bool
+    ensures { result ≡ begins instruction ts.now }
+{
+    match ts {
+        [] => false,
+        [first, ..] => role_of(first.kind).is_some(),
+    }
+}
+
+/// `name ":"`
+#[tactic(auto, unfolding(crate::specs::Instructions::label))]
+fn label<'a>(ts: &'a [Token]) -> Result<(Name, &'a [Token]), ReadError<'a, Token>>
+    ensures { Gives (λ x. (x.0, x.1.now)) result (label.read ts.now) }
+{
+    let (label, rest) = name(ts)?;
+    let rest = mark(rest, Mark::Colon)?;
+    Ok((label, rest))
+}
+
+/// A label, and the instruction after it, if one is written.
+#[tactic(auto, unfolding(crate::specs::Instructions::with_label))]
+fn with_label<'a>(
+    alloc: Global,
+    ts: &'a [Token],
+) -> Result<(Line<Name, Name>, &'a [Token]), ReadError<'a, Token>>
+    ensures { Gives (λ x. (x.0, x.1.now)) result (with_label.read ts.now) }
+{
+    let (label, rest) = label(ts)?;
+    if begins_instruction(rest) {
+        let (line, rest) = instruction(alloc, rest)?;
+        let mut line = line;
+        line.label = Some(label);
+        Ok((line, rest))
+    } else {
+        let line = Line {
+            at: label.from,
+            label: Some(label),
+            instruction: None,
+        };
+        Ok((line, rest))
+    }
+}
+
+/// A label, an instruction or both, the line end, and the empty lines after it.
 #[tactic(auto, unfolding(crate::specs::Instructions::line))]
 fn line<'a>(
     alloc: Global,
@@ -130,19 +180,20 @@ fn line<'a>(
 ) -> Result<(Line<Name, Name>, &'a [Token]), ReadError<'a, Token>>
     ensures { Gives (λ x. (x.0, x.1.now)) result (line.read ts.now) }
 {
-    let (line, rest) = instruction(alloc, ts)?;
+    let (line, rest) = if begins_name(ts) {
+        with_label(alloc, ts)?
+    } else {
+        instruction(alloc, ts)?
+    };
     let rest = line_break(rest)?;
     Ok((line, rest))
 }
 
-#[tactic(auto, unfolding(crate::specs::Instructions::line, crate::specs::Instructions::instruction))]
+#[tactic(auto, unfolding(crate::specs::Instructions::line))]
 fn begins_line(ts: &[Token]) -> bool
     ensures { result ≡ begins line ts.now }
 {
-    match ts {
-        [] => false,
-        [first, ..] => role_of(first.kind).is_some(),
-    }
+    begins_name(ts) || begins_instruction(ts)
 }
 
 /// `{line}`

@@ -179,7 +179,9 @@ fn operands<'a>(
             push(pieces, at, Action::Apply(Operator::Min, high))?;
             Ok(rest)
         }
-        Role::Store { .. } | Role::Set | Role::Reset => unreachable!(),
+        Role::Store { .. } | Role::Set | Role::Reset | Role::Jump(_) | Role::Return(_) => {
+            unreachable!()
+        }
     }
 }
 

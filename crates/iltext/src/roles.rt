@@ -5,7 +5,7 @@ ghost use Rattle.iltext.specs.Roles.{lookup, role_of_word, role_of};
 ghost use Rattle.iltext.specs.Roles.{may_nest, inner_role_of, is_inner};
 
 use crate::token::Kind;
-use iloperators::{Function, IntegerType, Operator};
+use iloperators::{Condition, Function, IntegerType, Operator};
 use iltokens::{Keyword, Mark, What};
 
 /// What an operator does, which also says what is written after it.
@@ -25,10 +25,14 @@ pub enum Role {
     Set,
     /// R: a variable.
     Reset,
+    /// JMP, JMPC, JMPCN: a label.
+    Jump(Condition),
+    /// RET, RETC, RETCN: nothing.
+    Return(Condition),
 }
 
 /// What each word does as an operator.
-pub const ROLES: [(Keyword, Role); 58] = [
+pub const ROLES: [(Keyword, Role); 64] = [
     // Loads and stores, with the modifier N.
     (Keyword::Ld, Role::Load { negated: false }),
     (Keyword::Ldn, Role::Load { negated: true }),
@@ -36,6 +40,13 @@ pub const ROLES: [(Keyword, Role); 58] = [
     (Keyword::Stn, Role::Store { negated: true }),
     (Keyword::S, Role::Set),
     (Keyword::R, Role::Reset),
+    // Jumps and returns, with the modifiers C and CN.
+    (Keyword::Jmp, Role::Jump(Condition::Always)),
+    (Keyword::Jmpc, Role::Jump(Condition::IfTrue)),
+    (Keyword::Jmpcn, Role::Jump(Condition::IfFalse)),
+    (Keyword::Ret, Role::Return(Condition::Always)),
+    (Keyword::Retc, Role::Return(Condition::IfTrue)),
+    (Keyword::Retcn, Role::Return(Condition::IfFalse)),
     // Truth values.
     (Keyword::And, Role::Apply(Operator::And { negated: false })),
     (Keyword::Andn, Role::Apply(Operator::And { negated: true })),
@@ -222,7 +233,10 @@ pub fn role_of(kind: Kind) -> Option<Role>
 fn may_nest(role: Role) -> bool
     ensures { result ≡ may_nest role }
 {
-    !matches!(role, Role::Store { .. } | Role::Set | Role::Reset)
+    !matches!(
+        role,
+        Role::Store { .. } | Role::Set | Role::Reset | Role::Jump(_) | Role::Return(_),
+    )
 }
 
 /// What a token does as an operator in parentheses.

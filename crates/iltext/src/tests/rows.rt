@@ -20,7 +20,9 @@ fn again(alloc: Global, lines: &[u8]) -> Result<Vec<u8>, Fail> {
 
 #[test]
 fn each_operator_comes_back(rt: HostRuntime) -> Result<(), Fail> {
-    let lines: [&[u8]; 9] = [
+    let lines: [&[u8]; 11] = [
+        b"JMP a\nJMPC a\nJMPCN _\nRET\nRETC\nRETCN\n",
+        b"a:\nb: LD c\nd: JMPCN b\nq:\n_: RETC\na: NOT\na:\n",
         b"LD a\nLDN TRUE\nLD -5\nLD 16\n",
         b"ST a\nSTN b\nS q\nR r1\n",
         b"AND b2\nANDN FALSE\nOR TRUE\nORN a\nXOR _\nXORN LDX\n",
@@ -39,7 +41,10 @@ fn each_operator_comes_back(rt: HostRuntime) -> Result<(), Fail> {
 
 #[test]
 fn other_spellings(rt: HostRuntime) -> Result<(), Fail> {
-    let rows: [(&[u8], &[u8]); 9] = [
+    let rows: [(&[u8], &[u8]); 12] = [
+        (b"x :\n\nld a\n", b"x:\nLD a\n"),
+        (b"\nx(* *):jmpcn(* *)x\n\nY:\n", b"x: JMPCN x\nY:\n"),
+        (b"x: AND(\nLD b\n)\nRet\n", b"x: AND(\nLD b\n)\nRET\n"),
         (b"ld a\n\n\r\n& b\n&N c\n(* *)\n", b"LD a\nAND b\nANDN c\n"),
         (
             b"LD 16#FF\nLD T#1s5ms\nADD TIME#1m\n",
@@ -97,7 +102,7 @@ fn declarations_come_back(rt: HostRuntime) -> Result<(), Fail> {
         b"PROGRAM p VAR a : TIME := T#1000ms; END_VAR VAR b : dim := -3; END_VAR\nEND_PROGRAM\n",
         b"PROGRAM p VAR a : SINT; END_VAR VAR b : INT; END_VAR VAR c : DINT; END_VAR\nEND_PROGRAM\n",
         b"PROGRAM p VAR a : USINT(0..254); END_VAR VAR b : UINT(5..1) := 2; END_VAR\nEND_PROGRAM\n",
-        b"PROGRAM p\nEND_PROGRAM\nTYPE t : UDINT(-1..1) := FALSE; END_TYPE\nTYPE u : t; END_TYPE\n",
+        b"PROGRAM p\na: RET\nEND_PROGRAM\nTYPE t : UDINT(-1..1) := FALSE; END_TYPE\nTYPE u : t; END_TYPE\n",
     ];
     for text in texts {
         let source = parse(rt.alloc(), text)?;
@@ -119,6 +124,45 @@ fn words_of_code_have_the_places_of_their_operators(rt: HostRuntime) -> Result<(
         line.push_places(&mut places)?;
     }
     let expected: [usize; 11] = [11, 16, 16, 23, 29, 34, 36, 36, 47, 49, 49];
+    assert_eq!(rt; places.as_slice(), expected.as_slice());
+    Ok(())
+}
+
+/// A label or a jump may stand on the line of the program's name, or of END_VAR.
+#[test]
+fn labels_stand_on_the_first_line(rt: HostRuntime) -> Result<(), Fail> {
+    let rows: [(&[u8], &[u8]); 3] = [
+        (b"PROGRAM p x: LD a\nEND_PROGRAM", b"x: LD a\n"),
+        (
+            b"PROGRAM p VAR a : BOOL; END_VAR x:\nRET\nEND_PROGRAM",
+            b"x:\nRET\n",
+        ),
+        (b"PROGRAM p JMP x\nx:\nEND_PROGRAM", b"JMP x\nx:\n"),
+    ];
+    for (text, printed) in rows {
+        let source = parse(rt.alloc(), text)?;
+        let [Element::Program(program)] = source.elements() else {
+            return Err("one program".into());
+        };
+        let lines = shown_lines(rt.alloc(), source.text(), program.lines())?;
+        assert_eq!(rt; lines.as_slice(), printed);
+    }
+    Ok(())
+}
+
+/// A line has the place of its instruction, after the label; a label alone has its own.
+#[test]
+fn places_of_labelled_lines(rt: HostRuntime) -> Result<(), Fail> {
+    let text = b"PROGRAM p\nabc:\n x: LD a\nRETC\nEND_PROGRAM\n";
+    let source = parse(rt.alloc(), text)?;
+    let [Element::Program(program)] = source.elements() else {
+        return Err("one program".into());
+    };
+    let mut places = Vec::new(rt.alloc());
+    for line in program.lines() {
+        places.push(line.at)?;
+    }
+    let expected: [usize; 3] = [10, 19, 24];
     assert_eq!(rt; places.as_slice(), expected.as_slice());
     Ok(())
 }

@@ -1,6 +1,6 @@
 //! Source programs printed as texts, one instruction a line.
 
-use iloperators::{Function, IntegerType, Operator};
+use iloperators::{Condition, Function, IntegerType, Operator};
 use ilsource::{Constant, Element, Name, Program, Source, Specification, TypeDeclaration};
 use iltrees::{Action, Instruction, Line, Operand};
 use iltypes::Value;
@@ -161,9 +161,29 @@ impl Page<'_> {
             }
             Instruction::Set(variable) => self.add_with(alloc, b"S", Operand::Name(*variable)),
             Instruction::Reset(variable) => self.add_with(alloc, b"R", Operand::Name(*variable)),
-            Instruction::Jump(..) | Instruction::Return(_) | Instruction::Call { .. } => {
-                self.add(b"?\n")
+            Instruction::Jump(condition, label) => {
+                self.add(jump_name(*condition))?;
+                self.add(b" ")?;
+                self.add_name(*label)?;
+                self.add(b"\n")
             }
+            Instruction::Return(condition) => self.add(return_name(*condition)),
+            Instruction::Call { .. } => self.add(b"?\n"),
+        }
+    }
+
+    /// A line, with its label before its instruction.
+    fn add_line(&mut self, alloc: Global, line: &Line<Name, Name>) -> Result<(), AllocError> {
+        if let Some(label) = line.label {
+            self.add_name(label)?;
+            self.add(b":")?;
+        }
+        match &line.instruction {
+            Some(instruction) => {
+                self.add(if line.label.is_some() { b" " } else { b"" })?;
+                self.add_instruction(alloc, instruction)
+            }
+            None => self.add(b"\n"),
         }
     }
 
@@ -181,9 +201,7 @@ impl Page<'_> {
         }
         self.add(b"\n")?;
         for line in program.lines() {
-            if let Some(instruction) = &line.instruction {
-                self.add_instruction(alloc, instruction)?;
-            }
+            self.add_line(alloc, line)?;
         }
         self.add(b"END_PROGRAM\n")
     }
@@ -209,6 +227,22 @@ fn type_name(base: IntegerType) -> &'static [u8] {
 
 fn load_name(negated: bool) -> &'static [u8] {
     if negated { b"LDN" } else { b"LD" }
+}
+
+fn jump_name(condition: Condition) -> &'static [u8] {
+    match condition {
+        Condition::Always => b"JMP",
+        Condition::IfTrue => b"JMPC",
+        Condition::IfFalse => b"JMPCN",
+    }
+}
+
+fn return_name(condition: Condition) -> &'static [u8] {
+    match condition {
+        Condition::Always => b"RET\n",
+        Condition::IfTrue => b"RETC\n",
+        Condition::IfFalse => b"RETCN\n",
+    }
 }
 
 fn operator_name(operator: Operator) -> &'static [u8] {
@@ -246,9 +280,7 @@ pub fn shown_lines(
         out: Vec::new(alloc),
     };
     for line in lines {
-        if let Some(instruction) = &line.instruction {
-            page.add_instruction(alloc, instruction)?;
-        }
+        page.add_line(alloc, line)?;
     }
     Ok(page.out)
 }
