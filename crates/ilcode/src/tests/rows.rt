@@ -79,7 +79,8 @@ fn jumps()
     ensures backward { AreStuckAt 1 1 [] (jump_if 0) (slots_of 9 5 2 true) }
     ensures to_itself { AreStuckAt 1 1 [] (jump_if 1) (slots_of 9 5 2 true) }
     ensures past_the_end { AreStuckAt 1 1 [] (jump_if 5) (slots_of 9 5 2 true) }
-    ensures past_the_end_unmet { AreStuckAt 1 1 [] (jump_if 5) (slots_of 9 5 2 false) }
+    ensures past_the_end_unmet { Come [] (jump_if 5) (slots_of 9 5 2 false) (Some (whole 9))
+        (slots_of 9 9 2 false) }
 {}
 
 /// What a jump needs: a truth value, nothing open, and no start between; a return leads to the
