@@ -126,7 +126,8 @@ pub once_more : (frames rest : List Frame) (frame : Frame) (priority : ℕ) (bef
     → IsTriedOnce rest 1 middle after mid new last → IsTriedOnce frames priority before after old new last
 once_more [] rest frame priority before middle after old mid new mark _ r some is behind marked sends pushed whole t =
     absurd (omega arith)
-once_more (f ∷ frames) rest frame priority before middle after old mid new mark _ r some is behind marked sends pushed whole t =
+once_more (f ∷ frames) rest frame priority before middle after old mid new mark _ r some is behind marked sends pushed
+    whole t =
     let at : frame ≡ f = is in
     let tail : rest ≡ frames = behind ∙ take_all (suc (length frames) - 1) frames (omega arith) in
     let legal : IsAttempt (length frames) t.attempt = rw tail at t.legal in

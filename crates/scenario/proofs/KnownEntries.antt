@@ -4,7 +4,8 @@ use Rattle.std.specs.Prelude.{IsTrue, not}
 use Rattle.scenario.specs.Following.{IsKnown}
 use Rattle.scenario.specs.declared.entries.Entry.{Entry}
 
-pub known_as : (before : List Entry) (entry form : Entry) → entry ≡ form → (test : Bool) → IsTrue test ↔ IsKnown before form
+pub known_as : (before : List Entry) (entry form : Entry) → entry ≡ form → (test : Bool)
+    → IsTrue test ↔ IsKnown before form
     → IsTrue test ↔ IsKnown before entry
 known_as before entry form is test known = subst (λ (e : Entry). IsTrue test ↔ IsKnown before e) (sym is) known
 
@@ -20,7 +21,8 @@ lacks true false same = absurd (not_true (sym same))
 lacks false true same = absurd (not_true same)
 lacks false false same = (λ t. refl, λ f. refl)
 
-pub lacks_in : (test found owner : Bool) → owner ≡ true → test ≡ found → IsTrue (not test) ↔ ((owner ≡ true) × (found ≡ false))
+pub lacks_in : (test found owner : Bool) → owner ≡ true → test ≡ found
+    → IsTrue (not test) ↔ ((owner ≡ true) × (found ≡ false))
 lacks_in test found owner there same =
     let lacking = lacks test found same in
     (λ t. (there, lacking.0 t), λ p. lacking.1 p.1)

@@ -1,9 +1,12 @@
--- Which entry may stand after which (profile): a gear, a device or an instance is declared before it is named, and once; what
+-- Which entry may stand after which (profile): a gear, a device or an instance is declared before it is named, and
+-- once; what
 -- is on the buses stands before the first tick or event, and ticks don't fall.
-use Rattle.std.specs.Prelude.{◌≡◌, ℕ, ◌≤◌, ◌==◌, Bool, true, false, ◌&&◌, List, [], ◌∷◌, ◌++◌, Option, Some, None, IfSome, unwrap_or}
+use Rattle.std.specs.Prelude.{◌≡◌, ℕ, ◌≤◌, ◌==◌, Bool, true, false, ◌&&◌, List, [], ◌∷◌, ◌++◌, Option, Some, None}
+use Rattle.std.specs.Prelude.{IfSome, unwrap_or}
 use Rattle.std.specs.List.{list_any, fold}
 use Rattle.scenario.specs.declared.entries.Entry.{Entry}
-use Rattle.scenario.specs.declared.entries.Entry.TheVariants.{Gear, LampFailure, Memory, Device, Instance, Reply, HearFault, Tick, Event}
+use Rattle.scenario.specs.declared.entries.Entry.TheVariants.{Gear, LampFailure, Memory, Device, Instance, Reply}
+use Rattle.scenario.specs.declared.entries.Entry.TheVariants.{HearFault, Tick, Event}
 
 abbrev pub is_gear_at : ℕ → ℕ → Entry → Bool
 is_gear_at bus short (Gear on at) = (on == bus) && (at == short)
@@ -14,7 +17,8 @@ is_device_at bus short (Device on at) = (on == bus) && (at == short)
 is_device_at bus short _ = false
 
 abbrev pub is_instance_at : ℕ → ℕ → ℕ → Entry → Bool
-is_instance_at bus short number (Instance on at its kind scheme value) = ((on == bus) && (at == short)) && (its == number)
+is_instance_at bus short number (Instance on at its kind scheme value) =
+    ((on == bus) && (at == short)) && (its == number)
 is_instance_at bus short number _ = false
 
 abbrev pub is_reply_to : ℕ → ℕ → Entry → Bool
@@ -32,7 +36,8 @@ IsKnown before (Instance bus short number kind scheme value) =
 IsKnown before (Reply bus place fate) = list_any (is_reply_to bus place) before ≡ false
 IsKnown before _ = Unit {0}
 
--- the clock stands at the last tick; before the first one it stands at 0 from the first event on, and before that nowhere
+-- the clock stands at the last tick; before the first one it stands at 0 from the first event on, and before that
+-- nowhere
 abbrev pub clock_after : Option ℕ → Entry → Option ℕ
 clock_after now (Tick moment) = Some moment
 clock_after now (Event bus frame) = Some (unwrap_or now 0)
@@ -41,7 +46,8 @@ clock_after now _ = now
 abbrev pub clock : List Entry → Option ℕ
 clock entries = fold clock_after None entries
 
--- a tick isn't before the clock, events and faults of hearing stand anywhere, and all else where the clock stands nowhere
+-- a tick isn't before the clock, events and faults of hearing stand anywhere, and all else where the clock stands
+-- nowhere
 abbrev pub IsInTime : Option ℕ → Entry → Type 0
 IsInTime now (Tick moment) = IfSome now (λ last. last ≤ moment)
 IsInTime now (Event bus frame) = Unit {0}

@@ -1,4 +1,5 @@
--- What happens on the buses of a scenario (profile): its ticks, events and faults of hearing, in the order of their lines.
+-- What happens on the buses of a scenario (profile): its ticks, events and faults of hearing, in the order of their
+-- lines.
 use Rattle.std.specs.Prelude.{ℕ, Option, Some, None, List}
 use Rattle.std.specs.List.{filter_map}
 use Rattle.scenario.specs.declared.entries.Entry.{Entry}

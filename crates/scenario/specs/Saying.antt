@@ -1,6 +1,8 @@
--- What the words of a line say (profile): a keyword, then numbers, each in its range, and no word more. Numbers are decimal;
+-- What the words of a line say (profile): a keyword, then numbers, each in its range, and no word more. Numbers are
+-- decimal;
 -- the 24 bits of an event's frame are six hexadecimal digits.
-use Rattle.std.specs.Prelude.{ℕ, ◌-◌, ◌==◌, List, [], ◌∷◌, Option, Some, None, option_map, option_and_then, slice_get, codes, bytes_eq, if◌then◌else◌}
+use Rattle.std.specs.Prelude.{ℕ, ◌-◌, ◌==◌, List, [], ◌∷◌, Option, Some, None, option_map, option_and_then, slice_get}
+use Rattle.std.specs.Prelude.{codes, bytes_eq, if◌then◌else◌}
 use Rattle.limits.specs.Limits.{most_buses}
 use Rattle.wordlines.specs.WordLines.{number_in, hex_number}
 use Rattle.daliframe.specs.declared.schemes.EventScheme.{EventScheme}
@@ -8,7 +10,8 @@ use Rattle.daliframe.specs.declared.schemes.EventScheme.TheVariants as scheme
 use Rattle.scenario.specs.declared.entries.FrameFate.{FrameFate}
 use Rattle.scenario.specs.declared.entries.FrameFate.TheVariants.{Lost, Damaged, Fault}
 use Rattle.scenario.specs.declared.entries.Entry.{Entry}
-use Rattle.scenario.specs.declared.entries.Entry.TheVariants.{Gear, LampFailure, Memory, Device, Instance, Reply, HearFault, Tick, Event}
+use Rattle.scenario.specs.declared.entries.Entry.TheVariants.{Gear, LampFailure, Memory, Device, Instance, Reply}
+use Rattle.scenario.specs.declared.entries.Entry.TheVariants.{HearFault, Tick, Event}
 
 -- what the first word gives, where it gives something, and what the words after it make of that
 abbrev pub first : {A : Type 0} → Option (A × List (List ℕ)) → (A → List (List ℕ) → Option Entry) → Option Entry

@@ -19,7 +19,8 @@ dtr1-at : (v : ℕ) → gear.Dtr1 v ≡ fields_at 0xC3 v
 unfolding fields_at
 dtr1-at v = refl
 
-not_special : (first v : ℕ) → (first ≡ 0xA3 → ⊥) → (first ≡ 0xC3 → ⊥) → fields_at first v ≡ addressed_at (first / 2) (first % 2) v
+not_special : (first v : ℕ) → (first ≡ 0xA3 → ⊥) → (first ≡ 0xC3 → ⊥)
+    → fields_at first v ≡ addressed_at (first / 2) (first % 2) v
 unfolding fields_at
 not_special first v a b = grind (arith, nat_tests)
 
@@ -38,7 +39,8 @@ unfolding addressed_at
 broadcast-at s v = refl
 
 -- the fields of an address byte and the byte after it
-address-at : (address : Address) (s v : ℕ) → s < 2 → IsAddress address → selected s address v ≡ fields_at (address_byte address s) v
+address-at : (address : Address) (s v : ℕ) → s < 2 → IsAddress address
+    → selected s address v ≡ fields_at (address_byte address s) v
 address-at (Short a) s v small h =
     let q : (2 * a + s) / 2 ≡ a = omega arith in
     let r : (2 * a + s) % 2 ≡ s = omega arith in
@@ -53,18 +55,21 @@ address-at Broadcast s v small h =
     rw (not_special (254 + s) v (λ e. omega arith) (λ e. omega arith), q, r) (broadcast-at s v)
 
 -- the bytes of a frame
-bytes-of : (fields : Fields16) (first v frame : ℕ) → v < 2 ^ 8 → frame ≡ frame16 first v → fields ≡ fields_at first v → fields ≡ fields_of frame
+bytes-of : (fields : Fields16) (first v frame : ℕ) → v < 2 ^ 8 → frame ≡ frame16 first v → fields ≡ fields_at first v
+    → fields ≡ fields_of frame
 bytes-of fields first v frame small e h =
     let q : frame / 2 ^ 8 ≡ first = omega arith in
     let r : frame % 2 ^ 8 ≡ v = omega arith in
     rw (q, r) h
 
-other-half : (half s v : ℕ) → (half < 64 → ⊥) → (64 ≤ half → half < 80 → ⊥) → (half ≡ 127 → ⊥) → gear.Other ≡ addressed_at half s v
+other-half : (half s v : ℕ) → (half < 64 → ⊥) → (64 ≤ half → half < 80 → ⊥) → (half ≡ 127 → ⊥)
+    → gear.Other ≡ addressed_at half s v
 unfolding addressed_at
 other-half half s v a b c = grind (arith, nat_tests)
 
 other-at : (first v : ℕ) → (first ≡ 0xA3 → ⊥) → (first ≡ 0xC3 → ⊥)
-    → ((address : Address) (s : ℕ) → IsAddress address → s < 2 → first ≡ address_byte address s → ⊥) → gear.Other ≡ fields_at first v
+    → ((address : Address) (s : ℕ) → IsAddress address → s < 2 → first ≡ address_byte address s → ⊥)
+        → gear.Other ≡ fields_at first v
 other-at first v a b none =
     rw (not_special first v a b) (other-half (first / 2) (first % 2) v
     (λ h. none (Short (first / 2)) (first % 2) h (omega arith) (omega arith))
@@ -73,9 +78,11 @@ other-at first v a b none =
 
 pub fields_of-is : (fields : Fields16) (frame : ℕ) → HasFields16 fields frame → fields ≡ fields_of frame
 fields_of-is (gear.Level address level) frame h =
-    bytes-of (gear.Level address level) (address_byte address 0) level frame h.1 h.2 (address-at address 0 level (omega arith) h.0)
+    bytes-of (gear.Level address level) (address_byte address 0) level frame h.1 h.2
+        (address-at address 0 level (omega arith) h.0)
 fields_of-is (gear.Command address opcode) frame h =
-    bytes-of (gear.Command address opcode) (address_byte address 1) opcode frame h.1 h.2 (address-at address 1 opcode (omega arith) h.0)
+    bytes-of (gear.Command address opcode) (address_byte address 1) opcode frame h.1 h.2
+        (address-at address 1 opcode (omega arith) h.0)
 fields_of-is (gear.Dtr0 value) frame h = bytes-of (gear.Dtr0 value) 0xA3 value frame h.0 h.1 (dtr0-at value)
 fields_of-is (gear.Dtr1 value) frame h = bytes-of (gear.Dtr1 value) 0xC3 value frame h.0 h.1 (dtr1-at value)
 fields_of-is gear.Other frame h =
@@ -104,7 +111,8 @@ command-at a i o first small low e =
     let r : first % 2 ≡ 1 = omega arith in
     rw (q, r) (grind (arith, nat_tests))
 
-other-device-at : (first second third : ℕ) → first % 2 ≡ 1 → (first ≡ 0xC1 → second ≡ 0x30 → ⊥) → (first < 128 → second < 32 → ⊥)
+other-device-at : (first second third : ℕ) → first % 2 ≡ 1 → (first ≡ 0xC1 → second ≡ 0x30 → ⊥)
+    → (first < 128 → second < 32 → ⊥)
     → device.OtherCommand ≡ device_fields_at first second third
 unfolding device_fields_at
 other-device-at first second third r a b = rw r (grind (arith, nat_tests))

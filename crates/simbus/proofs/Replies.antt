@@ -13,11 +13,13 @@ abbrev after_answers : Reply → List ℕ → Reply
 after_answers reply [] = reply
 after_answers reply (byte ∷ more) = after_answers (joined reply (Some byte)) more
 
-one_more : (reply : Reply) (answer : Option ℕ) (more : List ℕ) → after_answers (joined reply answer) more ≡ after_answers reply (cons_option answer more)
+one_more : (reply : Reply) (answer : Option ℕ) (more : List ℕ)
+    → after_answers (joined reply answer) more ≡ after_answers reply (cons_option answer more)
 one_more reply None more = refl
 one_more reply (Some byte) more = refl
 
-from_answers : {X : Type 0} (answer : X → Option ℕ) (reply : Reply) (xs : List X) → replies_from answer reply xs ≡ after_answers reply (filter_map answer xs)
+from_answers : {X : Type 0} (answer : X → Option ℕ) (reply : Reply) (xs : List X)
+    → replies_from answer reply xs ≡ after_answers reply (filter_map answer xs)
 from_answers answer reply [] = refl
 from_answers answer reply (x ∷ xs) =
     from_answers answer (joined reply (answer x)) xs ∙ one_more reply (answer x) (filter_map answer xs)
@@ -31,7 +33,8 @@ after_answers_is [] = refl
 after_answers_is (byte ∷ []) = refl
 after_answers_is (byte ∷ other ∷ more) = stays_damaged more
 
-pub replies_from_is : {X : Type 0} (answer : X → Option ℕ) (xs : List X) → replies_from answer Quiet xs ≡ reply_of (filter_map answer xs)
+pub replies_from_is : {X : Type 0} (answer : X → Option ℕ) (xs : List X)
+    → replies_from answer Quiet xs ≡ reply_of (filter_map answer xs)
 replies_from_is answer xs = from_answers answer Quiet xs ∙ after_answers_is (filter_map answer xs)
 
 drop_past : {X : Type 0} (i : ℕ) (xs : List X) → length xs ≤ i → drop i xs ≡ []

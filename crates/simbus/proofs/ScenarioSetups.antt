@@ -10,6 +10,8 @@ use Rattle.simbus.specs.Setups.{gear_with_lamp, gear_on}
 same_bus : (on bus : ℕ) (gear : Gear) → on ≡ bus → Some gear ≡ (if on == bus then Some gear else None)
 same_bus on bus gear same = grind (arith, nat_tests)
 
-pub gear_declared : (bus : ℕ) (entries : List Entry) (it : Entry) (on short : ℕ) (gear : Gear) → it ≡ entry.Gear on short → on ≡ bus
+pub gear_declared : (bus : ℕ) (entries : List Entry) (it : Entry) (on short : ℕ) (gear : Gear)
+    → it ≡ entry.Gear on short → on ≡ bus
     → gear ≡ gear_with_lamp bus entries short → Some gear ≡ gear_on bus entries it
-gear_declared bus entries it on short gear is same so = rw (is, so) (same_bus on bus (gear_with_lamp bus entries short) same)
+gear_declared bus entries it on short gear is same so =
+    rw (is, so) (same_bus on bus (gear_with_lamp bus entries short) same)

@@ -1,4 +1,5 @@
--- What an opcode commands control gear: the rows of sixteen opcodes of IEC 62386-102, clause 11, with those that simulated
+-- What an opcode commands control gear: the rows of sixteen opcodes of IEC 62386-102, clause 11, with those that
+-- simulated
 -- gear obeys or answers. In a row of its own a command has the number of a scene or group in its last four bits.
 use Rattle.std.specs.Prelude.{ℕ, ◌==◌, ◌/◌, ◌%◌, if◌then◌else◌}
 use Rattle.simbus.specs.declared.commands.Action.TheVariants as action

@@ -1,6 +1,8 @@
--- What the variables of simulated control gear become by a frame, and what the gear answers (IEC 62386-102, clauses 9 to 11,
+-- What the variables of simulated control gear become by a frame, and what the gear answers (IEC 62386-102, clauses 9
+-- to 11,
 -- with the levels MIN 1 and MAX 254, and without fading).
-use Rattle.std.specs.Prelude.{ℕ, ◌+◌, ◌-◌, ◌==◌, nat_le, min, max, Bool, true, false, if◌then◌else◌, replicate, slice_index, slice_index_or, slice_set}
+use Rattle.std.specs.Prelude.{ℕ, ◌+◌, ◌-◌, ◌==◌, nat_le, min, max, Bool, true, false, if◌then◌else◌, replicate}
+use Rattle.std.specs.Prelude.{slice_index, slice_index_or, slice_set}
 use Rattle.simbus.specs.declared.commands.Action.{Action}
 use Rattle.simbus.specs.declared.commands.Action.TheVariants as action
 use Rattle.simbus.specs.declared.commands.Setting.{Setting}

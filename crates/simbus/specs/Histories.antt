@@ -1,6 +1,8 @@
--- The simulated bus as a function of the list of all frames that were sent on it, each with what became of it. The lists
+-- The simulated bus as a function of the list of all frames that were sent on it, each with what became of it. The
+-- lists
 -- here begin with the last frame.
-use Rattle.std.specs.Prelude.{◌≡◌, ℕ, ◌+◌, ◌%◌, ◌==◌, Bool, true, false, ◌&&◌, if◌then◌else◌, Option, option_map, find, List, [], ◌∷◌, ◌++◌}
+use Rattle.std.specs.Prelude.{◌≡◌, ℕ, ◌+◌, ◌%◌, ◌==◌, Bool, true, false, ◌&&◌, if◌then◌else◌, Option, option_map, find}
+use Rattle.std.specs.Prelude.{List, [], ◌∷◌, ◌++◌}
 use Rattle.std.specs.List.{filter_map}
 use Rattle.daliframe.specs.declared.forward.Frame.{Frame}
 use Rattle.daliframe.specs.declared.forward.Frame.TheVariants.{Forward16, Forward24}
@@ -51,14 +53,16 @@ gear_variables address (s ∷ earlier) =
 -- DTR0 of the control devices
 abbrev pub device_dtr0 : List Sent → ℕ
 device_dtr0 [] = 0
-device_dtr0 (s ∷ earlier) = if is_reached s.mark then dtr0_after_frame s.frame (device_dtr0 earlier) else device_dtr0 earlier
+device_dtr0 (s ∷ earlier) =
+    if is_reached s.mark then dtr0_after_frame s.frame (device_dtr0 earlier) else device_dtr0 earlier
 
 -- the variables of an instance
 abbrev pub instance_variables : Instance → List Sent → InstanceVariables
 instance_variables instance [] = variables_of instance
 instance_variables instance (s ∷ earlier) =
     if is_reached s.mark
-    then instance_after_frame (is_pair s.frame earlier) (device_dtr0 earlier) instance s.frame (instance_variables instance earlier)
+    then instance_after_frame (is_pair s.frame earlier) (device_dtr0 earlier) instance s.frame
+        (instance_variables instance earlier)
     else instance_variables instance earlier
 
 -- what is on a simulated bus
@@ -71,7 +75,8 @@ pub record Setup : Type 0 where
 abbrev pub answers : Setup → List Sent → Frame → List ℕ
 answers setup earlier frame =
     filter_map (λ (gear : Gear). gear_answer setup.memory frame gear (gear_variables gear.address earlier)) setup.gears
-    ++ filter_map (λ (instance : Instance). instance_answer frame instance (instance_variables instance earlier)) setup.instances
+    ++ filter_map
+        (λ (instance : Instance). instance_answer frame instance (instance_variables instance earlier)) setup.instances
 
 -- what the bus answers to a frame, after these frames
 abbrev pub answer_of : Setup → List Sent → Frame → Reply
@@ -80,7 +85,8 @@ answer_of setup earlier frame = reply_of (answers setup earlier frame)
 -- the variables of the gear at a short address, where there is gear
 abbrev pub variables_at : Setup → List Sent → ℕ → Option GearVariables
 variables_at setup earlier address =
-    option_map (λ (gear : Gear). gear_variables gear.address earlier) (find (λ (gear : Gear). gear.address == address) setup.gears)
+    option_map (λ (gear : Gear). gear_variables gear.address earlier)
+        (find (λ (gear : Gear). gear.address == address) setup.gears)
 
 -- the variables of an instance of a control device by its short address and number, where it is declared
 abbrev pub is_instance : ℕ → ℕ → Instance → Bool
@@ -88,7 +94,8 @@ is_instance address number instance = instance.address == address && instance.nu
 
 abbrev pub instance_variables_at : Setup → List Sent → ℕ → ℕ → Option InstanceVariables
 instance_variables_at setup earlier address number =
-    option_map (λ (instance : Instance). instance_variables instance earlier) (find (is_instance address number) setup.instances)
+    option_map (λ (instance : Instance). instance_variables instance earlier)
+        (find (is_instance address number) setup.instances)
 
 -- a frame as it was sent, where it reached the bus, and one that did not
 abbrev pub IsReachedBy : Frame → Sent → Type 0

@@ -24,7 +24,8 @@ simulated bus = record {
   };
 }
 
--- The equipment is what all frames that were sent made of it, the spare places are there, and what comes later finds room among what waits.
+-- The equipment is what all frames that were sent made of it, the spare places are there, and what comes later finds
+-- room among what waits.
 pub record IsSimBus (bus : Inside) : Type 0 where
   pub kept : IsKept (setup_of bus.equipment) (reverse bus.sent.items) bus.equipment
   pub sent_spare : vec_len bus.sent + bus.spare ≤ vec_capacity bus.sent

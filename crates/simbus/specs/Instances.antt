@@ -8,7 +8,8 @@ use Rattle.daliframe.specs.declared.schemes.EventScheme.{EventScheme}
 use Rattle.daliframe.specs.EventSchemes.{scheme_number}
 use Rattle.scenario.specs.Saying.{scheme_with}
 use Rattle.simbus.specs.declared.instances.DeviceCommand.{DeviceCommand}
-use Rattle.simbus.specs.declared.instances.DeviceCommand.TheVariants.{Enable, Disable, SetEventScheme, QueryInstanceType}
+use Rattle.simbus.specs.declared.instances.DeviceCommand.TheVariants.{Enable, Disable, SetEventScheme}
+use Rattle.simbus.specs.declared.instances.DeviceCommand.TheVariants.{QueryInstanceType}
 use Rattle.simbus.specs.declared.instances.DeviceCommand.TheVariants.{QueryEventScheme, QueryInputValue, Nothing}
 use Rattle.simbus.specs.declared.instances.Instance.{Instance}
 use Rattle.simbus.specs.declared.instances.InstanceVariables.{InstanceVariables}
@@ -58,7 +59,8 @@ instance_after_fields is_pair dtr0 instance fields v = after_device_command is_p
 -- after a frame: those of 16 bits are not for devices
 abbrev pub instance_after_frame : Bool → ℕ → Instance → Frame → InstanceVariables → InstanceVariables
 instance_after_frame is_pair dtr0 instance (Forward16 frame) v = v
-instance_after_frame is_pair dtr0 instance (Forward24 frame) v = instance_after_fields is_pair dtr0 instance (device_fields_of frame) v
+instance_after_frame is_pair dtr0 instance (Forward24 frame) v =
+    instance_after_fields is_pair dtr0 instance (device_fields_of frame) v
 
 -- DTR0 of the control devices: `C1 30 d` sets it in all of them
 abbrev pub dtr0_after_fields : Fields24 → ℕ → ℕ

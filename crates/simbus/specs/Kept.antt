@@ -78,7 +78,8 @@ pub record IsAfterGearFields (is_pair : Bool) (fields : Fields16) (old new : Equ
 pub record IsAfterDeviceFields (is_pair : Bool) (fields : Fields24) (old new : Equipment) : Type 0 where
   pub gears : new.gears.items ≡ old.gears.items
   pub memory : new.memory.items ≡ old.memory.items
-  pub instances : new.instances.items ≡ map (live_instance_after_fields is_pair old.device_dtr0 fields) old.instances.items
+  pub instances : new.instances.items ≡ map
+      (live_instance_after_fields is_pair old.device_dtr0 fields) old.instances.items
   pub dtr0 : new.device_dtr0 ≡ dtr0_after_fields fields old.device_dtr0
   pub begun : new.begun ≡ old.begun
 

@@ -17,7 +17,8 @@ has_lamp_failure bus gear _ = false
 
 -- gear at a short address, whose lamp failed where one of these entries says so
 abbrev pub gear_with_lamp : ℕ → List Entry → ℕ → Gear
-gear_with_lamp bus entries address = record { address = address; lamp_failure = list_any (has_lamp_failure bus address) entries }
+gear_with_lamp bus entries address =
+    record { address = address; lamp_failure = list_any (has_lamp_failure bus address) entries }
 
 -- what an entry, one of these, says of this bus: gear, with its lamp
 abbrev pub gear_on : ℕ → List Entry → Entry → Option Gear
@@ -31,7 +32,8 @@ memory_on bus _ = None
 
 abbrev pub instance_on : ℕ → Entry → Option Instance
 instance_on bus (entry.Instance on short number kind scheme value) =
-    if on == bus then Some (record { address = short; number = number; instance_type = kind; scheme = scheme; value = value }) else None
+    if on == bus then Some
+        (record { address = short; number = number; instance_type = kind; scheme = scheme; value = value }) else None
 instance_on bus _ = None
 
 abbrev pub reply_on : ℕ → Entry → Option ScriptedReply

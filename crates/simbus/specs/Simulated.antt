@@ -1,5 +1,6 @@
 -- A simulated bus as its callers see it.
-use Rattle.std.specs.Prelude.{◌≡◌, ℕ, ◌+◌, ◌==◌, false, Option, Some, None, option_map, Result, Ok, IsErr, List, [], ◌∷◌, length, reverse, find, drop, ◌++◌}
+use Rattle.std.specs.Prelude.{◌≡◌, ℕ, ◌+◌, ◌==◌, false, Option, Some, None, option_map, Result, Ok, IsErr, List, []}
+use Rattle.std.specs.Prelude.{◌∷◌, length, reverse, find, drop, ◌++◌}
 use Rattle.daliframe.specs.declared.forward.Frame.{Frame}
 use Rattle.transact.specs.declared.marks.Reply.{Reply}
 use Rattle.transact.specs.declared.marks.Reply.TheVariants as reply
@@ -40,7 +41,8 @@ new_bus setup script arrivals = record {
 
 -- what the script says of the frame at a place, from 1
 abbrev pub fate_at : List ScriptedReply → ℕ → Option FrameFate
-fate_at script place = option_map (λ (r : ScriptedReply). r.fate) (find (λ (r : ScriptedReply). r.place == place) script)
+fate_at script place =
+    option_map (λ (r : ScriptedReply). r.fate) (find (λ (r : ScriptedReply). r.place == place) script)
 
 -- what a frame comes to where the gear and devices would answer this
 abbrev pub SendsBy : Option FrameFate → Reply → Result Reply Fault → Type 0

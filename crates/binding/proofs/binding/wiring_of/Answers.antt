@@ -14,7 +14,8 @@ lines-preserved c =
       | then-not-is_skipped+in-Some w ↦
           record {
             room = omega arith;
-            read = told_read c.args.bytes.now c.lines.rest.now after c.lines.told now c.lines.line line w.in-Some.binding read first w.in-Some.ensures w.told-is;
+            read = told_read c.args.bytes.now c.lines.rest.now after c.lines.told now c.lines.line line
+                w.in-Some.binding read first w.in-Some.ensures w.told-is;
           }
       | else-not-is_skipped w ↦
           let skipped : c.is_skipped.result ≡ true = w.if-not-is_skipped.false in

@@ -5,7 +5,8 @@ use Rattle.transact.proofs.reports.Report.of.Goals as goal
 pub invariant_of-result : goal.invariant_of-result
 invariant_of-result c = (
   c.args.marks.now,
-  report_of_read c.args.transaction.now c.copied.result c.args.marks.now c.new-attempts.result.items c.read_attempts.new.sent.items c.in_ok-last.last c.of.result
+  report_of_read c.args.transaction.now c.copied.result c.args.marks.now c.new-attempts.result.items
+      c.read_attempts.new.sent.items c.in_ok-last.last c.of.result
       c.in_ok-last.ensures c.new-attempts.ensures c.copied.ensures c.of.ensures,
 )
 
