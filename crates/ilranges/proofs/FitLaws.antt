@@ -1,5 +1,5 @@
 -- What holds by an entry holds by each wider one, and values in their types are as the first entry says.
-use Rattle.std.proofs.Common.{List, [], ◌∷◌, Option, Some, None, ◌∙◌}
+use Rattle.std.proofs.Common.{List, [], ◌∷◌, Option, Some, None, ◌∙◌, subst}
 use Rattle.std.specs.Prelude.{map}
 use Rattle.std.specs.List.{AllZip}
 use Rattle.iltypes.specs.declared.value.IlType.{IlType}
@@ -9,10 +9,12 @@ use Rattle.iltypes.specs.declared.value.Value.TheVariants as values
 use Rattle.iltypes.specs.Values.{IsOf, AreOf}
 use Rattle.ilcode.specs.declared.nesting.Opened.{Opened}
 use Rattle.ilranges.specs.declared.known.Known.{Known}
+use Rattle.ilranges.specs.declared.mark.Mark.{Mark}
 use Rattle.ilranges.specs.declared.nesting.KnownOpened.{KnownOpened}
 use Rattle.ilranges.specs.Knowns.{IsKnown, IsKnownWithin, known_of_type}
 use Rattle.ilranges.specs.Entries.{IsResultInto, IsOpenedInto}
 use Rattle.ilranges.specs.Fits.{IsResultKnown, IsOpenedKnown}
+use Rattle.ilranges.specs.Marks.{IsMarked, IsMarkInto}
 use Rattle.ilranges.specs.WordLaws.{IsFitAtStart, IsFitWider}
 use Rattle.ilranges.proofs.Monotone.{known_wider}
 
@@ -45,11 +47,18 @@ opened_wider opened known wider h w = record {
   saved = value_wider opened.saved known.saved wider.saved h.saved w.saved;
 }
 
+mark_wider : (slots : List Value) (result : Option Value) (mark wider : Option Mark) → IsMarked slots result mark
+    → IsMarkInto mark wider → IsMarked slots result wider
+mark_wider slots result mark None h w = tt
+mark_wider slots result None (Some wider) h w = absurd w
+mark_wider slots result (Some mark) (Some wider) h w = subst (λ (m : Mark). IsMarked slots result (Some m)) w h
+
 pub fit_wider : IsFitWider
 fit_wider code entry wider c i f = record {
   typed = f.typed;
   slots = zip_through IsKnown IsKnownWithin value_wider c.slots entry.slots wider.slots f.slots i.slots;
   result = result_wider c.result entry.result wider.result f.result i.result;
+  mark = mark_wider c.slots c.result entry.mark wider.mark f.mark i.mark;
   nesting = zip_through IsOpenedKnown IsOpenedInto opened_wider c.nesting entry.nesting wider.nesting f.nesting
       i.nesting;
 }
@@ -68,4 +77,4 @@ all_known (value ∷ slots) [] h = absurd h
 all_known (value ∷ slots) (type ∷ more) h = (of_known value type h.0, all_known slots more h.1)
 
 pub fit_start : IsFitAtStart
-fit_start code slots a = record { typed = a; slots = all_known slots code.slots a; result = tt; nesting = tt }
+fit_start code slots a = record { typed = a; slots = all_known slots code.slots a; result = tt; mark = tt; nesting = tt }

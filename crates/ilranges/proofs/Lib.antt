@@ -4,9 +4,11 @@ pub mod Exact
 pub mod FitLaws
 pub mod Functions
 pub mod Joins
+pub mod JumpLaws
 pub mod Lawful
 pub mod Least
 pub mod LeastStores
+pub mod MarkLaws
 pub mod Marking
 pub mod Monotone
 pub mod MonotoneFunctions

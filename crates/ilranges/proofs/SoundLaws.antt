@@ -1,7 +1,7 @@
 -- From each configuration that is as the entry says a word that has a rule is defined, and leaves what the rule says.
 use Rattle.std.proofs.Common.{◌≡◌, ℕ, zero, suc, ◌+◌, ◌<◌, Bool, true, false, cond, List, [], ◌∷◌, length}
 use Rattle.std.proofs.Common.{Option, Some, None, refl, sym, ap, ◌∙◌, subst, arith, inl, inr}
-use Rattle.std.specs.Prelude.{slice_get, slice_set, nat_lt, ⊤}
+use Rattle.std.specs.Prelude.{IsTrue, slice_get, slice_set, nat_lt, ⊤}
 use Rattle.std.specs.List.{AllZip}
 use Rattle.std.specs.Option.{option_map, option_and_then}
 use Rattle.std.proofs.lemmas.Bool.{cases_lt}
@@ -28,11 +28,12 @@ use Rattle.ilcode.specs.declared.instruction.Instruction.{Instruction}
 use Rattle.ilcode.specs.declared.instruction.Instruction.TheVariants as words
 use Rattle.ilcode.specs.Listings.{Listing}
 use Rattle.ilcode.specs.Steps.{Configuration, at, opened, value_of, with_result, with_slots, sets}
-use Rattle.ilcode.specs.Steps.{opens, closes, effect}
+use Rattle.ilcode.specs.Steps.{opens, closes, effect, is_target}
 use Rattle.ilranges.specs.declared.cause.Cause.TheVariants as causes
 use Rattle.ilranges.specs.declared.entry.Entry.{Entry}
 use Rattle.ilranges.specs.declared.known.Known.{Known}
 use Rattle.ilranges.specs.declared.known.Known.TheVariants as knowns
+use Rattle.ilranges.specs.declared.mark.Mark.{Mark}
 use Rattle.ilranges.specs.declared.nesting.KnownOpened.{KnownOpened}
 use Rattle.ilranges.specs.Entries.{known_of}
 use Rattle.ilranges.specs.Fits.{IsResultKnown, IsOpenedKnown, Fits}
@@ -40,8 +41,12 @@ use Rattle.ilranges.specs.Functions.{IsAfterFunction}
 use Rattle.ilranges.specs.Knowns.{IsKnown, known_of_value}
 use Rattle.ilranges.specs.Results.{IsAfter}
 use Rattle.ilranges.specs.Rules.{IsModified, IsLoaded, IsApplied, IsTransformed, IsStored, MaySet, Gives, Writes}
-use Rattle.ilranges.specs.Rules.{Opens, Closes, IsRule}
+use Rattle.ilranges.specs.Marks.{IsMarked, mark_of_load, constant_of, mark_of_apply, mark_of_function}
+use Rattle.ilranges.specs.Refusals.{open_after}
+use Rattle.ilranges.specs.Rules.{Opens, Closes, IsRule, IsEntryAfter, unmarked}
 use Rattle.ilranges.specs.WordLaws.{IsSoundAt}
+use Rattle.ilranges.proofs.JumpLaws.{jump_goes}
+use Rattle.ilranges.proofs.MarkLaws.{load_marked, apply_marked, function_marked, store_marked, truth_marked}
 use Rattle.ilranges.proofs.Monotone.{given}
 
 -- ---- values that are known
@@ -135,18 +140,30 @@ pub record Leaves (code : Listing) (c : Configuration) (effect : Option Configur
   pub leads : to.place ≡ c.place + 1
   pub fits : Fits code after to
 
+-- what the mark says of a value that is given
+abbrev IsMarkedSo : List Value → Option Value → (Known → Option Mark) → Type 0
+IsMarkedSo slots value mark_of =
+    (known : Known) (v : Value) → value ≡ Some v → IsKnown v known → IsMarked slots (Some v) (mark_of known)
+
 gives : (code : Listing) (entry after : Entry) (c : Configuration) (nesting : List Opened)
-    (waits : List KnownOpened) (IsGiven : Known → Type 0) (value : Option Value) → Fits code entry c
-    → AllZip IsOpenedKnown nesting waits → ((known : Known) → IsGiven known → Has value known)
-    → Gives entry waits IsGiven after → Leaves code c (with_result c nesting value) after
-gives code entry after c nesting waits IsGiven value f n has g =
+    (waits : List KnownOpened) (mark_of : Known → Option Mark) (IsGiven : Known → Type 0) (value : Option Value)
+    → Fits code entry c → AllZip IsOpenedKnown nesting waits → ((known : Known) → IsGiven known → Has value known)
+    → IsMarkedSo c.slots value mark_of → Gives entry waits mark_of IsGiven after
+    → Leaves code c (with_result c nesting value) after
+gives code entry after c nesting waits mark_of IsGiven value f n has marked g =
     let h = has g.known g.given in
     record {
       to = at (c.place + 1) c.slots (Some h.v) nesting;
       is = ap (with_result c nesting) h.is;
       leads = refl;
       fits = subst (λ (e : Entry). Fits code e (at (c.place + 1) c.slots (Some h.v) nesting)) (sym g.is)
-          (record { typed = f.typed; slots = f.slots; result = h.lies; nesting = n });
+          (record {
+            typed = f.typed;
+            slots = f.slots;
+            result = h.lies;
+            mark = marked g.known h.v h.is h.lies;
+            nesting = n;
+          });
     }
 
 -- ---- words that write to a slot
@@ -198,11 +215,14 @@ stored_has types slot negated (Some x) (Some result) (Some type) known e p h =
     let m = modified_has negated x result known p h.0 in
     record { v = m.v; is = m.is; lies = m.lies; type = type; declared = e; of = h.1 m.v m.lies }
 
-writes : (code : Listing) (entry after : Entry) (c : Configuration) (slot : ℕ) (IsWritten : Known → Type 0)
-    (value : Option Value) → Fits code entry c
-    → ((known : Known) → IsWritten known → Stores code.slots slot value known) → Writes entry slot IsWritten after
-    → Leaves code c (with_slots c (option_and_then (written code.slots c.slots slot) value)) after
-writes code entry after c slot IsWritten value f has g =
+writes : (code : Listing) (entry after : Entry) (c : Configuration) (slot : ℕ) (negated : Bool)
+    (IsWritten : Known → Type 0) → Fits code entry c
+    → ((known : Known) → IsWritten known
+    → Stores code.slots slot (option_and_then (modified negated) c.result) known) → Writes entry slot IsWritten after
+    → Leaves code c
+    (with_slots c (option_and_then (written code.slots c.slots slot) (option_and_then (modified negated) c.result)))
+    after
+writes code entry after c slot negated IsWritten f has g =
     let h = has g.stored g.written in
     let to = at (c.place + 1) (slice_set c.slots slot h.v) c.result c.nesting in
     record {
@@ -214,6 +234,8 @@ writes code entry after c slot IsWritten value f has g =
         typed = set_typed c.slots code.slots slot h.v h.type f.typed h.declared h.of;
         slots = set_known c.slots entry.slots slot h.v g.stored f.slots h.lies;
         result = f.result;
+        mark = store_marked c.slots code.slots c.result entry.mark slot negated h.v h.type f.typed h.declared h.of h.is
+            f.mark;
         nesting = f.nesting;
       });
     }
@@ -256,17 +278,17 @@ truth_known (v ∷ vs) (t ∷ ts) (k ∷ ks) zero b a e h =
     (other_truth v k b (subst (IsOf v) q a.0) h.0, h.1)
 truth_known (v ∷ vs) (t ∷ ts) (k ∷ ks) (suc slot) b a e h = (h.0, truth_known vs ts ks slot b a.1 e h.1)
 
-sets_by : (code : Listing) (entry after : Entry) (c : Configuration) (slot : ℕ) (truth b : Bool) → Fits code entry c
-    → slice_get code.slots slot ≡ Some types.Bool → after ≡ entry
-    → Leaves code c (sets code c slot truth (Some (values.Bool b))) after
-sets_by code entry after c slot truth false f e p = record {
+sets_by : (code : Listing) (entry after : Entry) (c : Configuration) (slot : ℕ) (truth b outcome : Bool)
+    → Fits code entry c → c.result ≡ Some (values.Bool outcome) → slice_get code.slots slot ≡ Some types.Bool
+    → after ≡ entry → Leaves code c (sets code c slot truth (Some (values.Bool b))) after
+sets_by code entry after c slot truth false outcome f r e p = record {
   to = at (c.place + 1) c.slots c.result c.nesting;
   is = refl;
   leads = refl;
   fits = subst (λ (e : Entry). Fits code e (at (c.place + 1) c.slots c.result c.nesting)) (sym p)
-      (record { typed = f.typed; slots = f.slots; result = f.result; nesting = f.nesting });
+      (record { typed = f.typed; slots = f.slots; result = f.result; mark = f.mark; nesting = f.nesting });
 }
-sets_by code entry after c slot truth true f e p =
+sets_by code entry after c slot truth true outcome f r e p =
     let v = values.Bool truth in
     let to = at (c.place + 1) (slice_set c.slots slot v) c.result c.nesting in
     record {
@@ -277,6 +299,7 @@ sets_by code entry after c slot truth true f e p =
         typed = set_typed c.slots code.slots slot v types.Bool f.typed e tt;
         slots = truth_known c.slots code.slots entry.slots slot truth f.typed e f.slots;
         result = f.result;
+        mark = truth_marked c.slots code.slots c.result entry.mark slot truth outcome f.typed e r f.mark;
         nesting = f.nesting;
       });
     }
@@ -287,7 +310,7 @@ sets_all : (code : Listing) (entry after : Entry) (c : Configuration) (slot : �
 sets_all code entry after c slot truth f h p =
     let t = truth_of c.result entry.result (slice_get code.slots slot) f.result h in
     subst (λ (v : Option Value). Leaves code c (sets code c slot truth v) after) (sym t.1)
-    (sets_by code entry after c slot truth t.0 f (bool_slot entry.result (slice_get code.slots slot) h) p)
+    (sets_by code entry after c slot truth t.0 t.0 f t.1 (bool_slot entry.result (slice_get code.slots slot) h) p)
 
 -- ---- parentheses
 
@@ -307,6 +330,7 @@ opens_by code entry after c operator (Some value) (Some known) f room k h =
         typed = f.typed;
         slots = f.slots;
         result = tt;
+        mark = tt;
         nesting = (record { operator = refl; saved = k }, f.nesting);
       });
     }
@@ -317,43 +341,64 @@ closes_by : (code : Listing) (entry after : Entry) (c : Configuration) (nesting 
 closes_by code entry after c nesting [] f n h = absurd h
 closes_by code entry after c [] (x ∷ xs) f n h = absurd n
 closes_by code entry after c (o ∷ os) (x ∷ xs) f n h =
-    gives code entry after c os xs _ (both o.operator (Some o.saved) c.result) f n.1
+    gives code entry after c os xs unmarked _ (both o.operator (Some o.saved) c.result) f n.1
     (λ known p. applied_has o.operator (Some o.saved) c.result (Some x.saved) entry.result known n.0.saved f.result
-    (subst (λ (w : Operator). IsApplied w (Some x.saved) entry.result known) (sym n.0.operator) p)) h
+    (subst (λ (w : Operator). IsApplied w (Some x.saved) entry.result known) (sym n.0.operator) p))
+    (λ known v e k. tt) h
 
 -- ---- each word
 
 leaves : (code : Listing) (entry after : Entry) (c : Configuration) (word : Instruction)
-    → IsRule code c.place entry word after → Fits code entry c → Leaves code c (effect code c word) after
-leaves code entry after c (words.Load negated operand) rule f =
-    gives code entry after c c.nesting entry.nesting _ _ f f.nesting
+    → ¬ (most_nesting < open_after word (length entry.nesting)) → IsEntryAfter code entry word after
+    → Fits code entry c → Leaves code c (effect code c word) after
+leaves code entry after c (words.Load negated operand) n h f =
+    gives code entry after c c.nesting entry.nesting (mark_of_load negated operand) _ _ f f.nesting
     (λ known. loaded_has negated (value_of code c.slots operand) (known_of code entry operand) known
-    (operand_known code entry c operand f)) rule.leaves
-leaves code entry after c (words.Apply operator operand) rule f =
-    gives code entry after c c.nesting entry.nesting _ _ f f.nesting
+    (operand_known code entry c operand f)) (λ known v. load_marked code c.slots negated operand known v) h
+leaves code entry after c (words.Apply operator operand) n h f =
+    gives code entry after c c.nesting entry.nesting
+    (λ known. mark_of_apply entry.mark operator (constant_of code operand)) _ _ f f.nesting
     (λ known. applied_has operator c.result (value_of code c.slots operand) entry.result (known_of code entry operand)
-    known f.result (result_of_operand _ _ (operand_known code entry c operand f))) rule.leaves
-leaves code entry after c (words.Transform function) rule f =
-    gives code entry after c c.nesting entry.nesting _ _ f f.nesting
-    (λ known. transformed_has function c.result entry.result known f.result) rule.leaves
-leaves code entry after c (words.Store negated slot) rule f =
-    writes code entry after c slot _ _ f
+    known f.result (result_of_operand _ _ (operand_known code entry c operand f)))
+    (λ known v e k. apply_marked code c.slots c.result entry.mark operator operand v f.mark e) h
+leaves code entry after c (words.Transform function) n h f =
+    gives code entry after c c.nesting entry.nesting (λ known. mark_of_function entry.mark function) _ _ f f.nesting
+    (λ known. transformed_has function c.result entry.result known f.result)
+    (λ known v e k. function_marked c.slots c.result entry.mark function v f.mark e) h
+leaves code entry after c (words.Store negated slot) n h f =
+    writes code entry after c slot negated _ f
     (λ known. stored_has code.slots slot negated c.result entry.result (slice_get code.slots slot) known refl f.result)
-    rule.leaves
-leaves code entry after c (words.Set slot) rule f = sets_all code entry after c slot true f rule.leaves.0 rule.leaves.1
-leaves code entry after c (words.Reset slot) rule f =
-    sets_all code entry after c slot false f rule.leaves.0 rule.leaves.1
-leaves code entry after c (words.Open operator) rule f =
+    h
+leaves code entry after c (words.Set slot) n h f = sets_all code entry after c slot true f h.0 h.1
+leaves code entry after c (words.Reset slot) n h f = sets_all code entry after c slot false f h.0 h.1
+leaves code entry after c (words.Open operator) n h f =
     let l = AllZip-long IsOpenedKnown c.nesting entry.nesting f.nesting in
     let room : length c.nesting < most_nesting = elim (cases_lt (length c.nesting) most_nesting) [
       | inl lt ↦ lt
-      | inr ge ↦ absurd (rule.lawful causes.OpenNesting (inr (omega arith)))
+      | inr ge ↦ absurd (n (omega arith))
     ] in
-    opens_by code entry after c operator c.result entry.result f room f.result rule.leaves
-leaves code entry after c words.Close rule f =
-    closes_by code entry after c c.nesting entry.nesting f f.nesting rule.leaves
+    opens_by code entry after c operator c.result entry.result f room f.result h
+leaves code entry after c words.Close n h f = closes_by code entry after c c.nesting entry.nesting f f.nesting h
+leaves code entry after c (words.Jump condition target) n h f = absurd h
+
+-- nothing is open where a jump stands
+nothing_open : (opens : List Opened) (waits : List KnownOpened) → AllZip IsOpenedKnown opens waits
+    → ¬ (0 < length waits) → opens ≡ []
+nothing_open [] waits h n = refl
+nothing_open (x ∷ xs) [] h n = absurd h
+nothing_open (x ∷ xs) (y ∷ ys) h n = absurd (n (omega arith))
+
+lawful_target : (b : Bool) → ¬ ¬ IsTrue b → b ≡ true
+lawful_target true n = refl
+lawful_target false n = absurd (n (λ h. let k : ⊥ = cc in k))
 
 pub sound : (word : Instruction) → IsSoundAt word
-sound word code entry after c rule f =
-    let l = leaves code entry after c word rule f in
-    record { to = l.to; is = l.is; leads = l.leads; fits = l.fits }
+sound (words.Jump condition target) code met entry ways c rule f =
+    jump_goes code c entry condition target ways f
+    (lawful_target (is_target code c.place target) (rule.lawful causes.BadJump))
+    (nothing_open c.nesting entry.nesting f.nesting (λ s. rule.lawful causes.OpenNesting (inl (s, tt))))
+    (rule.lawful causes.NoResult) (rule.lawful causes.WrongType) rule.leaves
+sound word code met entry ways c rule f =
+    let g = rule.leaves in
+    let l = leaves code entry g.after c word (λ s. rule.lawful causes.OpenNesting (inr s)) g.leaves f in
+    record { to = l.to; is = l.is; leads = l.leads; after = g.after; way = (l.leads, g.next); fits = l.fits }

@@ -19,7 +19,7 @@ mod jump;
 mod known;
 mod law;
 mod mark;
-mod marking;
+mod marks;
 mod nesting;
 mod rules;
 mod slots;

@@ -17,7 +17,7 @@ use crate::change::{Change, Changes};
 use crate::entry::Entry;
 use crate::jump::{check_jump, jump};
 use crate::known::Known;
-use crate::marking::{constant_of, mark_of_apply, mark_of_function, mark_of_load};
+use crate::marks::{constant_of, mark_of_apply, mark_of_function, mark_of_load};
 use crate::nesting::KnownOpened;
 use crate::rules;
 use ilcode::{Code, Instruction, Operand};
@@ -127,12 +127,15 @@ pub(crate) fn is_start(code: &Code, place: usize) -> bool
     code.starts().contains(&place)
 }
 
-/// Whether nothing may be open at the place: a program begins there, the code ends, or, by `met`, a
-/// jump leads there.
-fn is_closed_at(code: &Code, place: usize, met: bool) -> bool
-    ensures { IsTrue result ↔ IsClosedAt code.now place met }
+/// Whether nothing may be open after the place: a program begins at the next one, the code ends, or,
+/// by `met`, a jump leads there.
+fn is_closed_after(code: &Code, place: usize, met: bool) -> bool
+    requires { place < length code.now.instructions }
+    ensures { IsTrue result ↔ IsClosedAt code.now (place + 1) met }
 {
-    is_start(code, place) || place == code.instructions().len() || met
+    let end = code.instructions().len();
+    let next = place + 1;
+    is_start(code, next) || next == end || met
 }
 
 /// Whether nothing may be open after the word at the place.
@@ -142,7 +145,7 @@ fn has_to_close(code: &Code, place: usize, met: bool, word: Instruction) -> bool
 {
     match word {
         Instruction::Jump { .. } => true,
-        _ => is_closed_at(code, place + 1, met),
+        _ => is_closed_after(code, place, met),
     }
 }
 
