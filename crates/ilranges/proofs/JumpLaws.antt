@@ -124,19 +124,19 @@ placed : (code : Listing) (c : Configuration) (entry : Entry) (place : ℕ) → 
 placed code c entry place f =
     record { typed = f.typed; slots = f.slots; result = f.result; mark = f.mark; nesting = f.nesting }
 
-jumps_closed : (c : Configuration) (target : ℕ) (nesting : List Opened) (met : Option Bool) → nesting ≡ []
-    → jumps c target nesting met ≡ chosen met (Some (goes_to c target)) (Some (goes_to c (c.place + 1)))
-jumps_closed c target [] met e = refl
-jumps_closed c target (innermost ∷ nesting) met e = absurd (cc)
+jumps_closed : (code : Listing) (c : Configuration) (target : ℕ) (nesting : List Opened) (met : Option Bool)
+    → is_target code c.place target ≡ true → nesting ≡ []
+    → jumps code c target nesting met ≡ chosen met (Some (goes_to c target)) (Some (goes_to c (c.place + 1)))
+jumps_closed code c target [] met l e =
+    ap (λ (b : Bool). chosen met (cond b (Some (goes_to c target)) None) (Some (goes_to c (c.place + 1)))) l
+jumps_closed code c target (innermost ∷ nesting) met l e = absurd (cc)
 
 -- a lawful jump where nothing is open goes by its condition
 jump_is : (code : Listing) (c : Configuration) (condition : Condition) (target : ℕ)
     → is_target code c.place target ≡ true → c.nesting ≡ []
     → effect code c (words.Jump condition target)
     ≡ chosen (holds condition c.result) (Some (goes_to c target)) (Some (goes_to c (c.place + 1)))
-jump_is code c condition target l n =
-    ap (λ (b : Bool). cond b (jumps c target c.nesting (holds condition c.result)) None) l
-    ∙ jumps_closed c target c.nesting (holds condition c.result) n
+jump_is code c condition target l n = jumps_closed code c target c.nesting (holds condition c.result) l n
 
 -- by whether the condition is met
 met_is : (code : Listing) (c : Configuration) (condition : Condition) (target : ℕ) (met : Bool)
