@@ -1,6 +1,9 @@
 pub mod Bounds
+mod Forward
+mod Growth
 mod Lists
 mod Order
-mod Pass
+mod Pending
 pub mod Refusals
 mod Soundness
+mod Ways

@@ -9,7 +9,7 @@ use Rattle.ilranges.specs.Causes.{IsLeastCause}
 use Rattle.ilranges.specs.declared.entry.Entry.{Entry}
 use Rattle.ilranges.specs.Entries.{IsInto}
 use Rattle.ilranges.specs.Refusals.{ArisesAtWord}
-use Rattle.ilverify.specs.declared.verifier.Refusal.{Refusal}
+use Rattle.ilverify.specs.declared.refusal.Refusal.{Refusal}
 use Rattle.ilverify.specs.Certificates.{Certificate, Leads, IsClosest, IsRefusal}
 use Rattle.ilranges.proofs.OneCause.{one_cause}
 use Rattle.ilverify.proofs.Order.{same_entry}

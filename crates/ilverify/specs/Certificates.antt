@@ -10,9 +10,9 @@ use Rattle.ilranges.specs.declared.nesting.KnownOpened.{KnownOpened}
 use Rattle.ilranges.specs.Entries.{IsInto, opening}
 use Rattle.ilranges.specs.Refusals.{ArisesAtWord}
 use Rattle.ilranges.specs.Rules.{Ways, IsWay, IsRule}
-use Rattle.ilverify.specs.declared.verifier.Refusal.{Refusal}
-use Rattle.ilverify.specs.declared.verifier.VerifyError.{VerifyError}
-use Rattle.ilverify.specs.declared.verifier.VerifyError.TheVariants.{Memory, Refused}
+use Rattle.ilverify.specs.declared.refusal.Refusal.{Refusal}
+use Rattle.ilverify.specs.declared.refusal.VerifyError.{VerifyError}
+use Rattle.ilverify.specs.declared.refusal.VerifyError.TheVariants.{Memory, Refused}
 
 -- an entry for each word: none where the word is not reached
 abbrev pub Certificate : Type 0

@@ -5,7 +5,7 @@ use Rattle.iltypes.specs.declared.range.Range.{Range}
 use Rattle.ilranges.specs.declared.cause.Cause.{Cause}
 use Rattle.ilranges.specs.declared.cause.Cause.TheVariants.{OutOfRange}
 use Rattle.ilranges.specs.Causes.{number_of}
-use Rattle.ilverify.specs.declared.verifier.Refusal.{Refusal}
+use Rattle.ilverify.specs.declared.refusal.Refusal.{Refusal}
 
 -- both limits, with two dots between them
 abbrev pub printed_range : Range → List ℕ

@@ -12,11 +12,14 @@
 #![tactic(auto)]
 
 mod bound;
+mod pass;
+mod refusal;
 mod verified;
 mod verifier;
 
+pub use refusal::{Refusal, VerifyError};
 pub use verified::Verified;
-pub use verifier::{Refusal, VerifyError, verify};
+pub use verifier::verify;
 
 #[cfg(test)]
 mod tests;

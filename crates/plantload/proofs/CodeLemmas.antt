@@ -12,8 +12,8 @@ use Rattle.std.proofs.lemmas.Slice.Zip.{AllZip-left, AllZip-long, AllZip-right, 
 use Rattle.ilcode.specs.Listings.{Listing}
 use Rattle.ilcode.specs.Paths.{IsBound}
 use Rattle.ilplan.specs.Plans.{Planned, PlannedTask}
-use Rattle.ilverify.specs.declared.verifier.VerifyError.{VerifyError}
-use Rattle.ilverify.specs.declared.verifier.VerifyError.TheVariants as verify_errors
+use Rattle.ilverify.specs.declared.refusal.VerifyError.{VerifyError}
+use Rattle.ilverify.specs.declared.refusal.VerifyError.TheVariants as verify_errors
 use Rattle.ilverify.specs.Certificates.{IsCertified, IsError, IsRefusal}
 use Rattle.ilverify.specs.Verdicts.{Accepted}
 use Rattle.plantload.specs.Loaded.{AreCodes, IsCodeOf, accepted_of, listing_for}

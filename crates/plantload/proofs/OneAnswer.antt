@@ -17,7 +17,7 @@ use Rattle.ilscope.proofs.OneFault.{one_report}
 use Rattle.ilcode.specs.declared.instruction.Instruction.{Instruction}
 use Rattle.ilcode.specs.Listings.{Listing}
 use Rattle.ilcode.specs.Paths.{IsBound}
-use Rattle.ilverify.specs.declared.verifier.Refusal.{Refusal}
+use Rattle.ilverify.specs.declared.refusal.Refusal.{Refusal}
 use Rattle.ilverify.specs.Certificates.{IsRefusal}
 use Rattle.ilverify.specs.Verdicts.{Accepted}
 use Rattle.ilverify.proofs.Refusals.{same_refusal}

@@ -9,7 +9,7 @@ use Rattle.ilplan.specs.Plans.{Planned, PlannedTask}
 use Rattle.ilcode.specs.Listings.{Listing}
 use Rattle.ilcode.specs.Paths.{IsBound}
 use Rattle.ilcompile.specs.Layout.{laid_out}
-use Rattle.ilverify.specs.declared.verifier.Refusal.{Refusal}
+use Rattle.ilverify.specs.declared.refusal.Refusal.{Refusal}
 use Rattle.ilverify.specs.Certificates.{IsCertified}
 use Rattle.ilverify.specs.Verdicts.{Accepted}
 

@@ -7,7 +7,7 @@ use Rattle.ilscope.specs.Reports.{ReportsLeast}
 use Rattle.ilplan.specs.Plans.{Planned, PlannedTask}
 use Rattle.ilsyms.specs.Faults.{IsFault, IsWellNamed}
 use Rattle.ilsyms.specs.Resolved.{plan_of_tree}
-use Rattle.ilverify.specs.declared.verifier.Refusal.{Refusal}
+use Rattle.ilverify.specs.declared.refusal.Refusal.{Refusal}
 use Rattle.ilverify.specs.Certificates.{IsCertified, IsRefusal}
 use Rattle.plantload.specs.Loaded.{AreCodes, Loaded, listing_for}
 use Rattle.plantload.specs.declared.fault.LoadFault.{LoadFault}

@@ -7,8 +7,8 @@ use Rattle.ilscope.specs.declared.fault.NameFault.{NameFault}
 use Rattle.ilscope.specs.declared.fault.NameFault.TheVariants as name_faults
 use Rattle.ilscope.specs.Printed.{printed_name_fault}
 use Rattle.ilplan.specs.Plans.{Planned}
-use Rattle.ilverify.specs.declared.verifier.VerifyError.{VerifyError}
-use Rattle.ilverify.specs.declared.verifier.VerifyError.TheVariants as verify_errors
+use Rattle.ilverify.specs.declared.refusal.VerifyError.{VerifyError}
+use Rattle.ilverify.specs.declared.refusal.VerifyError.TheVariants as verify_errors
 use Rattle.plantload.specs.Loaded.{refused_of}
 use Rattle.plantload.specs.Printed.{printed_refused}
 use Rattle.plantload.specs.declared.fault.LoadFault.{LoadFault}

@@ -1,0 +1,197 @@
+//! One pass forward over the words of a code.
+//!
+//! The pass keeps an entry for each later place that is reached, and joins in it what is known on
+//! each way that leads there. It takes a word's entry when it comes to the word, and keeps it no
+//! longer. So the certificate that the verdict speaks of stands in no memory: that there is one
+//! which says most, and in which the later places have these entries, is what the contracts say
+//! (`IsFound`). Entries share the ranges that no word between them has changed.
+
+ghost use Rattle.std.specs.Prelude.{◌≡◌, ◌+◌, ◌<◌, length, slice_get, replicate, None};
+ghost use Rattle.std.specs.Prelude.{IfOk, OnOk, MatchResult};
+ghost use Rattle.ilranges.specs.Changes.{changed, ways_of};
+ghost use Rattle.ilranges.specs.Entries.{arriving};
+ghost use Rattle.ilranges.specs.Rules.{IsRule};
+ghost use Rattle.ilverify.specs.Certificates.{is_met, IsCertified, IsError};
+ghost use Rattle.ilverify.specs.PassSteps.{CanMeet, CanMeetAt, CanMeetIf, IsMeetingOf, Meets, MeetsIf};
+ghost use Rattle.ilverify.specs.PassSteps.{arrived, target_of, AreTyped, AreBounded, AreFollowed};
+ghost use Rattle.ilverify.specs.PassSteps.{IsFound};
+
+use crate::refusal::{Refusal, VerifyError};
+use ilcode::{Code, Instruction};
+use ilranges::{Change, Changes, Entry, after_word};
+use std::alloc::{AllocError, Global};
+
+/// No place is reached, of so many.
+fn unreached(alloc: Global, count: usize) -> Result<Vec<Option<Entry>>, AllocError>
+    ensures { IfOk result (λ pending. pending.items ≡ replicate count None) }
+{
+    let mut pending = Vec::new(alloc);
+    for _place in 0..count {
+        pending.push(None)?;
+    }
+    Ok(pending)
+}
+
+/// Whether the place is reached, and nothing is open there.
+fn is_met(pending: &[Option<Entry>], place: usize) -> bool
+    ensures { result ≡ is_met pending.now place }
+{
+    match pending.get(place) {
+        Some(Some(entry)) => entry.nesting.len() == 0,
+        _ => false,
+    }
+}
+
+/// Where a jump leads, or the next place.
+fn target_of(place: usize, word: Instruction) -> usize
+    requires { place < 65536 }
+    ensures { result ≡ target_of place word }
+{
+    match word {
+        Instruction::Jump { target, .. } => target,
+        _ => place + 1,
+    }
+}
+
+/// What is known where this way meets those that led to the place before, if any did.
+fn join(old: Option<Entry>, way: Entry) -> Result<Entry, AllocError>
+    requires { CanMeet old way }
+    ensures { IfOk result (λ entry. IsMeetingOf old way entry) }
+{
+    let Some(mut entry) = old else {
+        return Ok(way);
+    };
+    entry.join(&way)?;
+    Ok(entry)
+}
+
+/// The way leads to the place, where that is a word's.
+fn meet(pending: &mut Vec<Option<Entry>>, place: usize, way: Entry) -> Result<(), AllocError>
+    requires { CanMeetAt (slice_get pending.old.items place) way }
+    ensures { OnOk result (Meets pending.old.items place way pending.new.items) }
+{
+    if place < pending.len() {
+        let old = pending[place].take();
+        pending[place] = Some(join(old, way)?);
+    }
+    Ok(())
+}
+
+/// What the word changes of the entry on the way to the place goes there.
+fn follow(
+    code: &Code,
+    pending: &mut Vec<Option<Entry>>,
+    place: usize,
+    entry: Entry,
+    change: Change,
+) -> Result<(), AllocError>
+    requires { CanMeetAt (slice_get pending.old.items place)
+        (arriving code.now place (changed entry change)) }
+    ensures { OnOk result (Meets pending.old.items place
+        (arriving code.now place (changed entry change)) pending.new.items) }
+{
+    let mut way = entry;
+    change.apply(&mut way)?;
+    way.arrive(code, place);
+    meet(pending, place, way)
+}
+
+/// The way of a jump to its target, if any value goes there.
+fn follow_target(
+    code: &Code,
+    pending: &mut Vec<Option<Entry>>,
+    place: usize,
+    entry: &Entry,
+    change: Option<Change>,
+) -> Result<(), AllocError>
+    requires { CanMeetIf (slice_get pending.old.items place)
+        (arrived code.now place entry.now change) }
+    ensures { OnOk result (MeetsIf pending.old.items place
+        (arrived code.now place entry.now change) pending.new.items) }
+{
+    let Some(change) = change else {
+        return Ok(());
+    };
+    let way = entry.share()?;
+    follow(code, pending, place, way, change)
+}
+
+/// The way to the next place, if any value goes there.
+fn follow_next(
+    code: &Code,
+    pending: &mut Vec<Option<Entry>>,
+    place: usize,
+    entry: Entry,
+    change: Option<Change>,
+) -> Result<(), AllocError>
+    requires { CanMeetIf (slice_get pending.old.items place)
+        (arrived code.now place entry change) }
+    ensures { OnOk result (MeetsIf pending.old.items place
+        (arrived code.now place entry change) pending.new.items) }
+{
+    let Some(change) = change else {
+        return Ok(());
+    };
+    follow(code, pending, place, entry, change)
+}
+
+/// What is known on each way from the word at the place goes where the way leads.
+fn follow_ways(
+    code: &Code,
+    pending: &mut Vec<Option<Entry>>,
+    place: usize,
+    word: Instruction,
+    entry: Entry,
+    changes: Changes,
+) -> Result<(), AllocError>
+    requires within { place < length code.now.instructions }
+    requires typed { AreTyped code.now entry.slots }
+    requires bounded { AreBounded code.now place pending.old.items }
+    requires rule { IsRule code.now place (is_met pending.old.items (place + 1)) entry word
+        (ways_of entry changes) }
+    ensures { OnOk result (AreFollowed code.now place word entry changes pending.old.items
+        pending.new.items) }
+{
+    let target = target_of(place, word);
+    follow_target(code, pending, target, &entry, changes.target)?;
+    follow_next(code, pending, place + 1, entry, changes.next)
+}
+
+/// Judges the word at the place, where it is reached, and follows the ways from it.
+fn advance(code: &Code, pending: &mut Vec<Option<Entry>>, place: usize) -> Result<(), VerifyError>
+    requires within { place < length code.now.instructions }
+    requires found { IsFound code.now place pending.old.items }
+    ensures { MatchResult result
+        (λ _. IsFound code.now (place + 1) pending.new.items)
+        (IsError code.now) }
+{
+    let Some(entry) = pending[place].take() else {
+        return Ok(());
+    };
+    let word = code.instructions()[place];
+    let met = is_met(pending, place + 1);
+    match after_word(code, place, met, &entry, word) {
+        Ok(changes) => {
+            follow_ways(code, pending, place, word, entry, changes).map_err(VerifyError::Memory)
+        }
+        Err(cause) => Err(VerifyError::Refused(Refusal {
+            word: place,
+            line: code.lines()[place],
+            cause,
+        })),
+    }
+}
+
+/// Judges the words that are reached, one after another.
+pub(crate) fn judge(alloc: Global, code: &Code) -> Result<(), VerifyError>
+    ensures { MatchResult result (λ _. IsCertified code.now) (IsError code.now) }
+{
+    let end = code.instructions().len();
+    let mut pending = unreached(alloc, end).map_err(VerifyError::Memory)?;
+    let first = Entry::opening(alloc, code).map_err(VerifyError::Memory)?;
+    meet(&mut pending, 0, first).map_err(VerifyError::Memory)?;
+    for place in 0..end {
+        advance(code, &mut pending, place)?;
+    }
+    Ok(())
+}
