@@ -3,6 +3,7 @@ pub mod Comparisons
 pub mod Exact
 pub mod FitLaws
 pub mod Functions
+pub mod JoinLaws
 pub mod Joins
 pub mod JumpLaws
 pub mod Lawful
@@ -10,14 +11,18 @@ pub mod Least
 pub mod LeastStores
 pub mod MarkLaws
 pub mod Marking
+pub mod Meetings
 pub mod Monotone
 pub mod MonotoneFunctions
 pub mod OneCause
 pub mod Operations
 pub mod OrderLaws
+pub mod Parts
 pub mod Refining
 pub mod RefusalLaws
+pub mod Rows
 pub mod SafeLaws
+pub mod SameMarks
 pub mod SoundLaws
 pub mod Takings
 pub mod WayLaws

@@ -1,5 +1,5 @@
 -- What is known where two ways meet: of one value, and of all.
-use Rattle.std.specs.Prelude.{◌⊎◌}
+use Rattle.std.specs.Prelude.{◌≡◌, ◌⊎◌, ℕ, List, length, Some, slice_get}
 use Rattle.iltypes.specs.declared.value.Value.{Value}
 use Rattle.ilranges.specs.declared.entry.Entry.{Entry}
 use Rattle.ilranges.specs.declared.known.Known.{Known}
@@ -19,6 +19,17 @@ pub record IsJoin (one other known : Known) : Type 0 where
 pub record IsHeld (one other : Known) : Type 0 where
   pub known : Known
   pub each : (value : Value) → IsKnownAsEither one other value → IsKnown value known
+
+-- the relation holds of what stands at each place of three lists, which are as long
+pub record Each {A : Type 0} (P : A → A → A → Type 0) (ones others results : List A) : Type 0 where
+  pub first : length ones ≡ length results
+  pub second : length others ≡ length results
+  pub each : (place : ℕ) (one other result : A) → slice_get ones place ≡ Some one → slice_get others place ≡ Some other
+      → slice_get results place ≡ Some result → P one other result
+
+-- the same of each two in a row
+abbrev pub AreJoins : List Known → List Known → List Known → Type 0
+AreJoins ones others knowns = Each IsJoin ones others knowns
 
 -- what is known on either way, and no less: all that both ways lead into, it leads into
 pub record IsMeeting (one other meeting : Entry) : Type 0 where

@@ -1,9 +1,11 @@
 pub mod Causes
 pub mod Changes
+pub mod ChunkSteps
 pub mod Entries
 pub mod Fits
 pub mod FunctionSteps
 pub mod Functions
+pub mod JoinSteps
 pub mod Joins
 pub mod Knowns
 pub mod Laws

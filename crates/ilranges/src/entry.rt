@@ -1,6 +1,7 @@
 //! What is known before a word.
 
-ghost use Rattle.std.specs.Prelude.{◌≡◌, IfOk, OnOk};
+ghost use Rattle.std.specs.Prelude.{◌≡◌, [], IfOk, OnOk};
+ghost use Rattle.ilranges.specs.JoinSteps.{IsResultMeeting};
 
 use crate::known::Known;
 use crate::mark::Mark;
@@ -65,7 +66,9 @@ impl Entry {
 
     /// What is known on either way, where two ways meet.
     pub fn join(&mut self, other: &Entry) -> Result<(), AllocError>
-        requires { MayMeet self.old other.now }
+        requires meeting { MayMeet self.old other.now }
+        requires closed { self.old.nesting ≡ [] }
+        requires closed_there { other.now.nesting ≡ [] }
         ensures { OnOk result (IsMeeting self.old other.now self.new) }
     {
         self.slots.join(&other.slots)?;
@@ -77,10 +80,14 @@ impl Entry {
     }
 }
 
-/// What is known of the current result on either way.
-fn join_results(one: Option<Known>, other: Option<Known>) -> Option<Known> {
+/// What is known of the current result where two ways meet: nothing where there may be none on
+/// either, or a result of another kind.
+fn join_results(one: Option<Known>, other: Option<Known>) -> Option<Known>
+    ensures { IsResultMeeting one other result }
+{
     match (one, other) {
         (Some(one), Some(other)) => one.join(other),
-        _ => None,
+        (None, _) => None,
+        (_, None) => None,
     }
 }

@@ -1,6 +1,6 @@
 //! What is known of a value.
 
-ghost use Rattle.std.specs.Prelude.{◌≡◌, ◌↔◌, IfOk, IfSome, IsNone, IsOk, Ok, Err};
+ghost use Rattle.std.specs.Prelude.{◌≡◌, ◌↔◌, IfOk, IfSome, IsNone, IsOk, IsTrue, Ok, Err};
 
 use crate::cause::Cause;
 use iloperators::{Function, IntegerType, Operator};
@@ -24,7 +24,7 @@ impl Known {
     ghost use Rattle.iltypes.specs.Values.{IsOf};
     ghost use Rattle.ilranges.specs.Functions.{IsAfterFunction, ArisesAtFunction};
     ghost use Rattle.ilranges.specs.FunctionSteps.{IsFunctionVerdict};
-    ghost use Rattle.ilranges.specs.Knowns.{IsKnown, known_of_type, known_of_value};
+    ghost use Rattle.ilranges.specs.Knowns.{IsKnown, IsKnownWithin, known_of_type, known_of_value};
     ghost use Rattle.ilranges.specs.Stores.{ArisesAtStore};
     ghost use Rattle.ilranges.specs.Joins.{IsJoin, IsHeld};
 
@@ -69,6 +69,18 @@ impl Known {
             }
             (Known::Bool, IlType::Int(_)) => Err(Cause::WrongType),
             (Known::Int(_), IlType::Bool) => Err(Cause::WrongType),
+        }
+    }
+
+    /// Whether this says no less than the other.
+    pub fn within(self, wider: Known) -> bool
+        ensures { IsTrue result ↔ IsKnownWithin self wider }
+    {
+        match (self, wider) {
+            (Known::Bool, Known::Bool) => true,
+            (Known::Int(inner), Known::Int(outer)) => inner.within(outer),
+            (Known::Bool, Known::Int(_)) => false,
+            (Known::Int(_), Known::Bool) => false,
         }
     }
 

@@ -13,10 +13,13 @@
 
 mod cause;
 mod change;
+mod chunk;
+mod chunks;
 mod comparison;
 mod entry;
 mod jump;
 mod known;
+mod knowns;
 mod law;
 mod mark;
 mod marks;

@@ -15,15 +15,6 @@ pub struct KnownOpened {
     pub saved: Known,
 }
 
-impl Default for KnownOpened {
-    fn default() -> KnownOpened {
-        KnownOpened {
-            operator: Operator::Add,
-            saved: Known::Bool,
-        }
-    }
-}
-
 /// The parentheses that are open, the innermost first.
 #[derive(Debug, Drop)]
 pub struct Nesting {

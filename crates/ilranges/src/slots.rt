@@ -1,74 +1,95 @@
-//! What is known of each slot.
+//! What is known of each slot, in parts that entries share.
 
 ghost use Rattle.std.specs.Prelude.{◌≡◌, map, slice_get, slice_set, IfOk, OnOk};
+ghost use Rattle.std.specs.List.{AllZip};
 
+use crate::chunk::Chunk;
+use crate::chunks::{cut, join_each, share_each};
 use crate::known::Known;
 use iltypes::IlType;
 use std::alloc::{AllocError, Global};
 use std::marker::Model;
 
-/// What is known of each variable of a task, by the number of its slot.
+/// What is known of each variable of a task, by the number of its slot. Thousands of these are
+/// kept at a time, and most of them differ from another in a few slots: so they stand in parts of
+/// 64, and what has no change is shared.
 #[derive(Debug, Drop)]
 pub struct Slots {
-    items: Vec<Known>,
+    alloc: Global,
+    chunks: Vec<Chunk>,
+    len: usize,
 }
 
 impl Model for Slots {
-    ghost use Rattle.std.specs.Prelude.{List};
+    ghost use Rattle.std.specs.Prelude.{List, ◌≡◌, length};
     ghost use Rattle.ilranges.specs.declared.known.Known.{Known};
+    ghost use Rattle.ilranges.specs.ChunkSteps.{AreChunks, whole};
 
     ghost Value = { List Known };
 
-    ghost view = { λ s. s.items.items };
+    ghost view = { λ s. whole s.chunks.items };
+
+    ghost invariant = { λ s. AreChunks s.chunks.items × (s.len ≡ length (whole s.chunks.items)) };
 }
 
 impl Slots {
     ghost use Rattle.ilranges.specs.Knowns.{known_of_type};
+    ghost use Rattle.ilranges.specs.Joins.{AreJoins, IsHeld};
 
     /// What is known at first: that each value is of the slot's type.
     pub fn new(alloc: Global, types: &[IlType]) -> Result<Slots, AllocError>
         ensures { IfOk result (λ slots. slots ≡ map known_of_type types.now) }
     {
-        let mut items = Vec::new(alloc);
+        let mut items = Vec::with_capacity(alloc, types.len())?;
         for declared in types {
             items.push(Known::of(*declared))?;
         }
-        Ok(Slots { items })
+        Ok(Slots {
+            alloc,
+            chunks: cut(alloc, &items)?,
+            len: types.len(),
+        })
     }
 
     /// What is known of the slot, where there is one.
     pub fn get(&self, slot: usize) -> Option<Known>
         ensures value { result ≡ slice_get self.now slot }
     {
-        self.items.get(slot).copied()
+        if slot < self.len {
+            Some(self.chunks[slot / 64].get(slot % 64))
+        } else {
+            None
+        }
     }
 
     /// The slot, where there is one, is known so from now on.
     pub fn set(&mut self, slot: usize, known: Known) -> Result<(), AllocError>
         ensures { OnOk result (self.new ≡ slice_set self.old slot known) }
     {
-        if slot < self.items.len() {
-            self.items[slot] = known;
+        if slot < self.len {
+            self.chunks[slot / 64].set(slot % 64, known)
+        } else {
+            Ok(())
         }
-        Ok(())
     }
 
-    /// The same.
+    /// The same, shared.
     pub fn share(&self) -> Result<Slots, AllocError>
         ensures { IfOk result (λ slots. slots ≡ self.now) }
     {
         Ok(Slots {
-            items: self.items.clone()?,
+            alloc: self.alloc,
+            chunks: share_each(self.alloc, &self.chunks)?,
+            len: self.len,
         })
     }
 
-    /// What is known of either, slot by slot.
-    pub fn join(&mut self, other: &Slots) -> Result<(), AllocError> {
-        for (one, other) in self.items.iter_mut().zip(other.items.iter()) {
-            if let Some(known) = one.join(*other) {
-                *one = known;
-            }
-        }
+    /// What is known of each slot on either way, where two ways meet.
+    pub fn join(&mut self, other: &Slots) -> Result<(), AllocError>
+        requires { AllZip IsHeld self.old other.now }
+        ensures { OnOk result (AreJoins self.old other.now self.new) }
+    {
+        self.chunks = join_each(self.alloc, &self.chunks, &other.chunks)?;
         Ok(())
     }
 }

@@ -6,6 +6,7 @@ use crate::{Cause, Known, more_known_before_is_more_known_after, passing};
 use iloperators::{Function, IntegerType, Operator};
 use iltypes::{IlType, Range};
 
+mod sharing;
 mod words;
 
 const LEAST: i64 = -9_223_372_036_854_775_808;

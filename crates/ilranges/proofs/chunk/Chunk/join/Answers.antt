@@ -1,0 +1,29 @@
+use Rattle.std.proofs.Common.{◌≡◌, length, refl, sym}
+use Rattle.std.proofs.lemmas.List.Elements.{length_all_zip}
+use Rattle.std.proofs.lemmas.Result.{IfOk-weaker}
+use Rattle.ilranges.specs.JoinSteps.{AreWithin}
+use Rattle.ilranges.specs.Joins.{IsHeld}
+use Rattle.ilranges.proofs.JoinLaws.{joins_ones, joins_others}
+use Rattle.ilranges.proofs.chunk.Chunk.join.Goals as goal
+
+pub returns-then-are_within : goal.returns-then-are_within
+returns-then-are_within c =
+    let w : AreWithin c.deref-2.result.now c.deref-4.result.now = c.if-are_within.ensures.0 refl in
+    let f : c.deref-2.result.now ≡ c.args.other.now = cc in
+    let g : c.deref-4.result.now ≡ c.args.self.now = cc in
+    let v : AreWithin c.args.other.now c.args.self.now = rw (← f, ← g) w in
+    IfOk-weaker c.share.result _ _ (λ d e. rw e (joins_ones _ _ v)) c.share.ensures
+
+pub are_within-requires-2 : goal.are_within-requires-2
+are_within-requires-2 c =
+    let f : c.deref-6.result.now ≡ c.args.self.now = cc in
+    let g : c.deref-8.result.now ≡ c.args.other.now = cc in
+    rw (f, g) (length_all_zip IsHeld _ _ c.requires)
+
+pub returns-then-are_within-2 : goal.returns-then-are_within-2
+returns-then-are_within-2 c =
+    let w : AreWithin c.deref-6.result.now c.deref-8.result.now = c.if-are_within-2.ensures.0 refl in
+    let f : c.deref-6.result.now ≡ c.args.self.now = cc in
+    let g : c.deref-8.result.now ≡ c.args.other.now = cc in
+    let v : AreWithin c.args.self.now c.args.other.now = rw (← f, ← g) w in
+    IfOk-weaker c.share-then-are_within-2.result _ _ (λ d e. rw e (joins_others _ _ v)) c.share-then-are_within-2.ensures

@@ -1,0 +1,6 @@
+use Rattle.ilranges.specs.Joins.{AreJoins}
+use Rattle.ilranges.proofs.Rows.{EachUpTo}
+use Rattle.ilranges.proofs.chunks.join_each.Given as goal
+
+abbrev pub invariant-loop-i : goal.invariant-loop-i
+invariant-loop-i l = EachUpTo AreJoins l.i l.ones l.others l.made.items

@@ -1,0 +1,19 @@
+use Rattle.std.proofs.Common.{refl}
+use Rattle.ilranges.proofs.JoinLaws.{all_held}
+use Rattle.ilranges.proofs.Meetings.{meeting_of, marks_agree, marks_differ}
+use Rattle.ilranges.proofs.SameMarks.{marks_same, marks_apart}
+use Rattle.ilranges.proofs.entry.Entry.join.Goals as goal
+
+pub join-requires : goal.join-requires
+join-requires c =
+    all_held _ _ c.requires.meeting.wider.slots c.requires.meeting.from_one.slots c.requires.meeting.from_other.slots
+
+pub returns-then-ne : goal.returns-then-ne
+returns-then-ne c =
+    meeting_of _ _ _ c.requires.closed c.requires.closed_there refl c.in_ok-join.ensures c.join_results-self.ensures
+    (marks_differ _ _ (marks_apart c.args.self.now.mark c.args.other.now.mark c.ne.result c.ne.ensures c.if-ne.true))
+
+pub returns-else-ne : goal.returns-else-ne
+returns-else-ne c =
+    meeting_of _ _ _ c.requires.closed c.requires.closed_there refl c.in_ok-join.ensures c.join_results-self.ensures
+    (marks_agree _ _ (marks_same c.args.self.now.mark c.args.other.now.mark c.ne.result c.ne.ensures c.if-ne.false))

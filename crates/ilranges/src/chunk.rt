@@ -1,0 +1,86 @@
+//! A part of what is known of the slots, which several entries may share.
+
+ghost use Rattle.std.specs.Prelude.{◌≡◌, ◌<◌, length, IfOk, OnOk, OnErr, slice_get, slice_set, Some};
+ghost use Rattle.std.specs.List.{AllZip};
+
+use crate::known::Known;
+use crate::knowns::{are_within, joins};
+use std::alloc::{AllocError, Global};
+use std::marker::Model;
+use std::rc::Rc;
+
+/// What is known of some slots in a row.
+#[derive(Debug, Drop)]
+pub(crate) struct Chunk {
+    items: Rc<Vec<Known>>,
+}
+
+impl Model for Chunk {
+    ghost use Rattle.std.specs.Prelude.{List};
+    ghost use Rattle.ilranges.specs.declared.known.Known.{Known};
+
+    ghost Value = { List Known };
+
+    ghost view = { λ c. c.items.value.items };
+}
+
+impl Chunk {
+    ghost use Rattle.ilranges.specs.Joins.{AreJoins, IsHeld};
+
+    /// The same as the list.
+    pub(crate) fn new(alloc: Global, items: &[Known]) -> Result<Chunk, AllocError>
+        ensures { IfOk result (λ c. c ≡ items.now) }
+    {
+        let items = Vec::from_slice(alloc, items)?;
+        Ok(Chunk {
+            items: Rc::new(alloc, items)?,
+        })
+    }
+
+    /// What is known of the slot that stands there.
+    pub(crate) fn get(&self, at: usize) -> Known
+        requires { at < length self.now }
+        ensures { slice_get self.now at ≡ Some result }
+    {
+        self.items[at]
+    }
+
+    /// The slot that stands there is known so from now on. Only a part that no other entry shares
+    /// is changed: else a copy of it.
+    pub(crate) fn set(&mut self, at: usize, known: Known) -> Result<(), AllocError>
+        requires { at < length self.old }
+        ensures ok { OnOk result (self.new ≡ slice_set self.old at known) }
+        ensures err { OnErr result (self.new ≡ self.old) }
+    {
+        let items = Rc::make_mut(&mut self.items)?;
+        items[at] = known;
+        Ok(())
+    }
+
+    /// The same, shared.
+    pub(crate) fn share(&self) -> Result<Chunk, AllocError>
+        ensures { IfOk result (λ c. c ≡ self.now) }
+    {
+        Ok(Chunk {
+            items: self.items.clone()?,
+        })
+    }
+
+    /// What is known where two ways meet, shared with the way that says the less, if one says no
+    /// more than the other.
+    pub(crate) fn join(&self, alloc: Global, other: &Chunk) -> Result<Chunk, AllocError>
+        requires { AllZip IsHeld self.now other.now }
+        ensures { IfOk result (λ c. AreJoins self.now other.now c) }
+    {
+        if are_within(&other.items, &self.items) {
+            return self.share();
+        }
+        if are_within(&self.items, &other.items) {
+            return other.share();
+        }
+        let items = joins(alloc, &self.items, &other.items)?;
+        Ok(Chunk {
+            items: Rc::new(alloc, items)?,
+        })
+    }
+}
