@@ -15,7 +15,8 @@ use Rattle.ilscope.specs.Order.{lesser_of_two}
 use Rattle.ilscope.specs.Reports.{IsReportOf, IsReportOfOption, ReportsLeast}
 use Rattle.ilscope.specs.ScopeSteps.{IsFaultIn, IsFaultOfElement, OfCause, names_in}
 use Rattle.ilscope.specs.declared.fault.NameCause.{NameCause}
-use Rattle.ilscope.specs.declared.fault.NameCause.TheVariants.{Unknown, Twice, TooMany, BadDeclaration}
+use Rattle.ilscope.specs.declared.fault.NameCause.TheVariants.{Unknown, Twice, UnknownLabel, BackwardJump}
+use Rattle.ilscope.specs.declared.fault.NameCause.TheVariants.{TooMany, BadDeclaration}
 use Rattle.ilscope.specs.declared.fault.NameFault.{NameFault}
 use Rattle.ilscope.specs.declared.fault.NameFault.TheVariants.{Memory, At}
 use Rattle.ilscope.specs.declared.found.Found.{Found}
@@ -132,6 +133,8 @@ all_declared tree within twice h k =
     from place Twice (inl t) = inr (refl, t)
     from place Twice (inr s) =
         inl (some_of (λ one t. inl (refl, t)) (all_in tree) (from_programs (spelled_in tree) place [] tree.elements s))
+    from place UnknownLabel s = absurd s
+    from place BackwardJump s = absurd s
     from place TooMany s = absurd s
     from place BadDeclaration s =
         inl (some_of (λ one t. inr (some_of (λ d b. inr (refl, b)) (declarations_in one.element) t)) (all_in tree) s)

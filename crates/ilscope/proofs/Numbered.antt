@@ -40,7 +40,7 @@ later_place false (Some m) c n = refl
 later_place false None true n = refl
 later_place false None false n = refl
 
-first_at-last : {X : Type 0} (test : X → Bool) (xs : List X) (x : X) →
+pub first_at-last : {X : Type 0} (test : X → Bool) (xs : List X) (x : X) →
     first_at test (xs ++ x ∷ []) ≡ option_or (first_at test xs) (if test x then Some (length xs) else None)
 first_at-last test [] x = refl
 first_at-last test (y ∷ ys) x =
@@ -163,6 +163,27 @@ with_any P [] q s = absurd s
 with_any P (x ∷ xs) q (inl p) = inl (p, q)
 with_any P (x ∷ xs) q (inr s) = inr (with_any P xs q s)
 
+-- names that are given again, with one name more: it is known where one before it is spelled alike
+pub twice_last : (spelled : Name → List ℕ) (front : List Name) (x : Name) (Known : Type 0) (a b : Option Found)
+    → (Known → SomeOf (λ m. spelled m ≡ spelled x) front) → (SomeOf (λ m. spelled m ≡ spelled x) front → Known)
+    → IsLeastOf (OfCause Twice (IsTwiceIn spelled front)) a
+    → IsLeastOf (OfCause Twice (λ place. Known × (place ≡ x.from))) b
+    → IsLeastOf (OfCause Twice (IsTwiceIn spelled (front ++ x ∷ []))) (lesser_of_two a b)
+twice_last spelled front x Known a b to from h k =
+    best_same _ _ (lesser_of_two a b)
+    (λ place cause q.
+    or_else (λ s. (s.0, later_front (λ e m. (spelled e ≡ spelled m) × (place ≡ m.from)) front x s.1))
+    (λ s. (
+      s.0,
+      later_at (λ e m. (spelled e ≡ spelled m) × (place ≡ m.from)) front x []
+          (with_any (λ m. spelled m ≡ spelled x) front s.1.1 (to s.1.0)),
+    )) q)
+    (λ place cause s.
+    or_else (λ r. inl (s.0, r))
+    (λ r. let u = some_any (λ m. spelled m ≡ spelled x) front r in inr (s.0, (from u.0, u.1)))
+    (later_append (λ e m. (spelled e ≡ spelled m) × (place ≡ m.from)) front x s.1))
+    (both_least (OfCause Twice (IsTwiceIn spelled front)) (OfCause Twice (λ place. Known × (place ≡ x.from))) a b h k)
+
 module _ (spelled : Name → List ℕ) (ns : List Name) (i : ℕ) (d : Name) (below : i < length ns) where
   -- the faults of names that are given again, with one name more
   pub twice_more : (table : Kept ℕ) (a b : Option Found) →
@@ -182,17 +203,4 @@ module _ (spelled : Name → List ℕ) (ns : List Name) (i : ℕ) (d : Name) (be
       in
       subst (λ (ms : List Name). IsLeastOf (OfCause Twice (IsTwiceIn spelled ms)) (lesser_of_two a b))
       (sym (take_more ns i x below (get_or_default ns i d x below)))
-      (best_same _ _ (lesser_of_two a b)
-      (λ place cause q.
-      or_else (λ s. (s.0, later_front (λ e m. (spelled e ≡ spelled m) × (place ≡ m.from)) front x s.1))
-      (λ s. (
-        s.0,
-        later_at (λ e m. (spelled e ≡ spelled m) × (place ≡ m.from)) front x []
-            (with_any (λ m. spelled m ≡ spelled x) front s.1.1 (to s.1.0)),
-      )) q)
-      (λ place cause s.
-      or_else (λ r. inl (s.0, r))
-      (λ r. let u = some_any (λ m. spelled m ≡ spelled x) front r in inr (s.0, (from u.0, u.1)))
-      (later_append (λ e m. (spelled e ≡ spelled m) × (place ≡ m.from)) front x s.1))
-      (both_least (OfCause Twice (IsTwiceIn spelled front))
-      (OfCause Twice (λ place. IsSome (lookup (bytes_eq (spelled x)) table) × (place ≡ x.from))) a b h k))
+      (twice_last spelled front x (IsSome (lookup (bytes_eq (spelled x)) table)) a b to from h k)

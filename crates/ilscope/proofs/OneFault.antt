@@ -1,33 +1,33 @@
 -- Of some faults at most one is the least, and so at most one is reported.
 use Rattle.std.proofs.Common.{◌≡◌, ℕ, List, refl, sym, ap, ◌∙◌, inl, inr, arith}
-use Rattle.std.specs.Prelude.{Option, Some, None}
+use Rattle.std.specs.Prelude.{◌==◌, Option, Some, None, if◌then◌else◌}
 use Rattle.ilsource.specs.Places.{line_at, col_at}
 use Rattle.ilscope.specs.Causes.{number_of}
 use Rattle.ilscope.specs.Faults.{IsNotAfter, IsLeast, IsLeastOf}
 use Rattle.ilscope.specs.Reports.{ReportsLeast}
 use Rattle.ilscope.specs.declared.fault.NameCause.{NameCause}
-use Rattle.ilscope.specs.declared.fault.NameCause.TheVariants.{Unknown, Twice, TooMany, BadDeclaration}
+use Rattle.ilscope.specs.declared.fault.NameCause.TheVariants.{Unknown, Twice, UnknownLabel, BackwardJump}
+use Rattle.ilscope.specs.declared.fault.NameCause.TheVariants.{TooMany, BadDeclaration}
 use Rattle.ilscope.specs.declared.fault.NameFault.{NameFault}
 use Rattle.ilscope.specs.declared.fault.NameFault.TheVariants.{Memory, At}
 use Rattle.ilscope.specs.declared.found.Found.{Found}
 
+-- the cause of a number
+abbrev cause_of : ℕ → NameCause
+cause_of n =
+    if n == 2 then Unknown else if n == 3 then Twice else if n == 4 then UnknownLabel
+    else if n == 5 then BackwardJump else if n == 11 then TooMany else BadDeclaration
+
+cause_again : (c : NameCause) → cause_of (number_of c) ≡ c
+cause_again Unknown = refl
+cause_again Twice = refl
+cause_again UnknownLabel = refl
+cause_again BackwardJump = refl
+cause_again TooMany = refl
+cause_again BadDeclaration = refl
+
 same_cause : (a b : NameCause) → number_of a ≡ number_of b → a ≡ b
-same_cause Unknown Unknown e = refl
-same_cause Unknown Twice e = absurd (omega (arith, e))
-same_cause Unknown TooMany e = absurd (omega (arith, e))
-same_cause Unknown BadDeclaration e = absurd (omega (arith, e))
-same_cause Twice Unknown e = absurd (omega (arith, e))
-same_cause Twice Twice e = refl
-same_cause Twice TooMany e = absurd (omega (arith, e))
-same_cause Twice BadDeclaration e = absurd (omega (arith, e))
-same_cause TooMany Unknown e = absurd (omega (arith, e))
-same_cause TooMany Twice e = absurd (omega (arith, e))
-same_cause TooMany TooMany e = refl
-same_cause TooMany BadDeclaration e = absurd (omega (arith, e))
-same_cause BadDeclaration Unknown e = absurd (omega (arith, e))
-same_cause BadDeclaration Twice e = absurd (omega (arith, e))
-same_cause BadDeclaration TooMany e = absurd (omega (arith, e))
-same_cause BadDeclaration BadDeclaration e = refl
+same_cause a b e = sym (cause_again a) ∙ ap cause_of e ∙ cause_again b
 
 -- each isn't after the other
 same_at : (p q : ℕ) (a b : NameCause) → IsNotAfter p a q b → IsNotAfter q b p a → (p ≡ q) × (a ≡ b)

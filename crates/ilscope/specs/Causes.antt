@@ -1,13 +1,15 @@
 -- Numbers of the causes of faults (profile).
 use Rattle.std.specs.Prelude.{ℕ}
 use Rattle.ilscope.specs.declared.fault.NameCause.{NameCause}
-use Rattle.ilscope.specs.declared.fault.NameCause.TheVariants.{Unknown, Twice, TooMany, BadDeclaration}
+use Rattle.ilscope.specs.declared.fault.NameCause.TheVariants.{Unknown, Twice, UnknownLabel, BackwardJump, TooMany, BadDeclaration}
 use Rattle.ilscope.specs.declared.fault.NameFault.{NameFault}
 use Rattle.ilscope.specs.declared.fault.NameFault.TheVariants.{Memory, At}
 
 abbrev pub number_of : NameCause → ℕ
 number_of Unknown = 2
 number_of Twice = 3
+number_of UnknownLabel = 4
+number_of BackwardJump = 5
 number_of TooMany = 11
 number_of BadDeclaration = 12
 

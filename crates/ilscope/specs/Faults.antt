@@ -14,7 +14,7 @@ use Rattle.ilscope.specs.DataTypes.{TypeNames, data_type, types_below, value_in}
 use Rattle.ilscope.specs.Declarations.{standing, declarations_in, name_of, names_of}
 use Rattle.ilscope.specs.declared.data_type.DataType.{DataType}
 use Rattle.ilscope.specs.declared.fault.NameCause.{NameCause}
-use Rattle.ilscope.specs.declared.fault.NameCause.TheVariants.{Unknown, Twice, TooMany, BadDeclaration}
+use Rattle.ilscope.specs.declared.fault.NameCause.TheVariants.{Unknown, Twice, BadDeclaration}
 use Rattle.ilscope.specs.declared.found.Found.{Found}
 
 -- some element has the property
@@ -80,8 +80,8 @@ IsBad tree place = SomeDeclaration (λ types_above declaration. IsBadIn types_ab
 abbrev pub IsFaultOfDeclarations : Tree → ℕ → NameCause → Type 0
 IsFaultOfDeclarations tree place Unknown = IsUnknownType tree place
 IsFaultOfDeclarations tree place Twice = IsTwice tree place
-IsFaultOfDeclarations tree place TooMany = ⊥
 IsFaultOfDeclarations tree place BadDeclaration = IsBad tree place
+IsFaultOfDeclarations tree place _ = ⊥
 
 -- the first place and cause aren't after the second
 abbrev pub IsNotAfter : ℕ → NameCause → ℕ → NameCause → Type 0

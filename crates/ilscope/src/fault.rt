@@ -12,8 +12,12 @@ use thiserror::Error;
 pub enum NameCause {
     /// A name that is not declared; a type's name that is not declared above.
     Unknown,
-    /// A name that is declared again.
+    /// A name that is declared again, or a label that an earlier line of the program has too.
     Twice,
+    /// The label of a jump that no line of its program has.
+    UnknownLabel,
+    /// The label of a jump that its own line or one before it has.
+    BackwardJump,
     /// A declaration or an instruction that exceeds a limit.
     TooMany,
     /// A subrange that is empty or has numbers outside its base, or an initial value that the type
@@ -29,6 +33,8 @@ impl NameCause {
         match self {
             NameCause::Unknown => 2,
             NameCause::Twice => 3,
+            NameCause::UnknownLabel => 4,
+            NameCause::BackwardJump => 5,
             NameCause::TooMany => 11,
             NameCause::BadDeclaration => 12,
         }

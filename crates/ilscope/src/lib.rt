@@ -2,9 +2,10 @@
 //!
 //! What crosses the boundary: [`Scope`], which is made of an [`ilsource::Source`]. It has each
 //! program with its [`Variable`]s, and the least fault of the declarations: [`NameFault`], with its
-//! line, its column and its [`NameCause`]; [`Found`] is a fault at its place in the text. The
-//! definitions to read first are `type_of` (specs/Declarations.antt), what a declaration means, and
-//! `IsFaultOfDeclarations` (specs/Faults.antt).
+//! line, its column and its [`NameCause`]; [`Found`] is a fault at its place in the text. Names are
+//! looked up in [`Names`], by hashing. The definitions to read first are `type_of`
+//! (specs/Declarations.antt), what a declaration means, and `IsFaultOfDeclarations`
+//! (specs/Faults.antt).
 //!
 //! ```text
 //! let scope = Scope::of(alloc, &source, &binding)?;
@@ -27,6 +28,7 @@ mod variables;
 
 pub use fault::{NameCause, NameFault};
 pub use found::{Found, lesser_of};
+pub use names::Names;
 pub use program_scope::ProgramScope;
 pub use scope::{Scope, report_of};
 pub use variable::Variable;

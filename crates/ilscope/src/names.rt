@@ -1,4 +1,4 @@
-//! What is kept under the names of a text.
+//! What is kept under the names or the labels of a text.
 
 use indexmap::IndexMap;
 use std::alloc::{AllocError, Global};
@@ -6,7 +6,7 @@ use std::marker::Model;
 
 /// What is kept under different names in lower case, found by hashing.
 #[derive(Drop)]
-pub(crate) struct Names<T> {
+pub struct Names<T> {
     entries: IndexMap<Vec<u8>, T>,
 }
 
@@ -26,7 +26,7 @@ impl<T: Copy> Names<T> {
     ghost use Rattle.ilscope.specs.Kept.{with_new};
 
     /// Nothing.
-    pub(crate) fn new(alloc: Global) -> Names<T>
+    pub fn new(alloc: Global) -> Names<T>
         ensures { result ≡ [] }
     {
         Names {
@@ -35,7 +35,7 @@ impl<T: Copy> Names<T> {
     }
 
     /// What is kept under the name `key`, which is in lower case.
-    pub(crate) fn get(&self, key: &[u8]) -> Option<T>
+    pub fn get(&self, key: &[u8]) -> Option<T>
         ensures { result ≡ lookup (bytes_eq key.now) self.now }
     {
         self.entries.get(key).copied()
@@ -43,7 +43,7 @@ impl<T: Copy> Names<T> {
 
     /// Keeps `value` under the name `key`, which is in lower case, where the name is new, and says
     /// whether it was.
-    pub(crate) fn add(&mut self, alloc: Global, key: &[u8], value: T) -> Result<bool, AllocError>
+    pub fn add(&mut self, alloc: Global, key: &[u8], value: T) -> Result<bool, AllocError>
         ensures kept { OnOk result (self.new ≡ with_new self.old key.now value) }
         ensures new { IfOk result (λ new.
             IsTrue new ↔ IsNone (lookup (bytes_eq key.now) self.old)) }

@@ -120,6 +120,13 @@ impl<'a> Scope<'a> {
         &self.programs
     }
 
+    /// A name's bytes with letters in lower case, as names are looked up.
+    pub fn spelling(&self, name: Name) -> &[u8]
+        ensures value { result.now ≡ folded self.now.text name }
+    {
+        name.text(&self.lower)
+    }
+
     /// The number of the first variable with this name, in the program with this number, which is
     /// below the number of programs.
     pub fn variable_number(&self, program: usize, name: Name) -> Option<usize>

@@ -1,6 +1,6 @@
 //! What declarations mean and which fault of them is reported, and each public call once.
 
-use crate::{Found, NameCause, NameFault, Scope, lesser_of, report_of};
+use crate::{Found, NameCause, NameFault, Names, Scope, lesser_of, report_of};
 use binding::Binding;
 use iloperators::IntegerType::{Int, Udint, Usint};
 use ilsource::{
@@ -313,6 +313,13 @@ fn names_are_looked_up(rt: HostRuntime) -> Result<(), Fail> {
             assert_eq!(rt; scope.declares(program, name), number.is_some());
         }
     }
+    let name = Name { from: 2, to: 6 };
+    assert_eq!(rt; scope.spelling(name), b"main");
+    let mut names = Names::new(alloc);
+    assert!(rt; names.add(alloc, scope.spelling(name), 7)?);
+    assert!(rt; !names.add(alloc, b"main", 8)?);
+    assert_eq!(rt; names.get(b"main"), Some(7));
+    assert_eq!(rt; names.get(b"a"), None);
     Ok(())
 }
 
@@ -330,6 +337,8 @@ fn the_fault_at_the_least_place_is_reported(rt: HostRuntime) -> Result<(), Fail>
         lesser_of(twice, fault(4, NameCause::BadDeclaration)).map(|f| f.at),
         Some(4)
     );
+    assert_eq!(rt; NameCause::UnknownLabel.number(), 4);
+    assert_eq!(rt; NameCause::BackwardJump.number(), 5);
     assert_eq!(rt; NameCause::TooMany.number(), 11);
     assert_eq!(rt; NameFault::Memory.number(), 1);
     assert_eq!(rt; NameFault::Memory.to_string(alloc)?.as_str(), "no memory");

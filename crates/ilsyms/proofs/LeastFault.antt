@@ -1,20 +1,22 @@
--- The least fault of names is the least of its parts: of declarations, of names in lines, and of limits.
-use Rattle.std.proofs.Common.{◌≡◌, ℕ, List, map, refl, sym, subst, ◌⊎◌, inl, inr}
+-- The least fault of names is the least of its parts: of declarations, of names in lines, of labels, and of limits.
+use Rattle.std.proofs.Common.{◌≡◌, ℕ, List, [], ◌∷◌, map, refl, sym, subst, ◌⊎◌, inl, inr}
 use Rattle.std.specs.Prelude.{◌↔◌, Option, Some, slice_get, flat_map}
 use Rattle.limits.specs.Limits.{most_instances, most_slots, most_words}
 use Rattle.iltrees.specs.Words.{places_in}
 use Rattle.ilsource.specs.Trees.{Tree}
 use Rattle.ilscope.specs.Declarations.{DeclaredProgram, declared_programs}
-use Rattle.ilscope.specs.Faults.{IsFaultOfDeclarations, IsLeastOf}
+use Rattle.ilscope.specs.Faults.{SomeOf, IsFaultOfDeclarations, IsLeastOf}
 use Rattle.ilscope.specs.Order.{lesser_of_two}
 use Rattle.ilscope.specs.ScopeSteps.{OfCause}
 use Rattle.ilscope.specs.declared.fault.NameCause.{NameCause}
-use Rattle.ilscope.specs.declared.fault.NameCause.TheVariants.{Unknown, Twice, TooMany, BadDeclaration}
+use Rattle.ilscope.specs.declared.fault.NameCause.TheVariants.{Unknown, Twice, UnknownLabel, BackwardJump}
+use Rattle.ilscope.specs.declared.fault.NameCause.TheVariants.{TooMany, BadDeclaration}
 use Rattle.ilscope.specs.declared.found.Found.{Found}
 use Rattle.ilscope.proofs.Gathered.{best_same, or_else}
 use Rattle.ilscope.proofs.Least.{both_least}
 use Rattle.ilplan.specs.declared.instance.Slot.{Slot}
 use Rattle.ilsyms.specs.Faults.{IsFault, IsTooMany, IsUnknownVariable, MakesTooManyConstants}
+use Rattle.ilsyms.specs.LabelSteps.{IsFaultOfLabels}
 use Rattle.ilsyms.specs.Variables.{slots_of_tree, lines_of, uses_of}
 
 -- the least of the faults of one cause in two parts
@@ -92,34 +94,64 @@ module _ (tree : Tree) where
       (at_same TooMany word (word_past programs) c g l)
       (of_same TooMany (IsAt excess) MakesTooMany d (λ at. (counted at).0) (λ at. (counted at).1) m)
 
+  abbrev IsLabelled : ℕ → NameCause → Type 0
+  IsLabelled place cause = SomeOf (λ p. IsFaultOfLabels tree.text p.program.lines place cause) (declared_programs tree)
+
   abbrev IsNamed : ℕ → NameCause → Type 0
   IsNamed place cause = IsFaultOfDeclarations tree place cause ⊎ OfCause Unknown (IsUnknownVariable tree) place cause
 
   abbrev IsPart : ℕ → NameCause → Type 0
-  IsPart place cause = IsNamed place cause ⊎ OfCause TooMany (IsTooMany tree) place cause
+  IsPart place cause = (IsNamed place cause ⊎ IsLabelled place cause) ⊎ OfCause TooMany (IsTooMany tree) place cause
+
+  none_of : {X : Type 0} (xs : List X) → SomeOf (λ x. ⊥) xs → ⊥
+  none_of [] s = s
+  none_of (x ∷ xs) (inl n) = n
+  none_of (x ∷ xs) (inr s) = none_of xs s
+
+  labelled : (place : ℕ) (cause : NameCause) → IsLabelled place cause → IsFault tree place cause
+  labelled place Unknown s = absurd (none_of (declared_programs tree) s)
+  labelled place Twice s = inr s
+  labelled place UnknownLabel s = s
+  labelled place BackwardJump s = s
+  labelled place TooMany s = absurd (none_of (declared_programs tree) s)
+  labelled place BadDeclaration s = absurd (none_of (declared_programs tree) s)
+
+  declared : (place : ℕ) (cause : NameCause) → IsFaultOfDeclarations tree place cause → IsFault tree place cause
+  declared place Unknown d = inl d
+  declared place Twice d = inl d
+  declared place UnknownLabel d = absurd d
+  declared place BackwardJump d = absurd d
+  declared place TooMany d = absurd d
+  declared place BadDeclaration d = d
 
   whole : (place : ℕ) (cause : NameCause) → IsPart place cause → IsFault tree place cause
   whole place cause (inr t) = subst (λ (c : NameCause). IsFault tree place c) (sym t.0) t.1
-  whole place cause (inl (inr u)) = subst (λ (c : NameCause). IsFault tree place c) (sym u.0) (inr u.1)
-  whole place Unknown (inl (inl d)) = inl d
-  whole place Twice (inl (inl d)) = d
-  whole place TooMany (inl (inl d)) = absurd d
-  whole place BadDeclaration (inl (inl d)) = d
+  whole place cause (inl (inr l)) = labelled place cause l
+  whole place cause (inl (inl (inr u))) = subst (λ (c : NameCause). IsFault tree place c) (sym u.0) (inr u.1)
+  whole place cause (inl (inl (inl d))) = declared place cause d
 
   parted : (place : ℕ) (cause : NameCause) → IsFault tree place cause → IsPart place cause
-  parted place Unknown (inl d) = inl (inl d)
-  parted place Unknown (inr u) = inl (inr (refl, u))
-  parted place Twice d = inl (inl d)
+  parted place Unknown (inl d) = inl (inl (inl d))
+  parted place Unknown (inr u) = inl (inl (inr (refl, u)))
+  parted place Twice (inl d) = inl (inl (inl d))
+  parted place Twice (inr l) = inl (inr l)
+  parted place UnknownLabel l = inl (inr l)
+  parted place BackwardJump l = inl (inr l)
   parted place TooMany t = inr (refl, t)
-  parted place BadDeclaration d = inl (inl d)
+  parted place BadDeclaration d = inl (inl (inl d))
 
-  -- the least fault is the least of the three
-  pub least_of_all : (declared unknown many : Option Found)
-      → IsLeastOf (IsFaultOfDeclarations tree) declared
+  -- the least fault is the least of the four
+  pub least_of_all : (said unknown labels many : Option Found)
+      → IsLeastOf (IsFaultOfDeclarations tree) said
       → IsLeastOf (OfCause Unknown (IsUnknownVariable tree)) unknown
+      → IsLeastOf (λ place cause. SomeOf (λ p. IsFaultOfLabels tree.text p.program.lines place cause)
+      (declared_programs tree)) labels
       → IsLeastOf (OfCause TooMany (IsTooMany tree)) many
-      → IsLeastOf (IsFault tree) (lesser_of_two (lesser_of_two declared unknown) many)
-  least_of_all declared unknown many h k l =
-      best_same IsPart (IsFault tree) (lesser_of_two (lesser_of_two declared unknown) many) whole parted
-      (both_least IsNamed (OfCause TooMany (IsTooMany tree)) (lesser_of_two declared unknown) many
-      (both_least (IsFaultOfDeclarations tree) (OfCause Unknown (IsUnknownVariable tree)) declared unknown h k) l)
+      → IsLeastOf (IsFault tree) (lesser_of_two (lesser_of_two (lesser_of_two said unknown) labels) many)
+  least_of_all said unknown labels many h k l m =
+      let named = lesser_of_two said unknown in
+      best_same IsPart (IsFault tree) (lesser_of_two (lesser_of_two named labels) many) whole parted
+      (both_least (λ place cause. IsNamed place cause ⊎ IsLabelled place cause) (OfCause TooMany (IsTooMany tree))
+      (lesser_of_two named labels) many
+      (both_least IsNamed IsLabelled named labels
+      (both_least (IsFaultOfDeclarations tree) (OfCause Unknown (IsUnknownVariable tree)) said unknown h k) l) m)

@@ -1,5 +1,8 @@
+pub mod CallingNothing
 pub mod CountedUses
 pub mod Distinct
+pub mod JumpFaults
+pub mod LabelNumbers
 pub mod Labels
 pub mod LeastFault
 pub mod Limits
@@ -7,6 +10,5 @@ pub mod Numbers
 pub mod Planned
 pub mod Renamed
 pub mod SameMeaning
-pub mod Straight
 pub mod UsesOfPrograms
 pub mod TypedSlots

@@ -14,7 +14,7 @@ use Rattle.ilsyms.specs.Faults.{IsWellNamed}
 use Rattle.ilsyms.specs.Resolved.{instance_of, task_of_tree}
 use Rattle.ilsyms.specs.Variables.{slots_of_tree, lines_of, uses_of}
 use Rattle.ilsyms.proofs.CountedUses.{few_constants}
-use Rattle.ilsyms.proofs.Renamed.{same_places, same_constants, all_shallow, all_straight}
+use Rattle.ilsyms.proofs.Renamed.{same_places, same_constants, all_shallow, all_calls}
 
 -- where nothing stands at a place there are at most so many
 none_past : {X : Type 0} (xs : List X) (n : ℕ) → slice_get xs n ≡ None → length xs ≤ n
@@ -48,7 +48,7 @@ module _ (tree : Tree) (named : IsWellNamed tree) where
 
   pub keeps_limits : AreShallow (lines_of (declared_programs tree)) → CallNothing (lines_of (declared_programs tree))
       → AreOf (initials_of (task_of_tree tree)) (types_of (task_of_tree tree)) → KeepsLimits (task_of_tree tree)
-  keeps_limits shallow straight initials = record {
+  keeps_limits shallow calls initials = record {
     most_instances =
         let e = few (λ p. p.program.name.from) (declared_programs tree) 64 (λ place e. named place TooMany (inl e)) in
         omega (arith, e, length-map (declared_programs tree) (instance_of tree.text (slots_of_tree tree)));
@@ -58,7 +58,7 @@ module _ (tree : Tree) (named : IsWellNamed tree) where
         (λ place m. named place TooMany (inr (inr (inr m))));
     most_words = few_words;
     shallow = all_shallow tree.text (slots_of_tree tree) (declared_programs tree) shallow;
-    straight = all_straight tree.text (slots_of_tree tree) (declared_programs tree) straight;
+    calls = all_calls tree.text (slots_of_tree tree) (declared_programs tree) calls;
     constants = sym (same_constants tree.text (slots_of_tree tree) (declared_programs tree));
     initials = initials;
   }

@@ -8,6 +8,7 @@ use Rattle.std.proofs.lemmas.Grind.{flat_map-append}
 use Rattle.ilsource.specs.declared.name.Name.{Name}
 use Rattle.ilsource.specs.Names.{folded}
 use Rattle.ilscope.specs.Declarations.{DeclaredProgram}
+use Rattle.ilscope.specs.Kept.{Kept}
 use Rattle.ilscope.specs.Tables.{variable_number}
 use Rattle.ilscope.specs.declared.variable.Variable.{Variable}
 use Rattle.ilplan.specs.declared.instance.Slot.{Slot}
@@ -87,14 +88,16 @@ shifted : (first end all : ℕ) (o : Option ℕ) → first + end ≡ all
 shifted first end all None e = e
 shifted first end all (Some k) e = refl
 
--- a program among others with other names
-module _ (text : List ℕ) (front back : List DeclaredProgram) (p : DeclaredProgram) where
+-- a program among others with other names, whose labels have these numbers
+module _ (text : List ℕ) (front back : List DeclaredProgram) (p : DeclaredProgram) (labels : Kept ℕ) where
   abbrev pub numbering : Numbering
   numbering = record {
     text = text;
     variables = p.variables;
     first = length (slots_of front);
     all = length (slots_of (front ++ p ∷ back));
+    labels = labels;
+    end = length p.program.lines;
   }
 
   pub number_is_place : (name : Name) → AreOthers text p.program.name front → AreOthers text p.program.name back

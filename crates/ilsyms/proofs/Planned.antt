@@ -8,18 +8,21 @@ use Rattle.std.proofs.lemmas.List.{append-nil, map-append, take-append-drop}
 use Rattle.std.proofs.lemmas.List.Folds.{length-flat_map-take}
 use Rattle.iltrees.specs.declared.instruction.Line.{Line}
 use Rattle.iltrees.specs.Words.{AreShallow, CallNothing}
-use Rattle.iltrees.specs.Renaming.{NewNames, by_name, rename_line}
+use Rattle.iltrees.specs.Renaming.{by_name, rename_line}
 use Rattle.ilsource.specs.declared.name.Name.{Name}
 use Rattle.ilscope.specs.Declarations.{DeclaredProgram}
+use Rattle.ilscope.specs.Kept.{Kept}
 use Rattle.ilscope.proofs.Least.{take_more}
 use Rattle.ilplan.specs.declared.instance.Slot.{Slot}
 use Rattle.ilplan.specs.Plans.{PlannedInstance}
-use Rattle.ilsyms.specs.PlanningSteps.{numbers}
+use Rattle.ilsyms.specs.LabelSteps.{AreNumbered}
+use Rattle.ilsyms.specs.PlanningSteps.{Numbering, label_of, numbers}
 use Rattle.ilsyms.specs.Resolved.{slot_numbers, label_number, instance_of}
 use Rattle.ilsyms.specs.Variables.{slot, slots_of_program, slots_of, lines_of}
 use Rattle.ilsyms.proofs.Distinct.{AreApart, others_around}
+use Rattle.ilsyms.proofs.LabelNumbers.{label_is_number}
 use Rattle.ilsyms.proofs.Numbers.{numbering, number_is_place}
-use Rattle.ilsyms.proofs.Renamed.{shallow_append, straight_append}
+use Rattle.ilsyms.proofs.Renamed.{shallow_append, calls_append}
 
 -- a list in which an element stands
 parted : {X : Type 0} (xs : List X) (i : ℕ) (x : X) → x ≡ get_or xs i x → i < length xs
@@ -31,49 +34,57 @@ parted xs i x is below =
     ∙ take-append-drop i xs)
 
 -- the numbers that are given are the places in the store
-numbers_are : (text : List ℕ) (front back : List DeclaredProgram) (p : DeclaredProgram)
+numbers_are : (text : List ℕ) (front back : List DeclaredProgram) (p : DeclaredProgram) (labels : Kept ℕ)
     → AreApart text (front ++ p ∷ back)
-    → numbers (numbering text front back p) ≡ slot_numbers text (slots_of (front ++ p ∷ back)) p.program.name
-numbers_are text front back p apart =
+    → numbers (numbering text front back p labels) ≡ slot_numbers text (slots_of (front ++ p ∷ back)) p.program.name
+numbers_are text front back p labels apart =
     let others = others_around text front back p apart in
     λ i. record {
-      operand = by_name (λ name. sym (number_is_place text front back p name others.0 others.1) i);
-      name = λ name. sym (number_is_place text front back p name others.0 others.1) i;
+      operand = by_name (λ name. sym (number_is_place text front back p labels name others.0 others.1) i);
+      name = λ name. sym (number_is_place text front back p labels name others.0 others.1) i;
     }
 
+-- lines with the numbers that are given
+abbrev pub renamed : Numbering → List (Line Name Name) → List (Line ℕ ℕ)
+renamed n lines = map (rename_line (numbers n) (label_of n)) lines
+
 -- the program's instance, where its lines have these numbers
-instance_is : (text : List ℕ) (front back : List DeclaredProgram) (p : DeclaredProgram) (lines : List (Line ℕ ℕ))
-    → AreApart text (front ++ p ∷ back)
-    → ((label : Name → ℕ) → lines ≡ map (rename_line (numbers (numbering text front back p)) label) p.program.lines)
+instance_is : (text : List ℕ) (front back : List DeclaredProgram) (p : DeclaredProgram) (labels : Kept ℕ)
+    (lines : List (Line ℕ ℕ)) → AreApart text (front ++ p ∷ back) → AreNumbered text p.program.lines labels
+    → lines ≡ renamed (numbering text front back p labels) p.program.lines
     → lines ≡ (instance_of text (slots_of (front ++ p ∷ back)) p).lines
-instance_is text front back p lines apart h =
-    let label = label_number text p.program.lines in
-    h label
-    ∙ ap (λ (new : NewNames Name ℕ). map (rename_line new label) p.program.lines) (numbers_are text front back p apart)
+instance_is text front back p labels lines apart numbered h =
+    let labels_are : label_of (numbering text front back p labels) ≡ label_number text p.program.lines =
+    λ i name. label_is_number text p.program.lines labels numbered name i
+    in
+    let names_are = numbers_are text front back p labels apart in
+    h ∙ (λ i. map (rename_line (names_are i) (labels_are i)) p.program.lines)
 
 module _ (text : List ℕ) (ps : List DeclaredProgram) (i : ℕ) (p : DeclaredProgram) (is : p ≡ get_or ps i p)
     (below : i < length ps) where
   -- with one program more
   pub planned_more : AreApart text ps → (first all : ℕ) → first ≡ length (slots_of (take i ps))
-      → all ≡ length (slots_of ps) → (lines : List (Line ℕ ℕ))
-      → ((label : Name → ℕ)
+      → all ≡ length (slots_of ps) → (labels : Kept ℕ) → AreNumbered text p.program.lines labels
+      → (end : ℕ) → end ≡ length p.program.lines → (lines : List (Line ℕ ℕ))
       → lines
-      ≡ map
-      (rename_line (numbers (record { text = text; variables = p.variables; first = first; all = all })) label)
-      p.program.lines)
+      ≡ renamed
+      (record { text = text; variables = p.variables; first = first; all = all; labels = labels; end = end })
+      p.program.lines
       → (instances : List PlannedInstance) → instances ≡ map (instance_of text (slots_of ps)) (take i ps)
       → instances ++ record { name = p.program.name; lines = lines } ∷ []
       ≡ map (instance_of text (slots_of ps)) (take (i + 1) ps)
-  planned_more apart first all e g lines h instances so_far =
+  planned_more apart first all e g labels numbered end n lines h instances so_far =
       let front = take i ps in
       let back = drop (i + 1) ps in
       let whole : front ++ p ∷ back ≡ ps = parted ps i p is below in
       let g : all ≡ length (slots_of (front ++ p ∷ back)) = g ∙ ap (λ qs. length (slots_of qs)) (sym whole) in
-      let named : (label : Name → ℕ)
-      → lines ≡ map (rename_line (numbers (numbering text front back p)) label) p.program.lines =
-      λ label. h label ∙ (λ j. map (rename_line (numbers (record { text = text; variables = p.variables; first = e j; all = g j })) label) p.program.lines)
+      let named : lines ≡ renamed (numbering text front back p labels) p.program.lines =
+      h
+      ∙ (λ j. renamed
+      (record { text = text; variables = p.variables; first = e j; all = g j; labels = labels; end = n j })
+      p.program.lines)
       in
-      let there = instance_is text front back p lines (subst (AreApart text) (sym whole) apart) named in
+      let there = instance_is text front back p labels lines (subst (AreApart text) (sym whole) apart) numbered named in
       let here : lines ≡ (instance_of text (slots_of ps) p).lines =
       there ∙ ap (λ qs. (instance_of text (slots_of qs) p).lines) whole
       in
@@ -111,7 +122,7 @@ module _ (text : List ℕ) (ps : List DeclaredProgram) (i : ℕ) (p : DeclaredPr
   shallow_more before own =
       subst AreShallow (sym lines_more) (shallow_append (lines_of (take i ps)) p.program.lines before own)
 
-  pub straight_more : CallNothing (lines_of (take i ps)) → CallNothing p.program.lines
+  pub calls_more : CallNothing (lines_of (take i ps)) → CallNothing p.program.lines
       → CallNothing (lines_of (take (i + 1) ps))
-  straight_more before own =
-      subst CallNothing (sym lines_more) (straight_append (lines_of (take i ps)) p.program.lines before own)
+  calls_more before own =
+      subst CallNothing (sym lines_more) (calls_append (lines_of (take i ps)) p.program.lines before own)

@@ -1,4 +1,4 @@
--- What renamed lines keep of a program's: the places of words, the constants, and that they are shallow and straight.
+-- What renamed lines keep of a program's: the places of words, the constants, and that they are shallow and call nothing.
 use Rattle.std.proofs.Common.{◌≡◌, ℕ, List, [], ◌∷◌, ◌++◌, map, refl, sym, ap, ◌∙◌}
 use Rattle.std.specs.Prelude.{Option, Some, None, flat_map}
 use Rattle.std.specs.Option.{option_map}
@@ -12,7 +12,7 @@ use Rattle.iltrees.specs.declared.uses.Use.{Use}
 use Rattle.iltrees.specs.Words.{places_in, AreShallow, CallNothing}
 use Rattle.iltrees.specs.Uses.{uses_in}
 use Rattle.iltrees.specs.Renaming.{rename_use, rename_line}
-use Rattle.iltrees.proofs.KeptSizes.{places_kept, uses_kept, still_shallow, still_straight}
+use Rattle.iltrees.proofs.KeptSizes.{places_kept, uses_kept, still_shallow, still_calling_nothing}
 use Rattle.ilsource.specs.declared.name.Name.{Name}
 use Rattle.ilscope.specs.Declarations.{DeclaredProgram}
 use Rattle.ilplan.specs.declared.instance.Slot.{Slot}
@@ -25,25 +25,21 @@ pub shallow_append : {N L : Type 0} (xs ys : List (Line N L)) → AreShallow xs 
 shallow_append [] ys h k = k
 shallow_append (x ∷ xs) ys h k = (h.0, shallow_append xs ys h.1 k)
 
-pub straight_append : {N L : Type 0} (xs ys : List (Line N L)) → CallNothing xs → CallNothing ys → CallNothing (xs ++ ys)
-straight_append [] ys h k = k
-straight_append (x ∷ xs) ys h k = (h.0, h.1, straight_append xs ys h.2 k)
+pub calls_append : {N L : Type 0} (xs ys : List (Line N L)) → CallNothing xs → CallNothing ys → CallNothing (xs ++ ys)
+calls_append [] ys h k = k
+calls_append (x ∷ xs) ys h k = (h.0, calls_append xs ys h.1 k)
 
 left_shallow : {N L : Type 0} (xs ys : List (Line N L)) → AreShallow (xs ++ ys) → AreShallow xs × AreShallow ys
 left_shallow [] ys h = (tt, h)
 left_shallow (x ∷ xs) ys h = let rest = left_shallow xs ys h.1 in ((h.0, rest.0), rest.1)
 
-left_straight : {N L : Type 0} (xs ys : List (Line N L)) → CallNothing (xs ++ ys) → CallNothing xs × CallNothing ys
-left_straight [] ys h = (tt, h)
-left_straight (x ∷ xs) ys h = let rest = left_straight xs ys h.2 in ((h.0, h.1, rest.0), rest.1)
+left_calls : {N L : Type 0} (xs ys : List (Line N L)) → CallNothing (xs ++ ys) → CallNothing xs × CallNothing ys
+left_calls [] ys h = (tt, h)
+left_calls (x ∷ xs) ys h = let rest = left_calls xs ys h.1 in ((h.0, rest.0), rest.1)
 
 pub used_append : {N : Type 0} (us vs : List (Use N))
     → constants_used (us ++ vs) ≡ constants_used us ++ constants_used vs
 used_append {N} us vs = filter_map-append (λ (u : Use N). constant_in u.operand) us vs
-
-pub no_label : (label : Name → ℕ) (o : Option Name) → o ≡ None → option_map label o ≡ None
-no_label label None e = refl
-no_label label (Some m) e = absurd cc
 
 -- of one program's lines
 module _ (text : List ℕ) (slots : List Slot) (instance : Name) (label : Name → ℕ) where
@@ -85,13 +81,10 @@ module _ (text : List ℕ) (slots : List Slot) (instance : Name) (label : Name �
   shallow_of (line ∷ lines) h =
       (still_shallow (slot_numbers text slots instance) label line.instruction h.0, shallow_of lines h.1)
 
-  straight_of : (lines : List (Line Name Name)) → CallNothing lines → CallNothing (renamed lines)
-  straight_of [] h = tt
-  straight_of (line ∷ lines) h = (
-    no_label label line.label h.0,
-    still_straight (slot_numbers text slots instance) label line.instruction h.1,
-    straight_of lines h.2,
-  )
+  calls_of : (lines : List (Line Name Name)) → CallNothing lines → CallNothing (renamed lines)
+  calls_of [] h = tt
+  calls_of (line ∷ lines) h =
+      (still_calling_nothing (slot_numbers text slots instance) label line.instruction h.0, calls_of lines h.1)
 
 -- of all programs
 module _ (text : List ℕ) (slots : List Slot) where
@@ -142,10 +135,10 @@ module _ (text : List ℕ) (slots : List Slot) where
       (shallow_of text slots p.program.name (label_number text p.program.lines) p.program.lines parts.0)
       (all_shallow ps parts.1)
 
-  pub all_straight : (ps : List DeclaredProgram) → CallNothing (lines_of ps) → CallNothing (planned ps)
-  all_straight [] h = tt
-  all_straight (p ∷ ps) h =
-      let parts = left_straight p.program.lines (lines_of ps) h in
-      straight_append (instance_of text slots p).lines (planned ps)
-      (straight_of text slots p.program.name (label_number text p.program.lines) p.program.lines parts.0)
-      (all_straight ps parts.1)
+  pub all_calls : (ps : List DeclaredProgram) → CallNothing (lines_of ps) → CallNothing (planned ps)
+  all_calls [] h = tt
+  all_calls (p ∷ ps) h =
+      let parts = left_calls p.program.lines (lines_of ps) h in
+      calls_append (instance_of text slots p).lines (planned ps)
+      (calls_of text slots p.program.name (label_number text p.program.lines) p.program.lines parts.0)
+      (all_calls ps parts.1)

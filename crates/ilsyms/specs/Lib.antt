@@ -1,5 +1,6 @@
 pub mod CountingSteps
 pub mod Faults
+pub mod LabelSteps
 pub mod Meaning
 pub mod PlanningSteps
 pub mod Resolved

@@ -8,6 +8,8 @@
 #![tactic(auto)]
 
 mod counting;
+mod jumps;
+mod labelling;
 mod numbering;
 mod planning;
 mod resolving;

@@ -1,12 +1,13 @@
-//! Lines with the numbers of slots in place of names.
+//! Lines with numbers in place of names: of slots for variables, of lines for labels.
 
-use ilscope::{ProgramScope, Scope};
+use ilscope::{Names, ProgramScope, Scope};
 use ilsource::Name;
 use iltrees::{Action, Instruction, Line, Nested, Operand, Piece};
 use std::alloc::{AllocError, Global};
 use std::marker::Model;
 
-/// The numbers of the slots of one program's variables, which stand one after another.
+/// The numbers of the slots of one program's variables, which stand one after another, and of the
+/// lines with its labels.
 #[derive(Drop)]
 pub(crate) struct Numbering<'a, 's> {
     scope: &'a Scope<'s>,
@@ -16,6 +17,10 @@ pub(crate) struct Numbering<'a, 's> {
     first: usize,
     /// How many slots the task has.
     all: usize,
+    /// Under each label the number of the first line that has it.
+    labels: Names<usize>,
+    /// How many lines there are.
+    end: usize,
 }
 
 impl<'a, 's> Model for Numbering<'a, 's> {
@@ -30,6 +35,8 @@ impl<'a, 's> Model for Numbering<'a, 's> {
       variables = n.variables.now.variables;
       first = n.first;
       all = n.all;
+      labels = n.labels;
+      end = n.end;
     } };
 
     ghost invariant = { λ n.
@@ -38,20 +45,23 @@ impl<'a, 's> Model for Numbering<'a, 's> {
 }
 
 impl<'a, 's> Numbering<'a, 's> {
-    ghost use Rattle.std.specs.Prelude.{◌≡◌, ◌+◌, ◌<◌, ◌^◌, ℕ, IfOk, length, map, slice_get, Some, None};
+    ghost use Rattle.std.specs.Prelude.{◌≡◌, ◌+◌, ◌<◌, ◌^◌, IfOk, length, map, option_map};
+    ghost use Rattle.std.specs.Prelude.{slice_get, Some};
     ghost use Rattle.iltrees.specs.Renaming.{rename_action, rename_tree, rename, rename_line};
     ghost use Rattle.iltrees.specs.Words.{CallsNothing, CallNothing};
-    ghost use Rattle.ilsource.specs.declared.name.Name.{Name};
     ghost use Rattle.ilscope.specs.Declarations.{declared_programs};
-    ghost use Rattle.ilsyms.specs.PlanningSteps.{Numbering, number_of, numbers};
+    ghost use Rattle.ilsyms.specs.PlanningSteps.{Numbering, label_of, number_of, numbers};
 
-    /// The numbers of the variables of the program with this number, which begin with `first`.
+    /// The numbers of the variables of the program with this number, which begin with `first`, and
+    /// of its `end` lines, by their labels.
     pub(crate) fn new(
         scope: &'a Scope<'s>,
         program: usize,
         variables: &'a ProgramScope<'s>,
         first: usize,
         all: usize,
+        labels: Names<usize>,
+        end: usize,
     ) -> Numbering<'a, 's>
         requires program { slice_get (declared_programs scope.now) program ≡ Some variables.now }
         requires fits { first + length variables.now.variables < 2 ^ 64 }
@@ -60,6 +70,8 @@ impl<'a, 's> Numbering<'a, 's> {
           variables = variables.now.variables;
           first = first;
           all = all;
+          labels = labels;
+          end = end;
         } }
     {
         Numbering {
@@ -68,6 +80,8 @@ impl<'a, 's> Numbering<'a, 's> {
             variables,
             first,
             all,
+            labels,
+            end,
         }
     }
 
@@ -79,6 +93,20 @@ impl<'a, 's> Numbering<'a, 's> {
             Some(number) => self.first + number,
             None => self.all,
         }
+    }
+
+    /// The number of the first line with a label; past the last where there is none.
+    fn label_of(&self, label: Name) -> usize
+        ensures { result ≡ label_of self.now label }
+    {
+        self.labels.get(self.scope.spelling(label)).unwrap_or(self.end)
+    }
+
+    /// The same of a line's label, where it has one.
+    fn label(&self, label: Option<Name>) -> Option<usize>
+        ensures { result ≡ option_map (label_of self.now) label }
+    {
+        Some(self.label_of(label?))
     }
 
     /// An operand.
@@ -121,15 +149,15 @@ impl<'a, 's> Numbering<'a, 's> {
         Ok(Nested::new(pieces))
     }
 
-    /// An instruction. What its labels become is left open, as it has none.
+    /// An instruction that calls nothing.
     fn instruction(
         &self,
         alloc: Global,
         instruction: &Instruction<Name, Name>,
     ) -> Result<Instruction<usize, usize>, AllocError>
         requires { CallsNothing (Some instruction.now) }
-        ensures { IfOk result (λ i. (label : Name → ℕ)
-            → i ≡ rename (numbers self.now) label instruction.now) }
+        ensures { IfOk result (λ i.
+            i ≡ rename (numbers self.now) (label_of self.now) instruction.now) }
     {
         Ok(match instruction {
             Instruction::Load { negated, operand } => Instruction::Load {
@@ -159,18 +187,19 @@ impl<'a, 's> Numbering<'a, 's> {
             },
             Instruction::Set(variable) => Instruction::Set(self.number_of(*variable)),
             Instruction::Reset(variable) => Instruction::Reset(self.number_of(*variable)),
-            Instruction::Jump(..) | Instruction::Return(_) | Instruction::Call { .. } => {
-                unreachable!()
+            Instruction::Jump(condition, label) => {
+                Instruction::Jump(*condition, self.label_of(*label))
             }
+            Instruction::Return(condition) => Instruction::Return(*condition),
+            Instruction::Call { .. } => unreachable!(),
         })
     }
 
     /// A line.
     fn line(&self, alloc: Global, line: &Line<Name, Name>) -> Result<Line<usize, usize>, AllocError>
-        requires label { line.now.label ≡ None }
-        requires calls { CallsNothing line.now.instruction }
-        ensures { IfOk result (λ l. (label : Name → ℕ)
-            → l ≡ rename_line (numbers self.now) label line.now) }
+        requires { CallsNothing line.now.instruction }
+        ensures { IfOk result (λ l.
+            l ≡ rename_line (numbers self.now) (label_of self.now) line.now) }
     {
         let instruction = match &line.instruction {
             Some(instruction) => Some(self.instruction(alloc, instruction)?),
@@ -178,7 +207,7 @@ impl<'a, 's> Numbering<'a, 's> {
         };
         Ok(Line {
             at: line.at,
-            label: None,
+            label: self.label(line.label),
             instruction,
         })
     }
@@ -190,8 +219,8 @@ impl<'a, 's> Numbering<'a, 's> {
         lines: &[Line<Name, Name>],
     ) -> Result<Vec<Line<usize, usize>>, AllocError>
         requires { CallNothing lines.now }
-        ensures { IfOk result (λ v. (label : Name → ℕ)
-            → v.items ≡ map (rename_line (numbers self.now) label) lines.now) }
+        ensures { IfOk result (λ v.
+            v.items ≡ map (rename_line (numbers self.now) (label_of self.now)) lines.now) }
     {
         let mut renamed = Vec::new(alloc);
         for line in lines {

@@ -7,6 +7,7 @@ ghost use Rattle.ilsyms.specs.Faults.{IsWellNamed};
 ghost use Rattle.ilsyms.specs.Resolved.{instance_of};
 ghost use Rattle.ilsyms.specs.Variables.{lines_of, slots_of_tree};
 
+use crate::labelling::number_labels;
 use crate::numbering::Numbering;
 use ilplan::Instance;
 use ilscope::Scope;
@@ -30,8 +31,10 @@ pub(crate) fn plan_instances(
     let mut first = 0;
     for (number, program) in scope.programs().iter().enumerate() {
         let written = program.program();
-        let numbering = Numbering::new(scope, number, program, first, all);
-        let lines = numbering.lines(alloc, written.lines())?;
+        let lines = written.lines();
+        let (labels, _) = number_labels(alloc, scope, lines)?;
+        let numbering = Numbering::new(scope, number, program, first, all, labels, lines.len());
+        let lines = numbering.lines(alloc, lines)?;
         instances.push(Instance::new(written.name(), lines))?;
         first += program.variables().len();
     }

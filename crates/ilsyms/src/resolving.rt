@@ -18,6 +18,7 @@ ghost use Rattle.ilsyms.specs.Resolved.{plan_of_tree, task_of_tree};
 ghost use Rattle.ilsyms.specs.Variables.{lines_of, slots_of_tree, uses_of};
 
 use crate::counting::Counted;
+use crate::jumps::fault_of_labels;
 use crate::planning::plan_instances;
 use crate::slots::slots_of;
 use crate::unknown::unknown_variable;
@@ -67,7 +68,7 @@ fn resolved(alloc: Global, source: &Source, binding: &Binding) -> Result<Plan, N
     Ok(plan_with(alloc, source, binding, task)?)
 }
 
-/// The least fault: of declarations, of names in lines, and of limits.
+/// The least fault: of declarations, of names in lines, of labels, and of limits.
 fn least_of(
     alloc: Global,
     scope: &Scope<'_>,
@@ -80,8 +81,10 @@ fn least_of(
     ensures { IfOk result (λ found. IsLeastOf (IsFault scope.now) found) }
 {
     let unknown = unknown_variable(alloc, scope)?;
+    let labels = fault_of_labels(alloc, scope)?;
     let too_many = too_many(alloc, scope, slots, counted.excess)?;
-    Ok(lesser_of(lesser_of(scope.least(), unknown), too_many))
+    let named = lesser_of(lesser_of(scope.least(), unknown), labels);
+    Ok(lesser_of(named, too_many))
 }
 
 /// The least fault of what exceeds a limit. `excess` is the place of the constant that does.

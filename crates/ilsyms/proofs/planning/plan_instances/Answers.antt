@@ -1,15 +1,15 @@
-use Rattle.std.proofs.Common.{◌≡◌, ℕ, ◌<◌, ◌∙◌, ap, get_or, length, List, [], ◌∷◌, ◌++◌, map, arith, subst}
-use Rattle.iltrees.specs.Renaming.{rename_line}
+use Rattle.std.proofs.Common.{◌≡◌, ◌<◌, ◌∙◌, ap, get_or, length, List, [], ◌∷◌, ◌++◌, arith, subst, inl}
+use Rattle.iltrees.specs.declared.instruction.Line.{Line}
 use Rattle.iltrees.specs.Words.{AreShallow, CallNothing}
 use Rattle.ilsource.specs.Programs.{Written}
 use Rattle.ilsource.specs.declared.name.Name.{Name}
 use Rattle.ilplan.specs.Plans.{PlannedInstance}
-use Rattle.ilsyms.specs.PlanningSteps.{numbers}
+use Rattle.ilsyms.specs.LabelSteps.{AreNumbered}
 use Rattle.ilscope.specs.Declarations.{DeclaredProgram, declared_programs}
 use Rattle.ilscope.specs.declared.fault.NameCause.TheVariants.{Twice}
 use Rattle.ilsyms.proofs.Distinct.{programs_apart}
 use Rattle.ilsyms.proofs.Limits.{few_slots}
-use Rattle.ilsyms.proofs.Planned.{planned_more, slots_fit, slots_more, shallow_more, straight_more}
+use Rattle.ilsyms.proofs.Planned.{planned_more, slots_fit, slots_more, shallow_more, calls_more, renamed}
 use Rattle.ilsyms.proofs.planning.plan_instances.Goals as goal
 
 pub new-numbering-requires-clause-fits : goal.new-numbering-requires-clause-fits
@@ -33,14 +33,16 @@ loop-number-preserved c =
     c.program-item.is ∙ ap (λ (qs : List DeclaredProgram). get_or qs c.loop-number.number c.program-item.result) items
     in
     let below : c.loop-number.number < length all = rw (← items) c.loop-number-test.true in
-    let apart = programs_apart c.args.scope.now (λ place s. c.requires.named place Twice s) in
+    let apart = programs_apart c.args.scope.now (λ place s. c.requires.named place Twice (inl s)) in
     let written = c.program-written.ensures.value in
     let lines : c.program-written.result.now.lines ≡ c.program-item.result.program.lines =
     ap (λ (w : Written). w.lines) written
     in
-    let renamed = λ (label : Name → ℕ).
-    c.in_ok-lines.ensures label
-    ∙ (λ i. map (rename_line (numbers (c.new-numbering.ensures i)) label) ((c.lines.ensures.value ∙ lines) i))
+    let read = c.lines-lines.ensures.value ∙ lines in
+    let named = c.in_ok-lines.ensures ∙ (λ i. renamed (c.new-numbering.ensures i) (read i)) in
+    let numbered : AreNumbered c.args.scope.now.text c.program-item.result.program.lines c.in_ok-labels.labels =
+    subst (λ (ls : List (Line Name Name)). AreNumbered c.args.scope.now.text ls c.in_ok-labels.labels) read
+    c.in_ok-labels.ensures.numbers
     in
     let one : c.new.result ≡ record { name = c.program-item.result.program.name; lines = c.in_ok-lines.lines.items } =
     c.new.ensures
@@ -54,7 +56,8 @@ loop-number-preserved c =
           c.in_ok-push.ensures.items
           ∙ ap (λ (one : PlannedInstance). c.loop-number.instances.items ++ one ∷ []) one
           ∙ planned_more c.args.scope.now.text all c.loop-number.number c.program-item.result is below apart
-          c.loop-number.first c.args.all c.loop-number.invariant.first c.requires.all c.in_ok-lines.lines.items renamed
+          c.loop-number.first c.args.all c.loop-number.invariant.first c.requires.all c.in_ok-labels.labels numbered
+          _ (ap length read) c.in_ok-lines.lines.items named
           c.loop-number.instances.items c.loop-number.invariant.instances;
       first =
           let more = slots_more c.args.scope.now.text all c.loop-number.number c.program-item.result is below in
@@ -63,8 +66,8 @@ loop-number-preserved c =
           omega (arith, more, own, first);
       shallow =
           shallow_more c.args.scope.now.text all c.loop-number.number c.program-item.result is below c.loop-number.invariant.shallow
-          (subst AreShallow lines c.lines.ensures.shallow);
-      straight =
-          straight_more c.args.scope.now.text all c.loop-number.number c.program-item.result is below c.loop-number.invariant.straight
-          (subst CallNothing lines c.lines.ensures.straight);
+          (subst AreShallow lines c.lines-lines.ensures.shallow);
+      calls =
+          calls_more c.args.scope.now.text all c.loop-number.number c.program-item.result is below c.loop-number.invariant.calls
+          (subst CallNothing lines c.lines-lines.ensures.calls);
     }

@@ -12,5 +12,5 @@ invariant-loop-number l = record {
       ≡ map (instance_of l.fn.scope.text (slots_of_tree l.fn.scope)) (take l.number (declared_programs l.fn.scope));
   first : l.first ≡ length (slots_of (take l.number (declared_programs l.fn.scope)));
   shallow : AreShallow (lines_of (take l.number (declared_programs l.fn.scope)));
-  straight : CallNothing (lines_of (take l.number (declared_programs l.fn.scope)));
+  calls : CallNothing (lines_of (take l.number (declared_programs l.fn.scope)));
 }

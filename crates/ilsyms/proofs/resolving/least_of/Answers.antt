@@ -3,6 +3,7 @@ use Rattle.ilsyms.proofs.resolving.least_of.Goals as goal
 
 pub returns : goal.returns
 returns c =
-    rw (c.lesser_of-2.ensures, c.lesser_of.ensures)
-    (least_of_all c.args.scope.now c.least.result c.in_ok-unknown.unknown c.in_ok-too_many.too_many
-    c.least.ensures c.in_ok-unknown.ensures c.in_ok-too_many.ensures)
+    rw (c.lesser_of-2.ensures, c.lesser_of-named.ensures, c.lesser_of.ensures)
+    (least_of_all c.args.scope.now c.least.result c.in_ok-unknown.unknown c.in_ok-labels.labels
+    c.in_ok-too_many.too_many c.least.ensures c.in_ok-unknown.ensures c.in_ok-labels.ensures
+    c.in_ok-too_many.ensures)

@@ -12,4 +12,4 @@ new-requires c =
     (sym c.in_ok-name.ensures.ok i) false (sym c.requires.slots i) (sym c.requires.constants i)
     (sym c.in_ok-instances.ensures.instances i))
     (keeps_limits c.args.scope.now c.requires.named c.in_ok-instances.ensures.shallow
-    c.in_ok-instances.ensures.straight (initials_typed c.args.scope.now))
+    c.in_ok-instances.ensures.calls (initials_typed c.args.scope.now))

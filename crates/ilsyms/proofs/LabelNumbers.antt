@@ -1,0 +1,153 @@
+-- Labels that are kept while lines are read: each has the number of the first line that has it.
+use Rattle.std.proofs.Common.{◌≡◌, ℕ, zero, suc, ◌+◌, ◌<◌, List, [], ◌∷◌, ◌++◌, map, length, take, get_or, Bool, true, false, cond, refl, sym, ap, ◌∙◌, subst, inl, inr, arith, append-nil}
+use Rattle.std.specs.Prelude.{Option, Some, None, IsSome, is_some, option_map, bytes_eq, unwrap_or, if◌then◌else◌}
+use Rattle.std.specs.Map.{lookup}
+use Rattle.std.specs.List.{position_or_len, cons_option}
+use Rattle.std.specs.Option.{option_or}
+use Rattle.std.proofs.lemmas.List.{length-take-le}
+use Rattle.std.proofs.lemmas.List.Elements.{filter_map-append}
+use Rattle.std.proofs.lemmas.List.Recursion.{is_position_or_len}
+use Rattle.iltrees.specs.declared.instruction.Line.{Line}
+use Rattle.iltrees.specs.Passes.{has_label}
+use Rattle.ilsource.specs.declared.name.Name.{Name}
+use Rattle.ilsource.specs.Names.{folded, SameName}
+use Rattle.ilscope.specs.Faults.{SomeOf, IsLeastOf, IsTwiceIn}
+use Rattle.ilscope.specs.Kept.{Kept}
+use Rattle.ilscope.specs.Order.{lesser_of_two}
+use Rattle.ilscope.specs.ScopeSteps.{OfCause}
+use Rattle.ilscope.specs.Tables.{first_at}
+use Rattle.ilscope.specs.declared.fault.NameCause.TheVariants.{Twice}
+use Rattle.ilscope.specs.declared.found.Found.{Found}
+use Rattle.ilscope.proofs.Gathered.{best_same, or_else}
+use Rattle.ilscope.proofs.Least.{both_least, take_more}
+use Rattle.ilscope.proofs.LeastOfDeclarations.{some_of}
+use Rattle.ilscope.proofs.Numbered.{lookup-with_new, first_at-last, found_some, some_found, twice_last}
+use Rattle.ilsyms.specs.Faults.{labels_of}
+use Rattle.ilsyms.specs.LabelSteps.{AreNumbered, IsKeptLabel, with_label}
+use Rattle.ilsyms.specs.Meaning.{same_name}
+use Rattle.ilsyms.specs.Resolved.{label_number}
+
+abbrev pub has : List ℕ → Name → Line Name Name → Bool
+has text label line = has_label (same_name text) label line.label
+
+or_none : {X : Type 0} (o : Option X) → o ≡ option_or o None
+or_none None = refl
+or_none (Some x) = refl
+
+-- ---- one line more
+
+looked_up : (text : List ℕ) (kept : Kept ℕ) (o : Option Name) (number : ℕ) (l : Name)
+    → lookup (bytes_eq (folded text l)) (with_label text kept o number)
+    ≡ option_or (lookup (bytes_eq (folded text l)) kept) (if has_label (same_name text) l o then Some number else None)
+looked_up text kept None number l = or_none (lookup (bytes_eq (folded text l)) kept)
+looked_up text kept (Some m) number l = lookup-with_new kept (folded text m) (folded text l) number
+
+module _ (text : List ℕ) (lines : List (Line Name Name)) (i : ℕ) (line : Line Name Name) (below : i < length lines)
+    (is : line ≡ get_or lines i line) where
+  pub numbered_more : (kept new : Kept ℕ) → new ≡ with_label text kept line.label i
+      → AreNumbered text (take i lines) kept → AreNumbered text (take (i + 1) lines) new
+  numbered_more kept new e h label =
+      let front : List (Line Name Name) = take i lines in
+      let short : length front ≡ i = length-take-le i lines (omega (arith, below)) in
+      ap (λ (k : Kept ℕ). lookup (bytes_eq (folded text label)) k) e
+      ∙ looked_up text kept line.label i label
+      ∙ ap (λ (o : Option ℕ). option_or o (if has text label line then Some i else None)) (h label)
+      ∙ ap (λ (n : ℕ). option_or (first_at (has text label) front) (if has text label line then Some n else None))
+      (sym short)
+      ∙ sym (first_at-last (has text label) front line)
+      ∙ ap (λ (ls : List (Line Name Name)). first_at (has text label) ls) (sym (take_more lines i line below is))
+
+-- ---- what is found
+
+some_suc : (o : Option ℕ) → is_some (option_map suc o) ≡ is_some o
+some_suc None = refl
+some_suc (Some n) = refl
+
+same_test : (b : Bool) (k j : Option ℕ) → is_some k ≡ is_some j
+    → is_some (if b then Some 0 else option_map suc k) ≡ is_some (if b then Some 0 else option_map suc j)
+same_test true k j e = refl
+same_test false k j e = some_suc k ∙ e ∙ sym (some_suc j)
+
+module _ (text : List ℕ) where
+  -- some line has the label where it is among the labels
+  among_lines : (lines : List (Line Name Name)) (x : Name)
+      → is_some (first_at (has text x) lines)
+      ≡ is_some (first_at (bytes_eq (folded text x)) (map (folded text) (labels_of lines)))
+  among_lines [] x = refl
+  among_lines (line ∷ lines) x = step line.label (first_at (has text x) lines) (labels_of lines) (among_lines lines x)
+    where
+      step : (o : Option Name) (k : Option ℕ) (ns : List Name)
+          → is_some k ≡ is_some (first_at (bytes_eq (folded text x)) (map (folded text) ns))
+          → is_some (if has_label (same_name text) x o then Some 0 else option_map suc k)
+          ≡ is_some (first_at (bytes_eq (folded text x)) (map (folded text) (cons_option o ns)))
+      step None k ns e = some_suc k ∙ e
+      step (Some m) k ns e = same_test (bytes_eq (folded text x) (folded text m)) k _ e
+
+  pub label_among : (lines : List (Line Name Name)) (x : Name) → is_some (first_at (has text x) lines) ≡ true
+      → SomeOf (SameName text x) (labels_of lines)
+  label_among lines x s =
+      some_of (λ m e. sym e) (labels_of lines)
+      (found_some (folded text) (labels_of lines) (folded text x) (sym (among_lines lines x) ∙ s))
+
+  pub label_found : (lines : List (Line Name Name)) (x : Name) → SomeOf (SameName text x) (labels_of lines)
+      → is_some (first_at (has text x) lines) ≡ true
+  label_found lines x s =
+      among_lines lines x
+      ∙ some_found (folded text) (labels_of lines) (folded text x) (some_of (λ m e. sym e) (labels_of lines) s)
+
+-- ---- labels that are given again
+
+module _ (text : List ℕ) (lines : List (Line Name Name)) (i : ℕ) (line : Line Name Name) (below : i < length lines)
+    (is : line ≡ get_or lines i line) where
+  -- with the labels before, and one line more
+  again : (front : List Name) (kept : Kept ℕ) (a b : Option Found)
+      → ((x : Name) → is_some (lookup (bytes_eq (folded text x)) kept)
+      ≡ is_some (first_at (bytes_eq (folded text x)) (map (folded text) front)))
+      → (o : Option Name)
+      → IsLeastOf (OfCause Twice (IsTwiceIn (folded text) front)) a
+      → IsLeastOf (OfCause Twice (IsKeptLabel text kept o)) b
+      → IsLeastOf (OfCause Twice (IsTwiceIn (folded text) (front ++ cons_option o []))) (lesser_of_two a b)
+  again front kept a b known None h k =
+      subst (λ (ns : List Name). IsLeastOf (OfCause Twice (IsTwiceIn (folded text) ns)) (lesser_of_two a b))
+      (sym (append-nil front))
+      (best_same _ _ (lesser_of_two a b)
+      (λ place cause q. or_else (λ s. s) (λ n. absurd n.1) q)
+      (λ place cause s. inl s)
+      (both_least (OfCause Twice (IsTwiceIn (folded text) front)) (OfCause Twice (IsKeptLabel text kept None)) a b h k))
+  again front kept a b known (Some m) h k =
+      twice_last (folded text) front m (IsSome (lookup (bytes_eq (folded text m)) kept)) a b
+      (λ s. found_some (folded text) front (folded text m) (sym (known m) ∙ s))
+      (λ s. known m ∙ some_found (folded text) front (folded text m) s)
+      h k
+
+  pub labels_twice_more : (kept : Kept ℕ) (a b : Option Found) → AreNumbered text (take i lines) kept
+      → IsLeastOf (OfCause Twice (IsTwiceIn (folded text) (labels_of (take i lines)))) a
+      → IsLeastOf (OfCause Twice (IsKeptLabel text kept line.label)) b
+      → IsLeastOf (OfCause Twice (IsTwiceIn (folded text) (labels_of (take (i + 1) lines)))) (lesser_of_two a b)
+  labels_twice_more kept a b n h k =
+      let front : List (Line Name Name) = take i lines in
+      subst (λ (ns : List Name). IsLeastOf (OfCause Twice (IsTwiceIn (folded text) ns)) (lesser_of_two a b))
+      (sym (ap labels_of (take_more lines i line below is)
+      ∙ filter_map-append (λ (one : Line Name Name). one.label) front (line ∷ [])))
+      (again (labels_of front) kept a b (λ x. ap is_some (n x) ∙ among_lines text front x) line.label h k)
+
+-- ---- the number of a label
+
+first_or_end : {X : Type 0} (test : X → Bool) (xs : List X)
+    → unwrap_or (first_at test xs) (length xs) ≡ position_or_len test xs
+first_or_end {X} test xs =
+    is_position_or_len (λ ys. unwrap_or (first_at test ys) (length ys)) test refl
+    (λ y ys. more (test y) (first_at test ys) (length ys)) xs
+  where
+    more : (b : Bool) (o : Option ℕ) (n : ℕ)
+        → unwrap_or (if b then Some 0 else option_map suc o) (suc n) ≡ cond b 0 (1 + unwrap_or o n)
+    more true o n = refl
+    more false None n = omega arith
+    more false (Some k) n = omega arith
+
+-- what is kept under a label is its number
+pub label_is_number : (text : List ℕ) (lines : List (Line Name Name)) (kept : Kept ℕ) → AreNumbered text lines kept
+    → (label : Name)
+    → unwrap_or (lookup (bytes_eq (folded text label)) kept) (length lines) ≡ label_number text lines label
+label_is_number text lines kept h label =
+    ap (λ (o : Option ℕ). unwrap_or o (length lines)) (h label) ∙ first_or_end (has text label) lines

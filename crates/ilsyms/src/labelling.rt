@@ -1,0 +1,59 @@
+//! Labels of lines, looked up by hashing.
+
+ghost use Rattle.std.specs.Prelude.{◌≡◌, IfOk, OnOk};
+ghost use Rattle.ilsource.specs.Names.{folded};
+ghost use Rattle.ilscope.specs.Faults.{IsLeastOf, IsTwiceIn};
+ghost use Rattle.ilscope.specs.ScopeSteps.{OfCause};
+ghost use Rattle.ilscope.specs.declared.fault.NameCause.TheVariants.{Twice};
+ghost use Rattle.ilsyms.specs.Faults.{labels_of};
+ghost use Rattle.ilsyms.specs.LabelSteps.{AreNumbered, IsKeptLabel, with_label};
+
+use ilscope::{Found, NameCause, Names, Scope, lesser_of};
+use ilsource::Name;
+use iltrees::Line;
+use std::alloc::{AllocError, Global};
+
+/// Under each label of one program's lines the number of the first line that has it, and the least
+/// fault of a label that is given again.
+pub(crate) fn number_labels(
+    alloc: Global,
+    scope: &Scope<'_>,
+    lines: &[Line<Name, Name>],
+) -> Result<(Names<usize>, Option<Found>), AllocError>
+    ensures numbers { IfOk result (λ r. AreNumbered scope.now.text lines.now r.0) }
+    ensures twice { IfOk result (λ r.
+        IsLeastOf (OfCause Twice (IsTwiceIn (folded scope.now.text) (labels_of lines.now))) r.1) }
+{
+    let mut numbers = Names::new(alloc);
+    let mut least = None;
+    for (number, line) in lines.iter().enumerate() {
+        let again = add_label(alloc, scope, &mut numbers, line, number)?;
+        least = lesser_of(least, again);
+    }
+    Ok((numbers, least))
+}
+
+/// Adds the number of a line under its label where that is new, and else gives the label's fault.
+fn add_label(
+    alloc: Global,
+    scope: &Scope<'_>,
+    numbers: &mut Names<usize>,
+    line: &Line<Name, Name>,
+    number: usize,
+) -> Result<Option<Found>, AllocError>
+    ensures numbers { OnOk result
+        (numbers.new ≡ with_label scope.now.text numbers.old line.now.label number) }
+    ensures twice { IfOk result (λ again. IsLeastOf
+        (OfCause Twice (IsKeptLabel scope.now.text numbers.old line.now.label)) again) }
+{
+    let Some(label) = line.label else {
+        return Ok(None);
+    };
+    if numbers.add(alloc, scope.spelling(label), number)? {
+        return Ok(None);
+    }
+    Ok(Some(Found {
+        at: label.from,
+        cause: NameCause::Twice,
+    }))
+}
