@@ -3,6 +3,7 @@ use Rattle.std.proofs.Common.{◌≡◌, Bool, true, false, cond, List, [], ◌�
 use Rattle.std.proofs.Common.{subst, arith}
 use Rattle.std.proofs.lemmas.Int.{ints}
 use Rattle.ilranges.proofs.Functions.{same_range}
+use Rattle.ilranges.proofs.Marking.{mark_self}
 use Rattle.ilranges.proofs.OrderLaws.{known_self}
 use Rattle.std.specs.Prelude.{IsTrue}
 use Rattle.std.specs.List.{AllZip}
@@ -13,7 +14,10 @@ use Rattle.ilranges.specs.declared.known.Known.TheVariants as knowns
 use Rattle.ilranges.specs.Knowns.{IsKnownWithin}
 use Rattle.ilranges.specs.declared.entry.Entry.{Entry}
 use Rattle.ilranges.specs.declared.nesting.KnownOpened.{KnownOpened}
+use Rattle.ilranges.specs.declared.mark.Mark.{Mark}
 use Rattle.ilranges.specs.Entries.{IsResultInto, IsOpenedInto, IsInto}
+use Rattle.ilranges.specs.Marks.{IsMarkInto}
+use Rattle.ilverify.specs.Certificates.{are_closed}
 
 -- ---- lists, place by place
 
@@ -50,6 +54,7 @@ pub into_self : (entry : Entry) → IsInto entry entry
 into_self entry = record {
   slots = zip_self IsKnownWithin known_self entry.slots;
   result = result_self entry.result;
+  mark = mark_self entry.mark;
   nesting = zip_self IsOpenedInto opened_self entry.nesting;
 }
 
@@ -70,6 +75,12 @@ result_trans a None (Some z) h g = absurd g
 result_trans None (Some y) (Some z) h g = absurd h
 result_trans (Some x) (Some y) (Some z) h g = known_trans x y z h g
 
+mark_trans : (a b c : Option Mark) → IsMarkInto a b → IsMarkInto b c → IsMarkInto a c
+mark_trans a b None h g = tt
+mark_trans a None (Some z) h g = absurd g
+mark_trans None (Some y) (Some z) h g = absurd h
+mark_trans (Some x) (Some y) (Some z) h g = h ∙ g
+
 opened_trans : (a b c : KnownOpened) → IsOpenedInto a b → IsOpenedInto b c → IsOpenedInto a c
 opened_trans a b c h g =
     record { operator = h.operator ∙ g.operator; saved = known_trans a.saved b.saved c.saved h.saved g.saved }
@@ -78,6 +89,7 @@ pub into_trans : (a b c : Entry) → IsInto a b → IsInto b c → IsInto a c
 into_trans a b c h g = record {
   slots = zip_trans IsKnownWithin known_trans a.slots b.slots c.slots h.slots g.slots;
   result = result_trans a.result b.result c.result h.result g.result;
+  mark = mark_trans a.mark b.mark c.mark h.mark g.mark;
   nesting = zip_trans IsOpenedInto opened_trans a.nesting b.nesting c.nesting h.nesting g.nesting;
 }
 
@@ -98,6 +110,12 @@ same_result None (Some y) h g = absurd h
 same_result (Some x) None h g = absurd g
 same_result (Some x) (Some y) h g = ap Some (same_known x y h g)
 
+same_mark : (a b : Option Mark) → IsMarkInto a b → IsMarkInto b a → a ≡ b
+same_mark None None h g = refl
+same_mark None (Some y) h g = absurd h
+same_mark (Some x) None h g = absurd g
+same_mark (Some x) (Some y) h g = ap Some h
+
 same_opened : (a b : KnownOpened) → IsOpenedInto a b → IsOpenedInto b a → a ≡ b
 same_opened a b h g =
     ap (λ o. record a { operator = o }) h.operator
@@ -107,26 +125,66 @@ pub same_entry : (a b : Entry) → IsInto a b → IsInto b a → a ≡ b
 same_entry a b h g =
     ap (λ s. record a { slots = s }) (zip_same IsKnownWithin same_known a.slots b.slots h.slots g.slots)
     ∙ ap (λ r. record a { slots = b.slots; result = r }) (same_result a.result b.result h.result g.result)
+    ∙ ap (λ m. record b { mark = m; nesting = a.nesting }) (same_mark a.mark b.mark h.mark g.mark)
     ∙ ap (λ n. record b { nesting = n }) (zip_same IsOpenedInto same_opened a.nesting b.nesting h.nesting g.nesting)
 
--- ---- a result that is forgotten
+-- ---- a start, where no current result and no mark stay
+
+abbrev pub HasNoResult : Entry → Type 0
+HasNoResult entry = (entry.result ≡ None) × (entry.mark ≡ None)
+
+abbrev pub forgotten : Bool → Entry → Entry
+forgotten start entry = cond start (record entry { result = None; mark = None }) entry
 
 -- what comes to a place is within what is known there
-pub into_forgotten : (t : Bool) (entry : Entry) → IsInto entry (cond t (record entry { result = None }) entry)
-into_forgotten true entry = let h = into_self entry in record { slots = h.slots; result = tt; nesting = h.nesting }
+pub into_forgotten : (start : Bool) (entry : Entry) → IsInto entry (forgotten start entry)
+into_forgotten true entry =
+    let h = into_self entry in record { slots = h.slots; result = tt; mark = tt; nesting = h.nesting }
 into_forgotten false entry = into_self entry
 
 -- it is within each entry that holds it, where at a start that entry has no result
-pub forgotten_into : (t : Bool) (entry wider : Entry) → (IsTrue t → wider.result ≡ None) → IsInto entry wider
-    → IsInto (cond t (record entry { result = None }) entry) wider
+pub forgotten_into : (start : Bool) (entry wider : Entry) → (IsTrue start → HasNoResult wider) → IsInto entry wider
+    → IsInto (forgotten start entry) wider
 forgotten_into true entry wider n h = record {
   slots = h.slots;
-  result = subst (IsResultInto None) (sym (n refl)) tt;
+  result = subst (IsResultInto None) (sym (n refl).0) tt;
+  mark = subst (IsMarkInto None) (sym (n refl).1) tt;
   nesting = h.nesting;
 }
 forgotten_into false entry wider n h = h
 
-pub forgotten_none : (t : Bool) (entry : Entry) → IsTrue t
-    → (cond t (record entry { result = None }) entry).result ≡ None
-forgotten_none true entry h = refl
+pub forgotten_none : (start : Bool) (entry : Entry) → IsTrue start → HasNoResult (forgotten start entry)
+forgotten_none true entry h = (refl, refl)
 forgotten_none false entry h = absurd (cc)
+
+result_none : (result wider : Option Known) → result ≡ None → IsResultInto result wider → wider ≡ None
+result_none result None e h = refl
+result_none None (Some y) e h = absurd h
+result_none (Some x) (Some y) e h = absurd (cc)
+
+mark_none : (mark wider : Option Mark) → mark ≡ None → IsMarkInto mark wider → wider ≡ None
+mark_none mark None e h = refl
+mark_none None (Some y) e h = absurd h
+mark_none (Some x) (Some y) e h = absurd (cc)
+
+-- an entry that holds one without a result has none
+pub none_wider : (entry wider : Entry) → IsInto entry wider → HasNoResult entry → HasNoResult wider
+none_wider entry wider i h =
+    (result_none entry.result wider.result h.0 i.result, mark_none entry.mark wider.mark h.1 i.mark)
+
+-- ---- parentheses that are open
+
+closed_zip : (nesting wider : List KnownOpened) → AllZip IsOpenedInto nesting wider
+    → are_closed nesting ≡ are_closed wider
+closed_zip [] [] h = refl
+closed_zip [] (y ∷ ys) h = absurd h
+closed_zip (x ∷ xs) [] h = absurd h
+closed_zip (x ∷ xs) (y ∷ ys) h = refl
+
+-- as much is open by the wider
+pub closed_wider : (entry wider : Entry) → IsInto entry wider → are_closed entry.nesting ≡ are_closed wider.nesting
+closed_wider entry wider i = closed_zip entry.nesting wider.nesting i.nesting
+
+pub closed_is : (nesting : List KnownOpened) → IsTrue (are_closed nesting) → nesting ≡ []
+closed_is [] h = refl
+closed_is (x ∷ xs) h = absurd (cc)

@@ -1,5 +1,5 @@
 -- A code is refused at one word at most, for one cause.
-use Rattle.std.proofs.Common.{◌≡◌, ℕ, ◌+◌, inl, inr, Some, sym, ap, ◌∙◌, subst, arith}
+use Rattle.std.proofs.Common.{◌≡◌, ℕ, ◌+◌, Bool, false, Option, None, Some, inl, inr, refl, sym, ap, ◌∙◌, subst, arith}
 use Rattle.std.specs.Prelude.{slice_get}
 use Rattle.std.proofs.lemmas.Bool.{cases_lt}
 use Rattle.ilcode.specs.declared.instruction.Instruction.{Instruction}
@@ -10,10 +10,10 @@ use Rattle.ilranges.specs.declared.entry.Entry.{Entry}
 use Rattle.ilranges.specs.Entries.{IsInto}
 use Rattle.ilranges.specs.Refusals.{ArisesAtWord}
 use Rattle.ilverify.specs.declared.refusal.Refusal.{Refusal}
-use Rattle.ilverify.specs.Certificates.{Certificate, Leads, IsClosest, IsRefusal}
+use Rattle.ilverify.specs.Certificates.{Certificate, Leads, is_closed, is_met, IsClosest, IsRefusal}
 use Rattle.ilranges.proofs.OneCause.{one_cause}
-use Rattle.ilverify.proofs.Order.{same_entry}
-use Rattle.ilverify.proofs.Pass.{below}
+use Rattle.ilverify.proofs.Growth.{below}
+use Rattle.ilverify.proofs.Order.{same_entry, closed_wider}
 
 -- two closest certificates reach a word with the same entry
 same_reached : (code : Listing) (c d : Certificate) (place : ℕ) (a b : Entry) → IsClosest code c place
@@ -39,6 +39,32 @@ same_word code a b h g =
       ]
     ]
 
+-- where the one does not reach a place, the other does not
+unmet_by : (code : Listing) (c d : Certificate) (place : ℕ) → IsClosest code c place → IsClosest code d place
+    → (at : ℕ) (x : Option (Option Entry)) → slice_get c at ≡ x → ((entry : Entry) → ¬ (x ≡ Some (Some entry)))
+    → is_met d at ≡ false
+unmet_by code c d place h g at x e none = none_there (slice_get d at) refl
+  where
+    none_there : (y : Option (Option Entry)) → slice_get d at ≡ y → is_closed y ≡ false
+    none_there None f = refl
+    none_there (Some None) f = refl
+    none_there (Some (Some entry)) f =
+        let from : Leads c at entry = g.covers c h.consistent at entry f in absurd (none from.wider (sym e ∙ from.is))
+
+met_by : (code : Listing) (c d : Certificate) (place : ℕ) → IsClosest code c place → IsClosest code d place
+    → (at : ℕ) (x : Option (Option Entry)) → slice_get c at ≡ x → is_closed x ≡ is_met d at
+met_by code c d place h g at None e = sym (unmet_by code c d place h g at None e (λ a k. let z : ⊥ = cc in z))
+met_by code c d place h g at (Some None) e =
+    sym (unmet_by code c d place h g at (Some None) e (λ a k. let z : ⊥ = cc in z))
+met_by code c d place h g at (Some (Some entry)) e =
+    let to : Leads d at entry = h.covers d g.consistent at entry e in
+    closed_wider entry to.wider to.into ∙ sym (ap is_closed to.is)
+
+-- two closest certificates reach the same places where nothing is open
+same_met : (code : Listing) (c d : Certificate) (place at : ℕ) → IsClosest code c place → IsClosest code d place
+    → is_met c at ≡ is_met d at
+same_met code c d place at h g = met_by code c d place h g at (slice_get c at) refl
+
 same_at : (code : Listing) (word line other : ℕ) (cause its : Cause)
     → IsRefusal code (record { word = word; line = line; cause = cause })
     → IsRefusal code (record { word = word; line = other; cause = its }) → (line ≡ other) × (cause ≡ its)
@@ -46,10 +72,13 @@ same_at code word line other cause its h g =
     let entry : h.entry ≡ g.entry = same_reached code h.certificate g.certificate word h.entry g.entry h.closest
     g.closest h.reached g.reached in
     let instruction : h.word ≡ g.word = let a = h.is in let b = g.is in cc in
-    let there : IsLeastCause (ArisesAtWord code word g.entry g.word) cause =
-    subst (λ (w : Instruction). IsLeastCause (ArisesAtWord code word g.entry w) cause) instruction
-    (subst (λ (e : Entry). IsLeastCause (ArisesAtWord code word e h.word) cause) entry h.cause) in
-    (let a = h.line in let b = g.line in cc, one_cause g.word code word g.entry cause its there g.cause)
+    let met = is_met g.certificate (word + 1) in
+    let there : IsLeastCause (ArisesAtWord code word met g.entry g.word) cause =
+    subst (λ (w : Instruction). IsLeastCause (ArisesAtWord code word met g.entry w) cause) instruction
+    (subst (λ (e : Entry). IsLeastCause (ArisesAtWord code word met e h.word) cause) entry
+    (subst (λ (m : Bool). IsLeastCause (ArisesAtWord code word m h.entry h.word) cause)
+    (same_met code h.certificate g.certificate word (word + 1) h.closest g.closest) h.cause)) in
+    (let a = h.line in let b = g.line in cc, one_cause g.word code word met g.entry cause its there g.cause)
 
 pub same_refusal : (code : Listing) (a b : Refusal) → IsRefusal code a → IsRefusal code b → a ≡ b
 same_refusal code a b h g =
