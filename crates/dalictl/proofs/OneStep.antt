@@ -5,9 +5,7 @@ use Rattle.std.specs.Prelude.{slice_get}
 use Rattle.std.proofs.lemmas.Bool.{cases_lt}
 use Rattle.iltypes.specs.declared.value.Value.{Value}
 use Rattle.ilplan.specs.Plans.{Planned, PlannedTask, initials_of}
-use Rattle.ilcode.specs.Listings.{Listing}
-use Rattle.ilcode.specs.Steps.{Configuration, at, after, start, Ends}
-use Rattle.ilcode.proofs.Runs.{run_place}
+use Rattle.ilcode.proofs.RunPaths.{one_end}
 use Rattle.ilverify.specs.Verdicts.{Accepted}
 use Rattle.plantload.specs.Loaded.{Loaded}
 use Rattle.plantload.specs.Loading.{IsLoadFault, IsPlanOfText, IsSetup}
@@ -22,23 +20,10 @@ use Rattle.dalictl.specs.Stepping.{AreScansOf, IsScanAt, Run, ScansTo}
 
 -- ---- scans
 
--- a run ends after one number of steps, with one list of values
-same_end : (code : Listing) (from : List Value) (m n : ℕ) (a b : List Value) → Ends code from m a → Ends code from n b
-    → (m ≡ n) × (a ≡ b)
-same_end code from m n a b h g =
-    let end = length code.instructions in
-    let mine : end ≡ m = run_place code from m _ h.run.is in
-    let its : end ≡ n = run_place code from n _ g.run.is in
-    let steps : m ≡ n = sym mine ∙ its in
-    let one = subst (λ (k : ℕ). after code (start from) k ≡ Some (at end a h.result [])) steps h.run.is in
-    let both : Some (at end a h.result []) ≡ Some (at end b g.result []) = sym one ∙ g.run.is in
-    let ends : at end a h.result [] ≡ at end b g.result [] = cc in
-    (steps, ap (λ (c : Configuration). c.slots) ends)
-
 same_scan : (code : Accepted) (moment : ℕ) (from : List Value) (s t : Taken) (a b : List Value)
     → IsScanAt code moment from s a → IsScanAt code moment from t b → (s ≡ t) × (a ≡ b)
 same_scan code moment from s t a b h g =
-    let ends = same_end code.code from s.steps t.steps a b h.scan.run g.scan.run in
+    let ends = one_end code.code from s.steps t.steps a b h.scan.run g.scan.run in
     let moments = h.at_moment ∙ sym g.at_moment in
     (λ i. record { moment = moments i; steps = ends.0 i }, ends.1)
 

@@ -6,6 +6,7 @@ ghost use Rattle.iltypes.specs.Values.{AreOf};
 use iltypes::{IlType, Value};
 
 mod calls;
+mod jumps;
 mod numbers;
 mod truths;
 

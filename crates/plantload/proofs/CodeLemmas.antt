@@ -112,7 +112,7 @@ one_code_more plan k codes code below known this =
 -- what is laid out for a task, accepted with its greatest path, is its code
 pub is_code : (o : Option PlannedTask) (plan : Planned) (listing : Listing) (code : Accepted)
     → IfSome o (λ t. listing ≡ listing_for plan t) → code.code ≡ listing → IsCertified listing
-    → IsBound code.code.instructions code.bound → IfSome o (λ t. IsCodeOf plan t code)
+    → IsBound code.code code.bound → IfSome o (λ t. IsCodeOf plan t code)
 is_code None plan listing code layout same certified bound = tt
 is_code (Some t) plan listing code layout same certified bound =
     record { laid = same ∙ layout; certified = subst IsCertified layout certified; bound = bound }

@@ -14,9 +14,9 @@ use Rattle.ilplan.specs.Plans.{Planned, PlannedTask}
 use Rattle.ilsyms.specs.Resolved.{plan_of_tree}
 use Rattle.ilscope.specs.Reports.{ReportsLeast}
 use Rattle.ilscope.proofs.OneFault.{one_report}
-use Rattle.ilcode.specs.declared.instruction.Instruction.{Instruction}
 use Rattle.ilcode.specs.Listings.{Listing}
 use Rattle.ilcode.specs.Paths.{IsBound}
+use Rattle.ilcode.proofs.RunPaths.{one_bound}
 use Rattle.ilverify.specs.declared.refusal.Refusal.{Refusal}
 use Rattle.ilverify.specs.Certificates.{IsRefusal}
 use Rattle.ilverify.specs.Verdicts.{Accepted}
@@ -29,21 +29,12 @@ use Rattle.plantload.proofs.CodeLemmas.{certified_at}
 
 -- ---- codes
 
--- words have one greatest path's length
-same_bound : (words : List Instruction) (a b : ℕ) → IsBound words a → IsBound words b → a ≡ b
-same_bound words a b h g =
-    let up = g.greatest h.path h.is in
-    let down = h.greatest g.path g.is in
-    let mine = h.long in
-    let its = g.long in
-    omega (arith, up, down, mine, its)
-
 -- a task has one code
 same_code : (plan : Planned) (t : PlannedTask) (a b : Accepted) → IsCodeOf plan t a → IsCodeOf plan t b → a ≡ b
 same_code plan t a b h g =
     let code : a.code ≡ b.code = h.laid ∙ sym g.laid in
-    let mine = subst (λ (l : Listing). IsBound l.instructions a.bound) code h.bound in
-    let bound : a.bound ≡ b.bound = same_bound b.code.instructions a.bound b.bound mine g.bound in
+    let mine = subst (λ (l : Listing). IsBound l a.bound) code h.bound in
+    let bound : a.bound ≡ b.bound = one_bound b.code a.bound b.bound mine g.bound in
     λ i. record { code = code i; bound = bound i }
 
 codes_same : (plan : Planned) (tasks : List PlannedTask) (a b : List Accepted) → AllZip (IsCodeOf plan) tasks a

@@ -42,7 +42,7 @@ listing_for plan task = laid_out plan.buses plan.text task
 pub record IsCodeOf (plan : Planned) (task : PlannedTask) (code : Accepted) : Type 0 where
   pub laid : code.code ≡ listing_for plan task
   pub certified : IsCertified (listing_for plan task)
-  pub bound : IsBound code.code.instructions code.bound
+  pub bound : IsBound code.code code.bound
 
 -- for each task of the plan, in order, its code
 abbrev pub AreCodes : Planned → List Accepted → Type 0

@@ -100,7 +100,7 @@ fn code_of(alloc: Global, plan: &Plan, task: usize) -> Result<Arc<Verified>, Ver
 /// The code, to be shared. Its bound is its greatest path.
 fn shared(alloc: Global, verified: Verified) -> Result<Arc<Verified>, AllocError>
     ensures same { IfOk result (λ code. arc_value code ≡ verified) }
-    ensures bound { IsBound verified.code.instructions verified.bound }
+    ensures bound { IsBound verified.code verified.bound }
 {
     let _ = verified.bound();
     Ok(Arc::new(alloc, verified)?)

@@ -29,8 +29,10 @@ fn runs_go_along_paths()
         → bound ≡ other }
 {}
 
-/// Each run of a safe code ends.
-fn safe_runs_end()
-    ensures { (code : Listing) (from : List Value) → IsSafe code → AreOf from code.slots
+/// Each run of a safe code ends; and a run ends after one number of steps, with one list of values.
+fn safe_runs_end_once()
+    ensures ends { (code : Listing) (from : List Value) → IsSafe code → AreOf from code.slots
         → (steps : ℕ) × (to : List Value) × Ends code from steps to }
+    ensures once { (code : Listing) (from : List Value) (steps others : ℕ) (to other : List Value)
+        → Ends code from steps to → Ends code from others other → (steps ≡ others) × (to ≡ other) }
 {}
