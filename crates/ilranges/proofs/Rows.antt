@@ -16,12 +16,14 @@ get_right [] ys m n e = let f : m ≡ n = omega arith in ap (slice_get ys) f
 get_right (x ∷ xs) ys zero n e = absurd (omega arith)
 get_right (x ∷ xs) ys (suc m) n e = get_right xs ys m n (omega arith)
 
-pub set_left : {A : Type 0} (xs ys : List A) (n : ℕ) (a : A) → n < length xs → slice_set (xs ++ ys) n a ≡ slice_set xs n a ++ ys
+pub set_left : {A : Type 0} (xs ys : List A) (n : ℕ) (a : A) → n < length xs
+    → slice_set (xs ++ ys) n a ≡ slice_set xs n a ++ ys
 set_left [] ys n a h = absurd (omega arith)
 set_left (x ∷ xs) ys zero a h = refl
 set_left (x ∷ xs) ys (suc n) a h = ap (λ zs. x ∷ zs) (set_left xs ys n a (omega arith))
 
-pub set_right : {A : Type 0} (xs ys : List A) (m n : ℕ) (a : A) → m ≡ length xs + n → slice_set (xs ++ ys) m a ≡ xs ++ slice_set ys n a
+pub set_right : {A : Type 0} (xs ys : List A) (m n : ℕ) (a : A) → m ≡ length xs + n
+    → slice_set (xs ++ ys) m a ≡ xs ++ slice_set ys n a
 set_right [] ys m n a e = let f : m ≡ n = omega arith in ap (λ k. slice_set ys k a) f
 set_right (x ∷ xs) ys zero n a e = absurd (omega arith)
 set_right (x ∷ xs) ys (suc m) n a e = ap (λ zs. x ∷ zs) (set_right xs ys m n a (omega arith))
@@ -32,9 +34,11 @@ pub record EachUpTo {A : Type 0} (P : A → A → A → Type 0) (n : ℕ) (ps bs
   pub each : (k : ℕ) (a b c : A) → slice_get ps k ≡ Some a → slice_get bs k ≡ Some b → slice_get cs k ≡ Some c → P a b c
 
 pub each_none : {A : Type 0} (P : A → A → A → Type 0) (ps bs : List A) → EachUpTo P 0 ps bs []
-each_none P ps bs = record { long = refl; each = λ k a b c p q r. absurd (let l = slice_get_within [] k c r in omega arith) }
+each_none P ps bs =
+    record { long = refl; each = λ k a b c p q r. absurd (let l = slice_get_within [] k c r in omega arith) }
 
-pub each_more : {A : Type 0} (P : A → A → A → Type 0) (n : ℕ) (ps bs cs : List A) (x y z : A) → EachUpTo P n ps bs cs → slice_get ps n ≡ Some x → slice_get bs n ≡ Some y → P x y z → EachUpTo P (n + 1) ps bs (cs ++ z ∷ [])
+pub each_more : {A : Type 0} (P : A → A → A → Type 0) (n : ℕ) (ps bs cs : List A) (x y z : A) → EachUpTo P n ps bs cs
+    → slice_get ps n ≡ Some x → slice_get bs n ≡ Some y → P x y z → EachUpTo P (n + 1) ps bs (cs ++ z ∷ [])
 each_more P n ps bs cs x y z j ax by p = record {
   long = omega (arith, length-append cs (z ∷ []), j.long);
   each = λ k a b c ak bk ck.
@@ -58,10 +62,15 @@ pub each_all : {A : Type 0} (P : A → A → A → Type 0) (n : ℕ) (ps bs cs :
 each_all P n ps bs cs j e f =
     record { first = sym e ∙ sym j.long; second = sym f ∙ (sym e ∙ sym j.long); each = j.each }
 
-pub each_tail : {A : Type 0} (P : A → A → A → Type 0) (a b c : A) (ps bs cs : List A) → Each P (a ∷ ps) (b ∷ bs) (c ∷ cs) → Each P ps bs cs
-each_tail P a b c ps bs cs e = let f = e.first in let g = e.second in record { first = omega arith; second = omega arith; each = λ k x y z p q r. e.each (suc k) x y z p q r }
+pub each_tail : {A : Type 0} (P : A → A → A → Type 0) (a b c : A) (ps bs cs : List A)
+    → Each P (a ∷ ps) (b ∷ bs) (c ∷ cs) → Each P ps bs cs
+each_tail P a b c ps bs cs e =
+    let f = e.first in
+    let g = e.second in
+    record { first = omega arith; second = omega arith; each = λ k x y z p q r. e.each (suc k) x y z p q r }
 
-pub each_append : {A : Type 0} (P : A → A → A → Type 0) (ps bs cs us vs ws : List A) → Each P ps bs cs → Each P us vs ws → Each P (ps ++ us) (bs ++ vs) (cs ++ ws)
+pub each_append : {A : Type 0} (P : A → A → A → Type 0) (ps bs cs us vs ws : List A) → Each P ps bs cs → Each P us vs ws
+    → Each P (ps ++ us) (bs ++ vs) (cs ++ ws)
 each_append P ps bs cs us vs ws e f =
     let a = e.first in let b = e.second in let c = f.first in let d = f.second in
     record {
@@ -69,13 +78,17 @@ each_append P ps bs cs us vs ws e f =
       second = omega (arith, length-append bs vs, length-append cs ws);
       each = λ k x y z p q r.
           elim (cases_lt k (length cs)) [
-            | inl l ↦ e.each k x y z (sym (get_left ps us k (omega arith)) ∙ p) (sym (get_left bs vs k (omega arith)) ∙ q) (sym (get_left cs ws k l) ∙ r)
+            | inl l ↦ e.each k x y z (sym (get_left ps us k (omega arith)) ∙ p)
+                (sym (get_left bs vs k (omega arith)) ∙ q) (sym (get_left cs ws k l) ∙ r)
             | inr g ↦
                 let m = k - length cs in
-                f.each m x y z (sym (get_right ps us k m (omega arith)) ∙ p) (sym (get_right bs vs k m (omega arith)) ∙ q) (sym (get_right cs ws k m (omega arith)) ∙ r)
+                f.each m x y z (sym (get_right ps us k m (omega arith)) ∙ p)
+                    (sym (get_right bs vs k m (omega arith)) ∙ q) (sym (get_right cs ws k m (omega arith)) ∙ r)
           ];
     }
 
 pub each_nil : {A : Type 0} (P : A → A → A → Type 0) → Each P [] [] []
-each_nil P = record { first = refl; second = refl; each = λ k a b c p q r. absurd (let l = slice_get_within [] k c r in omega arith) }
+each_nil P =
+    record { first = refl; second = refl; each = λ k a b c p q r. absurd
+        (let l = slice_get_within [] k c r in omega arith) }
 

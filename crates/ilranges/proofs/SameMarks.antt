@@ -12,9 +12,12 @@ use Rattle.ilranges.specs.declared.mark.Mark.TheVariants.{Copy, Test}
 use Rattle.ilranges.specs.contracts.mark.MarkPartialEq.TheImpl as mark_eq
 
 same_operator : (a b : Operator) → Decides (operator_eq.eq-value.it a b) (a ≡ b)
-same_operator (operators.And a) (operators.And b) = Decides-like _ (λ e. ap operators.And e) (λ e. cc) (booleans_Decides a b)
-same_operator (operators.Or a) (operators.Or b) = Decides-like _ (λ e. ap operators.Or e) (λ e. cc) (booleans_Decides a b)
-same_operator (operators.Xor a) (operators.Xor b) = Decides-like _ (λ e. ap operators.Xor e) (λ e. cc) (booleans_Decides a b)
+same_operator (operators.And a) (operators.And b) =
+    Decides-like _ (λ e. ap operators.And e) (λ e. cc) (booleans_Decides a b)
+same_operator (operators.Or a) (operators.Or b) =
+    Decides-like _ (λ e. ap operators.Or e) (λ e. cc) (booleans_Decides a b)
+same_operator (operators.Xor a) (operators.Xor b) =
+    Decides-like _ (λ e. ap operators.Xor e) (λ e. cc) (booleans_Decides a b)
 same_operator operators.Add operators.Add = (λ e. refl, λ e. refl)
 same_operator operators.Sub operators.Sub = (λ e. refl, λ e. refl)
 same_operator operators.Mul operators.Mul = (λ e. refl, λ e. refl)
@@ -40,7 +43,8 @@ same_mark : (a b : Mark) → Decides (mark_eq.eq-value.it a b) (a ≡ b)
 same_mark (Copy a) (Copy b) = Decides-like _ (λ e. ap Copy e) (λ e. cc) (Decides-eqb a b)
 same_mark (Test slot comparison limit) (Test other compared bound) =
     Decides-like _ (same_test slot other comparison compared limit bound) (λ e. (cc, (cc, cc)))
-    (Decides-and _ _ (Decides-eqb slot other) (Decides-and _ _ (same_operator comparison compared) (Decides-int_eq limit bound)))
+    (Decides-and _ _ (Decides-eqb slot other)
+        (Decides-and _ _ (same_operator comparison compared) (Decides-int_eq limit bound)))
 same_mark (Copy a) (Test other compared bound) = (λ e. cc, λ e. cc)
 same_mark (Test slot comparison limit) (Copy b) = (λ e. cc, λ e. cc)
 

@@ -7,7 +7,8 @@ use Rattle.ilranges.specs.Knowns.{IsKnownWithin}
 -- each of the first list says no less than that of the second at its place
 pub record AreWithin (knowns wider : List Known) : Type 0 where
   pub long : length knowns ≡ length wider
-  pub each : (place : ℕ) (known other : Known) → slice_get knowns place ≡ Some known → slice_get wider place ≡ Some other
+  pub each : (place : ℕ) (known other : Known) → slice_get knowns place ≡ Some known
+      → slice_get wider place ≡ Some other
       → IsKnownWithin known other
 
 -- of the current result, what is known on either way and no less

@@ -1,13 +1,16 @@
 //! What is known before and after each word of a code, with which a verifier follows a program.
 //!
 //! What crosses the boundary: [`Entry`], all that is known at a place, [`after_word`], which says
-//! what a word changes of it on each way from the word ([`Changes`]) or reports the least [`Cause`],
-//! and [`Known`], a kind with a range for numbers. The rules are `AreWaysOf` (specs/Rules.antt, to be read first) and
-//! `ArisesAtWord` (specs/Refusals.antt), over `IsAfter` of an operator (specs/Results.antt).
+//! what a word changes of it on each way from the word ([`Changes`]) or reports the least
+//! [`Cause`], and [`Known`], a kind with a range for numbers. The rules are `AreWaysOf`
+//! (specs/Rules.antt, to be read first) and `ArisesAtWord` (specs/Refusals.antt), over `IsAfter`
+//! of an operator (specs/Results.antt). Where ways meet, [`Entry::join`] has what is known on both.
 //!
 //! ```text
 //! let changes = after_word(code, place, met, &entry, word)?;
-//! changes.next.apply(&mut entry)?;
+//! if let Some(change) = changes.next {
+//!     change.apply(&mut entry)?;
+//! }
 //! ```
 #![tactic(auto)]
 

@@ -4,4 +4,5 @@ use Rattle.ilranges.proofs.Parts.{AreFull}
 use Rattle.ilranges.proofs.chunks.cut.Given as goal
 
 abbrev pub invariant-loop-k : goal.invariant-loop-k
-invariant-loop-k l = record { full : AreFull l.made.items; all : whole l.made.items ++ drop (l.k * 64) l.items ≡ l.items }
+invariant-loop-k l =
+    record { full : AreFull l.made.items; all : whole l.made.items ++ drop (l.k * 64) l.items ≡ l.items }

@@ -26,4 +26,5 @@ returns-then-are_within-2 c =
     let f : c.deref-6.result.now ≡ c.args.self.now = cc in
     let g : c.deref-8.result.now ≡ c.args.other.now = cc in
     let v : AreWithin c.args.self.now c.args.other.now = rw (← f, ← g) w in
-    IfOk-weaker c.share-then-are_within-2.result _ _ (λ d e. rw e (joins_others _ _ v)) c.share-then-are_within-2.ensures
+    IfOk-weaker c.share-then-are_within-2.result _ _
+        (λ d e. rw e (joins_others _ _ v)) c.share-then-are_within-2.ensures

@@ -11,7 +11,8 @@ pub join_each-requires : goal.join_each-requires
 join_each-requires c =
     let v : whole c.self.inside.chunks.items ≡ c.args.self.now = c.self.view_is in
     let u : whole c.other.inside.chunks.items ≡ c.args.other.now = c.other.view_is in
-    let h : AllZip IsHeld (whole c.self.inside.chunks.items) (whole c.other.inside.chunks.items) = rw (v, u) c.requires in
+    let h : AllZip IsHeld (whole c.self.inside.chunks.items) (whole c.other.inside.chunks.items) = rw
+        (v, u) c.requires in
     let s = alike_from_length _ _ c.self.invariant.0 c.other.invariant.0 (length_all_zip IsHeld _ _ h) in
     rw (c.deref.ensures.value, c.deref-2.ensures.value) (parts_held _ _ s h)
 

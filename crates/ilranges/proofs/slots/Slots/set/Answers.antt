@@ -7,19 +7,22 @@ use Rattle.ilranges.proofs.slots.Slots.set.Goals as goal
 
 pub index_mut-requires : goal.index_mut-requires
 index_mut-requires c =
-    let l : c.args.slot < length (whole c.self.inside.chunks.items) = omega (arith, c.if-slot-self.true, c.self.invariant.1) in
+    let l : c.args.slot < length (whole c.self.inside.chunks.items) = omega
+        (arith, c.if-slot-self.true, c.self.invariant.1) in
     let p = place_of c.self.inside.chunks.items c.args.slot c.self.invariant.0 l in
     let i = p.inside in omega arith
 
 pub set-requires : goal.set-requires
 set-requires c =
-    let l : c.args.slot < length (whole c.self.inside.chunks.items) = omega (arith, c.if-slot-self.true, c.self.invariant.1) in
+    let l : c.args.slot < length (whole c.self.inside.chunks.items) = omega
+        (arith, c.if-slot-self.true, c.self.invariant.1) in
     let p = place_of c.self.inside.chunks.items c.args.slot c.self.invariant.0 l in
     rw (← place_read _ _ _ _ p c.index_mut.result.now c.index_mut.ensures.value) p.within
 
 pub invariant_of-self : goal.invariant_of-self
 invariant_of-self c =
-    let l : c.args.slot < length (whole c.self.inside.chunks.items) = omega (arith, c.if-slot-self.true, c.self.invariant.1) in
+    let l : c.args.slot < length (whole c.self.inside.chunks.items) = omega
+        (arith, c.if-slot-self.true, c.self.invariant.1) in
     let p = place_of c.self.inside.chunks.items c.args.slot c.self.invariant.0 l in
     let e : p.chunk ≡ c.index_mut.result.now =
         place_read _ _ _ _ p c.index_mut.result.now c.index_mut.ensures.value in
@@ -31,7 +34,8 @@ invariant_of-self c =
 pub returns-then-slot-self : goal.returns-then-slot-self
 returns-then-slot-self c =
     let v : whole c.self.inside.chunks.items ≡ c.args.self.now = c.self.view_is in
-    let l : c.args.slot < length (whole c.self.inside.chunks.items) = omega (arith, c.if-slot-self.true, c.self.invariant.1) in
+    let l : c.args.slot < length (whole c.self.inside.chunks.items) = omega
+        (arith, c.if-slot-self.true, c.self.invariant.1) in
     let p = place_of c.self.inside.chunks.items c.args.slot c.self.invariant.0 l in
     let e : p.chunk ≡ c.index_mut.result.now =
         place_read _ _ _ _ p c.index_mut.result.now c.index_mut.ensures.value in
