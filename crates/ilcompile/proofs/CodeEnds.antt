@@ -1,5 +1,5 @@
 -- A run that comes to the end of a code with some values, or is stuck, ends so and not otherwise.
-use Rattle.std.proofs.Common.{◌≡◌, ℕ, zero, suc, Bool, List, [], length, Option, Some, None, refl}
+use Rattle.std.proofs.Common.{◌≡◌, ℕ, zero, suc, List, [], length, Option, Some, None, refl}
 use Rattle.std.proofs.Common.{sym, ap, ◌∙◌, subst, arith}
 use Rattle.std.specs.Option.{option_and_then}
 use Rattle.std.proofs.lemmas.Option.{slice_get_past, slice_get_within}
@@ -29,7 +29,7 @@ same_after : (code : Listing) (n : ℕ) (c : Configuration) → code_steps.after
 same_after code zero c = refl
 same_after code (suc n) c = ap (option_and_then (step code)) (same_after code n c) ∙ last_step (step code) n c
 
-module _ (code : Listing) (same : ℕ → ℕ → Bool) where
+module _ (code : Listing) where
   end_last : (slots : List Value) (r : Option Value) → step code (at (length code.instructions) slots r []) ≡ None
   end_last slots r =
       ap (step_by code (at (length code.instructions) slots r []))
@@ -39,7 +39,7 @@ module _ (code : Listing) (same : ℕ → ℕ → Bool) where
       → Leads (step code) (start from) (at (length code.instructions) to e.result [])
   leads_by from to n e = record { steps = n; is = sym (same_after code n (start from)) ∙ e.run.is }
 
-  pub one_end : (from to : List Value) (n : ℕ) (o : Option (List Value)) → Comes code same (start from) o
+  pub one_end : (from to : List Value) (n : ℕ) (o : Option (List Value)) → Comes code (start from) o
       → Ends code from n to → o ≡ Some to
   one_end from to n None h e =
       let end = at (length code.instructions) to e.result [] in
@@ -56,7 +56,7 @@ module _ (code : Listing) (same : ℕ → ℕ → Bool) where
       (leads_by from to n e) (end_last to e.result) in
       ap (λ (c : Configuration). Some c.slots) same
 
-  pub some_end : (from to : List Value) (o : Option (List Value)) → Comes code same (start from) o → o ≡ Some to
+  pub some_end : (from to : List Value) (o : Option (List Value)) → Comes code (start from) o → o ≡ Some to
       → (n : ℕ) × Ends code from n to
   some_end from to None h e = absurd cc
   some_end from to (Some s) h e =

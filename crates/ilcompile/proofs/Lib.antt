@@ -5,7 +5,9 @@ pub mod LineRuns
 pub mod Runs
 pub mod ScanRuns
 pub mod Served
+pub mod Sizes
 pub mod Stands
 pub mod Starts
+pub mod TwoPasses
 pub mod TestTasks
 pub mod TreeRuns

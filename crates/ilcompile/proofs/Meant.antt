@@ -12,7 +12,6 @@ use Rattle.iltrees.specs.Uses.{uses_in}
 use Rattle.iltrees.specs.Words.{AreShallow, CallNothing}
 use Rattle.ilplan.specs.Constants.{same_value, constant_in, AreAmong}
 use Rattle.ilplan.specs.Plans.{PlannedInstance, PlannedTask, KeepsLimits, all_lines}
-use Rattle.ilplan.specs.PlanMeaning.{number_same}
 use Rattle.ilplan.proofs.EachOnce.{same_is}
 use Rattle.ilplan.proofs.Used.{uses_among}
 use Rattle.ilcode.specs.Listings.{Listing}
@@ -54,7 +53,7 @@ module _ (constants : List Value) where
   lines_fit (line ∷ lines) sh st sv =
       let mine = served_front constants (uses_in line) (flat_map uses_in lines) sv in
       let others = served_back constants (uses_in line) (flat_map uses_in lines) sv in
-      ((sh.0, st.1, mine), lines_fit lines sh.1 st.2 others)
+      ((sh.0, st.0, mine), lines_fit lines sh.1 st.1 others)
 
 module _ {X : Type 0} (K : X → Type 0) where
   each_front : (a b : List X) → Each K (a ++ b) → Each K a
@@ -75,13 +74,13 @@ programs_fit t k =
     let lines = all_lines t.instances in
     let among = subst (λ cs. AreAmong cs (flat_map uses_in lines)) (sym k.constants) (uses_among lines) in
     each_part (IsFit t.constants) (λ (i : PlannedInstance). i.lines) t.instances
-    (lines_fit t.constants lines k.shallow k.straight (all_served t.constants (flat_map uses_in lines) among))
+    (lines_fit t.constants lines k.shallow k.calls (all_served t.constants (flat_map uses_in lines) among))
 
 pub is_meant : (buses : ℕ) (text : List ℕ) (t : PlannedTask) → KeepsLimits t → IsMeant t (laid_out buses text t)
 is_meant buses text t k =
     let code : Listing = laid_out buses text t in
-    let comes = all_run code number_same (programs_of t.instances) refl refl (programs_fit t k) in
+    let comes = all_run code (programs_of t.instances) refl refl (programs_fit t k) in
     record {
-      runs = λ from to h. some_end code number_same from to _ (comes from) h;
-      means = λ from to steps e. one_end code number_same from to steps _ (comes from) e;
+      runs = λ from to h. some_end code from to _ (comes from) h;
+      means = λ from to steps e. one_end code from to steps _ (comes from) e;
     }

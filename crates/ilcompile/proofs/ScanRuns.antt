@@ -1,7 +1,7 @@
 -- The run of a code is the runs of its programs, one after another.
 use Rattle.std.proofs.Common.{◌≡◌, ℕ, zero, suc, ◌+◌, ◌<◌, ◌≤◌, List, [], ◌∷◌, ◌++◌, length, Bool, true, false, cond}
 use Rattle.std.proofs.Common.{Option, Some, None, refl, sym, ap, ◌∙◌, subst, arith, append_assoc, length-append}
-use Rattle.std.specs.Prelude.{◌==◌, slice_get, ⊤}
+use Rattle.std.specs.Prelude.{◌==◌, ◌&&◌, nat_lt, nat_le, not, slice_get, ⊤}
 use Rattle.std.specs.Option.{option_and_then}
 use Rattle.std.proofs.lemmas.Bool.Decides.{nat_tests}
 use Rattle.std.proofs.lemmas.List.{append-nil}
@@ -10,15 +10,18 @@ use Rattle.iltypes.specs.declared.value.Value.{Value}
 use Rattle.iltrees.specs.declared.instruction.Line.{Line}
 use Rattle.iltrees.specs.Meaning.{Access, On}
 use Rattle.iltrees.specs.Passes.{passes, scan}
+use Rattle.iltrees.specs.Words.{CallNothing}
+use Rattle.iltrees.specs.Words as counts
 use Rattle.ilcode.specs.declared.instruction.Instruction.{Instruction as Word}
 use Rattle.ilcode.specs.Listings.{Listing}
-use Rattle.ilcode.specs.Steps.{Configuration, at, effect, is_start, if_closed, entered, step_by, step}
-use Rattle.ilcode.proofs.Runs.{effect_place}
+use Rattle.ilcode.specs.Steps.{Configuration, at, effect, is_start, is_target, if_closed, entered, step_by, step}
+use Rattle.ilcode.proofs.Runs.{effect_leads, leads_forward}
 use Rattle.ilcompile.specs.Layout.{words_of_lines, words_of_programs, starts_from}
-use Rattle.ilplan.specs.PlanMeaning.{slots_of}
+use Rattle.ilplan.specs.PlanMeaning.{slots_of, number_same}
 use Rattle.ilcompile.proofs.Runs.{Leads, after, none, prepend, leads_on, first_step}
+use Rattle.ilcompile.proofs.Sizes.{lines_long}
 use Rattle.ilcompile.proofs.Stands.{Each, HasWords, has_rest}
-use Rattle.ilcompile.proofs.Starts.{Programs, UpTo, one_more, none_between, one_there}
+use Rattle.ilcompile.proofs.Starts.{Programs, UpTo, one_more, none_between, one_there, begins_between, none_within}
 use Rattle.ilcompile.proofs.TreeRuns.{plain, Stuck}
 use Rattle.ilcompile.proofs.LineRuns.{IsFit, Passes, lines_run}
 
@@ -27,7 +30,7 @@ abbrev pub Ready : Programs → Option Value → Type 0
 Ready [] r = ⊤
 Ready (lines ∷ more) r = r ≡ None
 
-module _ (code : Listing) (same : ℕ → ℕ → Bool) where
+module _ (code : Listing) where
   abbrev access : Access ℕ (List Value)
   access = slots_of code.slots
 
@@ -90,20 +93,17 @@ module _ (code : Listing) (same : ℕ → ℕ → Bool) where
         ap (step_by code c) (word_here c.place w e)
         ∙ sym (ap (λ o. option_and_then (entered code) (option_and_then (effect code c) o)) e)
 
-    -- a step of the part is that of a word, and leads further on, not past its end
+    -- a step of the part is that of a word, and leads further on
     record IsWord (c d : Configuration) : Type 0 where
       word : Word
       stands : slice_get front c.place ≡ Some word
       later : c.place < d.place
-      within : d.place ≤ length front
 
     known_by : (c d : Configuration) (o : Option Word) → slice_get front c.place ≡ o
         → option_and_then (effect code c) o ≡ Some d → IsWord c d
     known_by c d None e f = absurd cc
     known_by c d (Some w) e f =
-        let lt = slice_get_within front c.place w e in
-        let place = effect_place code c d w f in
-        record { word = w; stands = e; later = omega arith; within = omega arith }
+        record { word = w; stands = e; later = leads_forward code w c.place d.place (effect_leads code c d w f) }
 
     known : (c d : Configuration) → part c ≡ Some d → IsWord c d
     known c d e = known_by c d (slice_get front c.place) refl e
@@ -178,22 +178,29 @@ module _ (code : Listing) (same : ℕ → ℕ → Bool) where
   -- the programs that are left, where the words and the starts of those before stand in front
   record Left (front : List Word) (before : List ℕ) (p : ℕ) (more : Programs) : Type 0 where
     place : p ≡ length front
-    words : code.instructions ≡ front ++ words_of_programs code.constants more
-    starts : code.starts ≡ before ++ starts_from code.constants p more
+    words : code.instructions ≡ front ++ words_of_programs code.constants p more
+    starts : code.starts ≡ before ++ starts_from p more
     behind : UpTo p before
 
+  abbrev end_of : ℕ → List (Line ℕ ℕ) → ℕ
+  end_of p lines = p + counts.words_of_lines lines
+
+  abbrev words_at : ℕ → List (Line ℕ ℕ) → List Word
+  words_at p lines = words_of_lines code.constants (end_of p lines) p lines
+
   next_left : (front : List Word) (before : List ℕ) (p : ℕ) (lines : List (Line ℕ ℕ)) (more : Programs)
-      → Left front before p (lines ∷ more)
-      → Left (front ++ words_of_lines code.constants lines) (before ++ p ∷ [])
-      (p + length (words_of_lines code.constants lines)) more
-  next_left front before p lines more l =
-      let ws = words_of_lines code.constants lines in
+      → CallNothing lines → Left front before p (lines ∷ more)
+      → Left (front ++ words_at p lines) (before ++ p ∷ []) (end_of p lines) more
+  next_left front before p lines more c l =
+      let ws = words_at p lines in
+      let q = end_of p lines in
       let e = l.place in
+      let long = lines_long code.constants q p lines c in
       record {
         place = omega (arith, length-append front ws);
-        words = l.words ∙ sym (append_assoc front ws (words_of_programs code.constants more));
-        starts = l.starts ∙ sym (append_assoc before (p ∷ []) (starts_from code.constants (p + length ws) more));
-        behind = one_more before p (p + length ws) (omega arith) l.behind;
+        words = l.words ∙ sym (append_assoc front ws (words_of_programs code.constants q more));
+        starts = l.starts ∙ sym (append_assoc before (p ∷ []) (starts_from q more));
+        behind = one_more before p q (omega arith) l.behind;
       }
 
   quiet_here : (front : List Word) (before : List ℕ) (p q : ℕ) (more : Programs)
@@ -202,13 +209,27 @@ module _ (code : Listing) (same : ℕ → ℕ → Bool) where
   quiet_here front before p q more l behind n lo hi =
       let e = l.place in
       ap (λ ss. is_start (record code { starts = ss }) n) l.starts
-      ∙ none_between code.constants (before ++ p ∷ []) more p q n (one_more before p p (omega arith) behind) lo
-      (omega arith)
+      ∙ none_between (before ++ p ∷ []) more p q n (one_more before p p (omega arith) behind) lo (omega arith)
+
+  -- a jump within a program is lawful
+  lawful_here : (front : List Word) (before : List ℕ) (p q : ℕ) (more : Programs)
+      → Left front (before ++ p ∷ []) q more → UpTo p before → (n m : ℕ) → p ≤ n → n < m → m ≤ q
+      → is_target code n m ≡ true
+  lawful_here front before p q more l behind n m lo up hi =
+      let e = l.place in
+      let long = ap length l.words ∙ length-append front (words_of_programs code.constants q more) in
+      let t : nat_lt n m ≡ true = grind (arith, nat_tests) in
+      let within : m ≤ length code.instructions = omega arith in
+      let u : nat_le m (length code.instructions) ≡ true = grind (arith, nat_tests) in
+      let none = ap (begins_between n m) l.starts
+      ∙ none_within (before ++ p ∷ []) more p n m q (one_more before p p (omega arith) behind) lo hi in
+      ap (λ b. (b && nat_le m (length code.instructions)) && not (begins_between n m code.starts)) t
+      ∙ (ap (λ b. b && not (begins_between n m code.starts)) u ∙ ap not none)
 
   ends_code : (front : List Word) (before : List ℕ) (q : ℕ) (more : Programs) → Left front before q more
       → more ≡ [] → length code.instructions ≡ q
   ends_code front before q more l e =
-      ap length (l.words ∙ ap (λ m. front ++ words_of_programs code.constants m) e ∙ append-nil front) ∙ sym l.place
+      ap length (l.words ∙ ap (λ m. front ++ words_of_programs code.constants q m) e ∙ append-nil front) ∙ sym l.place
 
   -- what is entered with nothing open: at a start there is no result
   enters : (c : Configuration) (starts ends : Bool)
@@ -221,18 +242,18 @@ module _ (code : Listing) (same : ℕ → ℕ → Bool) where
 
   -- at the end of a program the next one begins, with no result
   begins_next : (more : Programs) (q : ℕ) (before : List ℕ) (s : List Value) (r : Option Value)
-      → code.starts ≡ before ++ starts_from code.constants q more
+      → code.starts ≡ before ++ starts_from q more
       → (r' : Option Value) × (entered code (at q s r []) ≡ Some (at q s r' [])) × Ready more r'
   begins_next more q before s r e =
       let k = enters (at q s r []) (is_start code q) (q == length code.instructions) in
       (k.0, k.1, ready more e k.0 k.2)
     where
-      ready : (ms : Programs) → code.starts ≡ before ++ starts_from code.constants q ms → (x : Option Value)
+      ready : (ms : Programs) → code.starts ≡ before ++ starts_from q ms → (x : Option Value)
           → (is_start code q ≡ true → x ≡ None) → Ready ms x
       ready [] f x h = tt
       ready (lines ∷ ms) f x h =
           h (ap (λ ss. is_start (record code { starts = ss }) q) f
-          ∙ one_there before (starts_from code.constants (q + length (words_of_lines code.constants lines)) ms) q)
+          ∙ one_there before (starts_from (q + counts.words_of_lines lines) ms) q)
 
   ready_none : (more : Programs) (r : Option Value) → None ≡ r → Ready more r
   ready_none [] r e = tt
@@ -240,27 +261,27 @@ module _ (code : Listing) (same : ℕ → ℕ → Bool) where
 
   -- one program, where it is known how the run goes on behind it
   go_on : (front : List Word) (before : List ℕ) (p : ℕ) (lines : List (Line ℕ ℕ)) (more : Programs)
-      → Left front before p (lines ∷ more)
-      → (l : Left (front ++ words_of_lines code.constants lines) (before ++ p ∷ [])
-      (p + length (words_of_lines code.constants lines)) more)
+      → (old : Left front before p (lines ∷ more))
+      → (l : Left (front ++ words_at p lines) (before ++ p ∷ []) (end_of p lines) more)
       → (s : List Value) (o : Option (List Value))
-      → Passes code (front ++ words_of_lines code.constants lines) same
-      (p + length (words_of_lines code.constants lines)) (at p s None []) o
+      → Passes code (front ++ words_at p lines) p (end_of p lines)
+      (lawful_here (front ++ words_at p lines) before p (end_of p lines) more l old.behind)
+      (at p s None []) o
       → ((s1 : List Value) (r1 : Option Value) → Ready more r1
-      → Comes (at (p + length (words_of_lines code.constants lines)) s1 r1 []) (scan same access more s1))
-      → Comes (at p s None []) (option_and_then (scan same access more) o)
+      → Comes (at (end_of p lines) s1 r1 []) (scan number_same access more s1))
+      → Comes (at p s None []) (option_and_then (scan number_same access more) o)
   go_on front before p lines more old l s None h next =
-      let q = p + length (words_of_lines code.constants lines) in
-      let f = front ++ words_of_lines code.constants lines in
-      lift_stuck f (words_of_programs code.constants more) p l.words
+      let q = end_of p lines in
+      let f = front ++ words_at p lines in
+      lift_stuck f (words_of_programs code.constants q more) p l.words
       (λ n lo hi. quiet_here f before p q more l old.behind n lo hi) (at p s None []) (omega arith) h
   go_on front before p lines more old l s (Some s1) h next =
-      let q = p + length (words_of_lines code.constants lines) in
-      let f = front ++ words_of_lines code.constants lines in
-      let left = scan same access more s1 in
+      let q = end_of p lines in
+      let f = front ++ words_at p lines in
+      let left = scan number_same access more s1 in
       let b = begins_next more q (before ++ p ∷ []) s1 h.0 l.starts in
       let run = subst (λ n. Leads (plain code f) (at p s None []) (at n s1 h.0 [])) l.place h.1 in
-      on_end f (words_of_programs code.constants more) p l.words
+      on_end f (words_of_programs code.constants q more) p l.words
       (λ n lo hi. quiet_here f before p q more l old.behind n lo hi)
       run.steps (at p s None []) s1 h.0 b.0 left (omega arith) run.is
       (subst (λ n. entered code (at n s1 h.0 []) ≡ Some (at n s1 b.0 [])) l.place b.1)
@@ -268,28 +289,33 @@ module _ (code : Listing) (same : ℕ → ℕ → Bool) where
       (next s1 h.0 (ready_none more h.0 (ap (λ (x : Configuration). x.result) e))))
       (subst (λ n. Comes (at n s1 b.0 []) left) l.place (next s1 b.0 b.2))
 
+  fit_calls : (lines : List (Line ℕ ℕ)) → Each (IsFit code.constants) lines → CallNothing lines
+  fit_calls [] fit = tt
+  fit_calls (line ∷ lines) fit = (fit.0.1, fit_calls lines fit.1)
+
   -- all programs that are left
   programs_run : (programs : Programs) (front : List Word) (before : List ℕ) (p : ℕ)
       → Left front before p programs → Each (Each (IsFit code.constants)) programs → (s : List Value) (r : Option Value)
-      → Ready programs r → Comes (at p s r []) (scan same access programs s)
+      → Ready programs r → Comes (at p s r []) (scan number_same access programs s)
   programs_run [] front before p l fit s r ready =
       let e = ends_code front before p [] l refl in
       (r, subst (λ n. Leads (step code) (at p s r []) (at n s r [])) (sym e) (none (step code) (at p s r [])))
   programs_run (lines ∷ more) front before p l fit s r ready =
-      let ws = words_of_lines code.constants lines in
-      let q = p + length ws in
-      let l' = next_left front before p lines more l in
+      let ws = words_at p lines in
+      let q = end_of p lines in
+      let l' = next_left front before p lines more (fit_calls lines fit.0) l in
       let has = subst (λ n. HasWords (front ++ ws) n ws) (sym l.place) (has_rest ws front) in
-      let passed = passes same access lines On None s in
-      let comes = (lines_run code (front ++ ws) same q lines p has fit.0 refl On None s).2 in
-      subst (λ x. Comes (at p s x []) (option_and_then (scan same access more) passed)) (sym ready)
+      let passed = passes number_same access lines On None s in
+      let lawful = lawful_here (front ++ ws) before p q more l' l.behind in
+      let comes = (lines_run code (front ++ ws) p q lawful lines p has fit.0 (omega arith) refl On None s).2 in
+      subst (λ x. Comes (at p s x []) (option_and_then (scan number_same access more) passed)) (sym ready)
       (go_on front before p lines more l l' s passed comes
       (λ s1 r1 rd. programs_run more (front ++ ws) (before ++ p ∷ []) q l' fit.1 s1 r1 rd))
 
   -- from the first word on
-  pub all_run : (programs : Programs) → code.instructions ≡ words_of_programs code.constants programs
-      → code.starts ≡ starts_from code.constants 0 programs → Each (Each (IsFit code.constants)) programs
-      → (s : List Value) → Comes (at 0 s None []) (scan same access programs s)
+  pub all_run : (programs : Programs) → code.instructions ≡ words_of_programs code.constants 0 programs
+      → code.starts ≡ starts_from 0 programs → Each (Each (IsFit code.constants)) programs
+      → (s : List Value) → Comes (at 0 s None []) (scan number_same access programs s)
   all_run programs words starts fit s =
       programs_run programs [] [] 0 (record { place = refl; words = words; starts = starts; behind = tt }) fit s None
       (first programs)

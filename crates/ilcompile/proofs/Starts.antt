@@ -1,12 +1,12 @@
 -- Where programs begin: a start stands at the first place of each, and at no other place.
 use Rattle.std.proofs.Common.{◌≡◌, ℕ, ◌+◌, ◌<◌, ◌≤◌, List, [], ◌∷◌, ◌++◌, length, Bool, true, false, ◌||◌}
 use Rattle.std.proofs.Common.{refl, ap, ◌∙◌, arith}
-use Rattle.std.specs.Prelude.{◌==◌, ⊤}
+use Rattle.std.specs.Prelude.{◌==◌, ◌&&◌, nat_lt, ⊤}
 use Rattle.std.specs.List.{list_any}
 use Rattle.std.proofs.lemmas.Bool.Decides.{nat_tests}
-use Rattle.iltypes.specs.declared.value.Value.{Value}
 use Rattle.iltrees.specs.declared.instruction.Line.{Line}
-use Rattle.ilcompile.specs.Layout.{words_of_lines, starts_from}
+use Rattle.iltrees.specs.Words.{words_of_lines}
+use Rattle.ilcompile.specs.Layout.{starts_from}
 
 abbrev pub Programs : Type 0
 Programs = List (List (Line ℕ ℕ))
@@ -36,19 +36,52 @@ past (s ∷ before) rest q p l h =
     let le = l.0 in
     ap (λ b. b || starts_at p (before ++ rest)) (not_before s p (omega arith)) ∙ past before rest q p l.1 h
 
-none_yet : (constants : List Value) (more : Programs) (q p : ℕ) → p < q
-    → starts_at p (starts_from constants q more) ≡ false
-none_yet constants [] q p h = refl
-none_yet constants (lines ∷ more) q p h =
-    let next = q + length (words_of_lines constants lines) in
-    ap (λ b. b || starts_at p (starts_from constants next more)) (not_after q p h)
-    ∙ none_yet constants more next p (omega arith)
+none_yet : (more : Programs) (q p : ℕ) → p < q → starts_at p (starts_from q more) ≡ false
+none_yet [] q p h = refl
+none_yet (lines ∷ more) q p h =
+    let next = q + words_of_lines lines in
+    ap (λ b. b || starts_at p (starts_from next more)) (not_after q p h) ∙ none_yet more next p (omega arith)
 
 -- between the start of a program and that of the next one there is none
-pub none_between : (constants : List Value) (before : List ℕ) (more : Programs) (p q n : ℕ) → UpTo p before
-    → p < n → n < q → starts_at n (before ++ starts_from constants q more) ≡ false
-none_between constants before more p q n l lo hi =
-    past before (starts_from constants q more) p n l lo ∙ none_yet constants more q n hi
+pub none_between : (before : List ℕ) (more : Programs) (p q n : ℕ) → UpTo p before → p < n → n < q
+    → starts_at n (before ++ starts_from q more) ≡ false
+none_between before more p q n l lo hi = past before (starts_from q more) p n l lo ∙ none_yet more q n hi
+
+-- a program begins between the two places
+abbrev pub begins_between : ℕ → ℕ → List ℕ → Bool
+begins_between p n starts = list_any (λ start. nat_lt p start && nat_lt start n) starts
+
+is_behind : (s p n : ℕ) → s ≤ p → (nat_lt p s && nat_lt s n) ≡ false
+is_behind s p n h = let t : nat_lt p s ≡ false = grind (arith, nat_tests) in ap (λ b. b && nat_lt s n) t
+
+is_ahead : (s p n : ℕ) → n ≤ s → (nat_lt p s && nat_lt s n) ≡ false
+is_ahead s p n h =
+    let t : nat_lt s n ≡ false = grind (arith, nat_tests) in ap (λ b. nat_lt p s && b) t ∙ no_more (nat_lt p s)
+  where
+    no_more : (b : Bool) → (b && false) ≡ false
+    no_more true = refl
+    no_more false = refl
+
+none_behind : (before rest : List ℕ) (q p n : ℕ) → UpTo q before → q ≤ p
+    → begins_between p n (before ++ rest) ≡ begins_between p n rest
+none_behind [] rest q p n l h = refl
+none_behind (s ∷ before) rest q p n l h =
+    let le = l.0 in
+    ap (λ b. b || begins_between p n (before ++ rest)) (is_behind s p n (omega arith))
+    ∙ none_behind before rest q p n l.1 h
+
+none_ahead : (more : Programs) (q p n : ℕ) → n ≤ q → begins_between p n (starts_from q more) ≡ false
+none_ahead [] q p n h = refl
+none_ahead (lines ∷ more) q p n h =
+    let next = q + words_of_lines lines in
+    ap (λ b. b || begins_between p n (starts_from next more)) (is_ahead q p n h)
+    ∙ none_ahead more next p n (omega arith)
+
+-- within a program none begins
+pub none_within : (before : List ℕ) (more : Programs) (q p n end : ℕ) → UpTo q before → q ≤ p → n ≤ end
+    → begins_between p n (before ++ starts_from end more) ≡ false
+none_within before more q p n end l lo hi =
+    none_behind before (starts_from end more) q p n l lo ∙ none_ahead more end p n hi
 
 either : (b c : Bool) → c ≡ true → (b || c) ≡ true
 either true c f = refl

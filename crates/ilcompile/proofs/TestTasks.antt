@@ -28,10 +28,10 @@ loads_shallow [] h = tt
 loads_shallow (line ∷ lines) h =
     subst (λ (l : Line ℕ ℕ). AreShallow (l ∷ lines)) (sym h.0.1) (tt, loads_shallow lines h.1)
 
-loads_straight : (lines : List (Line ℕ ℕ)) → AreLoads lines → CallNothing lines
-loads_straight [] h = tt
-loads_straight (line ∷ lines) h =
-    subst (λ (l : Line ℕ ℕ). CallNothing (l ∷ lines)) (sym h.0.1) (refl, tt, loads_straight lines h.1)
+loads_call_nothing : (lines : List (Line ℕ ℕ)) → AreLoads lines → CallNothing lines
+loads_call_nothing [] h = tt
+loads_call_nothing (line ∷ lines) h =
+    subst (λ (l : Line ℕ ℕ). CallNothing (l ∷ lines)) (sym h.0.1) (tt, loads_call_nothing lines h.1)
 
 loads_words : (lines : List (Line ℕ ℕ)) → AreLoads lines → words_of_lines lines ≡ length lines
 loads_words [] h = refl
@@ -77,7 +77,7 @@ longest_keeps lines constants h e =
       most_constants = omega arith;
       most_words = omega (arith, ap (λ (ls : List (Line ℕ ℕ)). words_of_lines ls) all, loads_words lines h.are);
       shallow = subst (λ (ls : List (Line ℕ ℕ)). AreShallow ls) all (loads_shallow lines h.are);
-      straight = subst (λ (ls : List (Line ℕ ℕ)). CallNothing ls) all (loads_straight lines h.are);
+      calls = subst (λ (ls : List (Line ℕ ℕ)). CallNothing ls) all (loads_call_nothing lines h.are);
       constants = h.all ∙ ap (λ (ls : List (Line ℕ ℕ)). different_constants ls) all;
       initials = (tt, (tt, tt));
     }

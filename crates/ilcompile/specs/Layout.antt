@@ -1,6 +1,7 @@
 -- How a task is laid out as code (profile): the words of its instances' lines one after another, each with its line of
--- the text, a start where each instance begins, its variables as slots, and its constants in order of first use.
-use Rattle.std.specs.Prelude.{ℕ, ◌+◌, List, [], ◌∷◌, ◌++◌, length, map, flat_map}
+-- the text, a start where each instance begins, its variables as slots, and its constants in order of first use. Jumps
+-- lead to places.
+use Rattle.std.specs.Prelude.{ℕ, ◌+◌, List, [], ◌∷◌, ◌++◌, map, flat_map, if◌then◌else◌}
 use Rattle.std.specs.Option.{option_map_or}
 use Rattle.std.specs.List.{position_or_len}
 use Rattle.iltypes.specs.declared.value.Value.{Value}
@@ -13,9 +14,12 @@ use Rattle.iltrees.specs.declared.instruction.Line.{Line}
 use Rattle.iltrees.specs.declared.nested.Action.{Action}
 use Rattle.iltrees.specs.declared.nested.Action.TheVariants as actions
 use Rattle.iltrees.specs.Trees.{pieces_of}
+use Rattle.iltrees.specs.Passes.{has_label}
 use Rattle.iltrees.specs.Words.{places_in}
+use Rattle.iltrees.specs.Words as counts
 use Rattle.ilsource.specs.Places.{line_at}
 use Rattle.ilplan.specs.Constants.{same_value}
+use Rattle.ilplan.specs.PlanMeaning.{number_same}
 use Rattle.ilplan.specs.Plans.{PlannedInstance, PlannedTask, types_of}
 use Rattle.ilcode.specs.declared.instruction.Operand.{Operand as WordOperand}
 use Rattle.ilcode.specs.declared.instruction.Operand.TheVariants as operands
@@ -40,43 +44,59 @@ word_of constants (actions.Transform function) = words.Transform function
 word_of constants (actions.Open operator) = words.Open operator
 word_of constants actions.Close = words.Close
 
--- the words of an instruction: LIMIT is MAX with its lower limit and MIN with its upper one, an operator with
--- parentheses is OPEN, what stands in them, and CLOSE, and each other is one word. Jumps, returns and calls have no
--- words yet, and stand in no plan
-abbrev pub words_of : List Value → Instruction ℕ ℕ → List Word
-words_of constants (instructions.Load negated o) = words.Load negated (operand_of constants o) ∷ []
-words_of constants (instructions.Apply operator o) = words.Apply operator (operand_of constants o) ∷ []
-words_of constants (instructions.Deferred operator t close) =
+-- the place of the first word after a label, in lines of which the first word is at this place; 0, where no jump leads,
+-- where no line has the label
+abbrev pub place_of_label : ℕ → List (Line ℕ ℕ) → ℕ → ℕ
+place_of_label place [] label = 0
+place_of_label place (line ∷ lines) label =
+    if has_label number_same label line.label then place
+    else place_of_label (place + counts.words_in line) lines label
+
+-- the words of an instruction in a program that ends at this place, where jumps lead to the targets of their labels:
+-- LIMIT is MAX with its lower limit and MIN with its upper one, an operator with parentheses is OPEN, what stands in
+-- them, and CLOSE, a return is a jump to the program's end, and each other is one word. Calls have no words yet, and
+-- stand in no plan
+abbrev pub words_of : List Value → ℕ → (ℕ → ℕ) → Instruction ℕ ℕ → List Word
+words_of constants end target (instructions.Load negated o) = words.Load negated (operand_of constants o) ∷ []
+words_of constants end target (instructions.Apply operator o) = words.Apply operator (operand_of constants o) ∷ []
+words_of constants end target (instructions.Deferred operator t close) =
     words.Open operator ∷ (map (λ p. word_of constants p.action) (pieces_of t) ++ words.Close ∷ [])
-words_of constants (instructions.Transform function) = words.Transform function ∷ []
-words_of constants (instructions.Limit low high) =
+words_of constants end target (instructions.Transform function) = words.Transform function ∷ []
+words_of constants end target (instructions.Limit low high) =
     words.Apply Max (operand_of constants low) ∷ words.Apply Min (operand_of constants high) ∷ []
-words_of constants (instructions.Store negated slot) = words.Store negated slot ∷ []
-words_of constants (instructions.Set slot) = words.Set slot ∷ []
-words_of constants (instructions.Reset slot) = words.Reset slot ∷ []
-words_of constants (instructions.Jump condition label) = []
-words_of constants (instructions.Return condition) = []
-words_of constants (instructions.Call condition instance arguments) = []
+words_of constants end target (instructions.Store negated slot) = words.Store negated slot ∷ []
+words_of constants end target (instructions.Set slot) = words.Set slot ∷ []
+words_of constants end target (instructions.Reset slot) = words.Reset slot ∷ []
+words_of constants end target (instructions.Jump condition label) = words.Jump condition (target label) ∷ []
+words_of constants end target (instructions.Return condition) = words.Jump condition end ∷ []
+words_of constants end target (instructions.Call condition instance arguments) = []
 
--- the words of a line, which a label alone has none of, and of lines
-abbrev pub words_in : List Value → Line ℕ ℕ → List Word
-words_in constants line = option_map_or (words_of constants) line.instruction []
+-- the words of a line, which a label alone has none of
+abbrev pub words_in : List Value → ℕ → (ℕ → ℕ) → Line ℕ ℕ → List Word
+words_in constants end target line = option_map_or (words_of constants end target) line.instruction []
 
-abbrev pub words_of_lines : List Value → List (Line ℕ ℕ) → List Word
-words_of_lines constants lines = flat_map (words_in constants) lines
+-- the words of lines, of which the first word is at this place, in a program that ends at that one: a jump's label is
+-- looked for in the lines after it
+abbrev pub words_of_lines : List Value → ℕ → ℕ → List (Line ℕ ℕ) → List Word
+words_of_lines constants end place [] = []
+words_of_lines constants end place (line ∷ lines) =
+    let next = place + counts.words_in line in
+    words_in constants end (place_of_label next lines) line ++ words_of_lines constants end next lines
 
--- the words of programs, and the place in the text of each
-abbrev pub words_of_programs : List Value → List (List (Line ℕ ℕ)) → List Word
-words_of_programs constants programs = flat_map (words_of_lines constants) programs
+-- the words of programs, the first of them at this place, and the place in the text of each
+abbrev pub words_of_programs : List Value → ℕ → List (List (Line ℕ ℕ)) → List Word
+words_of_programs constants place [] = []
+words_of_programs constants place (lines ∷ more) =
+    let end = place + counts.words_of_lines lines in
+    words_of_lines constants end place lines ++ words_of_programs constants end more
 
 abbrev pub places_of_programs : List (List (Line ℕ ℕ)) → List ℕ
 places_of_programs programs = flat_map (λ lines. flat_map places_in lines) programs
 
--- where each program begins, the first of them at a place
-abbrev pub starts_from : List Value → ℕ → List (List (Line ℕ ℕ)) → List ℕ
-starts_from constants place [] = []
-starts_from constants place (lines ∷ more) =
-    place ∷ starts_from constants (place + length (words_of_lines constants lines)) more
+-- where each program begins, the first of them at this place
+abbrev pub starts_from : ℕ → List (List (Line ℕ ℕ)) → List ℕ
+starts_from place [] = []
+starts_from place (lines ∷ more) = place ∷ starts_from (place + counts.words_of_lines lines) more
 
 abbrev pub programs_of : List PlannedInstance → List (List (Line ℕ ℕ))
 programs_of instances = map (λ i. i.lines) instances
@@ -85,5 +105,5 @@ programs_of instances = map (λ i. i.lines) instances
 abbrev pub laid_out : ℕ → List ℕ → PlannedTask → Listing
 laid_out buses text task =
     let programs = programs_of task.instances in
-    listing_of buses task.constants (types_of task) (starts_from task.constants 0 programs)
-    (words_of_programs task.constants programs) (map (line_at text) (places_of_programs programs))
+    listing_of buses task.constants (types_of task) (starts_from 0 programs)
+    (words_of_programs task.constants 0 programs) (map (line_at text) (places_of_programs programs))

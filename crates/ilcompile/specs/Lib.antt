@@ -1,3 +1,4 @@
 pub mod Layout
+pub mod LayoutSteps
 pub mod Meant
 pub mod Rows

@@ -4,6 +4,8 @@ use Rattle.std.specs.Prelude.{None, length, ⊤}
 use Rattle.iltypes.specs.declared.value.IlType.TheVariants as types
 use Rattle.iltypes.specs.declared.value.Value.{Value}
 use Rattle.iltypes.specs.declared.value.Value.TheVariants as values
+use Rattle.iloperators.specs.declared.condition.Condition.{Condition}
+use Rattle.iloperators.specs.declared.condition.Condition.TheVariants.{Always, IfTrue, IfFalse}
 use Rattle.iloperators.specs.declared.operator.Operator.TheVariants.{Mul, Sub, Eq, Min, Max}
 use Rattle.iltrees.specs.declared.operand.Operand.{Operand}
 use Rattle.iltrees.specs.declared.operand.Operand.TheVariants.{Name, Constant}
@@ -88,6 +90,76 @@ abbrev pub words_in_turn : List Word
 words_in_turn =
     words.Load true (operands.Constant 0) ∷ words.Set 0 ∷ words.Load false (operands.Constant 1)
     ∷ words.Apply Eq (operands.Constant 1) ∷ words.Load false (operands.Constant 0) ∷ words.Store true 1 ∷ []
+
+-- a jump to a label
+abbrev pub jump : ℕ → Condition → ℕ → Line ℕ ℕ
+jump at condition label = line at (instructions.Jump condition label)
+
+-- a label alone on its line
+abbrev pub label : ℕ → ℕ → Line ℕ ℕ
+label at l = record { at = at; label = Some l; instruction = None }
+
+-- LD a, JMPC 5, LDN a, JMPCN 5, LD TRUE, 5: ST b
+abbrev pub two_jumps : List (Line ℕ ℕ)
+two_jumps =
+    ld 2 (Name 0) ∷ jump 3 IfTrue 5 ∷ line 4 (instructions.Load true (Name 0)) ∷ jump 5 IfFalse 5
+    ∷ ld 6 (Constant truth)
+    ∷ record { at = 7; label = Some 5; instruction = Some (instructions.Store false 1) } ∷ []
+
+abbrev pub words_of_two_jumps : List Word
+words_of_two_jumps =
+    words.Load false (operands.Slot 0) ∷ words.Jump IfTrue 5 ∷ words.Load true (operands.Slot 0)
+    ∷ words.Jump IfFalse 5 ∷ words.Load false (operands.Constant 0) ∷ words.Store false 1 ∷ []
+
+-- LD a, JMPC 6, 6:, 7:, ST b, JMP 8, 8:
+abbrev pub labels_alone : List (Line ℕ ℕ)
+labels_alone =
+    ld 2 (Name 0) ∷ jump 3 IfTrue 6 ∷ label 4 6 ∷ label 5 7 ∷ st 6 1 ∷ jump 7 Always 8 ∷ label 8 8 ∷ []
+
+abbrev pub words_of_labels_alone : List Word
+words_of_labels_alone =
+    words.Load false (operands.Slot 0) ∷ words.Jump IfTrue 2 ∷ words.Store false 1 ∷ words.Jump Always 4 ∷ []
+
+-- LD a, JMPC 9, SUB( a, MUL 2, ), 9: ST b; the first jump passes over all words of the parentheses
+abbrev pub over_parentheses : List (Line ℕ ℕ)
+over_parentheses =
+    ld 2 (Name 0) ∷ jump 3 IfTrue 9
+    ∷ line 4 (instructions.Deferred Sub (trees.Apply (trees.Load 4 false (Name 0)) 5 Mul (Constant (whole 2))) 6)
+    ∷ record { at = 7; label = Some 9; instruction = Some (instructions.Store false 1) } ∷ []
+
+abbrev pub words_over_parentheses : List Word
+words_over_parentheses =
+    words.Load false (operands.Slot 0) ∷ words.Jump IfTrue 6 ∷ words.Open Sub ∷ words.Load false (operands.Slot 0)
+    ∷ words.Apply Mul (operands.Constant 0) ∷ words.Close ∷ words.Store false 1 ∷ []
+
+-- LD a, RETC, ST b; and LD b, RETCN, JMP 4, ST a, 4: ST b, RET, ST a
+abbrev pub returning : List (List (Line ℕ ℕ))
+returning =
+    (ld 2 (Name 0) ∷ line 3 (instructions.Return IfTrue) ∷ st 4 1 ∷ [])
+    ∷ (ld 5 (Name 1) ∷ line 6 (instructions.Return IfFalse) ∷ jump 7 Always 4 ∷ st 8 0
+    ∷ record { at = 9; label = Some 4; instruction = Some (instructions.Store false 1) }
+    ∷ line 10 (instructions.Return Always) ∷ st 11 0 ∷ [])
+    ∷ []
+
+abbrev pub words_returning : List Word
+words_returning =
+    words.Load false (operands.Slot 0) ∷ words.Jump IfTrue 3 ∷ words.Store false 1
+    ∷ words.Load false (operands.Slot 1) ∷ words.Jump IfFalse 10 ∷ words.Jump Always 7 ∷ words.Store false 0
+    ∷ words.Store false 1 ∷ words.Jump Always 10 ∷ words.Store false 0 ∷ []
+
+-- 3: LD a, JMPC 3, JMPC 4; and 4: LD b, JMPCN 3, 3: ST b: a label is looked for in its own program, after the jump
+abbrev pub astray : List (List (Line ℕ ℕ))
+astray =
+    (record { at = 2; label = Some 3; instruction = Some (instructions.Load false (Name 0)) }
+    ∷ jump 3 IfTrue 3 ∷ jump 4 IfTrue 4 ∷ [])
+    ∷ (record { at = 5; label = Some 4; instruction = Some (instructions.Load false (Name 1)) }
+    ∷ jump 6 IfFalse 3 ∷ record { at = 7; label = Some 3; instruction = Some (instructions.Store false 1) } ∷ [])
+    ∷ []
+
+abbrev pub words_astray : List Word
+words_astray =
+    words.Load false (operands.Slot 0) ∷ words.Jump IfTrue 0 ∷ words.Jump IfTrue 0
+    ∷ words.Load false (operands.Slot 1) ∷ words.Jump IfFalse 5 ∷ words.Store false 1 ∷ []
 
 -- each line loads a constant
 abbrev pub AreLoads : List (Line ℕ ℕ) → Type 0

@@ -9,6 +9,7 @@
 
 mod compiler;
 mod lines;
+mod targets;
 mod words;
 
 pub use compiler::compile;

@@ -1,11 +1,17 @@
 //! The words of lines.
 
-ghost use Rattle.std.specs.Prelude.{◌≡◌, ◌∷◌, ◌++◌, [], map, IfOk, OnOk};
+ghost use Rattle.std.specs.Prelude.{◌≡◌, ◌≤◌, ◌+◌, ◌∷◌, ◌++◌, [], length, map, IfOk, OnOk};
+ghost use Rattle.limits.specs.Limits.{most_words};
+ghost use Rattle.iltrees.specs.Words.{CallNothing};
+ghost use Rattle.iltrees.specs.Words as counts;
+ghost use Rattle.ilplan.specs.Plans.{all_lines};
+ghost use Rattle.ilcode.specs.declared.instruction.Instruction.TheVariants as variants;
 ghost use Rattle.ilcompile.specs.Layout.{operand_of, word_of, words_of, words_in, words_of_lines};
 ghost use Rattle.ilcompile.specs.Layout.{words_of_programs, starts_from, programs_of};
 
+use crate::targets::{count, next_target, targets};
 use ilcode::{Instruction as Word, Operand as WordOperand};
-use iloperators::Operator;
+use iloperators::{Condition, Operator};
 use ilplan::{Constants, Instance};
 use iltrees::{Action, Instruction, Line, Operand, Piece};
 use std::alloc::{AllocError, Global};
@@ -16,57 +22,72 @@ pub(crate) fn words(
     constants: &Constants,
     instances: &[Instance],
 ) -> Result<(Vec<usize>, Vec<Word>), AllocError>
+    requires limit { counts.words_of_lines (all_lines instances.now) ≤ most_words }
+    requires calls { CallNothing (all_lines instances.now) }
     ensures starts { IfOk result (λ code.
-        code.0.items ≡ starts_from constants.now 0 (programs_of instances.now)) }
+        code.0.items ≡ starts_from 0 (programs_of instances.now)) }
     ensures words { IfOk result (λ code.
-        code.1.items ≡ words_of_programs constants.now (programs_of instances.now)) }
+        code.1.items ≡ words_of_programs constants.now 0 (programs_of instances.now)) }
 {
     let mut starts = Vec::new(alloc);
     let mut words = Vec::new(alloc);
     for instance in instances {
         starts.push(words.len())?;
-        push_lines(&mut words, constants, instance.lines())?;
+        push_lines(alloc, &mut words, constants, instance.lines())?;
     }
     Ok((starts, words))
 }
 
-/// Adds the words of these lines.
+/// Adds the words of the lines of a program.
 fn push_lines(
+    alloc: Global,
     words: &mut Vec<Word>,
     constants: &Constants,
     lines: &[Line<usize, usize>],
 ) -> Result<(), AllocError>
-    ensures { OnOk result
-        (words.new.items ≡ words.old.items ++ words_of_lines constants.now lines.now) }
+    requires limit { length words.old.items + counts.words_of_lines lines.now ≤ most_words }
+    requires calls { CallNothing lines.now }
+    ensures { OnOk result (words.new.items ≡ words.old.items ++ words_of_lines constants.now
+        (length words.old.items + counts.words_of_lines lines.now) (length words.old.items)
+        lines.now) }
 {
+    let end = words.len() + count(lines);
+    let mut targets = targets(alloc, words.len(), lines)?;
     for line in lines {
-        push_line(words, constants, line)?;
+        let target = next_target(&mut targets, &line.instruction);
+        push_line(words, constants, end, target, line)?;
     }
     Ok(())
 }
 
-/// Adds the words of a line.
+/// Adds the words of a line, of a program that ends at `end`; a jump to a label leads to `target`.
 fn push_line(
     words: &mut Vec<Word>,
     constants: &Constants,
+    end: usize,
+    target: usize,
     line: &Line<usize, usize>,
 ) -> Result<(), AllocError>
-    ensures { OnOk result (words.new.items ≡ words.old.items ++ words_in constants.now line.now) }
+    ensures { OnOk result (words.new.items
+        ≡ words.old.items ++ words_in constants.now end (λ label. target) line.now) }
 {
     match &line.instruction {
-        Some(instruction) => push_words(words, constants, instruction),
+        Some(instruction) => push_words(words, constants, end, target, instruction),
         None => Ok(()),
     }
 }
 
-/// Adds the words of an instruction.
+/// Adds the words of an instruction, of a program that ends at `end`; a jump to a label leads to
+/// `target`.
 fn push_words(
     words: &mut Vec<Word>,
     constants: &Constants,
+    end: usize,
+    target: usize,
     instruction: &Instruction<usize, usize>,
 ) -> Result<(), AllocError>
-    ensures { OnOk result
-        (words.new.items ≡ words.old.items ++ words_of constants.now instruction.now) }
+    ensures { OnOk result (words.new.items
+        ≡ words.old.items ++ words_of constants.now end (λ label. target) instruction.now) }
 {
     match instruction {
         Instruction::Load { negated, operand } => {
@@ -98,8 +119,10 @@ fn push_words(
         }
         Instruction::Set(slot) => push(words, Word::Set(*slot)),
         Instruction::Reset(slot) => push(words, Word::Reset(*slot)),
-        // These have no words yet, and stand in no plan.
-        Instruction::Jump(..) | Instruction::Return(_) | Instruction::Call { .. } => Ok(()),
+        Instruction::Jump(condition, _) => push(words, jump(*condition, target)),
+        Instruction::Return(condition) => push(words, jump(*condition, end)),
+        // Calls have no words yet, and stand in no plan.
+        Instruction::Call { .. } => Ok(()),
     }
 }
 
@@ -154,6 +177,13 @@ fn apply(constants: &Constants, operator: Operator, operand: Operand<usize>) -> 
     ensures { result ≡ word_of constants.now (Action.Apply operator operand) }
 {
     Word::Apply(operator, numbered(constants, operand))
+}
+
+/// A jump to a place.
+fn jump(condition: Condition, target: usize) -> Word
+    ensures { result ≡ variants.Jump condition target }
+{
+    Word::Jump { condition, target }
 }
 
 /// An operand by its number.

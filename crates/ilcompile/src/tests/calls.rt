@@ -1,4 +1,5 @@
-//! `compile` on a task with parentheses, and on one that is as large as the limits allow.
+//! `compile` on a task with parentheses, on one with jumps, and on one that is as large as the
+//! limits allow.
 
 ghost use Rattle.std.specs.Prelude.{◌≡◌, [], ◌∷◌, length, IfOk};
 ghost use Rattle.ilplan.specs.Plans.{KeepsLimits};
@@ -7,7 +8,7 @@ ghost use Rattle.ilcompile.specs.Rows as rows;
 
 use crate::compile;
 use ilcode::{Instruction as Word, Operand as WordOperand};
-use iloperators::Operator;
+use iloperators::{Condition, Operator};
 use ilplan::{Constants, Instance, Plan, Slot, Task};
 use ilsource::Name;
 use iltrees::{Instruction, Line, Nested, Operand};
@@ -54,6 +55,40 @@ fn difference(alloc: Global) -> Result<Vec<Line<usize, usize>>, AllocError>
     lines.push(load(2, Value::Int(3)))?;
     lines.push(line(3, deferred))?;
     lines.push(line(6, Instruction::Store { negated, variable }))?;
+    Ok(lines)
+}
+
+/// LD a, JMPC 5, LDN a, JMPCN 5, LD TRUE, 5: ST b.
+fn two_jumps(alloc: Global) -> Result<Vec<Line<usize, usize>>, AllocError>
+    ensures { IfOk result (λ lines. lines.items ≡ rows.two_jumps) }
+{
+    let operand = Operand::Name(0);
+    let mut lines = Vec::new(alloc);
+    lines.push(line(
+        2,
+        Instruction::Load {
+            negated: false,
+            operand,
+        },
+    ))?;
+    lines.push(line(3, Instruction::Jump(Condition::IfTrue, 5)))?;
+    lines.push(line(
+        4,
+        Instruction::Load {
+            negated: true,
+            operand,
+        },
+    ))?;
+    lines.push(line(5, Instruction::Jump(Condition::IfFalse, 5)))?;
+    lines.push(load(6, Value::Bool(true)))?;
+    lines.push(Line {
+        at: 7,
+        label: Some(5),
+        instruction: Some(Instruction::Store {
+            negated: false,
+            variable: 1,
+        }),
+    })?;
     Ok(lines)
 }
 
@@ -114,6 +149,28 @@ fn parentheses_are_compiled(rt: HostRuntime) -> Result<(), Fail> {
     assert_eq!(rt; code.starts(), [0].as_slice());
     assert_eq!(rt; code.instructions(), words.as_slice());
     assert_eq!(rt; code.lines(), [3, 4, 4, 5, 6, 7].as_slice());
+    Ok(())
+}
+
+#[test]
+fn jumps_are_compiled(rt: HostRuntime) -> Result<(), Fail> {
+    let alloc = rt.alloc();
+    let mut constants = Constants::new(alloc);
+    constants.add(Value::Bool(true))?;
+    let plan = plan_of(alloc, two_jumps(alloc)?, constants)?;
+    let code = compile(alloc, &plan, 0)?;
+    let target = 5;
+    let first = Word::Jump {
+        condition: Condition::IfTrue,
+        target,
+    };
+    let second = Word::Jump {
+        condition: Condition::IfFalse,
+        target,
+    };
+    assert_eq!(rt; code.instructions().len(), 6);
+    assert_eq!(rt; code.instructions().get(1).copied(), Some(first));
+    assert_eq!(rt; code.instructions().get(3).copied(), Some(second));
     Ok(())
 }
 

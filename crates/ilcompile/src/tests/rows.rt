@@ -5,6 +5,11 @@ ghost use Rattle.ilcompile.specs.Rows.{AreLaidOut, truth, whole};
 ghost use Rattle.ilcompile.specs.Rows.{difference, words_of_difference};
 ghost use Rattle.ilcompile.specs.Rows.{limited, words_of_limited};
 ghost use Rattle.ilcompile.specs.Rows.{in_turn, words_in_turn};
+ghost use Rattle.ilcompile.specs.Rows.{two_jumps, words_of_two_jumps};
+ghost use Rattle.ilcompile.specs.Rows.{labels_alone, words_of_labels_alone};
+ghost use Rattle.ilcompile.specs.Rows.{over_parentheses, words_over_parentheses};
+ghost use Rattle.ilcompile.specs.Rows.{returning, words_returning};
+ghost use Rattle.ilcompile.specs.Rows.{astray, words_astray};
 
 /// Words in parentheses stand on lines of their own; a program without lines has a start; equal
 /// constants have one number, and 1 is not TRUE.
@@ -15,4 +20,20 @@ fn layouts()
         words_of_limited (3 ∷ 4 ∷ 4 ∷ 5 ∷ []) }
     ensures in_turn { AreLaidOut in_turn (truth ∷ whole 1 ∷ []) (0 ∷ 2 ∷ 2 ∷ [])
         words_in_turn (3 ∷ 4 ∷ 9 ∷ 10 ∷ 11 ∷ 12 ∷ []) }
+{}
+
+/// Two jumps to one label; labels alone on their lines, one after another and at the end; a jump
+/// over parentheses; returns, in the first program and in the second; and jumps that lead nowhere,
+/// since their label is none of the lines behind them, in their program.
+fn jumps()
+    ensures two_jumps { AreLaidOut (two_jumps ∷ []) (truth ∷ []) (0 ∷ [])
+        words_of_two_jumps (3 ∷ 4 ∷ 5 ∷ 6 ∷ 7 ∷ 8 ∷ []) }
+    ensures labels_alone { AreLaidOut (labels_alone ∷ []) [] (0 ∷ [])
+        words_of_labels_alone (3 ∷ 4 ∷ 7 ∷ 8 ∷ []) }
+    ensures over_parentheses { AreLaidOut (over_parentheses ∷ []) (whole 2 ∷ []) (0 ∷ [])
+        words_over_parentheses (3 ∷ 4 ∷ 5 ∷ 5 ∷ 6 ∷ 7 ∷ 8 ∷ []) }
+    ensures returning { AreLaidOut returning [] (0 ∷ 3 ∷ [])
+        words_returning (3 ∷ 4 ∷ 5 ∷ 6 ∷ 7 ∷ 8 ∷ 9 ∷ 10 ∷ 11 ∷ 12 ∷ []) }
+    ensures astray { AreLaidOut astray [] (0 ∷ 3 ∷ [])
+        words_astray (3 ∷ 4 ∷ 5 ∷ 6 ∷ 7 ∷ 8 ∷ []) }
 {}

@@ -11,7 +11,7 @@ new-requires c =
     parts_are c.args.buses c.args.text.now c.args.task.now _ _ _ _ _
     (c.in_ok-constants.ensures.items ∙ c.as_slice.ensures.value ∙ c.constants.ensures.value)
     (rw c.slots.ensures.value at c.in_ok-slots.ensures)
-    (rw (c.constants-2.ensures.value, c.instances.ensures.value) at c.in_ok-starts.ensures.starts)
+    (rw c.instances.ensures.value at c.in_ok-starts.ensures.starts)
     (rw (c.constants-2.ensures.value, c.instances.ensures.value) at c.in_ok-starts.ensures.words)
     (rw c.instances-2.ensures.value at c.in_ok-lines.ensures) in
     subst IsLawful (sym laid)
@@ -23,7 +23,7 @@ returns-clause-meaning c =
     parts_are c.args.buses c.args.text.now c.args.task.now _ _ _ _ _
     (c.in_ok-constants.ensures.items ∙ c.as_slice.ensures.value ∙ c.constants.ensures.value)
     (rw c.slots.ensures.value at c.in_ok-slots.ensures)
-    (rw (c.constants-2.ensures.value, c.instances.ensures.value) at c.in_ok-starts.ensures.starts)
+    (rw c.instances.ensures.value at c.in_ok-starts.ensures.starts)
     (rw (c.constants-2.ensures.value, c.instances.ensures.value) at c.in_ok-starts.ensures.words)
     (rw c.instances-2.ensures.value at c.in_ok-lines.ensures) in
     subst (IsMeant c.args.task.now) (sym (c.new.ensures ∙ laid))

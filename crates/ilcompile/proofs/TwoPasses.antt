@@ -1,0 +1,107 @@
+-- The passes of the compiler over the lines of a program: the targets of jumps from the last line to the first, and the
+-- words from the first line to the last.
+use Rattle.std.proofs.Common.{◌≡◌, ℕ, suc, ◌+◌, ◌<◌, List, [], ◌∷◌, ◌++◌, length, reverse, Option, Some, None}
+use Rattle.std.proofs.Common.{refl, sym, ap, ◌∙◌, arith, append_assoc, length-append, get_or, drop, drop-cons, ◌≤◌}
+use Rattle.limits.specs.Limits.{most_words}
+use Rattle.std.specs.Option.{option_map_or}
+use Rattle.iltypes.specs.declared.value.Value.{Value}
+use Rattle.iltrees.specs.declared.instruction.Instruction.{Instruction}
+use Rattle.iltrees.specs.declared.instruction.Instruction.TheVariants as instructions
+use Rattle.iltrees.specs.declared.instruction.Line.{Line}
+use Rattle.iltrees.specs.Words.{CallNothing}
+use Rattle.iltrees.specs.Words as counts
+use Rattle.ilcode.specs.declared.instruction.Instruction.{Instruction as Word}
+use Rattle.ilcode.specs.declared.instruction.Instruction.TheVariants as words
+use Rattle.ilplan.specs.Plans.{PlannedInstance, all_lines}
+use Rattle.ilcompile.specs.Layout.{place_of_label, words_of, words_in, words_of_lines}
+use Rattle.ilcompile.specs.Layout.{words_of_programs, starts_from, programs_of}
+use Rattle.ilcompile.specs.LayoutSteps.{target_of, targets_of, IsTaken}
+use Rattle.ilcompile.proofs.Sizes.{count_both, line_long, lines_long, calls_front, calls_back}
+
+-- an instruction's words depend on no target but its own
+same_words : (constants : List Value) (end : ℕ) (one other : ℕ → ℕ) (i : Option (Instruction ℕ ℕ))
+    → target_of one i ≡ target_of other i
+    → option_map_or (words_of constants end one) i [] ≡ option_map_or (words_of constants end other) i []
+same_words constants end one other None e = refl
+same_words constants end one other (Some (instructions.Load negated o)) e = refl
+same_words constants end one other (Some (instructions.Apply operator o)) e = refl
+same_words constants end one other (Some (instructions.Deferred operator t close)) e = refl
+same_words constants end one other (Some (instructions.Transform function)) e = refl
+same_words constants end one other (Some (instructions.Limit low high)) e = refl
+same_words constants end one other (Some (instructions.Store negated n)) e = refl
+same_words constants end one other (Some (instructions.Set n)) e = refl
+same_words constants end one other (Some (instructions.Reset n)) e = refl
+same_words constants end one other (Some (instructions.Jump condition l)) e =
+    let same : one l ≡ other l = cc in ap (λ t. words.Jump condition t ∷ []) same
+same_words constants end one other (Some (instructions.Return condition)) e = refl
+same_words constants end one other (Some (instructions.Call condition n xs)) e = refl
+
+module _ (constants : List Value) (end : ℕ) (all : List Word) where
+  -- the lines that are left: their words are those that are still to come, and their targets those that are left
+  pub record AreLeft (ws : List Word) (ts : List ℕ) (lines : List (Line ℕ ℕ)) : Type 0 where
+    pub words : ws ++ words_of_lines constants end (length ws) lines ≡ all
+    pub targets : reverse ts ≡ targets_of (length ws) lines
+    pub calls : CallNothing lines
+
+  -- one line fewer
+  pub fewer_left : (ws more : List Word) (targets others : List ℕ) (target : ℕ) (line : Line ℕ ℕ)
+      (lines : List (Line ℕ ℕ)) → AreLeft ws targets (line ∷ lines) → IsTaken line.instruction targets others target
+      → more ≡ ws ++ words_in constants end (λ label. target) line → AreLeft more others lines
+  fewer_left ws more targets others target line lines l taken is =
+      let next = length ws + counts.words_in line in
+      let wanted = place_of_label next lines in
+      let its = taken wanted (targets_of next lines) l.targets in
+      let same = same_words constants end wanted (λ label. target) line.instruction its.1 in
+      let mine = words_in constants end wanted line in
+      let is' : more ≡ ws ++ mine = is ∙ ap (λ x. ws ++ x) (sym same) in
+      let long : length more ≡ next =
+      ap length is' ∙ (length-append ws mine ∙ ap (λ n. length ws + n) (line_long constants end wanted line l.calls.0)) in
+      record {
+        words = ap (λ n. more ++ words_of_lines constants end n lines) long
+            ∙ (ap (λ x. x ++ words_of_lines constants end next lines) is'
+            ∙ (append_assoc ws mine (words_of_lines constants end next lines) ∙ l.words));
+        targets = its.0 ∙ ap (λ n. targets_of n lines) (sym long);
+        calls = l.calls.1;
+      }
+
+-- ---- programs
+
+pub the_next : {X : Type 0} (xs : List X) (i : ℕ) (x : X) → i < length xs → x ≡ get_or xs i x
+    → drop i xs ≡ x ∷ drop (i + 1) xs
+the_next xs i x h e =
+    let z : suc i ≡ i + 1 = omega arith in
+    drop-cons xs i x h ∙ (ap (λ y. y ∷ drop (suc i) xs) (sym e) ∙ ap (λ n. x ∷ drop n xs) z)
+
+module _ (constants : List Value) (all : List Word) (all_starts : List ℕ) where
+  -- the programs that are left: their words and starts are those that are still to come
+  pub record ProgramsLeft (ws : List Word) (ss : List ℕ) (instances : List PlannedInstance) : Type 0 where
+    pub words : ws ++ words_of_programs constants (length ws) (programs_of instances) ≡ all
+    pub starts : ss ++ starts_from (length ws) (programs_of instances) ≡ all_starts
+    pub limit : length ws + counts.words_of_lines (all_lines instances) ≤ most_words
+    pub calls : CallNothing (all_lines instances)
+
+  -- one program fewer
+  pub fewer_programs : (ws more : List Word) (ss others : List ℕ) (i : PlannedInstance)
+      (instances : List PlannedInstance) → ProgramsLeft ws ss (i ∷ instances) → others ≡ ss ++ length ws ∷ []
+      → more ≡ ws ++ words_of_lines constants (length ws + counts.words_of_lines i.lines) (length ws) i.lines
+      → ProgramsLeft more others instances
+  fewer_programs ws more ss others i instances l begun is =
+      let place = length ws in
+      let end = place + counts.words_of_lines i.lines in
+      let mine = words_of_lines constants end place i.lines in
+      let programs = programs_of instances in
+      let own = calls_front i.lines (all_lines instances) l.calls in
+      let long : length more ≡ end =
+      ap length is ∙ (length-append ws mine ∙ ap (λ n. place + n) (lines_long constants end place i.lines own)) in
+      let both = count_both i.lines (all_lines instances) in
+      let limit = l.limit in
+      record {
+        words = ap (λ n. more ++ words_of_programs constants n programs) long
+            ∙ (ap (λ x. x ++ words_of_programs constants end programs) is
+            ∙ (append_assoc ws mine (words_of_programs constants end programs) ∙ l.words));
+        starts = ap (λ n. others ++ starts_from n programs) long
+            ∙ (ap (λ x. x ++ starts_from end programs) begun
+            ∙ (append_assoc ss (place ∷ []) (starts_from end programs) ∙ l.starts));
+        limit = omega (arith, long, both, limit);
+        calls = calls_back i.lines (all_lines instances) l.calls;
+      }
