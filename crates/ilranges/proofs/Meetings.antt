@@ -6,10 +6,9 @@ use Rattle.ilranges.specs.declared.entry.Entry.{Entry}
 use Rattle.ilranges.specs.declared.known.Known.{Known}
 use Rattle.ilranges.specs.declared.mark.Mark.{Mark}
 use Rattle.ilranges.specs.declared.nesting.KnownOpened.{KnownOpened}
-use Rattle.ilranges.specs.Entries.{IsResultInto, IsOpenedInto, IsInto}
+use Rattle.ilranges.specs.Entries.{IsResultInto, IsOpenedInto}
 use Rattle.ilranges.specs.JoinSteps.{IsResultMeeting}
 use Rattle.ilranges.specs.Joins.{IsJoin, IsHeld, AreJoins, IsMeeting}
-use Rattle.ilranges.specs.Knowns.{IsKnownWithin}
 use Rattle.ilranges.specs.Marks.{IsMarkInto}
 use Rattle.ilranges.proofs.Marking.{mark_self}
 use Rattle.ilranges.proofs.JoinLaws.{one_in, other_in, least_in, held_in, ones_in, others_in, all_in}

@@ -1,4 +1,4 @@
-use Rattle.std.proofs.Common.{arith, ◌<◌, ◌≡◌, length, refl, Some}
+use Rattle.std.proofs.Common.{arith, ◌<◌, length, refl}
 use Rattle.std.proofs.lemmas.List.Elements.{length_all_zip}
 use Rattle.std.proofs.lemmas.Option.{slice_get_read}
 use Rattle.ilranges.specs.Joins.{IsJoin, IsHeld}

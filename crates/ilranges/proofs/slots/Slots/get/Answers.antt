@@ -1,4 +1,4 @@
-use Rattle.std.proofs.Common.{arith, ◌≡◌, ◌<◌, ◌≤◌, length, sym, ap, ◌∙◌, Some}
+use Rattle.std.proofs.Common.{arith, ◌≡◌, ◌<◌, ◌≤◌, length, sym, ap, ◌∙◌}
 use Rattle.std.specs.Prelude.{slice_get, ◌%◌}
 use Rattle.std.proofs.lemmas.Option.{slice_get_past}
 use Rattle.ilranges.specs.ChunkSteps.{whole}
