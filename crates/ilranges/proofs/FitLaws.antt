@@ -77,4 +77,10 @@ all_known (value ∷ slots) [] h = absurd h
 all_known (value ∷ slots) (type ∷ more) h = (of_known value type h.0, all_known slots more h.1)
 
 pub fit_start : IsFitAtStart
-fit_start code slots a = record { typed = a; slots = all_known slots code.slots a; result = tt; mark = tt; nesting = tt }
+fit_start code slots a = record {
+  typed = a;
+  slots = all_known slots code.slots a;
+  result = tt;
+  mark = tt;
+  nesting = tt;
+}

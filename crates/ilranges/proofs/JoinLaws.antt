@@ -135,11 +135,10 @@ all_in [] bs (c ∷ cs) ws j v u = let f = j.first in absurd (omega arith)
 all_in (a ∷ ps) bs [] ws j v u = let f = j.first in absurd (omega arith)
 all_in (a ∷ ps) [] (c ∷ cs) ws j v u = let f = j.second in absurd (omega arith)
 all_in (a ∷ ps) (b ∷ bs) (c ∷ cs) [] j v u = absurd v
-all_in (a ∷ ps) (b ∷ bs) (c ∷ cs) (w ∷ ws) j v u =
-    (
-      least_in a b c w (j.each 0 a b c refl refl refl) v.0 u.0,
-      all_in ps bs cs ws (each_tail IsJoin a b c ps bs cs j) v.1 u.1,
-    )
+all_in (a ∷ ps) (b ∷ bs) (c ∷ cs) (w ∷ ws) j v u = (
+  least_in a b c w (j.each 0 a b c refl refl refl) v.0 u.0,
+  all_in ps bs cs ws (each_tail IsJoin a b c ps bs cs j) v.1 u.1,
+)
 
 pub all_held : (ps bs ws : List Known) → AllZip IsKnownWithin ps ws → AllZip IsKnownWithin bs ws → AllZip IsHeld ps bs
 all_held [] [] ws v u = tt

@@ -1,7 +1,7 @@
 -- Jumps are sound: the way that is taken is not empty, and what is known on it is so.
 use Rattle.std.proofs.Common.{◌≡◌, ℕ, zero, suc, ◌+◌, ℤ, Bool, true, false, cond, List, [], ◌∷◌}
 use Rattle.std.proofs.Common.{Option, Some, None, refl, sym, ap, ◌∙◌, subst, inl, inr}
-use Rattle.std.specs.Prelude.{IsNone, IsTrue, slice_get, slice_set}
+use Rattle.std.specs.Prelude.{IsNone, slice_get, slice_set}
 use Rattle.std.specs.List.{AllZip}
 use Rattle.iltypes.specs.declared.range.Range.{Range}
 use Rattle.iltypes.specs.declared.value.Value.{Value}
@@ -16,7 +16,6 @@ use Rattle.ilcode.specs.declared.nesting.Opened.{Opened}
 use Rattle.ilcode.specs.declared.instruction.Instruction.TheVariants as words
 use Rattle.ilcode.specs.Listings.{Listing}
 use Rattle.ilcode.specs.Steps.{Configuration, effect, goes_to, jumps, is_target}
-use Rattle.ilranges.specs.declared.cause.Cause.{Cause}
 use Rattle.ilranges.specs.declared.cause.Cause.TheVariants as causes
 use Rattle.ilranges.specs.declared.entry.Entry.{Entry}
 use Rattle.ilranges.specs.declared.known.Known.{Known}
@@ -25,12 +24,10 @@ use Rattle.ilranges.specs.declared.mark.Mark.{Mark}
 use Rattle.ilranges.specs.declared.mark.Mark.TheVariants.{Copy, Test}
 use Rattle.ilranges.specs.Fits.{IsResultKnown, Fits}
 use Rattle.ilranges.specs.Knowns.{IsKnown}
-use Rattle.ilranges.specs.Marks.{IsTest, IsMarked}
-use Rattle.ilranges.specs.Passing.{IsPassing}
+use Rattle.ilranges.specs.Marks.{IsMarked}
 use Rattle.ilranges.specs.Refusals.{MayBe, ArisesAtCondition}
-use Rattle.ilranges.specs.Rules.{Ways, IsKept, IsTested, IsRefined, AreJumped}
+use Rattle.ilranges.specs.Rules.{Ways, IsTested, IsRefined, AreJumped}
 use Rattle.ilranges.specs.WordLaws.{Goes}
-use Rattle.ilranges.specs.WordSteps.{NoneArises}
 
 -- ---- refinement
 

@@ -1,6 +1,6 @@
 -- A mark says what is so after each word that leaves or keeps it.
 use Rattle.std.proofs.Common.{◌≡◌, ℕ, zero, suc, ℤ, pos, negsuc, Bool, true, false, cond, List, [], ◌∷◌}
-use Rattle.std.proofs.Common.{Option, Some, None, refl, sym, ap, ◌∙◌, subst}
+use Rattle.std.proofs.Common.{Option, Some, None, refl, sym, ap, ◌∙◌}
 use Rattle.std.specs.Prelude.{IsTrue, slice_get, slice_set, ◌+ℤ◌, ◌-ℤ◌, ◌*ℤ◌, int_div}
 use Rattle.std.specs.Option.{option_and_then}
 use Rattle.iltypes.specs.declared.value.IlType.{IlType}

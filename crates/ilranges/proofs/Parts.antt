@@ -109,9 +109,11 @@ alike_from_length (c ∷ []) (d ∷ f ∷ ds) a b e =
 alike_from_length (c ∷ f ∷ cs) (d ∷ []) a b e =
     let p = chunk_some f cs a.1.0 in
     absurd (omega (arith, length-append d [], length-append c (whole (f ∷ cs)), length-append f (whole cs)))
-alike_from_length (c ∷ f ∷ cs) (d ∷ g ∷ ds) a b e =
-    (omega arith, alike_from_length (f ∷ cs) (g ∷ ds) a.1 b.1
-        (omega (arith, length-append c (whole (f ∷ cs)), length-append d (whole (g ∷ ds)))))
+alike_from_length (c ∷ f ∷ cs) (d ∷ g ∷ ds) a b e = (
+  omega arith,
+  alike_from_length (f ∷ cs) (g ∷ ds) a.1 b.1
+      (omega (arith, length-append c (whole (f ∷ cs)), length-append d (whole (g ∷ ds)))),
+)
 
 -- what has been cut so far
 abbrev pub AreFull : List (List Known) → Type 0
@@ -184,8 +186,8 @@ pub cut_more : (made : List (List Known)) (x xs : List Known) (n m : ℕ) → n 
     → whole made ++ drop n xs ≡ xs → whole (made ++ x ∷ []) ++ drop m xs ≡ xs
 cut_more made x xs n m l e h =
     ap (λ ys. ys ++ drop m xs) (whole_more made x)
-        ∙ (append_assoc (whole made) x (drop m xs) ∙
-            (ap (λ z. whole made ++ (z ++ drop m xs)) e ∙ (ap (λ z. whole made ++ z) (sym (drop_split xs n m l)) ∙ h)))
+    ∙ (append_assoc (whole made) x (drop m xs) ∙
+    (ap (λ z. whole made ++ (z ++ drop m xs)) e ∙ (ap (λ z. whole made ++ z) (sym (drop_split xs n m l)) ∙ h)))
 
 pub cut_even : (made : List (List Known)) (xs : List Known) (n : ℕ) → length xs ≤ n → whole made ++ drop n xs ≡ xs
     → whole made ≡ xs
@@ -193,4 +195,3 @@ cut_even made xs n l h = sym (append-nil (whole made)) ∙ (ap (λ z. whole made
 
 pub rest_long : (x xs : List Known) (n : ℕ) → x ≡ slice_range xs n (length xs) → length x ≡ length xs - n
 rest_long x xs n e = ap length e ∙ length_take (length xs - n) (drop n xs) (omega (arith, length-drop n xs))
-

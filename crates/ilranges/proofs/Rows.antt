@@ -83,12 +83,15 @@ each_append P ps bs cs us vs ws e f =
             | inr g ↦
                 let m = k - length cs in
                 f.each m x y z (sym (get_right ps us k m (omega arith)) ∙ p)
-                    (sym (get_right bs vs k m (omega arith)) ∙ q) (sym (get_right cs ws k m (omega arith)) ∙ r)
+                (sym (get_right bs vs k m (omega arith)) ∙ q) (sym (get_right cs ws k m (omega arith)) ∙ r)
           ];
     }
 
 pub each_nil : {A : Type 0} (P : A → A → A → Type 0) → Each P [] [] []
 each_nil P =
-    record { first = refl; second = refl; each = λ k a b c p q r. absurd
-        (let l = slice_get_within [] k c r in omega arith) }
-
+    record {
+      first = refl;
+      second = refl;
+      each = λ k a b c p q r. absurd
+          (let l = slice_get_within [] k c r in omega arith);
+    }

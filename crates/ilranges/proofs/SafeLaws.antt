@@ -123,7 +123,8 @@ enters_by : (code : Listing) (c : Configuration) (after : Entry) (starts ends : 
     (cond ends (if_closed c.nesting c) (Some c)))
     (cond starts (record after { result = None; mark = None }) after)
 enters_by code c after true ends s e f =
-    let i = closed_enters code (record c { result = None }) (record after { result = None; mark = None }) c.nesting (s refl)
+    let i = closed_enters code (record c { result = None }) (record after { result = None; mark = None }) c.nesting
+    (s refl)
     (record { typed = f.typed; slots = f.slots; result = tt; mark = tt; nesting = f.nesting }) in
     record { to = i.to; is = i.is; place = i.place; fits = i.fits }
 enters_by code c after false true s e f = closed_enters code c after c.nesting (e refl) f
@@ -140,7 +141,7 @@ pub safe : (word : Instruction) → IsSafeAt word
 safe word code met entry ways c w rule f =
     let g = sound word code met entry ways c rule f in
     let e = enters code g.to g.after (closed_at_end code met entry g.after ways c g.to word rule g.way g.fits)
-        g.fits in
+    g.fits in
     record {
       to = e.to;
       is = ap (step_by code c) w ∙ ap (option_and_then (entered code)) g.is ∙ e.is;

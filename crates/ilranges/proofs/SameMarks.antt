@@ -44,7 +44,7 @@ same_mark (Copy a) (Copy b) = Decides-like _ (λ e. ap Copy e) (λ e. cc) (Decid
 same_mark (Test slot comparison limit) (Test other compared bound) =
     Decides-like _ (same_test slot other comparison compared limit bound) (λ e. (cc, (cc, cc)))
     (Decides-and _ _ (Decides-eqb slot other)
-        (Decides-and _ _ (same_operator comparison compared) (Decides-int_eq limit bound)))
+    (Decides-and _ _ (same_operator comparison compared) (Decides-int_eq limit bound)))
 same_mark (Copy a) (Test other compared bound) = (λ e. cc, λ e. cc)
 same_mark (Test slot comparison limit) (Copy b) = (λ e. cc, λ e. cc)
 

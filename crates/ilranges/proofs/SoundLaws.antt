@@ -43,7 +43,7 @@ use Rattle.ilranges.specs.Results.{IsAfter}
 use Rattle.ilranges.specs.Rules.{IsModified, IsLoaded, IsApplied, IsTransformed, IsStored, MaySet, Gives, Writes}
 use Rattle.ilranges.specs.Marks.{IsMarked, mark_of_load, constant_of, mark_of_apply, mark_of_function}
 use Rattle.ilranges.specs.Refusals.{open_after}
-use Rattle.ilranges.specs.Rules.{Opens, Closes, IsRule, IsEntryAfter, unmarked}
+use Rattle.ilranges.specs.Rules.{Opens, Closes, IsEntryAfter, unmarked}
 use Rattle.ilranges.specs.WordLaws.{IsSoundAt}
 use Rattle.ilranges.proofs.JumpLaws.{jump_goes}
 use Rattle.ilranges.proofs.MarkLaws.{load_marked, apply_marked, function_marked, store_marked, truth_marked}

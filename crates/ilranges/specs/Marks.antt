@@ -1,5 +1,5 @@
 -- Marks (profile): what the current result says of the number in a slot, when it is so, and which words leave one.
-use Rattle.std.specs.Prelude.{◌≡◌, ℕ, ℤ, Bool, true, false, if◌then◌else◌, List, Option, Some, None, slice_get, ⊤}
+use Rattle.std.specs.Prelude.{◌≡◌, ℕ, ℤ, Bool, false, if◌then◌else◌, List, Option, Some, None, slice_get, ⊤}
 use Rattle.iltypes.specs.declared.value.Value.{Value}
 use Rattle.iltypes.specs.declared.value.Value.TheVariants as values
 use Rattle.iloperators.specs.declared.function.Function.{Function}
@@ -42,8 +42,8 @@ IsMarkInto mark None = ⊤
 IsMarkInto None (Some wider) = ⊥
 IsMarkInto (Some mark) (Some wider) = mark ≡ wider
 
--- ---- which words leave a mark: LD of a number's slot, a comparison of what it loaded with a constant, and NOT of that;
--- a store, S, R and a jump keep one, and any other word removes it
+-- ---- which words leave a mark: LD of a number's slot, a comparison of what it loaded with a constant, and NOT of
+-- that; a store, S, R and a jump keep one, and any other word removes it
 
 abbrev pub mark_of_load : Bool → Operand → Known → Option Mark
 mark_of_load false (Slot slot) (knowns.Int range) = Some (Copy slot)

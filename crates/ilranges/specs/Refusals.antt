@@ -143,7 +143,8 @@ ArisesBeforeNesting code place entry (words.Transform function) cause = ArisesAt
 ArisesBeforeNesting code place entry (words.Store negated slot) cause =
     ArisesAtStoring negated entry.result (slice_get code.slots slot) cause
 ArisesBeforeNesting code place entry (words.Set slot) cause = ArisesAtSet entry.result (slice_get code.slots slot) cause
-ArisesBeforeNesting code place entry (words.Reset slot) cause = ArisesAtSet entry.result (slice_get code.slots slot) cause
+ArisesBeforeNesting code place entry (words.Reset slot) cause =
+    ArisesAtSet entry.result (slice_get code.slots slot) cause
 ArisesBeforeNesting code place entry (words.Open operator) cause = ArisesAtOpen entry.result cause
 ArisesBeforeNesting code place entry words.Close cause = ArisesAtClose entry.nesting entry.result cause
 ArisesBeforeNesting code place entry (words.Jump condition target) cause =

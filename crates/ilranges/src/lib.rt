@@ -2,12 +2,13 @@
 //!
 //! What crosses the boundary: [`Entry`], all that is known at a place, [`after_word`], which says
 //! what a word changes of it on each way from the word ([`Changes`]) or reports the least
-//! [`Cause`], and [`Known`], a kind with a range for numbers. The rules are `AreWaysOf`
+//! [`Cause`], and [`Known`], a kind with a range for numbers. A [`Mark`] says what the current
+//! result tells of a slot, by which a jump's ways are refined. The rules are `AreWaysOf`
 //! (specs/Rules.antt, to be read first) and `ArisesAtWord` (specs/Refusals.antt), over `IsAfter`
 //! of an operator (specs/Results.antt). Where ways meet, [`Entry::join`] has what is known on both.
 //!
 //! ```text
-//! let changes = after_word(code, place, met, &entry, word)?;
+//! let changes = after_word(&code, place, met, &entry, word)?;
 //! if let Some(change) = changes.next {
 //!     change.apply(&mut entry)?;
 //! }

@@ -6,6 +6,7 @@ use crate::{Cause, Known, more_known_before_is_more_known_after, passing};
 use iloperators::{Function, IntegerType, Operator};
 use iltypes::{IlType, Range};
 
+mod jumps;
 mod sharing;
 mod words;
 
@@ -108,9 +109,10 @@ fn functions(rt: HostRuntime) {
         Cause::MayBeZero.number(),
         outside.number(),
         Cause::TooBig.number(),
+        Cause::BadJump.number(),
         Cause::BadSlot.number(),
     ];
-    assert_eq!(rt; numbers.as_slice(), [2, 3, 4, 5, 6, 7, 8, 11].as_slice());
+    assert_eq!(rt; numbers.as_slice(), [2, 3, 4, 5, 6, 7, 8, 9, 11].as_slice());
 }
 
 #[test]

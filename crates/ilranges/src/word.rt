@@ -127,8 +127,8 @@ pub(crate) fn is_start(code: &Code, place: usize) -> bool
     code.starts().contains(&place)
 }
 
-/// Whether nothing may be open after the place: a program begins at the next one, the code ends, or,
-/// by `met`, a jump leads there.
+/// Whether nothing may be open after the place: a program begins at the next one, the code ends,
+/// or, by `met`, a jump leads there.
 fn is_closed_after(code: &Code, place: usize, met: bool) -> bool
     requires { place < length code.now.instructions }
     ensures { IsTrue result ↔ IsClosedAt code.now (place + 1) met }

@@ -1,6 +1,6 @@
 //! Worked rows of words: what is known after each kind, which cause is reported, and each call.
 
-ghost use Rattle.std.specs.Prelude.{◌≤ℤ◌};
+ghost use Rattle.std.specs.Prelude.{◌≤ℤ◌, ◌<◌, length};
 
 use crate::tests::{GREATEST, LEAST, int, range};
 use crate::{Cause, Entry, Known, after_word, least_cause_is_one, words_are_safe};
@@ -11,22 +11,22 @@ use std::alloc::{AllocError, Global};
 use std::test::Fail;
 
 /// The constants of the code.
-const TEN: Operand = Operand::Constant(0);
+pub(crate) const TEN: Operand = Operand::Constant(0);
 
-const TRUE: Operand = Operand::Constant(1);
+pub(crate) const TRUE: Operand = Operand::Constant(1);
 
 const FEWEST: Operand = Operand::Constant(2);
 
 const MANY: Operand = Operand::Constant(3);
 
-const ZERO: Operand = Operand::Constant(4);
+pub(crate) const ZERO: Operand = Operand::Constant(4);
 
 /// Its slots: 0 to 254, BOOL, and all numbers.
-const LEVEL: usize = 0;
+pub(crate) const LEVEL: usize = 0;
 
-const LAMP: usize = 1;
+pub(crate) const LAMP: usize = 1;
 
-const WIDE: usize = 2;
+pub(crate) const WIDE: usize = 2;
 
 /// What its tables do not have.
 const NO_SLOT: usize = 3;
@@ -34,7 +34,7 @@ const NO_SLOT: usize = 3;
 const NO_CONSTANT: Operand = Operand::Constant(5);
 
 /// A code of four words with two programs: one begins at 0, the other at 2.
-fn code(alloc: Global) -> Result<Code, AllocError> {
+pub(crate) fn code(alloc: Global) -> Result<Code, AllocError> {
     let constants = vec![in alloc;
         Value::Int(10),
         Value::Bool(true),
@@ -50,7 +50,7 @@ fn code(alloc: Global) -> Result<Code, AllocError> {
     Ok(Code::new(1, constants, slots, starts, words, lines))
 }
 
-fn ld(operand: Operand) -> Instruction {
+pub(crate) fn ld(operand: Operand) -> Instruction {
     Instruction::Load {
         negated: false,
         operand,
@@ -64,7 +64,7 @@ fn ldn(operand: Operand) -> Instruction {
     }
 }
 
-fn st(slot: usize) -> Instruction {
+pub(crate) fn st(slot: usize) -> Instruction {
     Instruction::Store {
         negated: false,
         slot,
@@ -78,13 +78,33 @@ fn stn(slot: usize) -> Instruction {
     }
 }
 
-fn slot(slot: usize) -> Operand {
+pub(crate) fn slot(slot: usize) -> Operand {
     Operand::Slot(slot)
+}
+
+/// Changes what is known by the word at the place, from which control goes on to the next place; no
+/// jump leads there.
+pub(crate) fn go_on(
+    code: &Code,
+    place: usize,
+    entry: &mut Entry,
+    word: Instruction,
+) -> Result<Result<(), Cause>, AllocError>
+    requires { place < length code.now.instructions }
+{
+    let changes = match after_word(code, place, false, entry, word) {
+        Ok(changes) => changes,
+        Err(cause) => return Ok(Err(cause)),
+    };
+    if let Some(change) = changes.next {
+        change.apply(entry)?;
+    }
+    Ok(Ok(()))
 }
 
 /// What is known after the words, of which the last stands at the place and the others at 0, or the
 /// cause that is reported at the first that is refused.
-fn after(
+pub(crate) fn after(
     alloc: Global,
     words: &[Instruction],
     place: usize,
@@ -94,7 +114,7 @@ fn after(
     for (index, word) in words.iter().enumerate() {
         let place = if index + 1 == words.len() { place } else { 0 };
         if place < code.instructions().len() {
-            if let Err(cause) = after_word(&code, place, &mut entry, *word) {
+            if let Err(cause) = go_on(&code, place, &mut entry, *word)? {
                 return Ok(Err(cause));
             }
         }
@@ -111,7 +131,7 @@ fn result(alloc: Global, words: &[Instruction]) -> Result<Option<Known>, Fail> {
 }
 
 /// The cause that is reported at the last of the words, which stands at the place.
-fn cause(alloc: Global, words: &[Instruction], place: usize) -> Result<Cause, Fail> {
+pub(crate) fn cause(alloc: Global, words: &[Instruction], place: usize) -> Result<Cause, Fail> {
     match after(alloc, words, place)? {
         Ok(_) => Err("not refused".into()),
         Err(cause) => Ok(cause),
@@ -257,20 +277,17 @@ fn at_most_32_parentheses(rt: HostRuntime) -> Result<(), Fail> {
     let add = Instruction::Open(Operator::Add);
     assert_eq!(rt; code.instructions().len(), 4);
     for _ in 0..32 {
-        assert!(rt; after_word(&code, 0, &mut entry, ld(TEN)).is_ok());
-        assert!(rt; after_word(&code, 0, &mut entry, add).is_ok());
+        assert_eq!(rt; go_on(&code, 0, &mut entry, ld(TEN))?, Ok(()));
+        assert_eq!(rt; go_on(&code, 0, &mut entry, add)?, Ok(()));
     }
     assert_eq!(rt; entry.nesting.len(), 32);
-    assert!(rt; after_word(&code, 0, &mut entry, ld(TEN)).is_ok());
-    assert_eq!(rt;
-        after_word(&code, 0, &mut entry, add),
-        Err(Cause::OpenNesting)
-    );
+    assert_eq!(rt; go_on(&code, 0, &mut entry, ld(TEN))?, Ok(()));
+    assert_eq!(rt; go_on(&code, 0, &mut entry, add)?, Err(Cause::OpenNesting));
     assert_eq!(rt; entry.nesting.len(), 32);
-    assert!(rt; after_word(&code, 0, &mut entry, Instruction::Close).is_ok());
+    assert_eq!(rt; go_on(&code, 0, &mut entry, Instruction::Close)?, Ok(()));
     assert_eq!(rt; entry.result, Some(int(20, 20)));
     assert_eq!(rt;
-        after_word(&code, 3, &mut entry, Instruction::Close),
+        go_on(&code, 3, &mut entry, Instruction::Close)?,
         Err(Cause::OpenNesting)
     );
     words_are_safe();

@@ -11,10 +11,10 @@ loop-k-preserved c =
     record {
       full = rw c.in_ok-push.ensures.items
           (full_more _ _ c.loop-k.invariant.full
-              (part_long _ c.args.items.now (c.loop-k.k * 64) (c.loop-k.k * 64 + 64) c.in_ok-new.ensures refl l));
+          (part_long _ c.args.items.now (c.loop-k.k * 64) (c.loop-k.k * 64 + 64) c.in_ok-new.ensures refl l));
       all = rw (c.in_ok-push.ensures.items, f)
           (cut_more c.loop-k.made.items _ c.args.items.now (c.loop-k.k * 64) (c.loop-k.k * 64 + 64)
-              (omega arith) c.in_ok-new.ensures c.loop-k.invariant.all);
+          (omega arith) c.in_ok-new.ensures c.loop-k.invariant.all);
     }
 
 pub returns-clause-full : goal.returns-clause-full
@@ -24,7 +24,7 @@ returns-clause-full c =
           let n = rest_long _ c.args.items.now (length c.args.items.now / 64 * 64) w.in_ok-new-2.ensures in
           let t = w.if-from-items.true in
           rw (w.made-is, w.in_ok-push-2.ensures.items)
-              (full_last _ _ c.loop-k.invariant.full (omega arith) (omega arith))
+          (full_last _ _ c.loop-k.invariant.full (omega arith) (omega arith))
       | else-from-items w ↦ rw w.made-is (full_chunks _ c.loop-k.invariant.full)
     ]
 
@@ -36,9 +36,9 @@ returns-clause-all c =
       | then-from-items+in_ok-new-2+in_ok-push-2 w ↦
           let t = w.if-from-items.true in
           rw (w.made-is, w.in_ok-push-2.ensures.items)
-              (cut_even (c.loop-k.made.items ++ w.in_ok-new-2.field-0 ∷ []) c.args.items.now (length c.args.items.now)
-                  (omega arith) (cut_more c.loop-k.made.items _ c.args.items.now (length c.args.items.now / 64 * 64)
-                      (length c.args.items.now) (omega arith) w.in_ok-new-2.ensures i))
+          (cut_even (c.loop-k.made.items ++ w.in_ok-new-2.field-0 ∷ []) c.args.items.now (length c.args.items.now)
+          (omega arith) (cut_more c.loop-k.made.items _ c.args.items.now (length c.args.items.now / 64 * 64)
+          (length c.args.items.now) (omega arith) w.in_ok-new-2.ensures i))
       | else-from-items w ↦
           let t = w.if-from-items.false in
           rw w.made-is (cut_even c.loop-k.made.items c.args.items.now (length c.args.items.now / 64 * 64) t i)

@@ -11,7 +11,7 @@ loop-i-preserved c =
     let r : c.loop-i.i < length c.args.ones.now = omega arith in
     let o : c.loop-i.i < length c.args.others.now = omega arith in
     let j : IsJoin c.index-ones-i.result c.index-others-i.result c.unwrap.result =
-        rw c.unwrap.ensures at c.join.ensures.least in
+    rw c.unwrap.ensures at c.join.ensures.least in
     rw c.in_ok-push.ensures.items (each_more IsJoin c.loop-i.i _ _ _ c.index-ones-i.result c.index-others-i.result
     c.unwrap.result c.loop-i.invariant (slice_get_read _ _ _ _ refl r c.index-ones-i.is)
     (slice_get_read _ _ _ _ refl o c.index-others-i.is) j)

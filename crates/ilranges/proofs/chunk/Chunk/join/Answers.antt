@@ -27,4 +27,4 @@ returns-then-are_within-2 c =
     let g : c.deref-8.result.now ≡ c.args.other.now = cc in
     let v : AreWithin c.args.self.now c.args.other.now = rw (← f, ← g) w in
     IfOk-weaker c.share-then-are_within-2.result _ _
-        (λ d e. rw e (joins_others _ _ v)) c.share-then-are_within-2.ensures
+    (λ d e. rw e (joins_others _ _ v)) c.share-then-are_within-2.ensures

@@ -8,14 +8,14 @@ use Rattle.ilranges.proofs.slots.Slots.get.Goals as goal
 pub index-requires : goal.index-requires
 index-requires c =
     let l : c.args.slot < length (whole c.self.inside.chunks.items) = omega
-        (arith, c.if-slot-self.true, c.self.invariant.1) in
+    (arith, c.if-slot-self.true, c.self.invariant.1) in
     let p = place_of c.self.inside.chunks.items c.args.slot c.self.invariant.0 l in
     let i = p.inside in omega arith
 
 pub get-requires : goal.get-requires
 get-requires c =
     let l : c.args.slot < length (whole c.self.inside.chunks.items) = omega
-        (arith, c.if-slot-self.true, c.self.invariant.1) in
+    (arith, c.if-slot-self.true, c.self.invariant.1) in
     let p = place_of c.self.inside.chunks.items c.args.slot c.self.invariant.0 l in
     rw (← place_read _ _ _ _ p c.index.result.now c.index.ensures) p.within
 
@@ -23,7 +23,7 @@ pub returns-then-slot-self : goal.returns-then-slot-self
 returns-then-slot-self c =
     let v : whole c.self.inside.chunks.items ≡ c.args.self.now = c.self.view_is in
     let l : c.args.slot < length (whole c.self.inside.chunks.items) = omega
-        (arith, c.if-slot-self.true, c.self.invariant.1) in
+    (arith, c.if-slot-self.true, c.self.invariant.1) in
     let p = place_of c.self.inside.chunks.items c.args.slot c.self.invariant.0 l in
     let e = place_read _ _ _ _ p c.index.result.now c.index.ensures in
     record {
@@ -34,5 +34,5 @@ pub returns-else-slot-self : goal.returns-else-slot-self
 returns-else-slot-self c =
     let v : whole c.self.inside.chunks.items ≡ c.args.self.now = c.self.view_is in
     let l : length (whole c.self.inside.chunks.items) ≤ c.args.slot = omega
-        (arith, c.if-slot-self.false, c.self.invariant.1) in
+    (arith, c.if-slot-self.false, c.self.invariant.1) in
     record { value = rw (← v) (sym (slice_get_past (whole c.self.inside.chunks.items) c.args.slot l)) }

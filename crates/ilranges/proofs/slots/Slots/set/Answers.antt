@@ -8,26 +8,26 @@ use Rattle.ilranges.proofs.slots.Slots.set.Goals as goal
 pub index_mut-requires : goal.index_mut-requires
 index_mut-requires c =
     let l : c.args.slot < length (whole c.self.inside.chunks.items) = omega
-        (arith, c.if-slot-self.true, c.self.invariant.1) in
+    (arith, c.if-slot-self.true, c.self.invariant.1) in
     let p = place_of c.self.inside.chunks.items c.args.slot c.self.invariant.0 l in
     let i = p.inside in omega arith
 
 pub set-requires : goal.set-requires
 set-requires c =
     let l : c.args.slot < length (whole c.self.inside.chunks.items) = omega
-        (arith, c.if-slot-self.true, c.self.invariant.1) in
+    (arith, c.if-slot-self.true, c.self.invariant.1) in
     let p = place_of c.self.inside.chunks.items c.args.slot c.self.invariant.0 l in
     rw (← place_read _ _ _ _ p c.index_mut.result.now c.index_mut.ensures.value) p.within
 
 pub invariant_of-self : goal.invariant_of-self
 invariant_of-self c =
     let l : c.args.slot < length (whole c.self.inside.chunks.items) = omega
-        (arith, c.if-slot-self.true, c.self.invariant.1) in
+    (arith, c.if-slot-self.true, c.self.invariant.1) in
     let p = place_of c.self.inside.chunks.items c.args.slot c.self.invariant.0 l in
     let e : p.chunk ≡ c.index_mut.result.now =
-        place_read _ _ _ _ p c.index_mut.result.now c.index_mut.ensures.value in
+    place_read _ _ _ _ p c.index_mut.result.now c.index_mut.ensures.value in
     let m : length c.set.new.self ≡ length p.chunk =
-        rw e (either_long c.set.result _ _ _ _ c.set.ensures.ok c.set.ensures.err) in
+    rw e (either_long c.set.result _ _ _ _ c.set.ensures.ok c.set.ensures.err) in
     let s = alike_set _ _ p.chunk c.set.new.self p.is m in
     (chunks_alike _ _ s c.self.invariant.0, c.self.invariant.1 ∙ whole_alike _ _ s)
 
@@ -35,10 +35,10 @@ pub returns-then-slot-self : goal.returns-then-slot-self
 returns-then-slot-self c =
     let v : whole c.self.inside.chunks.items ≡ c.args.self.now = c.self.view_is in
     let l : c.args.slot < length (whole c.self.inside.chunks.items) = omega
-        (arith, c.if-slot-self.true, c.self.invariant.1) in
+    (arith, c.if-slot-self.true, c.self.invariant.1) in
     let p = place_of c.self.inside.chunks.items c.args.slot c.self.invariant.0 l in
     let e : p.chunk ≡ c.index_mut.result.now =
-        place_read _ _ _ _ p c.index_mut.result.now c.index_mut.ensures.value in
+    place_read _ _ _ _ p c.index_mut.result.now c.index_mut.ensures.value in
     on_ok_weaker c.set.result
     (λ (f : c.set.new.self ≡ slice_set c.index_mut.result.now (c.args.slot % 64) c.args.known).
     ap (λ x. whole (slice_set c.self.inside.chunks.items (c.args.slot / 64) x))
