@@ -1,5 +1,6 @@
 -- The different constants of some uses and of one use more.
-use Rattle.std.proofs.Common.{◌≡◌, ℕ, ◌+◌, ◌<◌, ◌≤◌, nat_lt, List, [], ◌∷◌, ◌++◌, length, Bool, true, false, cond, refl, sym, ap, ◌∙◌, subst, arith, ◌⊎◌, inl, inr, append_assoc, length-append}
+use Rattle.std.proofs.Common.{◌≡◌, ℕ, ◌+◌, ◌<◌, ◌≤◌, nat_lt, List, [], ◌∷◌, ◌++◌, length, Bool, true, false, cond, refl}
+use Rattle.std.proofs.Common.{sym, ap, ◌∙◌, subst, arith, ◌⊎◌, inl, inr, append_assoc, length-append}
 use Rattle.std.specs.Prelude.{Option, Some, None}
 use Rattle.std.specs.List.{list_any, cons_option}
 use Rattle.std.proofs.lemmas.Bool.Decides.{nat_tests}
@@ -41,7 +42,8 @@ with_length known v = by (list_any (same_value v) known)
     by true = inl refl
     by false = inr (omega (arith, length-append known (v ∷ [])))
 
-more_used : (us : List (Use Name)) (u : Use Name) → (many us ≤ many (us ++ u ∷ [])) × (many (us ++ u ∷ []) ≤ many us + 1)
+more_used : (us : List (Use Name)) (u : Use Name)
+    → (many us ≤ many (us ++ u ∷ [])) × (many (us ++ u ∷ []) ≤ many us + 1)
 more_used us u = by (constant_in u.operand) refl
   where
     one : (v : Value) → many (us ++ u ∷ []) ≡ length (with_constant (each_once (constants_used us)) v)
@@ -51,7 +53,8 @@ more_used us u = by (constant_in u.operand) refl
     one v e (inl s) = (omega (arith, e, s), omega (arith, e, s))
     one v e (inr s) = (omega (arith, e, s), omega (arith, e, s))
 
-    by : (o : Option Value) → constant_in u.operand ≡ o → (many us ≤ many (us ++ u ∷ [])) × (many (us ++ u ∷ []) ≤ many us + 1)
+    by : (o : Option Value) → constant_in u.operand ≡ o
+        → (many us ≤ many (us ++ u ∷ [])) × (many (us ++ u ∷ []) ≤ many us + 1)
     by None e =
         let same = ap (λ (vs : List Value). length vs) (name_used us u e) in
         (omega (arith, same), omega (arith, same))
@@ -225,7 +228,8 @@ few_of_more front (u ∷ back) none few =
     (few_of_more (front ++ u ∷ []) back (subst (λ us. (place : ℕ) → ¬ MakesTooManyConstants us place) (sym all) none)
     (still_few (nat_lt most_constants (many (front ++ u ∷ []))) refl))
   where
-    still_few : (b : Bool) → nat_lt most_constants (many (front ++ u ∷ [])) ≡ b → many (front ++ u ∷ []) ≤ most_constants
+    still_few : (b : Bool) → nat_lt most_constants (many (front ++ u ∷ [])) ≡ b
+        → many (front ++ u ∷ []) ≤ most_constants
     still_few false e = grind (arith, nat_tests)
     still_few true e =
         let most = more_used front u in

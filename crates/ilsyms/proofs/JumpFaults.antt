@@ -1,12 +1,12 @@
 -- Jumps are at fault by the numbers of lines that are kept under labels exactly where they lead nowhere or back.
-use Rattle.std.proofs.Common.{◌≡◌, ℕ, zero, suc, ◌+◌, ◌<◌, ◌≤◌, List, [], ◌∷◌, ◌++◌, length, take, drop, get_or, Bool, true, false, refl, sym, ap, ◌∙◌, subst, ◌⊎◌, inl, inr, arith, append_assoc, length-append}
+use Rattle.std.proofs.Common.{◌≡◌, ℕ, zero, suc, ◌+◌, ◌<◌, ◌≤◌, List, [], ◌∷◌, ◌++◌, length, take, drop, get_or, Bool}
+use Rattle.std.proofs.Common.{true, false, refl, sym, ap, ◌∙◌, subst, ◌⊎◌, inl, inr, arith, append_assoc, length-append}
 use Rattle.std.specs.Prelude.{Option, Some, None, IsSomeAnd, is_some, option_map, bytes_eq, slice_get, if◌then◌else◌}
 use Rattle.std.specs.Map.{lookup}
 use Rattle.std.proofs.lemmas.List.{length-take-le}
 use Rattle.iltrees.specs.declared.instruction.Line.{Line}
 use Rattle.ilsource.specs.declared.name.Name.{Name}
 use Rattle.ilsource.specs.Names.{folded, SameName}
-use Rattle.ilscope.specs.Declarations.{DeclaredProgram}
 use Rattle.ilscope.specs.Faults.{SomeOf, IsLeastOf, IsTwiceIn}
 use Rattle.ilscope.specs.Kept.{Kept}
 use Rattle.ilscope.specs.Order.{lesser_of_two}
@@ -17,14 +17,16 @@ use Rattle.ilscope.specs.declared.fault.NameCause.TheVariants.{Unknown, Twice, U
 use Rattle.ilscope.specs.declared.fault.NameCause.TheVariants.{TooMany, BadDeclaration}
 use Rattle.ilscope.specs.declared.found.Found.{Found}
 use Rattle.ilscope.proofs.Gathered.{best_same, or_else}
-use Rattle.ilscope.proofs.Least.{both_least, got_at, got_below, one_found}
-use Rattle.ilsyms.specs.Faults.{labels_of, target_of, JumpsTo, JumpsNowhere, JumpsBack}
-use Rattle.ilsyms.specs.LabelSteps.{AreNumbered, IsCauseOfJump, IsFaultOfJump, IsFaultBefore, IsFaultOfJumps, IsFaultOfLabels}
+use Rattle.ilscope.proofs.Least.{both_least, got_at, got_below}
+use Rattle.ilsyms.specs.Faults.{labels_of, target_of, JumpsTo}
+use Rattle.ilsyms.specs.LabelSteps.{AreNumbered, IsCauseOfJump, IsFaultOfJump, IsFaultBefore, IsFaultOfJumps}
+use Rattle.ilsyms.specs.LabelSteps.{IsFaultOfLabels}
 use Rattle.ilsyms.proofs.LabelNumbers.{has, label_among, label_found}
 
 -- ---- places of a list
 
-some_at : {X : Type 0} (P : X → Type 0) (xs : List X) → SomeOf P xs → (i : ℕ) × (x : X) × (slice_get xs i ≡ Some x) × P x
+some_at : {X : Type 0} (P : X → Type 0) (xs : List X) → SomeOf P xs
+    → (i : ℕ) × (x : X) × (slice_get xs i ≡ Some x) × P x
 some_at P [] s = absurd s
 some_at P (x ∷ xs) (inl p) = (0, x, refl, p)
 some_at P (x ∷ xs) (inr s) = let t = some_at P xs s in (suc t.0, t.1, t.2, t.3)
@@ -115,12 +117,14 @@ module _ (text : List ℕ) (kept : Kept ℕ) (lines : List (Line Name Name)) (nu
   abbrev IsCause : ℕ → NameCause → Name → Type 0
   IsCause n cause label = IsCauseOfJump (lookup (bytes_eq (folded text label)) kept) n cause
 
-  leads_nowhere : (n : ℕ) (label : Name) → IsCause n UnknownLabel label → ¬ SomeOf (SameName text label) (labels_of lines)
+  leads_nowhere : (n : ℕ) (label : Name) → IsCause n UnknownLabel label
+      → ¬ SomeOf (SameName text label) (labels_of lines)
   leads_nowhere n label c s =
       nowhere (first_at (has text label) lines) n
       (subst (λ (o : Option ℕ). IsCauseOfJump o n UnknownLabel) (numbered label) c) (label_found text lines label s)
 
-  unknown_then : (n : ℕ) (label : Name) → (¬ SomeOf (SameName text label) (labels_of lines)) → IsCause n UnknownLabel label
+  unknown_then : (n : ℕ) (label : Name) → (¬ SomeOf (SameName text label) (labels_of lines))
+      → IsCause n UnknownLabel label
   unknown_then n label h =
       subst (λ (o : Option ℕ). IsCauseOfJump o n UnknownLabel) (sym (numbered label))
       (to_nowhere (first_at (has text label) lines) n (λ s. h (label_among text lines label s)))
@@ -135,7 +139,8 @@ module _ (text : List ℕ) (kept : Kept ℕ) (lines : List (Line Name Name)) (nu
     many : length upto ≡ length front + 1
     many = length-append front (line ∷ [])
 
-    leads_back : (label : Name) → IsCause (length front) BackwardJump label → SomeOf (SameName text label) (labels_of upto)
+    leads_back : (label : Name) → IsCause (length front) BackwardJump label
+        → SomeOf (SameName text label) (labels_of upto)
     leads_back label c =
         by (first_at (has text label) lines) refl
         (subst (λ (o : Option ℕ). IsCauseOfJump o (length front) BackwardJump) (numbered label) c)
@@ -150,7 +155,8 @@ module _ (text : List ℕ) (kept : Kept ℕ) (lines : List (Line Name Name)) (nu
             label_among text upto label
             (first_front (has text label) upto back first here (omega (arith, low, size)))
 
-    back_then : (label : Name) → SomeOf (SameName text label) (labels_of upto) → IsCause (length front) BackwardJump label
+    back_then : (label : Name) → SomeOf (SameName text label) (labels_of upto)
+        → IsCause (length front) BackwardJump label
     back_then label s =
         let first = front_first (has text label) upto back (label_found text upto label s) in
         let there : lookup (bytes_eq (folded text label)) kept ≡ Some first.0 =
@@ -158,7 +164,8 @@ module _ (text : List ℕ) (kept : Kept ℕ) (lines : List (Line Name Name)) (nu
         in
         let low = first.2 in
         let size = many in
-        subst (λ (o : Option ℕ). IsCauseOfJump o (length front) BackwardJump) (sym there) (omega (arith, low, size), refl)
+        subst (λ (o : Option ℕ). IsCauseOfJump o (length front) BackwardJump) (sym there)
+        (omega (arith, low, size), refl)
 
   module _ (bound : ℕ) (whole : length lines ≤ bound) (place : ℕ) where
     none_else : (cause : NameCause) → ¬ (cause ≡ UnknownLabel) → ¬ (cause ≡ BackwardJump)
@@ -167,7 +174,8 @@ module _ (text : List ℕ) (kept : Kept ℕ) (lines : List (Line Name Name)) (nu
         jumps_never place (target_of f.line.instruction)
         (λ label c. only_two (lookup (bytes_eq (folded text label)) kept) f.number cause h g c) f.fault
 
-    to_faults : (cause : NameCause) → IsFaultBefore text kept lines bound place cause → IsFaultOfJumps text lines place cause
+    to_faults : (cause : NameCause) → IsFaultBefore text kept lines bound place cause
+        → IsFaultOfJumps text lines place cause
     to_faults UnknownLabel f =
         at_some
         (λ one. JumpsTo (λ label. ¬ SomeOf (SameName text label) (labels_of lines)) place one.instruction) lines
@@ -278,7 +286,8 @@ labels_of_program text lines a b h k =
     from
     (both_least (OfCause Twice (IsTwiceIn (folded text) (labels_of lines))) (IsFaultOfJumps text lines) a b h k)
   where
-    into : (place : ℕ) (cause : NameCause) → IsFaultOfJumps text lines place cause → IsFaultOfLabels text lines place cause
+    into : (place : ℕ) (cause : NameCause) → IsFaultOfJumps text lines place cause
+        → IsFaultOfLabels text lines place cause
     into place Unknown s = s
     into place Twice s = absurd s
     into place UnknownLabel s = s

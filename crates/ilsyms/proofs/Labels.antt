@@ -1,5 +1,6 @@
 -- Labels are the same where their numbers are.
-use Rattle.std.proofs.Common.{◌≡◌, ℕ, ◌<◌, List, [], ◌∷◌, length, get_or, Bool, true, false, ◌||◌, refl, sym, ap, ◌∙◌, subst, arith}
+use Rattle.std.proofs.Common.{◌≡◌, ℕ, ◌<◌, List, [], ◌∷◌, length, get_or, Bool, true, false, ◌||◌, refl, sym, ap, ◌∙◌}
+use Rattle.std.proofs.Common.{subst, arith}
 use Rattle.std.specs.Prelude.{Option, Some, None, bytes_eq}
 use Rattle.std.specs.List.{list_any, position_or_len}
 use Rattle.std.proofs.lemmas.Bool.Decides.{Decides-eqb, same_from_decides}
@@ -38,7 +39,8 @@ module _ (text : List ℕ) where
   same_as l m e = (bytes_eq-Decides (folded text l) (folded text m)).1 e
 
   -- a line that has both labels
-  both_have : (l m : Name) (o : Option Name) → has_label (same_name text) l o ≡ true → has_label (same_name text) m o ≡ true
+  both_have : (l m : Name) (o : Option Name) → has_label (same_name text) l o ≡ true
+      → has_label (same_name text) m o ≡ true
       → same_name text l m ≡ true
   both_have l m None e g = absurd cc
   both_have l m (Some k) e g = same_as l m (alike l k e ∙ sym (alike m k g))

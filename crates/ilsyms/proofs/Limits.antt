@@ -42,7 +42,8 @@ module _ (tree : Tree) (named : IsWellNamed tree) where
       let places = flat_map places_in all in
       let none = none_at (slice_get places most_words) (λ place e. named place TooMany (inr (inr (inl e)))) in
       let least = none_past places most_words none in
-      let same = ap (λ (ns : List ℕ). length ns) (same_places tree.text (slots_of_tree tree) (declared_programs tree)) in
+      let same = ap (λ (ns : List ℕ). length ns)
+      (same_places tree.text (slots_of_tree tree) (declared_programs tree)) in
       let counted = length-flat_map places_in (all_lines (task_of_tree tree).instances) in
       omega (arith, least, same, counted)
 

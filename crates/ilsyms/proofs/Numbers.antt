@@ -1,5 +1,6 @@
 -- A name's number is the place of its variable in the store.
-use Rattle.std.proofs.Common.{◌≡◌, ℕ, suc, ◌+◌, ◌<◌, List, [], ◌∷◌, ◌++◌, map, length, Bool, true, false, cond, refl, ap, ◌∙◌, arith, length-append}
+use Rattle.std.proofs.Common.{◌≡◌, ℕ, suc, ◌+◌, ◌<◌, List, [], ◌∷◌, ◌++◌, map, length, Bool, true, false, cond, refl}
+use Rattle.std.proofs.Common.{ap, ◌∙◌, arith, length-append}
 use Rattle.std.specs.Prelude.{Option, Some, None, option_map, bytes_eq, ⊤}
 use Rattle.std.specs.Option.{option_map_or}
 use Rattle.std.specs.List.{list_any, position_or_len}
@@ -62,7 +63,8 @@ module _ (text : List ℕ) (instance name : Name) where
       (others_slots ps o.1)
 
   -- a slot of the instance is meant where its variable is
-  own_slot : (v : Variable) → is_under text instance name (slot instance v) ≡ bytes_eq (folded text name) (folded text v.name)
+  own_slot : (v : Variable)
+      → is_under text instance name (slot instance v) ≡ bytes_eq (folded text name) (folded text v.name)
   own_slot v = let e = same_as text instance instance refl in rw e refl
 
   own_place : (vs : List Variable) (rest : List Slot)
@@ -105,7 +107,8 @@ module _ (text : List ℕ) (front back : List DeclaredProgram) (p : DeclaredProg
   number_is_place name before after =
       let test = is_under text p.program.name name in
       let parts = flat_map-append slots_of_program front (p ∷ back) in
-      let skip = passed_over test (slots_of front) (slots_of (p ∷ back)) (others_slots text p.program.name name front before) in
+      let skip = passed_over test (slots_of front) (slots_of (p ∷ back))
+      (others_slots text p.program.name name front before) in
       let own = own_place text p.program.name name p.variables (slots_of back) in
       let rest = none_passes test (slots_of back) (others_slots text p.program.name name back after) in
       let all = ap (λ (ss : List Slot). length ss) parts in

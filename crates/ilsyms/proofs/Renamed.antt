@@ -1,7 +1,7 @@
--- What renamed lines keep of a program's: the places of words, the constants, and that they are shallow and call nothing.
+-- What renamed lines keep of a program's: the places of words, the constants, and that they are shallow and call
+-- nothing.
 use Rattle.std.proofs.Common.{◌≡◌, ℕ, List, [], ◌∷◌, ◌++◌, map, refl, sym, ap, ◌∙◌}
-use Rattle.std.specs.Prelude.{Option, Some, None, flat_map}
-use Rattle.std.specs.Option.{option_map}
+use Rattle.std.specs.Prelude.{flat_map}
 use Rattle.std.specs.List.{cons_option}
 use Rattle.std.proofs.lemmas.Grind.{flat_map-append}
 use Rattle.std.proofs.lemmas.List.Elements.{filter_map-append}
@@ -72,7 +72,8 @@ module _ (text : List ℕ) (slots : List Slot) (instance : Name) (label : Name �
       let same = uses_kept (slot_numbers text slots instance) label (λ n. refl) line.at line.instruction in
       let one = ap constants_used same ∙ constants_same (uses_in line) in
       let rest = constants_of lines in
-      used_append (uses_in (rename_line (slot_numbers text slots instance) label line)) (flat_map uses_in (renamed lines))
+      used_append (uses_in (rename_line (slot_numbers text slots instance) label line))
+      (flat_map uses_in (renamed lines))
       ∙ (λ i. one i ++ rest i)
       ∙ sym (used_append (uses_in line) (flat_map uses_in lines))
 
@@ -112,7 +113,8 @@ module _ (text : List ℕ) (slots : List Slot) where
   used_of : {N L : Type 0} (xs ys : List (Line N L))
       → constants_used (flat_map uses_in (xs ++ ys))
       ≡ constants_used (flat_map uses_in xs) ++ constants_used (flat_map uses_in ys)
-  used_of xs ys = ap constants_used (flat_map-append uses_in xs ys) ∙ used_append (flat_map uses_in xs) (flat_map uses_in ys)
+  used_of xs ys =
+      ap constants_used (flat_map-append uses_in xs ys) ∙ used_append (flat_map uses_in xs) (flat_map uses_in ys)
 
   same_used : (ps : List DeclaredProgram)
       → constants_used (flat_map uses_in (planned ps)) ≡ constants_used (uses_of (lines_of ps))
@@ -124,7 +126,8 @@ module _ (text : List ℕ) (slots : List Slot) where
       ∙ (λ i. one i ++ rest i)
       ∙ sym (used_of p.program.lines (lines_of ps))
 
-  pub same_constants : (ps : List DeclaredProgram) → different_constants (planned ps) ≡ different_constants (lines_of ps)
+  pub same_constants : (ps : List DeclaredProgram)
+      → different_constants (planned ps) ≡ different_constants (lines_of ps)
   same_constants ps = ap each_once (same_used ps)
 
   pub all_shallow : (ps : List DeclaredProgram) → AreShallow (lines_of ps) → AreShallow (planned ps)

@@ -21,7 +21,8 @@ unchanged : (o : Option (List Value)) → o ≡ option_map (λ store. store) o
 unchanged None = refl
 unchanged (Some store) = refl
 
-then_same : (k l : List Value → Option (List Value)) (o q : Option (List Value)) → ((store : List Value) → k store ≡ l store)
+then_same : (k l : List Value → Option (List Value)) (o q : Option (List Value))
+    → ((store : List Value) → k store ≡ l store)
     → o ≡ q → option_and_then k o ≡ option_and_then l q
 then_same k l o q e g = ap (option_and_then k) g ∙ go_on q
   where
@@ -31,7 +32,8 @@ then_same k l o q e g = ap (option_and_then k) g ∙ go_on q
 
 module _ (text : List ℕ) (slots : List Slot) where
   seen : (instance : Name)
-      → IsSeen (names_in text slots instance) (slots_of (map (λ s. s.value_type) slots)) (slot_numbers text slots instance)
+      → IsSeen (names_in text slots instance) (slots_of (map (λ s. s.value_type) slots))
+      (slot_numbers text slots instance)
       (λ store. store)
   seen instance = record {
     read = λ s o.
@@ -45,7 +47,8 @@ module _ (text : List ℕ) (slots : List Slot) where
       → passes number_same (slots_of (map (λ s. s.value_type) slots)) (instance_of text slots p).lines On None store
       ≡ passes (same_name text) (names_in text slots p.program.name) p.program.lines On None store
   program_same p store =
-      let renamed : IsRenamed (same_name text) number_same (slot_numbers text slots p.program.name) p.program.lines (instance_of text slots p).lines =
+      let renamed : IsRenamed (same_name text) number_same (slot_numbers text slots p.program.name) p.program.lines
+      (instance_of text slots p).lines =
       record {
         label = label_number text p.program.lines;
         kept = labels_kept text p.program.lines;
@@ -58,7 +61,8 @@ module _ (text : List ℕ) (slots : List Slot) where
       ∙ sym (unchanged _)
 
   programs_same : (ps : List DeclaredProgram) (store : List Value)
-      → scan number_same (slots_of (map (λ s. s.value_type) slots)) (map (λ i. i.lines) (map (instance_of text slots) ps)) store
+      → scan number_same (slots_of (map (λ s. s.value_type) slots))
+      (map (λ i. i.lines) (map (instance_of text slots) ps)) store
       ≡ programs_scan text slots ps store
   programs_same [] store = refl
   programs_same (p ∷ ps) store =

@@ -88,7 +88,7 @@ pub record MakesTooManyConstants (uses : List (Use Name)) (place : ℕ) : Type 0
   pub more : length (each_once (constants_used (before ++ last ∷ []))) ≡ most_constants + 1
   pub stands : place ≡ last.at
 
--- the program, the variable, or the instruction with the word or the constant, that exceeds its limit stands at the place
+-- the program, the variable, or the instruction with the word or the constant, that exceeds its limit is at the place
 abbrev pub IsTooMany : Tree → ℕ → Type 0
 IsTooMany tree place =
     (slice_get (map (λ p. p.program.name.from) (declared_programs tree)) most_instances ≡ Some place)

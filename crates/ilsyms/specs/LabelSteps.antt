@@ -1,6 +1,6 @@
--- How the labels of a program's lines are looked up, each with the number of the first line that has it, and what is wrong
--- with a jump by that.
-use Rattle.std.specs.Prelude.{◌≡◌, ◌⊎◌, ℕ, ◌<◌, ◌≤◌, List, Option, Some, None, IsSome, IsSomeAnd, bytes_eq, slice_get}
+-- How the labels of a program's lines are looked up, each with the number of the first line that has it, and what is
+-- wrong with a jump by that.
+use Rattle.std.specs.Prelude.{◌≡◌, ℕ, ◌<◌, ◌≤◌, List, Option, Some, None, IsSome, IsSomeAnd, bytes_eq, slice_get}
 use Rattle.std.specs.Map.{lookup}
 use Rattle.iltrees.specs.declared.instruction.Instruction.{Instruction}
 use Rattle.iltrees.specs.declared.instruction.Line.{Line}
@@ -9,7 +9,6 @@ use Rattle.ilsource.specs.declared.name.Name.{Name}
 use Rattle.ilsource.specs.Names.{folded}
 use Rattle.ilscope.specs.Faults.{IsTwiceIn}
 use Rattle.ilscope.specs.Kept.{Kept, with_new}
-use Rattle.ilscope.specs.ScopeSteps.{OfCause}
 use Rattle.ilscope.specs.Tables.{first_at}
 use Rattle.ilscope.specs.declared.fault.NameCause.{NameCause}
 use Rattle.ilscope.specs.declared.fault.NameCause.TheVariants.{Twice, UnknownLabel, BackwardJump}

@@ -1,6 +1,6 @@
 -- What a source program means, over names (IEC 61131-3, 2.4.3, 2.7.2 and 3.2). A store has a value for each variable of
--- each instance, in declared order. A name in an instance's lines is that of the instance's first variable that is spelled
--- alike; letter case does not matter.
+-- each instance, in declared order. A name in an instance's lines is that of the instance's first variable that is
+-- spelled alike; letter case does not matter.
 use Rattle.std.specs.Prelude.{ℕ, List, [], ◌∷◌, map, slice_get, bytes_eq, Bool, ◌&&◌, Option, Some, None}
 use Rattle.std.specs.Option.{option_and_then}
 use Rattle.std.specs.List.{position_or_len}

@@ -10,8 +10,8 @@ use Rattle.ilscope.specs.Kept.{Kept}
 use Rattle.ilscope.specs.Tables.{variable_number}
 use Rattle.ilscope.specs.declared.variable.Variable.{Variable}
 
--- the text, the program's variables, the number of its first slot, and how many slots the task has; the numbers that are
--- kept under labels, and how many lines there are
+-- the text, the program's variables, the number of its first slot, and how many slots the task has; the numbers that
+-- are kept under labels, and how many lines there are
 pub record Numbering : Type 0 where
   pub text : List ℕ
   pub variables : List Variable

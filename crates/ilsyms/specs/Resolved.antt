@@ -1,5 +1,6 @@
--- The plan of a source program: without a configuration one cyclic task `main`, with an instance of each program in order
--- (profile), whose lines are the program's with names replaced by the numbers of slots.
+-- The plan of a source program: without a configuration one cyclic task `main`, with an instance of each program in
+-- order (profile), whose lines are the program's with names replaced by the numbers of slots, and labels by those of
+-- lines.
 use Rattle.std.specs.Prelude.{ℕ, List, [], ◌∷◌, map, false, codes}
 use Rattle.std.specs.List.{position_or_len}
 use Rattle.iltrees.specs.declared.instruction.Line.{Line}

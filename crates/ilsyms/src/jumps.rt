@@ -14,10 +14,7 @@ use iltrees::{Instruction, Line};
 use std::alloc::{AllocError, Global};
 
 /// The least fault of a label: of one that is given again, or of a jump's.
-pub(crate) fn fault_of_labels(
-    alloc: Global,
-    scope: &Scope<'_>,
-) -> Result<Option<Found>, AllocError>
+pub(crate) fn fault_of_labels(alloc: Global, scope: &Scope<'_>) -> Result<Option<Found>, AllocError>
     ensures { IfOk result (λ found. IsLeastOf
         (λ place cause. SomeOf (λ p. IsFaultOfLabels scope.now.text p.program.lines place cause)
         (declared_programs scope.now)) found) }

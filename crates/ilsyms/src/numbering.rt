@@ -99,7 +99,9 @@ impl<'a, 's> Numbering<'a, 's> {
     fn label_of(&self, label: Name) -> usize
         ensures { result ≡ label_of self.now label }
     {
-        self.labels.get(self.scope.spelling(label)).unwrap_or(self.end)
+        self.labels
+            .get(self.scope.spelling(label))
+            .unwrap_or(self.end)
     }
 
     /// The same of a line's label, where it has one.

@@ -13,8 +13,8 @@ use ilplan::Instance;
 use ilscope::Scope;
 use std::alloc::{AllocError, Global};
 
-/// The instances of a source program that has no fault, one of each program. `all` is how many slots
-/// there are.
+/// The instances of a source program that has no fault, one of each program. `all` is how many
+/// slots there are.
 pub(crate) fn plan_instances(
     alloc: Global,
     scope: &Scope<'_>,
@@ -22,8 +22,8 @@ pub(crate) fn plan_instances(
 ) -> Result<Vec<Instance>, AllocError>
     requires named { IsWellNamed scope.now }
     requires all { all ≡ length (slots_of_tree scope.now) }
-    ensures instances { IfOk result (λ v. v.items
-        ≡ map (instance_of scope.now.text (slots_of_tree scope.now)) (declared_programs scope.now)) }
+    ensures instances { IfOk result (λ v. v.items ≡ map
+        (instance_of scope.now.text (slots_of_tree scope.now)) (declared_programs scope.now)) }
     ensures shallow { OnOk result (AreShallow (lines_of (declared_programs scope.now))) }
     ensures calls { OnOk result (CallNothing (lines_of (declared_programs scope.now))) }
 {

@@ -19,7 +19,8 @@ pub(crate) fn unknown_variable(
     alloc: Global,
     scope: &Scope<'_>,
 ) -> Result<Option<Found>, AllocError>
-    ensures { IfOk result (λ found. IsLeastOf (OfCause Unknown (IsUnknownVariable scope.now)) found) }
+    ensures { IfOk result (λ found.
+        IsLeastOf (OfCause Unknown (IsUnknownVariable scope.now)) found) }
 {
     let mut least = None;
     for (number, program) in scope.programs().iter().enumerate() {

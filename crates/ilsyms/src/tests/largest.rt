@@ -15,7 +15,10 @@ fn letter(number: usize) -> u8 {
 }
 
 /// The text `aaabaacaa..`, and each three letters of it as a name.
-fn different_names(alloc: Global, count: usize) -> Result<(Vec<u8>, Vec<Name>), AllocError>
+pub(crate) fn different_names(
+    alloc: Global,
+    count: usize,
+) -> Result<(Vec<u8>, Vec<Name>), AllocError>
     requires { count ≤ 17576 }
 {
     let mut text = Vec::new(alloc);
@@ -33,7 +36,7 @@ fn different_names(alloc: Global, count: usize) -> Result<(Vec<u8>, Vec<Name>), 
 }
 
 /// `a plan`, or the fault that is printed.
-fn answer(alloc: Global, text: Vec<u8>, elements: Vec<Element>) -> Result<String, Fail> {
+pub(crate) fn answer(alloc: Global, text: Vec<u8>, elements: Vec<Element>) -> Result<String, Fail> {
     let source = Source::new(text, elements);
     match resolve(alloc, &source, &Binding::one_bus()) {
         Ok(_) => Ok(String::from_str(alloc, "a plan")?),

@@ -8,7 +8,8 @@ loop-number-init c = no_jump_before c.args.scope.now.text c.args.labels.now c.ar
 pub loop-number-preserved : goal.loop-number-preserved
 loop-number-preserved c =
     rw c.lesser_of-least.ensures
-    (jumps_more c.args.scope.now.text c.args.labels.now c.args.lines.now c.loop-number.number c.index-lines-number.result
+    (jumps_more c.args.scope.now.text c.args.labels.now c.args.lines.now c.loop-number.number
+    c.index-lines-number.result
     c.loop-number-test.true c.index-lines-number.is c.loop-number.least c.fault_of_jump.result c.loop-number.invariant
     c.fault_of_jump.ensures)
 

@@ -21,8 +21,10 @@ loop-number-preserved c =
           c.loop-number.invariant.numbers;
       twice =
           rw c.lesser_of-least.ensures
-          (labels_twice_more text c.args.lines.now c.loop-number.number c.index-lines-number.result c.loop-number-test.true
-          c.index-lines-number.is c.loop-number.numbers c.loop-number.least c.in_ok-again.again c.loop-number.invariant.numbers
+          (labels_twice_more text c.args.lines.now c.loop-number.number c.index-lines-number.result
+          c.loop-number-test.true
+          c.index-lines-number.is c.loop-number.numbers c.loop-number.least c.in_ok-again.again
+          c.loop-number.invariant.numbers
           c.loop-number.invariant.twice c.in_ok-again.ensures.twice);
     }
 

@@ -65,9 +65,11 @@ loop-number-preserved c =
           let first = c.loop-number.invariant.first in
           omega (arith, more, own, first);
       shallow =
-          shallow_more c.args.scope.now.text all c.loop-number.number c.program-item.result is below c.loop-number.invariant.shallow
+          shallow_more c.args.scope.now.text all c.loop-number.number c.program-item.result is below
+          c.loop-number.invariant.shallow
           (subst AreShallow lines c.lines-lines.ensures.shallow);
       calls =
-          calls_more c.args.scope.now.text all c.loop-number.number c.program-item.result is below c.loop-number.invariant.calls
+          calls_more c.args.scope.now.text all c.loop-number.number c.program-item.result is below
+          c.loop-number.invariant.calls
           (subst CallNothing lines c.lines-lines.ensures.calls);
     }
