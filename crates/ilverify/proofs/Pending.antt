@@ -1,7 +1,7 @@
 -- The entries that the pass keeps, and the certificate that they are of.
 use Rattle.std.proofs.Common.{◌≡◌, ℕ, zero, suc, ◌+◌, ◌<◌, ◌≤◌, List, [], ◌∷◌, length, Option, Some, None, refl, sym, ap}
 use Rattle.std.proofs.Common.{◌∙◌, subst, arith, length-set, ◌⊎◌, inl, inr, Bool}
-use Rattle.std.specs.Prelude.{IsTrue, slice_get, slice_set}
+use Rattle.std.specs.Prelude.{IsTrue, replicate, slice_get, slice_set}
 use Rattle.std.specs.List.{AllZip}
 use Rattle.std.specs.Option.{option_map}
 use Rattle.std.proofs.lemmas.Bool.{cases_eq, cases_lt}
@@ -17,9 +17,9 @@ use Rattle.ilranges.specs.declared.nesting.KnownOpened.{KnownOpened}
 use Rattle.ilranges.specs.Refusals.{HasToClose}
 use Rattle.ilranges.specs.Rules.{Ways, AreWaysOf, IsRule}
 use Rattle.ilverify.specs.Certificates.{Certificate, are_closed, is_closed, is_met}
-use Rattle.ilverify.specs.PassSteps.{CanJoin, CanMeetIf, IsMeetingAt, Meets, MeetsIf, target_of, AreFollowed, AreTyped}
+use Rattle.ilverify.specs.PassSteps.{CanJoin, CanMeetAt, CanMeetIf, IsMeetingAt, Meets, MeetsIf, target_of, AreFollowed, AreTyped}
 use Rattle.ilverify.specs.PassSteps.{AreBounded, IsFound}
-use Rattle.ilverify.proofs.Forward.{passed, skipped, target_ahead}
+use Rattle.ilverify.proofs.Forward.{IsBlank, blank, opened, skipped, target_forward, passed}
 use Rattle.ilverify.proofs.Growth.{Takes, takes_none, takes_in, takes_out}
 use Rattle.ilverify.proofs.Lists.{same_set, other_set}
 use Rattle.ilverify.proofs.Order.{into_self}
@@ -36,6 +36,11 @@ cases_set xs i j v w e =
       | inl q ↦ inl (q, same_set xs i v w (subst (λ (k : ℕ). slice_get (slice_set xs i v) k ≡ Some w) q e))
       | inr d ↦ inr (d, sym (other_set xs i j v d) ∙ e)
     ]
+
+pub set_twice : {A : Type 0} (xs : List A) (i : ℕ) (v w : A) → slice_set (slice_set xs i v) i w ≡ slice_set xs i w
+set_twice [] i v w = refl
+set_twice (x ∷ xs) zero v w = refl
+set_twice (x ∷ xs) (suc i) v w = ap (λ l. x ∷ l) (set_twice xs i v w)
 
 -- lists of one length that have the same at a place have it after the same write
 same_after : {A : Type 0} (xs ys : List A) (i j : ℕ) (v : A) → length xs ≡ length ys
@@ -260,15 +265,47 @@ between_bounded code place to met entry word ways pending between t b r m =
     meets_bounded code place to (option_map (arriving code to) ways.target) pending between b
     (target_bounded code place to met entry word ways t r) m
 
+-- ---- before the first word
+
+pub none_meets : (n place : ℕ) (way : Entry) → CanMeetAt (slice_get (replicate n None) place) way
+none_meets zero place way = tt
+none_meets (suc n) zero way = tt
+none_meets (suc n) (suc place) way = none_meets n place way
+
+pub found_first : (code : Listing) (new : Certificate)
+    → Meets (replicate (length code.instructions) None) 0 (opening code) new → IsFound code 0 new
+found_first code new m =
+    let none : Option Entry = None in
+    let unreached = replicate (length code.instructions) none in
+    let is_blank = blank code in
+    let l = lifted unreached new unreached 0 (Some (opening code)) refl refl m in
+    record {
+      certificate = l.grown;
+      closest = opened code unreached l.grown is_blank l.takes;
+      long = l.long ∙ is_blank.long;
+      same = λ later le. l.same later refl;
+      typed = λ entry e.
+          let f = same_set unreached 0 (Some m.entry) (Some entry)
+          (sym (ap (λ (l : Certificate). slice_get l 0) m.is) ∙ e) in
+          let same : m.entry ≡ entry = cc in
+          subst (λ (x : Entry). AreTyped code x.slots) same
+          (least_at (slice_get unreached 0) (opening code) m.entry (opening code) m.meeting
+          (into_self (opening code)) (λ old g. absurd (is_blank.none 0 old g))).slots;
+      bounded = λ later entry lt e.
+          absurd (is_blank.none later entry
+          (sym (other_set unreached 0 later (Some m.entry) (λ q. omega (arith, q, lt)))
+          ∙ sym (ap (λ (l : Certificate). slice_get l later) m.is) ∙ e));
+    }
+
 -- ---- from word to word
 
 -- past the place that is judged, nothing has changed
-rest_same : (code : Listing) (n : ℕ) (pending : Certificate) (f : IsFound code n pending) (later : ℕ) → n < later
+pub rest_same : (code : Listing) (n : ℕ) (pending : Certificate) (f : IsFound code n pending) (later : ℕ) → n < later
     → slice_get (slice_set pending n None) later ≡ slice_get f.certificate later
 rest_same code n pending f later lt =
     other_set pending n later None (λ q. omega (arith, q, lt)) ∙ f.same later (omega (arith, lt))
 
-rest_bounded : (code : Listing) (n : ℕ) (pending : Certificate) → AreBounded code n pending
+pub rest_bounded : (code : Listing) (n : ℕ) (pending : Certificate) → AreBounded code n pending
     → AreBounded code n (slice_set pending n None)
 rest_bounded code n pending b later entry lt e =
     b later entry lt (sym (other_set pending n later None (λ q. omega (arith, q, lt))) ∙ e)
@@ -278,7 +315,8 @@ pub found_skipped : (code : Listing) (n : ℕ) (pending : Certificate) → n < l
     → IsFound code n pending → slice_get pending n ≡ Some None → IsFound code (n + 1) (slice_set pending n None)
 found_skipped code n pending lt f e = record {
   certificate = f.certificate;
-  closest = skipped code f.certificate n f.closest (sym (f.same n (omega arith)) ∙ e);
+  closest = skipped code f.certificate n f.closest
+      (λ entry g. let h = f.same n (omega arith) in let k : ⊥ = cc in k);
   long = length-set pending n None ∙ f.long;
   same = λ later le. rest_same code n pending f later (omega (arith, le));
   typed = λ entry g. (rest_bounded code n pending f.bounded (n + 1) entry (omega arith) g).slots;
@@ -299,7 +337,7 @@ found_next code n entry word changes pending new f e w r g =
     let b = rest_bounded code n pending f.bounded in
     let met : is_met rest (n + 1) ≡ is_met a (n + 1) = ap is_closed (rest_same code n pending f (n + 1) (omega arith)) in
     let rule = subst (λ (m : Bool). IsRule code n m entry word ways) met r in
-    let ahead = target_ahead code n (is_met rest (n + 1)) entry word ways r in
+    let ahead = target_forward code n (is_met rest (n + 1)) entry word ways r in
     let long : length rest ≡ length a = length-set pending n None ∙ f.long ∙ sym f.closest.consistent.long in
     let off = lifted rest g.between a to (option_map (arriving code to) ways.target) long
     (rest_same code n pending f to ahead) g.target in

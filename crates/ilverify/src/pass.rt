@@ -6,8 +6,10 @@
 //! which says most, and in which the later places have these entries, is what the contracts say
 //! (`IsFound`). Entries share the ranges that no word between them has changed.
 
-ghost use Rattle.std.specs.Prelude.{◌≡◌, ◌+◌, ◌<◌, length, slice_get, replicate, None};
+ghost use Rattle.std.specs.Prelude.{◌≡◌, ◌+◌, ◌<◌, length, slice_get, replicate, Some, None};
 ghost use Rattle.std.specs.Prelude.{IfOk, OnOk, MatchResult};
+ghost use Rattle.limits.specs.Limits.{most_words};
+ghost use Rattle.ilcode.specs.Listings.{IsLawful};
 ghost use Rattle.ilranges.specs.Changes.{changed, ways_of};
 ghost use Rattle.ilranges.specs.Entries.{arriving};
 ghost use Rattle.ilranges.specs.Rules.{IsRule};
@@ -22,6 +24,7 @@ use ilranges::{Change, Changes, Entry, after_word};
 use std::alloc::{AllocError, Global};
 
 /// No place is reached, of so many.
+#[tactic(auto, using(std::proofs::lemmas::List::replicate_more))]
 fn unreached(alloc: Global, count: usize) -> Result<Vec<Option<Entry>>, AllocError>
     ensures { IfOk result (λ pending. pending.items ≡ replicate count None) }
 {
@@ -44,7 +47,7 @@ fn is_met(pending: &[Option<Entry>], place: usize) -> bool
 
 /// Where a jump leads, or the next place.
 fn target_of(place: usize, word: Instruction) -> usize
-    requires { place < 65536 }
+    requires { place < most_words }
     ensures { result ≡ target_of place word }
 {
     match word {
@@ -72,7 +75,8 @@ fn meet(pending: &mut Vec<Option<Entry>>, place: usize, way: Entry) -> Result<()
 {
     if place < pending.len() {
         let old = pending[place].take();
-        pending[place] = Some(join(old, way)?);
+        let entry = join(old, way)?;
+        pending[place] = Some(entry);
     }
     Ok(())
 }
@@ -144,7 +148,7 @@ fn follow_ways(
     entry: Entry,
     changes: Changes,
 ) -> Result<(), AllocError>
-    requires within { place < length code.now.instructions }
+    requires within { place < most_words }
     requires typed { AreTyped code.now entry.slots }
     requires bounded { AreBounded code.now place pending.old.items }
     requires rule { IsRule code.now place (is_met pending.old.items (place + 1)) entry word
@@ -155,6 +159,15 @@ fn follow_ways(
     let target = target_of(place, word);
     follow_target(code, pending, target, &entry, changes.target)?;
     follow_next(code, pending, place + 1, entry, changes.next)
+}
+
+/// The word at the place.
+fn word_at(code: &Code, place: usize) -> Instruction
+    requires { place < length code.now.instructions }
+    ensures value { slice_get code.now.instructions place ≡ Some result }
+    ensures lawful { IsLawful code.now }
+{
+    code.instructions()[place]
 }
 
 /// Judges the word at the place, where it is reached, and follows the ways from it.
@@ -168,12 +181,13 @@ fn advance(code: &Code, pending: &mut Vec<Option<Entry>>, place: usize) -> Resul
     let Some(entry) = pending[place].take() else {
         return Ok(());
     };
-    let word = code.instructions()[place];
+    let word = word_at(code, place);
     let met = is_met(pending, place + 1);
     match after_word(code, place, met, &entry, word) {
-        Ok(changes) => {
-            follow_ways(code, pending, place, word, entry, changes).map_err(VerifyError::Memory)
-        }
+        Ok(changes) => match follow_ways(code, pending, place, word, entry, changes) {
+            Ok(()) => Ok(()),
+            Err(error) => Err(VerifyError::Memory(error)),
+        },
         Err(cause) => Err(VerifyError::Refused(Refusal {
             word: place,
             line: code.lines()[place],
@@ -182,15 +196,22 @@ fn advance(code: &Code, pending: &mut Vec<Option<Entry>>, place: usize) -> Resul
     }
 }
 
+/// The entries that are kept before the first word: what is known there at first.
+fn begin(alloc: Global, code: &Code) -> Result<Vec<Option<Entry>>, AllocError>
+    ensures { IfOk result (λ pending. IsFound code.now 0 pending.items) }
+{
+    let mut pending = unreached(alloc, code.instructions().len())?;
+    let first = Entry::opening(alloc, code)?;
+    meet(&mut pending, 0, first)?;
+    Ok(pending)
+}
+
 /// Judges the words that are reached, one after another.
 pub(crate) fn judge(alloc: Global, code: &Code) -> Result<(), VerifyError>
     ensures { MatchResult result (λ _. IsCertified code.now) (IsError code.now) }
 {
-    let end = code.instructions().len();
-    let mut pending = unreached(alloc, end).map_err(VerifyError::Memory)?;
-    let first = Entry::opening(alloc, code).map_err(VerifyError::Memory)?;
-    meet(&mut pending, 0, first).map_err(VerifyError::Memory)?;
-    for place in 0..end {
+    let mut pending = begin(alloc, code).map_err(VerifyError::Memory)?;
+    for place in 0..code.instructions().len() {
         advance(code, &mut pending, place)?;
     }
     Ok(())
