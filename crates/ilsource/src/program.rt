@@ -5,8 +5,8 @@ use crate::name::Name;
 use iltrees::Line;
 use std::marker::Model;
 
-/// `PROGRAM name { VAR .. END_VAR } { line } END_PROGRAM`. No more parentheses are open at one place
-/// than [`limits::MOST_NESTING`], and no line calls a block, since calls are not read yet.
+/// `PROGRAM name { VAR .. END_VAR } { line } END_PROGRAM`. No more parentheses are open at once than
+/// [`limits::MOST_NESTING`], and no line calls a block, since calls are not read yet.
 #[derive(Drop)]
 pub struct Program {
     name: Name,

@@ -70,7 +70,8 @@ regrouped : (t : Tree Name) (r : Lines)
 regrouped t (Ok q) = refl
 regrouped t (Err d) = refl
 
-pub begun : (more at : ℕ) (front : Pieces) (ts rest : List Token) (t : Tree Name) → (beginning at).read ts ≡ Ok (t, rest)
+pub begun : (more at : ℕ) (front : Pieces) (ts rest : List Token) (t : Tree Name)
+    → (beginning at).read ts ≡ Ok (t, rest)
     → extend (flat_map pieces_in) (front ++ pieces_of t) ((many (ended (inner more))).read rest)
     ≡ extend pieces_of front ((content more at).read ts)
 unfolding content_of
@@ -78,7 +79,8 @@ begun more at front ts rest t h =
     let r : Lines = (many (ended (inner more))).read rest in
     rw h (joined front t r ∙ ap (extend pieces_of front) (regrouped t r))
 
-pub not_begun : (e : ReadError Token) (more at : ℕ) (front : Pieces) (ts : List Token) → Fails e ((beginning at).read ts)
+pub not_begun : (e : ReadError Token) (more at : ℕ) (front : Pieces) (ts : List Token)
+    → Fails e ((beginning at).read ts)
     → Fails e (extend pieces_of front ((content more at).read ts))
 unfolding content_of
 not_begun errors.Memory more at front ts h = tt
@@ -147,4 +149,5 @@ by_pieces content operator at close ts inside rest after front new nested opens 
     let is = extend_ok _ _ pieces_of front new rest ((content at).read inside) h in
     let same : is.0 ≡ nested =
     one_tree is.0 nested (sym (is.2 ∙ ap (λ (ps : Pieces). ps ++ pieces_of is.0) none) ∙ spelled) in
-    rw (opens, is.1, closes) (ap (λ (t : Tree Name). Ok (line_of at (instructions.Deferred operator t close), after)) same)
+    rw (opens, is.1, closes)
+        (ap (λ (t : Tree Name). Ok (line_of at (instructions.Deferred operator t close), after)) same)

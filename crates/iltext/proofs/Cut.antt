@@ -13,7 +13,8 @@ made k f g = record { kind = k; from = f; to = g }
 equal : (t u : Token) → t.kind ≡ u.kind → t.from ≡ u.from → t.to ≡ u.to → t ≡ u
 equal t u k f g = let e : made t.kind t.from t.to ≡ made u.kind u.from u.to = cc in e
 
-pub one_cut : (text : List ℕ) (at : ℕ) → at ≤ length text → (ts us : List Token) → Cuts text at ts → Cuts text at us → ts ≡ us
+pub one_cut : (text : List ℕ) (at : ℕ) → at ≤ length text → (ts us : List Token) → Cuts text at ts → Cuts text at us
+    → ts ≡ us
 one_cut text at le [] [] h i = refl
 one_cut text at le [] (u ∷ us) h i = go u.kind i.0
   where
@@ -25,12 +26,18 @@ one_cut text at le (t ∷ ts) [] h i = go t.kind h.0
     go : (j : Kind) → Stands text at t j → t ∷ ts ≡ []
     go (kinds.Good v) h = let e = one_told text at le lexed.End (lexed.Token v t.from t.to) i h in absurd cc
     go (kinds.Bad c) h = let e = one_told text at le lexed.End (lexed.Fault c t.from) i h.0 in absurd cc
-one_cut text at le (t ∷ ts) (u ∷ us) h i = go t.kind u.kind refl refl h i (λ further a b. one_cut text t.to further ts us a b)
+one_cut text at le (t ∷ ts) (u ∷ us) h i =
+    go t.kind u.kind refl refl h i (λ further a b. one_cut text t.to further ts us a b)
   where
-    go : (j k : Kind) → t.kind ≡ j → u.kind ≡ k → Stands text at t j × Follows j (Cuts text t.to ts) ts → Stands text at u k × Follows k (Cuts text u.to us) us
+    go : (j k : Kind) → t.kind ≡ j → u.kind ≡ k → Stands text at t j × Follows j (Cuts text t.to ts) ts
+        → Stands text at u k × Follows k (Cuts text u.to us) us
         → (t.to ≤ length text → Cuts text t.to ts → Cuts text t.to us → ts ≡ us) → t ∷ ts ≡ u ∷ us
-    go (kinds.Good v) (kinds.Bad d) a b h i ih = let e = one_told text at le (lexed.Token v t.from t.to) (lexed.Fault d u.from) h.0 i.0.0 in absurd cc
-    go (kinds.Bad c) (kinds.Good w) a b h i ih = let e = one_told text at le (lexed.Fault c t.from) (lexed.Token w u.from u.to) h.0.0 i.0 in absurd cc
+    go (kinds.Good v) (kinds.Bad d) a b h i ih =
+        let e = one_told text at le (lexed.Token v t.from t.to) (lexed.Fault d u.from) h.0 i.0.0 in
+        absurd cc
+    go (kinds.Bad c) (kinds.Good w) a b h i ih =
+        let e = one_told text at le (lexed.Fault c t.from) (lexed.Token w u.from u.to) h.0.0 i.0 in
+        absurd cc
     go (kinds.Bad c) (kinds.Bad d) a b h i ih =
         let e = one_told text at le (lexed.Fault c t.from) (lexed.Fault d u.from) h.0.0 i.0.0 in
         let cause : c ≡ d = cc in

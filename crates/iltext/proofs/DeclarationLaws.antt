@@ -69,7 +69,8 @@ integer_apart words.Bool e = absurd cc
 integer_apart words.Time e = absurd cc
 integer_apart _ e = refl
 
-range_apart : (k : Kind) (f g : ℕ) → range.starts (token_of k f g) ≡ true → (spaced simple).starts (token_of k f g) ≡ false
+range_apart : (k : Kind) (f g : ℕ) → range.starts (token_of k f g) ≡ true
+    → (spaced simple).starts (token_of k f g) ≡ false
 unfolding range integer simple
 range_apart (kinds.Good (whats.Keyword w)) f g e = integer_apart w e
 range_apart _ f g e = absurd cc

@@ -24,7 +24,8 @@ use Rattle.iltext.specs.Terminals.{mark, name, operand, closing, line_break, end
 use Rattle.iltext.specs.Instructions.{TextLine, on_operand, on_content, on_either, bounds, operands, load, beginning}
 use Rattle.iltext.specs.Instructions.{inner_of, content_of, applied, inner, instruction, label, with_label, line, lines}
 use Rattle.iltext.proofs.Marks.{Anything, token_of, Firm-mark, apart_mark}
-use Rattle.iltext.proofs.Ends.{NoEnd, Firm-name, Firm-operand, Firm-closing, Firm-line_break, Firm-ended, operand_no_end}
+use Rattle.iltext.proofs.Ends.{NoEnd, Firm-name, Firm-operand, Firm-closing, Firm-line_break, Firm-ended}
+use Rattle.iltext.proofs.Ends.{operand_no_end}
 
 -- ---- what follows an operator
 

@@ -7,14 +7,16 @@ use Rattle.iltext.specs.declared.token.Token.{Token}
 use Rattle.iltext.specs.Terminals.{Seen, mark_at, mark, line_ends}
 use Rattle.iltext.proofs.Ends.{Firm-line_end}
 
-one_goes : (class : Token → Option Seen) (t : Token) (ts : List Token) → is_in (class t) ≡ true → one_read class (t ∷ ts) ≡ Ok (tt, ts)
+one_goes : (class : Token → Option Seen) (t : Token) (ts : List Token) → is_in (class t) ≡ true
+    → one_read class (t ∷ ts) ≡ Ok (tt, ts)
 one_goes class t ts is = go (class t) is
   where
     go : (o : Option Seen) → is_in o ≡ true → one_read_at o t ts ≡ Ok (tt, ts)
     go (Some tt) is = refl
     go None is = absurd cc
 
-end_goes : (t : Token) (ts : List Token) → (mark marks.LineEnd).starts t ≡ true → (mark marks.LineEnd).read (t ∷ ts) ≡ Ok (tt, ts)
+end_goes : (t : Token) (ts : List Token) → (mark marks.LineEnd).starts t ≡ true
+    → (mark marks.LineEnd).read (t ∷ ts) ≡ Ok (tt, ts)
 unfolding mark
 end_goes t ts is = one_goes (λ t. mark_at marks.LineEnd t.kind) t ts is
 
@@ -28,10 +30,13 @@ same_rest : (r : Result (List Seen × List Token) (List Token)) → ((r >>= more
 same_rest (Ok q) = refl
 same_rest (Err d) = refl
 
-pub goes_over : (ts : List Token) → begins (mark marks.LineEnd) ts ≡ true → line_ends.read (drop 1 ts) ≡ line_ends.read ts
+pub goes_over : (ts : List Token) → begins (mark marks.LineEnd) ts ≡ true
+    → line_ends.read (drop 1 ts) ≡ line_ends.read ts
 unfolding line_ends
 goes_over [] is = absurd cc
-goes_over (t ∷ ts) is = sym (rw (one_more _ _ _ _ Firm-line_end.lawful Firm-line_end.solid (t ∷ ts) is, end_goes t ts is) (same_rest ((many (mark marks.LineEnd)).read ts)))
+goes_over (t ∷ ts) is =
+    sym (rw (one_more _ _ _ _ Firm-line_end.lawful Firm-line_end.solid (t ∷ ts) is, end_goes t ts is)
+        (same_rest ((many (mark marks.LineEnd)).read ts)))
 
 pub stays_there : (ts : List Token) → begins (mark marks.LineEnd) ts ≡ false → line_ends.read ts ≡ Ok (tt, ts)
 unfolding line_ends

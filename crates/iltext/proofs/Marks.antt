@@ -32,7 +32,8 @@ unfolding word
 Firm-word w = Firm-one _ (token_of (kinds.Good (whats.Keyword w)) 0 0) tt (ap taken (true_same all_words w w refl))
 
 -- what a reserved word is apart from
-pub apart_word : (w : Keyword) (p : Token → Bool) → ((f g : ℕ) → p (token_of (kinds.Good (whats.Keyword w)) f g) ≡ false) → (k : Kind) (f g : ℕ)
+pub apart_word : (w : Keyword) (p : Token → Bool)
+    → ((f g : ℕ) → p (token_of (kinds.Good (whats.Keyword w)) f g) ≡ false) → (k : Kind) (f g : ℕ)
     → (word w).starts (token_of k f g) ≡ true → p (token_of k f g) ≡ false
 unfolding word
 apart_word w p h (kinds.Good (whats.Keyword v)) f g e =
@@ -45,7 +46,8 @@ unfolding mark
 Firm-mark m = Firm-one _ (token_of (kinds.Good (whats.Mark m)) 0 0) tt (ap taken (true_same all_marks m m refl))
 
 -- what a mark is apart from
-pub apart_mark : (m : Mark) (p : Token → Bool) → ((f g : ℕ) → p (token_of (kinds.Good (whats.Mark m)) f g) ≡ false) → (k : Kind) (f g : ℕ)
+pub apart_mark : (m : Mark) (p : Token → Bool) → ((f g : ℕ) → p (token_of (kinds.Good (whats.Mark m)) f g) ≡ false)
+    → (k : Kind) (f g : ℕ)
     → (mark m).starts (token_of k f g) ≡ true → p (token_of k f g) ≡ false
 unfolding mark
 apart_mark m p h (kinds.Good (whats.Mark n)) f g e =

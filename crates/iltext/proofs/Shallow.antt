@@ -14,8 +14,10 @@ use Rattle.iltext.specs.declared.roles.Role.{Role}
 use Rattle.iltext.specs.declared.roles.Role.TheVariants as roles
 use Rattle.iltext.specs.declared.token.Token.{Token}
 use Rattle.iltext.specs.Terminals.{ended}
-use Rattle.iltext.specs.Instructions.{TextInstruction, TextLine, grown, grows, grows_by, on_operand, on_content, on_either}
-use Rattle.iltext.specs.Instructions.{operands, load, beginning, inner_of, content_of, applied, instruction, labelled, with_label}
+use Rattle.iltext.specs.Instructions.{TextInstruction, TextLine, grown, grows, grows_by, on_operand, on_content}
+use Rattle.iltext.specs.Instructions.{on_either}
+use Rattle.iltext.specs.Instructions.{operands, load, beginning, inner_of, content_of, applied, instruction, labelled}
+use Rattle.iltext.specs.Instructions.{with_label}
 use Rattle.iltext.specs.Instructions.{line, lines}
 use Rattle.iltext.proofs.InstructionLaws.{Lawful-lines}
 
@@ -40,7 +42,8 @@ module _ (more : ℕ) where
   unfolding on_operand
   operand_fits operator at ts l w = subst (Fits more) (sym w.2) (tt, tt)
 
-  operands_fit : (of : Operator → ℕ → Item Token TextLine) → ((operator : Operator) (at : ℕ) → AllFit more (of operator at))
+  operands_fit : (of : Operator → ℕ → Item Token TextLine)
+      → ((operator : Operator) (at : ℕ) → AllFit more (of operator at))
       → (role : Role) (at : ℕ) → AllFit more (operands of role at)
   operands_fit of fit (roles.Load negated) at ts l w = subst (Fits more) (sym w.2) (tt, tt)
   operands_fit of fit (roles.Apply operator) at ts l w = fit operator at ts l w
@@ -81,7 +84,8 @@ module _ (more : ℕ) where
   ended_fits : (item : Item Token TextLine) → AllFit more item → AllFit more (ended item)
   ended_fits item fit ts l w = subst (Fits more) (sym w.2) (fit w.1.0 w.0.0 w.1.3)
 
-  module _ (of : Operator → ℕ → Item Token TextLine) (fit : (operator : Operator) (at : ℕ) → AllFit more (of operator at)) where
+  module _ (of : Operator → ℕ → Item Token TextLine)
+      (fit : (operator : Operator) (at : ℕ) → AllFit more (of operator at)) where
     inner_fits : AllFit more (inner_of of)
     unfolding inner_of
     inner_fits ts l w = operands_fit of fit w.2.0 w.2.1 w.1 l w.5
@@ -147,5 +151,6 @@ whole_fit : (ts : List Token) (ls : List TextLine) → lines.whole ts ls → Are
 unfolding lines
 whole_fit ts ls w = all_fit ts ls w
 
-pub are_shallow : (ts rest : List Token) (ls : List TextLine) → lines.read ts ≡ Ok (ls, rest) → AreShallow ls × CallNothing ls
+pub are_shallow : (ts rest : List Token) (ls : List TextLine) → lines.read ts ≡ Ok (ls, rest)
+    → AreShallow ls × CallNothing ls
 are_shallow ts rest ls e = let t = Lawful-lines.ok ts ls rest e in whole_fit t.front ls t.whole

@@ -29,15 +29,20 @@ short_of is_long most count known isnt =
       | no long ↦ let so = known.1 (lt_of_not-le long) in absurd cc
     ]
 
-pub is_found : (bytes : List ℕ) (ts : List Token) (r : Result Tree TextFault) → length bytes ≤ most_bytes → Cuts bytes 0 ts → IsParsed bytes ts r
+pub is_found : (bytes : List ℕ) (ts : List Token) (r : Result Tree TextFault) → length bytes ≤ most_bytes
+    → Cuts bytes 0 ts → IsParsed bytes ts r
     → IfOk r (λ tree. IsText bytes tree)
-is_found bytes ts (Ok tree) short cut p = record { short = short; same = p.0; tokens = ts; cut = cut; whole = whole_found _ _ _ _ Lawful-text ts tree.elements p.1 }
+is_found bytes ts (Ok tree) short cut p =
+    record { short = short; same = p.0; tokens = ts; cut = cut; whole = whole_found _ _ _ _ Lawful-text ts tree.elements
+        p.1 }
 is_found bytes ts (Err e) short cut p = tt
 
-reads : (bytes : List ℕ) (ts : List Token) (tree : Tree) → Cuts bytes 0 ts → IsText bytes tree → whole_read text ts ≡ Ok tree.elements
+reads : (bytes : List ℕ) (ts : List Token) (tree : Tree) → Cuts bytes 0 ts → IsText bytes tree
+    → whole_read text ts ≡ Ok tree.elements
 reads bytes ts tree cut t =
     let same : t.tokens ≡ ts = one_cut bytes 0 (omega arith) t.tokens ts t.cut cut in
-    whole_only _ _ _ _ Lawful-text ts tree.elements (subst (λ (z : List Token). text.whole z tree.elements) same t.whole)
+    whole_only _ _ _ _ Lawful-text ts tree.elements
+        (subst (λ (z : List Token). text.whole z tree.elements) same t.whole)
 
 abbrev done : List Element → Result (List Element) (List Token)
 done ps = Ok ps
@@ -51,10 +56,12 @@ same_tree a b t p = let e : made a.text a.elements ≡ made b.text b.elements = 
 same_elements : (ps qs : List Element) → done ps ≡ done qs → ps ≡ qs
 same_elements ps qs e = cc
 
-pub is_only : (bytes : List ℕ) (ts : List Token) (r : Result Tree TextFault) → Cuts bytes 0 ts → IsParsed bytes ts r → (tree : Tree)
+pub is_only : (bytes : List ℕ) (ts : List Token) (r : Result Tree TextFault) → Cuts bytes 0 ts → IsParsed bytes ts r
+    → (tree : Tree)
     → IsText bytes tree → IsReadAs tree r
 is_only bytes ts (Ok source) cut p tree t =
-    same_tree source tree (p.0 ∙ sym t.same) (same_elements source.elements tree.elements (sym p.1 ∙ reads bytes ts tree cut t))
+    same_tree source tree (p.0 ∙ sym t.same)
+        (same_elements source.elements tree.elements (sym p.1 ∙ reads bytes ts tree cut t))
 is_only bytes ts (Err faults.Memory) cut p tree t = tt
 is_only bytes ts (Err (faults.At line col cause)) cut p tree t = let bad = sym p.1 ∙ reads bytes ts tree cut t in cc
 
@@ -95,7 +102,8 @@ first_one bytes a b f g =
     let stops = subst (λ (z : List Token). StopsBefore text z f.before f.rest) same f.stops in
     let rests : f.rest ≡ g.rest =
     one_fault _ _ _ _ Lawful-text g.tokens f.rest g.rest (f.before, stops) (g.before, g.stops) in
-    let before : (r before : List Token) → StopsBefore text g.tokens before r → take (length g.tokens - length r) g.tokens ≡ before =
+    let before : (r before : List Token) → StopsBefore text g.tokens before r
+        → take (length g.tokens - length r) g.tokens ≡ before =
     λ r front h. before_is g.tokens front r (stopped_split _ _ _ _ Lawful-text g.tokens front r h) in
     let befores : f.before ≡ g.before =
     sym (before f.rest f.before stops)
@@ -115,12 +123,14 @@ pub is_no_fault : (bytes : List ℕ) (tree : Tree) (fault : TextFault) → IsTex
 is_no_fault bytes tree fault t (inl f) = omega (arith, f.0, t.short)
 is_no_fault bytes tree fault t (inr f) =
     let same : t.tokens ≡ f.tokens = one_cut bytes 0 (omega arith) t.tokens f.tokens t.cut f.cut in
-    no_fault _ _ _ _ Lawful-text f.tokens f.rest tree.elements (f.before, f.stops) (subst (λ (z : List Token). text.whole z tree.elements) same t.whole)
+    no_fault _ _ _ _ Lawful-text f.tokens f.rest tree.elements (f.before, f.stops)
+        (subst (λ (z : List Token). text.whole z tree.elements) same t.whole)
 
 abbrev Within : ℕ → Token → Type 0
 Within len t = t.from ≤ len
 
-last_within : (len : ℕ) (front : List Token) (t : Token) (v : List Token) → All (Within len) (front ++ t ∷ v) → t.from ≤ len
+last_within : (len : ℕ) (front : List Token) (t : Token) (v : List Token) → All (Within len) (front ++ t ∷ v)
+    → t.from ≤ len
 last_within len [] t v h = h 0 t (omega arith)
 last_within len (u ∷ front) t v h = last_within len front t v (λ k d lt. h (suc k) d (omega arith))
 
@@ -132,7 +142,8 @@ rest_shorter ts rest e =
     omega (arith, parts, length-append f.0 rest)
 
 -- a fault is reported within the text
-pub in_place : (bytes : List ℕ) (ts rest : List Token) → All (Within (length bytes)) ts → whole_read text ts ≡ Err rest → place_at bytes rest ≤ length bytes
+pub in_place : (bytes : List ℕ) (ts rest : List Token) → All (Within (length bytes)) ts → whole_read text ts ≡ Err rest
+    → place_at bytes rest ≤ length bytes
 in_place bytes ts [] h e = omega arith
 in_place bytes ts (t ∷ v) h e =
     let f = whole_fault _ _ _ _ Lawful-text ts (t ∷ v) e in

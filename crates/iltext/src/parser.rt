@@ -29,9 +29,11 @@ pub fn parse(alloc: Global, text: &[u8]) -> Result<Source, TextFault>
     // A text has at most one source program.
     ensures one { (a b : Tree) → IsText text.now a → IsText text.now b → a ≡ b }
     // Any bytes have at most one fault,
-    ensures one_fault { (a b : TextFault) → IsTextFault text.now a → IsTextFault text.now b → a ≡ b }
+    ensures one_fault { (a b : TextFault)
+        → IsTextFault text.now a → IsTextFault text.now b → a ≡ b }
     // and those of a source program have none.
-    ensures apart { (tree : Tree) (fault : TextFault) → IsText text.now tree → ¬ IsTextFault text.now fault }
+    ensures apart { (tree : Tree) (fault : TextFault)
+        → IsText text.now tree → ¬ IsTextFault text.now fault }
 {
     if is_too_long(text) {
         return Err(TextFault::At {

@@ -57,8 +57,8 @@ pub enum Instruction<N: Drop, L: Drop> {
 /// A line that isn't empty: a label, an instruction, or both.
 #[derive(Drop)]
 pub struct Line<N: Drop, L: Drop> {
-    /// The place in the text of the instruction's first byte, after its label; of a label alone that
-    /// of the label's first byte.
+    /// The place in the text of the instruction's first byte, after its label; of a label alone the
+    /// place of the label's first byte.
     pub at: usize,
     pub label: Option<L>,
     pub instruction: Option<Instruction<N, L>>,

@@ -97,12 +97,12 @@ fn each_conversion_is_to_its_second_type(rt: HostRuntime) -> Result<(), Fail> {
 #[test]
 fn declarations_come_back(rt: HostRuntime) -> Result<(), Fail> {
     let texts: [&[u8]; 6] = [
-        b"PROGRAM p\nEND_PROGRAM\n",
+        b"PROGRAM p\na: RET\nEND_PROGRAM\n",
         b"PROGRAM End_1 VAR a : BOOL; END_VAR VAR b2, _, LDX : BOOL := TRUE; END_VAR\nEND_PROGRAM\n",
         b"PROGRAM p VAR a : TIME := T#1000ms; END_VAR VAR b : dim := -3; END_VAR\nEND_PROGRAM\n",
         b"PROGRAM p VAR a : SINT; END_VAR VAR b : INT; END_VAR VAR c : DINT; END_VAR\nEND_PROGRAM\n",
         b"PROGRAM p VAR a : USINT(0..254); END_VAR VAR b : UINT(5..1) := 2; END_VAR\nEND_PROGRAM\n",
-        b"PROGRAM p\na: RET\nEND_PROGRAM\nTYPE t : UDINT(-1..1) := FALSE; END_TYPE\nTYPE u : t; END_TYPE\n",
+        b"PROGRAM p\nEND_PROGRAM\nTYPE t : UDINT(-1..1) := FALSE; END_TYPE\nTYPE u : t; END_TYPE\n",
     ];
     for text in texts {
         let source = parse(rt.alloc(), text)?;
