@@ -1,7 +1,7 @@
 -- A turned comparison has the opposite outcome.
 use Rattle.std.proofs.Common.{◌≡◌, refl, ap, ◌∙◌, ℤ, Bool, true, false, not, int_lt, int_le, arith, int_eq}
 use Rattle.std.proofs.lemmas.Int.{ints}
-use Rattle.iltypes.specs.Operators.{opposite}
+use Rattle.iltypes.specs.Modifiers.{opposite}
 use Rattle.iloperators.specs.declared.operator.Operator.{Operator}
 use Rattle.iloperators.specs.declared.operator.Operator.TheVariants.{Gt, Ge, Eq, Ne, Le, Lt}
 use Rattle.iloperators.specs.Comparisons.{HasOutcome, HasOppositeOutcome, ComparesTurned, IsTurnedBack}

@@ -1,7 +1,7 @@
 -- The operators that compare (IEC 61131-3, 2.5.1.5.4), and the one that has the opposite outcome on the same numbers.
 use Rattle.std.specs.Prelude.{◌≡◌, ℤ, Bool, true, false, IsTrue}
 use Rattle.iltypes.specs.declared.value.Value.TheVariants.{Int}
-use Rattle.iltypes.specs.Operators.{opposite}
+use Rattle.iltypes.specs.Modifiers.{opposite}
 use Rattle.iloperators.specs.declared.operator.Operator.{Operator}
 use Rattle.iloperators.specs.declared.operator.Operator.TheVariants.{Gt, Ge, Eq, Ne, Le, Lt}
 use Rattle.iloperators.specs.Operators.{truth, value_of_operator}

@@ -7,7 +7,7 @@ use Rattle.iltypes.specs.declared.value.IlType.{IlType}
 use Rattle.iltypes.specs.declared.value.IlType.TheVariants as types
 use Rattle.iltypes.specs.declared.value.Value.{Value}
 use Rattle.iltypes.specs.declared.value.Value.TheVariants as values
-use Rattle.iltypes.specs.Operators.{opposite}
+use Rattle.iltypes.specs.Modifiers.{opposite}
 use Rattle.iltypes.specs.Values.{IsOf, AreOf}
 use Rattle.iloperators.specs.declared.function.Function.{Function}
 use Rattle.iloperators.specs.declared.function.Function.TheVariants as functions

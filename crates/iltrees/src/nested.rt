@@ -54,7 +54,7 @@ impl<N: Drop> Model for Nested<N> {
 
 impl<N: Drop> Nested<N> {
     ghost use Rattle.std.specs.Prelude.{◌≡◌, ◌++◌, map, IfOk, OnOk};
-    ghost use Rattle.iltrees.specs.Trees.{Tree, Load, Reload, Apply, Transform, Deferred, pieces_of};
+    ghost use Rattle.iltrees.specs.Trees.{Tree, Load, Apply, pieces_of};
     ghost use Rattle.iltrees.specs.Words.{place_of};
 
     /// The content that these pieces spell.
@@ -81,21 +81,6 @@ impl<N: Drop> Nested<N> {
         Ok(Nested { pieces })
     }
 
-    /// With a further LD or LDN.
-    pub fn reload(
-        self,
-        at: usize,
-        negated: bool,
-        operand: Operand<N>,
-    ) -> Result<Nested<N>, AllocError>
-        ensures { IfOk result (λ tree. tree ≡ Reload self at negated operand) }
-    {
-        let mut pieces = self.pieces;
-        let action = Action::Load { negated, operand };
-        pieces.push(Piece { at, action })?;
-        Ok(Nested { pieces })
-    }
-
     /// With an operator on an operand.
     pub fn apply(
         self,
@@ -108,36 +93,6 @@ impl<N: Drop> Nested<N> {
         let mut pieces = self.pieces;
         let action = Action::Apply(operator, operand);
         pieces.push(Piece { at, action })?;
-        Ok(Nested { pieces })
-    }
-
-    /// With NOT, ABS or a conversion.
-    pub fn transform(self, at: usize, function: Function) -> Result<Nested<N>, AllocError>
-        ensures { IfOk result (λ tree. tree ≡ Transform self at function) }
-    {
-        let mut pieces = self.pieces;
-        let action = Action::Transform(function);
-        pieces.push(Piece { at, action })?;
-        Ok(Nested { pieces })
-    }
-
-    /// With an operator on what stands in parentheses, of which `)` is at `close`.
-    pub fn deferred(
-        self,
-        at: usize,
-        operator: Operator,
-        inner: Nested<N>,
-        close: usize,
-    ) -> Result<Nested<N>, AllocError>
-        ensures { IfOk result (λ tree. tree ≡ Deferred self at operator inner close) }
-    {
-        let mut pieces = self.pieces;
-        let mut more = inner.pieces;
-        let action = Action::Open(operator);
-        pieces.push(Piece { at, action })?;
-        pieces.append(&mut more)?;
-        let action = Action::Close;
-        pieces.push(Piece { at: close, action })?;
         Ok(Nested { pieces })
     }
 

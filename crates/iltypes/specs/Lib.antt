@@ -1,5 +1,5 @@
 pub mod Arithmetic
-pub mod Operators
+pub mod Modifiers
 pub mod Printed
 pub mod RangeSteps
 pub mod Ranges

@@ -1,6 +1,6 @@
 //! Printed values, worked ranges, and each call once.
 
-use crate::{BooleanOperator, IlType, Range, Value, opposite_if};
+use crate::{IlType, Range, Value, opposite_if};
 use std::test::Fail;
 
 #[test]
@@ -34,21 +34,6 @@ fn ranges_and_types_hold_their_values(rt: HostRuntime) -> Result<(), Fail> {
     assert!(rt; IlType::Bool.holds(Value::Bool(false)));
     assert!(rt; !IlType::Bool.holds(Value::Int(0)));
     Ok(())
-}
-
-#[test]
-fn operators_follow_their_truth_tables(rt: HostRuntime) {
-    let table = [
-        (false, false, false, false, false),
-        (false, true, false, true, true),
-        (true, false, false, true, true),
-        (true, true, true, true, false),
-    ];
-    for (left, right, and, or, xor) in table {
-        assert_eq!(rt; BooleanOperator::And.apply(left, right), and);
-        assert_eq!(rt; BooleanOperator::Or.apply(left, right), or);
-        assert_eq!(rt; BooleanOperator::Xor.apply(left, right), xor);
-    }
 }
 
 #[test]

@@ -1,20 +1,53 @@
 //! Each public call once, on lines built by hand.
 
-use crate::{
-    Action, Argument, Arguments, Condition, Instruction, Line, Nested, Operand, Piece, Use,
-};
-use iloperators::{Function, Operator};
+use crate::{Action, Argument, Arguments, Instruction, Line, Nested, Operand, Piece, Use};
+use iloperators::{Condition, Function, Operator};
 use iltypes::Value;
 use std::alloc::Global;
 use std::test::Fail;
 
 /// `LDN a`, `NOT`, `LD b`, `AND( c`, `OR d`, `)`, at 20, 26, 30, 35, 42 and 47.
 fn content(alloc: Global) -> Result<Nested<usize>, std::alloc::AllocError> {
-    let inner = Nested::load(alloc, 35, false, Operand::Name(3))?;
-    let inner = inner.apply(42, Operator::Or { negated: false }, Operand::Name(4))?;
-    let tree = Nested::load(alloc, 20, true, Operand::Name(1))?.transform(26, Function::Not)?;
-    let tree = tree.reload(30, false, Operand::Name(2))?;
-    tree.deferred(35, Operator::And { negated: false }, inner, 47)
+    let pieces = vec![in alloc;
+        Piece {
+            at: 20,
+            action: Action::Load {
+                negated: true,
+                operand: Operand::Name(1usize),
+            },
+        },
+        Piece {
+            at: 26,
+            action: Action::Transform(Function::Not),
+        },
+        Piece {
+            at: 30,
+            action: Action::Load {
+                negated: false,
+                operand: Operand::Name(2),
+            },
+        },
+        Piece {
+            at: 35,
+            action: Action::Open(Operator::And { negated: false }),
+        },
+        Piece {
+            at: 35,
+            action: Action::Load {
+                negated: false,
+                operand: Operand::Name(3),
+            },
+        },
+        Piece {
+            at: 42,
+            action: Action::Apply(Operator::Or { negated: false }, Operand::Name(4)),
+        },
+        Piece {
+            at: 47,
+            action: Action::Close,
+        },
+    ]?;
+    Ok(Nested::new(pieces))
 }
 
 /// A piece at a place.
