@@ -54,8 +54,9 @@ module _ (constants : List Value) (end : ℕ) (all : List Word) where
       let same = same_words constants end wanted (λ label. target) line.instruction its.1 in
       let mine = words_in constants end wanted line in
       let is' : more ≡ ws ++ mine = is ∙ ap (λ x. ws ++ x) (sym same) in
+      let line_words = line_long constants end wanted line l.calls.0 in
       let long : length more ≡ next =
-      ap length is' ∙ (length-append ws mine ∙ ap (λ n. length ws + n) (line_long constants end wanted line l.calls.0)) in
+      ap length is' ∙ (length-append ws mine ∙ ap (λ n. length ws + n) line_words) in
       record {
         words = ap (λ n. more ++ words_of_lines constants end n lines) long
             ∙ (ap (λ x. x ++ words_of_lines constants end next lines) is'

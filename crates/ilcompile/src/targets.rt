@@ -1,8 +1,8 @@
 //! The targets of jumps.
 //!
-//! A label stands after the jumps to it, so that the lines are gone through from the last one to the
+//! A label stands after the jumps to it. So the lines are gone through from the last one to the
 //! first, and a table keeps the nearest place of each label so far: a jump's target is then known
-//! when the jump is met. So the time grows with the number of lines, however many labels and jumps
+//! when the jump is met. The time grows with the number of lines, however many labels and jumps
 //! there are. The words are made in a second pass, from the first line on, which takes the targets
 //! one after another from the end of the list.
 
@@ -29,8 +29,8 @@ pub(crate) fn count(lines: &[Line<usize, usize>]) -> usize
     number
 }
 
-/// The target of each jump to a label, from the last jump to the first, in lines whose first word is
-/// at `start`.
+/// The target of each jump to a label, from the last jump to the first, in lines whose first word
+/// is at `start`.
 pub(crate) fn targets(
     alloc: Global,
     start: usize,
