@@ -3,8 +3,8 @@
 //! What crosses the boundary: [`Source`], which the parser makes and names are resolved on, with
 //! its types and programs, their declarations, and their lines, which are those of `iltrees` over
 //! words of the text. A [`Name`] is a word of the text, and [`Place`] gives line and column of a
-//! byte. Contracts see a `Source` as a record of specs/Trees.antt, to be read first; specs/Names.antt
-//! says when two names are the same.
+//! byte. Contracts see a `Source` as a record of specs/Trees.antt, to be read first;
+//! specs/Names.antt says when two names are the same.
 
 #![tactic(auto)]
 
