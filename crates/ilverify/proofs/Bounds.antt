@@ -111,11 +111,11 @@ pub on_longest : (code : Listing) (kept : List ℕ) (place : ℕ) (word : Instru
     → IsLongestFrom code place (words_at kept (place + 1) + 1)
 on_longest code kept place word l is n =
     let r = reaches_at code kept place (place + 1) l (omega arith) (λ within.
-        record { word = word; is = is; leads = leads_on code place word n; within = within }) in
+    record { word = word; is = is; leads = leads_on code place word n; within = within }) in
     longest code place (words_at kept (place + 1)) r (λ to next.
-        let e = onward code place to word n (leads_by code place to word is next) in
-        let le : words_at kept to ≤ words_at kept (place + 1) = let q = ap (words_at kept) e in omega (arith, q) in
-        bounded_at code kept place to (words_at kept (place + 1)) l (omega (arith, e)) next.within le)
+    let e = onward code place to word n (leads_by code place to word is next) in
+    let le : words_at kept to ≤ words_at kept (place + 1) = let q = ap (words_at kept) e in omega (arith, q) in
+    bounded_at code kept place to (words_at kept (place + 1)) l (omega (arith, e)) next.within le)
 
 -- ---- jumps
 
@@ -140,7 +140,7 @@ at_target : (code : Listing) (kept : List ℕ) (place target to : ℕ) → IsJum
 at_target code kept place target to j =
     let t = j.lawful in
     let e : words_at_target code kept place target ≡ words_at kept target =
-        ap (λ (b : Bool). cond b (words_at kept target) 0) t in
+    ap (λ (b : Bool). cond b (words_at kept target) 0) t in
     ap (words_at kept) j.is ∙ sym e
 
 always_longest : (code : Listing) (kept : List ℕ) (place target : ℕ) → AreLongest code kept (place + 1)
@@ -148,18 +148,18 @@ always_longest : (code : Listing) (kept : List ℕ) (place target : ℕ) → Are
     → IsLongestFrom code place (words_at_target code kept place target + 1)
 always_longest code kept place target l is =
     let r = reaches_target code kept place target l (λ lawful within.
-        record {
-          word = words.Jump Always target;
-          is = is;
-          leads = record { lawful = lawful; is = refl };
-          within = within;
-        }) in
+    record {
+      word = words.Jump Always target;
+      is = is;
+      leads = record { lawful = lawful; is = refl };
+      within = within;
+    }) in
     longest code place (words_at_target code kept place target) r (λ to next.
-        let j = leads_by code place to (words.Jump Always target) is next in
-        let e = at_target code kept place target to j in
-        let a = ahead code place target j.lawful in
-        bounded_at code kept place to (words_at_target code kept place target) l (omega (arith, a, j.is)) next.within
-        (omega (arith, e)))
+    let j = leads_by code place to (words.Jump Always target) is next in
+    let e = at_target code kept place target to j in
+    let a = ahead code place target j.lawful in
+    bounded_at code kept place to (words_at_target code kept place target) l (omega (arith, a, j.is)) next.within
+    (omega (arith, e)))
 
 or_target : (code : Listing) (kept : List ℕ) (place target to : ℕ)
     → ((to ≡ place + 1) ⊎ IsJumpTo code place target to) → (place < to)
@@ -179,17 +179,17 @@ either code kept place target word l is from on off =
     let a = words_at kept (place + 1) in
     let b = words_at_target code kept place target in
     let next = reaches_at code kept place (place + 1) l (omega arith) (λ within.
-        record { word = word; is = is; leads = on; within = within }) in
+    record { word = word; is = is; leads = on; within = within }) in
     let there = reaches_target code kept place target l (λ lawful within.
-        record { word = word; is = is; leads = off lawful; within = within }) in
+    record { word = word; is = is; leads = off lawful; within = within }) in
     let r : Reaches code place (max a b) = elim (cases_lt a b) as (λ _. Reaches code place (max a b)) [
-        | inl lt ↦ let e : b ≡ max a b = omega (arith, lt) in subst (Reaches code place) e there
-        | inr ge ↦ let e : a ≡ max a b = omega (arith, ge) in subst (Reaches code place) e next
-      ] in
+      | inl lt ↦ let e : b ≡ max a b = omega (arith, lt) in subst (Reaches code place) e there
+      | inr ge ↦ let e : a ≡ max a b = omega (arith, ge) in subst (Reaches code place) e next
+    ] in
     longest code place (max a b) r (λ to n.
-        let o = or_target code kept place target to (from to (leads_by code place to word is n)) in
-        let le : words_at kept to ≤ max a b = elim o.1 [ | inl e ↦ omega (arith, e) | inr e ↦ omega (arith, e) ] in
-        bounded_at code kept place to (max a b) l o.0 n.within le)
+    let o = or_target code kept place target to (from to (leads_by code place to word is n)) in
+    let le : words_at kept to ≤ max a b = elim o.1 [ inl e ↦ omega (arith, e) | inr e ↦ omega (arith, e) ] in
+    bounded_at code kept place to (max a b) l o.0 n.within le)
 
 if_true_longest : (code : Listing) (kept : List ℕ) (place target : ℕ) → AreLongest code kept (place + 1)
     → slice_get code.instructions place ≡ Some (words.Jump IfTrue target)

@@ -102,15 +102,15 @@ takes_in certificate to way entry lt into kept least =
       kept = λ place old e.
           elim (cases_eq place to) [
             | inl q ↦ record {
-                wider = entry;
-                is = subst (λ (p : ℕ). slice_get new p ≡ Some (Some entry)) (sym q) there;
-                into = kept old (subst (λ (p : ℕ). slice_get certificate p ≡ Some (Some old)) q e);
-              }
+              wider = entry;
+              is = subst (λ (p : ℕ). slice_get new p ≡ Some (Some entry)) (sym q) there;
+              into = kept old (subst (λ (p : ℕ). slice_get certificate p ≡ Some (Some old)) q e);
+            }
             | inr n ↦ record {
-                wider = old;
-                is = other_set certificate to place (Some entry) n ∙ e;
-                into = into_self old;
-              }
+              wider = old;
+              is = other_set certificate to place (Some entry) n ∙ e;
+              into = into_self old;
+            }
           ];
       leads = λ _. record { wider = entry; is = there; into = into };
       elsewhere = λ place n. other_set certificate to place (Some entry) n;

@@ -1,5 +1,6 @@
 -- The entries that the pass keeps, and the certificate that they are of.
-use Rattle.std.proofs.Common.{◌≡◌, ℕ, zero, suc, ◌+◌, ◌<◌, ◌≤◌, List, [], ◌∷◌, length, Option, Some, None, refl, sym, ap}
+use Rattle.std.proofs.Common.{◌≡◌, ℕ, zero, suc, ◌+◌, ◌<◌, ◌≤◌, List, [], ◌∷◌, length, Option, Some, None, refl, sym}
+use Rattle.std.proofs.Common.{ap}
 use Rattle.std.proofs.Common.{◌∙◌, subst, arith, length-set, ◌⊎◌, inl, inr, Bool}
 use Rattle.std.specs.Prelude.{IsTrue, replicate, slice_get, slice_set}
 use Rattle.std.specs.List.{AllZip}
@@ -17,7 +18,8 @@ use Rattle.ilranges.specs.declared.nesting.KnownOpened.{KnownOpened}
 use Rattle.ilranges.specs.Refusals.{HasToClose}
 use Rattle.ilranges.specs.Rules.{Ways, AreWaysOf, IsRule}
 use Rattle.ilverify.specs.Certificates.{Certificate, are_closed, is_closed, is_met}
-use Rattle.ilverify.specs.PassSteps.{CanJoin, CanMeetAt, CanMeetIf, IsMeetingAt, Meets, MeetsIf, target_of, AreFollowed, AreTyped}
+use Rattle.ilverify.specs.PassSteps.{CanJoin, CanMeetAt, CanMeetIf, IsMeetingAt, Meets, MeetsIf, target_of, AreFollowed}
+use Rattle.ilverify.specs.PassSteps.{AreTyped}
 use Rattle.ilverify.specs.PassSteps.{AreBounded, IsFound}
 use Rattle.ilverify.proofs.Forward.{IsBlank, blank, opened, skipped, target_forward, passed}
 use Rattle.ilverify.proofs.Growth.{Takes, takes_none, takes_in, takes_out}
@@ -335,7 +337,8 @@ found_next code n entry word changes pending new f e w r g =
     let to = target_of n word in
     let t = f.typed entry e in
     let b = rest_bounded code n pending f.bounded in
-    let met : is_met rest (n + 1) ≡ is_met a (n + 1) = ap is_closed (rest_same code n pending f (n + 1) (omega arith)) in
+    let met : is_met rest (n + 1) ≡ is_met a (n + 1) = ap is_closed
+        (rest_same code n pending f (n + 1) (omega arith)) in
     let rule = subst (λ (m : Bool). IsRule code n m entry word ways) met r in
     let ahead = target_forward code n (is_met rest (n + 1)) entry word ways r in
     let long : length rest ≡ length a = length-set pending n None ∙ f.long ∙ sym f.closest.consistent.long in

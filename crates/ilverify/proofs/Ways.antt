@@ -1,5 +1,6 @@
 -- What is known on the ways from a word stays within the types of the slots, and nothing is open where ways may meet.
-use Rattle.std.proofs.Common.{◌≡◌, ℕ, zero, suc, ◌<◌, ℤ, Bool, true, false, cond, List, [], ◌∷◌, length, Option, Some, None}
+use Rattle.std.proofs.Common.{◌≡◌, ℕ, zero, suc, ◌<◌, ℤ, Bool, true, false, cond, List, [], ◌∷◌, length, Option, Some}
+use Rattle.std.proofs.Common.{None}
 use Rattle.std.proofs.Common.{refl, sym, ap, ◌∙◌, subst, arith, inl, inr}
 use Rattle.std.specs.Prelude.{IsTrue, map, slice_get, slice_set}
 use Rattle.std.specs.List.{AllZip}
@@ -92,8 +93,7 @@ refined_slot wider entry way slot comparison outcome limit (Some knowns.Bool) e 
 refined_slot wider entry way slot comparison outcome limit (Some (knowns.Int range)) e t h =
     let low = h.least.low.of_range in
     let high = h.least.high.of_range in
-    let w : IsWithin h.kept range = record { low = low.low; high = high.high } in
-    (
+    let w : IsWithin h.kept range = record { low = low.low; high = high.high } in (
       subst (λ (x : Entry). AllZip IsKnownWithin x.slots wider) (sym h.is)
           (kept_typed entry.slots wider slot h.kept range t e w),
       ap (λ (x : Entry). x.nesting) h.is,

@@ -14,9 +14,9 @@ ghost use Rattle.ilranges.specs.Changes.{changed, ways_of};
 ghost use Rattle.ilranges.specs.Entries.{arriving};
 ghost use Rattle.ilranges.specs.Rules.{IsRule};
 ghost use Rattle.ilverify.specs.Certificates.{is_met, IsCertified, IsError};
-ghost use Rattle.ilverify.specs.PassSteps.{CanMeet, CanMeetAt, CanMeetIf, IsMeetingOf, Meets, MeetsIf};
-ghost use Rattle.ilverify.specs.PassSteps.{arrived, target_of, AreTyped, AreBounded, AreFollowed};
-ghost use Rattle.ilverify.specs.PassSteps.{IsFound};
+ghost use Rattle.ilverify.specs.PassSteps.{CanMeet, CanMeetAt, CanMeetIf, IsMeetingOf, Meets};
+ghost use Rattle.ilverify.specs.PassSteps.{MeetsIf, arrived, target_of, AreTyped, AreBounded};
+ghost use Rattle.ilverify.specs.PassSteps.{AreFollowed, IsFound};
 
 use crate::refusal::{Refusal, VerifyError};
 use ilcode::{Code, Instruction};

@@ -9,7 +9,9 @@ use iltypes::{IlType, Range, Value};
 use std::alloc::{AllocError, Global};
 use std::test::Fail;
 
-const LEVEL: IlType = IlType::Int(Range { lo: 0, hi: 254 });
+mod jumps;
+
+pub(crate) const LEVEL: IlType = IlType::Int(Range { lo: 0, hi: 254 });
 
 const DINT: IlType = IlType::Int(Range {
     lo: -2_147_483_648,
@@ -34,7 +36,7 @@ const ABS: Instruction = Instruction::Transform(Function::Abs);
 
 const TO_SINT: Instruction = Instruction::Transform(Function::Convert(IntegerType::Sint));
 
-fn load(operand: Operand) -> Instruction {
+pub(crate) fn load(operand: Operand) -> Instruction {
     Instruction::Load {
         negated: false,
         operand,
@@ -56,7 +58,7 @@ fn mul(operand: Operand) -> Instruction {
     Instruction::Apply(Operator::Mul, operand)
 }
 
-fn div(operand: Operand) -> Instruction {
+pub(crate) fn div(operand: Operand) -> Instruction {
     Instruction::Apply(Operator::Div, operand)
 }
 

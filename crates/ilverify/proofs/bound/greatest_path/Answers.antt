@@ -12,5 +12,5 @@ returns c =
     let zero : c.loop-place.place ≡ 0 = omega (arith, c.loop-place-test.false) in
     let all = subst (AreLongest code kept) zero c.loop-place.invariant in
     let e : words_at kept 0 ≡ c.words_at.result =
-        ap (λ (l : _). words_at l 0) (sym c.deref-2.ensures.value) ∙ sym c.words_at.ensures in
+    ap (λ (l : _). words_at l 0) (sym c.deref-2.ensures.value) ∙ sym c.words_at.ensures in
     subst (IsBound code) e (bound_is code kept all)

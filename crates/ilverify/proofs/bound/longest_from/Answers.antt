@@ -14,27 +14,28 @@ longest c =
     let e = c.instructions.ensures.value in
     elim c.match-instructions-place.branch [
       | in-Jump+in-Always w ↦
-        let is = word_there code n c.instructions.result.now _ _ e c.requires.within w.in-Jump.is in
-        subst (λ (m : ℕ). IsLongestFrom code n (m + 1)) (sym (w.after-is ∙ w.words_from_target-there.ensures))
-        (always_by code kept n w.in-Jump.target w.in-Jump.condition c.requires.later is w.in-Always.is)
+          let is = word_there code n c.instructions.result.now _ _ e c.requires.within w.in-Jump.is in
+          subst (λ (m : ℕ). IsLongestFrom code n (m + 1)) (sym (w.after-is ∙ w.words_from_target-there.ensures))
+          (always_by code kept n w.in-Jump.target w.in-Jump.condition c.requires.later is w.in-Always.is)
       | in-Jump+in-IfTrue w ↦
-        let is = word_there code n c.instructions.result.now _ _ e c.requires.within w.in-Jump.is in
-        let q = w.after-is in
-        let m = w.max.ensures in
-        let a = c.words_at-next.ensures in
-        let b = w.words_from_target-there.ensures in
-        subst (λ (m : ℕ). IsLongestFrom code n (m + 1)) (cc)
-        (if_by code kept n w.in-Jump.target w.in-Jump.condition c.requires.later is w.in-IfTrue.is)
+          let is = word_there code n c.instructions.result.now _ _ e c.requires.within w.in-Jump.is in
+          let q = w.after-is in
+          let m = w.max.ensures in
+          let a = c.words_at-next.ensures in
+          let b = w.words_from_target-there.ensures in
+          subst (λ (m : ℕ). IsLongestFrom code n (m + 1)) (cc)
+          (if_by code kept n w.in-Jump.target w.in-Jump.condition c.requires.later is w.in-IfTrue.is)
       | in_default w ↦
-        let is = word_there code n c.instructions.result.now _ _ e c.requires.within refl in
-        subst (λ (m : ℕ). IsLongestFrom code n (m + 1)) (sym (w.after-is ∙ c.words_at-next.ensures))
-        (on_longest code kept n _ c.requires.later is w.in_default.not-Jump)
+          let is = word_there code n c.instructions.result.now _ _ e c.requires.within refl in
+          subst (λ (m : ℕ). IsLongestFrom code n (m + 1)) (sym (w.after-is ∙ c.words_at-next.ensures))
+          (on_longest code kept n _ c.requires.later is w.in_default.not-Jump)
     ]
 
 -- src/bound.rt:59:5
 pub overflow_add-result : goal.overflow_add-result
 overflow_add-result c =
-    let f = few_words c.args.code.now c.args.place (c.match-instructions-place.after + 1) c.requires.within (longest c) in
+    let f = few_words c.args.code.now c.args.place (c.match-instructions-place.after + 1) c.requires.within
+        (longest c) in
     let l = c.instructions.ensures.lawful.most_instructions in
     omega (arith, f, l)
 
