@@ -9,6 +9,7 @@ use iltypes::Value;
 use std::alloc::{AllocError, Global};
 use std::test::Fail;
 
+mod labels;
 mod largest;
 
 const TEXT: &[u8] =
