@@ -1,7 +1,7 @@
 -- The longest path from a place, from those of its successors.
-use Rattle.std.proofs.Common.{◌≡◌, ℕ, zero, suc, ◌+◌, ◌<◌, ◌≤◌, List, [], ◌∷◌, length, Option, Some, None, refl, sym}
+use Rattle.std.proofs.Common.{◌≡◌, ℕ, ◌+◌, ◌<◌, ◌≤◌, List, [], ◌∷◌, length, Some, refl, sym}
 use Rattle.std.proofs.Common.{subst, ap, arith, inl, inr, ◌⊎◌, Bool, true, false, cond, ◌∙◌}
-use Rattle.std.specs.Prelude.{slice_get, get_or, IsTrue, nat_lt, nat_le, max}
+use Rattle.std.specs.Prelude.{slice_get, get_or, IsTrue, max}
 use Rattle.std.proofs.lemmas.Bool.{cases_lt}
 use Rattle.std.proofs.lemmas.List.{get_or_past}
 use Rattle.std.proofs.lemmas.Option.{slice_get-get_or}

@@ -1,5 +1,5 @@
 -- The entries that the pass keeps, and the certificate that they are of.
-use Rattle.std.proofs.Common.{◌≡◌, ℕ, zero, suc, ◌+◌, ◌<◌, ◌≤◌, List, [], ◌∷◌, length, Option, Some, None, refl, sym}
+use Rattle.std.proofs.Common.{◌≡◌, ℕ, zero, suc, ◌+◌, ◌<◌, List, [], ◌∷◌, length, Option, Some, None, refl, sym}
 use Rattle.std.proofs.Common.{ap}
 use Rattle.std.proofs.Common.{◌∙◌, subst, arith, length-set, ◌⊎◌, inl, inr, Bool}
 use Rattle.std.specs.Prelude.{IsTrue, replicate, slice_get, slice_set}
@@ -21,11 +21,11 @@ use Rattle.ilverify.specs.Certificates.{Certificate, are_closed, is_closed, is_m
 use Rattle.ilverify.specs.PassSteps.{CanJoin, CanMeetAt, CanMeetIf, IsMeetingAt, Meets, MeetsIf, target_of, AreFollowed}
 use Rattle.ilverify.specs.PassSteps.{AreTyped}
 use Rattle.ilverify.specs.PassSteps.{AreBounded, IsFound}
-use Rattle.ilverify.proofs.Forward.{IsBlank, blank, opened, skipped, target_forward, passed}
+use Rattle.ilverify.proofs.Forward.{blank, opened, skipped, target_forward, passed}
 use Rattle.ilverify.proofs.Growth.{Takes, takes_none, takes_in, takes_out}
 use Rattle.ilverify.proofs.Lists.{same_set, other_set}
 use Rattle.ilverify.proofs.Order.{into_self}
-use Rattle.ilverify.proofs.Ways.{IsShaped, next_shaped, target_shaped, met_closes, target_closes, closed_bounded}
+use Rattle.ilverify.proofs.Ways.{next_shaped, target_shaped, met_closes, target_closes, closed_bounded}
 use Rattle.ilverify.proofs.Ways.{arriving_typed}
 
 -- ---- lists after one write

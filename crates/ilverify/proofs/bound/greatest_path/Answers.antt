@@ -1,4 +1,4 @@
-use Rattle.std.proofs.Common.{◌≡◌, ℕ, arith, ap, ◌∙◌, sym, subst}
+use Rattle.std.proofs.Common.{◌≡◌, arith, ap, ◌∙◌, sym, subst}
 use Rattle.ilcode.specs.Paths.{IsBound}
 use Rattle.ilverify.specs.BoundSteps.{AreLongest, words_at}
 use Rattle.ilverify.proofs.bound.greatest_path.Goals as goal

@@ -1,4 +1,3 @@
-use Rattle.std.proofs.Common.{◌≡◌, ◌<◌, ◌+◌, length, ℕ, ◌≤◌}
 use Rattle.ilverify.specs.BoundSteps.{AreLongest}
 use Rattle.ilverify.proofs.bound.greatest_path.Given as goal
 

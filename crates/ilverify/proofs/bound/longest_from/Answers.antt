@@ -1,5 +1,4 @@
-use Rattle.std.proofs.Common.{◌≡◌, ◌<◌, ◌+◌, length, ℕ, ◌≤◌, refl, arith, ap, ◌∙◌, sym, subst, Fits, w32}
-use Rattle.std.specs.Prelude.{max}
+use Rattle.std.proofs.Common.{◌+◌, ℕ, refl, arith, ◌∙◌, sym, subst}
 use Rattle.ilverify.specs.BoundSteps.{IsLongestFrom}
 use Rattle.ilverify.proofs.bound.longest_from.Goals as goal
 use Rattle.ilverify.proofs.bound.longest_from.Goals.{in-Jump+in-Always, in-Jump+in-IfTrue, in_default}
