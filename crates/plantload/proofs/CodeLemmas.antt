@@ -1,7 +1,7 @@
 -- The codes of a plan's tasks: as many as tasks, each at its task's number, and one task more.
 use Rattle.std.proofs.Common.{◌≡◌, ℕ, zero, suc, ◌+◌, ◌<◌, List, [], ◌∷◌, ◌++◌, length, get_or, Option, Some, None}
 use Rattle.std.proofs.Common.{refl, sym, ap, ◌∙◌, subst, add-one, take, arith}
-use Rattle.std.specs.Prelude.{slice_get, IfSome, IsSomeAnd, MatchOption, map, option_map, ⊤}
+use Rattle.std.specs.Prelude.{slice_get, IfSome, IsSomeAnd, MatchOption, option_map, ⊤}
 use Rattle.std.specs.Arc.{arc_value}
 use Rattle.std.specs.List.{AllZip}
 use Rattle.std.specs.declared.alloc.Global.{Global}

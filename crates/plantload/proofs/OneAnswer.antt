@@ -1,14 +1,11 @@
 -- A text is loaded as one thing at most: its setup, or the one fault that stands against it.
-use Rattle.std.proofs.Common.{◌≡◌, ℕ, ◌<◌, List, [], ◌∷◌, Result, Ok, Err, Some, refl, sym, ap, ap₂, ◌∙◌, subst, arith}
+use Rattle.std.proofs.Common.{◌≡◌, ℕ, List, [], ◌∷◌, Result, Ok, Err, refl, sym, ap, ap₂, ◌∙◌, subst, arith}
 use Rattle.std.proofs.Common.{inl, inr}
-use Rattle.std.specs.Prelude.{slice_get}
 use Rattle.std.specs.List.{AllZip}
 use Rattle.std.proofs.lemmas.Bool.{cases_lt}
 use Rattle.ilsource.specs.Trees.{Tree}
-use Rattle.iltext.specs.Parsing.{IsText}
 use Rattle.iltext.proofs.Sources.{is_one, is_one_fault, is_no_fault}
 use Rattle.ilscope.specs.declared.fault.NameFault.TheVariants as name_faults
-use Rattle.ilscope.specs.declared.fault.NameFault.{NameFault}
 use Rattle.ilsyms.specs.Faults.{IsFault}
 use Rattle.ilplan.specs.Plans.{Planned, PlannedTask}
 use Rattle.ilsyms.specs.Resolved.{plan_of_tree}

@@ -1,4 +1,4 @@
-use Rattle.std.proofs.Common.{◌≡◌, ◌<◌, length, Some, ap, ◌∙◌, arith, sym, subst}
+use Rattle.std.proofs.Common.{◌<◌, length, ap, ◌∙◌, arith, sym, subst}
 use Rattle.std.specs.Prelude.{slice_get, IfSome}
 use Rattle.std.specs.Arc.{arc_value}
 use Rattle.plantload.specs.Loaded.{Loaded, IsCodeOf, accepted_of}
