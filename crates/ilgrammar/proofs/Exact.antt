@@ -45,9 +45,12 @@ module _ (T A : Type 0) (a : Item T A) (s : T → Type 0) (la : Lawful T A a s) 
 
   refused_at : (ts rest : List T) → (r : Refused T A a ts rest) → a.read ts ≡ Err rest → StopsBefore a ts r.front rest
   refused_at ts [] r e =
-      let all : ts ≡ r.front = r.parts ∙ append-nil r.front in
-      (all, r.part, λ x h. let good = only r.front x h in let bad : a.read r.front ≡ Err [] = ap a.read
-          (sym all) ∙ e in let both = sym good ∙ bad in cc)
+      let all : ts ≡ r.front = r.parts ∙ append-nil r.front in (
+        all,
+        r.part,
+        λ x h. let good = only r.front x h in let bad : a.read r.front ≡ Err [] = ap a.read
+            (sym all) ∙ e in let both = sym good ∙ bad in cc,
+      )
   refused_at ts (t ∷ v) r e = (
     r.parts,
     r.part,
@@ -73,7 +76,7 @@ module _ (T A : Type 0) (a : Item T A) (s : T → Type 0) (la : Lawful T A a s) 
               let good = no_other k.front t c.0 c.1 c.2 in
               let bad = k.same (t ∷ c.0) refl in
               let rests : [] ≡ t ∷ c.0 = ap (λ (z : A × List T). z.1)
-                  (ok_is (c.1, []) (x, t ∷ c.0) (sym good ∙ bad)) in cc,
+              (ok_is (c.1, []) (x, t ∷ c.0) (sym good ∙ bad)) in cc,
         ),
       )
 
@@ -111,7 +114,7 @@ module _ (T A : Type 0) (a : Item T A) (s : T → Type 0) (la : Lawful T A a s) 
   front_taken u v x y (t ∷ w) e all =
       let k = la.ok u y (t ∷ w) e in
       let moved : u ++ v ≡ k.front ++ t ∷ (w ++ v) = ap (λ (z : List T). z ++ v) k.parts ∙ append_assoc k.front
-          (t ∷ w) v in
+      (t ∷ w) v in
       let both = sym all ∙ ap a.read moved ∙ k.same (t ∷ (w ++ v)) refl in
       let rests : [] ≡ t ∷ (w ++ v) = ap (λ (z : A × List T). z.1) (ok_is (x, []) (y, t ∷ (w ++ v)) both) in absurd cc
 
@@ -122,7 +125,7 @@ module _ (T A : Type 0) (a : Item T A) (s : T → Type 0) (la : Lawful T A a s) 
   front_refused u v x (t ∷ w) e all =
       let r = la.err u (t ∷ w) e in
       let moved : u ++ v ≡ r.front ++ t ∷ (w ++ v) = ap (λ (z : List T). z ++ v) r.parts ∙ append_assoc r.front
-          (t ∷ w) v in
+      (t ∷ w) v in
       let both = sym all ∙ ap a.read moved ∙ r.same (t ∷ (w ++ v)) refl in absurd cc
 
   front_read : (u v : List T) (x : A) (r : Result (A × List T) (List T)) → a.read u ≡ r → a.read (u ++ v) ≡ Ok (x, [])
@@ -172,4 +175,4 @@ module _ (T A : Type 0) (a : Item T A) (s : T → Type 0) (la : Lawful T A a s) 
   no_fault ts [] x h w = h.1.2 x (subst (λ (z : List T). a.whole z x) h.1.0 w)
   no_fault ts (t ∷ v) x h w =
       h.1.2 (front_of_whole (h.0 ++ t ∷ []) v x
-          (subst (λ (z : List T). a.whole z x) (h.1.0 ∙ sym (append_assoc h.0 (t ∷ []) v)) w))
+      (subst (λ (z : List T). a.whole z x) (h.1.0 ∙ sym (append_assoc h.0 (t ∷ []) v)) w))

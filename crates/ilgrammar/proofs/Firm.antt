@@ -22,8 +22,11 @@ pub Firm-seq : {T A B : Type 0} {a : Item T A} {b : Item T B} {sa sb : T → Typ
     → ((t : T) → b.starts t ≡ true → sa t)
     → Firm T B b sb → Firm T (A × B) (seq a b) sb
 Firm-seq {b} x apart y =
-    record { lawful = Lawful-seq _ _ _ _ _ _ _ x.lawful y.lawful apart x.solid y.solid; solid = Solid-seq _ _ _ _ b
-        x.solid }
+    record {
+      lawful = Lawful-seq _ _ _ _ _ _ _ x.lawful y.lawful apart x.solid y.solid;
+      solid = Solid-seq _ _ _ _ b
+          x.solid;
+    }
 
 pub Firm-seq_open : {T A B : Type 0} {a : Item T A} {b : Item T B} {sa sb : T → Type 0} → Firm T A a sa
     → ((t : T) → b.starts t ≡ true → sa t)
@@ -50,8 +53,11 @@ pub Firm-alt : {T A : Type 0} {a b : Item T A} {sa sb : T → Type 0} → Firm T
     → ((t : T) → b.starts t ≡ true → a.starts t ≡ false)
     → Firm T A b sb → Firm T A (alt a b) (λ t. sa t × sb t)
 Firm-alt x apart y =
-    record { lawful = Lawful-alt _ _ _ _ _ _ x.lawful y.lawful x.solid y.solid apart; solid = Solid-alt _ _ _ _ x.solid
-        y.solid }
+    record {
+      lawful = Lawful-alt _ _ _ _ _ _ x.lawful y.lawful x.solid y.solid apart;
+      solid = Solid-alt _ _ _ _ x.solid
+          y.solid;
+    }
 
 pub Firm-fewer : {T A : Type 0} {a : Item T A} {s : T → Type 0} → (r : T → Type 0) → ((t : T) → r t → s t)
     → Firm T A a s → Firm T A a r

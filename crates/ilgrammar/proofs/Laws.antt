@@ -125,8 +125,16 @@ module _ (T A : Type 0) (class : T → Option A) (sample : T) (value : A) (has :
 
   pub Lawful-one : Lawful T A (one class) (λ t. Unit {0})
   Lawful-one =
-      record { ok = one_ok; err = one_err; again = λ u x rest h s. one_again u x rest
-          h; completes = one_completes; begun = one_begun; front = one_front; nothing = tt }
+      record {
+        ok = one_ok;
+        err = one_err;
+        again = λ u x rest h s. one_again u x rest
+            h;
+        completes = one_completes;
+        begun = one_begun;
+        front = one_front;
+        nothing = tt;
+      }
 
 pub Solid-one : (T A : Type 0) (class : T → Option A) → Solid T A (one class)
 Solid-one T A class = record { none = λ x h. h }
@@ -153,7 +161,7 @@ module _ (T A B : Type 0) (a : Item T A) (b : Item T B) (sa sb : T → Type 0) (
         whole = (ta.front, tb.front, refl, ta.whole, tb.whole);
         same = λ w h.
             let one = ta.same (tb.front ++ w)
-                (subst (λ (r : List T). SameHead r (tb.front ++ w)) (sym tb.parts) (same_after tb.front q.0.1 w h)) in
+            (subst (λ (r : List T). SameHead r (tb.front ++ w)) (sym tb.parts) (same_after tb.front q.0.1 w h)) in
             let two = tb.same w h in
             rw (append_assoc ta.front tb.front w, one, two) refl;
       })
@@ -179,8 +187,8 @@ module _ (T A B : Type 0) (a : Item T A) (b : Item T B) (sa sb : T → Type 0) (
               part = inr (ta.front, rb.front, p.0.0, refl, ta.whole, rb.part);
               same = λ w h.
                   let one = ta.same (rb.front ++ w)
-                      (subst (λ (r : List T). SameHead r (rb.front ++ w)) (sym rb.parts)
-                          (same_after rb.front rest w h)) in
+                  (subst (λ (r : List T). SameHead r (rb.front ++ w)) (sym rb.parts)
+                  (same_after rb.front rest w h)) in
                   let two = rb.same w h in
                   rw (append_assoc ta.front rb.front w, one, two) refl;
             }
@@ -233,9 +241,17 @@ module _ (T A B : Type 0) (a : Item T A) (b : Item T B) (sa sb : T → Type 0) (
 
     pub Lawful-seq : Solid T A a → Solid T B b → Lawful T (A × B) (seq a b) sb
     Lawful-seq solid full =
-        record { ok = seq_ok; err = seq_err; again = λ u x rest h s. seq_again_when u x rest h s
-            (λ w. absurd (full.none x.1 w)); completes =
-                seq_completes; begun = seq_begun solid; front = seq_front; nothing = inl la.nothing }
+        record {
+          ok = seq_ok;
+          err = seq_err;
+          again = λ u x rest h s. seq_again_when u x rest h s
+              (λ w. absurd (full.none x.1 w));
+          completes =
+              seq_completes;
+          begun = seq_begun solid;
+          front = seq_front;
+          nothing = inl la.nothing;
+        }
 
     both_stop : (rest : List T) → StopsAt (λ t. sa t × sb t) rest → StopsAt sa rest × StopsAt sb rest
     both_stop [] h = (tt, tt)
@@ -244,9 +260,17 @@ module _ (T A B : Type 0) (a : Item T A) (b : Item T B) (sa sb : T → Type 0) (
     -- where b may be nothing
     pub Lawful-seq_open : Solid T A a → Lawful T (A × B) (seq a b) (λ t. sa t × sb t)
     Lawful-seq_open solid =
-        record { ok = seq_ok; err = seq_err; again = λ u x rest h s. seq_again_when u x rest h (both_stop rest s).1
-            (λ w. (both_stop rest s).0); completes =
-                seq_completes; begun = seq_begun solid; front = seq_front; nothing = inl la.nothing }
+        record {
+          ok = seq_ok;
+          err = seq_err;
+          again = λ u x rest h s. seq_again_when u x rest h (both_stop rest s).1
+              (λ w. (both_stop rest s).0);
+          completes =
+              seq_completes;
+          begun = seq_begun solid;
+          front = seq_front;
+          nothing = inl la.nothing;
+        }
 
     lead_ok : (ts : List T) (x : A × B) (rest : List T) → seq_read a b ts ≡ Ok (x, rest)
         → Took T (A × B) (lead a b) ts x rest
@@ -262,15 +286,31 @@ module _ (T A B : Type 0) (a : Item T A) (b : Item T B) (sa sb : T → Type 0) (
     -- where both may be nothing
     pub Lawful-lead_open : Lawful T (A × B) (lead a b) (λ t. sa t × sb t)
     Lawful-lead_open =
-        record { ok = lead_ok; err = lead_err; again = λ u x rest h s. seq_again_when u x rest h (both_stop rest s).1
-            (λ w. (both_stop rest s).0); completes =
-                seq_completes; begun = lead_begun; front = seq_front; nothing = inl la.nothing }
+        record {
+          ok = lead_ok;
+          err = lead_err;
+          again = λ u x rest h s. seq_again_when u x rest h (both_stop rest s).1
+              (λ w. (both_stop rest s).0);
+          completes =
+              seq_completes;
+          begun = lead_begun;
+          front = seq_front;
+          nothing = inl la.nothing;
+        }
 
     pub Lawful-lead : Solid T B b → Lawful T (A × B) (lead a b) sb
     Lawful-lead full =
-        record { ok = lead_ok; err = lead_err; again = λ u x rest h s. seq_again_when u x rest h s
-            (λ w. absurd (full.none x.1 w)); completes =
-                seq_completes; begun = lead_begun; front = seq_front; nothing = inl la.nothing }
+        record {
+          ok = lead_ok;
+          err = lead_err;
+          again = λ u x rest h s. seq_again_when u x rest h s
+              (λ w. absurd (full.none x.1 w));
+          completes =
+              seq_completes;
+          begun = lead_begun;
+          front = seq_front;
+          nothing = inl la.nothing;
+        }
 
 pub Solid-seq : (T A B : Type 0) (a : Item T A) (b : Item T B) → Solid T A a → Solid T (A × B) (seq a b)
 Solid-seq T A B a b solid = record { none = λ x h. go x h.0 h.1 h.2 h.3 }
@@ -288,8 +328,13 @@ module _ (T A B : Type 0) (f : A → B) (a : Item T A) (s : T → Type 0) (la : 
       let ta = la.ok ts p.0.0 p.0.1 p.1 in
       let made : B × List T = (f p.0.0, p.0.1) in
       subst (λ (z : B × List T). Took T B (map f a) ts z.0 z.1) (ok_is made (y, rest) p.2)
-      (record { front = ta.front; parts = ta.parts; whole = (p.0.0, ta.whole, refl); same = λ w h. rw
-          (ta.same w h) refl })
+      (record {
+        front = ta.front;
+        parts = ta.parts;
+        whole = (p.0.0, ta.whole, refl);
+        same = λ w h. rw
+            (ta.same w h) refl;
+      })
 
   map_err : (ts rest : List T) → map_read f a ts ≡ Err rest → Refused T B (map f a) ts rest
   map_err ts rest e = elim (bind_err (a.read ts) (λ p. Ok (f p.0, p.1)) rest e) [
@@ -330,8 +375,13 @@ module _ (T A : Type 0) (a : Item T A) (s : T → Type 0) (la : Lawful T A a s) 
       let ta = la.ok ts p.0.0 p.0.1 p.1 in
       let made : Option A × List T = (Some p.0.0, p.0.1) in
       subst (λ (z : Option A × List T). Took T (Option A) (opt a) ts z.0 z.1) (ok_is made (x, rest) p.2)
-      (record { front = ta.front; parts = ta.parts; whole = ta.whole; same = λ w h. rw
-          (front_begins ta.front p.0.0 w ta.whole, ta.same w h) refl })
+      (record {
+        front = ta.front;
+        parts = ta.parts;
+        whole = ta.whole;
+        same = λ w h. rw
+            (front_begins ta.front p.0.0 w ta.whole, ta.same w h) refl;
+      })
   opt_ok false ts x rest is e =
       let made : Option A × List T = (None, ts) in
       subst (λ (z : Option A × List T). Took T (Option A) (opt a) ts z.0 z.1) (ok_is made (x, rest) e)
@@ -348,8 +398,8 @@ module _ (T A : Type 0) (a : Item T A) (s : T → Type 0) (la : Lawful T A a s) 
           part = ra.part;
           same = λ w h.
               let same : begins a (ra.front ++ w) ≡ true = sym
-                  (same_begins a (ra.front ++ rest) (ra.front ++ w) (same_after ra.front rest w h)) ∙ ap (begins a)
-                  (sym ra.parts) ∙ is in
+              (same_begins a (ra.front ++ rest) (ra.front ++ w) (same_after ra.front rest w h)) ∙ ap (begins a)
+              (sym ra.parts) ∙ is in
               rw (same, ra.same w h) refl;
         }
     | inr p ↦ let bad = p.2 in absurd cc
@@ -404,12 +454,22 @@ module _ (T A : Type 0) (a b : Item T A) (sa sb : T → Type 0) (la : Lawful T A
       → cond c (a.read ts) (b.read ts) ≡ Ok (x, rest) → Took T A (alt a b) ts x rest
   alt_ok true ts x rest is e =
       let ta = la.ok ts x rest e in
-      record { front = ta.front; parts = ta.parts; whole = inl ta.whole; same = λ w h. rw
-          (first_begins ta.front x w ta.whole, ta.same w h) refl }
+      record {
+        front = ta.front;
+        parts = ta.parts;
+        whole = inl ta.whole;
+        same = λ w h. rw
+            (first_begins ta.front x w ta.whole, ta.same w h) refl;
+      }
   alt_ok false ts x rest is e =
       let tb = lb.ok ts x rest e in
-      record { front = tb.front; parts = tb.parts; whole = inr tb.whole; same = λ w h. rw
-          (second_begins tb.front x w tb.whole, tb.same w h) refl }
+      record {
+        front = tb.front;
+        parts = tb.parts;
+        whole = inr tb.whole;
+        same = λ w h. rw
+            (second_begins tb.front x w tb.whole, tb.same w h) refl;
+      }
 
   same_choice : (c : Bool) (ts u v w : List T) → begins a ts ≡ c → ts ≡ u ++ v → SameHead v w → begins a (u ++ w) ≡ c
   same_choice c ts u v w is parts h =
@@ -419,12 +479,22 @@ module _ (T A : Type 0) (a b : Item T A) (sa sb : T → Type 0) (la : Lawful T A
       → Refused T A (alt a b) ts rest
   alt_err true ts rest is e =
       let ra = la.err ts rest e in
-      record { front = ra.front; parts = ra.parts; part = inl ra.part; same = λ w h. rw
-          (same_choice true ts ra.front rest w is ra.parts h, ra.same w h) refl }
+      record {
+        front = ra.front;
+        parts = ra.parts;
+        part = inl ra.part;
+        same = λ w h. rw
+            (same_choice true ts ra.front rest w is ra.parts h, ra.same w h) refl;
+      }
   alt_err false ts rest is e =
       let rb = lb.err ts rest e in
-      record { front = rb.front; parts = rb.parts; part = inr rb.part; same = λ w h. rw
-          (same_choice false ts rb.front rest w is rb.parts h, rb.same w h) refl }
+      record {
+        front = rb.front;
+        parts = rb.parts;
+        part = inr rb.part;
+        same = λ w h. rw
+            (same_choice false ts rb.front rest w is rb.parts h, rb.same w h) refl;
+      }
 
   alt_stop_first : (rest : List T) → StopsAt (λ t. sa t × sb t) rest → StopsAt sa rest × StopsAt sb rest
   alt_stop_first [] h = (tt, tt)
@@ -476,8 +546,16 @@ Solid-lead T A B a b full = record { none = λ x h. go x h.0 h.1 h.2 h.4 }
 pub Lawful-fewer : (T A : Type 0) (a : Item T A) (s r : T → Type 0) → ((t : T) → r t → s t) → Lawful T A a s
     → Lawful T A a r
 Lawful-fewer T A a s r sub la =
-    record { ok = la.ok; err = la.err; again = λ u x rest h st. la.again u x rest h
-        (at rest st); completes = la.completes; begun = la.begun; front = la.front; nothing = la.nothing }
+    record {
+      ok = la.ok;
+      err = la.err;
+      again = λ u x rest h st. la.again u x rest h
+          (at rest st);
+      completes = la.completes;
+      begun = la.begun;
+      front = la.front;
+      nothing = la.nothing;
+    }
   where
     at : (rest : List T) → StopsAt r rest → StopsAt s rest
     at [] h = tt

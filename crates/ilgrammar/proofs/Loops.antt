@@ -25,7 +25,7 @@ module _ (T A : Type 0) (a : Item T A) (s : T → Type 0) (law : Firm T A a s) w
       → with_front front ((many a).read ts) ≡ total → with_front (front ++ x ∷ []) ((many a).read after) ≡ total
   goes_on front ts x after total is e so_far =
       let one : with_front front ((many a).read ts) ≡ with_front (front ++ x ∷ []) ((many a).read after) = rw
-          (one_more T A a s law.lawful law.solid ts is, e) (regroup front x ((many a).read after)) in
+      (one_more T A a s law.lawful law.solid ts is, e) (regroup front x ((many a).read after)) in
       sym one ∙ so_far
 
   pub fails : (e : ReadError T) (front : List A) (ts : List T) (total : Result (List A × List T) (List T))
@@ -34,14 +34,14 @@ module _ (T A : Type 0) (a : Item T A) (s : T → Type 0) (law : Firm T A a s) w
   fails errors.Memory front ts total is h so_far = tt
   fails (errors.Fault f) front ts total is h so_far =
       let one : with_front front ((many a).read ts) ≡ Err f.now = rw
-          (one_more T A a s law.lawful law.solid ts is, h) refl in
+      (one_more T A a s law.lawful law.solid ts is, h) refl in
       sym so_far ∙ one
 
   pub is_done : (front : List A) (ts : List T) (total : Result (List A × List T) (List T)) → begins a ts ≡ false
       → with_front front ((many a).read ts) ≡ total → total ≡ Ok (front, ts)
   is_done front ts total is so_far =
       let one : with_front front ((many a).read ts) ≡ Ok (front, ts) = rw (none_more T A a s law.lawful law.solid ts is)
-          (ap (λ (xs : List A). Ok (xs, ts)) (append-nil front)) in
+      (ap (λ (xs : List A). Ok (xs, ts)) (append-nil front)) in
       sym so_far ∙ one
 
   pub shrinks : (ts : List T) (x : A) (after : List T) → a.read ts ≡ Ok (x, after) → length after < length ts

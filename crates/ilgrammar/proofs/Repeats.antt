@@ -31,12 +31,12 @@ module _ (T A : Type 0) (a : Item T A) (s : T → Type 0) (la : Lawful T A a s) 
   abbrev Takes : ℕ → List T → List A → List T → Type 0
   Takes n ts xs rest =
       (u : List T) × (ts ≡ u ++ rest) × many_whole a u xs ×
-          ((w : List T) (m : ℕ) → length (u ++ w) ≤ m → SameHead rest w → many_read a m (u ++ w) ≡ Ok (xs, w))
+      ((w : List T) (m : ℕ) → length (u ++ w) ≤ m → SameHead rest w → many_read a m (u ++ w) ≡ Ok (xs, w))
 
   one_taken : (u v : List T) (x : A) (xs : List A) (w : List T) (m : ℕ) → a.whole u x → length ((u ++ v) ++ w) ≤ m
       → a.read (u ++ (v ++ w)) ≡ Ok (x, v ++ w)
       → ((k : ℕ) → length (v ++ w) ≤ k → many_read a k (v ++ w) ≡ Ok (xs, w))
-          → many_read a m ((u ++ v) ++ w) ≡ Ok (x ∷ xs, w)
+      → many_read a m ((u ++ v) ++ w) ≡ Ok (x ∷ xs, w)
   one_taken u v x xs w m h le one others =
       let g = goes m u x (v ++ w) h (rw append_assoc at le) one in
       let two = others g.0 g.2 in
@@ -48,7 +48,7 @@ module _ (T A : Type 0) (a : Item T A) (s : T → Type 0) (la : Lawful T A a s) 
   abbrev IsExact : ℕ → Type 0
   IsExact n =
       (ts : List T) (xs : List A) (rest : List T) → length ts ≤ n → many_read a n ts ≡ Ok (xs, rest)
-          → Takes n ts xs rest
+      → Takes n ts xs rest
 
   nothing_taken : (n : ℕ) (ts : List T) → begins a ts ≡ false → Takes n ts [] ts
   nothing_taken n ts is = ([], refl, refl, λ w m le h. stays m w (sym (same_begins a ts w h) ∙ is))
@@ -60,7 +60,7 @@ module _ (T A : Type 0) (a : Item T A) (s : T → Type 0) (la : Lawful T A a s) 
       let q = bind_ok (many_read a n p.0.1) (λ q. Ok (p.0.0 ∷ q.0, q.1)) (xs, rest) p.2 in
       let ta = la.ok ts p.0.0 p.0.1 p.1 in
       let short : length p.0.1 ≤ n = shorter ta.front p.0.0 p.0.1 n ta.whole
-          (subst (λ (z : List T). length z ≤ suc n) ta.parts le) in
+      (subst (λ (z : List T). length z ≤ suc n) ta.parts le) in
       let tb = ih p.0.1 q.0.0 q.0.1 short q.1 in
       let made : List A × List T = (p.0.0 ∷ q.0.0, q.0.1) in
       subst (λ (z : List A × List T). Takes (suc n) ts z.0 z.1) (ok_is made (xs, rest) q.2) (
@@ -69,7 +69,7 @@ module _ (T A : Type 0) (a : Item T A) (s : T → Type 0) (la : Lawful T A a s) 
         (ta.front, tb.0, refl, ta.whole, tb.2),
         λ w m lm h. one_taken ta.front tb.0 p.0.0 q.0.0 w m ta.whole lm
             (ta.same (tb.0 ++ w) (subst (λ (r : List T). SameHead r (tb.0 ++ w)) (sym tb.1)
-                (same_after tb.0 q.0.1 w h)))
+            (same_after tb.0 q.0.1 w h)))
             (λ k lk. tb.3 w k lk h),
       )
   takes_when n ih false ts xs rest is le e =
@@ -87,7 +87,7 @@ module _ (T A : Type 0) (a : Item T A) (s : T → Type 0) (la : Lawful T A a s) 
   abbrev Ends : ℕ → List T → List T → Type 0
   Ends n ts rest =
       (u : List T) × (ts ≡ u ++ rest) × many_part a u ×
-          ((w : List T) (m : ℕ) → length (u ++ w) ≤ m → SameHead rest w → many_read a m (u ++ w) ≡ Err w)
+      ((w : List T) (m : ℕ) → length (u ++ w) ≤ m → SameHead rest w → many_read a m (u ++ w) ≡ Err w)
 
   abbrev IsExactErr : ℕ → Type 0
   IsExactErr n = (ts rest : List T) → length ts ≤ n → many_read a n ts ≡ Err rest → Ends n ts rest
@@ -115,29 +115,38 @@ module _ (T A : Type 0) (a : Item T A) (s : T → Type 0) (la : Lawful T A a s) 
       rw (append_assoc u v w, g.3, two) refl
 
   more_part : (u v : List T) (x : A) → a.whole u x → many_part a v → many_part a (u ++ v)
-  more_part u v x h p =
-      (u ++ p.0, p.1, x ∷ p.2, ap (λ (r : List T). u ++ r) p.3 ∙ sym (append_assoc u p.0 p.1),
-          (u, p.0, refl, h, p.4), p.5)
+  more_part u v x h p = (
+    u ++ p.0,
+    p.1,
+    x ∷ p.2,
+    ap (λ (r : List T). u ++ r) p.3 ∙ sym (append_assoc u p.0 p.1),
+    (u, p.0, refl, h, p.4),
+    p.5,
+  )
 
   ends_when : (n : ℕ) → IsExactErr n → (b : Bool) (ts rest : List T) → begins a ts ≡ b → length ts ≤ suc n
       → cond b (a.read ts >>= then_more n) (Ok ([], ts)) ≡ Err rest → Ends (suc n) ts rest
   ends_when n ih true ts rest is le e = elim (bind_err (a.read ts) (then_more n) rest e) [
     | inl ea ↦
-        let ra = la.err ts rest ea in
-        (ra.front, ra.parts, ([], ra.front, [], refl, refl, ra.part), λ w m lm h. fails_now m (ra.front ++ w) w
-            (same_start ts rest ra.front w is ra.parts h) (ra.same w h) lm)
+        let ra = la.err ts rest ea in (
+          ra.front,
+          ra.parts,
+          ([], ra.front, [], refl, refl, ra.part),
+          λ w m lm h. fails_now m (ra.front ++ w) w
+              (same_start ts rest ra.front w is ra.parts h) (ra.same w h) lm,
+        )
     | inr p ↦ elim (bind_err (many_read a n p.0.1) (λ q. Ok (p.0.0 ∷ q.0, q.1)) rest p.2) [
       | inl eb ↦
           let ta = la.ok ts p.0.0 p.0.1 p.1 in
           let short : length p.0.1 ≤ n = shorter ta.front p.0.0 p.0.1 n ta.whole
-              (subst (λ (z : List T). length z ≤ suc n) ta.parts le) in
+          (subst (λ (z : List T). length z ≤ suc n) ta.parts le) in
           let tb = ih p.0.1 rest short eb in (
             ta.front ++ tb.0,
             ta.parts ∙ ap (λ (r : List T). ta.front ++ r) tb.1 ∙ sym (append_assoc ta.front tb.0 rest),
             more_part ta.front tb.0 p.0.0 ta.whole tb.2,
             λ w m lm h. one_then_fails ta.front tb.0 p.0.0 w m ta.whole lm
                 (ta.same (tb.0 ++ w) (subst (λ (r : List T). SameHead r (tb.0 ++ w)) (sym tb.1)
-                    (same_after tb.0 rest w h)))
+                (same_after tb.0 rest w h)))
                 (λ k lk. tb.3 w k lk h),
           )
       | inr q ↦ let bad = q.2 in absurd cc
@@ -187,9 +196,9 @@ module _ (T A : Type 0) (a : Item T A) (s : T → Type 0) (la : Lawful T A a s) 
   after_one n m ih ts ln lm (Ok p) e =
       let ta = la.ok ts p.0 p.1 e in
       let sn : length p.1 ≤ n = shorter ta.front p.0 p.1 n ta.whole
-          (subst (λ (z : List T). length z ≤ suc n) ta.parts ln) in
+      (subst (λ (z : List T). length z ≤ suc n) ta.parts ln) in
       let sm : length p.1 ≤ m = shorter ta.front p.0 p.1 m ta.whole
-          (subst (λ (z : List T). length z ≤ suc m) ta.parts lm) in
+      (subst (λ (z : List T). length z ≤ suc m) ta.parts lm) in
       ap (λ (r : Result (List A × List T) (List T)). r >>= λ q. Ok (p.0 ∷ q.0, q.1)) (ih p.1 sn sm)
 
   same_fuel : (n m : ℕ) (ts : List T) → length ts ≤ n → length ts ≤ m → many_read a n ts ≡ many_read a m ts
@@ -200,7 +209,7 @@ module _ (T A : Type 0) (a : Item T A) (s : T → Type 0) (la : Lawful T A a s) 
   same_fuel (suc n) zero (t ∷ ts) ln lm = absurd (omega arith)
   same_fuel (suc n) (suc m) ts ln lm =
       ap (λ (r : Result (List A × List T) (List T)). cond (begins a ts) r (Ok ([], ts)))
-          (after_one n m (same_fuel n m) ts ln lm (a.read ts) refl)
+      (after_one n m (same_fuel n m) ts ln lm (a.read ts) refl)
 
   one_more_from : (n : ℕ) (ts : List T) → length ts ≤ n → begins a ts ≡ true
       → many_read a n ts ≡ (a.read ts >>= λ p. (many a).read p.1 >>= λ q. Ok (p.0 ∷ q.0, q.1))
@@ -214,9 +223,9 @@ module _ (T A : Type 0) (a : Item T A) (s : T → Type 0) (la : Lawful T A a s) 
       fueled (Ok p) e =
           let ta = la.ok ts p.0 p.1 e in
           let sn : length p.1 ≤ n = shorter ta.front p.0 p.1 n ta.whole
-              (subst (λ (z : List T). length z ≤ suc n) ta.parts le) in
+          (subst (λ (z : List T). length z ≤ suc n) ta.parts le) in
           ap (λ (r : Result (List A × List T) (List T)). r >>= λ q. Ok (p.0 ∷ q.0, q.1))
-              (same_fuel n (length p.1) p.1 sn (omega arith))
+          (same_fuel n (length p.1) p.1 sn (omega arith))
 
   pub one_more : (ts : List T) → begins a ts ≡ true
       → (many a).read ts ≡ (a.read ts >>= λ p. (many a).read p.1 >>= λ q. Ok (p.0 ∷ q.0, q.1))
@@ -239,11 +248,21 @@ module _ (T A : Type 0) (a : Item T A) (s : T → Type 0) (la : Lawful T A a s) 
     pub Lawful-many : Lawful T (List A) (many a) Stops
     Lawful-many = record {
       ok = λ ts xs rest e. let t = takes (length ts) ts xs rest
-          (omega arith) e in record { front = t.0; parts = t.1; whole = t.2; same = λ w h. t.3 w (length (t.0 ++ w))
-              (omega arith) h };
+          (omega arith) e in record {
+            front = t.0;
+            parts = t.1;
+            whole = t.2;
+            same = λ w h. t.3 w (length (t.0 ++ w))
+                (omega arith) h;
+          };
       err = λ ts rest e. let t = ends (length ts) ts rest
-          (omega arith) e in record { front = t.0; parts = t.1; part = t.2; same = λ w h. t.3 w (length (t.0 ++ w))
-              (omega arith) h };
+          (omega arith) e in record {
+            front = t.0;
+            parts = t.1;
+            part = t.2;
+            same = λ w h. t.3 w (length (t.0 ++ w))
+                (omega arith) h;
+          };
       again = λ u xs rest h st. many_again xs u rest h st (length (u ++ rest)) (omega arith);
       completes = λ u h. let c = la.completes h.1 h.5 in
           (c.0, h.2 ++ c.1 ∷ [], rw (h.3, append_assoc h.0 h.1 c.0) (many_push h.2 h.0 (h.1 ++ c.0) c.1 h.4 c.2));

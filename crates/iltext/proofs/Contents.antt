@@ -150,4 +150,4 @@ by_pieces content operator at close ts inside rest after front new nested opens 
     let same : is.0 ≡ nested =
     one_tree is.0 nested (sym (is.2 ∙ ap (λ (ps : Pieces). ps ++ pieces_of is.0) none) ∙ spelled) in
     rw (opens, is.1, closes)
-        (ap (λ (t : Tree Name). Ok (line_of at (instructions.Deferred operator t close), after)) same)
+    (ap (λ (t : Tree Name). Ok (line_of at (instructions.Deferred operator t close), after)) same)

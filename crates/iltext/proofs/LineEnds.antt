@@ -36,7 +36,7 @@ unfolding line_ends
 goes_over [] is = absurd cc
 goes_over (t ∷ ts) is =
     sym (rw (one_more _ _ _ _ Firm-line_end.lawful Firm-line_end.solid (t ∷ ts) is, end_goes t ts is)
-        (same_rest ((many (mark marks.LineEnd)).read ts)))
+    (same_rest ((many (mark marks.LineEnd)).read ts)))
 
 pub stays_there : (ts : List Token) → begins (mark marks.LineEnd) ts ≡ false → line_ends.read ts ≡ Ok (tt, ts)
 unfolding line_ends

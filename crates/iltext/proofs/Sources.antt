@@ -33,8 +33,14 @@ pub is_found : (bytes : List ℕ) (ts : List Token) (r : Result Tree TextFault) 
     → Cuts bytes 0 ts → IsParsed bytes ts r
     → IfOk r (λ tree. IsText bytes tree)
 is_found bytes ts (Ok tree) short cut p =
-    record { short = short; same = p.0; tokens = ts; cut = cut; whole = whole_found _ _ _ _ Lawful-text ts tree.elements
-        p.1 }
+    record {
+      short = short;
+      same = p.0;
+      tokens = ts;
+      cut = cut;
+      whole = whole_found _ _ _ _ Lawful-text ts tree.elements
+          p.1;
+    }
 is_found bytes ts (Err e) short cut p = tt
 
 reads : (bytes : List ℕ) (ts : List Token) (tree : Tree) → Cuts bytes 0 ts → IsText bytes tree
@@ -42,7 +48,7 @@ reads : (bytes : List ℕ) (ts : List Token) (tree : Tree) → Cuts bytes 0 ts �
 reads bytes ts tree cut t =
     let same : t.tokens ≡ ts = one_cut bytes 0 (omega arith) t.tokens ts t.cut cut in
     whole_only _ _ _ _ Lawful-text ts tree.elements
-        (subst (λ (z : List Token). text.whole z tree.elements) same t.whole)
+    (subst (λ (z : List Token). text.whole z tree.elements) same t.whole)
 
 abbrev done : List Element → Result (List Element) (List Token)
 done ps = Ok ps
@@ -61,7 +67,7 @@ pub is_only : (bytes : List ℕ) (ts : List Token) (r : Result Tree TextFault) �
     → IsText bytes tree → IsReadAs tree r
 is_only bytes ts (Ok source) cut p tree t =
     same_tree source tree (p.0 ∙ sym t.same)
-        (same_elements source.elements tree.elements (sym p.1 ∙ reads bytes ts tree cut t))
+    (same_elements source.elements tree.elements (sym p.1 ∙ reads bytes ts tree cut t))
 is_only bytes ts (Err faults.Memory) cut p tree t = tt
 is_only bytes ts (Err (faults.At line col cause)) cut p tree t = let bad = sym p.1 ∙ reads bytes ts tree cut t in cc
 
@@ -103,7 +109,7 @@ first_one bytes a b f g =
     let rests : f.rest ≡ g.rest =
     one_fault _ _ _ _ Lawful-text g.tokens f.rest g.rest (f.before, stops) (g.before, g.stops) in
     let before : (r before : List Token) → StopsBefore text g.tokens before r
-        → take (length g.tokens - length r) g.tokens ≡ before =
+    → take (length g.tokens - length r) g.tokens ≡ before =
     λ r front h. before_is g.tokens front r (stopped_split _ _ _ _ Lawful-text g.tokens front r h) in
     let befores : f.before ≡ g.before =
     sym (before f.rest f.before stops)
@@ -124,7 +130,7 @@ is_no_fault bytes tree fault t (inl f) = omega (arith, f.0, t.short)
 is_no_fault bytes tree fault t (inr f) =
     let same : t.tokens ≡ f.tokens = one_cut bytes 0 (omega arith) t.tokens f.tokens t.cut f.cut in
     no_fault _ _ _ _ Lawful-text f.tokens f.rest tree.elements (f.before, f.stops)
-        (subst (λ (z : List Token). text.whole z tree.elements) same t.whole)
+    (subst (λ (z : List Token). text.whole z tree.elements) same t.whole)
 
 abbrev Within : ℕ → Token → Type 0
 Within len t = t.from ≤ len

@@ -39,9 +39,9 @@ blank_again u rest (inr (inl e)) = rw e refl
 blank_again u rest (inr (inr h)) =
     let inside = h.0 in
     let regroup : (inside ++ 42 ∷ 41 ∷ []) ++ rest ≡ inside ++ 42 ∷ 41 ∷ rest = append_assoc inside
-        (42 ∷ 41 ∷ []) rest in
+    (42 ∷ 41 ∷ []) rest in
     ap (λ (z : List ℕ). blank_at (z ++ rest)) h.1 ∙ ap
-        (λ (z : List ℕ). comment_past (after_comment z)) regroup ∙ ap comment_past (comment_again inside rest h.2)
+    (λ (z : List ℕ). comment_past (after_comment z)) regroup ∙ ap comment_past (comment_again inside rest h.2)
 
 opens_again : (rest : List ℕ) → OpensComment rest → blank_at rest ≡ open_comment
 opens_again rest h = ap blank_at h.1 ∙ ap comment_past (never_closed h.0 h.2)
@@ -59,7 +59,7 @@ over : (u rest : List ℕ) → AreBlanks u → (r : Result (List ℕ) (List ℕ)
 over _ rest AreBlanks.none r e = e
 over _ rest (AreBlanks.more u v is are) r e =
     ap blanks (append_assoc u v rest)
-        ∙ sym (goes_over (u ++ (v ++ rest)) (v ++ rest) (sym (blank_again u (v ++ rest) is))) ∙ over v rest are r e
+    ∙ sym (goes_over (u ++ (v ++ rest)) (v ++ rest) (sym (blank_again u (v ++ rest) is))) ∙ over v rest are r e
 
 pub blanks_end : (u rest : List ℕ) → AreBlanks u → BeginsNoBlank rest → blanks (u ++ rest) ≡ Ok rest
 blanks_end u rest are h = over u rest are (Ok rest) (stops_there rest (sym (here_again rest h)))

@@ -72,9 +72,12 @@ OneBlank bs (past rest) = (u : List ℕ) × (bs ≡ u ++ rest) × IsBlank u
 OneBlank bs open_comment = OpensComment bs
 
 comment_is : (inside : List ℕ) (o : Option (List ℕ)) → Closed inside o → OneBlank (40 ∷ 42 ∷ inside) (comment_past o)
-comment_is inside (Some rest) h =
-    (40 ∷ 42 ∷ h.0 ++ 42 ∷ 41 ∷ [], ap (λ (z : List ℕ). 40 ∷ 42 ∷ z)
-        (h.1 ∙ sym (append_assoc h.0 (42 ∷ 41 ∷ []) rest)), inr (inr (h.0, refl, h.2)))
+comment_is inside (Some rest) h = (
+  40 ∷ 42 ∷ h.0 ++ 42 ∷ 41 ∷ [],
+  ap (λ (z : List ℕ). 40 ∷ 42 ∷ z)
+      (h.1 ∙ sym (append_assoc h.0 (42 ∷ 41 ∷ []) rest)),
+  inr (inr (h.0, refl, h.2)),
+)
 comment_is inside None h = (inside, refl, h)
 
 at_comment : (b : ℕ) (bs : List ℕ) → b ≢ 32 → b ≢ 9 → OneBlank (b ∷ bs) (comment_at b bs)

@@ -73,9 +73,14 @@ no_more P u bs value cv h e = ([], value, refl, subst (λ (z : List ℕ). P z va
 
 step : (P : List ℕ → ℕ → Type 0) (u w bs rest : List ℕ) (r : ℕ × List ℕ) → bs ≡ w ++ rest → More P (u ++ w) rest r
     → More P u bs r
-step P u w bs rest r e h =
-    (w ++ h.0, h.1, e ∙ ap (λ (z : List ℕ). w ++ z) h.2 ∙ sym (append_assoc w h.0 r.1), subst (λ (z : List ℕ). P z h.1)
-        (append_assoc u w h.0) h.3, h.4)
+step P u w bs rest r e h = (
+  w ++ h.0,
+  h.1,
+  e ∙ ap (λ (z : List ℕ). w ++ z) h.2 ∙ sym (append_assoc w h.0 r.1),
+  subst (λ (z : List ℕ). P z h.1)
+      (append_assoc u w h.0) h.3,
+  h.4,
+)
 
 digits_more : (base : ℕ) → 0 < base → (k cv : ℕ) (bs u : List ℕ) (value : ℕ) → forms.Digits base u value
     → cv ≡ capped value
@@ -89,18 +94,18 @@ digits_more base lt (suc k) cv bs u value h e = go (next_digit base bs) (is_next
 
     go : (o : Option (ℕ × List ℕ)) → IsNext base bs o
         → ((c : ℕ) (cs w : List ℕ) (n : ℕ) → forms.Digits base w n → c ≡ capped n → More (forms.Digits base) w cs
-            (digits_read k base c cs))
+        (digits_read k base c cs))
         → More (forms.Digits base) u bs
-            (digit_then o (cv, bs) (λ d rest. digits_read k base (add_digit base cv d) rest))
+        (digit_then o (cv, bs) (λ d rest. digits_read k base (add_digit base cv d) rest))
     go None n ih = no_more (forms.Digits base) u bs value cv h e
     go (Some read) (is, inl p) ih =
         step (forms.Digits base) u (read.0 ∷ []) bs read.1 _ p
-            (ih (add_digit base cv read.0) read.1 (u ++ read.0 ∷ []) (value * base + digit_of read.0)
-                (forms.Digits.next u value read.0 h is) (grows read.0))
+        (ih (add_digit base cv read.0) read.1 (u ++ read.0 ∷ []) (value * base + digit_of read.0)
+        (forms.Digits.next u value read.0 h is) (grows read.0))
     go (Some read) (is, inr p) ih =
         step (forms.Digits base) u (95 ∷ read.0 ∷ []) bs read.1 _ p
-            (ih (add_digit base cv read.0) read.1 (u ++ 95 ∷ read.0 ∷ []) (value * base + digit_of read.0)
-                (forms.Digits.marked u value read.0 h is) (grows read.0))
+        (ih (add_digit base cv read.0) read.1 (u ++ 95 ∷ read.0 ∷ []) (value * base + digit_of read.0)
+        (forms.Digits.marked u value read.0 h is) (grows read.0))
 
 pub small : (d : ℕ) → digit_of d ≡ capped (digit_of d)
 small d = let low : digit_of d ≤ 16 = grind arith in omega arith
@@ -124,11 +129,11 @@ plain_more cv (d ∷ bs) u value h e =
   where
     go : (t : Bool) → is_digit 10 d
         ≡ t → (forms.PlainDigits (u ++ d ∷ []) (value * 10 + digit_of d) → add_digit 10 cv d ≡ capped
-            (value * 10 + digit_of d) → More forms.PlainDigits (u ++ d ∷ []) bs (plain_from (add_digit 10 cv d) bs))
+        (value * 10 + digit_of d) → More forms.PlainDigits (u ++ d ∷ []) bs (plain_from (add_digit 10 cv d) bs))
         → More forms.PlainDigits u (d ∷ bs) (cond t (plain_from (add_digit 10 cv d) bs) (cv, d ∷ bs))
     go true is ih =
         step forms.PlainDigits u (d ∷ []) (d ∷ bs) bs _ refl
-            (ih (forms.PlainDigits.next u value d h is) (rw e (capped_digit 10 value d (omega arith))))
+        (ih (forms.PlainDigits.next u value d h is) (rw e (capped_digit 10 value d (omega arith))))
     go false is ih = no_more forms.PlainDigits u (d ∷ bs) value cv h e
 
 pub plain_found : (bs : List ℕ) → Found forms.PlainDigits bs (plain bs)
@@ -139,5 +144,5 @@ plain_found (d ∷ bs) = go (is_digit 10 d) refl
         → Found forms.PlainDigits (d ∷ bs) (cond t (Some (plain_from (digit_of d) bs)) None)
     go true is =
         step forms.PlainDigits [] (d ∷ []) (d ∷ bs) bs (plain_from (digit_of d) bs) refl
-            (plain_more (digit_of d) bs (d ∷ []) (digit_of d) (forms.PlainDigits.one d is) (small d))
+        (plain_more (digit_of d) bs (d ∷ []) (digit_of d) (forms.PlainDigits.one d is) (small d))
     go false is = tt

@@ -63,10 +63,10 @@ from_more : (base : ℕ) → 0 < base → base ≤ 16 → (v : ℕ) (w : List �
 from_more base lt le _ _ _ (More.end v) rest = refl
 from_more base lt le _ _ _ (More.digit v d w n is more) rest =
     sym (goes_on base (capped v) (d ∷ w ++ rest) d (w ++ rest) (digit_next base d (w ++ rest) is))
-        ∙ grown base v d (w ++ rest) lt ∙ from_more base lt le (v * base + digit_of d) w n more rest
+    ∙ grown base v d (w ++ rest) lt ∙ from_more base lt le (v * base + digit_of d) w n more rest
 from_more base lt le _ _ _ (More.after_mark v d w n is more) rest =
     sym (goes_on base (capped v) (95 ∷ d ∷ w ++ rest) d (w ++ rest) (mark_next base d (w ++ rest) le is))
-        ∙ grown base v d (w ++ rest) lt ∙ from_more base lt le (v * base + digit_of d) w n more rest
+    ∙ grown base v d (w ++ rest) lt ∙ from_more base lt le (v * base + digit_of d) w n more rest
 
 first_digit : (base d : ℕ) (bs : List ℕ) → is_digit base d ≡ true
     → digits base (d ∷ bs) ≡ Some (digits_from base (digit_of d) bs)
@@ -111,7 +111,7 @@ pub digits_to : (base : ℕ) → 0 < base → base ≤ 16 → (u : List ℕ) (n 
     → ReadTo n rest (digits base (u ++ rest))
 digits_to base lt le u n h rest =
     rw (digits_again base lt le u n h rest)
-        (read_shorter (length rest) base (capped n) rest, λ e. rw (e, from_nil) refl)
+    (read_shorter (length rest) base (capped n) rest, λ e. rw (e, from_nil) refl)
 
 -- ---- plain digits
 
@@ -141,7 +141,7 @@ plain_more : (v : ℕ) (w : List ℕ) (n : ℕ) → Plain v w n → (rest : List
 plain_more _ _ _ (Plain.end v) rest = refl
 plain_more _ _ _ (Plain.digit v d w n is more) rest =
     plain_on (capped v) d (w ++ rest) is ∙ ap (λ (c : ℕ). plain_from c (w ++ rest))
-        (capped_digit 10 v d (omega arith)) ∙ plain_more (v * 10 + digit_of d) w n more rest
+    (capped_digit 10 v d (omega arith)) ∙ plain_more (v * 10 + digit_of d) w n more rest
 
 first_plain : (d : ℕ) (bs : List ℕ) → is_digit 10 d ≡ true → plain (d ∷ bs) ≡ Some (plain_from (digit_of d) bs)
 first_plain d bs is = rw is refl

@@ -112,8 +112,15 @@ pub after_blanks : (bytes : List ℕ) (at : ℕ) (rest u : List ℕ) (P : List �
     → drop at bytes ≡ u ++ rest
     → AreBlanks u → P rest → place + length rest ≡ length bytes → IsAfterBlanks bytes at place P
 after_blanks bytes at rest u P place le e are h there =
-    record { before = u; rest = rest; parts = e; blanks = are; here = omega
-        (arith, length-drop at bytes, ap length e, length-append u rest); ahead = h }
+    record {
+      before = u;
+      rest = rest;
+      parts = e;
+      blanks = are;
+      here = omega
+          (arith, length-drop at bytes, ap length e, length-append u rest);
+      ahead = h;
+    }
 
 pub shorter : (bytes : List ℕ) (at : ℕ) (rest u : List ℕ) → drop at bytes ≡ u ++ rest
     → (length bytes - length rest) + length rest ≡ length bytes

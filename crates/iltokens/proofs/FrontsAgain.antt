@@ -154,7 +154,7 @@ number_reaches _ _ (IsNumber.plain u n h) rest =
     let e : u ++ rest ≡ k.0 ∷ (k.1 ++ rest) = ap (λ (z : List ℕ). z ++ rest) k.2 in
     subst (λ (z : List ℕ). Reaches (whats.Number (pos n)) rest (front_at z) (rest_at z)) (sym e)
     (plain_to n rest k.0 (k.1 ++ rest) k.3
-        (subst (λ (z : List ℕ). ReadTo n rest (unsigned z)) e (unsigned_to u n h rest)))
+    (subst (λ (z : List ℕ). ReadTo n rest (unsigned z)) e (unsigned_to u n h rest)))
 number_reaches _ _ (IsNumber.positive u n h) rest = positive_to n rest (unsigned (u ++ rest)) (unsigned_to u n h rest)
 number_reaches _ _ (IsNumber.negative u n h) rest = negative_to n rest (unsigned (u ++ rest)) (unsigned_to u n h rest)
 
@@ -183,7 +183,7 @@ name_short u rest read name f = go f.3.reads
     hashed q e =
         let whole : u ++ rest ≡ q ++ 35 ∷ (f.3.others ++ read.1) =
         f.2 ∙ ap (λ (z : List ℕ). z ++ read.1) (f.3.parts ∙ ap (λ (z : List ℕ). z ++ f.3.others) e) ∙ append_assoc
-            (q ++ 35 ∷ []) f.3.others read.1 ∙ append_assoc q (35 ∷ []) (f.3.others ++ read.1) in
+        (q ++ 35 ∷ []) f.3.others read.1 ∙ append_assoc q (35 ∷ []) (f.3.others ++ read.1) in
         let lt = before_hash u rest q (f.3.others ++ read.1) name whole in
         let le = size f.3.others read.1 in
         omega arith
@@ -246,11 +246,11 @@ unfolding word_at
 time_reaches u n h rest =
     let k = time_begins h.prefix h.reads in
     let e : u ++ rest ≡ k.0 ∷ ((k.1 ++ h.others) ++ rest) = ap (λ (z : List ℕ). z ++ rest)
-        (h.parts ∙ ap (λ (z : List ℕ). z ++ h.others) k.2) in
+    (h.parts ∙ ap (λ (z : List ℕ). z ++ h.others) k.2) in
     subst (λ (z : List ℕ). Reaches (whats.Time n) rest (front_at z) (rest_at z)) (sym e)
     (at_letter (whats.Time n) rest k.0 ((k.1 ++ h.others) ++ rest) k.3
     (limited_time n rest (k.0 ∷ ((k.1 ++ h.others) ++ rest)) (time (k.0 ∷ ((k.1 ++ h.others) ++ rest)))
-        (subst (λ (z : List ℕ). ReadTo n rest (time z)) e (time_to u n h rest))))
+    (subst (λ (z : List ℕ). ReadTo n rest (time z)) e (time_to u n h rest))))
 
 -- ---- addresses
 
@@ -264,7 +264,7 @@ limited_address kind bus place rest (Some p) h =
     go : (x y : Bool) → ltb p.bus (2 ^ 63) ≡ x → ltb p.place (2 ^ 63) ≡ y
         → (p.kind ≡ kind) × (p.bus ≡ capped bus) × (p.place ≡ capped place) → p.rest ≡ []
         → Limited (whats.Address kind bus place)
-            (cond (x && y) (taken (whats.Address p.kind p.bus p.place) p.rest) (fault BadNumber))
+        (cond (x && y) (taken (whats.Address p.kind p.bus p.place) p.rest) (fault BadNumber))
     go true true e f kept none =
         let one = ltb-true p.bus (2 ^ 63) e in
         let two = ltb-true p.place (2 ^ 63) f in
@@ -304,11 +304,11 @@ address_reaches u kind bus place h rest =
     let k = address_begins kind h.prefix h.reads in
     let others = (((k.0 ++ h.first) ++ codes ".") ++ h.second) ++ rest in
     let e : u ++ rest ≡ 37 ∷ others = ap (λ (z : List ℕ). z ++ rest)
-        (h.parts ∙ ap (λ (z : List ℕ). ((z ++ h.first) ++ codes ".") ++ h.second) k.1) in
+    (h.parts ∙ ap (λ (z : List ℕ). ((z ++ h.first) ++ codes ".") ++ h.second) k.1) in
     subst (λ (z : List ℕ). Reaches (whats.Address kind bus place) rest (front_at z) (rest_at z)) (sym e)
     (at_percent (whats.Address kind bus place) rest others
     (limited_address kind bus place rest (address (37 ∷ others))
-        (subst (λ (z : List ℕ). AddressTo kind bus place rest (address z)) e (address_to u kind bus place h rest))))
+    (subst (λ (z : List ℕ). AddressTo kind bus place rest (address z)) e (address_to u kind bus place h rest))))
 
 -- ---- marks
 
@@ -318,7 +318,7 @@ simple what rest w = (omega arith, λ z. inl (w, ap (taken what) z))
 -- a mark that goes on with one more byte, where this stands there
 either_mark : (what longer : What) (rest : List ℕ) (t : Bool) (b : ℕ) (bs : List ℕ) → IsWithin what → rest ≡ b ∷ bs
     → Reaches what rest (cond t (taken longer bs) (taken what rest))
-        (front_rest (cond t (taken longer bs) (taken what rest)))
+    (front_rest (cond t (taken longer bs) (taken what rest)))
 either_mark what longer rest true b bs w e =
     (let size = ap length e in omega arith, λ z. absurd (let bad = sym z ∙ e in cc))
 either_mark what longer rest false b bs w e = simple what rest w
@@ -336,7 +336,7 @@ ampersand_reaches : (rest : List ℕ)
 ampersand_reaches [] = simple (whats.Mark marks.Ampersand) [] tt
 ampersand_reaches (b ∷ bs) =
     either_mark (whats.Mark marks.Ampersand) (whats.Mark marks.AmpersandNot) (b ∷ bs)
-        ((eqb b 78) || (eqb b 110)) b bs tt refl
+    ((eqb b 78) || (eqb b 110)) b bs tt refl
 
 ampersand_not : (u : List ℕ) → Reads (codes "&n") u → (n : ℕ) × (u ≡ 38 ∷ n ∷ []) × (((eqb n 78) || (eqb n 110)) ≡ true)
 ampersand_not [] h = absurd cc
@@ -363,11 +363,11 @@ unfolding front_at mark_at is_digit
 reaches (whats.Keyword k) [] h rest = absurd h.0
 reaches (whats.Keyword k) (b ∷ w) h rest =
     at_letter (whats.Keyword k) rest b (w ++ rest) h.0.0
-        (word_reaches (whats.Keyword k) b w rest tt h.0.0 h.0.1 (keyword_kind (b ∷ w) k h.1))
+    (word_reaches (whats.Keyword k) b w rest tt h.0.0 h.0.1 (keyword_kind (b ∷ w) k h.1))
 reaches whats.Name [] h rest = absurd h.0
 reaches whats.Name (b ∷ w) h rest =
     at_letter whats.Name rest b (w ++ rest) h.0.0
-        (word_reaches whats.Name b w rest tt h.0.0 h.0.1 (name_kind (b ∷ w) h.1))
+    (word_reaches whats.Name b w rest tt h.0.0 h.0.1 (name_kind (b ∷ w) h.1))
 reaches (whats.Number n) u h rest = number_reaches u n h rest
 reaches (whats.Time n) u h rest = time_reaches u n h rest
 reaches (whats.Address kind bus place) u h rest = address_reaches u kind bus place h rest

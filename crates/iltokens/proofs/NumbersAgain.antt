@@ -51,10 +51,12 @@ digit_hash b bs (inr e) = rw e (8, ap (λ (r : ℕ × List ℕ). Some r) (stops_
 
 two_digits_hash : (bs : List ℕ) → (told : ℕ) × (digits 10 (49 ∷ 54 ∷ 35 ∷ bs) ≡ Some (told, 35 ∷ bs))
 unfolding is_digit
-two_digits_hash bs =
-    (_, ap (λ (r : ℕ × List ℕ). Some r)
-        (sym (goes_on 10 1 (54 ∷ 35 ∷ bs) 54 (35 ∷ bs)
-            (digit_next 10 54 (35 ∷ bs) refl)) ∙ stops_at 10 _ 35 bs refl refl))
+two_digits_hash bs = (
+  _,
+  ap (λ (r : ℕ × List ℕ). Some r)
+      (sym (goes_on 10 1 (54 ∷ 35 ∷ bs) 54 (35 ∷ bs)
+      (digit_next 10 54 (35 ∷ bs) refl)) ∙ stops_at 10 _ 35 bs refl refl),
+)
 
 module _ (n : ℕ) (rest : List ℕ) where
   based_then : (b : ℕ) (bs : List ℕ) (base : ℕ) → 0 < base → (b ≡ 50) ⊎ (b ≡ 56)
@@ -62,7 +64,7 @@ module _ (n : ℕ) (rest : List ℕ) where
   based_then b bs base lt is h =
       let k = digit_hash b bs is in
       further n (length bs) rest (digits base bs) (digits 10 (b ∷ 35 ∷ bs)) k.0 (35 ∷ bs) (digits_within base lt bs) k.1
-          (omega arith) h
+      (omega arith) h
 
   hexadecimal_then : (bs : List ℕ) → ReadTo n rest (digits 10 (49 ∷ 54 ∷ bs))
       → ReadTo n rest (option_or (hexadecimal bs) (digits 10 (49 ∷ 54 ∷ bs)))
@@ -75,7 +77,7 @@ module _ (n : ℕ) (rest : List ℕ) where
           let x = eqb-true b 35 is in
           let k = two_digits_hash bs in
           further n (length bs) rest (digits 16 bs) (digits 10 (49 ∷ 54 ∷ b ∷ bs)) k.0 (35 ∷ bs)
-              (digits_within 16 (omega arith) bs) (rw x k.1) (omega arith) h
+          (digits_within 16 (omega arith) bs) (rw x k.1) (omega arith) h
       go false is = h
 
   decimal_then : (bs : List ℕ) → ReadTo n rest (digits 10 bs) → ReadTo n rest (option_or (based bs) (digits 10 bs))
@@ -91,22 +93,22 @@ module _ (n : ℕ) (rest : List ℕ) where
           let x = eqb-true b 49 p.0 in
           let y = eqb-true c 54 p.1 in
           subst (λ (z : List ℕ). ReadTo n rest (option_or (hexadecimal bs) (digits 10 z)))
-              (ap (λ (d : ℕ). d ∷ 54 ∷ bs) (sym x) ∙ ap (λ (d : ℕ). b ∷ d ∷ bs) (sym y))
+          (ap (λ (d : ℕ). d ∷ 54 ∷ bs) (sym x) ∙ ap (λ (d : ℕ). b ∷ d ∷ bs) (sym y))
           (hexadecimal_then bs (subst (λ (z : List ℕ). ReadTo n rest (digits 10 z))
-              (ap (λ (d : ℕ). b ∷ d ∷ bs) y ∙ ap (λ (d : ℕ). d ∷ 54 ∷ bs) x) h))
+          (ap (λ (d : ℕ). b ∷ d ∷ bs) y ∙ ap (λ (d : ℕ). d ∷ 54 ∷ bs) x) h))
       sixteen false is = h
 
       hashed : (base : ℕ) → 0 < base → (b ≡ 50) ⊎ (b ≡ 56) → c ≡ 35
           → ReadTo n rest (option_or (digits base bs) (digits 10 (b ∷ c ∷ bs)))
       hashed base lt is y =
           subst (λ (z : List ℕ). ReadTo n rest (option_or (digits base bs) (digits 10 z)))
-              (ap (λ (d : ℕ). b ∷ d ∷ bs) (sym y))
+          (ap (λ (d : ℕ). b ∷ d ∷ bs) (sym y))
           (based_then b bs base lt is
-              (subst (λ (z : List ℕ). ReadTo n rest (digits 10 z)) (ap (λ (d : ℕ). b ∷ d ∷ bs) y) h))
+          (subst (λ (z : List ℕ). ReadTo n rest (digits 10 z)) (ap (λ (d : ℕ). b ∷ d ∷ bs) y) h))
 
       eight : (t : Bool) → ((eqb b 56) && (eqb c 35))
           ≡ t → ReadTo n rest (option_or (cond t (digits 8 bs) (cond ((eqb b 49) && (eqb c 54)) (hexadecimal bs) None))
-              (digits 10 (b ∷ c ∷ bs)))
+          (digits 10 (b ∷ c ∷ bs)))
       eight true is =
           let p = both (eqb b 56) (eqb c 35) is in
           hashed 8 (omega arith) (inr (eqb-true b 56 p.0)) (eqb-true c 35 p.1)
@@ -114,9 +116,9 @@ module _ (n : ℕ) (rest : List ℕ) where
 
       two : (t : Bool) → ((eqb b 50) && (eqb c 35))
           ≡ t → ReadTo n rest (option_or
-              (cond t (digits 2 bs)
-                  (cond ((eqb b 56) && (eqb c 35)) (digits 8 bs)
-                      (cond ((eqb b 49) && (eqb c 54)) (hexadecimal bs) None))) (digits 10 (b ∷ c ∷ bs)))
+          (cond t (digits 2 bs)
+          (cond ((eqb b 56) && (eqb c 35)) (digits 8 bs)
+          (cond ((eqb b 49) && (eqb c 54)) (hexadecimal bs) None))) (digits 10 (b ∷ c ∷ bs)))
       two true is =
           let p = both (eqb b 50) (eqb c 35) is in
           hashed 2 (omega arith) (inl (eqb-true b 50 p.0)) (eqb-true c 35 p.1)
@@ -155,8 +157,12 @@ kind_again kinds.OutputByte p rest h = rw (word_again (codes "%qb") p rest h) re
 kind_again kinds.InputWord p rest h =
     rw (word_other (codes "%qb") (codes "%iw") p rest h refl, word_again (codes "%iw") p rest h) refl
 kind_again kinds.InputBit p rest h =
-    rw (word_other (codes "%qb") (codes "%ix") p rest h refl, word_other (codes "%iw")
-        (codes "%ix") p rest h refl, word_again (codes "%ix") p rest h) refl
+    rw (
+      word_other (codes "%qb") (codes "%ix") p rest h refl,
+      word_other (codes "%iw")
+          (codes "%ix") p rest h refl,
+      word_again (codes "%ix") p rest h,
+    ) refl
 
 -- the address that is read: nothing of what stands after the spelling is left out, and where nothing stands there the
 -- numbers are these
@@ -180,13 +186,13 @@ pub address_to : (u : List ℕ) (kind : AddressKind) (bus place : ℕ) → IsAdd
 unfolding address
 address_to u kind bus place h rest =
     let whole : u ++ rest ≡ h.prefix ++ (h.first ++ (46 ∷ (h.second ++ rest))) = ap
-        (λ (z : List ℕ). z ++ rest) h.parts ∙ regroup h.prefix h.first h.second rest in
+    (λ (z : List ℕ). z ++ rest) h.parts ∙ regroup h.prefix h.first h.second rest in
     let read : address (u ++ rest) ≡ with_place kind (capped bus) (plain (h.second ++ rest)) =
     ap address whole ∙ ap with_kind (kind_again kind h.prefix (h.first ++ (46 ∷ (h.second ++ rest))) h.reads)
     ∙ ap (with_bus kind) (plain_again h.first bus h.on_bus (46 ∷ (h.second ++ rest)) ∙ ap (λ (r : ℕ × List ℕ). Some r)
-        (plain_stops (capped bus) (h.second ++ rest))) in
+    (plain_stops (capped bus) (h.second ++ rest))) in
     rw read (placed kind bus place (capped bus) rest (plain (h.second ++ rest)) refl
-        (plain_to h.second place h.at_place rest))
+    (plain_to h.second place h.at_place rest))
   where
     regroup : (p f s r : List ℕ) → (((p ++ f) ++ codes ".") ++ s) ++ r ≡ p ++ (f ++ (46 ∷ (s ++ r)))
     regroup p f s r = simp append_assoc

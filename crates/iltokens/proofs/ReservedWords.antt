@@ -28,12 +28,15 @@ row_found (k ∷ ks) text w e = go (str_eq_ignore_ascii_case k.0 text) refl e (r
   where
     go : (b : Bool) → str_eq_ignore_ascii_case k.0 text ≡ b → cond b (Some k.1) (lookup ks text) ≡ Some w
         → (lookup ks text ≡ Some w → (s : List ℕ) × Contains ks (s, w) ×
-            (map to_ascii_lowercase text ≡ map to_ascii_lowercase s))
+        (map to_ascii_lowercase text ≡ map to_ascii_lowercase s))
         → (s : List ℕ) × Contains (k ∷ ks) (s, w) × (map to_ascii_lowercase text ≡ map to_ascii_lowercase s)
     go true is e ih =
-        let same : k.1 ≡ w = cc in
-        (k.0, (0, omega arith, ap (λ (z : Keyword). (k.0, z)) same), sym
-            ((bytes_eq-Decides (map to_ascii_lowercase k.0) (map to_ascii_lowercase text)).0 is))
+        let same : k.1 ≡ w = cc in (
+          k.0,
+          (0, omega arith, ap (λ (z : Keyword). (k.0, z)) same),
+          sym
+              ((bytes_eq-Decides (map to_ascii_lowercase k.0) (map to_ascii_lowercase text)).0 is),
+        )
     go false is e ih = let f = ih e in (f.0, Contains-append_right (k ∷ []) ks (f.0, w) f.1, f.2)
 
 -- ---- what is spelled is found
@@ -59,7 +62,7 @@ unfolding keyword
 is_found text w h =
     alike_found reserved_words text h.spelling h.alike
     ∙ at_index (λ k. lookup reserved_words k.0) (λ k. Some k.1) reserved_words h.listed.0
-        (h.spelling, w) each_found h.listed.1 h.listed.2
+    (h.spelling, w) each_found h.listed.1 h.listed.2
 
 pub decided : (text : List ℕ) (o : Option Keyword) → o ≡ keyword text
     → MatchOption o ((w : Keyword) → IsSpelled text w → ⊥) (λ w. IsSpelled text w)

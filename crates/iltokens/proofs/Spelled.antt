@@ -33,7 +33,7 @@ hexadecimal_found (b ∷ bs) = go (eqb b 35) refl
     go true is =
         let x = eqb-true b 35 is in
         rw x (lifted (forms.Digits 16) IsUnsigned (codes "16#") bs (λ u n h. forms.IsUnsigned.hexadecimal u n h)
-            (digits 16 bs) (digits_found 16 (omega arith) bs))
+        (digits 16 bs) (digits_found 16 (omega arith) bs))
     go false is = tt
 
 based_found : (bs : List ℕ) → Found IsUnsigned bs (based bs)
@@ -54,16 +54,16 @@ based_found (b ∷ c ∷ bs) = two ((eqb b 50) && (eqb c 35)) refl
         → Found IsUnsigned (b ∷ c ∷ bs) (cond t (digits 8 bs) (cond ((eqb b 49) && (eqb c 54)) (hexadecimal bs) None))
     eight true is = let p = both (eqb b 56) (eqb c 35) is in let x = eqb-true b 56 p.0 in let y = eqb-true c 35 p.1 in
         rw (x, y) (lifted (forms.Digits 8) IsUnsigned (codes "8#") bs (λ u n h. forms.IsUnsigned.octal u n h)
-            (digits 8 bs) (digits_found 8 (omega arith) bs))
+        (digits 8 bs) (digits_found 8 (omega arith) bs))
     eight false is = sixteen ((eqb b 49) && (eqb c 54)) refl
 
     two : (t : Bool) → ((eqb b 50) && (eqb c 35))
         ≡ t → Found IsUnsigned (b ∷ c ∷ bs)
-            (cond t (digits 2 bs)
-                (cond ((eqb b 56) && (eqb c 35)) (digits 8 bs) (cond ((eqb b 49) && (eqb c 54)) (hexadecimal bs) None)))
+        (cond t (digits 2 bs)
+        (cond ((eqb b 56) && (eqb c 35)) (digits 8 bs) (cond ((eqb b 49) && (eqb c 54)) (hexadecimal bs) None)))
     two true is = let p = both (eqb b 50) (eqb c 35) is in let x = eqb-true b 50 p.0 in let y = eqb-true c 35 p.1 in
         rw (x, y) (lifted (forms.Digits 2) IsUnsigned (codes "2#") bs (λ u n h. forms.IsUnsigned.binary u n h)
-            (digits 2 bs) (digits_found 2 (omega arith) bs))
+        (digits 2 bs) (digits_found 2 (omega arith) bs))
     two false is = eight ((eqb b 56) && (eqb c 35)) refl
 
 either_found : (bs : List ℕ) (a b : Option (ℕ × List ℕ)) → Found IsUnsigned bs a → Found IsUnsigned bs b
@@ -79,7 +79,7 @@ pub unsigned_found : (bs : List ℕ) → Found IsUnsigned bs (unsigned bs)
 unfolding unsigned
 unsigned_found bs =
     either_found bs (based bs) (digits 10 bs) (based_found bs)
-        (as_decimal bs (digits 10 bs) (digits_found 10 (omega arith) bs))
+    (as_decimal bs (digits 10 bs) (digits_found 10 (omega arith) bs))
 
 -- ---- words
 
@@ -139,7 +139,7 @@ abbrev pub AddressAt : List ℕ → Option Place → Type 0
 AddressAt bs None = Unit {0}
 AddressAt bs (Some p) =
     (v : List ℕ) × (bus place : ℕ) × (bs ≡ v ++ p.rest) × forms.IsAddress v p.kind bus place × (p.bus ≡ capped bus) ×
-        (p.place ≡ capped place)
+    (p.place ≡ capped place)
 
 module _ (bs : List ℕ) (kind : AddressKind) (prefix numbers : List ℕ) (begins : bs ≡ prefix ++ numbers)
     (reads : Reads (forms.prefix_of kind) prefix) where

@@ -32,8 +32,13 @@ reaches_at bs u after what e h =
 
 is_longest : (bs v r : List ℕ) (what : What) → bs ≡ v ++ r → Spells what v → rest_at bs ≡ Some r → IsLongest bs v what
 is_longest bs v r what e h is =
-    record { after = r; parts = e; spells = h; longest = λ u after any f s. size u after any f
-        (subst (λ (o : Option (List ℕ)). Reaches any after (front_at bs) o) is (reaches_at bs u after any f s)) }
+    record {
+      after = r;
+      parts = e;
+      spells = h;
+      longest = λ u after any f s. size u after any f
+          (subst (λ (o : Option (List ℕ)). Reaches any after (front_at bs) o) is (reaches_at bs u after any f s));
+    }
   where
     size : (u after : List ℕ) (any : What) → bs ≡ u ++ after → Reaches any after (front_at bs) (Some r)
         → length u ≤ length v
@@ -49,7 +54,7 @@ spells_none bs is u after any e s =
 
 after_front : (bytes : List ℕ) (at : ℕ) (rest : List ℕ) (f : Front) (o : Option (List ℕ)) → at ≤ length bytes
     → Passed (drop at bytes) rest BeginsNoBlank → ((b : ℕ) (bs : List ℕ) → rest ≡ b ∷ bs → Fits b f)
-        → (rest ≡ [] → f ≡ end)
+    → (rest ≡ [] → f ≡ end)
     → rest_at rest ≡ o → Told rest f o → StandsNext bytes at (lexed_front (length bytes) rest f)
 after_front bytes at rest end None le p fits nil is t =
     after_blanks bytes at rest p.0 (λ r. r ≡ []) (length bytes) le p.1 p.2 t (rw t (omega arith))
@@ -62,16 +67,16 @@ after_front bytes at rest (taken what after) (Some r) le p fits nil is t =
     let same : length after ≡ length r = ap length t.1 in
     let to : length bytes - length after ≡ from + length t.0 = omega arith in
     after_blanks bytes at rest p.0
-        (λ z. BeginsNoBlank z × TokenStands what from (length bytes - length after) z) from le p.1 p.2
+    (λ z. BeginsNoBlank z × TokenStands what from (length bytes - length after) z) from le p.1 p.2
     (p.3, (t.0, to, is_longest rest t.0 r what t.2 t.3 is, t.4)) there
 after_front bytes at rest (fault NotAscii) None le p fits nil is t =
     after_blanks bytes at rest p.0 (BeginsWith (λ b. 128 ≤ b)) (length bytes - length rest) le p.1 p.2
-        (begins rest (λ b. 128 ≤ b) fits (λ e. let bad = nil e in cc)) (shorter bytes at rest p.0 p.1)
+    (begins rest (λ b. 128 ≤ b) fits (λ e. let bad = nil e in cc)) (shorter bytes at rest p.0 p.1)
 after_front bytes at rest (fault BadToken) None le p fits nil is t =
     after_blanks bytes at rest p.0 (λ r. BeginsNoBlank r × BeginsWith (λ b. b < 128) r × SpellsNone r)
-        (length bytes - length rest) le p.1 p.2
+    (length bytes - length rest) le p.1 p.2
     (p.3, begins rest (λ b. b < 128) fits (λ e. let bad = nil e in cc), spells_none rest is)
-        (shorter bytes at rest p.0 p.1)
+    (shorter bytes at rest p.0 p.1)
 after_front bytes at rest (fault BadNumber) (Some r) le p fits nil is t =
     after_blanks bytes at rest p.0 (λ z. BeginsNoBlank z × OutsideStands z) (length bytes - length rest) le p.1 p.2
     (p.3, (t.0, t.1, is_longest rest t.0 r t.1 t.2 t.3 is, t.4)) (shorter bytes at rest p.0 p.1)
@@ -89,11 +94,11 @@ token_told bytes at le = go (blanks (drop at bytes)) (blanks_are (drop at bytes)
         → StandsNext bytes at (lexed_blanks (length bytes) r)
     go (Ok rest) p =
         after_front bytes at rest (front_at rest) (rest_at rest) le p
-            (λ b bs e. subst (λ (z : List ℕ). Fits b (front_at z)) (sym e) (front_fits b bs))
-            (λ e. ap front_at e ∙ front_nil) refl (front_told rest)
+        (λ b bs e. subst (λ (z : List ℕ). Fits b (front_at z)) (sym e) (front_fits b bs))
+        (λ e. ap front_at e ∙ front_nil) refl (front_told rest)
     go (Err rest) p =
         after_blanks bytes at rest p.0 OpensComment (length bytes - length rest) le p.1 p.2 p.3
-            (shorter bytes at rest p.0 p.1)
+        (shorter bytes at rest p.0 p.1)
 
 -- ---- nothing else is
 
@@ -120,11 +125,11 @@ same_front : (bs front v r : List ℕ) (what other : What) → (l : IsLongest bs
     → (v ≡ front) × (r ≡ l.after)
 same_front bs front v r what other l e h is =
     let k = subst (λ (o : Option (List ℕ)). Reaches what l.after (front_at bs) o) is
-        (reaches_at bs front l.after what l.parts l.spells) in
+    (reaches_at bs front l.after what l.parts l.spells) in
     let less = k.0 in
     let more = l.longest v r other e h in
     same_size v front r l.after (sym e ∙ l.parts)
-        (omega (arith, ap length e, ap length l.parts, length-append v r, length-append front l.after))
+    (omega (arith, ap length e, ap length l.parts, length-append v r, length-append front l.after))
 
 no_rest : (bs front : List ℕ) (what : What) → IsLongest bs front what → rest_at bs ≡ None → ⊥
 no_rest bs front what l is = spells_none bs is front l.after what l.parts l.spells
@@ -158,7 +163,7 @@ module _ (bs front : List ℕ) (what : What) (l : IsLongest bs front what) where
   is_token within (fault BadNumber) None is t = absurd t
   is_token within (fault BadNumber) (Some r) is t =
       absurd (let k = moved t.1 t.0 r t.2 t.3 is in one_limit what t.1 (front_at front) within t.4
-          (whole what front l.spells) k.0)
+      (whole what front l.spells) k.0)
   is_token within (fault NotAscii) None is t = absurd (no_rest bs front what l is)
   is_token within (fault NotAscii) (Some r) is t = absurd t
   is_token within (fault BadToken) None is t = absurd (no_rest bs front what l is)
@@ -173,7 +178,7 @@ module _ (bs front : List ℕ) (what : What) (l : IsLongest bs front what) where
   is_outside outside (taken other rest) None is t = absurd t
   is_outside outside (taken other rest) (Some r) is t =
       absurd (let k = moved other t.0 r t.2 t.3 is in one_limit other what (front_at front) t.4 outside k.0
-          (whole what front l.spells))
+      (whole what front l.spells))
   is_outside outside (fault BadNumber) o is t = refl
   is_outside outside (fault NotAscii) None is t = absurd (no_rest bs front what l is)
   is_outside outside (fault NotAscii) (Some r) is t = absurd t
@@ -254,14 +259,14 @@ module _ (bytes : List ℕ) (at : ℕ) (le : at ≤ length bytes) where
   unfolding token_at
   at_rest u rest e are h =
       ap (λ (z : List ℕ). lexed_blanks (length bytes) (blanks z)) e ∙ ap (lexed_blanks (length bytes))
-          (blanks_end u rest are h)
+      (blanks_end u rest are h)
 
   at_open : (u rest : List ℕ) → drop at bytes ≡ u ++ rest → AreBlanks u → OpensComment rest
       → token_at bytes at ≡ lexed.Fault CommentOpen (length bytes - length rest)
   unfolding token_at
   at_open u rest e are h =
       ap (λ (z : List ℕ). lexed_blanks (length bytes) (blanks z)) e ∙ ap (lexed_blanks (length bytes))
-          (blanks_open u rest are h)
+      (blanks_open u rest are h)
 
   high_front : (rest : List ℕ) → BeginsWith (λ b. 128 ≤ b) rest → BeginsNoBlank rest × (front_at rest ≡ fault NotAscii)
   high_front [] h = absurd h
@@ -281,35 +286,35 @@ module _ (bytes : List ℕ) (at : ℕ) (le : at ≤ length bytes) where
       let t = h.ahead.1 in
       let begun = there from h.before h.rest h.parts h.here in
       let front : front_at h.rest ≡ taken what t.2.after = is_token h.rest t.0 what t.2 t.3 (front_at h.rest)
-          (rest_at h.rest) refl (front_told h.rest) in
+      (rest_at h.rest) refl (front_told h.rest) in
       let size = shorter bytes at h.rest h.before h.parts in
       let ended : length bytes - length t.2.after ≡ to = omega
-          (arith, ap length t.2.parts, length-append t.0 t.2.after, t.1) in
+      (arith, ap length t.2.parts, length-append t.0 t.2.after, t.1) in
       sym (at_rest h.before h.rest h.parts h.blanks h.ahead.0 ∙ ap (lexed_front (length bytes) h.rest) front ∙ ap
-          (λ (n : ℕ). lexed.Token what n (length bytes - length t.2.after)) begun ∙ ap
-              (λ (n : ℕ). lexed.Token what from n) ended)
+      (λ (n : ℕ). lexed.Token what n (length bytes - length t.2.after)) begun ∙ ap
+      (λ (n : ℕ). lexed.Token what from n) ended)
   token_only lexed.End h =
       let none = h.ahead in
       sym (at_rest h.before h.rest h.parts h.blanks (rw none tt) ∙ ap
-          (λ (z : List ℕ). lexed_front (length bytes) z (front_at z)) none ∙ ap
-              (lexed_front (length bytes) []) front_nil)
+      (λ (z : List ℕ). lexed_front (length bytes) z (front_at z)) none ∙ ap
+      (lexed_front (length bytes) []) front_nil)
   token_only (lexed.Fault CommentOpen place) h =
       sym (at_open h.before h.rest h.parts h.blanks h.ahead ∙ ap (λ (n : ℕ). lexed.Fault CommentOpen n)
-          (there place h.before h.rest h.parts h.here))
+      (there place h.before h.rest h.parts h.here))
   token_only (lexed.Fault NotAscii place) h =
       let k = high_front h.rest h.ahead in
       sym (at_rest h.before h.rest h.parts h.blanks k.0 ∙ ap (lexed_front (length bytes) h.rest) k.1 ∙ ap
-          (λ (n : ℕ). lexed.Fault NotAscii n) (there place h.before h.rest h.parts h.here))
+      (λ (n : ℕ). lexed.Fault NotAscii n) (there place h.before h.rest h.parts h.here))
   token_only (lexed.Fault BadToken place) h =
       sym (at_rest h.before h.rest h.parts h.blanks h.ahead.0 ∙ ap (lexed_front (length bytes) h.rest)
-          (low_front h.rest h.ahead.1 h.ahead.2) ∙ ap (λ (n : ℕ). lexed.Fault BadToken n)
-              (there place h.before h.rest h.parts h.here))
+      (low_front h.rest h.ahead.1 h.ahead.2) ∙ ap (λ (n : ℕ). lexed.Fault BadToken n)
+      (there place h.before h.rest h.parts h.here))
   token_only (lexed.Fault BadNumber place) h =
       let t = h.ahead.1 in
       let front : front_at h.rest ≡ fault BadNumber = is_outside h.rest t.0 t.1 t.2 t.3 (front_at h.rest)
-          (rest_at h.rest) refl (front_told h.rest) in
+      (rest_at h.rest) refl (front_told h.rest) in
       sym (at_rest h.before h.rest h.parts h.blanks h.ahead.0 ∙ ap (lexed_front (length bytes) h.rest) front ∙ ap
-          (λ (n : ℕ). lexed.Fault BadNumber n) (there place h.before h.rest h.parts h.here))
+      (λ (n : ℕ). lexed.Fault BadNumber n) (there place h.before h.rest h.parts h.here))
 
 -- one answer is told of a place
 pub one_told : (bytes : List ℕ) (at : ℕ) → at ≤ length bytes → (a b : Lexed) → StandsNext bytes at a
@@ -323,5 +328,12 @@ ends_within bytes at what from to le h =
     let t = h.ahead.1 in
     let here = h.here in
     let ended = t.1 in
-    omega (arith, length-drop at bytes, ap length h.parts, length-append h.before h.rest, ap length
-        t.2.parts, length-append t.0 t.2.after)
+    omega (
+      arith,
+      length-drop at bytes,
+      ap length h.parts,
+      length-append h.before h.rest,
+      ap length
+          t.2.parts,
+      length-append t.0 t.2.after,
+    )

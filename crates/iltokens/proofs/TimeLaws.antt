@@ -82,7 +82,7 @@ abbrev GoodWhen : Bool → ℕ → List ℕ → ℕ → List ℕ → Type 0
 GoodWhen false limit bs total rest = (rest ≡ bs) × (total ≡ 0)
 GoodWhen true limit bs total rest =
     (v : List ℕ) × (value least : ℕ) × (bs ≡ v ++ rest) × AreParts least v value × (total ≡ capped value) ×
-        (limit ≤ least)
+    (limit ≤ least)
 
 abbrev Good : ℕ → List ℕ → Parts → Type 0
 Good limit bs p = GoodWhen p.some limit bs p.total p.rest
@@ -161,7 +161,7 @@ module _ (unit : Unit) (limit : ℕ) (lt : milliseconds unit < limit) (bs : List
   unfolding with_part parts_begin
   step p h =
       one_part p.some p.total p.rest h (part unit (after_mark p.some p.rest))
-          (part_found unit (after_mark p.some p.rest))
+      (part_found unit (after_mark p.some p.rest))
 
 all_good : (bs : List ℕ) → Good 1 bs (parts bs)
 unfolding parts
@@ -203,7 +203,7 @@ pub time_found : (bs : List ℕ) → Found IsTime bs (time bs)
 unfolding time after_prefix
 time_found bs =
     go (after_prefix bs) (prefix_either bs (after_word (codes "t#") bs) (after_word (codes "time#") bs)
-        (word_found (codes "t#") bs) (word_found (codes "time#") bs))
+    (word_found (codes "t#") bs) (word_found (codes "time#") bs))
   where
     go : (o : Option (List ℕ)) → PrefixAt bs o → Found IsTime bs (time_after o)
     go None h = tt

@@ -66,7 +66,7 @@ minute_second : (word rest : List ℕ) → Reads (codes "s") word → after_unit
 unfolding after_unit
 minute_second word rest h =
     none_after _ _ (word_other (codes "ms") (codes "s") word rest h refl)
-        (word_other (codes "m") (codes "s") word rest h refl)
+    (word_other (codes "m") (codes "s") word rest h refl)
 
 -- `m` before `s` isn't a minute
 minute_milli : (word rest : List ℕ) → Reads (codes "ms") word → after_unit units.Minute (word ++ rest) ≡ None
@@ -152,17 +152,17 @@ count_again x number word rest count h reads =
     let other = letter_no_digit k.0 k.3 in
     digits_again 10 (omega arith) (omega arith) number count h (word ++ rest)
     ∙ ap (λ (r : ℕ × List ℕ). Some r)
-        (ap (λ (z : List ℕ). digits_from 10 (capped count) z) k.2 ∙ stops_at 10
-            (capped count) k.0 k.1 other.0 other.1 ∙ ap (λ (z : List ℕ). (capped count, z)) (sym k.2))
+    (ap (λ (z : List ℕ). digits_from 10 (capped count) z) k.2 ∙ stops_at 10
+    (capped count) k.0 k.1 other.0 other.1 ∙ ap (λ (z : List ℕ). (capped count, z)) (sym k.2))
 
 part_is : (x y : Unit) (u rest : List ℕ) (n : ℕ) → (h : IsPart y u n)
     → part x (u ++ rest) ≡ scaled x (capped h.count) (after_unit x (h.word ++ rest))
 unfolding part
 part_is x y u rest n h =
     let e : u ++ rest ≡ h.number ++ (h.word ++ rest) = ap
-        (λ (z : List ℕ). z ++ rest) h.parts ∙ append_assoc h.number h.word rest in
+    (λ (z : List ℕ). z ++ rest) h.parts ∙ append_assoc h.number h.word rest in
     ap (λ (z : List ℕ). with_unit x (digits 10 z)) e ∙ ap (λ (o : Option (ℕ × List ℕ)). with_unit x o)
-        (count_again y h.number h.word rest h.count h.digits h.reads)
+    (count_again y h.number h.word rest h.count h.digits h.reads)
 
 part_none : (x y : Unit) (u rest : List ℕ) (n : ℕ) → Apart x y → IsPart y u n → part x (u ++ rest) ≡ None
 part_none x y u rest n apart h =
@@ -173,7 +173,7 @@ part_some : (x : Unit) (u rest : List ℕ) (n : ℕ) → (h : IsPart x u n) → 
 part_some x u rest n h own =
     part_is x x u rest n h ∙ ap (λ (o : Option (List ℕ)). scaled x (capped h.count) o) own
     ∙ ap (λ (c : ℕ). Some (c, rest))
-        (times_capped h.count (milliseconds x) (scale_grows x h.count) (some_time x) ∙ ap capped (sym h.scaled))
+    (times_capped h.count (milliseconds x) (scale_grows x h.count) (some_time x) ∙ ap capped (sym h.scaled))
 
 -- ---- marks between parts
 
@@ -189,8 +189,8 @@ part_unmarked : (x : Unit) (some : Bool) (u rest : List ℕ) (n : ℕ) → IsPar
 part_unmarked x some u rest n h =
     let k = begun 10 h.number h.count h.digits in
     let e : u ++ rest ≡ k.0 ∷ (k.1 ++ (h.word ++ rest)) = ap (λ (z : List ℕ). z ++ rest)
-        (h.parts ∙ ap (λ (z : List ℕ). z ++ h.word) k.2) ∙ ap (λ (z : List ℕ). k.0 ∷ z)
-        (append_assoc k.1 h.word rest) in
+    (h.parts ∙ ap (λ (z : List ℕ). z ++ h.word) k.2) ∙ ap (λ (z : List ℕ). k.0 ∷ z)
+    (append_assoc k.1 h.word rest) in
     let unmarked : eqb k.0 95 ≡ false = digit_unmarked k.0 k.3 in
     rw e (rw unmarked refl)
 
@@ -227,10 +227,10 @@ blocked x [] apart some w n h = inl h
 blocked x (y ∷ us) apart some w n (inl h) = blocked x us apart.1 some w n h
 blocked x (y ∷ us) apart some w n (inr t) = inr (λ rest.
     let e : w ++ rest ≡ (t.lead ++ t.here) ++ (t.others ++ rest) = ap (λ (z : List ℕ). z ++ rest) t.parts ∙ append_assoc
-        (t.lead ++ t.here) t.others rest in
+    (t.lead ++ t.here) t.others rest in
     ap (λ (z : List ℕ). part x (after_mark some z)) e ∙ ap (part x)
-        (led y some t.lead t.here (t.others ++ rest) t.first t.mark t.is) ∙ part_none x y t.here
-        (t.others ++ rest) t.first apart.0 t.is)
+    (led y some t.lead t.here (t.others ++ rest) t.first t.mark t.is) ∙ part_none x y t.here
+    (t.others ++ rest) t.first apart.0 t.is)
 
 -- ---- reading them
 
@@ -276,8 +276,8 @@ part_less x bs read e = go (subst (λ (o : Option (ℕ × List ℕ)). Found (IsP
     go f =
         let k = begun 10 f.3.number f.3.count f.3.digits in
         let whole : bs ≡ k.0 ∷ (k.1 ++ (f.3.word ++ read.1)) = f.2 ∙ ap (λ (z : List ℕ). z ++ read.1)
-            (f.3.parts ∙ ap (λ (z : List ℕ). z ++ f.3.word) k.2) ∙ ap (λ (z : List ℕ). k.0 ∷ z)
-            (append_assoc k.1 f.3.word read.1) in
+        (f.3.parts ∙ ap (λ (z : List ℕ). z ++ f.3.word) k.2) ∙ ap (λ (z : List ℕ). k.0 ∷ z)
+        (append_assoc k.1 f.3.word read.1) in
         rw whole (tail_size k.1 f.3.word read.1)
 
 -- where a part stands already, what is read is no more than what is there
@@ -297,13 +297,13 @@ goes_on (x ∷ us) told rest = go (part x (after_mark true rest)) refl (λ n bs.
         let marked = mark_shorter true rest in
         let h = ih (min (told + read.0) (2 ^ 64 - 1)) read.1 in
         subst (λ (p : Parts). Goes rest told p) (sym (reads_one x us told true rest read e))
-            (h.0, (let le = h.1 in omega arith), (λ n. absurd (let z : length rest ≡ 0 = ap length n in omega arith)))
+        (h.0, (let le = h.1 in omega arith), (λ n. absurd (let z : length rest ≡ 0 = ap length n in omega arith)))
 
 -- what follows these units' parts is read in their order
 abbrev Reached : List Unit → Type 0
 Reached us =
     (some : Bool) (w : List ℕ) (n told total : ℕ) (rest : List ℕ) → Falling some us w n → told ≡ capped total
-        → Ends (total + n) rest (run us (state told some (w ++ rest)))
+    → Ends (total + n) rest (run us (state told some (w ++ rest)))
 
 reached_none : Reached []
 reached_none some w n told total rest h e = (h.0, rw h.1 (omega arith), λ z. (let f = h.2 in omega arith))
@@ -326,27 +326,27 @@ reached_skip x us apart ih some w n told total rest h e = go (blocked x us apart
     go (inl nothing) = nothing_left (x ∷ us) some w n told total rest nothing e
     go (inr stops) =
         subst (λ (p : Parts). Ends (total + n) rest p) (sym (skips x us told some (w ++ rest) (stops rest)))
-            (ih some w n told total rest h e)
+        (ih some w n told total rest h e)
 
 -- one unit more, whose part is read
 reached_take : (x : Unit) (us : List Unit) → Reached us → (some : Bool) (w : List ℕ) (n told total : ℕ) (rest : List ℕ)
     → (t : Takes some x (λ v b. Falling true us v b) w n)
-        → after_unit x (t.is.word ++ (t.others ++ rest)) ≡ Some (t.others ++ rest) → told ≡ capped total
+    → after_unit x (t.is.word ++ (t.others ++ rest)) ≡ Some (t.others ++ rest) → told ≡ capped total
     → Ends (total + n) rest (run (x ∷ us) (state told some (w ++ rest)))
 reached_take x us ih some w n told total rest t own e =
     let whole : w ++ rest ≡ (t.lead ++ t.here) ++ (t.others ++ rest) = ap
-        (λ (z : List ℕ). z ++ rest) t.parts ∙ append_assoc (t.lead ++ t.here) t.others rest in
+    (λ (z : List ℕ). z ++ rest) t.parts ∙ append_assoc (t.lead ++ t.here) t.others rest in
     let read : part x (after_mark some (w ++ rest)) ≡ Some (capped t.first, t.others ++ rest) =
     ap (λ (z : List ℕ). part x (after_mark some z)) whole ∙ ap (part x)
-        (led x some t.lead t.here (t.others ++ rest) t.first t.mark t.is) ∙ part_some x t.here
-        (t.others ++ rest) t.first t.is own in
+    (led x some t.lead t.here (t.others ++ rest) t.first t.mark t.is) ∙ part_some x t.here
+    (t.others ++ rest) t.first t.is own in
     let kept : min (told + capped t.first) (2 ^ 64 - 1) ≡ capped (total + t.first) = summed told
-        (capped t.first) total t.first e refl in
+    (capped t.first) total t.first e refl in
     let h = ih true t.others t.sum (min (told + capped t.first) (2 ^ 64 - 1)) (total + t.first) rest t.more kept in
     let sums : (total + t.first) + t.sum ≡ total + n = (let s = t.total in omega arith) in
     subst (λ (p : Parts). Ends (total + n) rest p)
-        (sym (reads_one x us told some (w ++ rest) (capped t.first, t.others ++ rest) read))
-        (h.0, h.1, λ z. h.2 z ∙ ap capped sums)
+    (sym (reads_one x us told some (w ++ rest) (capped t.first, t.others ++ rest) read))
+    (h.0, h.1, λ z. h.2 z ∙ ap capped sums)
 
 reached_unit : (x : Unit) (us : List Unit) → AllApart x us → Own x → Reached us → Reached (x ∷ us)
 reached_unit x us apart own ih some w n told total rest (inl h) e =
@@ -380,13 +380,13 @@ begins_no_second (x ∷ us) w rest n (inr t) s = absurd (never t.mark)
         let k = begun 10 t.is.number t.is.count t.is.digits in
         let first : t.here ≡ k.0 ∷ (k.1 ++ t.is.word) = t.is.parts ∙ ap (λ (z : List ℕ). z ++ t.is.word) k.2 in
         let both : s.0 ∷ s.1 ≡ k.0 ∷ ((k.1 ++ t.is.word) ++ (t.others ++ rest)) = sym s.2 ∙ whole ∙ ap
-            (λ (z : List ℕ). (z ++ t.here) ++ (t.others ++ rest)) e ∙ ap
-            (λ (z : List ℕ). z ++ (t.others ++ rest)) first in
+        (λ (z : List ℕ). (z ++ t.here) ++ (t.others ++ rest)) e ∙ ap
+        (λ (z : List ℕ). z ++ (t.others ++ rest)) first in
         let same : s.0 ≡ k.0 = cc (both) in
         no_digit s.0 s.3 (rw same k.3)
     never (inr (is, e)) =
         let both : s.0 ∷ s.1 ≡ 95 ∷ (t.here ++ (t.others ++ rest)) = sym s.2 ∙ whole ∙ ap
-            (λ (z : List ℕ). (z ++ t.here) ++ (t.others ++ rest)) e in
+        (λ (z : List ℕ). (z ++ t.here) ++ (t.others ++ rest)) e in
         let same : s.0 ≡ 95 = cc (both) in
         no_mark s.0 s.3 same
 
@@ -425,9 +425,9 @@ reached_minutes some w n told total rest (inr t) e = go (own_minute t.is.word (t
             → ((t.lead ++ t.here) ++ []) ++ (c ∷ others) ≡ (t.lead ++ (t.here ++ c ∷ [])) ++ others
         regroup c others =
             ap (λ (z : List ℕ). z ++ (c ∷ others)) (append-nil (t.lead ++ t.here)) ∙ append_assoc t.lead t.here
-                (c ∷ others)
+            (c ∷ others)
             ∙ sym (append_assoc t.lead (t.here ++ c ∷ []) others ∙ ap (λ (z : List ℕ). t.lead ++ z)
-                (append_assoc t.here (c ∷ []) others))
+            (append_assoc t.here (c ∷ []) others))
 
         -- what is read then ends behind the s
         instead : t.others ≡ [] → Ends (total + n) rest (run (below units.Hour) (state told some (w ++ rest)))
@@ -451,15 +451,21 @@ reached_minutes some w n told total rest (inr t) e = go (own_minute t.is.word (t
               more = (refl, refl, refl);
             })) in
             let h = reached_skip units.Minute (below units.Minute) minute_apart reached_seconds some
-                (t.lead ++ (t.here ++ s.0 ∷ [])) (t.is.count * 1 + 0) told total s.1 millis e in
-            rw whole (h.0, (let le = h.1 in let size : length rest ≡ suc
-                (length s.1) = ap length follows in omega arith), λ z. absurd (let bad = sym z ∙ follows in cc))
+            (t.lead ++ (t.here ++ s.0 ∷ [])) (t.is.count * 1 + 0) told total s.1 millis e in
+            rw whole (
+              h.0,
+              (let le = h.1 in let size : length rest ≡ suc
+                  (length s.1) = ap length follows in omega arith),
+              λ z. absurd (let bad = sym z ∙ follows in cc),
+            )
 
 hours_apart : AllApart units.Hour (below units.Hour)
 hours_apart = (
   (λ word rest h. hour_apart units.Minute word rest h (omega arith)),
-  ((λ word rest h. hour_apart units.Second word rest h (omega arith)),
-      ((λ word rest h. hour_apart units.Millisecond word rest h (omega arith)), tt)),
+  (
+    (λ word rest h. hour_apart units.Second word rest h (omega arith)),
+    ((λ word rest h. hour_apart units.Millisecond word rest h (omega arith)), tt),
+  ),
 )
 
 days_apart : AllApart units.Day (below units.Day)
@@ -467,8 +473,10 @@ days_apart = (
   (λ word rest h. day_apart units.Hour word rest h (omega arith)),
   (
     (λ word rest h. day_apart units.Minute word rest h (omega arith)),
-    ((λ word rest h. day_apart units.Second word rest h (omega arith)),
-        ((λ word rest h. day_apart units.Millisecond word rest h (omega arith)), tt)),
+    (
+      (λ word rest h. day_apart units.Second word rest h (omega arith)),
+      ((λ word rest h. day_apart units.Millisecond word rest h (omega arith)), tt),
+    ),
   ),
 )
 
@@ -507,12 +515,15 @@ from_first units.Millisecond w n h = inl (inl (inl (inl h)))
 abbrev Opens : ℕ → List ℕ → ℕ → Type 0
 Opens least v n =
     (y : Unit) × (least ≡ milliseconds y) ×
-        ((w : List ℕ) (m : ℕ) → Falling true (below y) w m → Falling false all_units (v ++ w) (n + m))
+    ((w : List ℕ) (m : ℕ) → Falling true (below y) w m → Falling false all_units (v ++ w) (n + m))
 
 opens : (least : ℕ) (v : List ℕ) (n : ℕ) → AreParts least v n → Opens least v n
-opens _ _ _ (AreParts.first unit u n is) =
-    (unit, refl, λ w m more. from_first unit (u ++ w) (n + m)
-        (inr (record { lead = []; here = u; others = w; first = n; sum = m; parts = refl; total = refl; mark = inl refl; is = is; more = more })))
+opens _ _ _ (AreParts.first unit u n is) = (
+  unit,
+  refl,
+  λ w m more. from_first unit (u ++ w) (n + m)
+      (inr (record { lead = []; here = u; others = w; first = n; sum = m; parts = refl; total = refl; mark = inl refl; is = is; more = more })),
+)
 opens _ _ _ (AreParts.then least v m unit u n h lt is) =
     let k = opens least v m h in (
       unit,
@@ -521,7 +532,7 @@ opens _ _ _ (AreParts.then least v m unit u n h lt is) =
           let later = k.2 (u ++ w) (n + j) (suffix k.0 unit (let e = k.1 in omega arith) (u ++ w) (n + j)
           (inr (record { lead = []; here = u; others = w; first = n; sum = j; parts = refl; total = refl; mark = inl refl; is = is; more = more }))) in
           subst (λ (z : List ℕ). Falling false all_units z ((m + n) + j)) (sym (append_assoc v u w))
-              (subst (λ (s : ℕ). Falling false all_units (v ++ (u ++ w)) s) (omega arith) later),
+          (subst (λ (s : ℕ). Falling false all_units (v ++ (u ++ w)) s) (omega arith) later),
     )
 opens _ _ _ (AreParts.apart least v m unit u n h lt is) =
     let k = opens least v m h in (
@@ -531,7 +542,7 @@ opens _ _ _ (AreParts.apart least v m unit u n h lt is) =
           let later = k.2 (95 ∷ u ++ w) (n + j) (suffix k.0 unit (let e = k.1 in omega arith) (95 ∷ u ++ w) (n + j)
           (inr (record { lead = 95 ∷ []; here = u; others = w; first = n; sum = j; parts = refl; total = refl; mark = inr (refl, refl); is = is; more = more }))) in
           subst (λ (z : List ℕ). Falling false all_units z ((m + n) + j)) (sym (append_assoc v (95 ∷ u) w))
-              (subst (λ (s : ℕ). Falling false all_units (v ++ (95 ∷ u ++ w)) s) (omega arith) later),
+          (subst (λ (s : ℕ). Falling false all_units (v ++ (95 ∷ u ++ w)) s) (omega arith) later),
     )
 
 ends_none : (us : List Unit) → Falling true us [] 0
@@ -543,7 +554,7 @@ falls least v n h =
     let k = opens least v n h in
     let f = k.2 [] 0 (ends_none (below k.0)) in
     subst (λ (z : List ℕ). Falling false all_units z n) (append-nil v)
-        (subst (λ (s : ℕ). Falling false all_units (v ++ []) s) (omega arith) f)
+    (subst (λ (s : ℕ). Falling false all_units (v ++ []) s) (omega arith) f)
 
 -- ---- the whole duration
 
@@ -565,8 +576,8 @@ pub time_to : (u : List ℕ) (n : ℕ) → IsTime u n → (rest : List ℕ) → 
 unfolding time
 time_to u n h rest =
     let whole : u ++ rest ≡ h.prefix ++ (h.others ++ rest) = ap
-        (λ (z : List ℕ). z ++ rest) h.parts ∙ append_assoc h.prefix h.others rest in
+    (λ (z : List ℕ). z ++ rest) h.parts ∙ append_assoc h.prefix h.others rest in
     let ends = reached_all false h.others n 0 0 rest (falls h.least h.others n h.are) refl in
     let same : Ends n rest (parts (h.others ++ rest)) = rw (parts_are (h.others ++ rest))
-        (ends.0, ends.1, λ z. ends.2 z ∙ (omega arith)) in
+    (ends.0, ends.1, λ z. ends.2 z ∙ (omega arith)) in
     rw whole (rw (prefix_again h.prefix (h.others ++ rest) h.reads) (some_read n rest (parts (h.others ++ rest)) same))

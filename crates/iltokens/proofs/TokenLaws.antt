@@ -72,9 +72,14 @@ positive_front w bs make (Some read) h = go (ltb read.0 (2 ^ 63)) refl
         → Told (w ++ bs) (in_limits (cond t (Some (pos read.0)) None) read.1) (Some read.1)
     go true is =
         let lt = ltb-true read.0 (2 ^ 63) is in
-        let same : h.1 ≡ read.0 = exactly read.0 h.1 (2 ^ 63) h.4 (omega arith) (omega arith) in
-        (w ++ h.0, refl, parts, subst (λ (n : ℕ). IsNumber (w ++ h.0) (pos n)) same
-            (make h.0 h.1 h.3), fits_pos read.0 lt)
+        let same : h.1 ≡ read.0 = exactly read.0 h.1 (2 ^ 63) h.4 (omega arith) (omega arith) in (
+          w ++ h.0,
+          refl,
+          parts,
+          subst (λ (n : ℕ). IsNumber (w ++ h.0) (pos n)) same
+              (make h.0 h.1 h.3),
+          fits_pos read.0 lt,
+        )
     go false is =
         let high : 2 ^ 63 ≤ read.0 = ltb-false read.0 (2 ^ 63) is in
         let much = at_least read.0 h.1 (2 ^ 63) h.4 high in
@@ -94,14 +99,24 @@ negative_front w bs make (Some read) h = go (leb read.0 (2 ^ 63)) refl
         → Told (w ++ bs) (in_limits (cond t (Some (neg_ℤ (pos read.0))) None) read.1) (Some read.1)
     go true is =
         let le = leb-true read.0 (2 ^ 63) is in
-        let same : h.1 ≡ read.0 = exactly read.0 h.1 (2 ^ 63) h.4 le (omega arith) in
-        (w ++ h.0, refl, parts, subst (λ (n : ℕ). IsNumber (w ++ h.0) (neg_ℤ (pos n))) same
-            (make h.0 h.1 h.3), fits_neg read.0 le)
+        let same : h.1 ≡ read.0 = exactly read.0 h.1 (2 ^ 63) h.4 le (omega arith) in (
+          w ++ h.0,
+          refl,
+          parts,
+          subst (λ (n : ℕ). IsNumber (w ++ h.0) (neg_ℤ (pos n))) same
+              (make h.0 h.1 h.3),
+          fits_neg read.0 le,
+        )
     go false is =
         let high : 2 ^ 63 < read.0 = leb-false read.0 (2 ^ 63) is in
-        let much = at_least read.0 h.1 (suc (2 ^ 63)) h.4 high in
-        (w ++ h.0, whats.Number (neg_ℤ (pos h.1)), parts, make h.0 h.1 h.3, λ fits.
-            (let le = neg_fits h.1 fits in omega arith))
+        let much = at_least read.0 h.1 (suc (2 ^ 63)) h.4 high in (
+          w ++ h.0,
+          whats.Number (neg_ℤ (pos h.1)),
+          parts,
+          make h.0 h.1 h.3,
+          λ fits.
+              (let le = neg_fits h.1 fits in omega arith),
+        )
 
 plain_number : (bs : List ℕ) → Told bs (number_at false bs) (rest_of (unsigned bs))
 unfolding number_at
@@ -163,9 +178,14 @@ address_told bs = go (address bs) (address_found bs)
             let one = ltb-true p.bus (2 ^ 63) e in
             let other = ltb-true p.place (2 ^ 63) f in
             let bus : h.1 ≡ p.bus = exactly p.bus h.1 (2 ^ 63) h.5 (omega arith) (omega arith) in
-            let place : h.2 ≡ p.place = exactly p.place h.2 (2 ^ 63) h.6 (omega arith) (omega arith) in
-            (h.0, refl, h.3, subst (λ (n : ℕ). IsAddress h.0 p.kind p.bus n) place
-                (subst (λ (n : ℕ). IsAddress h.0 p.kind n h.2) bus h.4), (one, other))
+            let place : h.2 ≡ p.place = exactly p.place h.2 (2 ^ 63) h.6 (omega arith) (omega arith) in (
+              h.0,
+              refl,
+              h.3,
+              subst (λ (n : ℕ). IsAddress h.0 p.kind p.bus n) place
+                  (subst (λ (n : ℕ). IsAddress h.0 p.kind n h.2) bus h.4),
+              (one, other),
+            )
         limited true false e f =
             let much = at_least p.place h.2 (2 ^ 63) h.6 (ltb-false p.place (2 ^ 63) f) in
             (h.0, whats.Address p.kind h.1 h.2, h.3, h.4, λ fits. (let lt = fits.1 in omega arith))
@@ -182,20 +202,20 @@ colon_told : (bs : List ℕ) → MarkTold (58 ∷ bs) (colon_at bs)
 colon_told [] = (58 ∷ [], refl, refl, refl, tt)
 colon_told (c ∷ bs) =
     marked (eqb c 61) (58 ∷ c ∷ bs) _ _ (λ e. let x = eqb-true c 61 e in (58 ∷ c ∷ [], refl, refl, rw x refl, tt))
-        (λ e. (58 ∷ [], refl, refl, refl, tt))
+    (λ e. (58 ∷ [], refl, refl, refl, tt))
 
 dot_told : (bs : List ℕ) → MarkTold (46 ∷ bs) (dot_at bs)
 dot_told [] = (46 ∷ [], refl, refl, refl, tt)
 dot_told (c ∷ bs) =
     marked (eqb c 46) (46 ∷ c ∷ bs) _ _ (λ e. let x = eqb-true c 46 e in (46 ∷ c ∷ [], refl, refl, rw x refl, tt))
-        (λ e. (46 ∷ [], refl, refl, refl, tt))
+    (λ e. (46 ∷ [], refl, refl, refl, tt))
 
 ampersand_told : (bs : List ℕ) → MarkTold (38 ∷ bs) (ampersand_at bs)
 ampersand_told [] = (38 ∷ [], refl, refl, refl, tt)
 ampersand_told (c ∷ bs) =
     marked ((eqb c 78) || (eqb c 110)) (38 ∷ c ∷ bs) _ _
-        (λ e. (38 ∷ c ∷ [], refl, refl, letter (either (eqb c 78) (eqb c 110) e), tt))
-            (λ e. (38 ∷ [], refl, refl, refl, tt))
+    (λ e. (38 ∷ c ∷ [], refl, refl, letter (either (eqb c 78) (eqb c 110) e), tt))
+    (λ e. (38 ∷ [], refl, refl, refl, tt))
   where
     letter : (eqb c 78 ≡ true) ⊎ (eqb c 110 ≡ true) → forms.Reads (codes "&n") (38 ∷ c ∷ [])
     letter (inl e) = let x = eqb-true c 78 e in rw x refl
@@ -205,7 +225,7 @@ return_told : (bs : List ℕ) → MarkTold (13 ∷ bs) (return_at bs)
 return_told [] = tt
 return_told (c ∷ bs) =
     marked (eqb c 10) (13 ∷ c ∷ bs) _ _ (λ e. let x = eqb-true c 10 e in (13 ∷ c ∷ [], refl, refl, inr (rw x refl), tt))
-        (λ e. tt)
+    (λ e. tt)
 
 mark_told : (b : ℕ) (bs : List ℕ) → MarkTold (b ∷ bs) (mark_at (b ∷ bs))
 unfolding mark_at
@@ -215,17 +235,17 @@ mark_told b bs =
     marked (eqb b 40) (b ∷ bs) _ _ (λ e. let x = eqb-true b 40 e in (b ∷ [], refl, refl, rw x refl, tt)) (λ e.
     marked (eqb b 41) (b ∷ bs) _ _ (λ e. let x = eqb-true b 41 e in (b ∷ [], refl, refl, rw x refl, tt)) (λ e.
     marked (eqb b 58) (b ∷ bs) _ _
-        (λ e. let x = eqb-true b 58 e in subst (λ (d : ℕ). MarkTold (d ∷ bs) (colon_at bs)) (sym x) (colon_told bs))
-            (λ e.
+    (λ e. let x = eqb-true b 58 e in subst (λ (d : ℕ). MarkTold (d ∷ bs) (colon_at bs)) (sym x) (colon_told bs))
+    (λ e.
     marked (eqb b 46) (b ∷ bs) _ _
-        (λ e. let x = eqb-true b 46 e in subst (λ (d : ℕ). MarkTold (d ∷ bs) (dot_at bs)) (sym x) (dot_told bs)) (λ e.
+    (λ e. let x = eqb-true b 46 e in subst (λ (d : ℕ). MarkTold (d ∷ bs) (dot_at bs)) (sym x) (dot_told bs)) (λ e.
     marked (eqb b 38) (b ∷ bs) _ _
-        (λ e. let x = eqb-true b 38 e in subst (λ (d : ℕ). MarkTold (d ∷ bs) (ampersand_at bs)) (sym x)
-            (ampersand_told bs)) (λ e.
+    (λ e. let x = eqb-true b 38 e in subst (λ (d : ℕ). MarkTold (d ∷ bs) (ampersand_at bs)) (sym x)
+    (ampersand_told bs)) (λ e.
     marked (eqb b 10) (b ∷ bs) _ _ (λ e. let x = eqb-true b 10 e in (b ∷ [], refl, refl, inl (rw x refl), tt)) (λ e.
     marked (eqb b 13) (b ∷ bs) _ _
-        (λ e. let x = eqb-true b 13 e in subst (λ (d : ℕ). MarkTold (d ∷ bs) (return_at bs)) (sym x) (return_told bs))
-            (λ e.
+    (λ e. let x = eqb-true b 13 e in subst (λ (d : ℕ). MarkTold (d ∷ bs) (return_at bs)) (sym x) (return_told bs))
+    (λ e.
     marked (leb 128 b) (b ∷ bs) _ _ (λ e. tt) (λ e. tt))))))))))
 
 -- ---- all tokens
@@ -235,11 +255,11 @@ unfolding front_at
 front_told [] = refl
 front_told (b ∷ bs) =
     chosen (eqb b 43) (b ∷ bs) _ _ _ _
-        (λ e. let x = eqb-true b 43 e in subst (λ (d : ℕ). Told (d ∷ bs) (number_at false bs) (rest_of (unsigned bs)))
-            (sym x) (plus_number bs)) (λ e.
+    (λ e. let x = eqb-true b 43 e in subst (λ (d : ℕ). Told (d ∷ bs) (number_at false bs) (rest_of (unsigned bs)))
+    (sym x) (plus_number bs)) (λ e.
     chosen (eqb b 45) (b ∷ bs) _ _ _ _
-        (λ e. let x = eqb-true b 45 e in subst (λ (d : ℕ). Told (d ∷ bs) (number_at true bs) (rest_of (unsigned bs)))
-            (sym x) (minus_number bs)) (λ e.
+    (λ e. let x = eqb-true b 45 e in subst (λ (d : ℕ). Told (d ∷ bs) (number_at true bs) (rest_of (unsigned bs)))
+    (sym x) (minus_number bs)) (λ e.
     chosen (eqb b 37) (b ∷ bs) _ _ _ _ (λ e. address_told (b ∷ bs)) (λ e.
     chosen (is_letter b) (b ∷ bs) _ _ _ _ (λ e. word_told b bs e) (λ e.
     chosen (is_digit 10 b) (b ∷ bs) _ _ _ _ (λ e. plain_number (b ∷ bs)) (λ e.

@@ -338,7 +338,7 @@ found_next code n entry word changes pending new f e w r g =
     let t = f.typed entry e in
     let b = rest_bounded code n pending f.bounded in
     let met : is_met rest (n + 1) ≡ is_met a (n + 1) = ap is_closed
-        (rest_same code n pending f (n + 1) (omega arith)) in
+    (rest_same code n pending f (n + 1) (omega arith)) in
     let rule = subst (λ (m : Bool). IsRule code n m entry word ways) met r in
     let ahead = target_forward code n (is_met rest (n + 1)) entry word ways r in
     let long : length rest ≡ length a = length-set pending n None ∙ f.long ∙ sym f.closest.consistent.long in

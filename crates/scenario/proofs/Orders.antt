@@ -18,9 +18,11 @@ pub follow-push : (before entries : List Entry) (entry : Entry) → FollowOneAno
     → FollowOneAnother before (entries ++ entry ∷ [])
 follow-push before [] entry order follows =
     (subst (λ (es : List Entry). Follows es entry) (append-nil before) follows, tt)
-follow-push before (first ∷ entries) entry order follows =
-    (order.0, follow-push (before ++ first ∷ []) entries entry order.1
-        (subst (λ (es : List Entry). Follows es entry) (sym (append_assoc before (first ∷ []) entries)) follows))
+follow-push before (first ∷ entries) entry order follows = (
+  order.0,
+  follow-push (before ++ first ∷ []) entries entry order.1
+      (subst (λ (es : List Entry). Follows es entry) (sym (append_assoc before (first ∷ []) entries)) follows),
+)
 
 pub clock-push : (entries : List Entry) (entry : Entry)
     → clock (entries ++ entry ∷ []) ≡ clock_after (clock entries) entry

@@ -37,7 +37,7 @@ pub skipped_read : (bytes rest after : List ℕ) (entries next : List Entry) (nu
     → lines rest ≡ line ∷ lines after → IsSkipped line → next ≡ entries → IsRead bytes after next (number + 1)
 skipped_read bytes rest after entries next number line r first skipped same =
     reading.line_read Entry (List Entry) scenario_rules [] bytes rest after entries next number line r first
-        (inl (skipped, same))
+    (inl (skipped, same))
 
 pub entry_read : (bytes rest after : List ℕ) (entries next : List Entry) (number : ℕ) (line : List ℕ) (entry : Entry)
     → IsRead bytes rest entries number
@@ -45,7 +45,7 @@ pub entry_read : (bytes rest after : List ℕ) (entries next : List Entry) (numb
     ≡ entries ++ entry ∷ [] → IsRead bytes after next (number + 1)
 entry_read bytes rest after entries next number line entry r first adds so =
     reading.line_read Entry (List Entry) scenario_rules [] bytes rest after entries next number line r first
-        (inr (entry, adds, so))
+    (inr (entry, adds, so))
 
 pub bad_read : (bytes rest after : List ℕ) (entries : List Entry) (number : ℕ) (line : List ℕ)
     → IsRead bytes rest entries number

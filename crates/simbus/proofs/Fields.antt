@@ -69,7 +69,7 @@ other-half half s v a b c = grind (arith, nat_tests)
 
 other-at : (first v : ℕ) → (first ≡ 0xA3 → ⊥) → (first ≡ 0xC3 → ⊥)
     → ((address : Address) (s : ℕ) → IsAddress address → s < 2 → first ≡ address_byte address s → ⊥)
-        → gear.Other ≡ fields_at first v
+    → gear.Other ≡ fields_at first v
 other-at first v a b none =
     rw (not_special first v a b) (other-half (first / 2) (first % 2) v
     (λ h. none (Short (first / 2)) (first % 2) h (omega arith) (omega arith))
@@ -79,10 +79,10 @@ other-at first v a b none =
 pub fields_of-is : (fields : Fields16) (frame : ℕ) → HasFields16 fields frame → fields ≡ fields_of frame
 fields_of-is (gear.Level address level) frame h =
     bytes-of (gear.Level address level) (address_byte address 0) level frame h.1 h.2
-        (address-at address 0 level (omega arith) h.0)
+    (address-at address 0 level (omega arith) h.0)
 fields_of-is (gear.Command address opcode) frame h =
     bytes-of (gear.Command address opcode) (address_byte address 1) opcode frame h.1 h.2
-        (address-at address 1 opcode (omega arith) h.0)
+    (address-at address 1 opcode (omega arith) h.0)
 fields_of-is (gear.Dtr0 value) frame h = bytes-of (gear.Dtr0 value) 0xA3 value frame h.0 h.1 (dtr0-at value)
 fields_of-is (gear.Dtr1 value) frame h = bytes-of (gear.Dtr1 value) 0xC3 value frame h.0 h.1 (dtr1-at value)
 fields_of-is gear.Other frame h =

@@ -65,7 +65,7 @@ gear_rest s h n e r g = rw (r, e) refl
 
 instance_step : (s : Sent) (h : List Sent) (n : ℕ) → s.frame ≡ Forward24 n → is_reached s.mark ≡ true → (i : Instance) →
     live_instance_after_fields (is_pair (Forward24 n) h) (device_dtr0 h) (device_fields_of n) (live_instance h i)
-        ≡ live_instance (s ∷ h) i
+    ≡ live_instance (s ∷ h) i
 instance_step s h n e r i = rw (r, e) refl
 
 instance_rest : (s : Sent) (h : List Sent) (n : ℕ) → s.frame ≡ Forward16 n → is_reached s.mark ≡ true → (i : Instance)
@@ -84,7 +84,7 @@ dtr0_rest s h n e r = rw (r, e) refl
 pub taken16 : (setup : Setup) (h : List Sent) (s : Sent) (n : ℕ) (fields : Fields16) (paired : Bool)
     (begun : Option Frame) (old new : Equipment) →
     IsReachedBy (Forward16 n) s → HasFields16 fields n → paired ≡ is_begun old.begun (Forward16 n) → begun
-        ≡ cond paired None (Some (Forward16 n)) →
+    ≡ cond paired None (Some (Forward16 n)) →
     IsAfterGearFields paired fields (record old { begun = begun }) new → IsKept setup h old → IsKept setup (s ∷ h) new
 taken16 setup h s n fields paired begun old new reached said p b after kept =
     let pairs : paired ≡ is_pair (Forward16 n) h = p ∙ kept.begun (Forward16 n) in
@@ -93,11 +93,11 @@ taken16 setup h s n fields paired begun old new reached said p b after kept =
     record {
       gears = after.gears ∙ (rw (pairs, says, kept.gears)
           (map_through (gear_after_fields (is_pair (Forward16 n) h) (fields_of n)) (live_gear h)
-              (live_gear (s ∷ h)) setup.gears (gear_step s h n reached.0 reached.1)));
+          (live_gear (s ∷ h)) setup.gears (gear_step s h n reached.0 reached.1)));
       memory = after.memory ∙ kept.memory;
       instances = after.instances
           ∙ (kept.instances ∙ map_same (live_instance h) (live_instance (s ∷ h)) setup.instances
-              (instance_rest s h n reached.0 reached.1));
+          (instance_rest s h n reached.0 reached.1));
       dtr0 = after.dtr0 ∙ (kept.dtr0 ∙ dtr0_rest s h n reached.0 reached.1);
       begun = λ f. ap (λ (o : Option Frame). is_begun o f) (after.begun ∙ (b ∙ (rw (← first, ← reached.0) refl)))
           ∙ begun_step old.begun s h reached.1 kept.begun f;
@@ -107,7 +107,7 @@ taken16 setup h s n fields paired begun old new reached said p b after kept =
 pub taken24 : (setup : Setup) (h : List Sent) (s : Sent) (n : ℕ) (fields : Fields24) (paired : Bool)
     (begun : Option Frame) (old new : Equipment) →
     IsReachedBy (Forward24 n) s → HasFields24 fields n → paired ≡ is_begun old.begun (Forward24 n) → begun
-        ≡ cond paired None (Some (Forward24 n)) →
+    ≡ cond paired None (Some (Forward24 n)) →
     IsAfterDeviceFields paired fields (record old { begun = begun }) new → IsKept setup h old → IsKept setup (s ∷ h) new
 taken24 setup h s n fields paired begun old new reached said p b after kept =
     let pairs : paired ≡ is_pair (Forward24 n) h = p ∙ kept.begun (Forward24 n) in
@@ -119,7 +119,7 @@ taken24 setup h s n fields paired begun old new reached said p b after kept =
       memory = after.memory ∙ kept.memory;
       instances = after.instances ∙ (rw (pairs, says, kept.instances, kept.dtr0)
           (map_through (live_instance_after_fields (is_pair (Forward24 n) h) (device_dtr0 h) (device_fields_of n))
-              (live_instance h) (live_instance (s ∷ h)) setup.instances (instance_step s h n reached.0 reached.1)));
+          (live_instance h) (live_instance (s ∷ h)) setup.instances (instance_step s h n reached.0 reached.1)));
       dtr0 = after.dtr0 ∙ (rw (says, kept.dtr0) (dtr0_step s h n reached.0 reached.1));
       begun = λ f. ap (λ (o : Option Frame). is_begun o f) (after.begun ∙ (b ∙ (rw (← first, ← reached.0) refl)))
           ∙ begun_step old.begun s h reached.1 kept.begun f;
@@ -166,13 +166,17 @@ pub setup_kept : (setup : Setup) (h : List Sent) (e : Equipment) → IsKept setu
 setup_kept setup h e k =
     let gears : map (λ (live : LiveGear). live.gear) e.gears.items ≡ setup.gears =
     rw k.gears (map_through (λ (live : LiveGear). live.gear) (live_gear h) (λ (g : Gear). g) setup.gears
-        (λ g. refl) ∙ map-id setup.gears) in
+    (λ g. refl) ∙ map-id setup.gears) in
     let instances : map (λ (live : LiveInstance). live.instance) e.instances.items ≡ setup.instances =
     rw k.instances (map_through (λ (live : LiveInstance). live.instance) (live_instance h)
-        (λ (i : Instance). i) setup.instances (λ i. refl) ∙ map-id setup.instances) in
+    (λ (i : Instance). i) setup.instances (λ i. refl) ∙ map-id setup.instances) in
     let memory : e.memory.items ≡ setup.memory = k.memory in
-    ap (λ (x : List Gear). record { gears = x; memory = e.memory.items; instances = map
-        (λ (live : LiveInstance). live.instance) e.instances.items }) gears
+    ap (λ (x : List Gear). record {
+      gears = x;
+      memory = e.memory.items;
+      instances = map
+          (λ (live : LiveInstance). live.instance) e.instances.items;
+    }) gears
     ∙ (ap (λ (x : List MemoryByte). record { gears = setup.gears; memory = x; instances = map (λ (live : LiveInstance). live.instance) e.instances.items }) memory
     ∙ ap (λ (x : List Instance). record { gears = setup.gears; memory = setup.memory; instances = x }) instances)
 
@@ -187,7 +191,7 @@ pub kept_sent : (setup : Setup) (h sent : List Sent) (e : Equipment) → IsKept 
 kept_sent setup h sent e k same =
     let K : Setup → List Sent → Type 0 = λ x y. IsKept x y e in
     subst (λ (x : Setup). K x (reverse sent)) (sym (setup_kept setup h e k))
-        (subst (λ (y : List Sent). K setup y) (sym same) k)
+    (subst (λ (y : List Sent). K setup y) (sym same) k)
 
 pub sent_more : (sent new : List Sent) (s : Sent) → new ≡ sent ++ s ∷ [] → reverse new ≡ s ∷ reverse sent
 sent_more sent new s e = rw (e, reverse-append) refl
@@ -195,21 +199,21 @@ sent_more sent new s e = rw (e, reverse-append) refl
 found_or : (b : Bool) (h : List Sent) (g : Gear) (x : Option LiveGear) (y : Option Gear) →
     option_map (λ (live : LiveGear). live.variables) x ≡ option_map (λ (gear : Gear). gear_variables gear.address h) y →
     option_map (λ (live : LiveGear). live.variables) (cond b (Some (live_gear h g)) x) ≡ option_map
-        (λ (gear : Gear). gear_variables gear.address h) (cond b (Some g) y)
+    (λ (gear : Gear). gear_variables gear.address h) (cond b (Some g) y)
 found_or false h g x y e = e
 found_or true h g x y e = refl
 
 found : (h : List Sent) (address : ℕ) (gears : List Gear) →
     option_map (λ (live : LiveGear). live.variables)
-        (find (λ (live : LiveGear). live.gear.address == address) (map (live_gear h) gears))
+    (find (λ (live : LiveGear). live.gear.address == address) (map (live_gear h) gears))
     ≡ option_map (λ (gear : Gear). gear_variables gear.address h)
-        (find (λ (gear : Gear). gear.address == address) gears)
+    (find (λ (gear : Gear). gear.address == address) gears)
 found h address [] = refl
 found h address (g ∷ gears) = found_or (g.address == address) h g _ _ (found h address gears)
 
 found_instance_or : (b : Bool) (h : List Sent) (i : Instance) (x : Option LiveInstance) (y : Option Instance) →
     option_map (λ (live : LiveInstance). live.variables) x ≡ option_map
-        (λ (instance : Instance). instance_variables instance h) y →
+    (λ (instance : Instance). instance_variables instance h) y →
     option_map (λ (live : LiveInstance). live.variables) (cond b (Some (live_instance h i)) x)
     ≡ option_map (λ (instance : Instance). instance_variables instance h) (cond b (Some i) y)
 found_instance_or false h i x y e = e
@@ -217,7 +221,7 @@ found_instance_or true h i x y e = refl
 
 instance_found : (h : List Sent) (address number : ℕ) (instances : List Instance) →
     option_map (λ (live : LiveInstance). live.variables)
-        (find (λ (live : LiveInstance). is_instance address number live.instance) (map (live_instance h) instances))
+    (find (λ (live : LiveInstance). is_instance address number live.instance) (map (live_instance h) instances))
     ≡ option_map (λ (instance : Instance). instance_variables instance h) (find (is_instance address number) instances)
 instance_found h address number [] = refl
 instance_found h address number (i ∷ instances) =
@@ -225,11 +229,11 @@ instance_found h address number (i ∷ instances) =
 
 pub found_instance : (setup : Setup) (h : List Sent) (e : Equipment) (address number : ℕ) → IsKept setup h e →
     option_map (λ (live : LiveInstance). live.variables)
-        (find (λ (live : LiveInstance). is_instance address number live.instance) e.instances.items)
+    (find (λ (live : LiveInstance). is_instance address number live.instance) e.instances.items)
     ≡ instance_variables_at setup h address number
 found_instance setup h e address number k = rw k.instances (instance_found h address number setup.instances)
 
 pub found_gear : (setup : Setup) (h : List Sent) (e : Equipment) (address : ℕ) → IsKept setup h e →
     option_map (λ (live : LiveGear). live.variables)
-        (find (λ (live : LiveGear). live.gear.address == address) e.gears.items) ≡ variables_at setup h address
+    (find (λ (live : LiveGear). live.gear.address == address) e.gears.items) ≡ variables_at setup h address
 found_gear setup h e address k = rw k.gears (found h address setup.gears)

@@ -7,7 +7,7 @@ use Rattle.std.specs.List.{filter_map, cons_option}
 -- one element more is changed
 changed_more : {X : Type 0} (f : X → X) (xs : List X) (i : ℕ) (d : X) → i < length xs →
     take (suc i) (set xs i (f (get_or xs i d))) ++ map f (drop (suc i) (set xs i (f (get_or xs i d))))
-        ≡ take i xs ++ map f (drop i xs)
+    ≡ take i xs ++ map f (drop i xs)
 changed_more f [] i d h = absurd (omega arith)
 changed_more f (x ∷ xs) zero d h = refl
 changed_more f (x ∷ xs) (suc i) d h =

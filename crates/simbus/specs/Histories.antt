@@ -62,7 +62,7 @@ instance_variables instance [] = variables_of instance
 instance_variables instance (s ∷ earlier) =
     if is_reached s.mark
     then instance_after_frame (is_pair s.frame earlier) (device_dtr0 earlier) instance s.frame
-        (instance_variables instance earlier)
+    (instance_variables instance earlier)
     else instance_variables instance earlier
 
 -- what is on a simulated bus
@@ -76,7 +76,7 @@ abbrev pub answers : Setup → List Sent → Frame → List ℕ
 answers setup earlier frame =
     filter_map (λ (gear : Gear). gear_answer setup.memory frame gear (gear_variables gear.address earlier)) setup.gears
     ++ filter_map
-        (λ (instance : Instance). instance_answer frame instance (instance_variables instance earlier)) setup.instances
+    (λ (instance : Instance). instance_answer frame instance (instance_variables instance earlier)) setup.instances
 
 -- what the bus answers to a frame, after these frames
 abbrev pub answer_of : Setup → List Sent → Frame → Reply
@@ -86,7 +86,7 @@ answer_of setup earlier frame = reply_of (answers setup earlier frame)
 abbrev pub variables_at : Setup → List Sent → ℕ → Option GearVariables
 variables_at setup earlier address =
     option_map (λ (gear : Gear). gear_variables gear.address earlier)
-        (find (λ (gear : Gear). gear.address == address) setup.gears)
+    (find (λ (gear : Gear). gear.address == address) setup.gears)
 
 -- the variables of an instance of a control device by its short address and number, where it is declared
 abbrev pub is_instance : ℕ → ℕ → Instance → Bool
@@ -95,7 +95,7 @@ is_instance address number instance = instance.address == address && instance.nu
 abbrev pub instance_variables_at : Setup → List Sent → ℕ → ℕ → Option InstanceVariables
 instance_variables_at setup earlier address number =
     option_map (λ (instance : Instance). instance_variables instance earlier)
-        (find (is_instance address number) setup.instances)
+    (find (is_instance address number) setup.instances)
 
 -- a frame as it was sent, where it reached the bus, and one that did not
 abbrev pub IsReachedBy : Frame → Sent → Type 0

@@ -33,7 +33,7 @@ memory_on bus _ = None
 abbrev pub instance_on : ℕ → Entry → Option Instance
 instance_on bus (entry.Instance on short number kind scheme value) =
     if on == bus then Some
-        (record { address = short; number = number; instance_type = kind; scheme = scheme; value = value }) else None
+    (record { address = short; number = number; instance_type = kind; scheme = scheme; value = value }) else None
 instance_on bus _ = None
 
 abbrev pub reply_on : ℕ → Entry → Option ScriptedReply

@@ -9,7 +9,7 @@ use Rattle.iltext.proofs.cutting.tokens.Goals as goal
 pub returns-in-End-clause-cut : goal.returns-in-End-clause-cut
 returns-in-End-clause-cut c =
     subst (λ (z : List Token). Cuts c.args.text.now 0 z) (append-nil c.all.all.items)
-        (c.all.invariant.cut [] c.in-End.ensures.next)
+    (c.all.invariant.cut [] c.in-End.ensures.next)
 
 pub all-preserved : goal.all-preserved
 all-preserved c =

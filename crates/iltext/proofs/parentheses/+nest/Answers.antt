@@ -13,23 +13,23 @@ use Rattle.iltext.proofs.parentheses.+nest.Goals as goal
 pub applied-returns-then-may_open : goal.applied-returns-then-may_open
 applied-returns-then-may_open t c =
     let is : may_open c.args.more c.args.operator c.args.ts.now ≡ true = sym c.may_open.ensures.opens
-        ∙ c.if-may_open.true in
+    ∙ c.if-may_open.true in
     rw (by_content c.args.more c.args.at c.args.operator c.args.ts.now is) c.on_content.ensures
 
 pub applied-returns-in_err-operand : goal.applied-returns-in_err-operand
 applied-returns-in_err-operand t c =
     let p = err_from_is_err_and c.from_residual.result c.from_residual.ensures.1 in
     let isnt : may_open c.args.more c.args.operator c.args.ts.now ≡ false = sym c.may_open.ensures.opens
-        ∙ c.if-may_open.false in
+    ∙ c.if-may_open.false in
     let fails = operand_fails c.args.more c.args.at c.args.operator _ isnt _ c.in_err-operand.ensures in
     rw (p.1, p.2) (fails_extended _ _ pieces_in _ _ _ fails)
 
 pub applied-returns-in_ok-push : goal.applied-returns-in_ok-push
 applied-returns-in_ok-push t c =
     let isnt : may_open c.args.more c.args.operator c.args.ts.now ≡ false = sym c.may_open.ensures.opens
-        ∙ c.if-may_open.false in
+    ∙ c.if-may_open.false in
     rw (c.in_ok-push.ensures, operand_applied c.args.more c.args.at c.args.operator _ isnt _ _ c.in_ok-operand.ensures)
-        refl
+    refl
 
 pub content-returns-in_err-first : goal.content-returns-in_err-first
 content-returns-in_err-first t c =
@@ -44,7 +44,7 @@ content-returns-in_err-rest t c =
     let p = err_from_is_err_and c.from_residual-in_err-rest.result c.from_residual-in_err-rest.ensures.1 in
     let is : begins (ended (inner c.args.more)) c.all.rest.now ≡ true = cc in
     rw (p.1, p.2) (adds_none _ _ _ pieces_in _ _
-        (Firm-inner_line c.args.more) _ _ _ _ is c.in_err-rest.ensures c.all.invariant)
+    (Firm-inner_line c.args.more) _ _ _ _ is c.in_err-rest.ensures c.all.invariant)
 
 pub content-all-smaller : goal.content-all-smaller
 content-all-smaller t c = adding_shrinks _ _ _ pieces_in _ _ (Firm-inner_line c.args.more) _ _ _ _ c.in_ok-rest.ensures

@@ -6,21 +6,21 @@ use Rattle.iltext.proofs.parser.parse.Goals as goal
 pub returns-in-Ok-clause-found : goal.returns-in-Ok-clause-found
 returns-in-Ok-clause-found c =
     let short : length c.args.text.now ≤ most_bytes = short_of c.is_too_long.result most_bytes
-        (length c.args.text.now) c.is_too_long.ensures c.if-is_too_long.false in
+    (length c.args.text.now) c.is_too_long.ensures c.if-is_too_long.false in
     is_found c.args.text.now c.deref.result.now c.parse_tokens.result short
-        (rw c.deref.ensures.value c.in-Ok.ensures.cut) c.parse_tokens.ensures
+    (rw c.deref.ensures.value c.in-Ok.ensures.cut) c.parse_tokens.ensures
 
 pub returns-in-Ok-clause-only : goal.returns-in-Ok-clause-only
 returns-in-Ok-clause-only c =
     is_only c.args.text.now c.deref.result.now c.parse_tokens.result
-        (rw c.deref.ensures.value c.in-Ok.ensures.cut) c.parse_tokens.ensures
+    (rw c.deref.ensures.value c.in-Ok.ensures.cut) c.parse_tokens.ensures
 
 pub returns-in-Ok-clause-fault : goal.returns-in-Ok-clause-fault
 returns-in-Ok-clause-fault c =
     let short : length c.args.text.now ≤ most_bytes = short_of c.is_too_long.result most_bytes
-        (length c.args.text.now) c.is_too_long.ensures c.if-is_too_long.false in
+    (length c.args.text.now) c.is_too_long.ensures c.if-is_too_long.false in
     is_fault c.args.text.now c.deref.result.now c.parse_tokens.result short
-        (rw c.deref.ensures.value c.in-Ok.ensures.cut) c.parse_tokens.ensures
+    (rw c.deref.ensures.value c.in-Ok.ensures.cut) c.parse_tokens.ensures
 
 pub returns-in-Ok-clause-one : goal.returns-in-Ok-clause-one
 returns-in-Ok-clause-one c = is_one c.args.text.now

@@ -29,7 +29,7 @@ unfolding blocks
 all-preserved c =
     let is : begins vars c.all.rest.now ≡ true = cc in
     let one : extend (λ xs. xs) c.all.all.items (vars.read c.all.rest.now) ≡ Ok
-        (c.all.all.items ++ c.in_ok-one.one.items, c.in_ok-one.after.now) =
+    (c.all.all.items ++ c.in_ok-one.one.items, c.in_ok-one.after.now) =
     rw c.in_ok-one.ensures refl in
     rw c.in_ok-append.ensures.items (adds_on _ _ _ (λ xs. xs) _ _ Firm-vars _ _ _ _ _ is one c.all.invariant)
 

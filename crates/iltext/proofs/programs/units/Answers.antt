@@ -28,7 +28,7 @@ unfolding units
 all-preserved c =
     let is : begins unit c.all.rest.now ≡ true = cc in
     let one : extend (λ xs. xs) c.all.all.items (unit.read c.all.rest.now) ≡ Ok
-        (c.all.all.items ++ c.in_ok-one.one.items, c.in_ok-one.after.now) =
+    (c.all.all.items ++ c.in_ok-one.one.items, c.in_ok-one.after.now) =
     rw c.in_ok-one.ensures refl in
     rw c.in_ok-append.ensures.items (adds_on _ _ _ (λ xs. xs) _ _ Firm-unit _ _ _ _ _ is one c.all.invariant)
 

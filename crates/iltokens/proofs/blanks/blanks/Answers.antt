@@ -9,9 +9,11 @@ pub blanks-smaller : goal.blanks-smaller
 blanks-smaller c = past_shorter c.blanks.rest.now c.in-Past.after.now c.in-Past.ensures
 
 pub blanks-preserved : goal.blanks-preserved
-blanks-preserved c = let lt = past_shorter c.blanks.rest.now c.in-Past.after.now c.in-Past.ensures in
-    (goes_over c.blanks.rest.now c.in-Past.after.now c.in-Past.ensures ∙ c.blanks.invariant.0, omega
-        (arith, lt, c.blanks.invariant.1))
+blanks-preserved c = let lt = past_shorter c.blanks.rest.now c.in-Past.after.now c.in-Past.ensures in (
+  goes_over c.blanks.rest.now c.in-Past.after.now c.in-Past.ensures ∙ c.blanks.invariant.0,
+  omega
+      (arith, lt, c.blanks.invariant.1),
+)
 
 pub returns-in-OpenComment-clause-exact : goal.returns-in-OpenComment-clause-exact
 returns-in-OpenComment-clause-exact c =

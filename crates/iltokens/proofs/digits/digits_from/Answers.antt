@@ -10,6 +10,6 @@ pub digits-preserved : goal.digits-preserved
 digits-preserved c = (
   rw c.add_digit-value.ensures
       (goes_on c.args.base c.digits.value c.digits.rest.now c.in-Some.digit c.in-Some.after.now
-          c.in-Some.ensures.exact ∙ c.digits.invariant.0),
+      c.in-Some.ensures.exact ∙ c.digits.invariant.0),
   omega (arith, c.digits.invariant.1, c.in-Some.ensures.within),
 )

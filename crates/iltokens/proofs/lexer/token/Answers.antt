@@ -7,7 +7,7 @@ use Rattle.iltokens.proofs.lexer.token.Goals as goal
 pub returns-clause-next : goal.returns-clause-next
 returns-clause-next c =
     subst (λ (z : Lexed). StandsNext c.args.bytes.now c.args.at z) (sym c.next_token.ensures.exact)
-        (token_told c.args.bytes.now c.args.at c.requires)
+    (token_told c.args.bytes.now c.args.at c.requires)
 
 pub returns-clause-only : goal.returns-clause-only
 returns-clause-only c other h =

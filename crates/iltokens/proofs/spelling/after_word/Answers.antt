@@ -10,4 +10,4 @@ none_of word i (b ∷ bs) lt short = absurd (omega arith)
 pub returns-in-empty-clause-exact : goal.returns-in-empty-clause-exact
 returns-in-empty-clause-exact c =
     sym (none_of c.args.word.now c.loop-letter.letter-index c.loop-letter.rest.now (omega arith) (omega arith))
-        ∙ c.loop-letter.invariant.0
+    ∙ c.loop-letter.invariant.0

@@ -34,7 +34,7 @@ longest c =
 pub overflow_add-result : goal.overflow_add-result
 overflow_add-result c =
     let f = few_words c.args.code.now c.args.place (c.match-instructions-place.after + 1) c.requires.within
-        (longest c) in
+    (longest c) in
     let l = c.instructions.ensures.lawful.most_instructions in
     omega (arith, f, l)
 

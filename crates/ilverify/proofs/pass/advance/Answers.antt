@@ -59,7 +59,7 @@ returns-in-Ok-follow_ways c =
     let rule = subst (λ (m : Bool). IsRule code n m entry word (ways_of entry changes)) met c.in-Ok.ensures in
     let ways = subst
     (λ (x : Option Entry). AreFollowed code n word entry changes
-        (slice_set pending n x) c.follow_ways.new.pending.items)
+    (slice_set pending n x) c.follow_ways.new.pending.items)
     c.take.ensures.after c.in-Ok-follow_ways.ensures in
     found_next code n entry word changes pending c.follow_ways.new.pending.items f (e ∙ ap Some c.in-Some.is)
     c.word_at-word.ensures.value rule ways
@@ -82,6 +82,6 @@ returns-in-Err c =
     (c.deref.ensures.value ∙ ap (λ (x : Option Entry). slice_set pending n x) c.take.ensures.after)
     ∙ ap is_closed (rest_same code n pending f (n + 1) (omega arith)) in
     let least = subst (λ (m : Bool). IsLeastCause
-        (ArisesAtWord code n m entry word) c.in-Err.cause) met c.in-Err.ensures in
+    (ArisesAtWord code n m entry word) c.in-Err.cause) met c.in-Err.ensures in
     refused code f.certificate n _ c.in-Err.cause entry word f.closest c.word_at-word.ensures.value
     (sym (f.same n (omega arith)) ∙ e ∙ ap Some c.in-Some.is) li least

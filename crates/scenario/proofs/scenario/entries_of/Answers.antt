@@ -22,13 +22,13 @@ lines-preserved c =
           let items : next ≡ told ++ entry ∷ [] = cc (w.in_ok-push.ensures.items) in
           let slice : w.as_slice.result.now ≡ told = cc in
           let adds : Adds scenario_rules told line entry = subst
-              (λ (es : List Entry). Adds scenario_rules es line entry) slice w.in-Some.ensures in
+          (λ (es : List Entry). Adds scenario_rules es line entry) slice w.in-Some.ensures in
           let now : c.if-not-is_skipped.clock ≡ clock_after c.lines.clock entry = cc in
           record {
             room = omega arith;
             stands = now
                 ∙ (ap (λ (k : Option ℕ). clock_after k entry) known.stands ∙
-                    (sym (clock-push told entry) ∙ ap clock (sym items)));
+                (sym (clock-push told entry) ∙ ap clock (sym items)));
             order = subst (FollowOneAnother []) (sym items) (follow-push [] told entry known.order adds.follows);
             read = entry_read c.args.bytes.now c.lines.rest.now after told next c.lines.line line entry known.read first
                 adds items;

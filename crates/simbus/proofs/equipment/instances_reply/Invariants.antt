@@ -6,4 +6,4 @@ use Rattle.simbus.proofs.equipment.instances_reply.Given as goal
 abbrev pub invariant-loop-live : goal.invariant-loop-live
 invariant-loop-live l =
     replies_from (live_instance_answer l.fields) l.reply (drop l.live-index l.instances)
-        ≡ replies_from (live_instance_answer l.fields) Quiet l.instances
+    ≡ replies_from (live_instance_answer l.fields) Quiet l.instances

@@ -5,5 +5,5 @@ use Rattle.simbus.proofs.equipment.instances_take.Given as goal
 abbrev pub invariant-loop-live : goal.invariant-loop-live
 invariant-loop-live l =
     take l.live-index l.instances ++ map (live_instance_after_fields l.is_pair l.dtr0 l.fields)
-        (drop l.live-index l.instances)
+    (drop l.live-index l.instances)
     ≡ map (live_instance_after_fields l.is_pair l.dtr0 l.fields) l.initial.instances

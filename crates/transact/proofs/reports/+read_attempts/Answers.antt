@@ -15,8 +15,8 @@ returns-in_err-end t c =
 pub returns-then-is_retried : goal.returns-then-is_retried
 returns-then-is_retried t c =
     let step : Step c.args.transaction.now c.args.marks.now c.in_ok-end.end c.frames-frames.result.now
-        c.first_priority.result c.split_at.result.0.now c.split_at.result.1.now c.args.sent.now.items
-            c.push_attempt.new.sent.items = record {
+    c.first_priority.result c.split_at.result.0.now c.split_at.result.1.now c.args.sent.now.items
+    c.push_attempt.new.sent.items = record {
       frames_are = c.frames-frames.ensures.value;
       first_is = c.first_priority.ensures;
       ends = c.in_ok-end.ensures;
@@ -27,15 +27,15 @@ returns-then-is_retried t c =
     let told : IsTrue true ↔ ((slice_index_or c.args.marks.now c.in_ok-end.end Quiet ≡ Lost) × (0 < c.args.retries)) =
     c.if-is_retried.ensures in
     step_retried c.args.transaction.now c.args.retries c.args.marks.now c.in_ok-end.end c.frames-frames.result.now
-        c.first_priority.result c.split_at.result.0.now c.split_at.result.1.now c.args.sent.now.items
-            c.push_attempt.new.sent.items c.read_attempts.new.sent.items c.read_attempts.result
+    c.first_priority.result c.split_at.result.0.now c.split_at.result.1.now c.args.sent.now.items
+    c.push_attempt.new.sent.items c.read_attempts.new.sent.items c.read_attempts.result
     step (told.0 refl).0 (told.0 refl).1 c.read_attempts.ensures
 
 pub returns-then-is_empty : goal.returns-then-is_empty
 returns-then-is_empty t c =
     let step : Step c.args.transaction.now c.args.marks.now c.in_ok-end.end c.frames-frames.result.now
-        c.first_priority.result c.split_at.result.0.now c.split_at.result.1.now c.args.sent.now.items
-            c.push_attempt.new.sent.items = record {
+    c.first_priority.result c.split_at.result.0.now c.split_at.result.1.now c.args.sent.now.items
+    c.push_attempt.new.sent.items = record {
       frames_are = c.frames-frames.ensures.value;
       first_is = c.first_priority.ensures;
       ends = c.in_ok-end.ensures;
@@ -46,16 +46,16 @@ returns-then-is_empty t c =
     let told : IsTrue false ↔ ((slice_index_or c.args.marks.now c.in_ok-end.end Quiet ≡ Lost) × (0 < c.args.retries)) =
     c.if-is_retried.ensures in
     step_last c.args.transaction.now c.args.retries c.args.marks.now c.in_ok-end.end c.frames-frames.result.now
-        c.first_priority.result c.split_at.result.0.now c.split_at.result.1.now c.args.sent.now.items
-            c.push_attempt.new.sent.items
+    c.first_priority.result c.split_at.result.0.now c.split_at.result.1.now c.args.sent.now.items
+    c.push_attempt.new.sent.items
     step (empty_at _ c.if-is_empty.ensures)
     (none_left c.args.retries (slice_index_or c.args.marks.now c.in_ok-end.end Quiet ≡ Lost) told.1)
 
 pub returns-else-is_empty : goal.returns-else-is_empty
 returns-else-is_empty t c =
     let step : Step c.args.transaction.now c.args.marks.now c.in_ok-end.end c.frames-frames.result.now
-        c.first_priority.result c.split_at.result.0.now c.split_at.result.1.now c.args.sent.now.items
-            c.push_attempt.new.sent.items = record {
+    c.first_priority.result c.split_at.result.0.now c.split_at.result.1.now c.args.sent.now.items
+    c.push_attempt.new.sent.items = record {
       frames_are = c.frames-frames.ensures.value;
       first_is = c.first_priority.ensures;
       ends = c.in_ok-end.ensures;
@@ -66,7 +66,7 @@ returns-else-is_empty t c =
     let told : IsTrue false ↔ ((slice_index_or c.args.marks.now c.in_ok-end.end Quiet ≡ Lost) × (0 < c.args.retries)) =
     c.if-is_retried.ensures in
     step_none c.args.transaction.now c.args.retries c.args.marks.now c.in_ok-end.end c.frames-frames.result.now
-        c.first_priority.result c.split_at.result.0.now c.split_at.result.1.now c.args.sent.now.items
-            c.push_attempt.new.sent.items
+    c.first_priority.result c.split_at.result.0.now c.split_at.result.1.now c.args.sent.now.items
+    c.push_attempt.new.sent.items
     step (filled_at c.split_at.result.1.now c.if-is_empty.ensures)
     (none_left c.args.retries (slice_index_or c.args.marks.now c.in_ok-end.end Quiet ≡ Lost) told.1)

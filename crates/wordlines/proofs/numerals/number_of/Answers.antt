@@ -11,4 +11,4 @@ returns-in_err-number-clause-value c =
 pub returns-then-number-most-clause-value : goal.returns-then-number-most-clause-value
 returns-then-number-most-clause-value c =
     upto_some c.args.most c.args.digits.now c.in_ok-number.number c.in_ok-number.ensures.0.0 c.in_ok-number.ensures.1
-        c.if-number-most.true
+    c.if-number-most.true

@@ -13,7 +13,7 @@ returns-in_err-checked_mul c =
     (get_or c.args.digits.now c.loop-digit.digit-index 0) = omega (arith, times) in
     past c.args.radix c.args.digits.now c.loop-digit.digit-index c.loop-digit.number
     (c.loop-digit.number * c.from-base.result) c.from_residual-in_err-checked_mul.result none low c.loop-digit-test.true
-        c.loop-digit.invariant.value upto c.in_err-checked_mul.ensures
+    c.loop-digit.invariant.value upto c.in_err-checked_mul.ensures
 
 pub returns-in_err-number : goal.returns-in_err-number
 returns-in_err-number c =
@@ -31,10 +31,10 @@ returns-in_err-number c =
     (get_or c.args.digits.now c.loop-digit.digit-index 0) = omega (arith, times, product, digit, worth, wide) in
     past c.args.radix c.args.digits.now c.loop-digit.digit-index c.loop-digit.number
     (c.in_ok-checked_mul.field-0 + c.from.result) c.from_residual-in_err-number.result none low c.loop-digit-test.true
-        c.loop-digit.invariant.value upto c.in_err-number.ensures
+    c.loop-digit.invariant.value upto c.in_err-number.ensures
 
 pub returns : goal.returns
 returns c =
     let inv = c.loop-digit.invariant in
     all_read c.args.radix c.args.digits.now c.loop-digit.digit-index c.loop-digit.number inv.some
-        c.loop-digit-test.false inv.fits inv.digits inv.value
+    c.loop-digit-test.false inv.fits inv.digits inv.value

@@ -11,16 +11,16 @@ pub invariant_of-self : goal.invariant_of-self
 invariant_of-self c =
     let s : Sent = record { frame = c.args.frame.now; priority = c.args.priority; mark = c.args.mark } in
     let kept : IsKept (setup_of c.self.inside.equipment)
-        (s ∷ reverse c.self.inside.sent.items) c.see.new.self = c.see.ensures _ _ s refl refl c.self.invariant.kept in
+    (s ∷ reverse c.self.inside.sent.items) c.see.new.self = c.see.ensures _ _ s refl refl c.self.invariant.kept in
     let items : c.push.new.self.items
-        ≡ c.self.inside.sent.items ++ s ∷ [] = rw c.unwrap.ensures at c.push.ensures.items in
+    ≡ c.self.inside.sent.items ++ s ∷ [] = rw c.unwrap.ensures at c.push.ensures.items in
     let len : vec_len c.push.new.self ≡ vec_len c.self.inside.sent + 1 = rw c.unwrap.ensures at c.push.ensures.len in
     let spare : c.self.inside.spare ≡ c.args.self.now.log.spare = ap (λ (v : Simulated). v.log.spare) c.self.view_is in
     let some : 0 < c.args.self.now.log.spare = c.requires in
     record {
       kept = kept_sent (setup_of c.self.inside.equipment)
           (s ∷ reverse c.self.inside.sent.items) c.push.new.self.items c.see.new.self kept
-              (sent_more c.self.inside.sent.items c.push.new.self.items s items);
+          (sent_more c.self.inside.sent.items c.push.new.self.items s items);
       sent_spare = omega (arith, c.push.ensures.capacity, c.self.invariant.sent_spare);
       heard_spare = omega (arith, c.self.invariant.heard_spare);
       room = c.self.invariant.room;
@@ -30,9 +30,9 @@ pub returns : goal.returns
 returns c =
     let s : Sent = record { frame = c.args.frame.now; priority = c.args.priority; mark = c.args.mark } in
     let kept : IsKept (setup_of c.self.inside.equipment)
-        (s ∷ reverse c.self.inside.sent.items) c.see.new.self = c.see.ensures _ _ s refl refl c.self.invariant.kept in
+    (s ∷ reverse c.self.inside.sent.items) c.see.new.self = c.see.ensures _ _ s refl refl c.self.invariant.kept in
     let items : c.push.new.self.items
-        ≡ c.self.inside.sent.items ++ s ∷ [] = rw c.unwrap.ensures at c.push.ensures.items in
+    ≡ c.self.inside.sent.items ++ s ∷ [] = rw c.unwrap.ensures at c.push.ensures.items in
     let seen : Setup → List Sent → Simulated = λ setup sent. record {
       setup = setup;
       script = c.self.inside.script.items;
@@ -48,6 +48,6 @@ returns c =
       };
     } in
     rw (← c.self.view_is)
-        (ap (λ (x : Setup). seen x c.push.new.self.items)
-            (setup_stays c.self.inside.equipment c.see.new.self s (reverse c.self.inside.sent.items) kept)
+    (ap (λ (x : Setup). seen x c.push.new.self.items)
+    (setup_stays c.self.inside.equipment c.see.new.self s (reverse c.self.inside.sent.items) kept)
     ∙ ap (λ (y : List Sent). seen (setup_of c.self.inside.equipment) y) items)

@@ -21,9 +21,9 @@ pub returns : goal.returns
 returns c =
     let setup : setup_of c.in_ok-equipment.equipment ≡ setup_in c.args.setup =
     setup_kept _ [] c.in_ok-equipment.equipment c.in_ok-equipment.ensures
-        ∙ (rw (c.as_slice.ensures.value, c.as_slice-2.ensures.value) refl) in
+    ∙ (rw (c.as_slice.ensures.value, c.as_slice-2.ensures.value) refl) in
     let seen : Setup → List Arrival → List Arrival → List Sent → List ℕ
-        → Simulated = λ declared waiting later sent heard. record {
+    → Simulated = λ declared waiting later sent heard. record {
       setup = declared;
       script = c.args.setup.script.items;
       waiting = waiting;
@@ -31,12 +31,12 @@ returns c =
       log = record { sent = sent; heard = heard; spare = 0; failures = 0; hears = 0; heard_none = false };
     } in
     ap (λ (x : Setup). seen x c.in_ok-with_capacity.field-0.items c.from_vec.result.items c.new-2.result.items
-        c.new-3.result.items) setup
+    c.new-3.result.items) setup
     ∙ (ap (λ (x : List Arrival). seen
-        (setup_in c.args.setup) x c.from_vec.result.items c.new-2.result.items
-            c.new-3.result.items) c.in_ok-with_capacity.ensures.items
+    (setup_in c.args.setup) x c.from_vec.result.items c.new-2.result.items
+    c.new-3.result.items) c.in_ok-with_capacity.ensures.items
     ∙ (ap (λ (x : List Arrival). seen
-        (setup_in c.args.setup) [] x c.new-2.result.items c.new-3.result.items) c.from_vec.ensures.items
+    (setup_in c.args.setup) [] x c.new-2.result.items c.new-3.result.items) c.from_vec.ensures.items
     ∙ (ap (λ (x : List Sent). seen
-        (setup_in c.args.setup) [] c.args.setup.arrivals.items x c.new-3.result.items) c.new-2.ensures.items
+    (setup_in c.args.setup) [] c.args.setup.arrivals.items x c.new-3.result.items) c.new-2.ensures.items
     ∙ ap (λ (x : List ℕ). seen (setup_in c.args.setup) [] c.args.setup.arrivals.items [] x) c.new-3.ensures.items)))

@@ -8,10 +8,10 @@ pub invariant_of-result : goal.invariant_of-result
 invariant_of-result c =
     let entries : c.lines.result.now ≡ c.args.scenario.now = c.lines.ensures.entries in
     let moments : c.in_ok-moments.moments.items ≡ ticks c.args.scenario.now = c.in_ok-moments.ensures
-        ∙ ap ticks entries in
+    ∙ ap ticks entries in
     record {
       never_fall =
           subst (λ (ms : List ℕ). AllPairs (λ earlier later. earlier ≤ later) ms) (sym moments)
-              (ticks_never_fall c.args.scenario.now c.lines.ensures.order);
+          (ticks_never_fall c.args.scenario.now c.lines.ensures.order);
       given = omega arith;
     }
