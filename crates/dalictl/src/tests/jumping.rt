@@ -55,7 +55,7 @@ const ACCEPTED: [Row; 6] = [
     // What no way leads to is not checked.
     Row {
         text: "PROGRAM p\nVAR a : BOOL; END_VAR\n\
-            JMP on\nADD 5\non:\nEND_PROGRAM\n",
+            JMP over\nADD 5\nover:\nEND_PROGRAM\n",
         line: "check t.il",
         status: 0,
         printed: "task main words 2 bound 1\n",
@@ -94,13 +94,13 @@ const REFUSED: [Row; 8] = [
     // Of results of two kinds none is left.
     Row {
         text: "PROGRAM p\nVAR a : BOOL; END_VAR\n\
-            LD a\nJMPC on\nLD 1\non:\nST a\nEND_PROGRAM\n",
+            LD a\nJMPC over\nLD 1\nover:\nST a\nEND_PROGRAM\n",
         line: "check t.il",
         status: 1,
         printed: "task main refused 3 at word 3 line 7\n",
     },
     Row {
-        text: "PROGRAM p\nVAR n : INT; END_VAR\nLD n\nJMPC on\non:\nEND_PROGRAM\n",
+        text: "PROGRAM p\nVAR n : INT; END_VAR\nLD n\nJMPC over\nover:\nEND_PROGRAM\n",
         line: "check t.il",
         status: 1,
         printed: "task main refused 2 at word 1 line 4\n",
@@ -113,13 +113,13 @@ const REFUSED: [Row; 8] = [
     },
     // Each program sees its own labels alone.
     Row {
-        text: "PROGRAM p\nJMP on\nEND_PROGRAM\nPROGRAM q\non:\nEND_PROGRAM\n",
+        text: "PROGRAM p\nJMP over\nEND_PROGRAM\nPROGRAM q\nover:\nEND_PROGRAM\n",
         line: "check t.il",
         status: 1,
         printed: "name fault 4 at 2:5\n",
     },
     Row {
-        text: "PROGRAM p\nVAR a : BOOL; END_VAR\nLD a\nAND( a\nJMP on\n)\non:\nEND_PROGRAM\n",
+        text: "PROGRAM p\nVAR a : BOOL; END_VAR\nLD a\nAND( a\nJMP over\n)\nover:\nEND_PROGRAM\n",
         line: "check t.il",
         status: 1,
         printed: "text fault 7 at 5:1\n",
