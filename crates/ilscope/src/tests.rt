@@ -314,7 +314,7 @@ fn names_are_looked_up(rt: HostRuntime) -> Result<(), Fail> {
         }
     }
     let name = Name { from: 2, to: 6 };
-    assert_eq!(rt; scope.spelling(name), b"main");
+    assert_eq!(rt; scope.spelling(name), b"main".as_slice());
     let mut names = Names::new(alloc);
     assert!(rt; names.add(alloc, scope.spelling(name), 7)?);
     assert!(rt; !names.add(alloc, b"main", 8)?);
