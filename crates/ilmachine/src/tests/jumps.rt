@@ -1,5 +1,7 @@
 //! Jumps: a divisor that a test keeps from 0, ways that meet, and a return to the next program.
 
+ghost use Rattle.std.specs.Prelude.{◌≡◌, length, IfOk};
+
 use crate::tests::are_of;
 use crate::{ScanResult, Snapshot, scan};
 use ilcode::{Code, Instruction, Operand};
@@ -31,7 +33,9 @@ fn jump(condition: Condition, target: usize) -> Instruction {
 }
 
 /// A number from 0 to 20, one from 0 to 100, and a truth value.
-fn types(alloc: Global) -> Result<Vec<IlType>, Fail> {
+fn types(alloc: Global) -> Result<Vec<IlType>, Fail>
+    ensures { IfOk result (λ types. length types.items ≡ 3) }
+{
     let few = Range::new(0, 20).ok_or("ordered")?;
     let many = Range::new(0, 100).ok_or("ordered")?;
     Ok(vec![in alloc; IlType::Int(few), IlType::Int(many), IlType::Bool]?)
