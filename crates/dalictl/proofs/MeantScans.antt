@@ -1,12 +1,14 @@
 -- What the scans of a task's code leave is what the scans of its source program mean.
 use Rattle.std.proofs.Common.{◌≡◌, ℕ, zero, suc, ◌≤◌, List, [], ◌∷◌, length, Option, Some, sym, ap, ◌∙◌, subst, arith}
-use Rattle.std.proofs.Common.{◌++◌, length-append, refl}
-use Rattle.std.specs.Prelude.{slice_get, All, IfSome}
-use Rattle.std.proofs.lemmas.List.{length-map}
+use Rattle.std.proofs.Common.{◌++◌, ◌*◌, length-append, refl}
+use Rattle.std.specs.Prelude.{slice_get, map, All, IfSome}
+use Rattle.std.proofs.lemmas.List.{length-map, map-append}
 use Rattle.std.proofs.lemmas.List.Elements.{All-nil, All-append, All-cons}
 use Rattle.iltypes.specs.declared.value.IlType.{IlType}
 use Rattle.iltypes.specs.declared.value.Value.{Value}
 use Rattle.iltypes.specs.Values.{AreOf}
+use Rattle.gearcmd.specs.declared.requests.Request.{Request}
+use Rattle.ilblocks.specs.Stores.{Lasting, Store, store_at}
 use Rattle.ilsource.specs.Trees.{Tree}
 use Rattle.ilplan.specs.declared.instance.Slot.{Slot}
 use Rattle.ilplan.specs.Plans.{Planned, PlannedTask, KeepsLimits, initials_of, types_of}
@@ -21,9 +23,9 @@ use Rattle.ilmachine.specs.Scans.{IsScan}
 use Rattle.plantload.specs.Loaded.{AreCodes, IsCodeOf, Loaded}
 use Rattle.plantload.specs.Loading.{IsPlanOfText, IsSetup}
 use Rattle.plantload.proofs.CodeLemmas.{code_at}
-use Rattle.dalictl.specs.declared.scans.Taken.{Taken}
-use Rattle.dalictl.specs.Answered.{IsFirstCalled, IsStepped, ScansMean, initials_of_tree}
-use Rattle.dalictl.specs.Stepping.{ScansTo, AreScansOf, HasTask, run_of}
+use Rattle.dalictl.specs.Taking.{Taking}
+use Rattle.dalictl.specs.Answered.{IsFirstCalled, IsStepped, ScansMean}
+use Rattle.dalictl.specs.Stepping.{ScansTo, AreScansOf, HasTask, lasting_at_first, run_of}
 
 -- one value for each type
 as_long : (values : List Value) (types : List IlType) → AreOf values types → length values ≡ length types
@@ -37,45 +39,60 @@ only_task : (only t : PlannedTask) (k : ℕ) → slice_get (only ∷ []) k ≡ S
 only_task only t zero e = cc
 only_task only t (suc k) e = absurd (cc)
 
-abbrev AreFew : Accepted → List Taken → Type 0
+abbrev AreFew : Accepted → List Taking → Type 0
 AreFew code each = All (λ taken. taken.steps ≤ code.bound) each
 
--- what some scans leave
-record IsLeft (tree : Tree) (code : Accepted) (scans : ℕ) (from : List Value) (each : List Taken) (to : List Value)
-    : Type 0 where
-  values : ScansMean tree scans from to
-  in_types : AreOf to code.code.slots
+abbrev requests_of : List Taking → List (List Request)
+requests_of each = map (λ taken. taken.requests) each
+
+-- what some scans take and leave
+record IsLeft (tree : Tree) (buses : ℕ) (code : Accepted) (every scans : ℕ) (from : Lasting) (each : List Taking)
+    (to : Lasting) : Type 0 where
+  means : ScansMean tree buses every scans from (requests_of each) to
+  in_types : AreOf to.slots code.code.slots
   many : length each ≡ scans
   few : AreFew code each
 
-module _ (tree : Tree) (code : Accepted) (meant : IsMeant (task_of_tree tree) code.code) where
-  one_scan : (from to : List Value) (steps : ℕ) → IsScan code from steps to → source_scan tree from ≡ Some to
-  one_scan from to steps scan = sym (means_the_same tree from) ∙ meant.means from to steps scan.run
+module _ (tree : Tree) (buses : ℕ) (code : Accepted) (meant : IsMeant buses (task_of_tree tree) code.code) where
+  one_scan : (from after : Store) (steps : ℕ) → IsScan code from steps after → source_scan tree buses from ≡ Some after
+  one_scan from after steps scan =
+      sym (means_the_same tree buses from) ∙ meant.means from after steps scan.run
 
-  few_more : (before : List Taken) (last : Taken) → AreFew code before → last.steps ≤ code.bound
+  few_more : (before : List Taking) (last : Taking) → AreFew code before → last.steps ≤ code.bound
       → AreFew code (before ++ last ∷ [])
   few_more before last are is =
-      let IsFew = λ (taken : Taken). taken.steps ≤ code.bound in
+      let IsFew = λ (taken : Taking). taken.steps ≤ code.bound in
       All-append IsFew before (last ∷ []) are (All-cons IsFew last [] is (All-nil IsFew))
 
-  left : (every scans : ℕ) (from : List Value) (each : List Taken) (to : List Value) → AreOf from code.code.slots
-      → ScansTo code every scans from each to → IsLeft tree code scans from each to
+  -- the requests of one scan more
+  asked_more : (each before : List Taking) (last : Taking) (requests : List Request) → each ≡ before ++ last ∷ []
+      → last.requests ≡ requests → requests_of each ≡ requests_of before ++ requests ∷ []
+  asked_more each before last requests all is =
+      let asked = λ (taken : Taking). taken.requests in
+      ap requests_of all ∙ map-append asked before (last ∷ [])
+      ∙ ap (λ (rs : List Request). requests_of before ++ rs ∷ []) is
+
+  left : (every scans : ℕ) (from : Lasting) (each : List Taking) (to : Lasting) → AreOf from.slots code.code.slots
+      → ScansTo code every scans from each to → IsLeft tree buses code every scans from each to
   left every zero from each to fit h = record {
-    values = h.1;
-    in_types = subst (λ (vs : List Value). AreOf vs code.code.slots) (sym h.1) fit;
-    many = ap (λ (ns : List Taken). length ns) h.0;
-    few = subst (AreFew code) (sym h.0) (All-nil (λ (taken : Taken). taken.steps ≤ code.bound));
+    means = (ap requests_of h.0, h.1);
+    in_types = subst (λ (l : Lasting). AreOf l.slots code.code.slots) (sym h.1) fit;
+    many = ap (λ (ts : List Taking). length ts) h.0;
+    few = subst (AreFew code) (sym h.0) (All-nil (λ (taken : Taking). taken.steps ≤ code.bound));
   }
   left every (suc scans) from each to fit h =
       let before = left every scans from h.0 h.1 fit h.3 in
+      let last = h.4 in
       let long = length-append h.0 (h.2 ∷ []) in
-      let all = ap (λ (ns : List Taken). length ns) h.5 in
+      let all = ap (λ (ts : List Taking). length ts) h.5 in
       let earlier = before.many in
+      let asked = asked_more each h.0 h.2 last.after.requests h.5 last.requests in
+      let meant_last = one_scan (store_at h.1 (scans * every)) last.after h.2.steps last.scan in
       record {
-        values = (h.1, before.values, one_scan h.1 to h.2.steps h.4.scan);
-        in_types = h.4.scan.in_types;
+        means = (requests_of h.0, h.1, last.after, before.means, meant_last, asked, last.left);
+        in_types = subst (λ (l : Lasting). AreOf l.slots code.code.slots) (sym last.left) last.scan.in_types.slots;
         many = omega (arith, long, all, earlier);
-        few = subst (AreFew code) (sym h.5) (few_more h.0 h.2 before.few h.4.scan.few);
+        few = subst (AreFew code) (sym h.5) (few_more h.0 h.2 before.few last.scan.few);
       }
 
 -- a plan with its tasks' codes is the setup of the text that the plan is of
@@ -94,9 +111,9 @@ code_is : (o : Option PlannedTask) (t : PlannedTask) (plan : Planned) (code : Ac
 code_is o t plan code is h = rw is at h
 
 module _ (buses : ℕ) (bytes : List ℕ) (setup : Loaded) (is : IsSetup buses bytes setup) (number scans every : ℕ)
-    (each : List Taken) (values : List Value)
+    (each : List Taking) (to : Lasting)
     (limits : IfSome (slice_get setup.plan.tasks number) (λ t. KeepsLimits t))
-    (r : AreScansOf setup number scans every each values) where
+    (r : AreScansOf setup number scans every each to) where
   abbrev tree : Tree
   tree = is.plan.tree
 
@@ -116,32 +133,34 @@ module _ (buses : ℕ) (bytes : List ℕ) (setup : Loaded) (is : IsSetup buses b
   slots : r.code.code.slots ≡ types_of r.task
   slots = ap (λ (l : Listing). l.slots) coded.laid
 
-  meant : IsMeant (task_of_tree tree) r.code.code
+  meant : IsMeant buses (task_of_tree tree) r.code.code
   meant =
       let laid = is_meant setup.plan.buses setup.plan.text r.task kept in
-      let its = subst (IsMeant r.task) (sym coded.laid) laid in
-      subst (λ (t : PlannedTask). IsMeant t r.code.code) task its
+      let its = subst (IsMeant setup.plan.buses r.task) (sym coded.laid) laid in
+      let on = ap (λ (p : Planned). p.buses) is.plan.resolved in
+      subst (λ (t : PlannedTask). IsMeant buses t r.code.code) task
+      (subst (λ (n : ℕ). IsMeant n r.task r.code.code) on its)
 
-  done : IsLeft tree r.code scans (initials_of r.task) each values
+  done : IsLeft tree buses r.code every scans (lasting_at_first r.task) each to
   done =
       let fit = subst (λ (ts : List IlType). AreOf (initials_of r.task) ts) (sym slots) kept.initials in
-      left tree r.code meant every scans (initials_of r.task) each values fit r.run
+      left tree buses r.code meant every scans (lasting_at_first r.task) each to fit r.run
 
-  pub has_task : HasTask (run_of setup number each values)
+  pub has_task : HasTask (run_of setup number each to)
   has_task =
-      let typed = as_long values r.code.code.slots done.in_types in
+      let typed = as_long to.slots r.code.code.slots done.in_types in
       let types = ap (λ (ts : List IlType). length ts) slots in
       let each_typed = length-map r.task.slots (λ (s : Slot). s.value_type) in
       record { task = r.task; is = r.is; valued = typed ∙ types ∙ each_typed }
 
   pub stepped : (name : List ℕ) → IsFirstCalled setup.plan name number
-      → IsStepped buses bytes name scans every (run_of setup number each values)
+      → IsStepped buses bytes name scans every (run_of setup number each to)
   stepped name called =
-      let begun = λ (t : PlannedTask). ScansMean tree scans (initials_of t) values in
+      let begun = λ (t : PlannedTask). ScansMean tree buses every scans (lasting_at_first t) (requests_of each) to in
       record {
         loaded = is;
         task = called;
-        values = subst begun task done.values;
+        means = subst begun task done.means;
         many = done.many;
         runs = r;
         few = done.few;

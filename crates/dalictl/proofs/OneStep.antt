@@ -3,8 +3,8 @@ use Rattle.std.proofs.Common.{◌≡◌, ℕ, zero, suc, ◌+◌, ◌*◌, ◌<�
 use Rattle.std.proofs.Common.{Result, Ok, Err, refl, sym, ap, ◌∙◌, subst, arith, inl, inr}
 use Rattle.std.specs.Prelude.{slice_get}
 use Rattle.std.proofs.lemmas.Bool.{cases_lt}
-use Rattle.iltypes.specs.declared.value.Value.{Value}
-use Rattle.ilplan.specs.Plans.{Planned, PlannedTask, initials_of}
+use Rattle.ilblocks.specs.Stores.{Lasting, Store, lasting_of, store_at}
+use Rattle.ilplan.specs.Plans.{Planned, PlannedTask}
 use Rattle.ilcode.proofs.RunPaths.{one_end}
 use Rattle.ilverify.specs.Verdicts.{Accepted}
 use Rattle.plantload.specs.Loaded.{Loaded}
@@ -12,35 +12,39 @@ use Rattle.plantload.specs.Loading.{IsLoadFault, IsPlanOfText, IsSetup}
 use Rattle.plantload.specs.declared.fault.LoadFault.{LoadFault}
 use Rattle.plantload.specs.declared.fault.LoadFault.TheVariants as load_faults
 use Rattle.plantload.proofs.OneAnswer.{no_fault, same_fault, same_plan, same_setup, none_against}
-use Rattle.dalictl.specs.declared.scans.Taken.{Taken}
+use Rattle.dalictl.specs.Taking.{Taking}
 use Rattle.dalictl.specs.declared.stop.Stop.{Stop}
 use Rattle.dalictl.specs.declared.stop.Stop.TheVariants.{Memory, Binding, Load, NoTask}
 use Rattle.dalictl.specs.Answered.{IsAfterName, IsChecked, IsFirstCalled, IsStep, IsStepStop, IsStepped, NoneIsCalled}
-use Rattle.dalictl.specs.Stepping.{AreScansOf, IsScanAt, Run, ScansTo}
+use Rattle.dalictl.specs.Stepping.{AreScansOf, IsScanAt, Run, ScansTo, lasting_at_first}
 
 -- ---- scans
 
-same_scan : (code : Accepted) (moment : ℕ) (from : List Value) (s t : Taken) (a b : List Value)
+same_scan : (code : Accepted) (moment : ℕ) (from : Lasting) (s t : Taking) (a b : Lasting)
     → IsScanAt code moment from s a → IsScanAt code moment from t b → (s ≡ t) × (a ≡ b)
 same_scan code moment from s t a b h g =
-    let ends = one_end code.code from s.steps t.steps a b h.scan.run g.scan.run in
-    let moments = h.at_moment ∙ sym g.at_moment in
-    (λ i. record { moment = moments i; steps = ends.0 i }, ends.1)
+    let begun = store_at from moment in
+    let ends = one_end code.code begun s.steps t.steps h.after g.after h.scan.run g.scan.run in
+    let moments : s.moment ≡ t.moment = h.at_moment ∙ sym g.at_moment in
+    let asked = ap (λ (store : Store). store.requests) ends.1 in
+    let requests : s.requests ≡ t.requests = h.requests ∙ asked ∙ sym g.requests in
+    let left = ap lasting_of ends.1 in
+    (λ i. record { moment = moments i; steps = ends.0 i; requests = requests i }, h.left ∙ left ∙ sym g.left)
 
--- the scans and the values that two runs of the same scans leave
-same_scans : (code : Accepted) (every scans : ℕ) (from : List Value) (s t : List Taken) (a b : List Value)
+-- what two runs of the same scans took and left
+same_scans : (code : Accepted) (every scans : ℕ) (from : Lasting) (s t : List Taking) (a b : Lasting)
     → ScansTo code every scans from s a → ScansTo code every scans from t b → (s ≡ t) × (a ≡ b)
 same_scans code every zero from s t a b h g = (h.0 ∙ sym g.0, h.1 ∙ sym g.1)
 same_scans code every (suc scans) from s t a b h g =
     let before = same_scans code every scans from h.0 g.0 h.1 g.1 h.3 g.3 in
     let moment = scans * every in
-    let its = subst (λ (vs : List Value). IsScanAt code moment vs h.2 a) before.1 h.4 in
+    let its = subst (λ (l : Lasting). IsScanAt code moment l h.2 a) before.1 h.4 in
     let last = same_scan code moment g.1 h.2 g.2 a b its g.4 in
-    let fronts = ap (λ (ts : List Taken). ts ++ h.2 ∷ []) before.0 in
-    let ends = ap (λ (x : Taken). g.0 ++ x ∷ []) last.0 in
+    let fronts = ap (λ (ts : List Taking). ts ++ h.2 ∷ []) before.0 in
+    let ends = ap (λ (x : Taking). g.0 ++ x ∷ []) last.0 in
     (h.5 ∙ fronts ∙ ends ∙ sym g.5, last.1)
 
-same_runs : (setup : Loaded) (number scans every : ℕ) (s t : List Taken) (a b : List Value)
+same_runs : (setup : Loaded) (number scans every : ℕ) (s t : List Taking) (a b : Lasting)
     → AreScansOf setup number scans every s a → AreScansOf setup number scans every t b → (s ≡ t) × (a ≡ b)
 same_runs setup number scans every s t a b h g =
     let mine = h.is in
@@ -49,10 +53,10 @@ same_runs setup number scans every s t a b h g =
     let its_code = g.coded in
     let task : h.task ≡ g.task = cc in
     let code : h.code ≡ g.code = cc in
-    let moved : ScansTo g.code every scans (initials_of g.task) s a =
-    subst (λ (u : PlannedTask). ScansTo g.code every scans (initials_of u) s a) task
-    (subst (λ (c : Accepted). ScansTo c every scans (initials_of h.task) s a) code h.run) in
-    same_scans g.code every scans (initials_of g.task) s t a b moved g.run
+    let moved : ScansTo g.code every scans (lasting_at_first g.task) s a =
+    subst (λ (u : PlannedTask). ScansTo g.code every scans (lasting_at_first u) s a) task
+    (subst (λ (c : Accepted). ScansTo c every scans (lasting_at_first h.task) s a) code h.run) in
+    same_scans g.code every scans (lasting_at_first g.task) s t a b moved g.run
 
 -- ---- the task of a name
 
@@ -97,10 +101,10 @@ module _ (buses : ℕ) (bytes : List ℕ) where
         let setup : a.setup ≡ b.setup = same_setup buses bytes a.setup b.setup h.loaded g.loaded in
         let called = subst (λ (s : Loaded). IsFirstCalled s.plan name a.task) setup h.task in
         let task : a.task ≡ b.task = same_task b.setup.plan name a.task b.task called g.task in
-        let mine = subst (λ (s : Loaded). AreScansOf s a.task scans every a.each a.values) setup h.runs in
-        let runs = subst (λ (k : ℕ). AreScansOf b.setup k scans every a.each a.values) task mine in
-        let left = same_runs b.setup b.task scans every a.each b.each a.values b.values runs g.runs in
-        λ i. record { setup = setup i; task = task i; each = left.0 i; values = left.1 i }
+        let mine = subst (λ (s : Loaded). AreScansOf s a.task scans every a.each a.left) setup h.runs in
+        let runs = subst (λ (k : ℕ). AreScansOf b.setup k scans every a.each a.left) task mine in
+        let left = same_runs b.setup b.task scans every a.each b.each a.left b.left runs g.runs in
+        λ i. record { setup = setup i; task = task i; each = left.0 i; left = left.1 i }
 
     none_called : (plan : Planned) (task : ℕ) → IsPlanOfText buses bytes plan → IsFirstCalled plan name task
         → ¬ HasNone

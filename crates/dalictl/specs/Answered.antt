@@ -1,13 +1,14 @@
 -- What a text is answered: what stands against running it, or the variables of a task after its scans (IEC 61131-3,
 -- 2.7.2 and 3.2, and profile).
-use Rattle.std.specs.Prelude.{◌≡◌, ℕ, zero, suc, ◌<◌, ◌≤◌, List, length, map, All, IfSome, Result, Ok, Err}
-use Rattle.std.specs.Prelude.{Some, slice_get, ⊤}
+use Rattle.std.specs.Prelude.{◌≡◌, ℕ, zero, suc, ◌*◌, ◌<◌, ◌≤◌, List, [], ◌∷◌, ◌++◌, length, map, All, IfSome}
+use Rattle.std.specs.Prelude.{Result, Ok, Err, Some, slice_get, ⊤}
 use Rattle.std.specs.Char.{to_ascii_lowercase}
-use Rattle.iltypes.specs.declared.value.Value.{Value}
+use Rattle.gearcmd.specs.declared.requests.Request.{Request}
+use Rattle.ilblocks.specs.Stores.{Store, Lasting, lasting_of, store_at, blocks_at_first}
 use Rattle.ilsource.specs.Trees.{Tree}
 use Rattle.ilplan.specs.Plans.{Planned}
 use Rattle.ilsyms.specs.Meaning.{source_scan}
-use Rattle.ilsyms.specs.Variables.{slots_of_tree}
+use Rattle.ilsyms.specs.Variables.{slots_of_tree, blocks_of_tree}
 use Rattle.plantload.specs.Loaded.{Loaded}
 use Rattle.plantload.specs.Loading.{IsLoadFault, IsPlanOfText, IsSetup}
 use Rattle.plantload.specs.declared.fault.LoadFault.{LoadFault}
@@ -61,24 +62,33 @@ IsStepStop buses bytes name _ = ⊥
 
 -- ---- what scans of a text leave
 
--- this many scans of the source program, each from the values that the one before left
-abbrev pub ScansMean : Tree → ℕ → List Value → List Value → Type 0
-ScansMean tree zero from to = to ≡ from
-ScansMean tree (suc scans) from to =
-    (values : List Value) × ScansMean tree scans from values × (source_scan tree values ≡ Some to)
+-- this many scans of the source program, so many milliseconds apart, each from what the one before left, make these
+-- requests and leave that
+abbrev pub ScansMean : Tree → ℕ → ℕ → ℕ → Lasting → List (List Request) → Lasting → Type 0
+ScansMean tree buses every zero from requests to = (requests ≡ []) × (to ≡ from)
+ScansMean tree buses every (suc scans) from requests to =
+    (before : List (List Request)) × (between : Lasting) × (after : Store)
+    × ScansMean tree buses every scans from before between
+    × (source_scan tree buses (store_at between (scans * every)) ≡ Some after)
+    × (requests ≡ before ++ after.requests ∷ []) × (to ≡ lasting_of after)
 
--- the values of its variables before the first scan, in declared order
-abbrev pub initials_of_tree : Tree → List Value
-initials_of_tree tree = map (λ s. s.initial) (slots_of_tree tree)
+-- before the first scan: the initial values of its variables, in declared order, and its block instances at their start
+abbrev pub at_first : Tree → Lasting
+at_first tree =
+    record {
+      slots = map (λ s. s.initial) (slots_of_tree tree);
+      blocks = blocks_at_first (map (λ b. b.kind) (blocks_of_tree tree));
+    }
 
 -- the variables after this many scans of the text, so many milliseconds apart, from their initial values, with the
--- steps of each scan, which are those of the task's code from the variables before it and at most the code's bound
+-- requests and the steps of each scan, which are those of the task's code and at most its bound
 pub record IsStepped (buses : ℕ) (bytes name : List ℕ) (scans every : ℕ) (made : Run) : Type 0 where
   pub loaded : IsSetup buses bytes made.setup
   pub task : IsFirstCalled made.setup.plan name made.task
-  pub values : ScansMean loaded.plan.tree scans (initials_of_tree loaded.plan.tree) made.values
+  pub means : ScansMean loaded.plan.tree buses every scans (at_first loaded.plan.tree)
+      (map (λ taken. taken.requests) made.each) made.left
   pub many : length made.each ≡ scans
-  pub runs : AreScansOf made.setup made.task scans every made.each made.values
+  pub runs : AreScansOf made.setup made.task scans every made.each made.left
   pub few : All (λ taken. taken.steps ≤ runs.code.bound) made.each
 
 -- ---- answers, out of memory aside

@@ -9,3 +9,4 @@ pub mod Responses
 pub mod Served
 pub mod Stepping
 pub mod Stops
+pub mod Taking

@@ -1,6 +1,9 @@
 -- The lines that an answer is printed as, one after another (profile).
 use Rattle.std.specs.Prelude.{◌≡◌, ℕ, zero, suc, List, [], ◌∷◌, ◌++◌, length, Option, Some, slice_get}
+use Rattle.std.specs.List.{flat_map}
 use Rattle.std.specs.Io.KnownBytes.{Appends}
+use Rattle.gearcmd.specs.declared.requests.Request.{Request}
+use Rattle.gearcmd.specs.declared.requests.TaskKind.{TaskKind}
 use Rattle.ilsource.specs.Names.{text_of}
 use Rattle.ilplan.specs.Plans.{slot_at}
 use Rattle.plantload.specs.Loaded.{Loaded}
@@ -10,15 +13,23 @@ use Rattle.dalictl.specs.declared.options.Invocation.{Invocation}
 use Rattle.dalictl.specs.declared.exit_status.ExitStatus.{ExitStatus}
 use Rattle.dalictl.specs.declared.exit_status.ExitStatus.TheVariants.{Accepted}
 use Rattle.dalictl.specs.ExitStatuses.{status_of_stop}
-use Rattle.dalictl.specs.Printed.{printed_task, printed_scan, printed_variable}
+use Rattle.dalictl.specs.Printed.{printed_task, printed_scan, printed_request, printed_variable}
 use Rattle.dalictl.specs.Responses.{IsAnswer}
-use Rattle.dalictl.specs.Stepping.{Run}
+use Rattle.dalictl.specs.Stepping.{Run, kind_of}
 use Rattle.dalictl.specs.Stops.{printed_stop}
 
--- the first of the lines, each with a line feed (10)
+-- the first of these texts, one after another
+abbrev pub first_texts : (ℕ → List ℕ) → ℕ → List ℕ
+first_texts text zero = []
+first_texts text (suc texts) = first_texts text texts ++ text texts
+
+-- a line ends with a line feed (10)
+abbrev pub ended : List ℕ → List ℕ
+ended line = line ++ 10 ∷ []
+
+-- the first of the lines
 abbrev pub first_lines : (ℕ → List ℕ) → ℕ → List ℕ
-first_lines line zero = []
-first_lines line (suc lines) = first_lines line lines ++ line lines ++ 10 ∷ []
+first_lines line lines = first_texts (λ number. ended (line number)) lines
 
 -- what is printed of both
 abbrev pub of_both : {A B : Type 0} → (A → B → List ℕ) → Option A → Option B → List ℕ
@@ -39,6 +50,21 @@ scan_line made number =
     (slice_get made.each number)
     (slice_get made.setup.codes made.task)
 
+-- the lines of some requests of a task, in order
+abbrev pub request_lines : TaskKind → List Request → List ℕ
+request_lines task requests = flat_map (λ request. ended (printed_request request task)) requests
+
+-- the lines of the requests of the scan of this number
+abbrev pub requests_of_scan : Run → ℕ → List ℕ
+requests_of_scan made number =
+    of_both (λ taken task. request_lines (kind_of task) taken.requests)
+    (slice_get made.each number)
+    (slice_get made.setup.plan.tasks made.task)
+
+-- the line of the scan of this number, and behind it those of its requests
+abbrev pub scan_lines : Run → ℕ → List ℕ
+scan_lines made number = ended (scan_line made number) ++ requests_of_scan made number
+
 -- the line of the variable in the slot of this number
 abbrev pub variable_line : Run → ℕ → List ℕ
 variable_line made number =
@@ -46,14 +72,15 @@ variable_line made number =
     (λ slot value. printed_variable (text_of made.setup.plan.text slot.instance)
     (text_of made.setup.plan.text slot.variable) value)
     (slot_at made.setup.plan made.task number)
-    (slice_get made.values number)
+    (slice_get made.left.slots number)
 
--- a line for each task; a line for each scan, and then one for each variable; the line of what stands against it
+-- a line for each task; for each scan its line and those of its requests, and then a line for each variable; the line
+-- of what stands against it
 abbrev pub printed_answer : Answer → List ℕ
 printed_answer (answers.Checked setup) = first_lines (task_line setup) (length setup.plan.tasks)
 printed_answer (answers.Stepped made) =
-    first_lines (scan_line made) (length made.each) ++ first_lines (variable_line made) (length made.values)
-printed_answer (answers.Stopped stop) = printed_stop stop ++ 10 ∷ []
+    first_texts (scan_lines made) (length made.each) ++ first_lines (variable_line made) (length made.left.slots)
+printed_answer (answers.Stopped stop) = ended (printed_stop stop)
 
 -- how the program ends after an answer
 abbrev pub status_of : Answer → ExitStatus

@@ -1,4 +1,4 @@
-//! What a text is answered: its setup, or the variables after scans of a task.
+//! What a text is answered: its setup, or what scans of a task left, with their requests.
 
 ghost use Rattle.std.specs.Prelude.{◌≡◌, ◌<◌, length, map, slice_get, Result, IfErr, IfOk, IfSome};
 ghost use Rattle.std.specs.Prelude.{MatchOption};
@@ -92,8 +92,9 @@ pub fn check(alloc: Global, binding: &Binding, text: &[u8]) -> Result<Setup, Sto
     Ok(load(alloc, text, binding)?)
 }
 
-/// The variables of a task after this many scans, the first from their initial values, `every`
-/// milliseconds apart.
+/// The requests of this many scans of a task, and its variables after them: the first scan from
+/// their initial values and from block instances before their first call, `every` milliseconds
+/// apart.
 ///
 /// # Errors
 ///
@@ -122,7 +123,8 @@ pub fn step(
     Ok(Stepped::new(setup, number, made))
 }
 
-/// Scans of a task by its code, the first from the initial values of its variables.
+/// Scans of a task by its code, the first from the initial values of its variables and from block
+/// instances before their first call.
 fn run(
     alloc: Global,
     setup: &Setup,
@@ -132,7 +134,7 @@ fn run(
 ) -> Result<Scans, AllocError>
     requires { task < length setup.now.plan.tasks }
     ensures made { IfOk result (λ made. AreScansOf setup.now task scans every made.each.items
-        made.values.items) }
+        made.left.lasting) }
     ensures limits { IfSome (slice_get setup.now.plan.tasks task) (λ t. KeepsLimits t) }
 {
     let of_task = setup.plan().task(task);

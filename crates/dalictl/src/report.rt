@@ -1,13 +1,14 @@
 //! What is printed of an answer.
 
-ghost use Rattle.std.specs.Prelude.{◌≡◌, length, IfOk, OnOk};
+ghost use Rattle.std.specs.Prelude.{◌≡◌, ◌<◌, length, IfOk, OnOk};
 ghost use Rattle.std.specs.Io.KnownBytes.{Appends};
-ghost use Rattle.dalictl.specs.Reports.{first_lines, status_of, printed_answer, scan_line};
-ghost use Rattle.dalictl.specs.Reports.{task_line, variable_line};
+ghost use Rattle.dalictl.specs.Reports.{first_lines, first_texts, requests_of_scan, status_of};
+ghost use Rattle.dalictl.specs.Reports.{printed_answer, scan_lines, task_line, variable_line};
 
 use crate::answers::Answer;
 use crate::exit_status::ExitStatus;
 use crate::stepped::{Stepped, task_line};
+use gearcmd::RequestLine;
 use plantload::Setup;
 use std::alloc::Global;
 use std::io;
@@ -63,13 +64,31 @@ fn tasks<W: Write>(out: &mut W, setup: &Setup) -> io::Result<()>
     Ok(())
 }
 
-/// A line for each scan.
+/// A line for each scan, and behind it one for each of its requests.
 fn scans<W: Write>(out: &mut W, made: &Stepped) -> io::Result<()>
     ensures { OnOk result (Appends (W.contents out.old) (W.contents out.new)
-        (first_lines (scan_line made.now) (length made.now.each))) }
+        (first_texts (scan_lines made.now) (length made.now.each))) }
 {
     for number in 0..made.scans() {
         writeln!(out, "{}", made.scan_line(number))?;
+        requests(out, made, number)?;
+    }
+    Ok(())
+}
+
+/// A line for each request of the scan of this number.
+fn requests<W: Write>(out: &mut W, made: &Stepped, number: usize) -> io::Result<()>
+    requires { number < length made.now.each }
+    ensures { OnOk result (Appends (W.contents out.old) (W.contents out.new)
+        (requests_of_scan made.now number)) }
+{
+    let task = made.task_kind();
+    for request in made.requests(number) {
+        let line = RequestLine {
+            request: *request,
+            task,
+        };
+        writeln!(out, "request {line}")?;
     }
     Ok(())
 }
@@ -77,7 +96,7 @@ fn scans<W: Write>(out: &mut W, made: &Stepped) -> io::Result<()>
 /// A line for each variable.
 fn variables<W: Write>(out: &mut W, made: &Stepped) -> io::Result<()>
     ensures { OnOk result (Appends (W.contents out.old) (W.contents out.new)
-        (first_lines (variable_line made.now) (length made.now.values))) }
+        (first_lines (variable_line made.now) (length made.now.left.slots))) }
 {
     for slot in 0..made.variables() {
         writeln!(out, "{}", made.variable_line(slot))?;

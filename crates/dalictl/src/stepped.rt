@@ -4,7 +4,8 @@ ghost use Rattle.std.specs.Prelude.{◌≡◌, ◌<◌, length, slice_get, Some,
 
 use crate::lines::{ScanLine, TaskLine, VariableLine};
 use crate::scans::{Scans, Taken};
-use iltypes::Value;
+use gearcmd::{Request, TaskKind};
+use ilmachine::Snapshot;
 use plantload::Setup;
 use std::marker::Model;
 
@@ -15,12 +16,14 @@ pub struct Stepped {
     /// The task's number.
     task: usize,
     each: Vec<Taken>,
-    values: Vec<Value>,
+    /// What the last scan left.
+    left: Snapshot,
 }
 
 impl Model for Stepped {
-    ghost use Rattle.std.specs.Prelude.{ℕ, List};
+    ghost use Rattle.std.specs.Prelude.{List};
     ghost use Rattle.std.specs.Coded.{codes, code_by};
+    ghost use Rattle.ilplan.specs.declared.place.Place.{Place};
     ghost use Rattle.iltrees.specs.declared.nested.Piece.{Piece};
     ghost use Rattle.iltrees.specs.Trees.{pieces_of};
     ghost use Rattle.iltrees.specs.TreeSteps.{tree_of, tree_again};
@@ -30,31 +33,31 @@ impl Model for Stepped {
 
     ghost coded = { Prim.hlevel (
       codes,
-      code_by (List (Piece ℕ)) (Prim.hlevel codes) pieces_of tree_of tree_again,
+      code_by (List (Piece Place)) (Prim.hlevel codes) pieces_of tree_of tree_again,
     ) };
 
-    ghost view = { λ s. run_of s.setup s.task s.each.items s.values.items };
+    ghost view = { λ s. run_of s.setup s.task s.each.items s.left.lasting };
 
-    ghost invariant = { λ s. HasTask (run_of s.setup s.task s.each.items s.values.items) };
+    ghost invariant = { λ s. HasTask (run_of s.setup s.task s.each.items s.left.lasting) };
 }
 
 impl Stepped {
     ghost use Rattle.std.specs.Prelude.{◌≡◌, ◌<◌, length, slice_get, Some, option_map};
     ghost use Rattle.ilsource.specs.Names.{text_of};
     ghost use Rattle.ilplan.specs.Plans.{slot_at};
-    ghost use Rattle.dalictl.specs.Stepping.{HasTask, Run, run_of};
+    ghost use Rattle.dalictl.specs.Stepping.{HasTask, Run, kind_of, run_of};
 
     /// These scans of the task of this number.
     pub fn new(setup: Setup, task: usize, scans: Scans) -> Stepped
-        requires { HasTask (run_of setup task scans.each.items scans.values.items) }
-        ensures { result ≡ run_of setup task scans.each.items scans.values.items }
+        requires { HasTask (run_of setup task scans.each.items scans.left.lasting) }
+        ensures { result ≡ run_of setup task scans.each.items scans.left.lasting }
     {
-        let Scans { each, values } = scans;
+        let Scans { each, left } = scans;
         Stepped {
             setup,
             task,
             each,
-            values,
+            left,
         }
     }
 
@@ -67,9 +70,9 @@ impl Stepped {
 
     /// How many variables the task has.
     pub fn variables(&self) -> usize
-        ensures { result ≡ length self.now.values }
+        ensures { result ≡ length self.now.left.slots }
     {
-        self.values.len()
+        self.left.values().len()
     }
 
     /// What is printed of the scan of this number, counted from 0.
@@ -83,24 +86,45 @@ impl Stepped {
     {
         ScanLine {
             number,
-            steps: self.each[number].steps,
+            steps: self.each[number].steps(),
             bound: self.setup.code(self.task).bound(),
         }
+    }
+
+    /// What starts the task.
+    pub fn task_kind(&self) -> TaskKind
+        ensures { option_map kind_of (slice_get self.now.setup.plan.tasks self.now.task)
+            ≡ Some result }
+    {
+        if self.setup.plan().is_event(self.task) {
+            TaskKind::Event
+        } else {
+            TaskKind::Cyclic
+        }
+    }
+
+    /// The requests of the scan of this number, in order.
+    pub fn requests(&self, number: usize) -> &[Request]
+        requires { number < length self.now.each }
+        ensures { option_map (λ taken. taken.requests) (slice_get self.now.each number)
+            ≡ Some result.now }
+    {
+        self.each[number].requests()
     }
 
     /// What is printed of the variable in the slot of this number: its name as declared, and its
     /// value after the last scan.
     pub fn variable_line(&self, slot: usize) -> VariableLine<'_>
-        requires { slot < length self.now.values }
+        requires { slot < length self.now.left.slots }
         ensures instance { option_map (λ s. text_of self.now.setup.plan.text s.instance)
             (slot_at self.now.setup.plan self.now.task slot) ≡ Some result.name.instance.bytes.now }
         ensures variable { option_map (λ s. text_of self.now.setup.plan.text s.variable)
             (slot_at self.now.setup.plan self.now.task slot) ≡ Some result.name.variable.bytes.now }
-        ensures value { slice_get self.now.values slot ≡ Some result.value }
+        ensures value { slice_get self.now.left.slots slot ≡ Some result.value }
     {
         VariableLine {
             name: self.setup.plan().slot_name(self.task, slot),
-            value: self.values[slot],
+            value: self.left.values()[slot],
         }
     }
 }

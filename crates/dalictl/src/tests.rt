@@ -2,6 +2,7 @@
 //! over a runtime whose words, files and terminal are held in memory.
 
 mod at_limits;
+mod blocks;
 mod jumping;
 mod machine;
 mod numbers;

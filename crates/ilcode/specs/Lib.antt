@@ -1,3 +1,4 @@
+pub mod BlockRows
 pub mod Listings
 pub mod Paths
 pub mod Rows

@@ -1,4 +1,5 @@
--- Worked codes over four variables: three whole numbers from 0 to 254, and a truth value.
+-- Worked codes over four variables, three whole numbers from 0 to 254 and a truth value, and two block instances, a
+-- TON and a GEAR_DO.
 use Rattle.std.specs.Prelude.{◌≡◌, ℕ, zero, suc, ◌+◌, pos, negsuc, Bool, true, false, List, [], ◌∷◌, ◌++◌, length}
 use Rattle.std.specs.Prelude.{Option}
 use Rattle.std.specs.Prelude.{Some, None}
@@ -11,10 +12,15 @@ use Rattle.iloperators.specs.declared.condition.Condition.TheVariants.{Always, I
 use Rattle.iloperators.specs.declared.function.Function.TheVariants.{Not, Convert}
 use Rattle.iloperators.specs.declared.function.IntegerType.TheVariants.{Usint}
 use Rattle.iloperators.specs.declared.operator.Operator.TheVariants.{And, Sub, Div}
+use Rattle.ilblocks.specs.declared.kind.Kind.{Kind}
+use Rattle.ilblocks.specs.declared.kind.Kind.TheVariants.{Ton, GearDo}
+use Rattle.ilblocks.specs.Stores.{Store, blocks_at_first}
 use Rattle.ilcode.specs.declared.instruction.Operand.TheVariants.{Slot, Constant}
+use Rattle.ilcode.specs.declared.instruction.Variable.TheVariants as variables
 use Rattle.ilcode.specs.declared.instruction.Instruction.{Instruction}
-use Rattle.ilcode.specs.declared.instruction.Instruction.TheVariants.{Load, Apply, Transform, Store, Set, Reset}
+use Rattle.ilcode.specs.declared.instruction.Instruction.TheVariants.{Load, Apply, Transform, Set, Reset}
 use Rattle.ilcode.specs.declared.instruction.Instruction.TheVariants.{Open, Close, Jump}
+use Rattle.ilcode.specs.declared.instruction.Instruction.TheVariants.{Store as St}
 use Rattle.ilcode.specs.Listings.{Listing, listing_of}
 use Rattle.ilcode.specs.Steps.{at, after, start}
 
@@ -24,32 +30,41 @@ whole n = values.Int (pos n)
 abbrev pub subrange : Range
 subrange = record { lo = pos 0; hi = pos 254; ordered = record { le = tt } }
 
--- the constants 0, 255, 256 and -1, and one line of text for each word
+abbrev pub kinds : List Kind
+kinds = Ton ∷ GearDo ∷ []
+
+-- the constants 0, 255, 256 and -1
 abbrev pub code_of : List ℕ → List Instruction → Listing
 code_of starts words =
     listing_of 1 (whole 0 ∷ whole 255 ∷ whole 256 ∷ values.Int (negsuc 0) ∷ [])
-    (types.Int subrange ∷ types.Int subrange ∷ types.Int subrange ∷ types.Bool ∷ []) starts words []
+    (types.Int subrange ∷ types.Int subrange ∷ types.Int subrange ∷ types.Bool ∷ []) kinds starts words []
 
--- the variables, of which the first three are these numbers
-abbrev pub slots_of : ℕ → ℕ → ℕ → Bool → List Value
-slots_of a b c d = whole a ∷ whole b ∷ whole c ∷ values.Bool d ∷ []
+-- the variables, of which the first three are these numbers; no instance was called, and 40 ms have passed
+abbrev pub store_of : ℕ → ℕ → ℕ → Bool → Store
+store_of a b c d =
+    record {
+      slots = whole a ∷ whole b ∷ whole c ∷ values.Bool d ∷ [];
+      blocks = blocks_at_first kinds;
+      requests = [];
+      moment = 40;
+    }
 
 -- from these values so many steps lead to the words' end with those, the current result is this one, and nothing is
 -- open
-abbrev pub ComeIn : ℕ → List ℕ → List Instruction → List Value → Option Value → List Value → Type 0
+abbrev pub ComeIn : ℕ → List ℕ → List Instruction → Store → Option Value → Store → Type 0
 ComeIn steps starts words from result to =
     after (code_of starts words) (start from) steps ≡ Some (at (length words) to result [])
 
 -- a step for each word
-abbrev pub Come : List ℕ → List Instruction → List Value → Option Value → List Value → Type 0
+abbrev pub Come : List ℕ → List Instruction → Store → Option Value → Store → Type 0
 Come starts words = ComeIn (length words) starts words
 
 -- from these values a word is undefined
-abbrev pub AreStuck : List ℕ → List Instruction → List Value → Type 0
+abbrev pub AreStuck : List ℕ → List Instruction → Store → Type 0
 AreStuck starts words from = after (code_of starts words) (start from) (length words) ≡ None
 
 -- from these values so many steps lead to the word at the place, which is undefined
-abbrev pub AreStuckAt : ℕ → ℕ → List ℕ → List Instruction → List Value → Type 0
+abbrev pub AreStuckAt : ℕ → ℕ → List ℕ → List Instruction → Store → Type 0
 AreStuckAt place steps starts words from =
     (option_map (λ c. c.place) (after (code_of starts words) (start from) steps) ≡ Some place)
     × (after (code_of starts words) (start from) (steps + 1) ≡ None)
@@ -68,15 +83,18 @@ ld_d = Load false (Slot 3)
 abbrev pub ld : ℕ → Instruction
 ld constant = Load false (Constant constant)
 
--- ST a, ST d, STN d
+-- ST a, ST b, ST d, STN d
 abbrev pub st_a : Instruction
-st_a = Store false 0
+st_a = St false (variables.Slot 0)
+
+abbrev pub st_b : Instruction
+st_b = St false (variables.Slot 1)
 
 abbrev pub st_d : Instruction
-st_d = Store false 3
+st_d = St false (variables.Slot 3)
 
 abbrev pub stn_d : Instruction
-stn_d = Store true 3
+stn_d = St true (variables.Slot 3)
 
 -- LD a, SUB( b, SUB c, ), ST a
 abbrev pub deferred : List Instruction
@@ -105,22 +123,22 @@ nested n = opens n ++ ld_d ∷ closes n
 
 -- LD d, S d, R d
 abbrev pub set : List Instruction
-set = ld_d ∷ Transform Not ∷ Set 3 ∷ []
+set = ld_d ∷ Transform Not ∷ Set (variables.Slot 3) ∷ []
 
 abbrev pub reset : List Instruction
-reset = ld_d ∷ Reset 3 ∷ []
+reset = ld_d ∷ Reset (variables.Slot 3) ∷ []
 
 -- JMPC to a place, under LD d, before LD a, ST b
 abbrev pub jump_if : ℕ → List Instruction
-jump_if target = ld_d ∷ Jump IfTrue target ∷ ld_a ∷ Store false 1 ∷ []
+jump_if target = ld_d ∷ Jump IfTrue target ∷ ld_a ∷ st_b ∷ []
 
 -- JMPCN
 abbrev pub jump_unless : ℕ → List Instruction
-jump_unless target = ld_d ∷ Jump IfFalse target ∷ ld_a ∷ Store false 1 ∷ []
+jump_unless target = ld_d ∷ Jump IfFalse target ∷ ld_a ∷ st_b ∷ []
 
 -- JMP before LD a, ST b
 abbrev pub jump : ℕ → List Instruction
-jump target = Jump Always target ∷ ld_a ∷ Store false 1 ∷ []
+jump target = Jump Always target ∷ ld_a ∷ st_b ∷ []
 
 -- LD d, RETC, STN d; and a program with LD a
 abbrev pub returning : List Instruction

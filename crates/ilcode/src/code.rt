@@ -4,6 +4,7 @@ ghost use Rattle.std.specs.Prelude.{◌≡◌, nat_lt, ◌&&◌};
 ghost use Rattle.std.specs.List.{list_any};
 
 use crate::instruction::Instruction;
+use ilblocks::Kind;
 use iltypes::{IlType, Value};
 use std::marker::Model;
 
@@ -14,6 +15,7 @@ pub struct Code {
     buses: u8,
     constants: Vec<Value>,
     slots: Vec<IlType>,
+    kinds: Vec<Kind>,
     starts: Vec<usize>,
     instructions: Vec<Instruction>,
     lines: Vec<usize>,
@@ -25,12 +27,12 @@ impl Model for Code {
     ghost Value = { Listing };
 
     ghost view = { λ c.
-        listing_of c.buses c.constants.items c.slots.items c.starts.items c.instructions.items
-        c.lines.items };
+        listing_of c.buses c.constants.items c.slots.items c.kinds.items c.starts.items
+        c.instructions.items c.lines.items };
 
     ghost invariant = { λ c.
-        IsLawful (listing_of c.buses c.constants.items c.slots.items c.starts.items
-        c.instructions.items c.lines.items) };
+        IsLawful (listing_of c.buses c.constants.items c.slots.items c.kinds.items
+        c.starts.items c.instructions.items c.lines.items) };
 }
 
 impl Code {
@@ -38,25 +40,27 @@ impl Code {
     ghost use Rattle.ilcode.specs.Listings.{Listing, IsLawful, listing_of};
     ghost use Rattle.ilcode.specs.Steps.{is_target};
 
-    /// The code of these parts: buses, constants, the slots' types, the places where programs
-    /// begin, instructions, and a line for each of these.
+    /// The code of these parts: buses, constants, the slots' types, the kinds of the block
+    /// instances, the places where programs begin, instructions, and a line for each of these.
     pub fn new(
         buses: u8,
         constants: Vec<Value>,
         slots: Vec<IlType>,
+        kinds: Vec<Kind>,
         starts: Vec<usize>,
         instructions: Vec<Instruction>,
         lines: Vec<usize>,
     ) -> Code
-        requires { IsLawful (listing_of buses constants.items slots.items starts.items
-            instructions.items lines.items) }
-        ensures { result ≡ listing_of buses constants.items slots.items starts.items
-            instructions.items lines.items }
+        requires { IsLawful (listing_of buses constants.items slots.items kinds.items
+            starts.items instructions.items lines.items) }
+        ensures { result ≡ listing_of buses constants.items slots.items kinds.items
+            starts.items instructions.items lines.items }
     {
         Code {
             buses,
             constants,
             slots,
+            kinds,
             starts,
             instructions,
             lines,
@@ -66,6 +70,7 @@ impl Code {
     /// The number of buses, 1 to 16.
     pub fn buses(&self) -> u8
         ensures value { result ≡ self.now.buses }
+        ensures lawful { IsLawful self.now }
     {
         self.buses
     }
@@ -82,6 +87,13 @@ impl Code {
         ensures value { result.now ≡ self.now.slots }
     {
         &self.slots
+    }
+
+    /// The kinds of the block instances.
+    pub fn kinds(&self) -> &[Kind]
+        ensures value { result.now ≡ self.now.kinds }
+    {
+        &self.kinds
     }
 
     /// The places where programs begin.

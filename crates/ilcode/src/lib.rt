@@ -1,10 +1,11 @@
 //! Code of one task, as the list of its instructions.
 //!
 //! What crosses the boundary: [`Code`], which the compiler makes, the verifier judges and the
-//! machine runs, with its [`Instruction`]s, one a word, their [`Operand`]s, and [`Opened`], a
-//! parenthesis that is open. Contracts see a code as a `Listing` (specs/Listings.antt, to be read
-//! first). What a word does is `step` (specs/Steps.antt), and how words follow one another is
-//! `IsNext` (specs/Paths.antt): the machine meets the first, the verifier both.
+//! machine runs, with its [`Instruction`]s, one a word, their [`Operand`]s and [`Variable`]s, and
+//! [`Opened`], a parenthesis that is open. Contracts see a code as a `Listing`
+//! (specs/Listings.antt, to be read first). What a word does is `step` (specs/Steps.antt), and how
+//! words follow one another is `IsNext` (specs/Paths.antt): the machine meets the first, the
+//! verifier both.
 #![tactic(auto)]
 
 mod code;
@@ -12,7 +13,7 @@ mod instruction;
 mod nesting;
 
 pub use code::Code;
-pub use instruction::{Instruction, Operand};
+pub use instruction::{Instruction, Operand, Variable};
 pub use nesting::Opened;
 
 #[cfg(test)]

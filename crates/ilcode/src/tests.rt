@@ -2,11 +2,13 @@
 
 ghost use Rattle.std.specs.Prelude.{◌≤◌, length};
 
-use crate::{Code, Instruction, Operand};
+use crate::{Code, Instruction, Operand, Variable};
+use ilblocks::Kind;
 use iltypes::{IlType, Value};
 use std::alloc::{AllocError, Global};
 use std::test::Fail;
 
+mod block_rows;
 mod laws;
 mod rows;
 
@@ -17,7 +19,7 @@ const LOAD: Instruction = Instruction::Load {
 
 const STORE: Instruction = Instruction::Store {
     negated: true,
-    slot: 0,
+    variable: Variable::Port { block: 0, port: 1 },
 };
 
 #[test]
@@ -27,6 +29,7 @@ fn a_code_gives_back_its_parts(rt: HostRuntime) -> Result<(), Fail> {
         16,
         vec![in alloc; Value::Bool(true)]?,
         vec![in alloc; IlType::Bool]?,
+        vec![in alloc; Kind::Ton, Kind::GearDo]?,
         vec![in alloc; 0usize]?,
         vec![in alloc; LOAD, STORE]?,
         vec![in alloc; 3usize, 4]?,
@@ -34,6 +37,7 @@ fn a_code_gives_back_its_parts(rt: HostRuntime) -> Result<(), Fail> {
     assert_eq!(rt; code.buses(), 16);
     assert!(rt; code.constants() == [Value::Bool(true)].as_slice());
     assert!(rt; code.slots() == [IlType::Bool].as_slice());
+    assert!(rt; code.kinds() == [Kind::Ton, Kind::GearDo].as_slice());
     assert!(rt; code.starts() == [0].as_slice());
     assert!(rt; code.instructions() == [LOAD, STORE].as_slice());
     assert!(rt; code.lines() == [3, 4].as_slice());
@@ -45,6 +49,7 @@ fn targets_lie_ahead(rt: HostRuntime) -> Result<(), Fail> {
     let alloc = rt.alloc();
     let code = Code::new(
         1,
+        Vec::new(alloc),
         Vec::new(alloc),
         Vec::new(alloc),
         vec![in alloc; 0usize, 2]?,
@@ -71,15 +76,17 @@ fn code_of(
     alloc: Global,
     constants: Vec<Value>,
     slots: Vec<IlType>,
+    kinds: Vec<Kind>,
     words: Vec<Instruction>,
 ) -> Result<Code, AllocError>
     requires constants { length constants.items ≤ 4096 }
     requires slots { length slots.items ≤ 4096 }
+    requires kinds { length kinds.items ≤ 256 }
     requires words { length words.items ≤ 65536 }
 {
     let lines = vec![in alloc; 1usize; words.len()]?;
     let starts = vec![in alloc; 0usize]?;
-    Ok(Code::new(16, constants, slots, starts, words, lines))
+    Ok(Code::new(16, constants, slots, kinds, starts, words, lines))
 }
 
 #[test]
@@ -87,13 +94,16 @@ fn the_longest_lists(rt: HostRuntime) -> Result<(), Fail> {
     let alloc = rt.alloc();
     let constants = vec![in alloc; Value::Bool(true); 4096]?;
     let slots = vec![in alloc; IlType::Bool; 4096]?;
+    let kinds = vec![in alloc; Kind::Ton; 256]?;
     let words = vec![in alloc; LOAD; 65_536]?;
     assert_eq!(rt; constants.len(), 4096);
     assert_eq!(rt; slots.len(), 4096);
+    assert_eq!(rt; kinds.len(), 256);
     assert_eq!(rt; words.len(), 65_536);
-    let code = code_of(alloc, constants, slots, words)?;
+    let code = code_of(alloc, constants, slots, kinds, words)?;
     assert_eq!(rt; code.constants().len(), 4096);
     assert_eq!(rt; code.slots().len(), 4096);
+    assert_eq!(rt; code.kinds().len(), 256);
     assert_eq!(rt; code.instructions().len(), 65_536);
     assert_eq!(rt; code.lines().len(), 65_536);
     Ok(())

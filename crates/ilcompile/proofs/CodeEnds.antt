@@ -1,9 +1,10 @@
--- A run that comes to the end of a code with some values, or is stuck, ends so and not otherwise.
-use Rattle.std.proofs.Common.{◌≡◌, ℕ, zero, suc, List, [], length, Option, Some, None, refl}
+-- A run that comes to the end of a code with some store, or is stuck, ends so and not otherwise.
+use Rattle.std.proofs.Common.{◌≡◌, ℕ, zero, suc, [], length, Option, Some, None, refl}
 use Rattle.std.proofs.Common.{sym, ap, ◌∙◌, subst, arith}
 use Rattle.std.specs.Option.{option_and_then}
 use Rattle.std.proofs.lemmas.Option.{slice_get_past, slice_get_within}
 use Rattle.iltypes.specs.declared.value.Value.{Value}
+use Rattle.ilblocks.specs.Stores.{Store}
 use Rattle.ilcode.specs.Listings.{Listing}
 use Rattle.ilcode.specs.Steps.{Configuration, at, step_by, step, start, Ends}
 use Rattle.ilcode.specs.Steps as code_steps
@@ -30,16 +31,16 @@ same_after code zero c = refl
 same_after code (suc n) c = ap (option_and_then (step code)) (same_after code n c) ∙ last_step (step code) n c
 
 module _ (code : Listing) where
-  end_last : (slots : List Value) (r : Option Value) → step code (at (length code.instructions) slots r []) ≡ None
-  end_last slots r =
-      ap (step_by code (at (length code.instructions) slots r []))
+  end_last : (store : Store) (r : Option Value) → step code (at (length code.instructions) store r []) ≡ None
+  end_last store r =
+      ap (step_by code (at (length code.instructions) store r []))
       (slice_get_past code.instructions (length code.instructions) (omega arith))
 
-  leads_by : (from to : List Value) (n : ℕ) → (e : Ends code from n to)
+  leads_by : (from to : Store) (n : ℕ) → (e : Ends code from n to)
       → Leads (step code) (start from) (at (length code.instructions) to e.result [])
   leads_by from to n e = record { steps = n; is = sym (same_after code n (start from)) ∙ e.run.is }
 
-  pub one_end : (from to : List Value) (n : ℕ) (o : Option (List Value)) → Comes code (start from) o
+  pub one_end : (from to : Store) (n : ℕ) (o : Option Store) → Comes code (start from) o
       → Ends code from n to → o ≡ Some to
   one_end from to n None h e =
       let end = at (length code.instructions) to e.result [] in
@@ -54,9 +55,9 @@ module _ (code : Listing) where
       let same =
       same_last (step code) (start from) (at (length code.instructions) s h.0 []) end h.1 (end_last s h.0)
       (leads_by from to n e) (end_last to e.result) in
-      ap (λ (c : Configuration). Some c.slots) same
+      ap (λ (c : Configuration). Some c.store) same
 
-  pub some_end : (from to : List Value) (o : Option (List Value)) → Comes code (start from) o → o ≡ Some to
+  pub some_end : (from to : Store) (o : Option Store) → Comes code (start from) o → o ≡ Some to
       → (n : ℕ) × Ends code from n to
   some_end from to None h e = absurd cc
   some_end from to (Some s) h e =

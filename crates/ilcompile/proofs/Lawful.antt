@@ -12,7 +12,9 @@ use Rattle.iltypes.specs.declared.value.Value.{Value}
 use Rattle.iltrees.specs.declared.instruction.Line.{Line}
 use Rattle.iltrees.specs.Words.{places_in}
 use Rattle.iltrees.specs.Words as counts
-use Rattle.ilplan.specs.Plans.{PlannedInstance, PlannedTask, KeepsLimits, all_lines, types_of}
+use Rattle.ilblocks.specs.declared.kind.Kind.{Kind}
+use Rattle.ilplan.specs.declared.place.Place.{Place}
+use Rattle.ilplan.specs.Plans.{PlannedInstance, PlannedTask, KeepsLimits, all_lines, types_of, kinds_of}
 use Rattle.ilcode.specs.declared.instruction.Instruction.{Instruction as Word}
 use Rattle.ilcode.specs.Listings.{IsLawful, listing_of}
 use Rattle.ilsource.specs.Places.{line_at}
@@ -28,14 +30,14 @@ joined f g (x ∷ xs) =
 -- ---- starts
 
 -- no start is before the first
-starts_above : (n : ℕ) (programs : List (List (Line ℕ ℕ))) (j d : ℕ) → j < length (starts_from n programs)
+starts_above : (n : ℕ) (programs : List (List (Line Place ℕ))) (j d : ℕ) → j < length (starts_from n programs)
     → n ≤ get_or (starts_from n programs) j d
 starts_above n [] j d h = absurd (omega arith)
 starts_above n (p ∷ ps) zero d h = omega arith
 starts_above n (p ∷ ps) (suc j) d h =
     let later = starts_above (n + counts.words_of_lines p) ps j d (omega arith) in omega (arith, later)
 
-starts_ordered : (n : ℕ) (programs : List (List (Line ℕ ℕ))) → IsNonDecreasing (starts_from n programs)
+starts_ordered : (n : ℕ) (programs : List (List (Line Place ℕ))) → IsNonDecreasing (starts_from n programs)
 starts_ordered n [] i j d le h = absurd (omega arith)
 starts_ordered n (p ∷ ps) zero zero d le h = omega arith
 starts_ordered n (p ∷ ps) zero (suc j) d le h =
@@ -53,11 +55,11 @@ starts_within n most (i ∷ instances) h =
     All-cons (λ start. start ≤ most) n _ (omega arith)
     (starts_within (n + counts.words_of_lines i.lines) most instances (omega (arith, both)))
 
-length-starts : (n : ℕ) (programs : List (List (Line ℕ ℕ))) → length (starts_from n programs) ≡ length programs
+length-starts : (n : ℕ) (programs : List (List (Line Place ℕ))) → length (starts_from n programs) ≡ length programs
 length-starts n [] = refl
 length-starts n (p ∷ ps) = let more = length-starts (n + counts.words_of_lines p) ps in omega (arith, more)
 
-first_start : (constants : List Value) (programs : List (List (Line ℕ ℕ)))
+first_start : (constants : List Value) (programs : List (List (Line Place ℕ)))
     → MatchOption (slice_get (starts_from 0 programs) 0) (words_of_programs constants 0 programs ≡ [])
     (λ start. start ≡ 0)
 first_start constants [] = refl
@@ -71,11 +73,12 @@ laid_out_lawful buses text t low high k =
     let programs = programs_of t.instances in
     let ws = words_of_programs t.constants 0 programs in
     let ps = places_of_programs programs in
-    let mine = programs_long t.constants 0 t.instances k.calls in
-    let its = ap length (joined (places_in {N = ℕ} {L = ℕ}) (λ (i : PlannedInstance). i.lines) t.instances) in
+    let mine = programs_long t.constants 0 t.instances in
+    let its = ap length (joined (places_in {N = Place} {L = ℕ}) (λ (i : PlannedInstance). i.lines) t.instances) in
     let counted = places_counted (all_lines t.instances) in
     let numbers = length-map ps (line_at text) in
     let types = length-map t.slots (λ s. s.value_type) in
+    let kinds = length-map t.blocks (λ b. b.kind) in
     let starts = length-starts 0 programs in
     let instances = length-map t.instances (λ (i : PlannedInstance). i.lines) in
     record {
@@ -83,6 +86,7 @@ laid_out_lawful buses text t low high k =
       most_buses = high;
       most_constants = k.most_constants;
       most_slots = omega (arith, types, k.most_slots);
+      most_blocks = omega (arith, kinds, k.most_blocks);
       most_starts = omega (arith, starts, instances, k.most_instances);
       most_instructions = omega (arith, mine, k.most_words);
       lines = omega (arith, numbers, mine, its, counted);
@@ -95,9 +99,9 @@ laid_out_lawful buses text t low high k =
 
 -- parts that are laid out so make that code
 pub parts_are : (buses : ℕ) (text : List ℕ) (t : PlannedTask) (constants : List Value) (slots : List IlType)
-    (starts : List ℕ) (ws : List Word) (numbers : List ℕ)
-    → constants ≡ t.constants → slots ≡ types_of t → starts ≡ starts_from 0 (programs_of t.instances)
+    (kinds : List Kind) (starts : List ℕ) (ws : List Word) (numbers : List ℕ)
+    → constants ≡ t.constants → slots ≡ types_of t → kinds ≡ kinds_of t → starts ≡ starts_from 0 (programs_of t.instances)
     → ws ≡ words_of_programs t.constants 0 (programs_of t.instances)
     → numbers ≡ map (line_at text) (places_of_programs (programs_of t.instances))
-    → listing_of buses constants slots starts ws numbers ≡ laid_out buses text t
-parts_are buses text t constants slots starts ws numbers a b c d e = rw (a, b, c, d, e) refl
+    → listing_of buses constants slots kinds starts ws numbers ≡ laid_out buses text t
+parts_are buses text t constants slots kinds starts ws numbers a b c d e f = rw (a, b, c, d, e, f) refl

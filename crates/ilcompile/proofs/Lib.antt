@@ -1,4 +1,5 @@
 pub mod Meant
+pub mod CallRuns
 pub mod CodeEnds
 pub mod Lawful
 pub mod LineRuns

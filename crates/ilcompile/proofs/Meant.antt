@@ -1,15 +1,19 @@
 -- The code of a task does what the task means.
 use Rattle.std.proofs.Common.{◌≡◌, ℕ, suc, ◌+◌, List, [], ◌∷◌, ◌++◌, Bool, true, false, cond, ◌||◌, Some, refl, sym}
-use Rattle.std.proofs.Common.{ap, subst, arith}
+use Rattle.std.proofs.Common.{ap, subst, arith, length, ◌≤◌}
 use Rattle.std.specs.Prelude.{slice_get, not, flat_map, map, IfSome}
 use Rattle.std.specs.List.{list_any}
+use Rattle.std.proofs.lemmas.List.{length-map}
+use Rattle.limits.specs.Limits.{most_constants}
 use Rattle.iltypes.specs.declared.value.Value.{Value}
 use Rattle.iltrees.specs.declared.operand.Operand.{Operand}
 use Rattle.iltrees.specs.declared.operand.Operand.TheVariants.{Name, Constant}
 use Rattle.iltrees.specs.declared.instruction.Line.{Line}
 use Rattle.iltrees.specs.declared.uses.Use.{Use}
 use Rattle.iltrees.specs.Uses.{uses_in}
-use Rattle.iltrees.specs.Words.{AreShallow, CallNothing}
+use Rattle.iltrees.specs.Words.{AreShallow}
+use Rattle.ilplan.specs.declared.place.Place.{Place}
+use Rattle.ilplan.specs.declared.place.Place.TheVariants as places
 use Rattle.ilplan.specs.Constants.{same_value, constant_in, AreAmong}
 use Rattle.ilplan.specs.Plans.{PlannedInstance, PlannedTask, KeepsLimits, all_lines}
 use Rattle.ilplan.proofs.EachOnce.{same_is}
@@ -37,23 +41,25 @@ stands v (c ∷ constants) e = go (same_value v c) (λ t. same_is v c t) e (stan
         let n : suc (number_of constants v) ≡ 1 + number_of constants v = omega arith in
         subst (λ k. slice_get (c ∷ constants) k ≡ Some v) n (more f)
 
-module _ (constants : List Value) where
-  operand_served : (o : Operand ℕ) → IfSome (constant_in o) (λ v. list_any (same_value v) constants ≡ true)
+module _ (constants : List Value) (few : length constants ≤ most_constants) where
+  operand_served : (o : Operand Place) → IfSome (constant_in o) (λ v. list_any (same_value v) constants ≡ true)
       → IsServed constants o
-  operand_served (Name slot) h = tt
+  operand_served (Name (places.Slot slot)) h = tt
+  operand_served (Name (places.Port block port)) h = tt
+  operand_served (Name (places.Block block)) h = few
   operand_served (Constant value) h = stands value constants h
 
-  all_served : (uses : List (Use ℕ)) → AreAmong constants uses → AreServed constants uses
+  all_served : (uses : List (Use Place)) → AreAmong constants uses → AreServed constants uses
   all_served [] h = tt
   all_served (u ∷ uses) h = (operand_served u.operand h.0, all_served uses h.1)
 
-  lines_fit : (lines : List (Line ℕ ℕ)) → AreShallow lines → CallNothing lines
+  lines_fit : (lines : List (Line Place ℕ)) → AreShallow lines
       → AreServed constants (flat_map uses_in lines) → Each (IsFit constants) lines
-  lines_fit [] sh st sv = tt
-  lines_fit (line ∷ lines) sh st sv =
+  lines_fit [] sh sv = tt
+  lines_fit (line ∷ lines) sh sv =
       let mine = served_front constants (uses_in line) (flat_map uses_in lines) sv in
       let others = served_back constants (uses_in line) (flat_map uses_in lines) sv in
-      ((sh.0, st.0, mine), lines_fit lines sh.1 st.1 others)
+      ((sh.0, mine), lines_fit lines sh.1 others)
 
 module _ {X : Type 0} (K : X → Type 0) where
   each_front : (a b : List X) → Each K (a ++ b) → Each K a
@@ -74,12 +80,16 @@ programs_fit t k =
     let lines = all_lines t.instances in
     let among = subst (λ cs. AreAmong cs (flat_map uses_in lines)) (sym k.constants) (uses_among lines) in
     each_part (IsFit t.constants) (λ (i : PlannedInstance). i.lines) t.instances
-    (lines_fit t.constants lines k.shallow k.calls (all_served t.constants (flat_map uses_in lines) among))
+    (lines_fit t.constants k.most_constants lines k.shallow
+    (all_served t.constants k.most_constants (flat_map uses_in lines) among))
 
-pub is_meant : (buses : ℕ) (text : List ℕ) (t : PlannedTask) → KeepsLimits t → IsMeant t (laid_out buses text t)
+pub is_meant : (buses : ℕ) (text : List ℕ) (t : PlannedTask) → KeepsLimits t
+    → IsMeant buses t (laid_out buses text t)
 is_meant buses text t k =
     let code : Listing = laid_out buses text t in
-    let comes = all_run code (programs_of t.instances) refl refl (programs_fit t k) in
+    let kinds = length-map t.blocks (λ b. b.kind) in
+    let comes = all_run code (omega (arith, kinds, k.most_blocks)) (programs_of t.instances) refl refl
+    (programs_fit t k) in
     record {
       runs = λ from to h. some_end code from to _ (comes from) h;
       means = λ from to steps e. one_end code from to steps _ (comes from) e;

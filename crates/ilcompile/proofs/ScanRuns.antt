@@ -6,18 +6,20 @@ use Rattle.std.specs.Option.{option_and_then}
 use Rattle.std.proofs.lemmas.Bool.Decides.{nat_tests}
 use Rattle.std.proofs.lemmas.List.{append-nil}
 use Rattle.std.proofs.lemmas.Option.{slice_get_within}
+use Rattle.limits.specs.Limits.{most_blocks}
 use Rattle.iltypes.specs.declared.value.Value.{Value}
 use Rattle.iltrees.specs.declared.instruction.Line.{Line}
 use Rattle.iltrees.specs.Meaning.{Access, On}
 use Rattle.iltrees.specs.Passes.{passes, scan}
-use Rattle.iltrees.specs.Words.{CallNothing}
 use Rattle.iltrees.specs.Words as counts
+use Rattle.ilblocks.specs.Stores.{Store}
+use Rattle.ilplan.specs.declared.place.Place.{Place}
 use Rattle.ilcode.specs.declared.instruction.Instruction.{Instruction as Word}
-use Rattle.ilcode.specs.Listings.{Listing}
+use Rattle.ilcode.specs.Listings.{Listing, shape_of}
 use Rattle.ilcode.specs.Steps.{Configuration, at, effect, is_start, is_target, if_closed, entered, step_by, step}
 use Rattle.ilcode.proofs.Runs.{effect_leads, leads_forward}
 use Rattle.ilcompile.specs.Layout.{words_of_lines, words_of_programs, starts_from}
-use Rattle.ilplan.specs.PlanMeaning.{slots_of, number_same}
+use Rattle.ilplan.specs.PlanMeaning.{places_of, number_same}
 use Rattle.ilcompile.proofs.Runs.{Leads, after, none, prepend, leads_on, first_step}
 use Rattle.ilcompile.proofs.Sizes.{lines_long}
 use Rattle.ilcompile.proofs.Stands.{Each, HasWords, has_rest}
@@ -31,8 +33,8 @@ Ready [] r = ⊤
 Ready (lines ∷ more) r = r ≡ None
 
 module _ (code : Listing) where
-  abbrev access : Access ℕ (List Value)
-  access = slots_of code.slots
+  abbrev access : Access Place Store
+  access = places_of (shape_of code)
 
   -- the run of the code comes to a word that is undefined there
   pub record CodeStuck (c : Configuration) : Type 0 where
@@ -42,12 +44,12 @@ module _ (code : Listing) where
     pub word : Word
     pub stands : slice_get code.instructions last.place ≡ Some word
 
-  -- the run of the code comes to its end with these values, or is stuck
-  abbrev pub Comes : Configuration → Option (List Value) → Type 0
+  -- the run of the code comes to its end with this store, or is stuck
+  abbrev pub Comes : Configuration → Option Store → Type 0
   Comes c None = CodeStuck c
   Comes c (Some s) = (r : Option Value) × Leads (step code) c (at (length code.instructions) s r [])
 
-  comes_later : (c d : Configuration) (o : Option (List Value)) → Leads (step code) c d → Comes d o → Comes c o
+  comes_later : (c d : Configuration) (o : Option Store) → Leads (step code) c d → Comes d o → Comes c o
   comes_later c d None l h =
       record {
         last = h.last;
@@ -164,7 +166,7 @@ module _ (code : Listing) where
         }
 
     -- where the part's run comes to its end, the run of the whole goes on from there
-    on_end : (n : ℕ) (c : Configuration) (s : List Value) (r r' : Option Value) (o : Option (List Value))
+    on_end : (n : ℕ) (c : Configuration) (s : Store) (r r' : Option Value) (o : Option Store)
         → base ≤ c.place → after part n c ≡ Some (at (length front) s r [])
         → entered code (at (length front) s r []) ≡ Some (at (length front) s r' [])
         → (c ≡ at (length front) s r [] → Comes (at (length front) s r []) o) → Comes (at (length front) s r' []) o
@@ -182,20 +184,20 @@ module _ (code : Listing) where
     starts : code.starts ≡ before ++ starts_from p more
     behind : UpTo p before
 
-  abbrev end_of : ℕ → List (Line ℕ ℕ) → ℕ
+  abbrev end_of : ℕ → List (Line Place ℕ) → ℕ
   end_of p lines = p + counts.words_of_lines lines
 
-  abbrev words_at : ℕ → List (Line ℕ ℕ) → List Word
+  abbrev words_at : ℕ → List (Line Place ℕ) → List Word
   words_at p lines = words_of_lines code.constants (end_of p lines) p lines
 
-  next_left : (front : List Word) (before : List ℕ) (p : ℕ) (lines : List (Line ℕ ℕ)) (more : Programs)
-      → CallNothing lines → Left front before p (lines ∷ more)
+  next_left : (front : List Word) (before : List ℕ) (p : ℕ) (lines : List (Line Place ℕ)) (more : Programs)
+      → Left front before p (lines ∷ more)
       → Left (front ++ words_at p lines) (before ++ p ∷ []) (end_of p lines) more
-  next_left front before p lines more c l =
+  next_left front before p lines more l =
       let ws = words_at p lines in
       let q = end_of p lines in
       let e = l.place in
-      let long = lines_long code.constants q p lines c in
+      let long = lines_long code.constants q p lines in
       record {
         place = omega (arith, length-append front ws);
         words = l.words ∙ sym (append_assoc front ws (words_of_programs code.constants q more));
@@ -241,7 +243,7 @@ module _ (code : Listing) where
   enters c false false = (c.result, refl, λ e. absurd cc)
 
   -- at the end of a program the next one begins, with no result
-  begins_next : (more : Programs) (q : ℕ) (before : List ℕ) (s : List Value) (r : Option Value)
+  begins_next : (more : Programs) (q : ℕ) (before : List ℕ) (s : Store) (r : Option Value)
       → code.starts ≡ before ++ starts_from q more
       → (r' : Option Value) × (entered code (at q s r []) ≡ Some (at q s r' [])) × Ready more r'
   begins_next more q before s r e =
@@ -260,14 +262,14 @@ module _ (code : Listing) where
   ready_none (lines ∷ more) r e = sym e
 
   -- one program, where it is known how the run goes on behind it
-  go_on : (front : List Word) (before : List ℕ) (p : ℕ) (lines : List (Line ℕ ℕ)) (more : Programs)
+  go_on : (front : List Word) (before : List ℕ) (p : ℕ) (lines : List (Line Place ℕ)) (more : Programs)
       → (old : Left front before p (lines ∷ more))
       → (l : Left (front ++ words_at p lines) (before ++ p ∷ []) (end_of p lines) more)
-      → (s : List Value) (o : Option (List Value))
+      → (s : Store) (o : Option Store)
       → Passes code (front ++ words_at p lines) p (end_of p lines)
       (lawful_here (front ++ words_at p lines) before p (end_of p lines) more l old.behind)
       (at p s None []) o
-      → ((s1 : List Value) (r1 : Option Value) → Ready more r1
+      → ((s1 : Store) (r1 : Option Value) → Ready more r1
       → Comes (at (end_of p lines) s1 r1 []) (scan number_same access more s1))
       → Comes (at p s None []) (option_and_then (scan number_same access more) o)
   go_on front before p lines more old l s None h next =
@@ -289,35 +291,31 @@ module _ (code : Listing) where
       (next s1 h.0 (ready_none more h.0 (ap (λ (x : Configuration). x.result) e))))
       (subst (λ n. Comes (at n s1 b.0 []) left) l.place (next s1 b.0 b.2))
 
-  fit_calls : (lines : List (Line ℕ ℕ)) → Each (IsFit code.constants) lines → CallNothing lines
-  fit_calls [] fit = tt
-  fit_calls (line ∷ lines) fit = (fit.0.1, fit_calls lines fit.1)
-
   -- all programs that are left
-  programs_run : (programs : Programs) (front : List Word) (before : List ℕ) (p : ℕ)
-      → Left front before p programs → Each (Each (IsFit code.constants)) programs → (s : List Value) (r : Option Value)
+  programs_run : (few : length code.kinds ≤ most_blocks) (programs : Programs) (front : List Word) (before : List ℕ) (p : ℕ)
+      → Left front before p programs → Each (Each (IsFit code.constants)) programs → (s : Store) (r : Option Value)
       → Ready programs r → Comes (at p s r []) (scan number_same access programs s)
-  programs_run [] front before p l fit s r ready =
+  programs_run few [] front before p l fit s r ready =
       let e = ends_code front before p [] l refl in
       (r, subst (λ n. Leads (step code) (at p s r []) (at n s r [])) (sym e) (none (step code) (at p s r [])))
-  programs_run (lines ∷ more) front before p l fit s r ready =
+  programs_run few (lines ∷ more) front before p l fit s r ready =
       let ws = words_at p lines in
       let q = end_of p lines in
-      let l' = next_left front before p lines more (fit_calls lines fit.0) l in
+      let l' = next_left front before p lines more l in
       let has = subst (λ n. HasWords (front ++ ws) n ws) (sym l.place) (has_rest ws front) in
       let passed = passes number_same access lines On None s in
       let lawful = lawful_here (front ++ ws) before p q more l' l.behind in
-      let comes = (lines_run code (front ++ ws) p q lawful lines p has fit.0 (omega arith) refl On None s).2 in
+      let comes = (lines_run code (front ++ ws) p q lawful few lines p has fit.0 (omega arith) refl On None s).2 in
       subst (λ x. Comes (at p s x []) (option_and_then (scan number_same access more) passed)) (sym ready)
       (go_on front before p lines more l l' s passed comes
-      (λ s1 r1 rd. programs_run more (front ++ ws) (before ++ p ∷ []) q l' fit.1 s1 r1 rd))
+      (λ s1 r1 rd. programs_run few more (front ++ ws) (before ++ p ∷ []) q l' fit.1 s1 r1 rd))
 
   -- from the first word on
-  pub all_run : (programs : Programs) → code.instructions ≡ words_of_programs code.constants 0 programs
+  pub all_run : (few : length code.kinds ≤ most_blocks) (programs : Programs) → code.instructions ≡ words_of_programs code.constants 0 programs
       → code.starts ≡ starts_from 0 programs → Each (Each (IsFit code.constants)) programs
-      → (s : List Value) → Comes (at 0 s None []) (scan number_same access programs s)
-  all_run programs words starts fit s =
-      programs_run programs [] [] 0 (record { place = refl; words = words; starts = starts; behind = tt }) fit s None
+      → (s : Store) → Comes (at 0 s None []) (scan number_same access programs s)
+  all_run few programs words starts fit s =
+      programs_run few programs [] [] 0 (record { place = refl; words = words; starts = starts; behind = tt }) fit s None
       (first programs)
     where
       first : (ps : Programs) → Ready ps None

@@ -6,10 +6,11 @@ use Rattle.std.specs.List.{list_any}
 use Rattle.std.proofs.lemmas.Bool.Decides.{nat_tests}
 use Rattle.iltrees.specs.declared.instruction.Line.{Line}
 use Rattle.iltrees.specs.Words.{words_of_lines}
+use Rattle.ilplan.specs.declared.place.Place.{Place}
 use Rattle.ilcompile.specs.Layout.{starts_from}
 
 abbrev pub Programs : Type 0
-Programs = List (List (Line ℕ ℕ))
+Programs = List (List (Line Place ℕ))
 
 abbrev pub starts_at : ℕ → List ℕ → Bool
 starts_at p starts = list_any (λ start. start == p) starts

@@ -8,53 +8,57 @@ use Rattle.iltypes.specs.declared.value.Value.{Value}
 use Rattle.iltrees.specs.declared.instruction.Instruction.{Instruction}
 use Rattle.iltrees.specs.declared.instruction.Instruction.TheVariants as instructions
 use Rattle.iltrees.specs.declared.instruction.Line.{Line}
-use Rattle.iltrees.specs.Words.{CallNothing}
 use Rattle.iltrees.specs.Words as counts
 use Rattle.ilcode.specs.declared.instruction.Instruction.{Instruction as Word}
 use Rattle.ilcode.specs.declared.instruction.Instruction.TheVariants as words
+use Rattle.ilplan.specs.declared.place.Place.{Place}
 use Rattle.ilplan.specs.Plans.{PlannedInstance, all_lines}
 use Rattle.ilcompile.specs.Layout.{place_of_label, words_of, words_in, words_of_lines}
 use Rattle.ilcompile.specs.Layout.{words_of_programs, starts_from, programs_of}
 use Rattle.ilcompile.specs.LayoutSteps.{target_of, targets_of, IsTaken}
-use Rattle.ilcompile.proofs.Sizes.{count_both, line_long, lines_long, calls_front, calls_back}
+use Rattle.ilcompile.proofs.Sizes.{count_more, count_both, line_long, lines_long}
 
 -- an instruction's words depend on no target but its own
-same_words : (constants : List Value) (end : ℕ) (one other : ℕ → ℕ) (i : Option (Instruction ℕ ℕ))
+same_words : (constants : List Value) (end next : ℕ) (one other : ℕ → ℕ) (i : Option (Instruction Place ℕ))
     → target_of one i ≡ target_of other i
-    → option_map_or (words_of constants end one) i [] ≡ option_map_or (words_of constants end other) i []
-same_words constants end one other None e = refl
-same_words constants end one other (Some (instructions.Load negated o)) e = refl
-same_words constants end one other (Some (instructions.Apply operator o)) e = refl
-same_words constants end one other (Some (instructions.Deferred operator t close)) e = refl
-same_words constants end one other (Some (instructions.Transform function)) e = refl
-same_words constants end one other (Some (instructions.Limit low high)) e = refl
-same_words constants end one other (Some (instructions.Store negated n)) e = refl
-same_words constants end one other (Some (instructions.Set n)) e = refl
-same_words constants end one other (Some (instructions.Reset n)) e = refl
-same_words constants end one other (Some (instructions.Jump condition l)) e =
+    → option_map_or (words_of constants end next one) i [] ≡ option_map_or (words_of constants end next other) i []
+same_words constants end next one other None e = refl
+same_words constants end next one other (Some (instructions.Load negated o)) e = refl
+same_words constants end next one other (Some (instructions.Apply operator o)) e = refl
+same_words constants end next one other (Some (instructions.Deferred operator t close)) e = refl
+same_words constants end next one other (Some (instructions.Transform function)) e = refl
+same_words constants end next one other (Some (instructions.Limit low high)) e = refl
+same_words constants end next one other (Some (instructions.Store negated n)) e = refl
+same_words constants end next one other (Some (instructions.Set n)) e = refl
+same_words constants end next one other (Some (instructions.Reset n)) e = refl
+same_words constants end next one other (Some (instructions.Jump condition l)) e =
     let same : one l ≡ other l = cc in ap (λ t. words.Jump condition t ∷ []) same
-same_words constants end one other (Some (instructions.Return condition)) e = refl
-same_words constants end one other (Some (instructions.Call condition n xs)) e = refl
+same_words constants end next one other (Some (instructions.Return condition)) e = refl
+same_words constants end next one other (Some (instructions.Call condition n xs)) e = refl
 
 module _ (constants : List Value) (end : ℕ) (all : List Word) where
   -- the lines that are left: their words are those that are still to come, and their targets those that are left
-  pub record AreLeft (ws : List Word) (ts : List ℕ) (lines : List (Line ℕ ℕ)) : Type 0 where
+  pub record AreLeft (ws : List Word) (ts : List ℕ) (lines : List (Line Place ℕ)) : Type 0 where
     pub words : ws ++ words_of_lines constants end (length ws) lines ≡ all
     pub targets : reverse ts ≡ targets_of (length ws) lines
-    pub calls : CallNothing lines
+    pub limit : length ws + counts.words_of_lines lines ≤ most_words
 
   -- one line fewer
-  pub fewer_left : (ws more : List Word) (targets others : List ℕ) (target : ℕ) (line : Line ℕ ℕ)
-      (lines : List (Line ℕ ℕ)) → AreLeft ws targets (line ∷ lines) → IsTaken line.instruction targets others target
-      → more ≡ ws ++ words_in constants end (λ label. target) line → AreLeft more others lines
-  fewer_left ws more targets others target line lines l taken is =
+  pub fewer_left : (ws more : List Word) (targets others : List ℕ) (next target : ℕ) (line : Line Place ℕ)
+      (lines : List (Line Place ℕ)) → AreLeft ws targets (line ∷ lines) → IsTaken line.instruction targets others target
+      → next ≡ length ws + counts.words_in line
+      → more ≡ ws ++ words_in constants end next (λ label. target) line → AreLeft more others lines
+  fewer_left ws more targets others after target line lines l taken place is =
       let next = length ws + counts.words_in line in
       let wanted = place_of_label next lines in
       let its = taken wanted (targets_of next lines) l.targets in
-      let same = same_words constants end wanted (λ label. target) line.instruction its.1 in
-      let mine = words_in constants end wanted line in
-      let is' : more ≡ ws ++ mine = is ∙ ap (λ x. ws ++ x) (sym same) in
-      let line_words = line_long constants end wanted line l.calls.0 in
+      let same = same_words constants end next wanted (λ label. target) line.instruction its.1 in
+      let mine = words_in constants end next wanted line in
+      let is' : more ≡ ws ++ mine =
+      is ∙ (ap (λ n. ws ++ words_in constants end n (λ label. target) line) place ∙ ap (λ x. ws ++ x) (sym same)) in
+      let line_words = line_long constants end next wanted line in
+      let counted = count_more line lines in
+      let limit = l.limit in
       let long : length more ≡ next =
       ap length is' ∙ (length-append ws mine ∙ ap (λ n. length ws + n) line_words) in
       record {
@@ -62,7 +66,7 @@ module _ (constants : List Value) (end : ℕ) (all : List Word) where
             ∙ (ap (λ x. x ++ words_of_lines constants end next lines) is'
             ∙ (append_assoc ws mine (words_of_lines constants end next lines) ∙ l.words));
         targets = its.0 ∙ ap (λ n. targets_of n lines) (sym long);
-        calls = l.calls.1;
+        limit = omega (arith, long, counted, limit);
       }
 
 -- ---- programs
@@ -79,7 +83,6 @@ module _ (constants : List Value) (all : List Word) (all_starts : List ℕ) wher
     pub words : ws ++ words_of_programs constants (length ws) (programs_of instances) ≡ all
     pub starts : ss ++ starts_from (length ws) (programs_of instances) ≡ all_starts
     pub limit : length ws + counts.words_of_lines (all_lines instances) ≤ most_words
-    pub calls : CallNothing (all_lines instances)
 
   -- one program fewer
   pub fewer_programs : (ws more : List Word) (ss others : List ℕ) (i : PlannedInstance)
@@ -91,9 +94,8 @@ module _ (constants : List Value) (all : List Word) (all_starts : List ℕ) wher
       let end = place + counts.words_of_lines i.lines in
       let mine = words_of_lines constants end place i.lines in
       let programs = programs_of instances in
-      let own = calls_front i.lines (all_lines instances) l.calls in
       let long : length more ≡ end =
-      ap length is ∙ (length-append ws mine ∙ ap (λ n. place + n) (lines_long constants end place i.lines own)) in
+      ap length is ∙ (length-append ws mine ∙ ap (λ n. place + n) (lines_long constants end place i.lines)) in
       let both = count_both i.lines (all_lines instances) in
       let limit = l.limit in
       record {
@@ -104,5 +106,4 @@ module _ (constants : List Value) (all : List Word) (all_starts : List ℕ) wher
             ∙ (ap (λ x. x ++ starts_from end programs) begun
             ∙ (append_assoc ss (place ∷ []) (starts_from end programs) ∙ l.starts));
         limit = omega (arith, long, both, limit);
-        calls = calls_back i.lines (all_lines instances) l.calls;
       }

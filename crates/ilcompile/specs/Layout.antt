@@ -1,11 +1,15 @@
 -- How a task is laid out as code (profile): the words of its instances' lines one after another, each with its line of
--- the text, a start where each instance begins, its variables as slots, and its constants in order of first use. Jumps
--- lead to places.
+-- the text, a start where each instance begins, its variables as slots, its block instances with their kinds, and its
+-- constants in order of first use. Jumps lead to places.
 use Rattle.std.specs.Prelude.{ℕ, ◌+◌, List, [], ◌∷◌, ◌++◌, map, flat_map, if◌then◌else◌}
 use Rattle.std.specs.Option.{option_map_or}
 use Rattle.std.specs.List.{position_or_len}
+use Rattle.limits.specs.Limits.{most_constants, most_blocks}
 use Rattle.iltypes.specs.declared.value.Value.{Value}
+use Rattle.iloperators.specs.declared.condition.Condition.{Condition}
+use Rattle.iloperators.specs.declared.condition.Condition.TheVariants.{Always, IfTrue, IfFalse}
 use Rattle.iloperators.specs.declared.operator.Operator.TheVariants.{Min, Max}
+use Rattle.iltrees.specs.declared.arguments.Argument.{Argument}
 use Rattle.iltrees.specs.declared.operand.Operand.{Operand}
 use Rattle.iltrees.specs.declared.operand.Operand.TheVariants.{Name, Constant}
 use Rattle.iltrees.specs.declared.instruction.Instruction.{Instruction}
@@ -20,9 +24,13 @@ use Rattle.iltrees.specs.Words as counts
 use Rattle.ilsource.specs.Places.{line_at}
 use Rattle.ilplan.specs.Constants.{same_value}
 use Rattle.ilplan.specs.PlanMeaning.{number_same}
-use Rattle.ilplan.specs.Plans.{PlannedInstance, PlannedTask, types_of}
+use Rattle.ilplan.specs.declared.place.Place.{Place}
+use Rattle.ilplan.specs.declared.place.Place.TheVariants as places
+use Rattle.ilplan.specs.Plans.{PlannedInstance, PlannedTask, types_of, kinds_of}
 use Rattle.ilcode.specs.declared.instruction.Operand.{Operand as WordOperand}
 use Rattle.ilcode.specs.declared.instruction.Operand.TheVariants as operands
+use Rattle.ilcode.specs.declared.instruction.Variable.{Variable}
+use Rattle.ilcode.specs.declared.instruction.Variable.TheVariants as variables
 use Rattle.ilcode.specs.declared.instruction.Instruction.{Instruction as Word}
 use Rattle.ilcode.specs.declared.instruction.Instruction.TheVariants as words
 use Rattle.ilcode.specs.Listings.{Listing, listing_of}
@@ -31,13 +39,34 @@ use Rattle.ilcode.specs.Listings.{Listing, listing_of}
 abbrev pub number_of : List Value → Value → ℕ
 number_of constants value = position_or_len (same_value value) constants
 
--- an operand by its number
-abbrev pub operand_of : List Value → Operand ℕ → WordOperand
-operand_of constants (Name slot) = operands.Slot slot
+-- an operand by its number; an instance has no value, and is past the last constant
+abbrev pub operand_of : List Value → Operand Place → WordOperand
+operand_of constants (Name (places.Slot slot)) = operands.Slot slot
+operand_of constants (Name (places.Port block port)) = operands.Port block port
+operand_of constants (Name (places.Block block)) = operands.Constant most_constants
 operand_of constants (Constant value) = operands.Constant (number_of constants value)
 
+-- what is stored to; an instance is not, and its port is that of an instance past the last
+abbrev pub variable_of : Place → Variable
+variable_of (places.Slot slot) = variables.Slot slot
+variable_of (places.Port block port) = variables.Port block port
+variable_of (places.Block block) = variables.Port most_blocks 0
+
+-- the instance that is called; what is none is past the last
+abbrev pub block_of : Place → ℕ
+block_of (places.Block block) = block
+block_of _ = most_blocks
+
+-- the word of an argument; a variable is no port
+abbrev pub pass_to : Place → WordOperand → Word
+pass_to (places.Port block port) operand = words.Pass operand block port
+pass_to _ operand = words.Pass operand most_blocks 0
+
+abbrev pub word_of_argument : List Value → Argument Place → Word
+word_of_argument constants x = pass_to x.port (operand_of constants x.operand)
+
 -- the word of a piece of what stands in parentheses
-abbrev pub word_of : List Value → Action ℕ → Word
+abbrev pub word_of : List Value → Action Place → Word
 word_of constants (actions.Load negated o) = words.Load negated (operand_of constants o)
 word_of constants (actions.Apply operator o) = words.Apply operator (operand_of constants o)
 word_of constants (actions.Transform function) = words.Transform function
@@ -46,64 +75,76 @@ word_of constants actions.Close = words.Close
 
 -- the place of the first word after a label, in lines of which the first word is at this place; 0, where no jump leads,
 -- where no line has the label
-abbrev pub place_of_label : ℕ → List (Line ℕ ℕ) → ℕ → ℕ
+abbrev pub place_of_label : ℕ → List (Line Place ℕ) → ℕ → ℕ
 place_of_label place [] label = 0
 place_of_label place (line ∷ lines) label =
     if has_label number_same label line.label then place
     else place_of_label (place + counts.words_in line) lines label
 
+-- the arguments one after another, and the call
+abbrev pub words_of_call : List Value → Place → List (Argument Place) → List Word
+words_of_call constants n xs = map (word_of_argument constants) xs ++ words.Call (block_of n) ∷ []
+
+-- the jump over a call that is not carried out
+abbrev pub jump_over : ℕ → Condition → List Word
+jump_over next Always = []
+jump_over next IfTrue = words.Jump IfFalse next ∷ []
+jump_over next IfFalse = words.Jump IfTrue next ∷ []
+
 -- the words of an instruction in a program that ends at this place, where jumps lead to the targets of their labels:
 -- LIMIT is MAX with its lower limit and MIN with its upper one, an operator with parentheses is OPEN, what stands in
--- them, and CLOSE, a return is a jump to the program's end, and each other is one word. Calls have no words yet, and
--- stand in no plan
-abbrev pub words_of : List Value → ℕ → (ℕ → ℕ) → Instruction ℕ ℕ → List Word
-words_of constants end target (instructions.Load negated o) = words.Load negated (operand_of constants o) ∷ []
-words_of constants end target (instructions.Apply operator o) = words.Apply operator (operand_of constants o) ∷ []
-words_of constants end target (instructions.Deferred operator t close) =
+-- them, and CLOSE, a return is a jump to the program's end, CAL is an argument after another and the call, CALC and
+-- CALCN jump over these where they are not carried out, and each other is one word; `next` is the place after the last
+-- word
+abbrev pub words_of : List Value → ℕ → ℕ → (ℕ → ℕ) → Instruction Place ℕ → List Word
+words_of constants end next target (instructions.Load negated o) = words.Load negated (operand_of constants o) ∷ []
+words_of constants end next target (instructions.Apply operator o) = words.Apply operator (operand_of constants o) ∷ []
+words_of constants end next target (instructions.Deferred operator t close) =
     words.Open operator ∷ (map (λ p. word_of constants p.action) (pieces_of t) ++ words.Close ∷ [])
-words_of constants end target (instructions.Transform function) = words.Transform function ∷ []
-words_of constants end target (instructions.Limit low high) =
+words_of constants end next target (instructions.Transform function) = words.Transform function ∷ []
+words_of constants end next target (instructions.Limit low high) =
     words.Apply Max (operand_of constants low) ∷ words.Apply Min (operand_of constants high) ∷ []
-words_of constants end target (instructions.Store negated slot) = words.Store negated slot ∷ []
-words_of constants end target (instructions.Set slot) = words.Set slot ∷ []
-words_of constants end target (instructions.Reset slot) = words.Reset slot ∷ []
-words_of constants end target (instructions.Jump condition label) = words.Jump condition (target label) ∷ []
-words_of constants end target (instructions.Return condition) = words.Jump condition end ∷ []
-words_of constants end target (instructions.Call condition instance arguments) = []
+words_of constants end next target (instructions.Store negated n) = words.Store negated (variable_of n) ∷ []
+words_of constants end next target (instructions.Set n) = words.Set (variable_of n) ∷ []
+words_of constants end next target (instructions.Reset n) = words.Reset (variable_of n) ∷ []
+words_of constants end next target (instructions.Jump condition label) = words.Jump condition (target label) ∷ []
+words_of constants end next target (instructions.Return condition) = words.Jump condition end ∷ []
+words_of constants end next target (instructions.Call condition n xs) =
+    jump_over next condition ++ words_of_call constants n xs
 
 -- the words of a line, which a label alone has none of
-abbrev pub words_in : List Value → ℕ → (ℕ → ℕ) → Line ℕ ℕ → List Word
-words_in constants end target line = option_map_or (words_of constants end target) line.instruction []
+abbrev pub words_in : List Value → ℕ → ℕ → (ℕ → ℕ) → Line Place ℕ → List Word
+words_in constants end next target line = option_map_or (words_of constants end next target) line.instruction []
 
 -- the words of lines, of which the first word is at this place, in a program that ends at that one: a jump's label is
 -- looked for in the lines after it
-abbrev pub words_of_lines : List Value → ℕ → ℕ → List (Line ℕ ℕ) → List Word
+abbrev pub words_of_lines : List Value → ℕ → ℕ → List (Line Place ℕ) → List Word
 words_of_lines constants end place [] = []
 words_of_lines constants end place (line ∷ lines) =
     let next = place + counts.words_in line in
-    words_in constants end (place_of_label next lines) line ++ words_of_lines constants end next lines
+    words_in constants end next (place_of_label next lines) line ++ words_of_lines constants end next lines
 
 -- the words of programs, the first of them at this place, and the place in the text of each
-abbrev pub words_of_programs : List Value → ℕ → List (List (Line ℕ ℕ)) → List Word
+abbrev pub words_of_programs : List Value → ℕ → List (List (Line Place ℕ)) → List Word
 words_of_programs constants place [] = []
 words_of_programs constants place (lines ∷ more) =
     let end = place + counts.words_of_lines lines in
     words_of_lines constants end place lines ++ words_of_programs constants end more
 
-abbrev pub places_of_programs : List (List (Line ℕ ℕ)) → List ℕ
+abbrev pub places_of_programs : List (List (Line Place ℕ)) → List ℕ
 places_of_programs programs = flat_map (λ lines. flat_map places_in lines) programs
 
 -- where each program begins, the first of them at this place
-abbrev pub starts_from : ℕ → List (List (Line ℕ ℕ)) → List ℕ
+abbrev pub starts_from : ℕ → List (List (Line Place ℕ)) → List ℕ
 starts_from place [] = []
 starts_from place (lines ∷ more) = place ∷ starts_from (place + counts.words_of_lines lines) more
 
-abbrev pub programs_of : List PlannedInstance → List (List (Line ℕ ℕ))
+abbrev pub programs_of : List PlannedInstance → List (List (Line Place ℕ))
 programs_of instances = map (λ i. i.lines) instances
 
 -- the code of a task on this many buses, whose places are those of a text
 abbrev pub laid_out : ℕ → List ℕ → PlannedTask → Listing
 laid_out buses text task =
     let programs = programs_of task.instances in
-    listing_of buses task.constants (types_of task) (starts_from 0 programs)
+    listing_of buses task.constants (types_of task) (kinds_of task) (starts_from 0 programs)
     (words_of_programs task.constants 0 programs) (map (line_at text) (places_of_programs programs))

@@ -6,15 +6,16 @@ use Rattle.iltrees.specs.declared.instruction.Instruction.{Instruction}
 use Rattle.iltrees.specs.declared.instruction.Instruction.TheVariants as instructions
 use Rattle.iltrees.specs.declared.instruction.Line.{Line}
 use Rattle.iltrees.specs.Words.{words_in}
+use Rattle.ilplan.specs.declared.place.Place.{Place}
 use Rattle.ilcompile.specs.Layout.{place_of_label}
 
 -- the target of an instruction that jumps to a label
-abbrev pub target_of : (ℕ → ℕ) → Option (Instruction ℕ ℕ) → List ℕ
+abbrev pub target_of : (ℕ → ℕ) → Option (Instruction Place ℕ) → List ℕ
 target_of target (Some (instructions.Jump condition label)) = target label ∷ []
 target_of target _ = []
 
 -- the target of each jump to a label, in lines of which the first word is at this place
-abbrev pub targets_of : ℕ → List (Line ℕ ℕ) → List ℕ
+abbrev pub targets_of : ℕ → List (Line Place ℕ) → List ℕ
 targets_of place [] = []
 targets_of place (line ∷ lines) =
     let next = place + words_in line in
@@ -25,7 +26,7 @@ abbrev pub place_in : {S : Type 0} → HashMap ℕ ℕ S → ℕ → ℕ
 place_in labels label = unwrap_or (get nat_eq labels label) 0
 
 -- the target is that of the instruction, which was the last one, and the others are left
-abbrev pub IsTaken : Option (Instruction ℕ ℕ) → List ℕ → List ℕ → ℕ → Type 0
+abbrev pub IsTaken : Option (Instruction Place ℕ) → List ℕ → List ℕ → ℕ → Type 0
 IsTaken instruction old new target =
     (wanted : ℕ → ℕ) (others : List ℕ) → reverse old ≡ target_of wanted instruction ++ others
     → (reverse new ≡ others) × (target_of wanted instruction ≡ target_of (λ label. target) instruction)

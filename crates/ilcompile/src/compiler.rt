@@ -8,13 +8,14 @@ ghost use Rattle.ilcompile.specs.Meant.{IsMeant};
 
 use crate::lines::line_numbers;
 use crate::words::words;
+use ilblocks::Kind;
 use ilcode::Code;
-use ilplan::{Plan, Slot, Task};
+use ilplan::{FunctionBlock, Plan, Slot, Task};
 use iltypes::IlType;
 use std::alloc::{AllocError, Global};
 
 /// The code of a task: its instances' words in order, with a start for each instance, the
-/// constants in order of first use and the variables as slots.
+/// constants in order of first use, the variables as slots, and the kinds of the block instances.
 ///
 /// # Errors
 ///
@@ -24,7 +25,7 @@ pub fn compile(alloc: Global, plan: &Plan, task: usize) -> Result<Code, AllocErr
     ensures layout { IfOk result (λ code. IfSome (slice_get plan.now.tasks task)
         (λ t. code ≡ laid_out plan.now.buses plan.now.text t)) }
     ensures meaning { IfOk result (λ code. IfSome (slice_get plan.now.tasks task)
-        (λ t. IsMeant t code)) }
+        (λ t. IsMeant plan.now.buses t code)) }
 {
     lay_out(alloc, plan.buses(), plan.text(), plan.task(task))
 }
@@ -35,13 +36,14 @@ fn lay_out(alloc: Global, buses: u8, text: &[u8], task: &Task) -> Result<Code, A
     requires last { buses ≤ most_buses }
     requires limits { KeepsLimits task.now }
     ensures layout { IfOk result (λ code. code ≡ laid_out buses text.now task.now) }
-    ensures meaning { IfOk result (λ code. IsMeant task.now code) }
+    ensures meaning { IfOk result (λ code. IsMeant buses task.now code) }
 {
     let constants = Vec::from_slice(alloc, task.constants().as_slice())?;
     let slots = slot_types(alloc, task.slots())?;
+    let kinds = block_kinds(alloc, task.blocks())?;
     let (starts, words) = words(alloc, task.constants(), task.instances())?;
     let lines = line_numbers(alloc, text, task.instances())?;
-    Ok(Code::new(buses, constants, slots, starts, words, lines))
+    Ok(Code::new(buses, constants, slots, kinds, starts, words, lines))
 }
 
 /// The types of the slots.
@@ -49,4 +51,11 @@ fn slot_types(alloc: Global, slots: &[Slot]) -> Result<Vec<IlType>, AllocError>
     ensures { IfOk result (λ types. types.items ≡ map (λ slot. slot.value_type) slots.now) }
 {
     slots.iter().map(|slot| slot.value_type).collect(alloc)
+}
+
+/// The kinds of the block instances.
+fn block_kinds(alloc: Global, blocks: &[FunctionBlock]) -> Result<Vec<Kind>, AllocError>
+    ensures { IfOk result (λ kinds. kinds.items ≡ map (λ block. block.kind) blocks.now) }
+{
+    blocks.iter().map(|block| block.kind).collect(alloc)
 }

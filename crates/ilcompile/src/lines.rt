@@ -5,7 +5,7 @@ ghost use Rattle.iltrees.specs.Words.{places_in};
 ghost use Rattle.ilsource.specs.Places.{line_at};
 ghost use Rattle.ilcompile.specs.Layout.{places_of_programs, programs_of};
 
-use ilplan::Instance;
+use ilplan::{Instance, Place};
 use ilsource::LineCounter;
 use iltrees::Line;
 use std::alloc::{AllocError, Global};
@@ -41,7 +41,7 @@ fn places(alloc: Global, instances: &[Instance]) -> Result<Vec<usize>, AllocErro
 }
 
 /// Adds the place of each word of these lines.
-fn push_places(places: &mut Vec<usize>, lines: &[Line<usize, usize>]) -> Result<(), AllocError>
+fn push_places(places: &mut Vec<usize>, lines: &[Line<Place, usize>]) -> Result<(), AllocError>
     ensures { OnOk result
         (places.new.items ≡ places.old.items ++ flat_map places_in lines.now) }
 {

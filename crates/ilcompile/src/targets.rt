@@ -13,12 +13,13 @@ ghost use Rattle.iltrees.specs.Words.{words_of_lines};
 ghost use Rattle.ilplan.specs.PlanMeaning.{number_same};
 ghost use Rattle.ilcompile.specs.LayoutSteps.{IsTaken, place_in, target_of, targets_of};
 
+use ilplan::Place;
 use iltrees::{Instruction, Line};
 use std::alloc::{AllocError, Global};
 use std::collections::HashMap;
 
 /// How many words these lines are.
-pub(crate) fn count(lines: &[Line<usize, usize>]) -> usize
+pub(crate) fn count(lines: &[Line<Place, usize>]) -> usize
     requires { words_of_lines lines.now ≤ most_words }
     ensures { result ≡ words_of_lines lines.now }
 {
@@ -34,7 +35,7 @@ pub(crate) fn count(lines: &[Line<usize, usize>]) -> usize
 pub(crate) fn targets(
     alloc: Global,
     start: usize,
-    lines: &[Line<usize, usize>],
+    lines: &[Line<Place, usize>],
 ) -> Result<Vec<usize>, AllocError>
     requires { start + words_of_lines lines.now ≤ most_words }
     ensures { IfOk result (λ targets. reverse targets.items ≡ targets_of start lines.now) }
@@ -55,7 +56,7 @@ pub(crate) fn targets(
 fn push_target(
     targets: &mut Vec<usize>,
     labels: &HashMap<usize, usize>,
-    instruction: &Option<Instruction<usize, usize>>,
+    instruction: &Option<Instruction<Place, usize>>,
 ) -> Result<(), AllocError>
     ensures { OnOk result (targets.new.items
         ≡ targets.old.items ++ target_of (place_in labels.now) instruction.now) }
@@ -84,7 +85,7 @@ fn set_place(
 /// The last target, where the instruction jumps to a label, which is taken from the list.
 pub(crate) fn next_target(
     targets: &mut Vec<usize>,
-    instruction: &Option<Instruction<usize, usize>>,
+    instruction: &Option<Instruction<Place, usize>>,
 ) -> usize
     ensures { IsTaken instruction.now targets.old.items targets.new.items result }
 {

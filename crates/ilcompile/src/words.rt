@@ -2,18 +2,19 @@
 
 ghost use Rattle.std.specs.Prelude.{◌≡◌, ◌≤◌, ◌+◌, ◌∷◌, ◌++◌, [], length, map, IfOk, OnOk};
 ghost use Rattle.limits.specs.Limits.{most_words};
-ghost use Rattle.iltrees.specs.Words.{CallNothing};
 ghost use Rattle.iltrees.specs.Words as counts;
 ghost use Rattle.ilplan.specs.Plans.{all_lines};
 ghost use Rattle.ilcode.specs.declared.instruction.Instruction.TheVariants as variants;
-ghost use Rattle.ilcompile.specs.Layout.{operand_of, word_of, words_of, words_in, words_of_lines};
+ghost use Rattle.ilcompile.specs.Layout.{operand_of, variable_of, block_of, word_of_argument};
+ghost use Rattle.ilcompile.specs.Layout.{word_of, jump_over, words_of, words_in, words_of_lines};
 ghost use Rattle.ilcompile.specs.Layout.{words_of_programs, starts_from, programs_of};
 
 use crate::targets::{count, next_target, targets};
-use ilcode::{Instruction as Word, Operand as WordOperand};
+use ilcode::{Instruction as Word, Operand as WordOperand, Variable};
 use iloperators::{Condition, Operator};
-use ilplan::{Constants, Instance};
-use iltrees::{Action, Instruction, Line, Operand, Piece};
+use ilplan::{Constants, Instance, Place};
+use iltrees::{Action, Argument, Instruction, Line, Operand, Piece};
+use limits::{MOST_BLOCKS, MOST_CONSTANTS};
 use std::alloc::{AllocError, Global};
 
 /// The place where each instance's first word stands, or would stand, and the words of all.
@@ -22,8 +23,7 @@ pub(crate) fn words(
     constants: &Constants,
     instances: &[Instance],
 ) -> Result<(Vec<usize>, Vec<Word>), AllocError>
-    requires limit { counts.words_of_lines (all_lines instances.now) ≤ most_words }
-    requires calls { CallNothing (all_lines instances.now) }
+    requires { counts.words_of_lines (all_lines instances.now) ≤ most_words }
     ensures starts { IfOk result (λ code.
         code.0.items ≡ starts_from 0 (programs_of instances.now)) }
     ensures words { IfOk result (λ code.
@@ -43,10 +43,9 @@ fn push_lines(
     alloc: Global,
     words: &mut Vec<Word>,
     constants: &Constants,
-    lines: &[Line<usize, usize>],
+    lines: &[Line<Place, usize>],
 ) -> Result<(), AllocError>
-    requires limit { length words.old.items + counts.words_of_lines lines.now ≤ most_words }
-    requires calls { CallNothing lines.now }
+    requires { length words.old.items + counts.words_of_lines lines.now ≤ most_words }
     ensures { OnOk result (words.new.items ≡ words.old.items ++ words_of_lines constants.now
         (length words.old.items + counts.words_of_lines lines.now) (length words.old.items)
         lines.now) }
@@ -54,40 +53,44 @@ fn push_lines(
     let end = words.len() + count(lines);
     let mut targets = targets(alloc, words.len(), lines)?;
     for line in lines {
+        let next = words.len() + line.words();
         let target = next_target(&mut targets, &line.instruction);
-        push_line(words, constants, end, target, line)?;
+        push_line(words, constants, end, next, target, line)?;
     }
     Ok(())
 }
 
-/// Adds the words of a line, of a program that ends at `end`; a jump to a label leads to `target`.
+/// Adds the words of a line, of a program that ends at `end`; a jump over a call leads to `next`,
+/// and one to a label to `target`.
 fn push_line(
     words: &mut Vec<Word>,
     constants: &Constants,
     end: usize,
+    next: usize,
     target: usize,
-    line: &Line<usize, usize>,
+    line: &Line<Place, usize>,
 ) -> Result<(), AllocError>
     ensures { OnOk result (words.new.items
-        ≡ words.old.items ++ words_in constants.now end (λ label. target) line.now) }
+        ≡ words.old.items ++ words_in constants.now end next (λ label. target) line.now) }
 {
     match &line.instruction {
-        Some(instruction) => push_words(words, constants, end, target, instruction),
+        Some(instruction) => push_words(words, constants, end, next, target, instruction),
         None => Ok(()),
     }
 }
 
-/// Adds the words of an instruction, of a program that ends at `end`; a jump to a label leads to
-/// `target`.
+/// Adds the words of an instruction, of a program that ends at `end`; a jump over a call leads to
+/// `next`, and one to a label to `target`.
 fn push_words(
     words: &mut Vec<Word>,
     constants: &Constants,
     end: usize,
+    next: usize,
     target: usize,
-    instruction: &Instruction<usize, usize>,
+    instruction: &Instruction<Place, usize>,
 ) -> Result<(), AllocError>
     ensures { OnOk result (words.new.items
-        ≡ words.old.items ++ words_of constants.now end (λ label. target) instruction.now) }
+        ≡ words.old.items ++ words_of constants.now end next (λ label. target) instruction.now) }
 {
     match instruction {
         Instruction::Load { negated, operand } => {
@@ -108,21 +111,20 @@ fn push_words(
             push(words, apply(constants, Operator::Max, *low))?;
             push(words, apply(constants, Operator::Min, *high))
         }
-        Instruction::Store { negated, variable } => {
-            push(
-                words,
-                Word::Store {
-                    negated: *negated,
-                    slot: *variable,
-                },
-            )
-        }
-        Instruction::Set(slot) => push(words, Word::Set(*slot)),
-        Instruction::Reset(slot) => push(words, Word::Reset(*slot)),
+        Instruction::Store { negated, variable } => push(words, store(*negated, *variable)),
+        Instruction::Set(place) => push(words, Word::Set(variable(*place))),
+        Instruction::Reset(place) => push(words, Word::Reset(variable(*place))),
         Instruction::Jump(condition, _) => push(words, jump(*condition, target)),
         Instruction::Return(condition) => push(words, jump(*condition, end)),
-        // Calls have no words yet, and stand in no plan.
-        Instruction::Call { .. } => Ok(()),
+        Instruction::Call {
+            condition,
+            instance,
+            arguments,
+        } => {
+            push_jump_over(words, next, *condition)?;
+            push_arguments(words, constants, arguments.as_slice())?;
+            push(words, Word::Call(block(*instance)))
+        }
     }
 }
 
@@ -130,13 +132,43 @@ fn push_words(
 fn push_pieces(
     words: &mut Vec<Word>,
     constants: &Constants,
-    pieces: &[Piece<usize>],
+    pieces: &[Piece<Place>],
 ) -> Result<(), AllocError>
     ensures { OnOk result (words.new.items
         ≡ words.old.items ++ map (λ p. word_of constants.now p.action) pieces.now) }
 {
     for piece in pieces {
         words.push(word(constants, piece.action))?;
+    }
+    Ok(())
+}
+
+/// Adds the jump over a call that is not carried out.
+fn push_jump_over(
+    words: &mut Vec<Word>,
+    next: usize,
+    condition: Condition,
+) -> Result<(), AllocError>
+    ensures { OnOk result (words.new.items ≡ words.old.items ++ jump_over next condition) }
+{
+    match condition {
+        Condition::Always => Ok(()),
+        Condition::IfTrue => push(words, jump(Condition::IfFalse, next)),
+        Condition::IfFalse => push(words, jump(Condition::IfTrue, next)),
+    }
+}
+
+/// Adds the words of arguments.
+fn push_arguments(
+    words: &mut Vec<Word>,
+    constants: &Constants,
+    arguments: &[Argument<Place>],
+) -> Result<(), AllocError>
+    ensures { OnOk result (words.new.items
+        ≡ words.old.items ++ map (word_of_argument constants.now) arguments.now) }
+{
+    for argument in arguments {
+        words.push(pass(constants, *argument))?;
     }
     Ok(())
 }
@@ -150,7 +182,7 @@ fn push(words: &mut Vec<Word>, word: Word) -> Result<(), AllocError>
 }
 
 /// The word of a piece.
-fn word(constants: &Constants, action: Action<usize>) -> Word
+fn word(constants: &Constants, action: Action<Place>) -> Word
     ensures { result ≡ word_of constants.now action }
 {
     match action {
@@ -163,7 +195,7 @@ fn word(constants: &Constants, action: Action<usize>) -> Word
 }
 
 /// LD, LDN.
-fn load(constants: &Constants, negated: bool, operand: Operand<usize>) -> Word
+fn load(constants: &Constants, negated: bool, operand: Operand<Place>) -> Word
     ensures { result ≡ word_of constants.now (Action.Load negated operand) }
 {
     Word::Load {
@@ -173,10 +205,39 @@ fn load(constants: &Constants, negated: bool, operand: Operand<usize>) -> Word
 }
 
 /// An operator with its operand.
-fn apply(constants: &Constants, operator: Operator, operand: Operand<usize>) -> Word
+fn apply(constants: &Constants, operator: Operator, operand: Operand<Place>) -> Word
     ensures { result ≡ word_of constants.now (Action.Apply operator operand) }
 {
     Word::Apply(operator, numbered(constants, operand))
+}
+
+/// ST, STN.
+fn store(negated: bool, place: Place) -> Word
+    ensures { result ≡ variants.Store negated (variable_of place) }
+{
+    Word::Store {
+        negated,
+        variable: variable(place),
+    }
+}
+
+/// An argument of a call.
+fn pass(constants: &Constants, argument: Argument<Place>) -> Word
+    ensures { result ≡ word_of_argument constants.now argument }
+{
+    let operand = numbered(constants, argument.operand);
+    match argument.port {
+        Place::Port { block, port } => Word::Pass {
+            operand,
+            block,
+            port,
+        },
+        Place::Slot(_) | Place::Block(_) => Word::Pass {
+            operand,
+            block: MOST_BLOCKS,
+            port: 0,
+        },
+    }
 }
 
 /// A jump to a place.
@@ -187,11 +248,37 @@ fn jump(condition: Condition, target: usize) -> Word
 }
 
 /// An operand by its number.
-fn numbered(constants: &Constants, operand: Operand<usize>) -> WordOperand
+fn numbered(constants: &Constants, operand: Operand<Place>) -> WordOperand
     ensures { result ≡ operand_of constants.now operand }
 {
     match operand {
-        Operand::Name(slot) => WordOperand::Slot(slot),
+        Operand::Name(Place::Slot(slot)) => WordOperand::Slot(slot),
+        Operand::Name(Place::Port { block, port }) => WordOperand::Port { block, port },
+        Operand::Name(Place::Block(_)) => WordOperand::Constant(MOST_CONSTANTS),
         Operand::Constant(value) => WordOperand::Constant(constants.number_of(value)),
+    }
+}
+
+/// What is stored to.
+fn variable(place: Place) -> Variable
+    ensures { result ≡ variable_of place }
+{
+    match place {
+        Place::Slot(slot) => Variable::Slot(slot),
+        Place::Port { block, port } => Variable::Port { block, port },
+        Place::Block(_) => Variable::Port {
+            block: MOST_BLOCKS,
+            port: 0,
+        },
+    }
+}
+
+/// The block instance that is called.
+fn block(place: Place) -> usize
+    ensures { result ≡ block_of place }
+{
+    match place {
+        Place::Block(block) => block,
+        Place::Slot(_) | Place::Port { .. } => MOST_BLOCKS,
     }
 }

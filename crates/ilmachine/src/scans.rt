@@ -1,10 +1,13 @@
 //! Scans and what they need.
 
 ghost use Rattle.std.specs.Prelude.{◌≡◌, IfOk};
-ghost use Rattle.ilmachine.specs.Scans.{IsScan};
+ghost use Rattle.ilmachine.specs.Scans.{IsScan, store_of};
 
 use crate::machine::run;
 use crate::snapshot::Snapshot;
+use crate::state::State;
+use gearcmd::Request;
+use ilblocks::BlockState;
 use iltypes::Value;
 use std::alloc::AllocError;
 use std::marker::Model;
@@ -14,19 +17,18 @@ use std::marker::Model;
 pub struct Work {
     number: u64,
     snapshot: Snapshot,
-    values: Vec<Value>,
+    state: State,
 }
 
 impl Model for Work {
-    ghost use Rattle.std.specs.Prelude.{◌≡◌};
-    ghost use Rattle.iltypes.specs.Values.{AreOf};
+    ghost use Rattle.ilmachine.specs.MachineSteps.{IsPrepared};
     ghost use Rattle.ilmachine.specs.Scans.{Task};
 
     ghost Value = { Task };
 
     ghost view = { λ w. record { number = w.number; snapshot = w.snapshot } };
 
-    ghost invariant = { λ w. w.values.items ≡ w.snapshot.values };
+    ghost invariant = { λ w. IsPrepared w.snapshot w.state };
 }
 
 /// A scan that was made.
@@ -34,23 +36,23 @@ impl Model for Work {
 pub struct ScanResult {
     number: u64,
     snapshot: Snapshot,
-    values: Vec<Value>,
     steps: u32,
+    state: State,
 }
 
 impl Model for ScanResult {
-    ghost use Rattle.ilmachine.specs.Scans.{Scan, IsScan};
+    ghost use Rattle.ilmachine.specs.Scans.{Scan, IsScan, store_of};
 
     ghost Value = { Scan };
 
     ghost view = { λ r. record {
       number = r.number;
       snapshot = r.snapshot;
-      values = r.values.items;
       steps = r.steps;
+      after = r.state;
     } };
 
-    ghost invariant = { λ r. IsScan r.snapshot.verified r.snapshot.values r.steps r.values.items };
+    ghost invariant = { λ r. IsScan r.snapshot.verified (store_of r.snapshot) r.steps r.state };
 }
 
 impl Work {
@@ -61,18 +63,19 @@ impl Work {
     pub fn new(number: u64, snapshot: Snapshot) -> Result<Work, AllocError>
         ensures { IfOk result (λ work. work ≡ task_of number snapshot) }
     {
-        let values = snapshot.copy_values()?;
+        let state = snapshot.begun()?;
         Ok(Work {
             number,
             snapshot,
-            values,
+            state,
         })
     }
 }
 
 impl ScanResult {
-    ghost use Rattle.std.specs.Prelude.{◌≡◌};
-    ghost use Rattle.ilmachine.specs.Scans.{Scan, IsScan};
+    ghost use Rattle.std.specs.Prelude.{◌≡◌, ◌≤◌, length};
+    ghost use Rattle.limits.specs.Limits.{most_requests};
+    ghost use Rattle.ilmachine.specs.Scans.{Scan, IsScan, store_of};
 
     /// The number of the scan.
     pub fn number(&self) -> u64
@@ -90,11 +93,26 @@ impl ScanResult {
 
     /// The values of the slots at the end of the run, each in its slot's type.
     pub fn values(&self) -> &[Value]
-        ensures value { result.now ≡ self.now.values }
-        ensures run { IsScan self.now.snapshot.verified self.now.snapshot.values
-            self.now.steps result.now }
+        ensures value { result.now ≡ self.now.after.slots }
+        ensures run { IsScan self.now.snapshot.verified (store_of self.now.snapshot)
+            self.now.steps self.now.after }
     {
-        &self.values
+        self.state.values()
+    }
+
+    /// What each block instance keeps at the end of the run.
+    pub fn blocks(&self) -> &[BlockState]
+        ensures value { result.now ≡ self.now.after.blocks }
+    {
+        self.state.blocks()
+    }
+
+    /// The requests of the scan, in the order of their calls.
+    pub fn outbox(&self) -> &[Request]
+        ensures value { result.now ≡ self.now.after.requests }
+        ensures few { length result.now ≤ most_requests }
+    {
+        self.state.requests()
     }
 
     /// The number of steps of the run, one a word: no more than the bound of its code.
@@ -103,25 +121,34 @@ impl ScanResult {
     {
         self.steps
     }
+
+    /// What the scan began from, and the state at the end of its run.
+    pub(crate) fn into_parts(self) -> (Snapshot, State)
+        ensures snapshot { result.0 ≡ self.snapshot }
+        ensures state { result.1 ≡ self.after }
+        ensures run { IsScan self.snapshot.verified (store_of self.snapshot) self.steps self.after }
+    {
+        (self.snapshot, self.state)
+    }
 }
 
 /// Makes the scan in the room that was made for it.
 pub fn scan_into(work: Work) -> ScanResult
     ensures number { result.number ≡ work.number }
     ensures snapshot { result.snapshot ≡ work.snapshot }
-    ensures run { IsScan work.snapshot.verified work.snapshot.values result.steps result.values }
+    ensures run { IsScan work.snapshot.verified (store_of work.snapshot) result.steps result.after }
 {
     let Work {
         number,
         snapshot,
-        mut values,
+        mut state,
     } = work;
-    let steps = run(snapshot.verified(), &mut values);
+    let steps = run(snapshot.verified(), &mut state);
     ScanResult {
         number,
         snapshot,
-        values,
         steps,
+        state,
     }
 }
 
@@ -130,7 +157,7 @@ pub fn scan(snapshot: Snapshot) -> Result<ScanResult, AllocError>
     ensures number { IfOk result (λ scan. scan.number ≡ 0) }
     ensures snapshot { IfOk result (λ scan. scan.snapshot ≡ snapshot) }
     ensures run { IfOk result (λ scan.
-        IsScan snapshot.verified snapshot.values scan.steps scan.values) }
+        IsScan snapshot.verified (store_of snapshot) scan.steps scan.after) }
 {
     let work = Work::new(0, snapshot)?;
     Ok(scan_into(work))

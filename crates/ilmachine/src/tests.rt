@@ -5,6 +5,7 @@ ghost use Rattle.iltypes.specs.Values.{AreOf};
 
 use iltypes::{IlType, Value};
 
+mod blocks;
 mod calls;
 mod jumps;
 mod numbers;

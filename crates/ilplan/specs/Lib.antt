@@ -2,3 +2,4 @@ pub mod Constants
 pub mod PlanMeaning
 pub mod Plans
 pub mod Printed
+pub mod Rows

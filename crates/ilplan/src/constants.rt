@@ -5,6 +5,7 @@ ghost use Rattle.std.specs.List.{list_any, IsDistinct};
 ghost use Rattle.iltypes.specs.declared.value.Value.{Value};
 ghost use Rattle.iltrees.specs.declared.instruction.Line.{Line};
 ghost use Rattle.iltrees.specs.Uses.{uses_in};
+ghost use Rattle.ilplan.specs.declared.place.Place.{Place};
 ghost use Rattle.ilplan.specs.Constants.{same_value, with_constant, each_once};
 ghost use Rattle.ilplan.specs.Constants.{different_constants, AreAmong};
 
@@ -84,6 +85,6 @@ pub fn each_value_stands_once()
     ensures distinct { (values : List Value) → IsDistinct same_value (each_once values) }
     ensures more { (values : List Value) (value : Value)
         → each_once (values ++ value ∷ []) ≡ with_constant (each_once values) value }
-    ensures used { (lines : List (Line ℕ ℕ))
+    ensures used { (lines : List (Line Place ℕ))
         → AreAmong (different_constants lines) (flat_map uses_in lines) }
 {}

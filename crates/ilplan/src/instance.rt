@@ -1,5 +1,7 @@
 //! Instances of programs, and their variables (IEC 61131-3, 2.4.3 and 2.7.2).
 
+use crate::place::Place;
+use ilblocks::Kind;
 use ilsource::Name;
 use iltrees::Line;
 use iltypes::{IlType, Value};
@@ -17,27 +19,38 @@ pub struct Slot {
     pub initial: Value,
 }
 
-/// A program as it runs in a task. Its lines have the numbers of slots for names; the places in the
+/// A function block instance of a program instance.
+#[derive(Clone, Copy, PartialEq, Eq, Debug)]
+pub struct FunctionBlock {
+    /// The program instance's name in the text.
+    pub instance: Name,
+    /// The block instance's name in the text.
+    pub name: Name,
+    pub kind: Kind,
+}
+
+/// A program as it runs in a task. Its lines have places in a store for names; the places in the
 /// text stay in them.
 #[derive(Drop)]
 pub struct Instance {
     name: Name,
-    lines: Vec<Line<usize, usize>>,
+    lines: Vec<Line<Place, usize>>,
 }
 
 impl Model for Instance {
-    ghost use Rattle.std.specs.Prelude.{ℕ, List};
+    ghost use Rattle.std.specs.Prelude.{List};
     ghost use Rattle.std.specs.Coded.{codes, code_by};
     ghost use Rattle.iltrees.specs.declared.nested.Piece.{Piece};
     ghost use Rattle.iltrees.specs.Trees.{pieces_of};
     ghost use Rattle.iltrees.specs.TreeSteps.{tree_of, tree_again};
+    ghost use Rattle.ilplan.specs.declared.place.Place.{Place};
     ghost use Rattle.ilplan.specs.Plans.{PlannedInstance};
 
     ghost Value = { PlannedInstance };
 
     ghost coded = { Prim.hlevel (
       codes,
-      code_by (List (Piece ℕ)) (Prim.hlevel codes) pieces_of tree_of tree_again,
+      code_by (List (Piece Place)) (Prim.hlevel codes) pieces_of tree_of tree_again,
     ) };
 
     ghost view = { λ i. record { name = i.name; lines = i.lines.items } };
@@ -48,7 +61,7 @@ impl Instance {
     ghost use Rattle.ilplan.specs.Plans.{PlannedInstance};
 
     /// The instance of this name with these lines.
-    pub fn new(name: Name, lines: Vec<Line<usize, usize>>) -> Instance
+    pub fn new(name: Name, lines: Vec<Line<Place, usize>>) -> Instance
         ensures { result ≡ record { name = name; lines = lines.items } }
     {
         Instance { name, lines }
@@ -62,7 +75,7 @@ impl Instance {
     }
 
     /// Its lines, in order.
-    pub fn lines(&self) -> &[Line<usize, usize>]
+    pub fn lines(&self) -> &[Line<Place, usize>]
         ensures value { result.now ≡ self.now.lines }
     {
         &self.lines

@@ -16,7 +16,8 @@ pub struct Plan {
 }
 
 impl Model for Plan {
-    ghost use Rattle.std.specs.Prelude.{ℕ, List};
+    ghost use Rattle.std.specs.Prelude.{List};
+    ghost use Rattle.ilplan.specs.declared.place.Place.{Place};
     ghost use Rattle.std.specs.Coded.{codes, code_by};
     ghost use Rattle.iltrees.specs.declared.nested.Piece.{Piece};
     ghost use Rattle.iltrees.specs.Trees.{pieces_of};
@@ -27,7 +28,7 @@ impl Model for Plan {
 
     ghost coded = { Prim.hlevel (
       codes,
-      code_by (List (Piece ℕ)) (Prim.hlevel codes) pieces_of tree_of tree_again,
+      code_by (List (Piece Place)) (Prim.hlevel codes) pieces_of tree_of tree_again,
     ) };
 
     ghost view = { λ p. plan_of p.text.items p.buses p.globals.items p.tasks.items };

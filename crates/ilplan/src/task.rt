@@ -1,7 +1,7 @@
 //! Tasks.
 
 use crate::constants::Constants;
-use crate::instance::{Instance, Slot};
+use crate::instance::{FunctionBlock, Instance, Slot};
 use std::marker::Model;
 
 /// A task: its instances, which run in order, their variables and their constants. It keeps the
@@ -11,12 +11,14 @@ pub struct Task {
     name: String,
     event: bool,
     slots: Vec<Slot>,
+    blocks: Vec<FunctionBlock>,
     constants: Constants,
     instances: Vec<Instance>,
 }
 
 impl Model for Task {
-    ghost use Rattle.std.specs.Prelude.{string_bytes, ℕ, List};
+    ghost use Rattle.std.specs.Prelude.{string_bytes, List};
+    ghost use Rattle.ilplan.specs.declared.place.Place.{Place};
     ghost use Rattle.std.specs.Coded.{codes, code_by};
     ghost use Rattle.iltrees.specs.declared.nested.Piece.{Piece};
     ghost use Rattle.iltrees.specs.Trees.{pieces_of};
@@ -27,14 +29,15 @@ impl Model for Task {
 
     ghost coded = { Prim.hlevel (
       codes,
-      code_by (List (Piece ℕ)) (Prim.hlevel codes) pieces_of tree_of tree_again,
+      code_by (List (Piece Place)) (Prim.hlevel codes) pieces_of tree_of tree_again,
     ) };
 
-    ghost view = { λ t. task_of (string_bytes t.name) t.event t.slots.items t.constants
+    ghost view = { λ t. task_of (string_bytes t.name) t.event t.slots.items t.blocks.items
+        t.constants
         t.instances.items };
 
     ghost invariant = { λ t. KeepsLimits (task_of (string_bytes t.name) t.event t.slots.items
-        t.constants t.instances.items) };
+        t.blocks.items t.constants t.instances.items) };
 }
 
 impl Task {
@@ -46,18 +49,20 @@ impl Task {
         name: String,
         event: bool,
         slots: Vec<Slot>,
+        blocks: Vec<FunctionBlock>,
         constants: Constants,
         instances: Vec<Instance>,
     ) -> Task
-        requires { KeepsLimits (task_of (string_bytes name) event slots.items constants
+        requires { KeepsLimits (task_of (string_bytes name) event slots.items blocks.items constants
             instances.items) }
-        ensures { result ≡ task_of (string_bytes name) event slots.items constants
+        ensures { result ≡ task_of (string_bytes name) event slots.items blocks.items constants
             instances.items }
     {
         Task {
             name,
             event,
             slots,
+            blocks,
             constants,
             instances,
         }
@@ -82,6 +87,13 @@ impl Task {
         ensures value { result.now ≡ self.now.slots }
     {
         &self.slots
+    }
+
+    /// The block instances of its program instances, in declared order.
+    pub fn blocks(&self) -> &[FunctionBlock]
+        ensures value { result.now ≡ self.now.blocks }
+    {
+        &self.blocks
     }
 
     /// The different constants of its lines, in order of first use.

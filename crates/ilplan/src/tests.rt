@@ -1,7 +1,11 @@
-//! Each call once, with printed names.
+//! The meaning of plans on worked scans, and each call once, with printed names.
 
-use crate::{Constants, DeclaredName, Instance, Plan, Slot, SlotName, Task};
+mod rows;
+
+use crate::{Constants, DeclaredName, FunctionBlock, Instance, Place, Plan, Slot, SlotName, Task};
+use ilblocks::Kind;
 use ilsource::Name;
+use iltrees::{Instruction, Line, Operand};
 use iltypes::{IlType, Value};
 use std::test::Fail;
 
@@ -27,12 +31,29 @@ fn a_plan_gives_back_its_parts(rt: HostRuntime) -> Result<(), Fail> {
         value_type: IlType::Bool,
         initial: Value::Bool(true),
     };
+    let block = FunctionBlock {
+        instance: program,
+        name: Name { from: 12, to: 15 },
+        kind: Kind::Ton,
+    };
+    let output = Operand::Name(Place::Port { block: 0, port: 2 });
+    let mut lines = Vec::new(alloc);
+    lines.push(Line {
+        at: 16,
+        label: None,
+        instruction: Some(Instruction::Load {
+            negated: false,
+            operand: output,
+        }),
+    })?;
     let mut instances = Vec::new(alloc);
-    instances.push(Instance::new(program, Vec::new(alloc)))?;
+    instances.push(Instance::new(program, lines))?;
     let mut slots = Vec::new(alloc);
     slots.push(slot)?;
+    let mut blocks = Vec::new(alloc);
+    blocks.push(block)?;
     let name = String::from_str(alloc, "main")?;
-    let task = Task::new(name, true, slots, Constants::new(alloc), instances);
+    let task = Task::new(name, true, slots, blocks, Constants::new(alloc), instances);
     assert_eq!(rt; task.constants().len(), 0);
     let mut tasks = Vec::new(alloc);
     tasks.push(task)?;
@@ -53,7 +74,14 @@ fn a_plan_gives_back_its_parts(rt: HostRuntime) -> Result<(), Fail> {
     assert_eq!(rt; task.slots(), [slot].as_slice());
     assert_eq!(rt; task.instances().len(), 1);
     assert_eq!(rt; task.instances()[0].name(), program);
-    assert_eq!(rt; task.instances()[0].lines().len(), 0);
+    assert_eq!(rt; task.blocks(), [block].as_slice());
+    let [line] = task.instances()[0].lines() else {
+        panic!(rt; "one line");
+    };
+    let Some(Instruction::Load { operand, .. }) = &line.instruction else {
+        panic!(rt; "a load");
+    };
+    assert_eq!(rt; *operand, output);
     Ok(())
 }
 

@@ -4,6 +4,7 @@ use Rattle.std.proofs.Common.{inl, inr, ap, ◌∙◌, arith}
 use Rattle.iloperators.specs.declared.operator.Operator.{Operator}
 use Rattle.ilcode.specs.declared.instruction.Instruction.{Instruction}
 use Rattle.ilcode.specs.declared.instruction.Instruction.TheVariants as words
+use Rattle.ilcode.specs.declared.instruction.Variable.TheVariants.{Slot, Port}
 use Rattle.ilcode.specs.Listings.{Listing}
 use Rattle.ilranges.specs.declared.cause.Cause.{Cause}
 use Rattle.ilranges.specs.declared.cause.Cause.TheVariants as causes
@@ -28,9 +29,12 @@ pub after_count : (code : Listing) (entry : Entry) (word : Instruction) (after :
 after_count code entry (words.Load negated operand) after h = ap (λ (e : Entry). length e.nesting) h.is
 after_count code entry (words.Apply operator operand) after h = ap (λ (e : Entry). length e.nesting) h.is
 after_count code entry (words.Transform function) after h = ap (λ (e : Entry). length e.nesting) h.is
-after_count code entry (words.Store negated slot) after h = ap (λ (e : Entry). length e.nesting) h.is
-after_count code entry (words.Set slot) after h = ap (λ (e : Entry). length e.nesting) h.1
-after_count code entry (words.Reset slot) after h = ap (λ (e : Entry). length e.nesting) h.1
+after_count code entry (words.Store negated (Slot slot)) after h = ap (λ (e : Entry). length e.nesting) h.1.is
+after_count code entry (words.Store negated (Port block port)) after h = ap (λ (e : Entry). length e.nesting) h.1.is
+after_count code entry (words.Set variable) after h = ap (λ (e : Entry). length e.nesting) h.2
+after_count code entry (words.Reset variable) after h = ap (λ (e : Entry). length e.nesting) h.2
+after_count code entry (words.Pass operand block port) after h = ap (λ (e : Entry). length e.nesting) h.1.is
+after_count code entry (words.Call block) after h = ap (λ (e : Entry). length e.nesting) h.1
 after_count code entry (words.Open operator) after h = open_count entry after operator entry.result h
 after_count code entry words.Close after h = close_count entry after entry.nesting h
 after_count code entry (words.Jump condition target) after h = absurd h

@@ -32,6 +32,7 @@ same_number Arising causes.MayBeZero causes.MayBeZero h p q l m = refl
 same_number Arising (causes.OutOfRange f a) (causes.OutOfRange g b) h p q l m = h f a g b p q
 same_number Arising causes.TooBig causes.TooBig h p q l m = refl
 same_number Arising causes.BadJump causes.BadJump h p q l m = refl
+same_number Arising causes.TooManyRequests causes.TooManyRequests h p q l m = refl
 same_number Arising causes.BadSlot causes.BadSlot h p q l m = refl
 same_number Arising one other h p q l m = absurd (omega arith)
 

@@ -56,14 +56,14 @@ mark_wider slots result (Some mark) (Some wider) h w = subst (λ (m : Mark). IsM
 pub fit_wider : IsFitWider
 fit_wider code entry wider c i f = record {
   typed = f.typed;
-  slots = zip_through IsKnown IsKnownWithin value_wider c.slots entry.slots wider.slots f.slots i.slots;
+  slots = zip_through IsKnown IsKnownWithin value_wider c.store.slots entry.slots wider.slots f.slots i.slots;
   result = result_wider c.result entry.result wider.result f.result i.result;
-  mark = mark_wider c.slots c.result entry.mark wider.mark f.mark i.mark;
+  mark = mark_wider c.store.slots c.result entry.mark wider.mark f.mark i.mark;
   nesting = zip_through IsOpenedKnown IsOpenedInto opened_wider c.nesting entry.nesting wider.nesting f.nesting
       i.nesting;
 }
 
-of_known : (value : Value) (type : IlType) → IsOf value type → IsKnown value (known_of_type type)
+pub of_known : (value : Value) (type : IlType) → IsOf value type → IsKnown value (known_of_type type)
 of_known (values.Bool truth) types.Bool h = tt
 of_known (values.Bool truth) (types.Int range) h = absurd h
 of_known (values.Int number) types.Bool h = absurd h
@@ -77,9 +77,9 @@ all_known (value ∷ slots) [] h = absurd h
 all_known (value ∷ slots) (type ∷ more) h = (of_known value type h.0, all_known slots more h.1)
 
 pub fit_start : IsFitAtStart
-fit_start code slots a = record {
+fit_start code store a = record {
   typed = a;
-  slots = all_known slots code.slots a;
+  slots = all_known store.slots code.slots a.slots;
   result = tt;
   mark = tt;
   nesting = tt;

@@ -66,22 +66,23 @@ slot_kept (x ∷ xs) (y ∷ ys) (suc slot) value known h e k = (h.0, slot_kept x
 
 tested_taken : (code : Listing) (c : Configuration) (entry : Entry) (slot : ℕ) (comparison : Operator) (outcome : Bool)
     (limit z : ℤ) (known : Option Known) (way : Option Entry) → Fits code entry c
-    → slice_get c.slots slot ≡ Some (values.Int z) → slice_get entry.slots slot ≡ known
+    → slice_get c.store.slots slot ≡ Some (values.Int z) → slice_get entry.slots slot ≡ known
     → value_of_operator comparison (values.Int z) (values.Int limit) ≡ Some (values.Bool outcome)
     → IsTested entry slot comparison outcome limit known way → IsTaken code c way
 tested_taken code c entry slot comparison outcome limit z None way f e k p h = all_kept code c entry way f h
 tested_taken code c entry slot comparison outcome limit z (Some knowns.Bool) way f e k p h =
     all_kept code c entry way f h
 tested_taken code c entry slot comparison outcome limit z (Some (knowns.Int range)) None f e k p h =
-    absurd (h z (record { of_range = slot_holds c.slots entry.slots slot z range f.slots e k; is = p }))
+    absurd (h z (record { of_range = slot_holds c.store.slots entry.slots slot z range f.slots e k; is = p }))
 tested_taken code c entry slot comparison outcome limit z (Some (knowns.Int range)) (Some way) f e k p h =
-    let lies = h.least.each z (record { of_range = slot_holds c.slots entry.slots slot z range f.slots e k; is = p }) in
+    let held = slot_holds c.store.slots entry.slots slot z range f.slots e k in
+    let lies = h.least.each z (record { of_range = held; is = p }) in
     record {
       after = way;
       is = refl;
       fits = subst (λ (e : Entry). Fits code e c) (sym h.is) (record {
         typed = f.typed;
-        slots = slot_kept c.slots entry.slots slot (values.Int z) (knowns.Int h.kept) f.slots e lies;
+        slots = slot_kept c.store.slots entry.slots slot (values.Int z) (knowns.Int h.kept) f.slots e lies;
         result = f.result;
         mark = f.mark;
         nesting = f.nesting;
@@ -89,7 +90,7 @@ tested_taken code c entry slot comparison outcome limit z (Some (knowns.Int rang
     }
 
 refined_by : (code : Listing) (c : Configuration) (entry : Entry) (outcome : Bool) (mark : Option Mark)
-    (way : Option Entry) → Fits code entry c → IsMarked c.slots c.result mark
+    (way : Option Entry) → Fits code entry c → IsMarked c.store.slots c.result mark
     → c.result ≡ Some (values.Bool outcome) → IsRefined entry outcome mark way → IsTaken code c way
 refined_by code c entry outcome None way f m r h = all_kept code c entry way f h
 refined_by code c entry outcome (Some (Copy slot)) way f m r h = all_kept code c entry way f h

@@ -1,7 +1,7 @@
 -- Where a word leaves something no cause arises at it.
 use Rattle.std.proofs.Common.{◌≡◌, ℕ, ℤ, List, [], ◌∷◌, Option, Some, None, Bool, true, false}
 use Rattle.std.proofs.Common.{refl, sym, subst, inl, inr}
-use Rattle.std.specs.Prelude.{IsNone, slice_get}
+use Rattle.std.specs.Prelude.{IsNone, IsSome, IsTrue, slice_get}
 use Rattle.iltypes.specs.declared.range.Range.{Range}
 use Rattle.iltypes.specs.declared.value.IlType.{IlType}
 use Rattle.iltypes.specs.declared.value.IlType.TheVariants as types
@@ -13,6 +13,8 @@ use Rattle.iloperators.specs.declared.function.Function.{Function}
 use Rattle.iloperators.specs.declared.function.Function.TheVariants as functions
 use Rattle.iloperators.specs.declared.operator.Operator.{Operator}
 use Rattle.iloperators.specs.Functions.{modified, value_of_function}
+use Rattle.ilblocks.specs.declared.kind.Kind.{Kind}
+use Rattle.ilcode.specs.declared.instruction.Variable.TheVariants as variables
 use Rattle.ilcode.specs.declared.instruction.Instruction.{Instruction}
 use Rattle.ilcode.specs.declared.instruction.Instruction.TheVariants as words
 use Rattle.ilcode.specs.Listings.{Listing}
@@ -22,7 +24,7 @@ use Rattle.ilranges.specs.declared.entry.Entry.{Entry}
 use Rattle.ilranges.specs.declared.known.Known.{Known}
 use Rattle.ilranges.specs.declared.known.Known.TheVariants as knowns
 use Rattle.ilranges.specs.declared.nesting.KnownOpened.{KnownOpened}
-use Rattle.ilranges.specs.Entries.{known_of}
+use Rattle.ilranges.specs.Entries.{known_of, type_of_variable, may_write}
 use Rattle.ilranges.specs.Functions.{IsAfterFunction}
 use Rattle.ilranges.specs.Knowns.{IsKnown, IsOfKind, known_of_type}
 use Rattle.ilranges.specs.Refusals as refusals
@@ -96,18 +98,35 @@ not_out false (knowns.Int r) stored (types.Int d) found allowed m h a =
     let k = subst (λ (s : Known). (v : Value) → IsKnown v s → IsOf v (types.Int d)) (sym m) h in
     a.2 (stored_within r d k)
 
-pub stored_lawful : (negated : Bool) (result : Option Known) (type : Option IlType) (stored : Known)
-    → rules.IsStored negated result type stored → (cause : Cause)
-    → ¬ refusals.ArisesAtStoring negated result type cause
-stored_lawful negated None type stored h cause a = absurd h
-stored_lawful negated (Some known) None stored h cause a = absurd h
-stored_lawful negated (Some known) (Some type) stored h causes.WrongType a =
+may_be_written : (type : IlType) (writable : Bool) → IsTrue writable → ¬ refusals.IsNotWritten (Some type) writable
+may_be_written type writable w (inl n) = let k : ⊥ = cc in k
+may_be_written type writable w (inr n) = n w
+
+pub stored_lawful : (negated : Bool) (result : Option Known) (type : Option IlType) (writable : Bool) (stored : Known)
+    → IsTrue writable → rules.IsStored negated result type stored → (cause : Cause)
+    → ¬ refusals.ArisesAtStoring negated result type writable cause
+stored_lawful negated None type writable stored w h cause a = absurd h
+stored_lawful negated (Some known) None writable stored w h cause a = absurd h
+stored_lawful negated (Some known) (Some type) writable stored w h causes.WrongType a =
     stored_takes negated known stored type h.0 h.1 a
-stored_lawful negated (Some known) (Some type) stored h causes.NoResult a = let k : ⊥ = cc in k
-stored_lawful negated (Some known) (Some type) stored h (causes.OutOfRange found allowed) a =
+stored_lawful negated (Some known) (Some type) writable stored w h causes.NoResult a = let k : ⊥ = cc in k
+stored_lawful negated (Some known) (Some type) writable stored w h (causes.OutOfRange found allowed) a =
     not_out negated known stored type found allowed h.0 h.1 a
-stored_lawful negated (Some known) (Some type) stored h causes.BadSlot a = let k : ⊥ = cc in k
-stored_lawful negated (Some known) (Some type) stored h _ a = a
+stored_lawful negated (Some known) (Some type) writable stored w h causes.BadSlot a = may_be_written type writable w a
+stored_lawful negated (Some known) (Some type) writable stored w h _ a = a
+
+pub passed_lawful : (operand : Option Known) (type : Option IlType) (writable : Bool) (stored : Known)
+    → IsTrue writable → rules.IsStored false operand type stored → (cause : Cause)
+    → ¬ refusals.ArisesAtPass operand type writable cause
+passed_lawful None type writable stored w h cause a = absurd h
+passed_lawful (Some known) None writable stored w h cause a = absurd h
+passed_lawful (Some known) (Some type) writable stored w h causes.WrongType a =
+    stored_takes false known stored type h.0 h.1 a
+passed_lawful (Some known) (Some type) writable stored w h (causes.OutOfRange found allowed) a =
+    not_out false known stored type found allowed h.0 h.1 a
+passed_lawful (Some known) (Some type) writable stored w h causes.BadSlot (inl n) = let k : ⊥ = cc in k
+passed_lawful (Some known) (Some type) writable stored w h causes.BadSlot (inr n) = may_be_written type writable w n
+passed_lawful (Some known) (Some type) writable stored w h _ a = absurd a
 
 -- ---- operators and functions
 
@@ -145,17 +164,25 @@ transformed_lawful function (Some operand) known h cause a = no_cause function o
 
 -- ---- the other words
 
-pub set_lawful : (result : Option Known) (type : Option IlType) → rules.MaySet result type → (cause : Cause)
-    → ¬ refusals.ArisesAtSet result type cause
-set_lawful None type h cause a = absurd h
-set_lawful (Some (knowns.Int r)) type h cause a = absurd h
-set_lawful (Some knowns.Bool) None h cause a = absurd h
-set_lawful (Some knowns.Bool) (Some (types.Int d)) h cause a = absurd h
-set_lawful (Some knowns.Bool) (Some types.Bool) h causes.WrongType (inl n) = n tt
-set_lawful (Some knowns.Bool) (Some types.Bool) h causes.WrongType (inr n) = n tt
-set_lawful (Some knowns.Bool) (Some types.Bool) h causes.NoResult a = let k : ⊥ = cc in k
-set_lawful (Some knowns.Bool) (Some types.Bool) h causes.BadSlot a = let k : ⊥ = cc in k
-set_lawful (Some knowns.Bool) (Some types.Bool) h _ a = absurd a
+pub set_lawful : (result : Option Known) (type : Option IlType) (writable : Bool) → IsTrue writable
+    → rules.MaySet result type → (cause : Cause) → ¬ refusals.ArisesAtSet result type writable cause
+set_lawful None type writable w h cause a = absurd h
+set_lawful (Some (knowns.Int r)) type writable w h cause a = absurd h
+set_lawful (Some knowns.Bool) None writable w h cause a = absurd h
+set_lawful (Some knowns.Bool) (Some (types.Int d)) writable w h cause a = absurd h
+set_lawful (Some knowns.Bool) (Some types.Bool) writable w h causes.WrongType (inl n) = n tt
+set_lawful (Some knowns.Bool) (Some types.Bool) writable w h causes.WrongType (inr n) = n tt
+set_lawful (Some knowns.Bool) (Some types.Bool) writable w h causes.NoResult a = let k : ⊥ = cc in k
+set_lawful (Some knowns.Bool) (Some types.Bool) writable w h causes.BadSlot a = may_be_written types.Bool writable w a
+set_lawful (Some knowns.Bool) (Some types.Bool) writable w h _ a = absurd a
+
+there : (kind : Option Kind) → IsSome kind → ¬ IsNone kind
+there None s n = let k : ⊥ = cc in k
+there (Some kind) s n = let k : ⊥ = cc in k
+
+pub call_lawful : (kind : Option Kind) → IsSome kind → (cause : Cause) → ¬ refusals.ArisesAtCall kind cause
+call_lawful kind h causes.BadSlot a = there kind h a
+call_lawful kind h _ a = a
 
 open_lawful : (entry after : Entry) (operator : Operator) (result : Option Known)
     → rules.Opens entry operator result after → (cause : Cause) → ¬ refusals.ArisesAtOpen result cause
@@ -179,12 +206,19 @@ lawful_before code place entry (words.Apply operator operand) after h cause a =
     apply_lawful operator entry.result (known_of code entry operand) h.known h.given cause a
 lawful_before code place entry (words.Transform function) after h cause a =
     transformed_lawful function entry.result h.known h.given cause a
-lawful_before code place entry (words.Store negated slot) after h cause a =
-    stored_lawful negated entry.result (slice_get code.slots slot) h.stored h.written cause a
-lawful_before code place entry (words.Set slot) after h cause a =
-    set_lawful entry.result (slice_get code.slots slot) h.0 cause a
-lawful_before code place entry (words.Reset slot) after h cause a =
-    set_lawful entry.result (slice_get code.slots slot) h.0 cause a
+lawful_before code place entry (words.Store negated variable) after h cause a =
+    stored_lawful negated entry.result (type_of_variable code variable) (may_write code variable) h.1.stored h.0
+    h.1.written cause a
+lawful_before code place entry (words.Set variable) after h cause a =
+    set_lawful entry.result (type_of_variable code variable) (may_write code variable) h.0 h.1 cause a
+lawful_before code place entry (words.Reset variable) after h cause a =
+    set_lawful entry.result (type_of_variable code variable) (may_write code variable) h.0 h.1 cause a
+lawful_before code place entry (words.Pass operand block port) after h cause a =
+    let input = variables.Port block port in
+    passed_lawful (known_of code entry operand) (type_of_variable code input) (may_write code input) h.1.stored h.0
+    h.1.passed cause a
+lawful_before code place entry (words.Call block) after h cause a =
+    call_lawful (slice_get code.kinds block) h.0 cause a
 lawful_before code place entry (words.Open operator) after h cause a =
     open_lawful entry after operator entry.result h cause a
 lawful_before code place entry words.Close after h cause a = close_lawful entry after entry.nesting h cause a

@@ -21,24 +21,10 @@ use Rattle.ilranges.specs.Stores.{ArisesAtStore}
 use Rattle.ilranges.proofs.Lawful.{no_number, no_truth_out}
 use Rattle.ilranges.proofs.Least.{not_number, wrong_least}
 
-load_wrong : (negated : Bool) (known : Known) (cause : Cause) → refusals.ArisesAtLoad negated (Some known) cause
-    → (cause ≡ causes.WrongType) × refusals.IsWrongForLoad negated (Some known)
-load_wrong negated known causes.WrongType a = (refl, a)
-load_wrong negated known causes.BadSlot a = let k : ⊥ = cc in absurd k
-load_wrong negated known _ a = absurd a
-
 -- what the modifier does not take is of a wrong type for each store
 store_wrong : (negated : Bool) (known : Option Known) (type : Option IlType) → refusals.IsWrongForLoad negated known
     → refusals.IsWrongForStore negated known type
 store_wrong negated known type a x y p e t = let n = a x p in let k : ⊥ = cc in k
-
-pub unmodified : (negated : Bool) (known : Known) (type : Option IlType) (cause : Cause)
-    → IsLeastCause (refusals.ArisesAtLoad negated (Some known)) cause
-    → IsLeastCause (refusals.ArisesAtStoring negated (Some known) type) cause
-unmodified negated known type cause l =
-    let w = load_wrong negated known cause l.arises in
-    subst (IsLeastCause (refusals.ArisesAtStoring negated (Some known) type)) (sym w.0)
-    (wrong_least (refusals.ArisesAtStoring negated (Some known) type) (store_wrong negated (Some known) type w.1))
 
 -- NOT leaves a truth value
 pub modified_kind : (negated : Bool) (known stored : Known) → IsModified negated known stored → (x y : Value)
@@ -76,14 +62,14 @@ number_kept true knowns.Bool (knowns.Int s) (types.Int d) found allowed m a =
 -- a number out of the range is of the slot's kind
 least_out : (known : Known) (type : IlType) (found allowed : Range)
     → ArisesAtStore known type (causes.OutOfRange found allowed) → (cause : Cause)
-    → refusals.ArisesAtStoring false (Some known) (Some type) cause → 7 ≤ number_of cause
+    → refusals.ArisesAtStoring false (Some known) (Some type) true cause → 7 ≤ number_of cause
 least_out knowns.Bool type found allowed o cause a = absurd (no_truth_out type found allowed o)
 least_out (knowns.Int r) types.Bool found allowed o cause a = absurd o
 least_out (knowns.Int r) (types.Int d) found allowed o causes.WrongType a =
     absurd (a (values.Int (pos 1)) (values.Int (pos 1)) tt refl tt)
 least_out (knowns.Int r) (types.Int d) found allowed o causes.NoResult a = let k : ⊥ = cc in absurd k
 least_out (knowns.Int r) (types.Int d) found allowed o (causes.OutOfRange f b) a = omega arith
-least_out (knowns.Int r) (types.Int d) found allowed o causes.BadSlot a = let k : ⊥ = cc in absurd k
+least_out (knowns.Int r) (types.Int d) found allowed o causes.BadSlot a = omega arith
 least_out (knowns.Int r) (types.Int d) found allowed o _ a = absurd a
 
 store_number : (stored : Known) (type : IlType) (cause : Cause) → ArisesAtStore stored type cause
@@ -98,14 +84,14 @@ store_number (knowns.Int r) (types.Int d) _ a = absurd a
 
 pub unstored : (negated : Bool) (known stored : Known) (type : IlType) (cause : Cause)
     → IsModified negated known stored → ArisesAtStore stored type cause
-    → IsLeastCause (refusals.ArisesAtStoring negated (Some known) (Some type)) cause
+    → IsLeastCause (refusals.ArisesAtStoring negated (Some known) (Some type) true) cause
 unstored negated known stored type causes.WrongType m a =
-    wrong_least (refusals.ArisesAtStoring negated (Some known) (Some type))
+    wrong_least (refusals.ArisesAtStoring negated (Some known) (Some type) true)
     (λ x y p e. kinds_differ stored type y a (modified_kind negated known stored m x y p e))
 unstored negated known stored type (causes.OutOfRange found allowed) m a =
     let k = number_kept negated known stored type found allowed m a in
-    subst (λ (n : Bool). IsLeastCause (refusals.ArisesAtStoring n (Some known) (Some type)) (causes.OutOfRange found
-    allowed)) (sym k.0) (record { arises = k.1; least = least_out known type found allowed k.1 })
+    subst (λ (n : Bool). IsLeastCause (refusals.ArisesAtStoring n (Some known) (Some type) true) (causes.OutOfRange
+    found allowed)) (sym k.0) (record { arises = k.1; least = least_out known type found allowed k.1 })
 unstored negated known stored type cause m a = elim (store_number stored type cause a) [
   | inl e ↦ absurd (omega (arith, e))
   | inr e ↦ absurd (omega (arith, e))
@@ -121,7 +107,7 @@ no_slot_wrong false knowns.Bool e a = a (values.Bool true) (values.Bool true) tt
 no_slot_wrong false (knowns.Int r) e a = a (values.Int (pos 1)) (values.Int (pos 1)) tt refl tt
 
 no_slot_least : (negated : Bool) (known : Known) → may_modify negated known ≡ true → (cause : Cause)
-    → refusals.ArisesAtStoring negated (Some known) None cause → number_of causes.BadSlot ≤ number_of cause
+    → refusals.ArisesAtStoring negated (Some known) None true cause → number_of causes.BadSlot ≤ number_of cause
 no_slot_least negated known e causes.WrongType a = absurd (no_slot_wrong negated known e a)
 no_slot_least negated known e causes.NoResult a = let k : ⊥ = cc in absurd k
 no_slot_least negated known e causes.BadSlot a = omega arith
@@ -134,10 +120,10 @@ number_wrong true knowns.Bool e = absurd (cc)
 number_wrong false known e = absurd (cc)
 
 pub no_slot : (negated : Bool) (known : Known) (right : Bool) → may_modify negated known ≡ right
-    → IsLeastCause (refusals.ArisesAtStoring negated (Some known) None) (if_right right causes.BadSlot)
-no_slot negated known true e = record { arises = refl; least = no_slot_least negated known e }
+    → IsLeastCause (refusals.ArisesAtStoring negated (Some known) None true) (if_right right causes.BadSlot)
+no_slot negated known true e = record { arises = inl refl; least = no_slot_least negated known e }
 no_slot negated known false e =
-    wrong_least (refusals.ArisesAtStoring negated (Some known) None)
+    wrong_least (refusals.ArisesAtStoring negated (Some known) None true)
     (store_wrong negated (Some known) None (number_wrong negated known e))
 
 nothing_wrong : (negated : Bool) (type : IlType) → may_modify negated (known_of_type type) ≡ true
@@ -148,7 +134,7 @@ nothing_wrong false types.Bool e a = a (values.Bool true) (values.Bool true) tt 
 nothing_wrong false (types.Int d) e a = a (values.Int (pos 1)) (values.Int (pos 1)) tt refl tt
 
 nothing_least : (negated : Bool) (type : IlType) → may_modify negated (known_of_type type) ≡ true → (cause : Cause)
-    → refusals.ArisesAtStoring negated None (Some type) cause → number_of causes.NoResult ≤ number_of cause
+    → refusals.ArisesAtStoring negated None (Some type) true cause → number_of causes.NoResult ≤ number_of cause
 nothing_least negated type e causes.WrongType a = absurd (nothing_wrong negated type e a)
 nothing_least negated type e causes.NoResult a = omega arith
 nothing_least negated type e causes.BadSlot a = omega arith
@@ -163,21 +149,21 @@ truth_for_number true (types.Int d) e (values.Bool b) (values.Int z) p m q = let
 truth_for_number true (types.Int d) e (values.Int z) y p m q = let k : ⊥ = cc in k
 
 pub nothing_stored : (negated : Bool) (type : IlType) (right : Bool) → may_modify negated (known_of_type type) ≡ right
-    → IsLeastCause (refusals.ArisesAtStoring negated None (Some type)) (if_right right causes.NoResult)
+    → IsLeastCause (refusals.ArisesAtStoring negated None (Some type) true) (if_right right causes.NoResult)
 nothing_stored negated type true e = record { arises = refl; least = nothing_least negated type e }
 nothing_stored negated type false e =
-    wrong_least (refusals.ArisesAtStoring negated None (Some type)) (truth_for_number negated type e)
+    wrong_least (refusals.ArisesAtStoring negated None (Some type) true) (truth_for_number negated type e)
 
 neither_wrong : (negated : Bool) → ¬ refusals.IsWrongForStore negated None None
 neither_wrong true a = a (values.Bool true) (values.Bool false) tt refl tt
 neither_wrong false a = a (values.Bool true) (values.Bool true) tt refl tt
 
-neither_least : (negated : Bool) (cause : Cause) → refusals.ArisesAtStoring negated None None cause
+neither_least : (negated : Bool) (cause : Cause) → refusals.ArisesAtStoring negated None None true cause
     → number_of causes.NoResult ≤ number_of cause
 neither_least negated causes.WrongType a = absurd (neither_wrong negated a)
 neither_least negated causes.NoResult a = omega arith
 neither_least negated causes.BadSlot a = omega arith
 neither_least negated _ a = absurd a
 
-pub neither_stored : (negated : Bool) → IsLeastCause (refusals.ArisesAtStoring negated None None) causes.NoResult
+pub neither_stored : (negated : Bool) → IsLeastCause (refusals.ArisesAtStoring negated None None true) causes.NoResult
 neither_stored negated = record { arises = refl; least = neither_least negated }

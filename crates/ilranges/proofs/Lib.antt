@@ -6,9 +6,11 @@ pub mod Functions
 pub mod JoinLaws
 pub mod Joins
 pub mod JumpLaws
+pub mod KnownValues
 pub mod Lawful
 pub mod Least
 pub mod LeastStores
+pub mod LeastWrites
 pub mod MarkLaws
 pub mod Marking
 pub mod Meetings
@@ -24,6 +26,8 @@ pub mod Rows
 pub mod SafeLaws
 pub mod SameMarks
 pub mod SoundLaws
+pub mod StoreFacts
+pub mod StoreLaws
 pub mod Takings
 pub mod WayLaws
 pub mod Words

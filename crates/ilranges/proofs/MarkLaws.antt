@@ -17,8 +17,9 @@ use Rattle.iloperators.specs.Comparisons.{compares, turned}
 use Rattle.iloperators.specs.Functions.{modified, value_of_function}
 use Rattle.iloperators.specs.Operators.{both, value_of_operator, number, fits, rest}
 use Rattle.iloperators.proofs.Comparisons.{has_outcome, has_opposite_outcome}
+use Rattle.ilblocks.specs.Stores.{Store}
 use Rattle.ilcode.specs.declared.instruction.Operand.{Operand}
-use Rattle.ilcode.specs.declared.instruction.Operand.TheVariants.{Slot, Constant}
+use Rattle.ilcode.specs.declared.instruction.Operand.TheVariants.{Slot, Constant, Port}
 use Rattle.ilcode.specs.Listings.{Listing}
 use Rattle.ilcode.specs.Steps.{value_of}
 use Rattle.ilranges.specs.declared.known.Known.{Known}
@@ -35,22 +36,24 @@ loaded_value : (value : Option Value) (v : Value) → option_and_then (modified 
 loaded_value None v e = absurd (cc)
 loaded_value (Some value) v e = e
 
-pub load_marked : (code : Listing) (slots : List Value) (negated : Bool) (operand : Operand) (known : Known) (v : Value)
-    → option_and_then (modified negated) (value_of code slots operand) ≡ Some v → IsKnown v known
-    → IsMarked slots (Some v) (mark_of_load negated operand known)
-load_marked code slots true operand known v e k = tt
-load_marked code slots false (Constant constant) known v e k = tt
-load_marked code slots false (Slot slot) knowns.Bool v e k = tt
-load_marked code slots false (Slot slot) (knowns.Int range) (values.Bool b) e k = absurd k
-load_marked code slots false (Slot slot) (knowns.Int range) (values.Int z) e k =
-    record { number = z; there = loaded_value (slice_get slots slot) (values.Int z) e; is = refl }
+pub load_marked : (code : Listing) (store : Store) (negated : Bool) (operand : Operand) (known : Known) (v : Value)
+    → option_and_then (modified negated) (value_of code store operand) ≡ Some v → IsKnown v known
+    → IsMarked store.slots (Some v) (mark_of_load negated operand known)
+load_marked code store true operand known v e k = tt
+load_marked code store false (Constant constant) known v e k = tt
+load_marked code store false (Port block port) known v e k = tt
+load_marked code store false (Slot slot) knowns.Bool v e k = tt
+load_marked code store false (Slot slot) (knowns.Int range) (values.Bool b) e k = absurd k
+load_marked code store false (Slot slot) (knowns.Int range) (values.Int z) e k =
+    record { number = z; there = loaded_value (slice_get store.slots slot) (values.Int z) e; is = refl }
 
 -- ---- a comparison with a constant tests the number that was copied
 
-constant_value : (code : Listing) (slots : List Value) (operand : Operand) (value : Value)
-    → constant_of code operand ≡ Some value → value_of code slots operand ≡ Some value
-constant_value code slots (Slot slot) value e = absurd (cc)
-constant_value code slots (Constant constant) value e = e
+constant_value : (code : Listing) (store : Store) (operand : Operand) (value : Value)
+    → constant_of code operand ≡ Some value → value_of code store operand ≡ Some value
+constant_value code store (Slot slot) value e = absurd (cc)
+constant_value code store (Constant constant) value e = e
+constant_value code store (Port block port) value e = absurd (cc)
 
 -- the outcome of a comparison of the number that was copied
 compared : (slots : List Value) (result operand : Option Value) (slot : ℕ) (operator : Operator) (limit : ℤ)
@@ -80,13 +83,13 @@ applied_by slots result operand (Some (values.Bool b)) (Some (Copy slot)) operat
 applied_by slots result operand (Some (values.Int limit)) (Some (Copy slot)) operator v m h e =
     compared_by slots result operand slot operator limit v (compares operator) m (h (values.Int limit) refl) refl e
 
-pub apply_marked : (code : Listing) (slots : List Value) (result : Option Value) (mark : Option Mark)
-    (operator : Operator) (operand : Operand) (v : Value) → IsMarked slots result mark
-    → both operator result (value_of code slots operand) ≡ Some v
-    → IsMarked slots (Some v) (mark_of_apply mark operator (constant_of code operand))
-apply_marked code slots result mark operator operand v m e =
-    applied_by slots result (value_of code slots operand) (constant_of code operand) mark operator v m
-    (constant_value code slots operand) e
+pub apply_marked : (code : Listing) (store : Store) (result : Option Value) (mark : Option Mark) (operator : Operator)
+    (operand : Operand) (v : Value) → IsMarked store.slots result mark
+    → both operator result (value_of code store operand) ≡ Some v
+    → IsMarked store.slots (Some v) (mark_of_apply mark operator (constant_of code operand))
+apply_marked code store result mark operator operand v m e =
+    applied_by store.slots result (value_of code store operand) (constant_of code operand) mark operator v m
+    (constant_value code store operand) e
 
 -- ---- NOT turns a test
 

@@ -4,7 +4,7 @@ use Rattle.iltypes.specs.declared.value.Value.{Value}
 use Rattle.iloperators.specs.declared.function.Function.{Function}
 use Rattle.iloperators.specs.declared.operator.Operator.{Operator}
 use Rattle.ilcode.specs.declared.instruction.Operand.{Operand}
-use Rattle.ilcode.specs.declared.instruction.Operand.TheVariants.{Slot, Constant}
+use Rattle.ilcode.specs.declared.instruction.Operand.TheVariants.{Slot, Constant, Port}
 use Rattle.ilranges.specs.declared.known.Known.{Known}
 use Rattle.ilranges.specs.declared.known.Known.TheVariants as knowns
 use Rattle.ilranges.specs.declared.mark.Mark.{Mark}
@@ -31,6 +31,7 @@ load_marks negated operand (knowns.Int r) knowns.Bool w = absurd w
 load_marks true operand (knowns.Int r) (knowns.Int s) w = tt
 load_marks false (Slot slot) (knowns.Int r) (knowns.Int s) w = refl
 load_marks false (Constant constant) (knowns.Int r) (knowns.Int s) w = tt
+load_marks false (Port block port) (knowns.Int r) (knowns.Int s) w = tt
 
 pub apply_marks : (mark wider : Option Mark) (operator : Operator) (constant : Option Value) → IsMarkInto mark wider
     → IsMarkInto (mark_of_apply mark operator constant) (mark_of_apply wider operator constant)

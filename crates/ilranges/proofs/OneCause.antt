@@ -1,6 +1,5 @@
 -- The least cause at a word is one: both ranges of a number out of range are those that are known there.
 use Rattle.std.proofs.Common.{◌≡◌, ℕ, List, [], ◌∷◌, Option, Some, None, Bool}
-use Rattle.std.specs.Prelude.{slice_get}
 use Rattle.iltypes.specs.declared.range.Range.{Range}
 use Rattle.iltypes.specs.declared.value.IlType.{IlType}
 use Rattle.iltypes.specs.declared.value.IlType.TheVariants as types
@@ -10,13 +9,14 @@ use Rattle.iloperators.specs.declared.function.Function.{Function}
 use Rattle.iloperators.specs.declared.operator.Operator.{Operator}
 use Rattle.ilcode.specs.declared.instruction.Instruction.{Instruction}
 use Rattle.ilcode.specs.declared.instruction.Instruction.TheVariants as words
+use Rattle.ilcode.specs.declared.instruction.Variable.TheVariants as variables
 use Rattle.ilcode.specs.Listings.{Listing}
 use Rattle.ilranges.specs.declared.cause.Cause.TheVariants.{OutOfRange}
 use Rattle.ilranges.specs.declared.entry.Entry.{Entry}
 use Rattle.ilranges.specs.declared.known.Known.{Known}
 use Rattle.ilranges.specs.declared.known.Known.TheVariants as knowns
 use Rattle.ilranges.specs.declared.nesting.KnownOpened.{KnownOpened}
-use Rattle.ilranges.specs.Entries.{known_of}
+use Rattle.ilranges.specs.Entries.{known_of, type_of_variable}
 use Rattle.ilranges.specs.Refusals.{ArisesAtOperator, ArisesAtTransform, IsOutOfSlot, ArisesAtClose}
 use Rattle.ilranges.specs.Refusals.{ArisesAtCondition, ArisesAtWord}
 use Rattle.ilranges.specs.WordLaws.{HasOneCause}
@@ -70,10 +70,13 @@ same_ranges code place met entry (words.Apply operator operand) f a g b h k =
     absurd (not_outside operator entry.result (known_of code entry operand) f a h)
 same_ranges code place met entry (words.Transform function) f a g b h k =
     same_transform function entry.result f a g b h k
-same_ranges code place met entry (words.Store negated slot) f a g b h k =
-    same_slot entry.result (slice_get code.slots slot) f a g b h k
-same_ranges code place met entry (words.Set slot) f a g b h k = absurd h
-same_ranges code place met entry (words.Reset slot) f a g b h k = absurd h
+same_ranges code place met entry (words.Store negated variable) f a g b h k =
+    same_slot entry.result (type_of_variable code variable) f a g b h k
+same_ranges code place met entry (words.Set variable) f a g b h k = absurd h
+same_ranges code place met entry (words.Reset variable) f a g b h k = absurd h
+same_ranges code place met entry (words.Pass operand block port) f a g b h k =
+    same_slot (known_of code entry operand) (type_of_variable code (variables.Port block port)) f a g b h k
+same_ranges code place met entry (words.Call block) f a g b h k = absurd h
 same_ranges code place met entry (words.Open operator) f a g b h k = absurd h
 same_ranges code place met entry words.Close f a g b h k = absurd (none_at_close entry.nesting entry.result f a h)
 same_ranges code place met entry (words.Jump condition target) f a g b h k =

@@ -6,24 +6,27 @@ use Rattle.std.specs.List.{AllZip}
 use Rattle.std.specs.Option.{option_map}
 use Rattle.std.proofs.lemmas.Int.{ints}
 use Rattle.iltypes.specs.declared.value.IlType.{IlType}
+use Rattle.ilblocks.specs.Stores.{type_of_port}
 use Rattle.iloperators.specs.declared.function.Function.{Function}
 use Rattle.iloperators.specs.declared.function.Function.TheVariants as functions
 use Rattle.iloperators.specs.declared.operator.Operator.{Operator}
 use Rattle.ilcode.specs.declared.instruction.Operand.{Operand}
-use Rattle.ilcode.specs.declared.instruction.Operand.TheVariants.{Slot, Constant}
+use Rattle.ilcode.specs.declared.instruction.Operand.TheVariants as operands
+use Rattle.ilcode.specs.declared.instruction.Variable.{Variable}
+use Rattle.ilcode.specs.declared.instruction.Variable.TheVariants as variables
 use Rattle.ilcode.specs.declared.instruction.Instruction.{Instruction}
 use Rattle.ilcode.specs.declared.instruction.Instruction.TheVariants as words
-use Rattle.ilcode.specs.Listings.{Listing}
+use Rattle.ilcode.specs.Listings.{Listing, shape_of}
 use Rattle.ilranges.specs.declared.entry.Entry.{Entry}
 use Rattle.ilranges.specs.declared.known.Known.{Known}
 use Rattle.ilranges.specs.declared.known.Known.TheVariants as knowns
 use Rattle.ilranges.specs.declared.mark.Mark.{Mark}
 use Rattle.ilranges.specs.declared.nesting.KnownOpened.{KnownOpened}
-use Rattle.ilranges.specs.Entries.{known_of, IsResultInto, IsOpenedInto, IsInto}
-use Rattle.ilranges.specs.Knowns.{IsKnownWithin, known_of_value}
+use Rattle.ilranges.specs.Entries.{known_of, type_of_variable, IsResultInto, IsOpenedInto, IsInto}
+use Rattle.ilranges.specs.Knowns.{IsKnownWithin, known_of_type, known_of_value}
 use Rattle.ilranges.specs.Marks.{IsMarkInto, constant_of}
-use Rattle.ilranges.specs.Rules.{IsModified, IsLoaded, IsApplied, IsTransformed, IsStored, Gives, Writes, unmarked}
-use Rattle.ilranges.specs.Rules.{Opens, Closes, IsEntryAfter}
+use Rattle.ilranges.specs.Rules.{IsModified, IsLoaded, IsApplied, IsTransformed, IsStored, Gives, Writes, Passes}
+use Rattle.ilranges.specs.Rules.{unmarked, Opens, Closes, IsEntryAfter}
 use Rattle.ilranges.proofs.Marking.{load_marks, apply_marks, function_marks}
 use Rattle.ilranges.proofs.Monotone as operators
 use Rattle.ilranges.proofs.MonotoneFunctions as monotone
@@ -55,9 +58,11 @@ slot_within (x ∷ xs) (y ∷ ys) (suc slot) h = slot_within xs ys slot h.1
 
 pub operand_within : (code : Listing) (entry wider : Entry) (operand : Operand) → IsInto entry wider
     → IsBothWithin (known_of code entry operand) (known_of code wider operand)
-operand_within code entry wider (Slot slot) i = slot_within entry.slots wider.slots slot i.slots
-operand_within code entry wider (Constant constant) i =
+operand_within code entry wider (operands.Slot slot) i = slot_within entry.slots wider.slots slot i.slots
+operand_within code entry wider (operands.Constant constant) i =
     both_self (option_map known_of_value (slice_get code.constants constant))
+operand_within code entry wider (operands.Port block port) i =
+    both_self (option_map known_of_type (type_of_port (shape_of code) block port))
 
 pub set_within : (slots wider : List Known) (slot : ℕ) (known other : Known) → AllZip IsKnownWithin slots wider
     → IsKnownWithin known other → AllZip IsKnownWithin (slice_set slots slot known) (slice_set wider slot other)
@@ -132,10 +137,12 @@ gives_into entry wider after other nesting wider_nesting mark_of wider_mark_of P
     into_of _ _ after other h.is g.is
     (record { slots = i.slots; result = w; mark = marks h.known g.known w; nesting = n })
 
-writes_into : (entry wider after other : Entry) (slot : ℕ) (P Q : Known → Type 0) → IsInto entry wider
-    → ((known its : Known) → P known → Q its → IsKnownWithin known its) → Writes entry slot P after
-    → Writes wider slot Q other → IsInto after other
-writes_into entry wider after other slot P Q i each h g =
+writes_into : (entry wider after other : Entry) (variable : Variable) (P Q : Known → Type 0) → IsInto entry wider
+    → ((known its : Known) → P known → Q its → IsKnownWithin known its) → Writes entry variable P after
+    → Writes wider variable Q other → IsInto after other
+writes_into entry wider after other (variables.Port block port) P Q i each h g =
+    into_of entry wider after other h.is g.is i
+writes_into entry wider after other (variables.Slot slot) P Q i each h g =
     into_of _ _ after other h.is g.is (record {
       slots = set_within entry.slots wider.slots slot h.stored g.stored i.slots
           (each h.stored g.stored h.written g.written);
@@ -143,6 +150,12 @@ writes_into entry wider after other slot P Q i each h g =
       mark = i.mark;
       nesting = i.nesting;
     })
+
+passes_into : (entry wider after other : Entry) (P Q : Known → Type 0) → IsInto entry wider → Passes entry P after
+    → Passes wider Q other → IsInto after other
+passes_into entry wider after other P Q i h g =
+    into_of _ _ after other h.is g.is
+    (record { slots = i.slots; result = i.result; mark = tt; nesting = i.nesting })
 
 opens_into : (entry wider after other : Entry) (operator : Operator) (result wider_result : Option Known)
     → IsInto entry wider → IsResultInto result wider_result → Opens entry operator result after
@@ -185,11 +198,16 @@ after_into (words.Transform function) code entry wider after other i h g =
     gives_into entry wider after other entry.nesting wider.nesting _ _ _ _ i i.nesting
     (λ known its. transformed_within function entry.result wider.result known its i.result)
     (λ known its w. function_marks entry.mark wider.mark function i.mark) h g
-after_into (words.Store negated slot) code entry wider after other i h g =
-    writes_into entry wider after other slot _ _ i
-    (λ known its. stored_within negated entry.result wider.result (slice_get code.slots slot) known its i.result) h g
-after_into (words.Set slot) code entry wider after other i h g = into_of entry wider after other h.1 g.1 i
-after_into (words.Reset slot) code entry wider after other i h g = into_of entry wider after other h.1 g.1 i
+after_into (words.Store negated variable) code entry wider after other i h g =
+    writes_into entry wider after other variable _ _ i
+    (λ known its.
+    stored_within negated entry.result wider.result (type_of_variable code variable) known its i.result) h.1 g.1
+after_into (words.Set variable) code entry wider after other i h g = into_of entry wider after other h.2 g.2 i
+after_into (words.Reset variable) code entry wider after other i h g = into_of entry wider after other h.2 g.2 i
+after_into (words.Pass operand block port) code entry wider after other i h g =
+    passes_into entry wider after other _ _ i h.1 g.1
+after_into (words.Call block) code entry wider after other i h g =
+    into_of _ _ after other h.1 g.1 (record { slots = i.slots; result = tt; mark = tt; nesting = i.nesting })
 after_into (words.Open operator) code entry wider after other i h g =
     opens_into entry wider after other operator entry.result wider.result i i.result h g
 after_into words.Close code entry wider after other i h g =

@@ -1,7 +1,7 @@
 -- What is refused where more is known before a word is refused where less is.
-use Rattle.std.proofs.Common.{ℕ, ◌+◌, List, [], ◌∷◌, Option, Some, None, Bool, true, IsTrue, inl, inr}
+use Rattle.std.proofs.Common.{ℕ, ◌+◌, List, [], ◌∷◌, Option, Some, None, Bool, true, false, IsTrue, inl, inr}
 use Rattle.std.proofs.Common.{refl, sym, subst, arith}
-use Rattle.std.specs.Prelude.{IsNone, slice_get}
+use Rattle.std.specs.Prelude.{IsNone, IsSome, slice_get}
 use Rattle.std.specs.List.{AllZip}
 use Rattle.std.proofs.lemmas.Int.{ints}
 use Rattle.std.proofs.lemmas.Slice.Zip.{AllZip-long}
@@ -18,6 +18,7 @@ use Rattle.iloperators.specs.declared.function.Function.{Function}
 use Rattle.iloperators.specs.declared.operator.Operator.{Operator}
 use Rattle.ilcode.specs.declared.instruction.Instruction.{Instruction}
 use Rattle.ilcode.specs.declared.instruction.Instruction.TheVariants as words
+use Rattle.ilcode.specs.declared.instruction.Variable.TheVariants as variables
 use Rattle.ilcode.specs.Listings.{Listing}
 use Rattle.ilcode.specs.Steps.{is_target}
 use Rattle.ilranges.specs.declared.cause.Cause.{Cause}
@@ -26,7 +27,8 @@ use Rattle.ilranges.specs.declared.entry.Entry.{Entry}
 use Rattle.ilranges.specs.declared.known.Known.{Known}
 use Rattle.ilranges.specs.declared.known.Known.TheVariants as knowns
 use Rattle.ilranges.specs.declared.nesting.KnownOpened.{KnownOpened}
-use Rattle.ilranges.specs.Entries.{known_of, IsResultInto, IsOpenedInto, IsInto}
+use Rattle.ilblocks.specs.declared.kind.Kind.{Kind}
+use Rattle.ilranges.specs.Entries.{known_of, type_of_variable, may_write, IsResultInto, IsOpenedInto, IsInto}
 use Rattle.ilranges.specs.Knowns.{IsKnown, IsKnownWithin}
 use Rattle.ilranges.specs.Refusals as refusals
 use Rattle.ilranges.specs.Rules as rules
@@ -34,7 +36,7 @@ use Rattle.ilranges.specs.Stores.{ArisesAtStore}
 use Rattle.ilranges.specs.WordLaws.{KeepsWordRefusals}
 use Rattle.ilranges.proofs.Exact.{example, kind_of_known, refuted}
 use Rattle.ilranges.proofs.Functions.{no_cause}
-use Rattle.ilranges.proofs.Lawful.{modified_value, of_kind, not_out, no_truth_out, set_lawful}
+use Rattle.ilranges.proofs.Lawful.{modified_value, of_kind, not_out, no_truth_out}
 use Rattle.ilranges.proofs.Monotone.{known_wider}
 use Rattle.ilranges.proofs.OrderLaws.{IsBothWithin, operand_within, both_into}
 
@@ -66,29 +68,64 @@ out_kept negated (knowns.Int r) knowns.Bool stored (types.Int d) found allowed w
 out_kept negated (knowns.Int r) (knowns.Int s) stored (types.Int d) found allowed w m h a =
     not_out negated (knowns.Int s) stored (types.Int d) s d m h (refl, refl, λ k. a.2 (within_through r s d w k))
 
-store_kept : (negated : Bool) (result wider : Option Known) (type : Option IlType) (stored : Known)
-    → IsResultInto result wider → rules.IsStored negated wider type stored → (cause : Cause)
-    → ¬ refusals.ArisesAtStoring negated result type cause
-store_kept negated result None type stored w g cause a = absurd g
-store_kept negated result (Some wider) None stored w g cause a = absurd g
-store_kept negated None (Some wider) (Some type) stored w g cause a = absurd w
-store_kept negated (Some known) (Some wider) (Some type) stored w g causes.WrongType a =
+store_kept : (negated : Bool) (result wider : Option Known) (type : Option IlType) (writable : Bool) (stored : Known)
+    → IsResultInto result wider → IsTrue writable → rules.IsStored negated wider type stored → (cause : Cause)
+    → ¬ refusals.ArisesAtStoring negated result type writable cause
+store_kept negated result None type writable stored w t g cause a = absurd g
+store_kept negated result (Some wider) None writable stored w t g cause a = absurd g
+store_kept negated None (Some wider) (Some type) writable stored w t g cause a = absurd w
+store_kept negated (Some known) (Some wider) (Some type) writable stored w t g causes.WrongType a =
     let x = example known in
     let y = modified_value negated wider stored g.0 x.0 (known_wider x.0 known wider w x.1) in
     a x.0 y.0 (kind_of_known x.0 known x.1) y.1 (of_kind y.0 type (g.1 y.0 y.2))
-store_kept negated (Some known) (Some wider) (Some type) stored w g causes.NoResult a = let k : ⊥ = cc in k
-store_kept negated (Some known) (Some wider) (Some type) stored w g (causes.OutOfRange found allowed) a =
+store_kept negated (Some known) (Some wider) (Some type) writable stored w t g causes.NoResult a =
+    let k : ⊥ = cc in k
+store_kept negated (Some known) (Some wider) (Some type) writable stored w t g (causes.OutOfRange found allowed) a =
     out_kept negated known wider stored type found allowed w g.0 g.1 a
-store_kept negated (Some known) (Some wider) (Some type) stored w g causes.BadSlot a = let k : ⊥ = cc in k
-store_kept negated (Some known) (Some wider) (Some type) stored w g _ a = a
+store_kept negated (Some known) (Some wider) (Some type) writable stored w t g causes.BadSlot (inl n) =
+    let k : ⊥ = cc in k
+store_kept negated (Some known) (Some wider) (Some type) writable stored w t g causes.BadSlot (inr n) = n t
+store_kept negated (Some known) (Some wider) (Some type) writable stored w t g _ a = a
 
-set_kept : (result wider : Option Known) (type : Option IlType) → IsResultInto result wider → rules.MaySet wider type
-    → (cause : Cause) → ¬ refusals.ArisesAtSet result type cause
-set_kept result None type w g cause a = absurd g
-set_kept result (Some (knowns.Int s)) type w g cause a = absurd g
-set_kept None (Some knowns.Bool) type w g cause a = absurd w
-set_kept (Some (knowns.Int r)) (Some knowns.Bool) type w g cause a = absurd w
-set_kept (Some knowns.Bool) (Some knowns.Bool) type w g cause a = set_lawful (Some knowns.Bool) type g cause a
+set_kept : (result wider : Option Known) (type : Option IlType) (writable : Bool) → IsResultInto result wider
+    → IsTrue writable → rules.MaySet wider type → (cause : Cause)
+    → ¬ refusals.ArisesAtSet result type writable cause
+set_kept result None type writable w t g cause a = absurd g
+set_kept result (Some (knowns.Int s)) type writable w t g cause a = absurd g
+set_kept result (Some knowns.Bool) None writable w t g cause a = absurd g
+set_kept result (Some knowns.Bool) (Some (types.Int d)) writable w t g cause a = absurd g
+set_kept None (Some knowns.Bool) (Some types.Bool) writable w t g cause a = absurd w
+set_kept (Some (knowns.Int r)) (Some knowns.Bool) (Some types.Bool) writable w t g cause a = absurd w
+set_kept (Some knowns.Bool) (Some knowns.Bool) (Some types.Bool) writable w t g causes.WrongType (inl n) = n tt
+set_kept (Some knowns.Bool) (Some knowns.Bool) (Some types.Bool) writable w t g causes.WrongType (inr n) = n tt
+set_kept (Some knowns.Bool) (Some knowns.Bool) (Some types.Bool) writable w t g causes.NoResult a =
+    let k : ⊥ = cc in k
+set_kept (Some knowns.Bool) (Some knowns.Bool) (Some types.Bool) writable w t g causes.BadSlot (inl n) =
+    let k : ⊥ = cc in k
+set_kept (Some knowns.Bool) (Some knowns.Bool) (Some types.Bool) writable w t g causes.BadSlot (inr n) = n t
+set_kept (Some knowns.Bool) (Some knowns.Bool) (Some types.Bool) writable w t g _ a = a
+
+-- ---- arguments and calls
+
+pass_kept : (operand wider : Option Known) (type : Option IlType) (writable : Bool) (stored : Known)
+    → IsBothWithin operand wider → IsTrue writable → rules.IsStored false wider type stored → (cause : Cause)
+    → ¬ refusals.ArisesAtPass operand type writable cause
+pass_kept operand None type writable stored w t g cause a = absurd g
+pass_kept None (Some wider) type writable stored w t g cause a = absurd w
+pass_kept (Some known) (Some wider) type writable stored w t g causes.WrongType a =
+    store_kept false (Some known) (Some wider) type writable stored w t g causes.WrongType a
+pass_kept (Some known) (Some wider) type writable stored w t g (causes.OutOfRange found allowed) a =
+    store_kept false (Some known) (Some wider) type writable stored w t g (causes.OutOfRange found allowed) a
+pass_kept (Some known) (Some wider) type writable stored w t g causes.BadSlot (inl n) = let k : ⊥ = cc in k
+pass_kept (Some known) (Some wider) type writable stored w t g causes.BadSlot (inr n) =
+    store_kept false (Some known) (Some wider) type writable stored w t g causes.BadSlot n
+pass_kept (Some known) (Some wider) type writable stored w t g _ a = a
+
+-- whether an instance is there does not depend on what is known
+call_kept : (kind : Option Kind) → IsSome kind → (cause : Cause) → ¬ refusals.ArisesAtCall kind cause
+call_kept None s cause a = let k : ⊥ = cc in k
+call_kept (Some kind) s causes.BadSlot a = let k : ⊥ = cc in k
+call_kept (Some kind) s _ a = a
 
 -- ---- operators and functions
 
@@ -165,12 +202,21 @@ kept_before code place entry wider (words.Apply operator operand) after i g caus
     i.result (both_into _ _ (operand_within code entry wider operand i)) g.given cause a
 kept_before code place entry wider (words.Transform function) after i g cause a =
     transform_kept function entry.result wider.result g.known i.result g.given cause a
-kept_before code place entry wider (words.Store negated slot) after i g cause a =
-    store_kept negated entry.result wider.result (slice_get code.slots slot) g.stored i.result g.written cause a
-kept_before code place entry wider (words.Set slot) after i g cause a =
-    set_kept entry.result wider.result (slice_get code.slots slot) i.result g.0 cause a
-kept_before code place entry wider (words.Reset slot) after i g cause a =
-    set_kept entry.result wider.result (slice_get code.slots slot) i.result g.0 cause a
+kept_before code place entry wider (words.Store negated variable) after i g cause a =
+    store_kept negated entry.result wider.result (type_of_variable code variable) (may_write code variable) g.1.stored
+    i.result g.0 g.1.written cause a
+kept_before code place entry wider (words.Set variable) after i g cause a =
+    set_kept entry.result wider.result (type_of_variable code variable) (may_write code variable) i.result g.0 g.1
+    cause a
+kept_before code place entry wider (words.Reset variable) after i g cause a =
+    set_kept entry.result wider.result (type_of_variable code variable) (may_write code variable) i.result g.0 g.1
+    cause a
+kept_before code place entry wider (words.Pass operand block port) after i g cause a =
+    let input = variables.Port block port in
+    pass_kept (known_of code entry operand) (known_of code wider operand) (type_of_variable code input)
+    (may_write code input) g.1.stored (operand_within code entry wider operand i) g.0 g.1.passed cause a
+kept_before code place entry wider (words.Call block) after i g cause a =
+    call_kept (slice_get code.kinds block) g.0 cause a
 kept_before code place entry wider (words.Open operator) after i g cause a =
     open_kept wider after operator entry.result wider.result i.result g cause a
 kept_before code place entry wider words.Close after i g cause a =

@@ -26,8 +26,8 @@ use Rattle.ilranges.specs.Fits.{IsOpenedKnown, Fits}
 use Rattle.ilranges.specs.Refusals.{open_after, HasToClose}
 use Rattle.ilranges.specs.Rules.{Ways, IsEntryAfter, IsTested, IsRefined, AreJumped, AreWaysOf, IsWay, IsRule}
 use Rattle.ilranges.specs.WordLaws.{IsSafeAt}
+use Rattle.ilranges.proofs.Closing.{after_count}
 use Rattle.ilranges.proofs.SoundLaws.{sound}
-use Rattle.ilranges.proofs.Words.{after_count}
 
 -- ---- at the end of a program nothing is open
 
@@ -138,8 +138,8 @@ enters code c after h f =
     (λ e. h (inr (grind (arith, nat_tests)))) f
 
 pub safe : (word : Instruction) → IsSafeAt word
-safe word code met entry ways c w rule f =
-    let g = sound word code met entry ways c rule f in
+safe word code met entry ways c le w rule f =
+    let g = sound word code met entry ways c le rule f in
     let e = enters code g.to g.after (closed_at_end code met entry g.after ways c g.to word rule g.way g.fits)
     g.fits in
     record {

@@ -1,7 +1,7 @@
 -- A word's own causes beside parentheses that stay open.
-use Rattle.std.proofs.Common.{◌≡◌, ℕ, ◌<◌, ◌≤◌, ◌+◌, ◌-◌, List, [], ◌∷◌, length, Option, Some, None}
+use Rattle.std.proofs.Common.{◌≡◌, ℕ, ◌<◌, ◌≤◌, List, [], ◌∷◌, length, Option, Some, None}
 use Rattle.std.proofs.Common.{Result, Ok, Err, Bool, true, false}
-use Rattle.std.proofs.Common.{refl, ap, sym, arith, ◌∙◌}
+use Rattle.std.proofs.Common.{refl, ap, sym, arith}
 use Rattle.std.specs.Prelude.{nat_lt, MatchResult, if◌then◌else◌}
 use Rattle.std.proofs.lemmas.Bool.Decides.{nat_tests}
 use Rattle.iloperators.specs.declared.condition.Condition.{Condition}
@@ -23,7 +23,7 @@ use Rattle.ilranges.specs.Changes.{changed, ways_of}
 use Rattle.ilranges.specs.WordSteps.{IsJudged, least_beside}
 use Rattle.ilranges.specs.Refusals.{StaysOpen, open_after, ArisesBeforeNesting, ArisesAtWord, ArisesAtOperator}
 use Rattle.ilranges.specs.Refusals.{ArisesAtTransform, ArisesAtClose, ArisesAtCondition}
-use Rattle.ilranges.specs.Rules.{Ways, AreOnward, AreWaysOf, IsEntryAfter, IsRule, Opens, Closes}
+use Rattle.ilranges.specs.Rules.{Ways, AreOnward, AreWaysOf, IsRule}
 use Rattle.ilranges.proofs.Lawful.{lawful_before}
 
 -- ---- what is judged
@@ -79,9 +79,11 @@ closed_before : (code : Listing) (place : ℕ) (entry : Entry) (word : Instructi
 closed_before code place entry (words.Load negated operand) a = a
 closed_before code place entry (words.Apply operator operand) a = operator_closed operator entry.result _ a
 closed_before code place entry (words.Transform function) a = function_closed function entry.result a
-closed_before code place entry (words.Store negated slot) a = a
-closed_before code place entry (words.Set slot) a = a
-closed_before code place entry (words.Reset slot) a = a
+closed_before code place entry (words.Store negated variable) a = a
+closed_before code place entry (words.Set variable) a = a
+closed_before code place entry (words.Reset variable) a = a
+closed_before code place entry (words.Pass operand block port) a = a
+closed_before code place entry (words.Call block) a = a
 closed_before code place entry (words.Open operator) a = a
 closed_before code place entry words.Close a = close_closed entry.nesting entry.result a
 closed_before code place entry (words.Jump condition target) a = condition_closed condition entry.result a
@@ -169,27 +171,3 @@ closed_ruled code place met entry word (Err cause) n h = record {
   arises = to_word code place met entry word cause h.arises;
   least = λ other a. h.least other (to_before code place met entry word other n a);
 }
-
--- ---- how many parentheses are open
-
-close_count : (entry after : Entry) (nesting : List KnownOpened) → Closes entry nesting after
-    → length after.nesting ≡ length nesting - 1
-close_count entry after [] h = absurd h
-close_count entry after (innermost ∷ nesting) h = ap (λ (e : Entry). length e.nesting) h.is ∙ omega arith
-
-open_count : (entry after : Entry) (operator : Operator) (result : Option Known) → Opens entry operator result after
-    → length after.nesting ≡ length entry.nesting + 1
-open_count entry after operator None h = absurd h
-open_count entry after operator (Some saved) h = ap (λ (e : Entry). length e.nesting) h ∙ omega arith
-
-pub after_count : (code : Listing) (entry : Entry) (word : Instruction) (after : Entry)
-    → IsEntryAfter code entry word after → length after.nesting ≡ open_after word (length entry.nesting)
-after_count code entry (words.Load negated operand) after h = ap (λ (e : Entry). length e.nesting) h.is
-after_count code entry (words.Apply operator operand) after h = ap (λ (e : Entry). length e.nesting) h.is
-after_count code entry (words.Transform function) after h = ap (λ (e : Entry). length e.nesting) h.is
-after_count code entry (words.Store negated slot) after h = ap (λ (e : Entry). length e.nesting) h.is
-after_count code entry (words.Set slot) after h = ap (λ (e : Entry). length e.nesting) h.1
-after_count code entry (words.Reset slot) after h = ap (λ (e : Entry). length e.nesting) h.1
-after_count code entry (words.Open operator) after h = open_count entry after operator entry.result h
-after_count code entry words.Close after h = close_count entry after entry.nesting h
-after_count code entry (words.Jump condition target) after h = absurd h

@@ -13,6 +13,7 @@ number_of causes.MayBeZero = 6
 number_of (causes.OutOfRange found allowed) = 7
 number_of causes.TooBig = 8
 number_of causes.BadJump = 9
+number_of causes.TooManyRequests = 10
 number_of causes.BadSlot = 11
 
 -- of the causes that arise, this one has the least number

@@ -13,6 +13,8 @@ changed entry (changes.Give known mark) =
     record { slots = entry.slots; result = Some known; mark = mark; nesting = entry.nesting }
 changed entry (changes.Write slot known) = record entry { slots = slice_set entry.slots slot known }
 changed entry changes.Keep = entry
+changed entry changes.Unmark = record entry { mark = None }
+changed entry changes.Forget = record entry { result = None; mark = None }
 changed entry (changes.Open opened) =
     record { slots = entry.slots; result = None; mark = None; nesting = opened ∷ entry.nesting }
 changed entry (changes.Close known) =

@@ -1,10 +1,14 @@
 -- Entries (profile): what is known before a word that is reached.
-use Rattle.std.specs.Prelude.{◌≡◌, ℕ, if◌then◌else◌, Option, Some, None, [], map, slice_get, ⊤}
+use Rattle.std.specs.Prelude.{◌≡◌, ℕ, Bool, true, if◌then◌else◌, Option, Some, None, is_some, [], map, slice_get, ⊤}
 use Rattle.std.specs.Option.{option_map}
 use Rattle.std.specs.List.{AllZip}
+use Rattle.iltypes.specs.declared.value.IlType.{IlType}
+use Rattle.ilblocks.specs.Stores.{type_of_port, type_of_input}
 use Rattle.ilcode.specs.declared.instruction.Operand.{Operand}
-use Rattle.ilcode.specs.declared.instruction.Operand.TheVariants.{Slot, Constant}
-use Rattle.ilcode.specs.Listings.{Listing}
+use Rattle.ilcode.specs.declared.instruction.Operand.TheVariants as operands
+use Rattle.ilcode.specs.declared.instruction.Variable.{Variable}
+use Rattle.ilcode.specs.declared.instruction.Variable.TheVariants as variables
+use Rattle.ilcode.specs.Listings.{Listing, shape_of}
 use Rattle.ilcode.specs.Steps.{is_start}
 use Rattle.ilranges.specs.declared.entry.Entry.{Entry}
 use Rattle.ilranges.specs.declared.known.Known.{Known}
@@ -20,10 +24,21 @@ opening code = record { slots = map known_of_type code.slots; result = None; mar
 abbrev pub arriving : Listing → ℕ → Entry → Entry
 arriving code place entry = if is_start code place then record entry { result = None; mark = None } else entry
 
--- what is known of an operand, where its table has it
+-- what is known of an operand, where its table has it: of a port always that it is of its type
 abbrev pub known_of : Listing → Entry → Operand → Option Known
-known_of code entry (Slot slot) = slice_get entry.slots slot
-known_of code entry (Constant constant) = option_map known_of_value (slice_get code.constants constant)
+known_of code entry (operands.Slot slot) = slice_get entry.slots slot
+known_of code entry (operands.Constant constant) = option_map known_of_value (slice_get code.constants constant)
+known_of code entry (operands.Port block port) = option_map known_of_type (type_of_port (shape_of code) block port)
+
+-- the type of what a store writes, where its table has it
+abbrev pub type_of_variable : Listing → Variable → Option IlType
+type_of_variable code (variables.Slot slot) = slice_get code.slots slot
+type_of_variable code (variables.Port block port) = type_of_port (shape_of code) block port
+
+-- whether a program may write it: a variable, or an input
+abbrev pub may_write : Listing → Variable → Bool
+may_write code (variables.Slot slot) = true
+may_write code (variables.Port block port) = is_some (type_of_input (shape_of code) block port)
 
 -- 'there may be no current result' holds of every current result
 abbrev pub IsResultInto : Option Known → Option Known → Type 0

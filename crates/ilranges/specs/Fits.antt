@@ -2,9 +2,9 @@
 use Rattle.std.specs.Prelude.{◌≡◌, Option, Some, None, ⊤}
 use Rattle.std.specs.List.{AllZip}
 use Rattle.iltypes.specs.declared.value.Value.{Value}
-use Rattle.iltypes.specs.Values.{AreOf}
+use Rattle.ilblocks.specs.Stores.{IsStoreOf}
 use Rattle.ilcode.specs.declared.nesting.Opened.{Opened}
-use Rattle.ilcode.specs.Listings.{Listing}
+use Rattle.ilcode.specs.Listings.{Listing, shape_of}
 use Rattle.ilcode.specs.Steps.{Configuration}
 use Rattle.ilranges.specs.declared.entry.Entry.{Entry}
 use Rattle.ilranges.specs.declared.known.Known.{Known}
@@ -23,10 +23,10 @@ pub record IsOpenedKnown (opened : Opened) (known : KnownOpened) : Type 0 where
   pub operator : opened.operator ≡ known.operator
   pub saved : IsKnown opened.saved known.saved
 
--- the values are of their slots' types, and all is as the entry says
+-- each value is of its type, and all is as the entry says
 pub record Fits (code : Listing) (entry : Entry) (c : Configuration) : Type 0 where
-  pub typed : AreOf c.slots code.slots
-  pub slots : AllZip IsKnown c.slots entry.slots
+  pub typed : IsStoreOf (shape_of code) c.store
+  pub slots : AllZip IsKnown c.store.slots entry.slots
   pub result : IsResultKnown c.result entry.result
-  pub mark : IsMarked c.slots c.result entry.mark
+  pub mark : IsMarked c.store.slots c.result entry.mark
   pub nesting : AllZip IsOpenedKnown c.nesting entry.nesting

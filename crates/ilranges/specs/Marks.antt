@@ -8,7 +8,7 @@ use Rattle.iloperators.specs.declared.operator.Operator.{Operator}
 use Rattle.iloperators.specs.Comparisons.{compares, turned}
 use Rattle.iloperators.specs.Operators.{value_of_operator}
 use Rattle.ilcode.specs.declared.instruction.Operand.{Operand}
-use Rattle.ilcode.specs.declared.instruction.Operand.TheVariants.{Slot, Constant}
+use Rattle.ilcode.specs.declared.instruction.Operand.TheVariants.{Slot, Constant, Port}
 use Rattle.ilcode.specs.Listings.{Listing}
 use Rattle.ilranges.specs.declared.known.Known.{Known}
 use Rattle.ilranges.specs.declared.known.Known.TheVariants as knowns
@@ -53,6 +53,7 @@ mark_of_load _ _ _ = None
 abbrev pub constant_of : Listing → Operand → Option Value
 constant_of code (Slot slot) = None
 constant_of code (Constant constant) = slice_get code.constants constant
+constant_of code (Port block port) = None
 
 abbrev pub mark_of_apply : Option Mark → Operator → Option Value → Option Mark
 mark_of_apply (Some (Copy slot)) operator (Some (values.Int limit)) =

@@ -1,17 +1,19 @@
 -- The causes that arise at a word (profile): each by itself, whatever others do.
-use Rattle.std.specs.Prelude.{◌≡◌, ℕ, ◌+◌, ◌-◌, ◌<◌, ◌⊎◌, Bool, true, List, [], ◌∷◌, length, Option, Some, None}
+use Rattle.std.specs.Prelude.{◌≡◌, ℕ, ◌+◌, ◌-◌, ◌<◌, ◌⊎◌, Bool, true, false, List, [], ◌∷◌, length, Option, Some, None}
 use Rattle.std.specs.Prelude.{IsNone, IsTrue, slice_get, ⊤}
 use Rattle.limits.specs.Limits.{most_nesting}
 use Rattle.iltypes.specs.declared.range.Range.{Range}
 use Rattle.iltypes.specs.declared.value.IlType.{IlType}
 use Rattle.iltypes.specs.declared.value.Value.{Value}
 use Rattle.iltypes.specs.declared.value.Value.TheVariants as values
+use Rattle.ilblocks.specs.declared.kind.Kind.{Kind}
 use Rattle.iloperators.specs.declared.condition.Condition.{Condition}
 use Rattle.iloperators.specs.declared.condition.Condition.TheVariants.{Always}
 use Rattle.iloperators.specs.declared.function.Function.{Function}
 use Rattle.iloperators.specs.declared.operator.Operator.{Operator}
 use Rattle.iloperators.specs.Functions.{modified}
 use Rattle.iloperators.specs.Operators.{value_of_operator}
+use Rattle.ilcode.specs.declared.instruction.Variable.TheVariants as variables
 use Rattle.ilcode.specs.declared.instruction.Instruction.{Instruction}
 use Rattle.ilcode.specs.declared.instruction.Instruction.TheVariants as words
 use Rattle.ilcode.specs.Listings.{Listing}
@@ -21,7 +23,7 @@ use Rattle.ilranges.specs.declared.cause.Cause.TheVariants as causes
 use Rattle.ilranges.specs.declared.entry.Entry.{Entry}
 use Rattle.ilranges.specs.declared.known.Known.{Known}
 use Rattle.ilranges.specs.declared.nesting.KnownOpened.{KnownOpened}
-use Rattle.ilranges.specs.Entries.{known_of}
+use Rattle.ilranges.specs.Entries.{known_of, type_of_variable, may_write}
 use Rattle.ilranges.specs.Functions.{ArisesAtFunction}
 use Rattle.ilranges.specs.Knowns.{IsOfKind, known_of_type}
 use Rattle.ilranges.specs.Results.{Arises}
@@ -88,20 +90,36 @@ abbrev pub IsOutOfSlot : Option Known → Option IlType → Range → Range → 
 IsOutOfSlot (Some result) (Some type) found allowed = ArisesAtStore result type (causes.OutOfRange found allowed)
 IsOutOfSlot _ _ found allowed = ⊥
 
--- ST, STN
-abbrev pub ArisesAtStoring : Bool → Option Known → Option IlType → Cause → Type 0
-ArisesAtStoring negated result type causes.WrongType = IsWrongForStore negated result type
-ArisesAtStoring negated result type causes.NoResult = IsNone result
-ArisesAtStoring negated result type (causes.OutOfRange found allowed) = IsOutOfSlot result type found allowed
-ArisesAtStoring negated result type causes.BadSlot = IsNone type
-ArisesAtStoring negated result type _ = ⊥
+-- what is stored to isn't in its table, or is an output
+abbrev pub IsNotWritten : Option IlType → Bool → Type 0
+IsNotWritten type writable = IsNone type ⊎ ¬ IsTrue writable
+
+-- ST, STN, to a variable of this type that may be written or not
+abbrev pub ArisesAtStoring : Bool → Option Known → Option IlType → Bool → Cause → Type 0
+ArisesAtStoring negated result type writable causes.WrongType = IsWrongForStore negated result type
+ArisesAtStoring negated result type writable causes.NoResult = IsNone result
+ArisesAtStoring negated result type writable (causes.OutOfRange found allowed) = IsOutOfSlot result type found allowed
+ArisesAtStoring negated result type writable causes.BadSlot = IsNotWritten type writable
+ArisesAtStoring negated result type writable _ = ⊥
 
 -- S, R
-abbrev pub ArisesAtSet : Option Known → Option IlType → Cause → Type 0
-ArisesAtSet result type causes.WrongType = IsWrongForSet result type
-ArisesAtSet result type causes.NoResult = IsNone result
-ArisesAtSet result type causes.BadSlot = IsNone type
-ArisesAtSet result type _ = ⊥
+abbrev pub ArisesAtSet : Option Known → Option IlType → Bool → Cause → Type 0
+ArisesAtSet result type writable causes.WrongType = IsWrongForSet result type
+ArisesAtSet result type writable causes.NoResult = IsNone result
+ArisesAtSet result type writable causes.BadSlot = IsNotWritten type writable
+ArisesAtSet result type writable _ = ⊥
+
+-- an argument, with its operand
+abbrev pub ArisesAtPass : Option Known → Option IlType → Bool → Cause → Type 0
+ArisesAtPass operand type writable causes.WrongType = IsWrongForStore false operand type
+ArisesAtPass operand type writable (causes.OutOfRange found allowed) = IsOutOfSlot operand type found allowed
+ArisesAtPass operand type writable causes.BadSlot = IsNone operand ⊎ IsNotWritten type writable
+ArisesAtPass operand type writable _ = ⊥
+
+-- a call, of an instance of this kind
+abbrev pub ArisesAtCall : Option Kind → Cause → Type 0
+ArisesAtCall kind causes.BadSlot = IsNone kind
+ArisesAtCall kind _ = ⊥
 
 -- an operator with `(`
 abbrev pub ArisesAtOpen : Option Known → Cause → Type 0
@@ -140,11 +158,16 @@ ArisesBeforeNesting code place entry (words.Load negated operand) cause =
 ArisesBeforeNesting code place entry (words.Apply operator operand) cause =
     ArisesAtApply operator entry.result (known_of code entry operand) cause
 ArisesBeforeNesting code place entry (words.Transform function) cause = ArisesAtTransform function entry.result cause
-ArisesBeforeNesting code place entry (words.Store negated slot) cause =
-    ArisesAtStoring negated entry.result (slice_get code.slots slot) cause
-ArisesBeforeNesting code place entry (words.Set slot) cause = ArisesAtSet entry.result (slice_get code.slots slot) cause
-ArisesBeforeNesting code place entry (words.Reset slot) cause =
-    ArisesAtSet entry.result (slice_get code.slots slot) cause
+ArisesBeforeNesting code place entry (words.Store negated variable) cause =
+    ArisesAtStoring negated entry.result (type_of_variable code variable) (may_write code variable) cause
+ArisesBeforeNesting code place entry (words.Set variable) cause =
+    ArisesAtSet entry.result (type_of_variable code variable) (may_write code variable) cause
+ArisesBeforeNesting code place entry (words.Reset variable) cause =
+    ArisesAtSet entry.result (type_of_variable code variable) (may_write code variable) cause
+ArisesBeforeNesting code place entry (words.Pass operand block port) cause =
+    let input = variables.Port block port in
+    ArisesAtPass (known_of code entry operand) (type_of_variable code input) (may_write code input) cause
+ArisesBeforeNesting code place entry (words.Call block) cause = ArisesAtCall (slice_get code.kinds block) cause
 ArisesBeforeNesting code place entry (words.Open operator) cause = ArisesAtOpen entry.result cause
 ArisesBeforeNesting code place entry words.Close cause = ArisesAtClose entry.nesting entry.result cause
 ArisesBeforeNesting code place entry (words.Jump condition target) cause =

@@ -1,7 +1,7 @@
 -- The rules of the verifier (profile): what is known after a word on each way that it leads, from what is known before
 -- it and from what the operators, functions and stores give (Results, Functions, Stores).
 use Rattle.std.specs.Prelude.{◌≡◌, ℕ, ℤ, ◌+◌, ◌⊎◌, Bool, true, false, List, [], ◌∷◌, Option, Some, None}
-use Rattle.std.specs.Prelude.{slice_get, slice_set, ⊤}
+use Rattle.std.specs.Prelude.{slice_get, slice_set, IsSome, IsTrue, ⊤}
 use Rattle.iltypes.specs.Arithmetic.{IsLeast}
 use Rattle.iltypes.specs.declared.range.Range.{Range}
 use Rattle.iltypes.specs.declared.value.IlType.{IlType}
@@ -13,6 +13,8 @@ use Rattle.iloperators.specs.declared.condition.Condition.TheVariants.{Always, I
 use Rattle.iloperators.specs.declared.function.Function.{Function}
 use Rattle.iloperators.specs.declared.function.Function.TheVariants as functions
 use Rattle.iloperators.specs.declared.operator.Operator.{Operator}
+use Rattle.ilcode.specs.declared.instruction.Variable.{Variable}
+use Rattle.ilcode.specs.declared.instruction.Variable.TheVariants as variables
 use Rattle.ilcode.specs.declared.instruction.Instruction.{Instruction}
 use Rattle.ilcode.specs.declared.instruction.Instruction.TheVariants as words
 use Rattle.ilcode.specs.Listings.{Listing}
@@ -23,7 +25,7 @@ use Rattle.ilranges.specs.declared.known.Known.TheVariants as knowns
 use Rattle.ilranges.specs.declared.mark.Mark.{Mark}
 use Rattle.ilranges.specs.declared.mark.Mark.TheVariants.{Test}
 use Rattle.ilranges.specs.declared.nesting.KnownOpened.{KnownOpened}
-use Rattle.ilranges.specs.Entries.{known_of}
+use Rattle.ilranges.specs.Entries.{known_of, type_of_variable, may_write}
 use Rattle.ilranges.specs.Functions.{IsAfterFunction}
 use Rattle.ilranges.specs.Knowns.{IsKnown}
 use Rattle.ilranges.specs.Marks.{mark_of_load, mark_of_apply, mark_of_function, constant_of}
@@ -51,7 +53,7 @@ abbrev pub IsTransformed : Function → Option Known → Known → Type 0
 IsTransformed function (Some operand) known = IsAfterFunction function operand known
 IsTransformed function None known = ⊥
 
--- what ST and STN store: all that it may be is of the slot's type
+-- what ST, STN and PASS store: all that it may be is of the variable's type
 abbrev pub IsStored : Bool → Option Known → Option IlType → Known → Type 0
 IsStored negated (Some result) (Some type) stored =
     IsModified negated result stored × ((value : Value) → IsKnown value stored → IsOf value type)
@@ -73,11 +75,22 @@ pub record Gives (entry : Entry) (nesting : List KnownOpened) (mark_of : Known �
 abbrev pub unmarked : Known → Option Mark
 unmarked known = None
 
--- the word stores to the slot, which is known as what was stored from then on; the current result and its mark stay
-pub record Writes (entry : Entry) (slot : ℕ) (IsWritten : Known → Type 0) (after : Entry) : Type 0 where
+-- a slot is known as what was stored from then on, and a port as before
+abbrev pub with_stored : Entry → Variable → Known → Entry
+with_stored entry (variables.Slot slot) stored = record entry { slots = slice_set entry.slots slot stored }
+with_stored entry (variables.Port block port) stored = entry
+
+-- the word stores to the variable; the current result and its mark stay
+pub record Writes (entry : Entry) (variable : Variable) (IsWritten : Known → Type 0) (after : Entry) : Type 0 where
   pub stored : Known
   pub written : IsWritten stored
-  pub is : after ≡ record entry { slots = slice_set entry.slots slot stored }
+  pub is : after ≡ with_stored entry variable stored
+
+-- an argument is stored to an input; the current result stays, without a mark
+pub record Passes (entry : Entry) (IsPassed : Known → Type 0) (after : Entry) : Type 0 where
+  pub stored : Known
+  pub passed : IsPassed stored
+  pub is : after ≡ record entry { mark = None }
 
 -- an open parenthesis
 abbrev pub waiting : Operator → Known → KnownOpened
@@ -101,7 +114,7 @@ Closes entry (innermost ∷ nesting) after =
     Gives entry nesting unmarked (IsApplied innermost.operator (Some innermost.saved) entry.result) after
 
 -- what is known after a word that leads to the next place alone, from its operand and what was known before; S and R
--- write a truth value where one was
+-- write a truth value where one was, and after a call there is no current result
 abbrev pub IsEntryAfter : Listing → Entry → Instruction → Entry → Type 0
 IsEntryAfter code entry (words.Load negated operand) after =
     Gives entry entry.nesting (mark_of_load negated operand) (IsLoaded negated (known_of code entry operand)) after
@@ -110,10 +123,19 @@ IsEntryAfter code entry (words.Apply operator operand) after =
     (IsApplied operator entry.result (known_of code entry operand)) after
 IsEntryAfter code entry (words.Transform function) after =
     Gives entry entry.nesting (λ _. mark_of_function entry.mark function) (IsTransformed function entry.result) after
-IsEntryAfter code entry (words.Store negated slot) after =
-    Writes entry slot (IsStored negated entry.result (slice_get code.slots slot)) after
-IsEntryAfter code entry (words.Set slot) after = MaySet entry.result (slice_get code.slots slot) × (after ≡ entry)
-IsEntryAfter code entry (words.Reset slot) after = MaySet entry.result (slice_get code.slots slot) × (after ≡ entry)
+IsEntryAfter code entry (words.Store negated variable) after =
+    IsTrue (may_write code variable)
+    × Writes entry variable (IsStored negated entry.result (type_of_variable code variable)) after
+IsEntryAfter code entry (words.Set variable) after =
+    IsTrue (may_write code variable) × MaySet entry.result (type_of_variable code variable) × (after ≡ entry)
+IsEntryAfter code entry (words.Reset variable) after =
+    IsTrue (may_write code variable) × MaySet entry.result (type_of_variable code variable) × (after ≡ entry)
+IsEntryAfter code entry (words.Pass operand block port) after =
+    let input = variables.Port block port in
+    IsTrue (may_write code input)
+    × Passes entry (IsStored false (known_of code entry operand) (type_of_variable code input)) after
+IsEntryAfter code entry (words.Call block) after =
+    IsSome (slice_get code.kinds block) × (after ≡ record entry { result = None; mark = None })
 IsEntryAfter code entry (words.Open operator) after = Opens entry operator entry.result after
 IsEntryAfter code entry words.Close after = Closes entry entry.nesting after
 IsEntryAfter code entry (words.Jump condition target) after = ⊥

@@ -1,10 +1,9 @@
 -- Laws of the rules: where a word has a rule, no run goes wrong at it; and who knows more before a word knows more
 -- after it, and is refused only where who knows less is refused too.
-use Rattle.std.specs.Prelude.{◌≡◌, ℕ, Bool, IsTrue, List, Option, Some, None, slice_get, ⊤}
-use Rattle.iltypes.specs.declared.value.Value.{Value}
-use Rattle.iltypes.specs.Values.{AreOf}
+use Rattle.std.specs.Prelude.{◌≡◌, ℕ, ◌≤◌, Bool, IsTrue, Option, Some, None, slice_get, ⊤}
+use Rattle.ilblocks.specs.Stores.{Store, IsStoreOf}
 use Rattle.ilcode.specs.declared.instruction.Instruction.{Instruction}
-use Rattle.ilcode.specs.Listings.{Listing}
+use Rattle.ilcode.specs.Listings.{Listing, shape_of}
 use Rattle.ilcode.specs.Paths.{LeadsTo}
 use Rattle.ilcode.specs.Steps.{Configuration, effect, step, start}
 use Rattle.ilranges.specs.declared.cause.Cause.{Cause}
@@ -24,10 +23,11 @@ pub record Goes (code : Listing) (c : Configuration) (word : Instruction) (ways 
   pub way : IsWay word c.place ways to.place after
   pub fits : Fits code after to
 
--- from each configuration that is as the entry says, where the word has a rule
+-- from each configuration that is as the entry says, where the word has a rule and there is a bus, as in each lawful
+-- code: on none a block's request would have no bus to go to
 abbrev pub IsSoundAt : Instruction → Type 0
 IsSoundAt word =
-    (code : Listing) (met : Bool) (entry : Entry) (ways : Ways) (c : Configuration)
+    (code : Listing) (met : Bool) (entry : Entry) (ways : Ways) (c : Configuration) → 1 ≤ code.buses
     → IsRule code c.place met entry word ways → Fits code entry c → Goes code c word ways
 
 -- the step is defined, and what is known on a way from the word holds where the step leads
@@ -41,13 +41,14 @@ pub record Steps (code : Listing) (c : Configuration) (word : Instruction) (ways
 
 abbrev pub IsSafeAt : Instruction → Type 0
 IsSafeAt word =
-    (code : Listing) (met : Bool) (entry : Entry) (ways : Ways) (c : Configuration)
+    (code : Listing) (met : Bool) (entry : Entry) (ways : Ways) (c : Configuration) → 1 ≤ code.buses
     → slice_get code.instructions c.place ≡ Some word → IsRule code c.place met entry word ways → Fits code entry c
     → Steps code c word ways
 
--- any values of the slots' types are as the first entry says
+-- any store of the code's types and kinds is as the first entry says
 abbrev pub IsFitAtStart : Type 0
-IsFitAtStart = (code : Listing) (slots : List Value) → AreOf slots code.slots → Fits code (opening code) (start slots)
+IsFitAtStart =
+    (code : Listing) (store : Store) → IsStoreOf (shape_of code) store → Fits code (opening code) (start store)
 
 -- what holds by an entry holds by each wider one
 abbrev pub IsFitWider : Type 0

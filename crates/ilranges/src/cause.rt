@@ -28,14 +28,17 @@ pub enum Cause {
     TooBig,
     /// A jump leads backward, past the start of the next program, or past the end.
     BadJump,
-    /// The word names a slot or a constant that its table does not have.
+    /// A path holds more calls of request blocks than a scan may make requests.
+    TooManyRequests,
+    /// The word names a slot, a constant, a port or a block instance that its table does not have,
+    /// or stores to an output.
     BadSlot,
 }
 
 impl Cause {
     ghost use Rattle.ilranges.specs.Causes.{number_of};
 
-    /// The number that is printed: 2 to 9, or 11 (profile).
+    /// The number that is printed: 2 to 11 (profile).
     pub fn number(self) -> u8
         ensures { result ≡ number_of self }
     {
@@ -48,6 +51,7 @@ impl Cause {
             Cause::OutOfRange { .. } => 7,
             Cause::TooBig => 8,
             Cause::BadJump => 9,
+            Cause::TooManyRequests => 10,
             Cause::BadSlot => 11,
         }
     }

@@ -18,6 +18,10 @@ pub enum Change {
     Write(usize, Known),
     /// Nothing.
     Keep,
+    /// The current result has no mark.
+    Unmark,
+    /// There is no current result.
+    Forget,
     /// A parenthesis is opened, and there is no current result.
     Open(KnownOpened),
     /// The innermost parenthesis is closed, and there is a current result, known so.
@@ -44,6 +48,11 @@ impl Change {
             }
             Change::Write(slot, known) => entry.slots.set(slot, known)?,
             Change::Keep => {}
+            Change::Unmark => entry.mark = None,
+            Change::Forget => {
+                entry.result = None;
+                entry.mark = None;
+            }
             Change::Open(opened) => {
                 entry.nesting.open(opened)?;
                 entry.result = None;

@@ -19,8 +19,9 @@ pub fn more_known_before_is_more_known_after()
     ensures word_refusals { (word : Instruction) → KeepsWordRefusals word }
 {}
 
-/// A step at a word that has a rule is defined, and leaves what the rule says; that holds from the
-/// first word on, and of what is known less exactly. It does nothing: its contract is the law.
+/// On at least one bus, a step at a word that has a rule is defined, and leaves what the rule says;
+/// that holds from the first word on, and of what is known less exactly. It does nothing: its
+/// contract is the law.
 pub fn words_are_safe()
     ensures safe { (word : Instruction) → IsSafeAt word }
     ensures start { IsFitAtStart }

@@ -28,6 +28,7 @@ mod law;
 mod mark;
 mod marks;
 mod nesting;
+mod operand;
 mod rules;
 mod slots;
 mod word;

@@ -26,7 +26,7 @@ pub(crate) fn constant_of(code: &Code, operand: Operand) -> Option<Value>
     ensures { result ≡ constant_of code.now operand }
 {
     match operand {
-        Operand::Slot(_) => None,
+        Operand::Slot(_) | Operand::Port { .. } => None,
         Operand::Constant(constant) => code.constants().get(constant).copied(),
     }
 }

@@ -1,10 +1,10 @@
 //! The rules of the kinds of words: what each leaves, or the least cause that arises at it.
 
-ghost use Rattle.std.specs.Prelude.{◌≡◌, ◌↔◌, IsTrue, MatchResult};
+ghost use Rattle.std.specs.Prelude.{◌≡◌, Some, true, false, IsTrue, MatchResult};
 ghost use Rattle.ilranges.specs.Causes.{IsLeastCause};
 ghost use Rattle.ilranges.specs.WordSteps.{takes, may_modify, if_right};
 ghost use Rattle.ilranges.specs.Refusals.{ArisesAtLoad, ArisesAtApply, ArisesAtTransform};
-ghost use Rattle.ilranges.specs.Refusals.{ArisesAtStoring, ArisesAtSet};
+ghost use Rattle.ilranges.specs.Refusals.{ArisesAtStoring, ArisesAtSet, ArisesAtPass};
 ghost use Rattle.ilranges.specs.Refusals.{ArisesAtClosing};
 ghost use Rattle.ilranges.specs.Rules.{IsModified, IsLoaded, IsApplied, IsTransformed};
 ghost use Rattle.ilranges.specs.Rules.{IsStored, MaySet};
@@ -111,15 +111,35 @@ pub(crate) fn transform(function: Function, current: Option<Known>) -> Result<Kn
     }
 }
 
-/// What ST and STN store to a slot of this type; `None` where there is no such slot.
+/// What ST and STN store to a variable of this type, `None` where there is none; `writable` says
+/// whether it may be written.
 pub(crate) fn store(
+    negated: bool,
+    current: Option<Known>,
+    declared: Option<IlType>,
+    writable: bool,
+) -> Result<Known, Cause>
+    ensures { MatchResult result
+        (λ stored. IsTrue writable × IsStored negated current declared stored)
+        (IsLeastCause (ArisesAtStoring negated current declared writable)) }
+{
+    let stored = store_typed(negated, current, declared)?;
+    if writable {
+        Ok(stored)
+    } else {
+        Err(Cause::BadSlot)
+    }
+}
+
+/// The same of a variable that may be written.
+fn store_typed(
     negated: bool,
     current: Option<Known>,
     declared: Option<IlType>,
 ) -> Result<Known, Cause>
     ensures { MatchResult result
         (IsStored negated current declared)
-        (IsLeastCause (ArisesAtStoring negated current declared)) }
+        (IsLeastCause (ArisesAtStoring negated current declared true)) }
 {
     match (current, declared) {
         (Some(known), Some(declared)) => store_known(negated, known, declared),
@@ -136,7 +156,7 @@ pub(crate) fn store(
 fn store_known(negated: bool, known: Known, declared: IlType) -> Result<Known, Cause>
     ensures { MatchResult result
         (IsStored negated (Some known) (Some declared))
-        (IsLeastCause (ArisesAtStoring negated (Some known) (Some declared))) }
+        (IsLeastCause (ArisesAtStoring negated (Some known) (Some declared) true)) }
 {
     let stored = modify(negated, known)?;
     match stored.check_store(declared) {
@@ -145,15 +165,46 @@ fn store_known(negated: bool, known: Known, declared: IlType) -> Result<Known, C
     }
 }
 
-/// Whether S and R may write to a slot of this type, by the current result.
-pub(crate) fn check_set(current: Option<Known>, declared: Option<IlType>) -> Result<(), Cause>
+/// Whether S and R may write to a variable of this type, by the current result.
+pub(crate) fn check_set(
+    current: Option<Known>,
+    declared: Option<IlType>,
+    writable: bool,
+) -> Result<(), Cause>
     ensures { MatchResult result
-        (λ _. MaySet current declared) (IsLeastCause (ArisesAtSet current declared)) }
+        (λ _. IsTrue writable × MaySet current declared)
+        (IsLeastCause (ArisesAtSet current declared writable)) }
 {
     match (current, declared) {
         (Some(Known::Int(_)), _) | (_, Some(IlType::Int(_))) => Err(Cause::WrongType),
         (None, _) => Err(Cause::NoResult),
         (Some(Known::Bool), None) => Err(Cause::BadSlot),
-        (Some(Known::Bool), Some(IlType::Bool)) => Ok(()),
+        (Some(Known::Bool), Some(IlType::Bool)) if writable => Ok(()),
+        (Some(Known::Bool), Some(IlType::Bool)) => Err(Cause::BadSlot),
+    }
+}
+
+/// What an argument of CAL stores of its operand to an input of this type; `None` stands for what
+/// is not there, and `writable` says whether it is an input.
+pub(crate) fn pass(
+    operand: Option<Known>,
+    declared: Option<IlType>,
+    writable: bool,
+) -> Result<Known, Cause>
+    ensures { MatchResult result
+        (λ passed. IsTrue writable × IsStored false operand declared passed)
+        (IsLeastCause (ArisesAtPass operand declared writable)) }
+{
+    match (operand, declared) {
+        (Some(known), Some(declared)) => {
+            let passed = store_known(false, known, declared)?;
+            if writable {
+                Ok(passed)
+            } else {
+                Err(Cause::BadSlot)
+            }
+        }
+        (Some(_), None) => Err(Cause::BadSlot),
+        (None, _) => Err(Cause::BadSlot),
     }
 }

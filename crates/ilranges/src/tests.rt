@@ -6,6 +6,7 @@ use crate::{Cause, Known, more_known_before_is_more_known_after, passing};
 use iloperators::{Function, IntegerType, Operator};
 use iltypes::{IlType, Range};
 
+mod blocks;
 mod jumps;
 mod sharing;
 mod words;
@@ -110,9 +111,11 @@ fn functions(rt: HostRuntime) {
         outside.number(),
         Cause::TooBig.number(),
         Cause::BadJump.number(),
+        Cause::TooManyRequests.number(),
         Cause::BadSlot.number(),
     ];
-    assert_eq!(rt; numbers.as_slice(), [2, 3, 4, 5, 6, 7, 8, 9, 11].as_slice());
+    let expected = [2, 3, 4, 5, 6, 7, 8, 9, 10, 11];
+    assert_eq!(rt; numbers.as_slice(), expected.as_slice());
 }
 
 #[test]

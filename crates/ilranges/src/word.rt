@@ -1,16 +1,18 @@
 //! What is known after a word on each way from it, or why it is refused.
 
 ghost use Rattle.std.specs.Prelude.{◌≡◌, ◌↔◌, ◌<◌, ◌+◌, length, slice_get, Some, None};
-ghost use Rattle.std.specs.Prelude.{IsTrue, MatchResult};
+ghost use Rattle.std.specs.Prelude.{IsSome, IsTrue, MatchResult};
 ghost use Rattle.ilcode.specs.Steps.{is_start};
+ghost use Rattle.ilranges.specs.declared.change.Change.TheVariants.{Forget};
+ghost use Rattle.ilranges.specs.declared.entry.Entry.{Entry};
 ghost use Rattle.ilranges.specs.Causes.{IsLeastCause};
 ghost use Rattle.ilranges.specs.Changes.{changed, ways_of};
 ghost use Rattle.ilranges.specs.WordSteps.{IsJudged, least_beside};
-ghost use Rattle.ilranges.specs.Entries.{known_of};
-ghost use Rattle.ilranges.specs.Refusals.{ArisesBeforeNesting, ArisesAtOpen, ArisesAtClose};
+ghost use Rattle.ilranges.specs.Refusals.{ArisesBeforeNesting, ArisesAtCall};
+ghost use Rattle.ilranges.specs.Refusals.{ArisesAtOpen, ArisesAtClose};
 ghost use Rattle.ilranges.specs.Refusals.{ArisesAtWord, IsClosedAt, HasToClose, StaysOpen};
 ghost use Rattle.ilranges.specs.Refusals.{open_after};
-ghost use Rattle.ilranges.specs.Rules.{IsRule, Opens, Closes};
+ghost use Rattle.ilranges.specs.Rules.{IsRule, Opens, Closes, with_stored};
 
 use crate::cause::Cause;
 use crate::change::{Change, Changes};
@@ -19,30 +21,11 @@ use crate::jump::{check_jump, jump};
 use crate::known::Known;
 use crate::marks::{constant_of, mark_of_apply, mark_of_function, mark_of_load};
 use crate::nesting::KnownOpened;
+use crate::operand::{known_of, may_write, type_of_variable};
 use crate::rules;
-use ilcode::{Code, Instruction, Operand};
+use ilcode::{Code, Instruction, Variable};
 use iloperators::Operator;
-use iltypes::IlType;
 use limits::MOST_NESTING;
-
-/// What is known of an operand, where its table has it.
-fn known_of(code: &Code, entry: &Entry, operand: Operand) -> Option<Known>
-    ensures { result ≡ known_of code.now entry.now operand }
-{
-    match operand {
-        Operand::Slot(slot) => entry.slots.get(slot),
-        Operand::Constant(constant) => {
-            code.constants().get(constant).copied().map(Known::of_value)
-        }
-    }
-}
-
-/// The type of the slot of this number, where there is one.
-fn type_of(code: &Code, slot: usize) -> Option<IlType>
-    ensures { result ≡ slice_get code.now.slots slot }
-{
-    code.slots().get(slot).copied()
-}
 
 /// What a word changes that leads to the next place alone.
 fn onward(change: Change) -> Changes
@@ -75,20 +58,61 @@ fn judge(code: &Code, place: usize, entry: &Entry, word: Instruction) -> Result<
             let known = rules::transform(function, entry.result)?;
             Ok(onward(Change::Give(known, mark_of_function(entry.mark, function))))
         }
-        Instruction::Store { negated, slot } => {
-            let stored = rules::store(negated, entry.result, type_of(code, slot))?;
-            Ok(onward(Change::Write(slot, stored)))
+        Instruction::Store { negated, variable } => {
+            let declared = type_of_variable(code, variable);
+            let writable = may_write(code, variable);
+            let stored = rules::store(negated, entry.result, declared, writable)?;
+            Ok(onward(write(variable, stored)))
         }
-        Instruction::Set(slot) | Instruction::Reset(slot) => {
-            rules::check_set(entry.result, type_of(code, slot))?;
+        Instruction::Set(variable) | Instruction::Reset(variable) => {
+            let declared = type_of_variable(code, variable);
+            rules::check_set(entry.result, declared, may_write(code, variable))?;
             Ok(onward(Change::Keep))
         }
+        Instruction::Pass {
+            operand,
+            block,
+            port,
+        } => {
+            let input = Variable::Port { block, port };
+            let declared = type_of_variable(code, input);
+            rules::pass(
+                known_of(code, entry, operand),
+                declared,
+                may_write(code, input),
+            )?;
+            Ok(onward(Change::Unmark))
+        }
+        Instruction::Call(block) => Ok(onward(call(code, block)?)),
         Instruction::Open(operator) => Ok(onward(open(entry, operator)?)),
         Instruction::Close => Ok(onward(close(entry)?)),
         Instruction::Jump { condition, target } => {
             check_jump(condition, code.is_target(place, target), entry.result)?;
             Ok(jump(entry, condition))
         }
+    }
+}
+
+/// What a store changes: a slot is known as what was stored, and a port as before.
+fn write(variable: Variable, stored: Known) -> Change
+    ensures { (entry : Entry) → changed entry result ≡ with_stored entry variable stored }
+{
+    match variable {
+        Variable::Slot(slot) => Change::Write(slot, stored),
+        Variable::Port { .. } => Change::Keep,
+    }
+}
+
+/// What a call changes, of the block instance of this number.
+fn call(code: &Code, block: usize) -> Result<Change, Cause>
+    ensures { MatchResult result
+        (λ change. IsSome (slice_get code.now.kinds block) × (change ≡ Forget))
+        (IsLeastCause (ArisesAtCall (slice_get code.now.kinds block))) }
+{
+    if block < code.kinds().len() {
+        Ok(Change::Forget)
+    } else {
+        Err(Cause::BadSlot)
     }
 }
 

@@ -2,7 +2,7 @@
 use Rattle.std.proofs.Common.{◌≡◌, ℕ, List, [], ◌∷◌, map, refl, sym, subst, ◌⊎◌, inl, inr}
 use Rattle.std.specs.Prelude.{Option, Some, None, MatchOption}
 use Rattle.ilsource.specs.Names.{folded}
-use Rattle.ilsource.specs.Programs.{Variables}
+use Rattle.ilsource.specs.Programs.{DeclaredNames}
 use Rattle.ilsource.specs.Trees.{Tree, programs_of}
 use Rattle.ilsource.specs.declared.declaration.TypeDeclaration.{TypeDeclaration}
 use Rattle.ilsource.specs.declared.name.Name.{Name}
@@ -10,13 +10,13 @@ use Rattle.ilsource.specs.declared.source.Element.{Element}
 use Rattle.ilsource.specs.declared.source.Element.TheVariants.{DerivedType, Program}
 use Rattle.ilscope.specs.DataTypes.{types_below}
 use Rattle.ilscope.specs.Declarations.{Standing, declarations_in, name_of, names_of, standing}
-use Rattle.ilscope.specs.Faults.{SomeOf, IsBadIn, IsFaultOfDeclarations, IsLeast, IsLeastOf, IsTwiceIn, IsUnknownIn}
+use Rattle.ilscope.specs.Faults.{SomeOf, IsBadIn, IsFaultOfDeclarations, IsLeast, IsLeastOf, IsTwiceIn, IsUnknownTypeIn}
 use Rattle.ilscope.specs.Order.{lesser_of_two}
 use Rattle.ilscope.specs.Reports.{IsReportOf, IsReportOfOption, ReportsLeast}
 use Rattle.ilscope.specs.ScopeSteps.{IsFaultIn, IsFaultOfElement, OfCause, names_in}
 use Rattle.ilscope.specs.declared.fault.NameCause.{NameCause}
 use Rattle.ilscope.specs.declared.fault.NameCause.TheVariants.{Unknown, Twice, UnknownLabel, BackwardJump}
-use Rattle.ilscope.specs.declared.fault.NameCause.TheVariants.{TooMany, BadDeclaration}
+use Rattle.ilscope.specs.declared.fault.NameCause.TheVariants.{WritesInput, TooMany, BadDeclaration}
 use Rattle.ilscope.specs.declared.fault.NameFault.{NameFault}
 use Rattle.ilscope.specs.declared.fault.NameFault.TheVariants.{Memory, At}
 use Rattle.ilscope.specs.declared.found.Found.{Found}
@@ -65,7 +65,7 @@ module _ (spelled : Name → List ℕ) (place : ℕ) where
 
   abbrev IsUnknownAt : Standing → Type 0
   IsUnknownAt one =
-      SomeOf (λ d. IsUnknownIn (types_below spelled one.above) place d.specification) (declarations_in one.element)
+      SomeOf (λ d. IsUnknownTypeIn (types_below spelled one.above) place d.declared) (declarations_in one.element)
 
   abbrev IsBadAt : Standing → Type 0
   IsBadAt one = SomeOf (λ d. IsBadIn (types_below spelled one.above) place d) (declarations_in one.element)
@@ -74,8 +74,8 @@ module _ (spelled : Name → List ℕ) (place : ℕ) where
       → SomeOf (λ d. IsFaultIn (types_below spelled one.above) d place cause) (declarations_in one.element) →
       ((cause ≡ Unknown) × IsUnknownAt one) ⊎ ((cause ≡ BadDeclaration) × IsBadAt one)
   said cause one s =
-      let unknown = λ (d : Variables). IsUnknownIn (types_below spelled one.above) place d.specification in
-      let bad = λ (d : Variables). IsBadIn (types_below spelled one.above) place d in
+      let unknown = λ (d : DeclaredNames). IsUnknownTypeIn (types_below spelled one.above) place d.declared in
+      let bad = λ (d : DeclaredNames). IsBadIn (types_below spelled one.above) place d in
       or_else (λ u. inl (some_one unknown (declarations_in one.element) u))
       (λ b. inr (some_one bad (declarations_in one.element) b))
       (some_either (λ d. (cause ≡ Unknown) × unknown d) (λ d. (cause ≡ BadDeclaration) × bad d)
@@ -135,6 +135,7 @@ all_declared tree within twice h k =
         inl (some_of (λ one t. inl (refl, t)) (all_in tree) (from_programs (spelled_in tree) place [] tree.elements s))
     from place UnknownLabel s = absurd s
     from place BackwardJump s = absurd s
+    from place WritesInput s = absurd s
     from place TooMany s = absurd s
     from place BadDeclaration s =
         inl (some_of (λ one t. inr (some_of (λ d b. inr (refl, b)) (declarations_in one.element) t)) (all_in tree) s)

@@ -1,30 +1,28 @@
 -- What is gathered from some elements, with one element more.
-use Rattle.std.proofs.Common.{◌≡◌, ℕ, List, [], ◌∷◌, ◌++◌, map, Bool, refl, ap, sym, ◌∙◌, subst, inl, inr}
+use Rattle.std.proofs.Common.{◌≡◌, ℕ, List, [], ◌∷◌, ◌++◌, refl, ap, sym, ◌∙◌, subst, inl, inr}
 use Rattle.std.proofs.Common.{append-nil}
-use Rattle.std.specs.Prelude.{Option, Some, None, filter_map, flat_map, bytes_eq, if◌then◌else◌}
+use Rattle.std.specs.Prelude.{Option, Some, None, filter_map, bytes_eq, if◌then◌else◌}
 use Rattle.std.specs.Map.{lookup}
 use Rattle.std.specs.Option.{option_or}
-use Rattle.std.proofs.lemmas.List.{map-append}
 use Rattle.std.proofs.lemmas.List.Elements.{filter_map-append}
 use Rattle.ilsource.specs.Names.{text_of}
-use Rattle.ilsource.specs.Programs.{Variables}
+use Rattle.ilsource.specs.Programs.{DeclaredNames}
+use Rattle.ilsource.specs.declared.declaration.Declared.TheVariants as declared_as
 use Rattle.ilsource.specs.declared.declaration.TypeDeclaration.{TypeDeclaration}
 use Rattle.ilsource.specs.declared.name.Name.{Name}
 use Rattle.ilsource.specs.declared.source.Element.{Element}
 use Rattle.ilsource.specs.declared.source.Element.TheVariants as elements
 use Rattle.ilscope.specs.DataTypes.{TypeNames, declared_type, types_below}
 use Rattle.ilscope.specs.Declarations.{DeclaredProgram, Standing, above_next, declared_program, names_of, standing}
-use Rattle.ilscope.specs.Declarations.{type_of, variable, variables_in, variables_of}
+use Rattle.ilscope.specs.Declarations.{blocks_of, variables_of, with_declared}
 use Rattle.ilscope.specs.Faults.{SomeOf, IsLeastOf, IsTwiceIn}
 use Rattle.ilscope.specs.Kept.{Kept, types_in, with_new}
 use Rattle.ilscope.specs.Order.{lesser_of_two}
 use Rattle.ilscope.specs.ScopeSteps.{AreAllNumbers, AreNumbersOf, IsFaultIn, IsFaultOfElement, IsGathered, OfCause}
-use Rattle.ilscope.specs.ScopeSteps.{above_all}
-use Rattle.ilscope.specs.Tables.{first_at}
+use Rattle.ilscope.specs.ScopeSteps.{above_all, block_names, variable_names}
 use Rattle.ilscope.specs.declared.data_type.DataType.{DataType}
 use Rattle.ilscope.specs.declared.fault.NameCause.TheVariants.{Twice}
 use Rattle.ilscope.specs.declared.found.Found.{Found}
-use Rattle.ilscope.specs.declared.variable.Variable.{Variable}
 use Rattle.ilscope.proofs.Gathered.{best_same, or_else}
 use Rattle.ilscope.proofs.Least.{both_least, some_append, some_front, some_last}
 use Rattle.ilscope.proofs.Numbered.{lookup-with_new}
@@ -72,19 +70,20 @@ module _ (spelled : Name → List ℕ) (front : List Element) (element : Element
       ap (λ (all : List Standing). filter_map (declared_program spelled) all) (standing-last [] front element)
       ∙ filter_map-append (declared_program spelled) (standing [] front) (last_of [] front element ∷ [])
 
-abbrev declaration_of : TypeDeclaration → Variables
-declaration_of type = record { names = type.name ∷ []; specification = type.specification; initial = type.initial }
+abbrev declaration_of : TypeDeclaration → DeclaredNames
+declaration_of type =
+    record { names = type.name ∷ []; declared = declared_as.Variables type.specification type.initial }
 
 -- what is gathered, with one type more
 pub type_added : (lower : List ℕ) (front : List Element) (types new : Kept (Option DataType))
-    (programs : List DeclaredProgram) (numbers : List (Kept ℕ))
+    (programs : List DeclaredProgram) (variables blocks : List (Kept ℕ))
     (least fault : Option Found) (type : TypeDeclaration) (meaning : Option DataType) →
-    IsGathered lower front types programs numbers least →
+    IsGathered lower front types programs variables blocks least →
     IsLeastOf (IsFaultIn (types_in lower types) (declaration_of type)) fault →
     meaning ≡ declared_type (types_in lower types) type.specification type.initial →
     new ≡ with_new types (text_of lower type.name) meaning →
-    IsGathered lower (front ++ elements.DerivedType type ∷ []) new programs numbers (lesser_of_two least fault)
-type_added lower front types new programs numbers least fault type meaning h f m e =
+    IsGathered lower (front ++ elements.DerivedType type ∷ []) new programs variables blocks (lesser_of_two least fault)
+type_added lower front types new programs variables blocks least fault type meaning h f m e =
     let spelled = text_of lower in
     let above : List TypeDeclaration = above_all [] front in
     let same : types_in lower types ≡ types_below spelled above = λ i name. h.meant name i in
@@ -106,90 +105,64 @@ type_added lower front types new programs numbers least fault type meaning h f m
           h.declared
           ∙ sym (append-nil (filter_map (declared_program spelled) (standing [] front)))
           ∙ sym (programs_more spelled front (elements.DerivedType type));
-      numbered = h.numbered;
+      variables_numbered = h.variables_numbered;
+      blocks_numbered = h.blocks_numbered;
       fault =
           faults_more spelled front (elements.DerivedType type) least fault h.fault
           (best_same _ _ fault (λ place cause p. inr (inl p))
           (λ place cause q. or_else (λ t. absurd t.1) (λ s. or_else (λ p. p) (λ no. absurd no) s) q) one);
     }
 
-numbers_last : (spelled : Name → List ℕ) (programs : List DeclaredProgram) (numbers : List (Kept ℕ))
-    (program : DeclaredProgram) (table : Kept ℕ) →
-    AreAllNumbers spelled programs numbers → AreNumbersOf spelled program table
-    → AreAllNumbers spelled (programs ++ program ∷ []) (numbers ++ table ∷ [])
-numbers_last spelled [] [] program table h k = (k, tt)
-numbers_last spelled [] (n ∷ ns) program table h k = absurd h
-numbers_last spelled (p ∷ ps) [] program table h k = absurd h
-numbers_last spelled (p ∷ ps) (n ∷ ns) program table h k = (h.0, numbers_last spelled ps ns program table h.1 k)
-
-names-variables : (type : DataType) (names : List Name) → map (λ v. v.name) (map (variable type) names) ≡ names
-names-variables type [] = refl
-names-variables type (n ∷ ns) = ap (λ (ms : List Name). n ∷ ms) (names-variables type ns)
-
--- the variables of a program have its names
-pub names-variables_of : (types_above : TypeNames) (declarations : List Variables) →
-    map (λ v. v.name) (flat_map (variables_in types_above) declarations) ≡ flat_map (λ d. d.names) declarations
-names-variables_of types_above [] = refl
-names-variables_of types_above (d ∷ ds) =
-    map-append (λ v. v.name) (variables_in types_above d) (flat_map (variables_in types_above) ds)
-    ∙ (λ i. names-variables (type_of types_above d) d.names i ++ names-variables_of types_above ds i)
-
-first_at-map : {X Y : Type 0} (test : Y → Bool) (f : X → Y) (xs : List X)
-    → first_at (λ x. test (f x)) xs ≡ first_at test (map f xs)
-first_at-map test f [] = refl
-first_at-map test f (x ∷ xs) = rw (first_at-map test f xs) refl
-
-pub numbered_by : (spelled : Name → List ℕ) (variables : List Variable) (names : List Name) (key : List ℕ)
-    → map (λ v. v.name) variables ≡ names →
-    first_at (λ v. bytes_eq key (spelled v.name)) variables ≡ first_at (bytes_eq key) (map spelled names)
-numbered_by spelled variables names key e =
-    first_at-map (λ n. bytes_eq key (spelled n)) (λ v. v.name) variables
-    ∙ first_at-map (bytes_eq key) spelled (map (λ v. v.name) variables)
-    ∙ ap (λ (ns : List Name). first_at (bytes_eq key) (map spelled ns)) e
+numbers_last : (spelled : Name → List ℕ) (names : DeclaredProgram → List Name) (programs : List DeclaredProgram)
+    (numbers : List (Kept ℕ)) (program : DeclaredProgram) (table : Kept ℕ) →
+    AreAllNumbers spelled names programs numbers → AreNumbersOf spelled (names program) table
+    → AreAllNumbers spelled names (programs ++ program ∷ []) (numbers ++ table ∷ [])
+numbers_last spelled names [] [] program table h k = (k, tt)
+numbers_last spelled names [] (n ∷ ns) program table h k = absurd h
+numbers_last spelled names (p ∷ ps) [] program table h k = absurd h
+numbers_last spelled names (p ∷ ps) (n ∷ ns) program table h k =
+    (h.0, numbers_last spelled names ps ns program table h.1 k)
 
 -- what is gathered, with one program more
 pub program_added : (lower : List ℕ) (front : List Element) (types : Kept (Option DataType))
-    (programs : List DeclaredProgram) (numbers : List (Kept ℕ))
-    (least twice fault : Option Found) (declared : DeclaredProgram) (names : List Name) (table : Kept ℕ) →
-    IsGathered lower front types programs numbers least →
+    (programs : List DeclaredProgram) (variables blocks : List (Kept ℕ))
+    (least twice fault : Option Found) (declared : DeclaredProgram) (its_variables its_blocks : Kept ℕ) →
+    IsGathered lower front types programs variables blocks least →
     declared.variables ≡ variables_of (types_in lower types) declared.program →
-    names ≡ names_of declared.program →
-    ((key : List ℕ) → lookup (bytes_eq key) table ≡ first_at (bytes_eq key) (map (text_of lower) names)) →
-    IsLeastOf (OfCause Twice (IsTwiceIn (text_of lower) names)) twice →
+    declared.blocks ≡ blocks_of declared.program →
+    AreNumbersOf (text_of lower) (variable_names declared) its_variables →
+    AreNumbersOf (text_of lower) (block_names declared) its_blocks →
+    IsLeastOf (OfCause Twice (IsTwiceIn (text_of lower) (names_of declared.program))) twice →
     IsLeastOf (λ place cause. SomeOf (λ d. IsFaultIn (types_in lower types) d place cause)
     declared.program.declarations) fault →
     IsGathered lower (front ++ elements.Program declared.program ∷ []) types (programs ++ declared ∷ [])
-    (numbers ++ table ∷ [])
+    (variables ++ its_variables ∷ []) (blocks ++ its_blocks ∷ [])
     (lesser_of_two least (lesser_of_two twice fault))
-program_added lower front types programs numbers least twice fault declared names table h v n t a f =
+program_added lower front types programs variables blocks least twice fault declared its_variables its_blocks h v b n m
+    t f =
     let spelled = text_of lower in
     let above : List TypeDeclaration = above_all [] front in
     let element : Element = elements.Program declared.program in
     let same : types_in lower types ≡ types_below spelled above = λ i name. h.meant name i in
-    let all : map (λ v. v.name) declared.variables ≡ names =
-    ap (λ (vs : List Variable). map (λ v. v.name) vs) v
-    ∙ names-variables_of (types_in lower types) declared.program.declarations ∙ sym n
-    in
-    let its : declared ≡ record
-    { program = declared.program; variables = variables_of (types_below spelled above) declared.program } =
+    let its : declared ≡ with_declared (types_below spelled above) declared.program =
     λ i. record {
       program = declared.program;
-      variables =
-          (v ∙ ap (λ (t : TypeNames). variables_of t declared.program) same) i;
+      variables = (v ∙ ap (λ (t : TypeNames). variables_of t declared.program) same) i;
+      blocks = b i;
     }
     in
     record {
       meant = λ name. h.meant name
           ∙ ap (λ (a : List TypeDeclaration). types_below spelled a name) (sym (above_all-last [] front element));
       declared = (λ i. h.declared i ++ its i ∷ []) ∙ sym (programs_more spelled front element);
-      numbered = numbers_last spelled programs numbers declared table h.numbered
-          (λ key. t key ∙ sym (numbered_by spelled declared.variables names key all));
+      variables_numbered =
+          numbers_last spelled variable_names programs variables declared its_variables h.variables_numbered n;
+      blocks_numbered = numbers_last spelled block_names programs blocks declared its_blocks h.blocks_numbered m;
       fault =
           faults_more spelled front element least (lesser_of_two twice fault) h.fault
           (both_least (OfCause Twice (IsTwiceIn spelled (names_of declared.program)))
           (λ place cause. SomeOf (λ d. IsFaultIn (types_below spelled above) d place cause)
-          declared.program.declarations) twice fault
-          (subst (λ (ns : List Name). IsLeastOf (OfCause Twice (IsTwiceIn spelled ns)) twice) n a)
+          declared.program.declarations) twice fault t
           (subst (λ (t : TypeNames). IsLeastOf
           (λ place cause. SomeOf (λ d. IsFaultIn t d place cause) declared.program.declarations) fault) same f));
     }

@@ -17,10 +17,12 @@ use Rattle.iloperators.specs.Functions.{least_of, greatest_of}
 use Rattle.iloperators.specs.declared.function.IntegerType.{IntegerType}
 use Rattle.iloperators.specs.declared.function.IntegerType.TheVariants as integers
 use Rattle.ilsource.specs.Names.{folded}
-use Rattle.ilsource.specs.Programs.{Variables}
+use Rattle.ilsource.specs.Programs.{DeclaredNames}
 use Rattle.ilsource.specs.Trees.{Tree}
 use Rattle.ilsource.specs.declared.declaration.Constant.{Constant}
 use Rattle.ilsource.specs.declared.declaration.Constant.TheVariants as constants
+use Rattle.ilsource.specs.declared.declaration.Declared.{Declared}
+use Rattle.ilsource.specs.declared.declaration.Declared.TheVariants as declared_as
 use Rattle.ilsource.specs.declared.declaration.Specification.{Specification}
 use Rattle.ilsource.specs.declared.declaration.Specification.TheVariants as specifications
 use Rattle.ilsource.specs.declared.declaration.TypeDeclaration.{TypeDeclaration}
@@ -30,7 +32,7 @@ use Rattle.ilsource.specs.declared.source.Element.TheVariants.{DerivedType, Prog
 use Rattle.ilscope.specs.DataTypes.{TypeNames, data_type, declared_type, number_in, range_if, truth_of, types_below}
 use Rattle.ilscope.specs.DataTypes.{value_in, whole_numbers, with_initial}
 use Rattle.ilscope.specs.Declarations.{DeclaredProgram, declared_program, declared_programs, standing, type_of}
-use Rattle.ilscope.specs.Declarations.{variable, variables_in, variables_of}
+use Rattle.ilscope.specs.Declarations.{variable, variables_among, variables_in, with_declared}
 use Rattle.ilscope.specs.declared.data_type.DataType.{DataType}
 use Rattle.ilscope.specs.declared.variable.Variable.{Variable}
 use Rattle.ilscope.proofs.Subranges.{le_from}
@@ -140,10 +142,10 @@ below_typed spelled (type ∷ above) name =
     typed None h true p k = k
     typed None h false p k = tt
 
-type_typed : (above : TypeNames) → AreTyped above → (declaration : Variables) → IsTyped (type_of above declaration)
-type_typed above h declaration =
-    typed (declared_type above declaration.specification declaration.initial)
-    (declared_typed above h declaration.specification declaration.initial)
+type_typed : (above : TypeNames) → AreTyped above → (specification : Specification) (initial : Option Constant)
+    → IsTyped (type_of above specification initial)
+type_typed above h specification initial =
+    typed (declared_type above specification initial) (declared_typed above h specification initial)
   where
     typed : (o : Option DataType) → IfSome o IsTyped
         → IsTyped (unwrap_or o (record { value_type = types.Bool; initial = values.Bool false }))
@@ -153,12 +155,18 @@ type_typed above h declaration =
 each : (type : DataType) → IsTyped type → (names : List Name) → All IsTypedVariable (map (variable type) names)
 each type h names = All-map IsTypedVariable (variable type) names (λ k d below. h)
 
-variables_typed : (above : TypeNames) → AreTyped above → (declarations : List Variables)
+among_typed : (above : TypeNames) → AreTyped above → (names : List Name) (declared : Declared)
+    → All IsTypedVariable (variables_among above names declared)
+among_typed above h names (declared_as.Variables specification initial) =
+    each (type_of above specification initial) (type_typed above h specification initial) names
+among_typed above h names (declared_as.Blocks kind) = All-nil IsTypedVariable
+
+variables_typed : (above : TypeNames) → AreTyped above → (declarations : List DeclaredNames)
     → All IsTypedVariable (flat_map (variables_in above) declarations)
 variables_typed above h [] = All-nil IsTypedVariable
 variables_typed above h (d ∷ ds) =
     All-append IsTypedVariable (variables_in above d) (flat_map (variables_in above) ds)
-    (each (type_of above d) (type_typed above h d) d.names) (variables_typed above h ds)
+    (among_typed above h d.names d.declared) (variables_typed above h ds)
 
 all_one : {X : Type 0} (P : X → Type 0) (x : X) → P x → All P (x ∷ [])
 all_one P x h zero d below = h
@@ -170,10 +178,10 @@ programs_typed spelled above [] = All-nil (λ (p : DeclaredProgram). All IsTyped
 programs_typed spelled above (DerivedType type ∷ more) = programs_typed spelled (type ∷ above) more
 programs_typed spelled above (Program p ∷ more) =
     All-append (λ (q : DeclaredProgram). All IsTypedVariable q.variables)
-    (record { program = p; variables = variables_of (types_below spelled above) p } ∷ [])
+    (with_declared (types_below spelled above) p ∷ [])
     (filter_map (declared_program spelled) (standing above more))
     (all_one (λ (q : DeclaredProgram). All IsTypedVariable q.variables)
-    (record { program = p; variables = variables_of (types_below spelled above) p })
+    (with_declared (types_below spelled above) p)
     (variables_typed (types_below spelled above) (below_typed spelled above) p.declarations))
     (programs_typed spelled above more)
 

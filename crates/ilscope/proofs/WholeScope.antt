@@ -8,7 +8,8 @@ use Rattle.ilscope.specs.Declarations.{DeclaredProgram, declared_program, name_o
 use Rattle.ilscope.specs.Faults.{SomeOf, IsLeastOf, IsTwiceIn}
 use Rattle.ilscope.specs.Kept.{Kept}
 use Rattle.ilscope.specs.Order.{lesser_of_two}
-use Rattle.ilscope.specs.ScopeSteps.{AreAllNumbers, IsFaultOfElement, IsGathered, IsScopeOf, OfCause}
+use Rattle.ilscope.specs.ScopeSteps.{AreAllNumbers, IsFaultOfElement, IsGathered, IsScopeOf, OfCause, block_names}
+use Rattle.ilscope.specs.ScopeSteps.{variable_names}
 use Rattle.ilscope.specs.Tables.{lowered}
 use Rattle.ilscope.specs.declared.data_type.DataType.{DataType}
 use Rattle.ilscope.specs.declared.fault.NameCause.TheVariants.{Twice}
@@ -20,18 +21,21 @@ pub spelled_is : (lower text : List ℕ) → lower ≡ lowered text → text_of 
 spelled_is lower text e = λ i name. (ap (λ (w : List ℕ). text_of w name) e ∙ key_is text name) i
 
 pub whole_scope : (tree : Tree) (lower : List ℕ) (types : Kept (Option DataType)) (programs : List DeclaredProgram)
-    (numbers : List (Kept ℕ))
+    (variables blocks : List (Kept ℕ))
     (least twice : Option Found) → lower ≡ lowered tree.text →
-    IsGathered lower tree.elements types programs numbers least →
+    IsGathered lower tree.elements types programs variables blocks least →
     IsLeastOf (OfCause Twice (IsTwiceIn (text_of lower) (map name_of tree.elements))) twice →
-    IsScopeOf tree lower programs numbers (lesser_of_two least twice)
-whole_scope tree lower types programs numbers least twice e h k =
+    IsScopeOf tree lower programs variables blocks (lesser_of_two least twice)
+whole_scope tree lower types programs variables blocks least twice e h k =
     let same : text_of lower ≡ folded tree.text = spelled_is lower tree.text e in
     record {
       text = e;
       declared = h.declared
           ∙ ap (λ (s : Name → List ℕ). filter_map (declared_program s) (standing [] tree.elements)) same;
-      numbered = subst (λ (s : Name → List ℕ). AreAllNumbers s programs numbers) same h.numbered;
+      variables_numbered =
+          subst (λ (s : Name → List ℕ). AreAllNumbers s variable_names programs variables) same h.variables_numbered;
+      blocks_numbered =
+          subst (λ (s : Name → List ℕ). AreAllNumbers s block_names programs blocks) same h.blocks_numbered;
       fault =
           all_declared tree least twice
           (subst (λ (s : Name → List ℕ). IsLeastOf

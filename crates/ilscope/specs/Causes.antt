@@ -1,7 +1,8 @@
 -- Numbers of the causes of faults (profile).
 use Rattle.std.specs.Prelude.{ℕ}
 use Rattle.ilscope.specs.declared.fault.NameCause.{NameCause}
-use Rattle.ilscope.specs.declared.fault.NameCause.TheVariants.{Unknown, Twice, UnknownLabel, BackwardJump, TooMany}
+use Rattle.ilscope.specs.declared.fault.NameCause.TheVariants.{Unknown, Twice, UnknownLabel, BackwardJump}
+use Rattle.ilscope.specs.declared.fault.NameCause.TheVariants.{WritesInput, TooMany}
 use Rattle.ilscope.specs.declared.fault.NameCause.TheVariants.{BadDeclaration}
 use Rattle.ilscope.specs.declared.fault.NameFault.{NameFault}
 use Rattle.ilscope.specs.declared.fault.NameFault.TheVariants.{Memory, At}
@@ -11,6 +12,7 @@ number_of Unknown = 2
 number_of Twice = 3
 number_of UnknownLabel = 4
 number_of BackwardJump = 5
+number_of WritesInput = 9
 number_of TooMany = 11
 number_of BadDeclaration = 12
 

@@ -1,13 +1,20 @@
--- What a text declares (IEC 61131-3, 2.3.3.1 and 2.4.3): each type and each variable below the types above it.
+-- What a text declares (IEC 61131-3, 2.3.3.1, 2.4.3 and 2.5.2.2): each type and each variable below the types above it,
+-- and block instances.
 use Rattle.std.specs.Prelude.{ℕ, List, [], ◌∷◌, Option, map, flat_map, filter_map, option_map, unwrap_or}
 use Rattle.ilsource.specs.Names.{folded}
-use Rattle.ilsource.specs.Programs.{Variables, Written}
+use Rattle.ilsource.specs.Programs.{DeclaredNames, Written}
 use Rattle.ilsource.specs.Trees.{Tree, program_in}
+use Rattle.ilblocks.specs.declared.kind.Kind.{Kind}
+use Rattle.ilsource.specs.declared.declaration.Constant.{Constant}
+use Rattle.ilsource.specs.declared.declaration.Declared.{Declared}
+use Rattle.ilsource.specs.declared.declaration.Declared.TheVariants as declared_as
+use Rattle.ilsource.specs.declared.declaration.Specification.{Specification}
 use Rattle.ilsource.specs.declared.declaration.TypeDeclaration.{TypeDeclaration}
 use Rattle.ilsource.specs.declared.name.Name.{Name}
 use Rattle.ilsource.specs.declared.source.Element.{Element}
 use Rattle.ilsource.specs.declared.source.Element.TheVariants.{DerivedType, Program}
 use Rattle.ilscope.specs.DataTypes.{TypeNames, truth_values, declared_type, types_below}
+use Rattle.ilscope.specs.declared.block.DeclaredBlock.{DeclaredBlock}
 use Rattle.ilscope.specs.declared.data_type.DataType.{DataType}
 use Rattle.ilscope.specs.declared.variable.Variable.{Variable}
 
@@ -31,43 +38,63 @@ abbrev pub name_of : Element → Name
 name_of (DerivedType type) = type.name
 name_of (Program program) = program.name
 
--- what an element declares: a type itself, a program its variables
-abbrev pub declarations_in : Element → List Variables
+-- what an element declares: a type itself, a program its variables and block instances
+abbrev pub declarations_in : Element → List DeclaredNames
 declarations_in (DerivedType type) =
-    record { names = type.name ∷ []; specification = type.specification; initial = type.initial } ∷ []
+    record { names = type.name ∷ []; declared = declared_as.Variables type.specification type.initial } ∷ []
 declarations_in (Program program) = program.declarations
 
--- the names of a program's variables, in declared order
+-- the names that a program declares, in their order
 abbrev pub names_of : Written → List Name
 names_of program = flat_map (λ d. d.names) program.declarations
 
 -- what a declaration means; FALSE of BOOL, whatever is written, where it or its type is at fault
-abbrev pub type_of : TypeNames → Variables → DataType
-type_of types_above declaration =
-    unwrap_or (declared_type types_above declaration.specification declaration.initial) truth_values
+abbrev pub type_of : TypeNames → Specification → Option Constant → DataType
+type_of types_above specification initial = unwrap_or (declared_type types_above specification initial) truth_values
 
 abbrev pub variable : DataType → Name → Variable
 variable type name = record { name = name; value_type = type.value_type; initial = type.initial }
 
--- the variables of one declaration
-abbrev pub variables_in : TypeNames → Variables → List Variable
-variables_in types_above declaration = map (variable (type_of types_above declaration)) declaration.names
+-- the variables among names that are declared together, and the block instances among them
+abbrev pub variables_among : TypeNames → List Name → Declared → List Variable
+variables_among types_above names (declared_as.Variables specification initial) =
+    map (variable (type_of types_above specification initial)) names
+variables_among types_above names (declared_as.Blocks kind) = []
+
+abbrev pub block : Kind → Name → DeclaredBlock
+block kind name = record { name = name; kind = kind }
+
+abbrev pub blocks_among : List Name → Declared → List DeclaredBlock
+blocks_among names (declared_as.Variables specification initial) = []
+blocks_among names (declared_as.Blocks kind) = map (block kind) names
+
+abbrev pub variables_in : TypeNames → DeclaredNames → List Variable
+variables_in types_above declaration = variables_among types_above declaration.names declaration.declared
+
+abbrev pub blocks_in : DeclaredNames → List DeclaredBlock
+blocks_in declaration = blocks_among declaration.names declaration.declared
 
 -- a program's variables, in declared order
 abbrev pub variables_of : TypeNames → Written → List Variable
 variables_of types_above program = flat_map (variables_in types_above) program.declarations
 
--- a program with its variables
+-- a program's block instances, in declared order
+abbrev pub blocks_of : Written → List DeclaredBlock
+blocks_of program = flat_map blocks_in program.declarations
+
+-- a program with its variables and block instances
 pub record DeclaredProgram : Type 0 where
   pub program : Written
   pub variables : List Variable
+  pub blocks : List DeclaredBlock
+
+abbrev pub with_declared : TypeNames → Written → DeclaredProgram
+with_declared types_above program =
+    record { program = program; variables = variables_of types_above program; blocks = blocks_of program }
 
 abbrev pub declared_program : (Name → List ℕ) → Standing → Option DeclaredProgram
-declared_program spelled one =
-    option_map
-    (λ program. record { program = program; variables = variables_of (types_below spelled one.above) program })
-    (program_in one.element)
+declared_program spelled one = option_map (with_declared (types_below spelled one.above)) (program_in one.element)
 
--- the programs of a text in order, each with its variables
+-- the programs of a text in order, each with its variables and block instances
 abbrev pub declared_programs : Tree → List DeclaredProgram
 declared_programs tree = filter_map (declared_program (folded tree.text)) (standing [] tree.elements)

@@ -3,9 +3,11 @@
 use Rattle.std.specs.Prelude.{◌≡◌, ℕ, ◌<◌, ◌≤◌, ◌<ℤ◌, List, [], ◌∷◌, map, slice_get, Option, Some, None, IsSomeAnd, ◌⊎◌}
 use Rattle.iloperators.specs.Functions.{least_of, greatest_of}
 use Rattle.ilsource.specs.Names.{folded}
-use Rattle.ilsource.specs.Programs.{Variables}
+use Rattle.ilsource.specs.Programs.{DeclaredNames}
 use Rattle.ilsource.specs.Trees.{Tree, programs_of}
 use Rattle.ilsource.specs.declared.declaration.Constant.{Constant}
+use Rattle.ilsource.specs.declared.declaration.Declared.{Declared}
+use Rattle.ilsource.specs.declared.declaration.Declared.TheVariants as declared_as
 use Rattle.ilsource.specs.declared.declaration.Specification.{Specification}
 use Rattle.ilsource.specs.declared.declaration.Specification.TheVariants as specifications
 use Rattle.ilsource.specs.declared.name.Name.{Name}
@@ -28,7 +30,7 @@ SomeLater R [] = ⊥
 SomeLater R (x ∷ xs) = SomeOf (R x) xs ⊎ SomeLater R xs
 
 -- some declaration has the property, where the names of types mean this above it
-abbrev pub SomeDeclaration : (TypeNames → Variables → Type 0) → Tree → Type 0
+abbrev pub SomeDeclaration : (TypeNames → DeclaredNames → Type 0) → Tree → Type 0
 SomeDeclaration P tree =
     SomeOf
     (λ one. SomeOf (P (types_below (folded tree.text) one.above)) (declarations_in one.element))
@@ -40,16 +42,21 @@ IsUnknownIn types_above place (specifications.Named name) = (types_above name �
 IsUnknownIn types_above place _ = ⊥
 
 -- a declaration names, at the place, a type that is not declared above it
+abbrev pub IsUnknownTypeIn : TypeNames → ℕ → Declared → Type 0
+IsUnknownTypeIn types_above place (declared_as.Variables specification initial) =
+    IsUnknownIn types_above place specification
+IsUnknownTypeIn types_above place (declared_as.Blocks kind) = ⊥
+
 abbrev pub IsUnknownType : Tree → ℕ → Type 0
 IsUnknownType tree place =
-    SomeDeclaration (λ types_above declaration. IsUnknownIn types_above place declaration.specification) tree
+    SomeDeclaration (λ types_above declaration. IsUnknownTypeIn types_above place declaration.declared) tree
 
 -- the name at the place is spelled as one before it
 abbrev pub IsTwiceIn : (Name → List ℕ) → List Name → ℕ → Type 0
 IsTwiceIn spelled names place =
     SomeLater (λ earlier later. (spelled earlier ≡ spelled later) × (place ≡ later.from)) names
 
--- a type or a program, or a variable within its program, is declared again at the place
+-- a type or a program, or a variable or block instance within its program, is declared again at the place
 abbrev pub IsTwice : Tree → ℕ → Type 0
 IsTwice tree place =
     IsTwiceIn (folded tree.text) (map name_of tree.elements) place
@@ -66,11 +73,16 @@ abbrev pub IsBadInitial : Option DataType → Option Constant → Type 0
 IsBadInitial (Some type) (Some constant) = value_in type.value_type constant ≡ None
 IsBadInitial _ _ = ⊥
 
--- the declaration has such a subrange or initial value, and its first name stands at the place
-abbrev pub IsBadIn : TypeNames → ℕ → Variables → Type 0
+-- a declaration has such a subrange or initial value
+abbrev pub IsBadDeclared : TypeNames → Declared → Type 0
+IsBadDeclared types_above (declared_as.Variables specification initial) =
+    IsBadSubrange specification ⊎ IsBadInitial (data_type types_above specification) initial
+IsBadDeclared types_above (declared_as.Blocks kind) = ⊥
+
+-- and its first name stands at the place
+abbrev pub IsBadIn : TypeNames → ℕ → DeclaredNames → Type 0
 IsBadIn types_above place declaration =
-    (IsBadSubrange declaration.specification
-    ⊎ IsBadInitial (data_type types_above declaration.specification) declaration.initial)
+    IsBadDeclared types_above declaration.declared
     × IsSomeAnd (slice_get declaration.names 0) (λ name. place ≡ name.from)
 
 abbrev pub IsBad : Tree → ℕ → Type 0

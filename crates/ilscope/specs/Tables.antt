@@ -2,6 +2,7 @@
 use Rattle.std.specs.Prelude.{ℕ, suc, List, [], ◌∷◌, map, Option, Some, None, Bool, bytes_eq, option_map, if◌then◌else◌}
 use Rattle.std.specs.Char.{to_ascii_lowercase}
 use Rattle.ilsource.specs.declared.name.Name.{Name}
+use Rattle.ilscope.specs.declared.block.DeclaredBlock.{DeclaredBlock}
 use Rattle.ilscope.specs.declared.variable.Variable.{Variable}
 
 -- a text with letters in lower case
@@ -17,3 +18,7 @@ first_at test (x ∷ xs) = if test x then Some 0 else option_map suc (first_at t
 abbrev pub variable_number : (Name → List ℕ) → List Variable → Name → Option ℕ
 variable_number spelled variables name =
     first_at (λ variable. bytes_eq (spelled name) (spelled variable.name)) variables
+
+-- the number of the first block instance with the name
+abbrev pub block_number : (Name → List ℕ) → List DeclaredBlock → Name → Option ℕ
+block_number spelled blocks name = first_at (λ block. bytes_eq (spelled name) (spelled block.name)) blocks

@@ -5,13 +5,14 @@ ghost use Rattle.ilscope.specs.Faults.{IsBadIn, IsBadInitial, IsBadSubrange, IsU
 ghost use Rattle.ilscope.specs.Faults.{IsLeastOf, SomeOf};
 ghost use Rattle.ilscope.specs.Kept.{types_in};
 ghost use Rattle.ilscope.specs.ScopeSteps.{IsFaultIn, OfCause};
+ghost use Rattle.ilsource.specs.declared.declaration.Declared.TheVariants.{Variables};
 ghost use Rattle.ilscope.specs.declared.fault.NameCause.TheVariants.{BadDeclaration, Unknown};
 
 use crate::data_type::{DataType, value_in};
 use crate::fault::NameCause;
 use crate::found::{Found, lesser_of};
 use crate::types::{DeclaredTypes, data_type, type_of_name};
-use ilsource::{Constant, Declaration, Name, Specification};
+use ilsource::{Constant, Declaration, Declared, Name, Specification};
 
 /// The least fault of what some declarations say below these types. `lower` is the text in lower
 /// case.
@@ -25,13 +26,7 @@ pub(crate) fn fault_of_all(
 {
     let mut least = None;
     for declaration in declarations {
-        let fault = fault_of(
-            lower,
-            types,
-            declaration.names(),
-            declaration.specification(),
-            declaration.initial(),
-        );
+        let fault = fault_of(lower, types, declaration.names(), declaration.declared());
         least = lesser_of(least, fault);
     }
     least
@@ -42,11 +37,30 @@ pub(crate) fn fault_of(
     lower: &[u8],
     types: &DeclaredTypes,
     names: &[Name],
+    declared: Declared,
+) -> Option<Found>
+    ensures { IsLeastOf (IsFaultIn (types_in lower.now types.now)
+        (record { names = names.now; declared = declared })) result }
+{
+    match declared {
+        Declared::Variables {
+            specification,
+            initial,
+        } => fault_of_variables(lower, types, names, specification, initial),
+        Declared::Blocks(_) => None,
+    }
+}
+
+/// The same of a declaration of variables, or of a type.
+fn fault_of_variables(
+    lower: &[u8],
+    types: &DeclaredTypes,
+    names: &[Name],
     specification: Specification,
     initial: Option<Constant>,
 ) -> Option<Found>
     ensures { IsLeastOf (IsFaultIn (types_in lower.now types.now)
-        (record { names = names.now; specification = specification; initial = initial })) result }
+        (record { names = names.now; declared = Variables specification initial })) result }
 {
     lesser_of(
         unknown_type(lower, types, specification),
@@ -80,8 +94,7 @@ fn bad_declaration(
     initial: Option<Constant>,
 ) -> Option<Found>
     ensures { IsLeastOf (OfCause BadDeclaration (λ place. IsBadIn (types_in lower.now types.now)
-        place (record { names = names.now; specification = specification; initial = initial })))
-        result }
+        place (record { names = names.now; declared = Variables specification initial }))) result }
 {
     let name = names.first()?;
     let declared = data_type(lower, types, specification);

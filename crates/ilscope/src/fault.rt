@@ -10,14 +10,18 @@ use thiserror::Error;
 /// What is wrong with a name or a declaration.
 #[derive(Clone, Copy, PartialEq, Eq, Debug)]
 pub enum NameCause {
-    /// A name that is not declared; a type's name that is not declared above.
+    /// A name that is not declared, or a port that a block does not have; a type's name that is not
+    /// declared above.
     Unknown,
-    /// A name that is declared again, or a label that an earlier line of the program has too.
+    /// A name that is declared again, a label that an earlier line of the program has too, or a
+    /// port that is given again in one call.
     Twice,
     /// The label of a jump that no line of its program has.
     UnknownLabel,
     /// The label of a jump that its own line or one before it has.
     BackwardJump,
+    /// A store to an output port.
+    WritesInput,
     /// A declaration or an instruction that exceeds a limit.
     TooMany,
     /// A subrange that is empty or has numbers outside its base, or an initial value that the type
@@ -35,6 +39,7 @@ impl NameCause {
             NameCause::Twice => 3,
             NameCause::UnknownLabel => 4,
             NameCause::BackwardJump => 5,
+            NameCause::WritesInput => 9,
             NameCause::TooMany => 11,
             NameCause::BadDeclaration => 12,
         }

@@ -6,14 +6,15 @@ ghost use Rattle.ilsource.specs.declared.source.Element.TheVariants as elements;
 ghost use Rattle.ilscope.specs.Declarations.{name_of};
 ghost use Rattle.ilscope.specs.ScopeSteps.{IsGathered};
 
+use crate::blocks::{block_names, blocks_of};
 use crate::declarations::{fault_of, fault_of_all};
 use crate::found::{Found, lesser_of};
 use crate::names::Names;
 use crate::numbers::numbers_of;
 use crate::program_scope::ProgramScope;
 use crate::types::{DeclaredTypes, declared_type};
-use crate::variables::{names_of, variables_of};
-use ilsource::{Element, Name, Program, TypeDeclaration};
+use crate::variables::{names_of, variable_names, variables_of};
+use ilsource::{Declared, Element, Name, Program, TypeDeclaration};
 use std::alloc::{AllocError, Global};
 
 /// What is gathered from the elements up to a place.
@@ -21,7 +22,8 @@ use std::alloc::{AllocError, Global};
 pub(crate) struct Gathering<'a> {
     pub(crate) types: DeclaredTypes,
     pub(crate) programs: Vec<ProgramScope<'a>>,
-    pub(crate) numbers: Vec<Names<usize>>,
+    pub(crate) variable_numbers: Vec<Names<usize>>,
+    pub(crate) block_numbers: Vec<Names<usize>>,
     pub(crate) least: Option<Found>,
 }
 
@@ -32,13 +34,14 @@ impl<'a> Gathering<'a> {
         lower: &[u8],
         elements: &'a [Element],
     ) -> Result<Gathering<'a>, AllocError>
-        ensures { IfOk result (λ g. IsGathered
-            lower.now elements.now g.types g.programs.items g.numbers.items g.least) }
+        ensures { IfOk result (λ g. IsGathered lower.now elements.now g.types g.programs.items
+            g.variable_numbers.items g.block_numbers.items g.least) }
     {
         let mut gathering = Gathering {
             types: Names::new(alloc),
             programs: Vec::new(alloc),
-            numbers: Vec::new(alloc),
+            variable_numbers: Vec::new(alloc),
+            block_numbers: Vec::new(alloc),
             least: None,
         };
         for element in elements {
@@ -59,16 +62,22 @@ impl<'a> Gathering<'a> {
     ) -> Result<(), AllocError>
         ensures { OnOk result ((front : List Element)
             → IsGathered lower.now front
-            self.old.types self.old.programs.items self.old.numbers.items self.old.least
+            self.old.types self.old.programs.items
+            self.old.variable_numbers.items self.old.block_numbers.items self.old.least
             → IsGathered lower.now (front ++ elements.DerivedType declared ∷ [])
-            self.new.types self.new.programs.items self.new.numbers.items self.new.least) }
+            self.new.types self.new.programs.items
+            self.new.variable_numbers.items self.new.block_numbers.items self.new.least) }
     {
         let TypeDeclaration {
             name,
             specification,
             initial,
         } = declared;
-        let fault = fault_of(lower, &self.types, &[name], specification, initial);
+        let declared = Declared::Variables {
+            specification,
+            initial,
+        };
+        let fault = fault_of(lower, &self.types, &[name], declared);
         let meaning = declared_type(lower, &self.types, specification, initial);
         self.types.add(alloc, name.text(lower), meaning)?;
         self.least = lesser_of(self.least, fault);
@@ -84,16 +93,25 @@ impl<'a> Gathering<'a> {
     ) -> Result<(), AllocError>
         ensures { OnOk result ((front : List Element)
             → IsGathered lower.now front
-            self.old.types self.old.programs.items self.old.numbers.items self.old.least
+            self.old.types self.old.programs.items
+            self.old.variable_numbers.items self.old.block_numbers.items self.old.least
             → IsGathered lower.now (front ++ elements.Program program.now ∷ [])
-            self.new.types self.new.programs.items self.new.numbers.items self.new.least) }
+            self.new.types self.new.programs.items
+            self.new.variable_numbers.items self.new.block_numbers.items self.new.least) }
     {
         let variables = variables_of(alloc, lower, &self.types, program)?;
+        let blocks = blocks_of(alloc, program)?;
+        let names = variable_names(alloc, &variables)?;
+        let (variable_numbers, _) = numbers_of(alloc, lower, &names)?;
+        let names = block_names(alloc, &blocks)?;
+        let (block_numbers, _) = numbers_of(alloc, lower, &names)?;
         let names = names_of(alloc, program)?;
-        let (numbers, twice) = numbers_of(alloc, lower, &names)?;
+        let (_, twice) = numbers_of(alloc, lower, &names)?;
         let fault = fault_of_all(lower, &self.types, program.declarations());
-        self.programs.push(ProgramScope::new(program, variables))?;
-        self.numbers.push(numbers)?;
+        self.programs
+            .push(ProgramScope::new(program, variables, blocks))?;
+        self.variable_numbers.push(variable_numbers)?;
+        self.block_numbers.push(block_numbers)?;
         self.least = lesser_of(self.least, lesser_of(twice, fault));
         Ok(())
     }

@@ -1,14 +1,16 @@
-//! Programs with their variables.
+//! Programs with their variables and block instances.
 
+use crate::block::DeclaredBlock;
 use crate::variable::Variable;
 use ilsource::Program;
 use std::marker::Model;
 
-/// A program with its variables.
+/// A program with its variables and block instances.
 #[derive(Drop)]
 pub struct ProgramScope<'a> {
     program: &'a Program,
     variables: Vec<Variable>,
+    blocks: Vec<DeclaredBlock>,
 }
 
 impl<'a> Model for ProgramScope<'a> {
@@ -17,29 +19,42 @@ impl<'a> Model for ProgramScope<'a> {
     ghost use Rattle.iltrees.specs.declared.nested.Piece.{Piece};
     ghost use Rattle.iltrees.specs.Trees.{pieces_of};
     ghost use Rattle.iltrees.specs.TreeSteps.{tree_of, tree_again};
-    ghost use Rattle.ilsource.specs.declared.name.Name.{Name};
+    ghost use Rattle.ilsource.specs.declared.symbol.Symbol.{Symbol};
     ghost use Rattle.ilscope.specs.Declarations.{DeclaredProgram};
 
     ghost Value = { DeclaredProgram };
 
     ghost coded = { Prim.hlevel (
       codes,
-      code_by (List (Piece Name)) (Prim.hlevel codes) pieces_of tree_of tree_again,
+      code_by (List (Piece Symbol)) (Prim.hlevel codes) pieces_of tree_of tree_again,
     ) };
 
-    ghost view = { λ p. record { program = p.program.now; variables = p.variables.items } };
+    ghost view = { λ p. record {
+      program = p.program.now;
+      variables = p.variables.items;
+      blocks = p.blocks.items;
+    } };
 }
 
 impl<'a> ProgramScope<'a> {
     ghost use Rattle.std.specs.Prelude.{◌≡◌, All};
     ghost use Rattle.ilscope.specs.Declarations.{DeclaredProgram};
 
-    /// The program, and its variables in the order in which they are declared.
-    pub(crate) fn new(program: &'a Program, variables: Vec<Variable>) -> ProgramScope<'a>
+    /// The program, and its variables and block instances in the order in which they are declared.
+    pub(crate) fn new(
+        program: &'a Program,
+        variables: Vec<Variable>,
+        blocks: Vec<DeclaredBlock>,
+    ) -> ProgramScope<'a>
         ensures program { result.program ≡ program.now }
         ensures variables { result.variables ≡ variables.items }
+        ensures blocks { result.blocks ≡ blocks.items }
     {
-        ProgramScope { program, variables }
+        ProgramScope {
+            program,
+            variables,
+            blocks,
+        }
     }
 
     /// The program.
@@ -54,5 +69,12 @@ impl<'a> ProgramScope<'a> {
         ensures value { result.now ≡ self.now.variables }
     {
         &self.variables
+    }
+
+    /// Its block instances, in the order in which they are declared.
+    pub fn blocks(&self) -> &[DeclaredBlock]
+        ensures value { result.now ≡ self.now.blocks }
+    {
+        &self.blocks
     }
 }

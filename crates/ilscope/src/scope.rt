@@ -14,17 +14,20 @@ use crate::names::Names;
 use crate::numbers::numbers_of;
 use crate::program_scope::ProgramScope;
 use binding::Binding;
+use ilblocks::Kind;
 use ilsource::{Name, Place, Source};
 use std::alloc::{AllocError, Global};
 use std::marker::Model;
 
-/// The programs of a source program with their variables, and the least fault of its declarations.
+/// The programs of a source program with their variables and block instances, and the least fault
+/// of its declarations.
 #[derive(Drop)]
 pub struct Scope<'a> {
     source: &'a Source,
     lower: Vec<u8>,
     programs: Vec<ProgramScope<'a>>,
-    numbers: Vec<Names<usize>>,
+    variable_numbers: Vec<Names<usize>>,
+    block_numbers: Vec<Names<usize>>,
     least: Option<Found>,
 }
 
@@ -40,19 +43,19 @@ impl<'a> Model for Scope<'a> {
 
     ghost view = { λ s. s.source.now };
 
-    ghost invariant = { λ s. IsScopeOf
-        s.source.now s.lower.items s.programs.items s.numbers.items s.least };
+    ghost invariant = { λ s. IsScopeOf s.source.now s.lower.items s.programs.items
+        s.variable_numbers.items s.block_numbers.items s.least };
 }
 
 impl<'a> Scope<'a> {
-    ghost use Rattle.std.specs.Prelude.{◌≡◌, ◌<◌, ◌↔◌, ℕ, All, IfOk, IsTrue, MatchOption, Some};
-    ghost use Rattle.std.specs.Prelude.{length, slice_get};
+    ghost use Rattle.std.specs.Prelude.{◌≡◌, ◌<◌, ◌↔◌, ℕ, All, IfOk, IfSome, IsNone, MatchOption};
+    ghost use Rattle.std.specs.Prelude.{Some, length, option_map, slice_get};
     ghost use Rattle.iltypes.specs.Values.{IsOf};
     ghost use Rattle.ilsource.specs.Names.{SameName, folded};
-    ghost use Rattle.ilscope.specs.Declarations.{DeclaredProgram, declared_programs, names_of};
+    ghost use Rattle.ilscope.specs.Declarations.{DeclaredProgram, declared_programs};
     ghost use Rattle.ilscope.specs.Faults.{SomeOf, IsFaultOfDeclarations, IsLeastOf};
     ghost use Rattle.ilscope.specs.Reports.{ReportsLeast};
-    ghost use Rattle.ilscope.specs.Tables.{variable_number};
+    ghost use Rattle.ilscope.specs.Tables.{block_number, variable_number};
     ghost use Rattle.ilscope.specs.declared.fault.NameCause.{NameCause};
     ghost use Rattle.ilscope.specs.declared.fault.NameFault.{NameFault};
 
@@ -68,7 +71,8 @@ impl<'a> Scope<'a> {
         let lower = lower_case(alloc, source.text())?;
         let Gathering {
             programs,
-            numbers,
+            variable_numbers,
+            block_numbers,
             least,
             ..
         } = Gathering::of(alloc, &lower, source.elements())?;
@@ -78,7 +82,8 @@ impl<'a> Scope<'a> {
             source,
             lower,
             programs,
-            numbers,
+            variable_numbers,
+            block_numbers,
             least: lesser_of(least, twice),
         })
     }
@@ -111,7 +116,7 @@ impl<'a> Scope<'a> {
         self.source
     }
 
-    /// The programs in order, each with its variables.
+    /// The programs in order, each with its variables and block instances.
     pub fn programs(&self) -> &[ProgramScope<'a>]
         ensures value { result.now ≡ declared_programs self.now }
         // Each initial value is one of its variable's type.
@@ -131,20 +136,42 @@ impl<'a> Scope<'a> {
     /// below the number of programs.
     pub fn variable_number(&self, program: usize, name: Name) -> Option<usize>
         requires { program < length (declared_programs self.now) }
-        ensures { (p : DeclaredProgram) → slice_get (declared_programs self.now) program ≡ Some p
+        ensures value { (p : DeclaredProgram)
+            → slice_get (declared_programs self.now) program ≡ Some p
             → result ≡ variable_number (folded self.now.text) p.variables name }
+        ensures none { (p : DeclaredProgram)
+            → slice_get (declared_programs self.now) program ≡ Some p
+            → (IsNone result ↔ ¬ SomeOf (λ v. SameName self.now.text name v.name) p.variables) }
     {
-        self.numbers[program].get(name.text(&self.lower))
+        self.variable_numbers[program].get(name.text(&self.lower))
     }
 
-    /// Whether the program with this number, which is below the number of programs, declares a
-    /// variable of this name.
-    pub fn declares(&self, program: usize, name: Name) -> bool
+    /// The number of the first block instance with this name, in the program with this number,
+    /// which is below the number of programs; and its kind.
+    pub fn block(&self, program: usize, name: Name) -> Option<(usize, Kind)>
+        requires { program < length (declared_programs self.now) }
+        ensures number { (p : DeclaredProgram)
+            → slice_get (declared_programs self.now) program ≡ Some p
+            → option_map (λ b. b.0) result ≡ block_number (folded self.now.text) p.blocks name }
+        ensures kind { (p : DeclaredProgram)
+            → slice_get (declared_programs self.now) program ≡ Some p
+            → IfSome result (λ b. option_map (λ d. d.kind) (slice_get p.blocks b.0) ≡ Some b.1) }
+        ensures none { (p : DeclaredProgram)
+            → slice_get (declared_programs self.now) program ≡ Some p
+            → (IsNone result ↔ ¬ SomeOf (λ b. SameName self.now.text name b.name) p.blocks) }
+    {
+        let number = self.block_number(program, name)?;
+        let block = self.programs[program].blocks().get(number)?;
+        Some((number, block.kind))
+    }
+
+    /// The number of the first block instance with this name, in the program with this number.
+    fn block_number(&self, program: usize, name: Name) -> Option<usize>
         requires { program < length (declared_programs self.now) }
         ensures { (p : DeclaredProgram) → slice_get (declared_programs self.now) program ≡ Some p
-            → (IsTrue result ↔ SomeOf (SameName self.now.text name) (names_of p.program)) }
+            → result ≡ block_number (folded self.now.text) p.blocks name }
     {
-        self.variable_number(program, name).is_some()
+        self.block_numbers[program].get(name.text(&self.lower))
     }
 }
 

@@ -1,34 +1,40 @@
 //! What declarations mean and which fault of them is reported, and each public call once.
 
-use crate::{Found, NameCause, NameFault, Names, Scope, lesser_of, report_of};
+use crate::{DeclaredBlock, Found, NameCause, NameFault, Names, Scope, lesser_of, report_of};
 use binding::Binding;
+use ilblocks::Kind::{self, Ctu, Ton};
 use iloperators::IntegerType::{Int, Udint, Usint};
 use ilsource::{
-    Constant, Declaration, Element, Name, Program, Source, Specification, TypeDeclaration,
+    Constant, Declaration, Declared, Element, Name, Program, Source, Specification, TypeDeclaration,
 };
 use iltypes::{IlType, Range, Value};
 use std::alloc::{AllocError, Global};
 use std::process::Abort;
 use std::test::Fail;
 
-/// A specification as a row has it.
+/// What the names of a row are, as it is written.
 #[derive(Clone, Copy)]
-enum Kind<'a> {
-    Is(Specification),
+enum Written<'a> {
+    Type(Specification),
     Named(&'a str),
+    Blocks(Kind),
 }
 
 /// Names that are declared together: those of types one by one.
-type Row<'a> = (&'a [&'a str], Kind<'a>, Option<Constant>);
+type Row<'a> = (&'a [&'a str], Written<'a>, Option<Constant>);
 
-const BOOL: Kind<'static> = Kind::Is(Specification::Bool);
+const BOOL: Written<'static> = Written::Type(Specification::Bool);
 
-const TIME: Kind<'static> = Kind::Is(Specification::Time);
+const TIME: Written<'static> = Written::Type(Specification::Time);
 
-const INT: Kind<'static> = Kind::Is(Specification::Integer(Int));
+const INT: Written<'static> = Written::Type(Specification::Integer(Int));
 
-const fn within(base: iloperators::IntegerType, low: i64, high: i64) -> Kind<'static> {
-    Kind::Is(Specification::Subrange { base, low, high })
+const TIMERS: Written<'static> = Written::Blocks(Ton);
+
+const COUNTERS: Written<'static> = Written::Blocks(Ctu);
+
+const fn within(base: iloperators::IntegerType, low: i64, high: i64) -> Written<'static> {
+    Written::Type(Specification::Subrange { base, low, high })
 }
 
 /// A text with one name a line, in the order in which they are written.
@@ -47,22 +53,39 @@ impl Draft {
         Ok(Name { from, to })
     }
 
-    fn specification(&mut self, kind: Kind<'_>) -> Result<Specification, AllocError> {
-        Ok(match kind {
-            Kind::Is(specification) => specification,
-            Kind::Named(word) => Specification::Named(self.name(word)?),
+    fn declared(
+        &mut self,
+        written: Written<'_>,
+        initial: Option<Constant>,
+    ) -> Result<Declared, AllocError> {
+        let specification = match written {
+            Written::Type(specification) => specification,
+            Written::Named(word) => Specification::Named(self.name(word)?),
+            Written::Blocks(kind) => return Ok(Declared::Blocks(kind)),
+        };
+        Ok(Declared::Variables {
+            specification,
+            initial,
         })
     }
 
+    /// Adds types; block instances among them are left out.
     fn add_types(&mut self, rows: &[Row<'_>]) -> Result<(), AllocError> {
-        for (names, kind, initial) in rows {
+        for (names, written, initial) in rows {
             for word in *names {
-                let declared = TypeDeclaration {
-                    name: self.name(word)?,
-                    specification: self.specification(*kind)?,
-                    initial: *initial,
-                };
-                self.elements.push(Element::DerivedType(declared))?;
+                let name = self.name(word)?;
+                if let Declared::Variables {
+                    specification,
+                    initial,
+                } = self.declared(*written, *initial)?
+                {
+                    let declared = TypeDeclaration {
+                        name,
+                        specification,
+                        initial,
+                    };
+                    self.elements.push(Element::DerivedType(declared))?;
+                }
             }
         }
         Ok(())
@@ -76,13 +99,13 @@ impl Draft {
     ) -> Result<(), AllocError> {
         let name = self.name(word)?;
         let mut declarations = Vec::new(alloc);
-        for (words, kind, initial) in rows {
+        for (words, written, initial) in rows {
             let mut names = Vec::new(alloc);
             for word in *words {
                 names.push(self.name(word)?)?;
             }
-            let specification = self.specification(*kind)?;
-            declarations.push(Declaration::new(names, specification, *initial))?;
+            let declared = self.declared(*written, *initial)?;
+            declarations.push(Declaration::new(names, declared))?;
         }
         let program = Program::new(name, declarations, Vec::new(alloc));
         self.elements.push(Element::Program(program))?;
@@ -90,7 +113,8 @@ impl Draft {
     }
 }
 
-/// The source program of these types and then the program `Main` with these variables.
+/// The source program of these types and then the program `Main` with these variables and block
+/// instances.
 fn source(alloc: Global, types: &[Row<'_>], variables: &[Row<'_>]) -> Result<Source, AllocError> {
     let mut draft = Draft {
         text: Vec::new(alloc),
@@ -127,15 +151,21 @@ fn faults_of_types(rt: HostRuntime) -> Result<(), Fail> {
     let truth = Some(Constant::Bool(true));
     let rows: [(&[Row<'_>], &str); 16] = [
         (
-            &[(&["A"], INT, seven), (&["B"], Kind::Named("a"), None)],
+            &[(&["A"], INT, seven), (&["B"], Written::Named("a"), None)],
             "",
         ),
         (
-            &[(&["A"], Kind::Named("B"), None), (&["B"], INT, None)],
+            &[(&["A"], Written::Named("B"), None), (&["B"], INT, None)],
             "name fault 2 at 2:1",
         ),
-        (&[(&["A"], Kind::Named("A"), None)], "name fault 2 at 2:1"),
-        (&[(&["A"], Kind::Named("B"), truth)], "name fault 2 at 2:1"),
+        (
+            &[(&["A"], Written::Named("A"), None)],
+            "name fault 2 at 2:1",
+        ),
+        (
+            &[(&["A"], Written::Named("B"), truth)],
+            "name fault 2 at 2:1",
+        ),
         (&[(&["A", "a"], INT, None)], "name fault 3 at 2:1"),
         (&[(&["MAIN"], INT, None)], "name fault 3 at 2:1"),
         (&[(&["A"], within(Int, 5, 1), None)], "name fault 12 at 1:1"),
@@ -162,13 +192,44 @@ fn faults_of_types(rt: HostRuntime) -> Result<(), Fail> {
         (
             &[
                 (&["A"], level, None),
-                (&["B"], Kind::Named("A"), Some(Constant::Number(0))),
+                (&["B"], Written::Named("A"), Some(Constant::Number(0))),
             ],
             "name fault 12 at 2:1",
         ),
     ];
     for (types, wanted) in rows {
         report(&rt, alloc, types, &[], wanted)?;
+    }
+    Ok(())
+}
+
+#[test]
+fn faults_of_block_instances(rt: HostRuntime) -> Result<(), Fail> {
+    let alloc = rt.alloc();
+    let types: &[Row<'_>] = &[(&["T"], INT, None)];
+    let rows: [(&[Row<'_>], &str); 6] = [
+        (&[(&["t", "Main"], TIMERS, None)], ""),
+        (&[(&["a", "A"], TIMERS, None)], "name fault 3 at 4:1"),
+        (
+            &[(&["a"], TIMERS, None), (&["A"], COUNTERS, None)],
+            "name fault 3 at 4:1",
+        ),
+        (
+            &[(&["a"], BOOL, None), (&["A"], TIMERS, None)],
+            "name fault 3 at 4:1",
+        ),
+        (
+            &[(&["a"], TIMERS, None), (&["A"], BOOL, None)],
+            "name fault 3 at 4:1",
+        ),
+        // Of two faults at one place the one with the lesser cause is reported.
+        (
+            &[(&["a"], TIMERS, None), (&["a"], within(Int, 5, 1), None)],
+            "name fault 3 at 4:1",
+        ),
+    ];
+    for (variables, wanted) in rows {
+        report(&rt, alloc, types, variables, wanted)?;
     }
     Ok(())
 }
@@ -190,7 +251,7 @@ fn faults_of_variables(rt: HostRuntime) -> Result<(), Fail> {
         (&[], &[(&["a", "A"], BOOL, two)], "name fault 12 at 2:1"),
         (
             &[],
-            &[(&["a", "b"], Kind::Named("T"), two)],
+            &[(&["a", "b"], Written::Named("T"), two)],
             "name fault 2 at 4:1",
         ),
         (
@@ -200,18 +261,18 @@ fn faults_of_variables(rt: HostRuntime) -> Result<(), Fail> {
         ),
         (
             &[(&["T"], INT, None)],
-            &[(&["T"], Kind::Named("t"), two)],
+            &[(&["T"], Written::Named("t"), two)],
             "",
         ),
         // The type's own fault comes first, and the variable has none from it.
         (
             bad,
-            &[(&["a"], Kind::Named("Bad"), two)],
+            &[(&["a"], Written::Named("Bad"), two)],
             "name fault 12 at 1:1",
         ),
         (
-            &[(&["T"], Kind::Named("U"), None)],
-            &[(&["a"], Kind::Named("T"), two)],
+            &[(&["T"], Written::Named("U"), None)],
+            &[(&["a"], Written::Named("T"), two)],
             "name fault 2 at 2:1",
         ),
     ];
@@ -231,7 +292,7 @@ fn variables_have_types_and_initial_values(rt: HostRuntime) -> Result<(), Fail> 
     let alloc = rt.alloc();
     let types: &[Row<'_>] = &[
         (&["Level"], within(Int, -5, 254), None),
-        (&["Dim"], Kind::Named("LEVEL"), Some(Constant::Number(9))),
+        (&["Dim"], Written::Named("LEVEL"), Some(Constant::Number(9))),
         (&["Dim"], INT, None),
         (&["Switch"], BOOL, Some(Constant::Number(1))),
         (&["Bad"], within(Int, 5, 1), None),
@@ -254,25 +315,30 @@ fn variables_have_types_and_initial_values(rt: HostRuntime) -> Result<(), Fail> 
         ),
         (INT, None, numbers(-32_768, 32_767)?, Value::Int(0)),
         (within(Udint, 3, 7), None, numbers(3, 7)?, Value::Int(3)),
-        (Kind::Named("level"), None, of_level, Value::Int(-5)),
+        (Written::Named("level"), None, of_level, Value::Int(-5)),
         // The first declaration is meant.
-        (Kind::Named("dim"), None, of_level, Value::Int(9)),
+        (Written::Named("dim"), None, of_level, Value::Int(9)),
         (
-            Kind::Named("Dim"),
+            Written::Named("Dim"),
             Some(Constant::Time(3)),
             of_level,
             Value::Int(3),
         ),
-        (Kind::Named("Switch"), None, IlType::Bool, Value::Bool(true)),
         (
-            Kind::Named("Bad"),
+            Written::Named("Switch"),
+            None,
+            IlType::Bool,
+            Value::Bool(true),
+        ),
+        (
+            Written::Named("Bad"),
             Some(Constant::Number(3)),
             IlType::Bool,
             Value::Bool(false),
         ),
     ];
-    for (kind, initial, value_type, value) in rows {
-        let source = source(alloc, types, &[(&["x", "y"], kind, initial)])?;
+    for (written, initial, value_type, value) in rows {
+        let source = source(alloc, types, &[(&["x", "y"], written, initial)])?;
         let scope = Scope::of(alloc, &source, &Binding::one_bus())?;
         assert_eq!(rt; scope.programs().len(), 1);
         let program = &scope.programs()[0];
@@ -289,34 +355,50 @@ fn variables_have_types_and_initial_values(rt: HostRuntime) -> Result<(), Fail> 
 #[test]
 fn names_are_looked_up(rt: HostRuntime) -> Result<(), Fail> {
     let alloc = rt.alloc();
-    let source = source(
-        alloc,
-        &[(&["b"], INT, None)],
-        &[(&["a", "B", "A"], BOOL, None)],
-    )?;
+    let declared: [Row<'_>; 3] = [
+        (&["a", "B", "A"], BOOL, None),
+        (&["t", "b", "T"], TIMERS, None),
+        (&["c"], COUNTERS, None),
+    ];
+    let source = source(alloc, &[(&["b"], INT, None)], &declared)?;
     let scope = Scope::of(alloc, &source, &Binding::one_bus())?;
     assert_eq!(rt; scope.source().text().len(), source.text().len());
-    // The text is `b Main a B A`, with a line for each.
+    // The text is `b Main a B A t b T c`, with a line for each.
     let rows = [
-        (0, Some(1)),
-        (7, Some(0)),
-        (9, Some(1)),
-        (11, Some(0)),
-        (2, None),
+        (0, Some(1), Some((1, Ton))),
+        (2, None, None),
+        (7, Some(0), None),
+        (9, Some(1), Some((1, Ton))),
+        (11, Some(0), None),
+        (13, None, Some((0, Ton))),
+        (17, None, Some((0, Ton))),
+        (19, None, Some((3, Ctu))),
     ];
     assert_eq!(rt; scope.programs().len(), 1);
-    for program in 0..scope.programs().len() {
-        for (from, number) in rows {
+    for (number, program) in scope.programs().iter().enumerate() {
+        for (from, variable, block) in rows {
             let name = Name { from, to: from + 1 };
-            let given = scope.variable_number(program, name);
-            assert_eq!(rt; given, number, "the name at {from}");
-            assert_eq!(rt; scope.declares(program, name), number.is_some());
+            let given = scope.variable_number(number, name);
+            assert_eq!(rt; given, variable, "the variable at {from}");
+            assert!(rt; scope.block(number, name) == block, "the block at {from}");
         }
+        assert_eq!(rt; program.blocks().len(), 4);
+        let last = DeclaredBlock {
+            name: Name { from: 19, to: 20 },
+            kind: Ctu,
+        };
+        assert_eq!(rt; program.blocks().last().copied(), Some(last));
     }
     let name = Name { from: 2, to: 6 };
     assert_eq!(rt; scope.spelling(name), b"main".as_slice());
+    Ok(())
+}
+
+#[test]
+fn what_was_kept_first_under_a_name_stays(rt: HostRuntime) -> Result<(), Fail> {
+    let alloc = rt.alloc();
     let mut names = Names::new(alloc);
-    assert!(rt; names.add(alloc, scope.spelling(name), 7)?);
+    assert!(rt; names.add(alloc, b"main", 7)?);
     assert!(rt; !names.add(alloc, b"main", 8)?);
     assert_eq!(rt; names.get(b"main"), Some(7));
     assert_eq!(rt; names.get(b"a"), None);
@@ -339,6 +421,7 @@ fn the_fault_at_the_least_place_is_reported(rt: HostRuntime) -> Result<(), Fail>
     );
     assert_eq!(rt; NameCause::UnknownLabel.number(), 4);
     assert_eq!(rt; NameCause::BackwardJump.number(), 5);
+    assert_eq!(rt; NameCause::WritesInput.number(), 9);
     assert_eq!(rt; NameCause::TooMany.number(), 11);
     assert_eq!(rt; NameFault::Memory.number(), 1);
     assert_eq!(rt; NameFault::Memory.to_string(alloc)?.as_str(), "no memory");

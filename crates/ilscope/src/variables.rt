@@ -7,7 +7,7 @@ ghost use Rattle.ilscope.specs.Kept.{types_in};
 use crate::data_type::DataType;
 use crate::types::{DeclaredTypes, declared_type};
 use crate::variable::Variable;
-use ilsource::{Name, Program};
+use ilsource::{Declared, Name, Program};
 use std::alloc::{AllocError, Global};
 
 /// A program's variables below these types, in declared order. `lower` is the text in lower case.
@@ -22,11 +22,16 @@ pub(crate) fn variables_of(
 {
     let mut variables = Vec::new(alloc);
     for declaration in program.declarations() {
-        let specification = declaration.specification();
-        let declared = declared_type(lower, types, specification, declaration.initial()).unwrap_or(
-            DataType::truth_values(),
-        );
-        add_variables(&mut variables, declared, declaration.names())?;
+        if let Declared::Variables {
+            specification,
+            initial,
+        } = declaration.declared()
+        {
+            let declared = declared_type(lower, types, specification, initial).unwrap_or(
+                DataType::truth_values(),
+            );
+            add_variables(&mut variables, declared, declaration.names())?;
+        }
     }
     Ok(variables)
 }
@@ -50,7 +55,17 @@ fn add_variables(
     Ok(())
 }
 
-/// The names of a program's variables, in declared order.
+/// The names of some variables.
+pub(crate) fn variable_names(alloc: Global, variables: &[Variable]) -> Result<Vec<Name>, AllocError>
+    ensures { IfOk result (λ v. v.items ≡ map (λ variable. variable.name) variables.now) }
+{
+    variables
+        .iter()
+        .map(|variable| variable.name)
+        .collect(alloc)
+}
+
+/// The names that a program declares, in their order.
 pub(crate) fn names_of(alloc: Global, program: &Program) -> Result<Vec<Name>, AllocError>
     ensures { IfOk result (λ v. v.items ≡ names_of program.now) }
 {

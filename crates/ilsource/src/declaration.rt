@@ -1,6 +1,7 @@
 //! Declarations of types and of variables (IEC 61131-3, 2.3.3.1 and 2.4.3).
 
 use crate::name::Name;
+use ilblocks::Kind;
 use iloperators::IntegerType;
 use std::marker::Model;
 
@@ -41,46 +42,44 @@ pub struct TypeDeclaration {
     pub initial: Option<Constant>,
 }
 
-/// `name {"," name} ":" specification [":=" constant] ";"`: variables of one type with one initial
-/// value.
+/// What the names of a declaration are.
+#[derive(Clone, Copy, PartialEq, Eq, Debug)]
+pub enum Declared {
+    /// Variables of one type, with the initial value that is written.
+    Variables {
+        specification: Specification,
+        initial: Option<Constant>,
+    },
+    /// Instances of a function block.
+    Blocks(Kind),
+}
+
+/// `name {"," name} ":" (specification [":=" constant] | block) ";"`: names that are declared
+/// together.
 #[derive(Drop)]
 pub struct Declaration {
     names: Vec<Name>,
-    specification: Specification,
-    initial: Option<Constant>,
+    declared: Declared,
 }
 
 impl Model for Declaration {
-    ghost use Rattle.ilsource.specs.Programs.{Variables};
+    ghost use Rattle.ilsource.specs.Programs.{DeclaredNames};
 
-    ghost Value = { Variables };
+    ghost Value = { DeclaredNames };
 
-    ghost view = { λ d. record {
-      names = d.names.items;
-      specification = d.specification;
-      initial = d.initial;
-    } };
+    ghost view = { λ d. record { names = d.names.items; declared = d.declared } };
 }
 
 impl Declaration {
     ghost use Rattle.std.specs.Prelude.{◌≡◌};
-    ghost use Rattle.ilsource.specs.Programs.{Variables};
+    ghost use Rattle.ilsource.specs.Programs.{DeclaredNames};
 
     /// The declaration of these names.
-    pub fn new(
-        names: Vec<Name>,
-        specification: Specification,
-        initial: Option<Constant>,
-    ) -> Declaration
+    pub fn new(names: Vec<Name>, declared: Declared) -> Declaration
         ensures names { result.names ≡ names.items }
-        ensures specification { result.specification ≡ specification }
-        ensures initial { result.initial ≡ initial }
+        ensures declared { result.declared ≡ declared }
     {
-        Declaration {
-            names,
-            specification,
-            initial,
-        }
+        Declaration { names, declared }
     }
 
     /// The names, in the order in which they are written.
@@ -90,17 +89,10 @@ impl Declaration {
         &self.names
     }
 
-    /// The type that is written.
-    pub fn specification(&self) -> Specification
-        ensures { result ≡ self.now.specification }
+    /// What the names are.
+    pub fn declared(&self) -> Declared
+        ensures { result ≡ self.now.declared }
     {
-        self.specification
-    }
-
-    /// The initial value that is written.
-    pub fn initial(&self) -> Option<Constant>
-        ensures { result ≡ self.now.initial }
-    {
-        self.initial
+        self.declared
     }
 }

@@ -2,16 +2,17 @@
 
 use crate::declaration::Declaration;
 use crate::name::Name;
+use crate::symbol::Symbol;
 use iltrees::Line;
 use std::marker::Model;
 
-/// `PROGRAM name { VAR .. END_VAR } { line } END_PROGRAM`. No more parentheses are open at once than
-/// [`limits::MOST_NESTING`], and no line calls a block, since calls are not read yet.
+/// `PROGRAM name { VAR .. END_VAR } { line } END_PROGRAM`. No more parentheses are open at once
+/// than [`limits::MOST_NESTING`].
 #[derive(Drop)]
 pub struct Program {
     name: Name,
     declarations: Vec<Declaration>,
-    lines: Vec<Line<Name, Name>>,
+    lines: Vec<Line<Symbol, Name>>,
 }
 
 impl Model for Program {
@@ -20,15 +21,15 @@ impl Model for Program {
     ghost use Rattle.iltrees.specs.declared.nested.Piece.{Piece};
     ghost use Rattle.iltrees.specs.Trees.{pieces_of};
     ghost use Rattle.iltrees.specs.TreeSteps.{tree_of, tree_again};
-    ghost use Rattle.iltrees.specs.Words.{AreShallow, CallNothing};
-    ghost use Rattle.ilsource.specs.declared.name.Name.{Name};
+    ghost use Rattle.iltrees.specs.Words.{AreShallow};
+    ghost use Rattle.ilsource.specs.declared.symbol.Symbol.{Symbol};
     ghost use Rattle.ilsource.specs.Programs.{Written};
 
     ghost Value = { Written };
 
     ghost coded = { Prim.hlevel (
       codes,
-      code_by (List (Piece Name)) (Prim.hlevel codes) pieces_of tree_of tree_again,
+      code_by (List (Piece Symbol)) (Prim.hlevel codes) pieces_of tree_of tree_again,
     ) };
 
     ghost view = { λ p. record {
@@ -37,18 +38,21 @@ impl Model for Program {
       lines = p.lines.items;
     } };
 
-    ghost invariant = { λ p. AreShallow p.lines.items × CallNothing p.lines.items };
+    ghost invariant = { λ p. AreShallow p.lines.items };
 }
 
 impl Program {
     ghost use Rattle.std.specs.Prelude.{◌≡◌};
-    ghost use Rattle.iltrees.specs.Words.{AreShallow, CallNothing};
+    ghost use Rattle.iltrees.specs.Words.{AreShallow};
     ghost use Rattle.ilsource.specs.Programs.{Written};
 
     /// The program of these declarations and lines.
-    pub fn new(name: Name, declarations: Vec<Declaration>, lines: Vec<Line<Name, Name>>) -> Program
+    pub fn new(
+        name: Name,
+        declarations: Vec<Declaration>,
+        lines: Vec<Line<Symbol, Name>>,
+    ) -> Program
         requires shallow { AreShallow lines.items }
-        requires calls { CallNothing lines.items }
         ensures name { result.name ≡ name }
         ensures declarations { result.declarations ≡ declarations.items }
         ensures lines { result.lines ≡ lines.items }
@@ -75,10 +79,9 @@ impl Program {
     }
 
     /// Its lines that are not empty, in order: each has a label, an instruction or both.
-    pub fn lines(&self) -> &[Line<Name, Name>]
+    pub fn lines(&self) -> &[Line<Symbol, Name>]
         ensures value { result.now ≡ self.now.lines }
         ensures shallow { AreShallow self.now.lines }
-        ensures calls { CallNothing self.now.lines }
     {
         &self.lines
     }

@@ -1,9 +1,10 @@
 //! Each call once, with what a reader would count by hand.
 
 use crate::{
-    Constant, Declaration, Element, LineCounter, Name, Place, Program, Source, Specification,
-    TypeDeclaration,
+    Constant, Declaration, Declared, Element, LineCounter, Name, Place, Program, Source,
+    Specification, Symbol, TypeDeclaration,
 };
+use ilblocks::Kind;
 use iltrees::{Instruction, Line, Operand};
 use std::test::Fail;
 
@@ -46,21 +47,27 @@ fn names_are_compared_without_letter_case(rt: HostRuntime) {
 fn a_source_gives_back_its_parts(rt: HostRuntime) -> Result<(), Fail> {
     let alloc = rt.alloc();
     let lamp = Name { from: 16, to: 20 };
+    let delay = Name { from: 0, to: 7 };
     let dim = TypeDeclaration {
         name: Name { from: 3, to: 5 },
         specification: Specification::Time,
         initial: Some(Constant::Number(7)),
     };
-    let names = [lamp].to_vec(alloc)?;
+    let variables = Declared::Variables {
+        specification: Specification::Bool,
+        initial: Some(Constant::Bool(true)),
+    };
+    let blocks = Declared::Blocks(Kind::Ton);
     let mut declarations = Vec::new(alloc);
-    declarations.push(Declaration::new(names, Specification::Bool, Some(Constant::Bool(true))))?;
+    declarations.push(Declaration::new([lamp].to_vec(alloc)?, variables))?;
+    declarations.push(Declaration::new([delay].to_vec(alloc)?, blocks))?;
     let mut lines = Vec::new(alloc);
     lines.push(Line {
         at: 13,
         label: None,
         instruction: Some(Instruction::Load {
             negated: false,
-            operand: Operand::Name(lamp),
+            operand: Operand::Name(Symbol::Variable(lamp)),
         }),
     })?;
     let mut elements = Vec::new(alloc);
@@ -75,10 +82,12 @@ fn a_source_gives_back_its_parts(rt: HostRuntime) -> Result<(), Fail> {
     assert_eq!(rt; program.name(), Name { from: 8, to: 9 });
     assert_eq!(rt; program.lines().len(), 1);
     assert_eq!(rt; program.lines()[0].at, 13);
-    assert_eq!(rt; program.declarations().len(), 1);
-    let declaration = &program.declarations()[0];
-    assert_eq!(rt; declaration.names(), [lamp].as_slice());
-    assert_eq!(rt; declaration.specification(), Specification::Bool);
-    assert_eq!(rt; declaration.initial(), Some(Constant::Bool(true)));
+    let [first, second] = program.declarations() else {
+        panic!(rt; "variables and block instances");
+    };
+    assert_eq!(rt; first.names(), [lamp].as_slice());
+    assert_eq!(rt; first.declared(), variables);
+    assert_eq!(rt; second.names(), [delay].as_slice());
+    assert_eq!(rt; second.declared(), blocks);
     Ok(())
 }

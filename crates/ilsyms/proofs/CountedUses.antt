@@ -7,7 +7,7 @@ use Rattle.std.proofs.lemmas.Bool.Decides.{nat_tests}
 use Rattle.std.proofs.lemmas.List.{append-nil}
 use Rattle.iltypes.specs.declared.value.Value.{Value}
 use Rattle.iltrees.specs.declared.uses.Use.{Use}
-use Rattle.ilsource.specs.declared.name.Name.{Name}
+use Rattle.ilsource.specs.declared.symbol.Symbol.{Symbol}
 use Rattle.limits.specs.Limits.{most_constants}
 use Rattle.ilplan.specs.Constants.{same_value, constant_in, constants_used, each_once, with_constant}
 use Rattle.ilplan.proofs.EachOnce.{each_once_more}
@@ -16,17 +16,17 @@ use Rattle.ilsyms.specs.CountingSteps.{AreCounted}
 use Rattle.ilsyms.proofs.Renamed.{used_append}
 
 -- how many different constants some uses have
-abbrev pub many : List (Use Name) → ℕ
+abbrev pub many : List (Use Symbol) → ℕ
 many uses = length (each_once (constants_used uses))
 
 -- a name is no constant
-name_used : (us : List (Use Name)) (u : Use Name) → constant_in u.operand ≡ None
+name_used : (us : List (Use Symbol)) (u : Use Symbol) → constant_in u.operand ≡ None
     → each_once (constants_used (us ++ u ∷ [])) ≡ each_once (constants_used us)
 name_used us u e =
     ap each_once
     (used_append us (u ∷ []) ∙ ap (λ o. constants_used us ++ cons_option o []) e ∙ append-nil (constants_used us))
 
-constant_used : (us : List (Use Name)) (u : Use Name) (v : Value) → constant_in u.operand ≡ Some v
+constant_used : (us : List (Use Symbol)) (u : Use Symbol) (v : Value) → constant_in u.operand ≡ Some v
     → each_once (constants_used (us ++ u ∷ [])) ≡ with_constant (each_once (constants_used us)) v
 constant_used us u v e =
     ap each_once (used_append us (u ∷ []) ∙ ap (λ o. constants_used us ++ cons_option o []) e)
@@ -42,7 +42,7 @@ with_length known v = by (list_any (same_value v) known)
     by true = inl refl
     by false = inr (omega (arith, length-append known (v ∷ [])))
 
-more_used : (us : List (Use Name)) (u : Use Name)
+more_used : (us : List (Use Symbol)) (u : Use Symbol)
     → (many us ≤ many (us ++ u ∷ [])) × (many (us ++ u ∷ []) ≤ many us + 1)
 more_used us u = by (constant_in u.operand) refl
   where
@@ -62,7 +62,7 @@ more_used us u = by (constant_in u.operand) refl
         one v (ap (λ (vs : List Value). length vs) (constant_used us u v e))
         (with_length (each_once (constants_used us)) v)
 
-pub not_fewer : (us vs : List (Use Name)) → many us ≤ many (us ++ vs)
+pub not_fewer : (us vs : List (Use Symbol)) → many us ≤ many (us ++ vs)
 not_fewer us [] = let e = ap many (append-nil us) in omega (arith, e)
 not_fewer us (v ∷ vs) =
     let e = ap many (append_assoc us (v ∷ []) vs) in
@@ -95,7 +95,7 @@ last_or_before (x ∷ us) u (b ∷ before) after last e =
     under x b h (inr e) = inr (e.0, (λ i. h i ∷ e.1 i))
 
 -- what makes too many of some uses does so of more
-still_too_many : (us : List (Use Name)) (u : Use Name) (place : ℕ) → MakesTooManyConstants us place
+still_too_many : (us : List (Use Symbol)) (u : Use Symbol) (place : ℕ) → MakesTooManyConstants us place
     → MakesTooManyConstants (us ++ u ∷ []) place
 still_too_many us u place m = record {
   before = m.before;
@@ -108,20 +108,20 @@ still_too_many us u place m = record {
 }
 
 -- the use at the place is the one more that makes too many
-abbrev IsLast : List (Use Name) → Use Name → ℕ → Type 0
+abbrev IsLast : List (Use Symbol) → Use Symbol → ℕ → Type 0
 IsLast us u place = (many us ≡ most_constants) × (many (us ++ u ∷ []) ≡ most_constants + 1) × (place ≡ u.at)
 
-too_many_of_more : (us : List (Use Name)) (u : Use Name) (place : ℕ) → MakesTooManyConstants (us ++ u ∷ []) place
+too_many_of_more : (us : List (Use Symbol)) (u : Use Symbol) (place : ℕ) → MakesTooManyConstants (us ++ u ∷ []) place
     → MakesTooManyConstants us place ⊎ IsLast us u place
 too_many_of_more us u place m = by (last_or_before us u m.before m.after m.last m.is)
   where
-    by : ((us ≡ m.before) × (u ≡ m.last)) ⊎ ((rest : List (Use Name)) × (us ≡ m.before ++ m.last ∷ rest))
+    by : ((us ≡ m.before) × (u ≡ m.last)) ⊎ ((rest : List (Use Symbol)) × (us ≡ m.before ++ m.last ∷ rest))
         → MakesTooManyConstants us place ⊎ IsLast us u place
     by (inl e) =
         inr (
           ap many e.0 ∙ m.full,
           ap many (λ i. e.0 i ++ e.1 i ∷ []) ∙ m.more,
-          m.stands ∙ ap (λ (v : Use Name). v.at) (sym e.1),
+          m.stands ∙ ap (λ (v : Use Symbol). v.at) (sym e.1),
         )
     by (inr e) = inl (record {
       before = m.before;
@@ -134,7 +134,7 @@ too_many_of_more us u place m = by (last_or_before us u m.before m.after m.last 
     })
 
 -- more than the limit
-too_many_are_more : (us : List (Use Name)) (place : ℕ) → MakesTooManyConstants us place → most_constants + 1 ≤ many us
+too_many_are_more : (us : List (Use Symbol)) (place : ℕ) → MakesTooManyConstants us place → most_constants + 1 ≤ many us
 too_many_are_more us place m =
     let e = ap many (m.is ∙ sym (append_assoc m.before (m.last ∷ []) m.after)) in
     let more = not_fewer (m.before ++ m.last ∷ []) m.after in
@@ -147,7 +147,7 @@ none_counted = record {
   too_many = λ place. ((λ e. absurd cc), (λ m. absurd (nothing_there m.before m.after m.last m.is)));
 }
 
-module _ (us : List (Use Name)) (known more : List Value) (excess : Option ℕ) (u : Use Name)
+module _ (us : List (Use Symbol)) (known more : List Value) (excess : Option ℕ) (u : Use Symbol)
     (c : AreCounted us known excess) (e : more ≡ each_once (constants_used (us ++ u ∷ []))) where
   last_counted : many us ≡ most_constants → many (us ++ u ∷ []) ≡ most_constants + 1
       → AreCounted (us ++ u ∷ []) more (Some u.at)
@@ -189,7 +189,7 @@ module _ (us : List (Use Name)) (known more : List Value) (excess : Option ℕ) 
       there place (inr l) = absurd (not_last (l.0, l.1))
 
 -- a use of a name
-pub name_counted : (us : List (Use Name)) (known : List Value) (excess : Option ℕ) (u : Use Name)
+pub name_counted : (us : List (Use Symbol)) (known : List Value) (excess : Option ℕ) (u : Use Symbol)
     → AreCounted us known excess → constant_in u.operand ≡ None → AreCounted (us ++ u ∷ []) known excess
 name_counted us known excess u c e =
     let same = name_used us u e in
@@ -197,7 +197,7 @@ name_counted us known excess u c e =
     (λ l. let f = l.0 in let m = l.1 in let n = ap (λ (vs : List Value). length vs) same in omega (arith, f, m, n))
 
 -- a use of a constant: the one that makes too many, and any other
-module _ (us : List (Use Name)) (known more : List Value) (excess : Option ℕ) (u : Use Name) (v : Value)
+module _ (us : List (Use Symbol)) (known more : List Value) (excess : Option ℕ) (u : Use Symbol) (v : Value)
     (c : AreCounted us known excess) (is : constant_in u.operand ≡ Some v) (e : more ≡ with_constant known v) where
   same : more ≡ each_once (constants_used (us ++ u ∷ []))
   same = e ∙ ap (λ known. with_constant known v) c.different ∙ sym (constant_used us u v is)
@@ -219,7 +219,7 @@ module _ (us : List (Use Name)) (known more : List Value) (excess : Option ℕ) 
       (λ l. let f = l.0 in let g = l.1 in not_last (omega (arith, n, f), omega (arith, n, m, f, g)))
 
 -- where none makes too many there are at most as many as the limit
-few_of_more : (front back : List (Use Name)) → ((place : ℕ) → ¬ MakesTooManyConstants (front ++ back) place)
+few_of_more : (front back : List (Use Symbol)) → ((place : ℕ) → ¬ MakesTooManyConstants (front ++ back) place)
     → many front ≤ most_constants → many (front ++ back) ≤ most_constants
 few_of_more front [] none few = let e = ap many (append-nil front) in omega (arith, e, few)
 few_of_more front (u ∷ back) none few =
@@ -244,6 +244,6 @@ few_of_more front (u ∷ back) none few =
           stands = refl;
         }))
 
-pub few_constants : (us : List (Use Name)) → ((place : ℕ) → ¬ MakesTooManyConstants us place)
+pub few_constants : (us : List (Use Symbol)) → ((place : ℕ) → ¬ MakesTooManyConstants us place)
     → length (each_once (constants_used us)) ≤ most_constants
 few_constants us none = few_of_more [] us none (omega arith)

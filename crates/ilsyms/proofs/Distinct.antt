@@ -11,7 +11,7 @@ use Rattle.ilscope.specs.Declarations.{DeclaredProgram, declared_program, declar
 use Rattle.ilscope.specs.Faults.{SomeOf, IsTwiceIn, IsTwice}
 use Rattle.ilsyms.specs.Meaning.{same_name}
 use Rattle.ilsyms.proofs.Labels.{either, alike, same_as}
-use Rattle.ilsyms.proofs.Numbers.{AreOthers}
+use Rattle.ilsyms.proofs.ProgramNumbers.{AreOthers}
 
 abbrev pub AreApart : List ℕ → List DeclaredProgram → Type 0
 AreApart text [] = ⊤

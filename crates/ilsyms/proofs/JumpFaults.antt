@@ -6,6 +6,7 @@ use Rattle.std.specs.Map.{lookup}
 use Rattle.std.proofs.lemmas.List.{length-take-le}
 use Rattle.iltrees.specs.declared.instruction.Line.{Line}
 use Rattle.ilsource.specs.declared.name.Name.{Name}
+use Rattle.ilsource.specs.declared.symbol.Symbol.{Symbol}
 use Rattle.ilsource.specs.Names.{folded, SameName}
 use Rattle.ilscope.specs.Faults.{SomeOf, IsLeastOf, IsTwiceIn}
 use Rattle.ilscope.specs.Kept.{Kept}
@@ -14,7 +15,7 @@ use Rattle.ilscope.specs.ScopeSteps.{OfCause}
 use Rattle.ilscope.specs.Tables.{first_at}
 use Rattle.ilscope.specs.declared.fault.NameCause.{NameCause}
 use Rattle.ilscope.specs.declared.fault.NameCause.TheVariants.{Unknown, Twice, UnknownLabel, BackwardJump}
-use Rattle.ilscope.specs.declared.fault.NameCause.TheVariants.{TooMany, BadDeclaration}
+use Rattle.ilscope.specs.declared.fault.NameCause.TheVariants.{WritesInput, TooMany, BadDeclaration}
 use Rattle.ilscope.specs.declared.found.Found.{Found}
 use Rattle.ilscope.proofs.Gathered.{best_same, or_else}
 use Rattle.ilscope.proofs.Least.{both_least, got_at, got_below}
@@ -113,133 +114,136 @@ to_nowhere : (o : Option ℕ) (n : ℕ) → (is_some o ≡ true → ⊥) → IsC
 to_nowhere None n h = refl
 to_nowhere (Some first) n h = absurd (h refl)
 
-module _ (text : List ℕ) (kept : Kept ℕ) (lines : List (Line Name Name)) (numbered : AreNumbered text lines kept) where
-  abbrev IsCause : ℕ → NameCause → Name → Type 0
-  IsCause n cause label = IsCauseOfJump (lookup (bytes_eq (folded text label)) kept) n cause
+module _ (text : List ℕ) (kept : Kept ℕ) (lines : List (Line Symbol Name)) (numbered : AreNumbered text lines kept)
+  where
+    abbrev IsCause : ℕ → NameCause → Name → Type 0
+    IsCause n cause label = IsCauseOfJump (lookup (bytes_eq (folded text label)) kept) n cause
 
-  leads_nowhere : (n : ℕ) (label : Name) → IsCause n UnknownLabel label
-      → ¬ SomeOf (SameName text label) (labels_of lines)
-  leads_nowhere n label c s =
-      nowhere (first_at (has text label) lines) n
-      (subst (λ (o : Option ℕ). IsCauseOfJump o n UnknownLabel) (numbered label) c) (label_found text lines label s)
+    leads_nowhere : (n : ℕ) (label : Name) → IsCause n UnknownLabel label
+        → ¬ SomeOf (SameName text label) (labels_of lines)
+    leads_nowhere n label c s =
+        nowhere (first_at (has text label) lines) n
+        (subst (λ (o : Option ℕ). IsCauseOfJump o n UnknownLabel) (numbered label) c) (label_found text lines label s)
 
-  unknown_then : (n : ℕ) (label : Name) → (¬ SomeOf (SameName text label) (labels_of lines))
-      → IsCause n UnknownLabel label
-  unknown_then n label h =
-      subst (λ (o : Option ℕ). IsCauseOfJump o n UnknownLabel) (sym (numbered label))
-      (to_nowhere (first_at (has text label) lines) n (λ s. h (label_among text lines label s)))
+    unknown_then : (n : ℕ) (label : Name) → (¬ SomeOf (SameName text label) (labels_of lines))
+        → IsCause n UnknownLabel label
+    unknown_then n label h =
+        subst (λ (o : Option ℕ). IsCauseOfJump o n UnknownLabel) (sym (numbered label))
+        (to_nowhere (first_at (has text label) lines) n (λ s. h (label_among text lines label s)))
 
-  module _ (front back : List (Line Name Name)) (line : Line Name Name) (is : lines ≡ front ++ line ∷ back) where
-    abbrev upto : List (Line Name Name)
-    upto = front ++ line ∷ []
+    module _ (front back : List (Line Symbol Name)) (line : Line Symbol Name) (is : lines ≡ front ++ line ∷ back) where
+      abbrev upto : List (Line Symbol Name)
+      upto = front ++ line ∷ []
 
-    parts : lines ≡ upto ++ back
-    parts = is ∙ sym (append_assoc front (line ∷ []) back)
+      parts : lines ≡ upto ++ back
+      parts = is ∙ sym (append_assoc front (line ∷ []) back)
 
-    many : length upto ≡ length front + 1
-    many = length-append front (line ∷ [])
+      many : length upto ≡ length front + 1
+      many = length-append front (line ∷ [])
 
-    leads_back : (label : Name) → IsCause (length front) BackwardJump label
-        → SomeOf (SameName text label) (labels_of upto)
-    leads_back label c =
-        by (first_at (has text label) lines) refl
-        (subst (λ (o : Option ℕ). IsCauseOfJump o (length front) BackwardJump) (numbered label) c)
-      where
-        by : (o : Option ℕ) → first_at (has text label) lines ≡ o → IsCauseOfJump o (length front) BackwardJump
-            → SomeOf (SameName text label) (labels_of upto)
-        by None e c = absurd cc
-        by (Some first) e c =
-            let here = ap (λ (ls : List (Line Name Name)). first_at (has text label) ls) (sym parts) ∙ e in
-            let low = c.0 in
-            let size = many in
-            label_among text upto label
-            (first_front (has text label) upto back first here (omega (arith, low, size)))
+      leads_back : (label : Name) → IsCause (length front) BackwardJump label
+          → SomeOf (SameName text label) (labels_of upto)
+      leads_back label c =
+          by (first_at (has text label) lines) refl
+          (subst (λ (o : Option ℕ). IsCauseOfJump o (length front) BackwardJump) (numbered label) c)
+        where
+          by : (o : Option ℕ) → first_at (has text label) lines ≡ o → IsCauseOfJump o (length front) BackwardJump
+              → SomeOf (SameName text label) (labels_of upto)
+          by None e c = absurd cc
+          by (Some first) e c =
+              let here = ap (λ (ls : List (Line Symbol Name)). first_at (has text label) ls) (sym parts) ∙ e in
+              let low = c.0 in
+              let size = many in
+              label_among text upto label
+              (first_front (has text label) upto back first here (omega (arith, low, size)))
 
-    back_then : (label : Name) → SomeOf (SameName text label) (labels_of upto)
-        → IsCause (length front) BackwardJump label
-    back_then label s =
-        let first = front_first (has text label) upto back (label_found text upto label s) in
-        let there : lookup (bytes_eq (folded text label)) kept ≡ Some first.0 =
-        numbered label ∙ ap (λ (ls : List (Line Name Name)). first_at (has text label) ls) parts ∙ first.1
-        in
-        let low = first.2 in
-        let size = many in
-        subst (λ (o : Option ℕ). IsCauseOfJump o (length front) BackwardJump) (sym there)
-        (omega (arith, low, size), refl)
+      back_then : (label : Name) → SomeOf (SameName text label) (labels_of upto)
+          → IsCause (length front) BackwardJump label
+      back_then label s =
+          let first = front_first (has text label) upto back (label_found text upto label s) in
+          let there : lookup (bytes_eq (folded text label)) kept ≡ Some first.0 =
+          numbered label ∙ ap (λ (ls : List (Line Symbol Name)). first_at (has text label) ls) parts ∙ first.1
+          in
+          let low = first.2 in
+          let size = many in
+          subst (λ (o : Option ℕ). IsCauseOfJump o (length front) BackwardJump) (sym there)
+          (omega (arith, low, size), refl)
 
-  module _ (bound : ℕ) (whole : length lines ≤ bound) (place : ℕ) where
-    none_else : (cause : NameCause) → ¬ (cause ≡ UnknownLabel) → ¬ (cause ≡ BackwardJump)
-        → IsFaultBefore text kept lines bound place cause → ⊥
-    none_else cause h g f =
-        jumps_never place (target_of f.line.instruction)
-        (λ label c. only_two (lookup (bytes_eq (folded text label)) kept) f.number cause h g c) f.fault
+    module _ (bound : ℕ) (whole : length lines ≤ bound) (place : ℕ) where
+      none_else : (cause : NameCause) → ¬ (cause ≡ UnknownLabel) → ¬ (cause ≡ BackwardJump)
+          → IsFaultBefore text kept lines bound place cause → ⊥
+      none_else cause h g f =
+          jumps_never place (target_of f.line.instruction)
+          (λ label c. only_two (lookup (bytes_eq (folded text label)) kept) f.number cause h g c) f.fault
 
-    to_faults : (cause : NameCause) → IsFaultBefore text kept lines bound place cause
-        → IsFaultOfJumps text lines place cause
-    to_faults UnknownLabel f =
-        at_some
-        (λ one. JumpsTo (λ label. ¬ SomeOf (SameName text label) (labels_of lines)) place one.instruction) lines
-        f.number f.line f.is
-        (jumps_map place (target_of f.line.instruction) (λ label c. leads_nowhere f.number label c) f.fault)
-    to_faults BackwardJump f =
-        let parted = split_at lines f.number f.line f.is in
-        let below = got_below lines f.number f.line f.is in
-        let size : length (take f.number lines) ≡ f.number = length-take-le f.number lines (omega (arith, below)) in
-        record {
-          before = take f.number lines;
-          line = f.line;
-          after = drop (suc f.number) lines;
-          is = parted;
-          jumps =
-              jumps_map place (target_of f.line.instruction)
-              (λ label c. leads_back (take f.number lines) (drop (suc f.number) lines) f.line parted label
-              (subst (λ (n : ℕ). IsCause n BackwardJump label) (sym size) c)) f.fault;
-        }
-    to_faults Unknown f = none_else Unknown (λ e. cc) (λ e. cc) f
-    to_faults Twice f = none_else Twice (λ e. cc) (λ e. cc) f
-    to_faults TooMany f = none_else TooMany (λ e. cc) (λ e. cc) f
-    to_faults BadDeclaration f = none_else BadDeclaration (λ e. cc) (λ e. cc) f
+      to_faults : (cause : NameCause) → IsFaultBefore text kept lines bound place cause
+          → IsFaultOfJumps text lines place cause
+      to_faults UnknownLabel f =
+          at_some
+          (λ one. JumpsTo (λ label. ¬ SomeOf (SameName text label) (labels_of lines)) place one.instruction) lines
+          f.number f.line f.is
+          (jumps_map place (target_of f.line.instruction) (λ label c. leads_nowhere f.number label c) f.fault)
+      to_faults BackwardJump f =
+          let parted = split_at lines f.number f.line f.is in
+          let below = got_below lines f.number f.line f.is in
+          let size : length (take f.number lines) ≡ f.number = length-take-le f.number lines (omega (arith, below)) in
+          record {
+            before = take f.number lines;
+            line = f.line;
+            after = drop (suc f.number) lines;
+            is = parted;
+            jumps =
+                jumps_map place (target_of f.line.instruction)
+                (λ label c. leads_back (take f.number lines) (drop (suc f.number) lines) f.line parted label
+                (subst (λ (n : ℕ). IsCause n BackwardJump label) (sym size) c)) f.fault;
+          }
+      to_faults Unknown f = none_else Unknown (λ e. cc) (λ e. cc) f
+      to_faults Twice f = none_else Twice (λ e. cc) (λ e. cc) f
+      to_faults WritesInput f = none_else WritesInput (λ e. cc) (λ e. cc) f
+      to_faults TooMany f = none_else TooMany (λ e. cc) (λ e. cc) f
+      to_faults BadDeclaration f = none_else BadDeclaration (λ e. cc) (λ e. cc) f
 
-    from_faults : (cause : NameCause) → IsFaultOfJumps text lines place cause
-        → IsFaultBefore text kept lines bound place cause
-    from_faults UnknownLabel s =
-        let at = some_at
-        (λ one. JumpsTo (λ label. ¬ SomeOf (SameName text label) (labels_of lines)) place one.instruction) lines s in
-        let below = got_below lines at.0 at.1 at.2 in
-        record {
-          number = at.0;
-          line = at.1;
-          below = omega (arith, below, whole);
-          is = at.2;
-          fault = jumps_map place (target_of at.1.instruction) (λ label h. unknown_then at.0 label h) at.3;
-        }
-    from_faults BackwardJump b =
-        let here : slice_get lines (length b.before) ≡ Some b.line =
-        ap (λ (ls : List (Line Name Name)). slice_get ls (length b.before)) b.is ∙ got_past b.before b.after b.line in
-        let below = got_below lines (length b.before) b.line here in
-        record {
-          number = length b.before;
-          line = b.line;
-          below = omega (arith, below, whole);
-          is = here;
-          fault =
-              jumps_map place (target_of b.line.instruction)
-              (λ label s. back_then b.before b.after b.line b.is label s) b.jumps;
-        }
-    from_faults Unknown s = absurd s
-    from_faults Twice s = absurd s
-    from_faults TooMany s = absurd s
-    from_faults BadDeclaration s = absurd s
+      from_faults : (cause : NameCause) → IsFaultOfJumps text lines place cause
+          → IsFaultBefore text kept lines bound place cause
+      from_faults UnknownLabel s =
+          let at = some_at
+          (λ one. JumpsTo (λ label. ¬ SomeOf (SameName text label) (labels_of lines)) place one.instruction) lines s in
+          let below = got_below lines at.0 at.1 at.2 in
+          record {
+            number = at.0;
+            line = at.1;
+            below = omega (arith, below, whole);
+            is = at.2;
+            fault = jumps_map place (target_of at.1.instruction) (λ label h. unknown_then at.0 label h) at.3;
+          }
+      from_faults BackwardJump b =
+          let here : slice_get lines (length b.before) ≡ Some b.line =
+          ap (λ (ls : List (Line Symbol Name)). slice_get ls (length b.before)) b.is ∙ got_past b.before b.after b.line in
+          let below = got_below lines (length b.before) b.line here in
+          record {
+            number = length b.before;
+            line = b.line;
+            below = omega (arith, below, whole);
+            is = here;
+            fault =
+                jumps_map place (target_of b.line.instruction)
+                (λ label s. back_then b.before b.after b.line b.is label s) b.jumps;
+          }
+      from_faults Unknown s = absurd s
+      from_faults Twice s = absurd s
+      from_faults WritesInput s = absurd s
+      from_faults TooMany s = absurd s
+      from_faults BadDeclaration s = absurd s
 
-  -- the least fault of all lines is that of jumps
-  pub all_jumps : (bound : ℕ) → length lines ≤ bound → (o : Option Found)
-      → IsLeastOf (IsFaultBefore text kept lines bound) o → IsLeastOf (IsFaultOfJumps text lines) o
-  all_jumps bound whole o h =
-      best_same (IsFaultBefore text kept lines bound) (IsFaultOfJumps text lines) o
-      (λ place cause f. to_faults bound whole place cause f) (λ place cause s. from_faults bound whole place cause s) h
+    -- the least fault of all lines is that of jumps
+    pub all_jumps : (bound : ℕ) → length lines ≤ bound → (o : Option Found)
+        → IsLeastOf (IsFaultBefore text kept lines bound) o → IsLeastOf (IsFaultOfJumps text lines) o
+    all_jumps bound whole o h =
+        best_same (IsFaultBefore text kept lines bound) (IsFaultOfJumps text lines) o
+        (λ place cause f. to_faults bound whole place cause f) (λ place cause s. from_faults bound whole place cause s) h
 
 -- with one line more
-pub jumps_more : (text : List ℕ) (kept : Kept ℕ) (lines : List (Line Name Name)) (n : ℕ) (line : Line Name Name)
+pub jumps_more : (text : List ℕ) (kept : Kept ℕ) (lines : List (Line Symbol Name)) (n : ℕ) (line : Line Symbol Name)
     → n < length lines → line ≡ get_or lines n line → (a b : Option Found)
     → IsLeastOf (IsFaultBefore text kept lines n) a → IsLeastOf (IsFaultOfJump text kept n line.instruction) b
     → IsLeastOf (IsFaultBefore text kept lines (n + 1)) (lesser_of_two a b)
@@ -268,15 +272,15 @@ jumps_more text kept lines n line below is a b h k =
         let found : slice_get lines n ≡ Some f.line = ap (λ (m : ℕ). slice_get lines m) (sym e) ∙ f.is in
         let both : Some f.line ≡ Some line = sym found ∙ here in
         let same : f.line ≡ line = cc in
-        subst (λ (one : Line Name Name). IsFaultOfJump text kept n one.instruction place cause) same
+        subst (λ (one : Line Symbol Name). IsFaultOfJump text kept n one.instruction place cause) same
         (subst (λ (m : ℕ). IsFaultOfJump text kept m f.line.instruction place cause) e f.fault)
 
-pub no_jump_before : (text : List ℕ) (kept : Kept ℕ) (lines : List (Line Name Name))
+pub no_jump_before : (text : List ℕ) (kept : Kept ℕ) (lines : List (Line Symbol Name))
     → IsLeastOf (IsFaultBefore text kept lines 0) None
 no_jump_before text kept lines place cause f = let below = f.below in absurd (omega (arith, below))
 
 -- the faults of labels of a program are those of labels that are given again, and of jumps
-pub labels_of_program : (text : List ℕ) (lines : List (Line Name Name)) (a b : Option Found)
+pub labels_of_program : (text : List ℕ) (lines : List (Line Symbol Name)) (a b : Option Found)
     → IsLeastOf (OfCause Twice (IsTwiceIn (folded text) (labels_of lines))) a → IsLeastOf (IsFaultOfJumps text lines) b
     → IsLeastOf (IsFaultOfLabels text lines) (lesser_of_two a b)
 labels_of_program text lines a b h k =
@@ -292,6 +296,7 @@ labels_of_program text lines a b h k =
     into place Twice s = absurd s
     into place UnknownLabel s = s
     into place BackwardJump s = s
+    into place WritesInput s = s
     into place TooMany s = s
     into place BadDeclaration s = s
 
@@ -301,5 +306,6 @@ labels_of_program text lines a b h k =
     from place Twice s = inl (refl, s)
     from place UnknownLabel s = inr s
     from place BackwardJump s = inr s
+    from place WritesInput s = inr s
     from place TooMany s = inr s
     from place BadDeclaration s = inr s

@@ -11,6 +11,7 @@ use Rattle.std.proofs.lemmas.List.Recursion.{is_position_or_len}
 use Rattle.iltrees.specs.declared.instruction.Line.{Line}
 use Rattle.iltrees.specs.Passes.{has_label}
 use Rattle.ilsource.specs.declared.name.Name.{Name}
+use Rattle.ilsource.specs.declared.symbol.Symbol.{Symbol}
 use Rattle.ilsource.specs.Names.{folded, SameName}
 use Rattle.ilscope.specs.Faults.{SomeOf, IsLeastOf, IsTwiceIn}
 use Rattle.ilscope.specs.Kept.{Kept}
@@ -28,7 +29,7 @@ use Rattle.ilsyms.specs.LabelSteps.{AreNumbered, IsKeptLabel, with_label}
 use Rattle.ilsyms.specs.Meaning.{same_name}
 use Rattle.ilsyms.specs.Resolved.{label_number}
 
-abbrev pub has : List ℕ → Name → Line Name Name → Bool
+abbrev pub has : List ℕ → Name → Line Symbol Name → Bool
 has text label line = has_label (same_name text) label line.label
 
 or_none : {X : Type 0} (o : Option X) → o ≡ option_or o None
@@ -37,18 +38,18 @@ or_none (Some x) = refl
 
 -- ---- one line more
 
-looked_up : (text : List ℕ) (kept : Kept ℕ) (o : Option Name) (number : ℕ) (l : Name)
+pub looked_up : (text : List ℕ) (kept : Kept ℕ) (o : Option Name) (number : ℕ) (l : Name)
     → lookup (bytes_eq (folded text l)) (with_label text kept o number)
     ≡ option_or (lookup (bytes_eq (folded text l)) kept) (if has_label (same_name text) l o then Some number else None)
 looked_up text kept None number l = or_none (lookup (bytes_eq (folded text l)) kept)
 looked_up text kept (Some m) number l = lookup-with_new kept (folded text m) (folded text l) number
 
-module _ (text : List ℕ) (lines : List (Line Name Name)) (i : ℕ) (line : Line Name Name) (below : i < length lines)
+module _ (text : List ℕ) (lines : List (Line Symbol Name)) (i : ℕ) (line : Line Symbol Name) (below : i < length lines)
     (is : line ≡ get_or lines i line) where
   pub numbered_more : (kept new : Kept ℕ) → new ≡ with_label text kept line.label i
       → AreNumbered text (take i lines) kept → AreNumbered text (take (i + 1) lines) new
   numbered_more kept new e h label =
-      let front : List (Line Name Name) = take i lines in
+      let front : List (Line Symbol Name) = take i lines in
       let short : length front ≡ i = length-take-le i lines (omega (arith, below)) in
       ap (λ (k : Kept ℕ). lookup (bytes_eq (folded text label)) k) e
       ∙ looked_up text kept line.label i label
@@ -56,7 +57,7 @@ module _ (text : List ℕ) (lines : List (Line Name Name)) (i : ℕ) (line : Lin
       ∙ ap (λ (n : ℕ). option_or (first_at (has text label) front) (if has text label line then Some n else None))
       (sym short)
       ∙ sym (first_at-last (has text label) front line)
-      ∙ ap (λ (ls : List (Line Name Name)). first_at (has text label) ls) (sym (take_more lines i line below is))
+      ∙ ap (λ (ls : List (Line Symbol Name)). first_at (has text label) ls) (sym (take_more lines i line below is))
 
 -- ---- what is found
 
@@ -71,7 +72,7 @@ same_test false k j e = some_suc k ∙ e ∙ sym (some_suc j)
 
 module _ (text : List ℕ) where
   -- some line has the label where it is among the labels
-  among_lines : (lines : List (Line Name Name)) (x : Name)
+  among_lines : (lines : List (Line Symbol Name)) (x : Name)
       → is_some (first_at (has text x) lines)
       ≡ is_some (first_at (bytes_eq (folded text x)) (map (folded text) (labels_of lines)))
   among_lines [] x = refl
@@ -84,13 +85,13 @@ module _ (text : List ℕ) where
       step None k ns e = some_suc k ∙ e
       step (Some m) k ns e = same_test (bytes_eq (folded text x) (folded text m)) k _ e
 
-  pub label_among : (lines : List (Line Name Name)) (x : Name) → is_some (first_at (has text x) lines) ≡ true
+  pub label_among : (lines : List (Line Symbol Name)) (x : Name) → is_some (first_at (has text x) lines) ≡ true
       → SomeOf (SameName text x) (labels_of lines)
   label_among lines x s =
       some_of (λ m e. sym e) (labels_of lines)
       (found_some (folded text) (labels_of lines) (folded text x) (sym (among_lines lines x) ∙ s))
 
-  pub label_found : (lines : List (Line Name Name)) (x : Name) → SomeOf (SameName text x) (labels_of lines)
+  pub label_found : (lines : List (Line Symbol Name)) (x : Name) → SomeOf (SameName text x) (labels_of lines)
       → is_some (first_at (has text x) lines) ≡ true
   label_found lines x s =
       among_lines lines x
@@ -98,10 +99,9 @@ module _ (text : List ℕ) where
 
 -- ---- labels that are given again
 
-module _ (text : List ℕ) (lines : List (Line Name Name)) (i : ℕ) (line : Line Name Name) (below : i < length lines)
-    (is : line ≡ get_or lines i line) where
-  -- with the labels before, and one line more
-  again : (front : List Name) (kept : Kept ℕ) (a b : Option Found)
+module _ (text : List ℕ) where
+  -- with the names before, and one more where there is one
+  pub again : (front : List Name) (kept : Kept ℕ) (a b : Option Found)
       → ((x : Name) → is_some (lookup (bytes_eq (folded text x)) kept)
       ≡ is_some (first_at (bytes_eq (folded text x)) (map (folded text) front)))
       → (o : Option Name)
@@ -121,16 +121,18 @@ module _ (text : List ℕ) (lines : List (Line Name Name)) (i : ℕ) (line : Lin
       (λ s. known m ∙ some_found (folded text) front (folded text m) s)
       h k
 
+module _ (text : List ℕ) (lines : List (Line Symbol Name)) (i : ℕ) (line : Line Symbol Name) (below : i < length lines)
+    (is : line ≡ get_or lines i line) where
   pub labels_twice_more : (kept : Kept ℕ) (a b : Option Found) → AreNumbered text (take i lines) kept
       → IsLeastOf (OfCause Twice (IsTwiceIn (folded text) (labels_of (take i lines)))) a
       → IsLeastOf (OfCause Twice (IsKeptLabel text kept line.label)) b
       → IsLeastOf (OfCause Twice (IsTwiceIn (folded text) (labels_of (take (i + 1) lines)))) (lesser_of_two a b)
   labels_twice_more kept a b n h k =
-      let front : List (Line Name Name) = take i lines in
+      let front : List (Line Symbol Name) = take i lines in
       subst (λ (ns : List Name). IsLeastOf (OfCause Twice (IsTwiceIn (folded text) ns)) (lesser_of_two a b))
       (sym (ap labels_of (take_more lines i line below is)
-      ∙ filter_map-append (λ (one : Line Name Name). one.label) front (line ∷ [])))
-      (again (labels_of front) kept a b (λ x. ap is_some (n x) ∙ among_lines text front x) line.label h k)
+      ∙ filter_map-append (λ (one : Line Symbol Name). one.label) front (line ∷ [])))
+      (again text (labels_of front) kept a b (λ x. ap is_some (n x) ∙ among_lines text front x) line.label h k)
 
 -- ---- the number of a label
 
@@ -147,7 +149,7 @@ first_or_end {X} test xs =
     more false (Some k) n = omega arith
 
 -- what is kept under a label is its number
-pub label_is_number : (text : List ℕ) (lines : List (Line Name Name)) (kept : Kept ℕ) → AreNumbered text lines kept
+pub label_is_number : (text : List ℕ) (lines : List (Line Symbol Name)) (kept : Kept ℕ) → AreNumbered text lines kept
     → (label : Name)
     → unwrap_or (lookup (bytes_eq (folded text label)) kept) (length lines) ≡ label_number text lines label
 label_is_number text lines kept h label =

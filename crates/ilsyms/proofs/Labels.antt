@@ -10,6 +10,7 @@ use Rattle.iltrees.specs.declared.instruction.Line.{Line}
 use Rattle.iltrees.specs.Passes.{has_label}
 use Rattle.iltrees.specs.Renaming.{IsKept, AreKept}
 use Rattle.ilsource.specs.declared.name.Name.{Name}
+use Rattle.ilsource.specs.declared.symbol.Symbol.{Symbol}
 use Rattle.ilsource.specs.Names.{folded}
 use Rattle.ilplan.specs.PlanMeaning.{number_same}
 use Rattle.ilsyms.specs.Meaning.{same_name}
@@ -50,8 +51,8 @@ module _ (text : List ℕ) where
   agree l m e None = refl
   agree l m e (Some k) = ap (λ word. bytes_eq word (folded text k)) e
 
-  module _ (all : List (Line Name Name)) where
-    abbrev has : Name → Line Name Name → Bool
+  module _ (all : List (Line Symbol Name)) where
+    abbrev has : Name → Line Symbol Name → Bool
     has l line = has_label (same_name text) l line.label
 
     one_number : (l m : Name) → folded text l ≡ folded text m → label_number text all l ≡ label_number text all m
@@ -61,7 +62,7 @@ module _ (text : List ℕ) where
     other_number : (l m : Name) → list_any (has m) all ≡ true → label_number text all l ≡ label_number text all m
         → same_name text l m ≡ true
     other_number l m has_m e =
-        let line : Line Name Name = record { at = 0; label = None; instruction = None } in
+        let line : Line Symbol Name = record { at = 0; label = None; instruction = None } in
         let below : label_number text all m < length all = any_found (has m) all has_m in
         let there : has m (get_or all (label_number text all m) line) ≡ true = passes_at_first (has m) all line below in
         let here : has l (get_or all (label_number text all l) line) ≡ true =
@@ -82,7 +83,7 @@ module _ (text : List ℕ) where
     kept_label None among = tt
     kept_label (Some m) among = λ l. number_kept m (among m refl) l
 
-    kept_lines : (lines : List (Line Name Name))
+    kept_lines : (lines : List (Line Symbol Name))
         → ((m : Name) → list_any (has m) lines ≡ true → list_any (has m) all ≡ true)
         → AreKept (same_name text) number_same (label_number text all) lines
     kept_lines [] among = tt
@@ -97,6 +98,6 @@ module _ (text : List ℕ) where
         later m e = rw e (or_true (has m line))
 
 -- among the lines each label has a number of its own
-pub labels_kept : (text : List ℕ) (lines : List (Line Name Name))
+pub labels_kept : (text : List ℕ) (lines : List (Line Symbol Name))
     → AreKept (same_name text) number_same (label_number text lines) lines
 labels_kept text lines = kept_lines text lines lines (λ m e. e)

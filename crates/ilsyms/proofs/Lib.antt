@@ -1,4 +1,6 @@
-pub mod CallingNothing
+pub mod GivenPorts
+pub mod PortNumbers
+pub mod ProgramNumbers
 pub mod CountedUses
 pub mod Distinct
 pub mod JumpFaults

@@ -1,25 +1,18 @@
--- A name's number is the place of its variable in the store.
-use Rattle.std.proofs.Common.{◌≡◌, ℕ, suc, ◌+◌, ◌<◌, List, [], ◌∷◌, ◌++◌, map, length, Bool, true, false, cond, refl}
-use Rattle.std.proofs.Common.{ap, ◌∙◌, arith, length-append}
-use Rattle.std.specs.Prelude.{Option, Some, None, option_map, bytes_eq, ⊤}
+-- The place of what is made of one of the parts that stand one list after another: a part's own number, after those of
+-- the lists before.
+use Rattle.std.proofs.Common.{◌≡◌, ℕ, zero, suc, ◌+◌, ◌<◌, List, [], ◌∷◌, ◌++◌, map, length, Bool, true, false, refl}
+use Rattle.std.proofs.Common.{ap, sym, ◌∙◌, arith, length-append}
+use Rattle.std.specs.Prelude.{Option, Some, None, IfSome, option_map, option_and_then, slice_get, flat_map, ⊤}
+use Rattle.std.specs.Prelude.{if◌then◌else◌}
 use Rattle.std.specs.Option.{option_map_or}
 use Rattle.std.specs.List.{list_any, position_or_len}
 use Rattle.std.proofs.Math.ListN.{length-map}
 use Rattle.std.proofs.lemmas.Grind.{flat_map-append}
-use Rattle.ilsource.specs.declared.name.Name.{Name}
-use Rattle.ilsource.specs.Names.{folded}
-use Rattle.ilscope.specs.Declarations.{DeclaredProgram}
-use Rattle.ilscope.specs.Kept.{Kept}
-use Rattle.ilscope.specs.Tables.{variable_number}
-use Rattle.ilscope.specs.declared.variable.Variable.{Variable}
-use Rattle.ilplan.specs.declared.instance.Slot.{Slot}
-use Rattle.ilsyms.specs.Meaning.{same_name, is_under, place_in_store}
-use Rattle.ilsyms.specs.PlanningSteps.{Numbering, number_of}
-use Rattle.ilsyms.specs.Variables.{slot, slots_of_program, slots_of}
-use Rattle.ilsyms.proofs.Labels.{either, same_as}
+use Rattle.ilscope.specs.Tables.{first_at}
+use Rattle.ilsyms.proofs.Labels.{either}
 
 -- past elements that fail
-pub passed_over : {X : Type 0} (test : X → Bool) (xs ys : List X) → list_any test xs ≡ false
+passed_over : {X : Type 0} (test : X → Bool) (xs ys : List X) → list_any test xs ≡ false
     → position_or_len test (xs ++ ys) ≡ length xs + position_or_len test ys
 passed_over test [] ys e = omega arith
 passed_over test (x ∷ xs) ys e =
@@ -27,7 +20,7 @@ passed_over test (x ∷ xs) ys e =
     (λ t. absurd (let g : true ≡ false = rw t at e in cc))
     (λ f. rw f (let more = passed_over test xs ys (rw f at e) in omega (arith, more)))
 
-pub none_passes : {X : Type 0} (test : X → Bool) (xs : List X) → list_any test xs ≡ false
+none_passes : {X : Type 0} (test : X → Bool) (xs : List X) → list_any test xs ≡ false
     → position_or_len test xs ≡ length xs
 none_passes test [] e = refl
 none_passes test (x ∷ xs) e =
@@ -43,94 +36,140 @@ any_append test (x ∷ xs) ys e g =
     (λ t. absurd (let h : true ≡ false = rw t at e in cc))
     (λ f. rw f (any_append test xs ys (rw f at e) g))
 
--- the programs have other names
-abbrev pub AreOthers : List ℕ → Name → List DeclaredProgram → Type 0
-AreOthers text name [] = ⊤
-AreOthers text name (p ∷ ps) = (same_name text name p.program.name ≡ false) × AreOthers text name ps
-
-module _ (text : List ℕ) (instance name : Name) where
-  -- no slot of another instance is meant
-  other_slots : (p : DeclaredProgram) → same_name text instance p.program.name ≡ false
-      → (vs : List Variable) → list_any (is_under text instance name) (map (slot p.program.name) vs) ≡ false
-  other_slots p e [] = refl
-  other_slots p e (v ∷ vs) = rw e (other_slots p e vs)
-
-  others_slots : (ps : List DeclaredProgram) → AreOthers text instance ps
-      → list_any (is_under text instance name) (slots_of ps) ≡ false
-  others_slots [] o = refl
-  others_slots (p ∷ ps) o =
-      any_append (is_under text instance name) (slots_of_program p) (slots_of ps) (other_slots p o.0 p.variables)
-      (others_slots ps o.1)
-
-  -- a slot of the instance is meant where its variable is
-  own_slot : (v : Variable)
-      → is_under text instance name (slot instance v) ≡ bytes_eq (folded text name) (folded text v.name)
-  own_slot v = let e = same_as text instance instance refl in rw e refl
-
-  own_place : (vs : List Variable) (rest : List Slot)
-      → position_or_len (is_under text instance name) (map (slot instance) vs ++ rest)
-      ≡ option_map_or (λ k. k) (variable_number (folded text) vs name)
-      (length vs + position_or_len (is_under text instance name) rest)
-  own_place [] rest = omega arith
-  own_place (v ∷ vs) rest =
-      let same = own_slot v in
-      either (bytes_eq (folded text name) (folded text v.name))
-      (λ t. rw (same, t) refl)
-      (λ f. rw (same, f) (next (variable_number (folded text) vs name) _ (own_place vs rest)))
-    where
-      next : (o : Option ℕ) (place : ℕ)
-          → place ≡ option_map_or (λ k. k) o (length vs + position_or_len (is_under text instance name) rest)
-          → 1 + place ≡ option_map_or (λ k. k) (option_map suc o)
-          (suc (length vs) + position_or_len (is_under text instance name) rest)
-      next None place e = omega arith
-      next (Some k) place e = omega arith
-
 shifted : (first end all : ℕ) (o : Option ℕ) → first + end ≡ all
     → first + option_map_or (λ k. k) o end ≡ option_map_or (λ k. first + k) o all
 shifted first end all None e = e
 shifted first end all (Some k) e = refl
 
--- a program among others with other names, whose labels have these numbers
-module _ (text : List ℕ) (front back : List DeclaredProgram) (p : DeclaredProgram) (labels : Kept ℕ) where
-  abbrev pub numbering : Numbering
-  numbering = record {
-    text = text;
-    variables = p.variables;
-    first = length (slots_of front);
-    all = length (slots_of (front ++ p ∷ back));
-    labels = labels;
-    end = length p.program.lines;
-  }
+-- ---- what stands at a number
 
-  pub number_is_place : (name : Name) → AreOthers text p.program.name front → AreOthers text p.program.name back
-      → place_in_store text (slots_of (front ++ p ∷ back)) p.program.name name ≡ number_of numbering name
-  number_is_place name before after =
-      let test = is_under text p.program.name name in
-      let parts = flat_map-append slots_of_program front (p ∷ back) in
-      let skip = passed_over test (slots_of front) (slots_of (p ∷ back))
-      (others_slots text p.program.name name front before) in
-      let own = own_place text p.program.name name p.variables (slots_of back) in
-      let rest = none_passes test (slots_of back) (others_slots text p.program.name name back after) in
-      let all = ap (λ (ss : List Slot). length ss) parts in
-      let back_of = length-append (slots_of_program p) (slots_of back) in
-      let own_many = length-map p.variables (slot p.program.name) in
-      let many = length-append (slots_of front) (slots_of (p ∷ back)) in
-      ap (λ (ss : List Slot). position_or_len test ss) parts
-      ∙ skip
-      ∙ ap (λ n. length (slots_of front) + n) own
-      ∙ shifted (length (slots_of front)) (length p.variables + position_or_len test (slots_of back))
-      (length (slots_of (front ++ p ∷ back))) (variable_number (folded text) p.variables name)
-      (omega (arith, all, back_of, own_many, many, rest))
+past : {X : Type 0} (xs ys : List X) (k : ℕ) → slice_get (xs ++ ys) (length xs + k) ≡ slice_get ys k
+past [] ys k = let e : 0 + k ≡ k = omega arith in ap (λ n. slice_get ys n) e
+past (x ∷ xs) ys k =
+    let e : suc (length xs) + k ≡ suc (length xs + k) = omega arith in
+    ap (λ n. slice_get (x ∷ (xs ++ ys)) n) e ∙ past xs ys k
 
--- a variable's number is below how many there are
-pub number_below : (spelled : Name → List ℕ) (vs : List Variable) (name : Name) (k : ℕ)
-    → variable_number spelled vs name ≡ Some k → k < length vs
-number_below spelled [] name k e = absurd cc
-number_below spelled (v ∷ vs) name k e =
-    here (bytes_eq (spelled name) (spelled v.name)) (variable_number spelled vs name) (number_below spelled vs name) k e
+in_front : {X : Type 0} (xs ys : List X) (k : ℕ) (x : X) → slice_get xs k ≡ Some x → slice_get (xs ++ ys) k ≡ Some x
+in_front [] ys k x e = absurd cc
+in_front (y ∷ xs) ys zero x e = e
+in_front (y ∷ xs) ys (suc k) x e = in_front xs ys k x e
+
+made_at : {X E : Type 0} (f : X → E) (xs : List X) (k : ℕ) → slice_get (map f xs) k ≡ option_map f (slice_get xs k)
+made_at f [] k = refl
+made_at f (x ∷ xs) zero = refl
+made_at f (x ∷ xs) (suc k) = made_at f xs k
+
+none_at_end : {X : Type 0} (xs : List X) → slice_get xs (length xs) ≡ None
+none_at_end [] = refl
+none_at_end (x ∷ xs) = none_at_end xs
+
+-- the first that passes is there
+first_there : {X : Type 0} (test : X → Bool) (xs : List X) (k : ℕ) → first_at test xs ≡ Some k
+    → (x : X) × (slice_get xs k ≡ Some x)
+first_there test [] k e = absurd cc
+first_there {X} test (y ∷ xs) k e = by (test y) (first_at test xs) (first_there test xs) e
   where
-    here : (b : Bool) (o : Option ℕ) → ((j : ℕ) → o ≡ Some j → j < length vs) → (k : ℕ)
-        → cond b (Some 0) (option_map suc o) ≡ Some k → k < suc (length vs)
-    here true o below k e = let h : k ≡ 0 = cc in omega (arith, h)
-    here false None below k e = absurd cc
-    here false (Some j) below k e = let h : suc j ≡ k = cc in omega (arith, h, below j refl)
+    by : (b : Bool) (o : Option ℕ) → ((j : ℕ) → o ≡ Some j → (x : X) × (slice_get xs j ≡ Some x))
+        → (if b then Some 0 else option_map suc o) ≡ Some k → (x : X) × (slice_get (y ∷ xs) k ≡ Some x)
+    by true o rest e = let h : 0 ≡ k = cc in (y, ap (λ n. slice_get (y ∷ xs) n) (sym h))
+    by false None rest e = absurd cc
+    by false (Some j) rest e =
+        let h : suc j ≡ k = cc in
+        let there = rest j refl in
+        (there.0, ap (λ n. slice_get (y ∷ xs) n) (sym h) ∙ there.1)
+
+below_end : {X : Type 0} (xs : List X) (k : ℕ) (x : X) → slice_get xs k ≡ Some x → k < length xs
+below_end [] k x e = absurd cc
+below_end (y ∷ xs) zero x e = omega arith
+below_end (y ∷ xs) (suc k) x e = omega (arith, below_end xs k x e)
+
+-- the number of the first that passes is below how many there are
+pub first_below : {X : Type 0} (test : X → Bool) (xs : List X) (k : ℕ) → first_at test xs ≡ Some k → k < length xs
+first_below test xs k e = let there = first_there test xs k e in below_end xs k there.0 there.1
+
+-- so a number after so many fits where all of them do
+pub fits : {X : Type 0} (test : X → Bool) (xs : List X) (first bound : ℕ) (own : Option ℕ) → own ≡ first_at test xs
+    → first + length xs < bound → IfSome own (λ k. first + k < bound)
+fits test xs first bound None e h = tt
+fits test xs first bound (Some k) e h = let below = first_below test xs k (sym e) in omega (arith, below, h)
+
+-- ---- parts of one list among others
+
+module _ {P X E : Type 0} (parts : P → List X) (made : P → X → E) (test : E → Bool) where
+  abbrev own_of : P → List E
+  own_of p = map (made p) (parts p)
+
+  abbrev pub all_of : List P → List E
+  all_of ps = flat_map own_of ps
+
+  -- none of theirs passes
+  abbrev pub NonePass : List P → Type 0
+  NonePass [] = ⊤
+  NonePass (p ∷ ps) = ((x : X) → test (made p x) ≡ false) × NonePass ps
+
+  none_own : (p : P) (xs : List X) → ((x : X) → test (made p x) ≡ false) → list_any test (map (made p) xs) ≡ false
+  none_own p [] h = refl
+  none_own p (x ∷ xs) h = let e = h x in rw e (none_own p xs h)
+
+  none_of_all : (ps : List P) → NonePass ps → list_any test (all_of ps) ≡ false
+  none_of_all [] o = refl
+  none_of_all (p ∷ ps) o = any_append test (own_of p) (all_of ps) (none_own p (parts p) o.0) (none_of_all ps o.1)
+
+  module _ (p : P) (own : X → Bool) (same : (x : X) → test (made p x) ≡ own x) where
+    own_place : (xs : List X) (rest : List E)
+        → position_or_len test (map (made p) xs ++ rest)
+        ≡ option_map_or (λ k. k) (first_at own xs) (length xs + position_or_len test rest)
+    own_place [] rest = omega arith
+    own_place (x ∷ xs) rest =
+        let e = same x in
+        either (own x)
+        (λ t. rw (e, t) refl)
+        (λ f. rw (e, f) (next (first_at own xs) _ (own_place xs rest)))
+      where
+        next : (o : Option ℕ) (place : ℕ)
+            → place ≡ option_map_or (λ k. k) o (length xs + position_or_len test rest)
+            → 1 + place ≡ option_map_or (λ k. k) (option_map suc o) (suc (length xs) + position_or_len test rest)
+        next None place e = omega arith
+        next (Some k) place e = omega arith
+
+    module _ (front back : List P) (before : NonePass front) (after : NonePass back) where
+      abbrev all : List E
+      all = all_of (front ++ p ∷ back)
+
+      split : all ≡ all_of front ++ (own_of p ++ all_of back)
+      split = flat_map-append own_of front (p ∷ back)
+
+      -- the part's number, after those before
+      pub number_among : position_or_len test all
+          ≡ option_map_or (λ k. length (all_of front) + k) (first_at own (parts p)) (length all)
+      number_among =
+          let skip = passed_over test (all_of front) (all_of (p ∷ back)) (none_of_all front before) in
+          let rest = none_passes test (all_of back) (none_of_all back after) in
+          let all_many = ap (λ (es : List E). length es) split in
+          let back_many = length-append (own_of p) (all_of back) in
+          let own_many = length-map (parts p) (made p) in
+          let many = length-append (all_of front) (all_of (p ∷ back)) in
+          ap (λ (es : List E). position_or_len test es) split
+          ∙ skip
+          ∙ ap (λ n. length (all_of front) + n) (own_place (parts p) (all_of back))
+          ∙ shifted (length (all_of front)) (length (parts p) + position_or_len test (all_of back)) (length all)
+          (first_at own (parts p)) (omega (arith, all_many, back_many, own_many, many, rest))
+
+      -- and what stands there
+      pub found_among : slice_get all (position_or_len test all)
+          ≡ option_map (made p) (option_and_then (slice_get (parts p)) (first_at own (parts p)))
+      found_among = ap (λ n. slice_get all n) number_among ∙ by (first_at own (parts p)) refl
+        where
+          by : (o : Option ℕ) → first_at own (parts p) ≡ o
+              → slice_get all (option_map_or (λ k. length (all_of front) + k) o (length all))
+              ≡ option_map (made p) (option_and_then (slice_get (parts p)) o)
+          by None e = none_at_end all
+          by (Some k) e =
+              let there = first_there own (parts p) k e in
+              let mine : slice_get (own_of p) k ≡ Some (made p there.0) =
+              made_at (made p) (parts p) k ∙ ap (option_map (made p)) there.1
+              in
+              ap (λ (es : List E). slice_get es (length (all_of front) + k)) split
+              ∙ past (all_of front) (own_of p ++ all_of back) k
+              ∙ in_front (own_of p) (all_of back) k (made p there.0) mine
+              ∙ ap (option_map (made p)) (sym there.1)

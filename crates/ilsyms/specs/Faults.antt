@@ -1,67 +1,148 @@
 -- Faults of names in a source program: each stands at a place of the text, a byte's offset, and has a cause
--- (IEC 61131-3, 2.4.3: a variable is declared, once, with a value of its type; 3.2.2: a jump leads to a label of its
--- program; the profile's are the limits, and that jumps go forward). Labels are a space of their own in each program.
+-- (IEC 61131-3, 2.4.3: a variable is declared, once, with a value of its type; 2.5.2: a block instance is declared, and
+-- its outputs are not written; 3.2.2: a jump leads to a label of its program; the profile's are the limits, and that
+-- jumps go forward). Labels are a space of their own in each program.
 use Rattle.std.specs.Prelude.{◌≡◌, ℕ, ◌+◌, List, [], ◌∷◌, ◌++◌, flat_map, filter_map, map, length, slice_get, ◌⊎◌}
-use Rattle.std.specs.Prelude.{Option, Some, None, IsSomeAnd}
-use Rattle.limits.specs.Limits.{most_instances, most_slots, most_constants, most_words}
+use Rattle.std.specs.Prelude.{Option, Some, None, IsNone, IsSomeAnd, IsTrue, Bool, true, false, option_map}
+use Rattle.std.specs.Option.{option_and_then}
+use Rattle.limits.specs.Limits.{most_instances, most_slots, most_blocks, most_constants, most_words}
 use Rattle.iltrees.specs.declared.instruction.Instruction.{Instruction}
-use Rattle.iltrees.specs.declared.instruction.Instruction.TheVariants.{Jump}
+use Rattle.iltrees.specs.declared.instruction.Instruction.TheVariants.{Jump, Call}
 use Rattle.iltrees.specs.declared.instruction.Line.{Line}
 use Rattle.iltrees.specs.declared.operand.Operand.{Operand}
 use Rattle.iltrees.specs.declared.operand.Operand.TheVariants.{Name as Named, Constant}
+use Rattle.iltrees.specs.declared.uses.Purpose.{Purpose}
+use Rattle.iltrees.specs.declared.uses.Purpose.TheVariants.{Write, Pass}
 use Rattle.iltrees.specs.declared.uses.Use.{Use}
 use Rattle.iltrees.specs.Words.{places_in}
 use Rattle.ilsource.specs.declared.name.Name.{Name}
-use Rattle.ilsource.specs.Names.{SameName, folded}
-use Rattle.ilsource.specs.Programs.{Written}
+use Rattle.ilsource.specs.declared.symbol.Symbol.{Symbol}
+use Rattle.ilsource.specs.declared.symbol.Symbol.TheVariants.{Variable, Port, Block}
+use Rattle.ilsource.specs.Names.{SameName, folded, text_of}
 use Rattle.ilsource.specs.Trees.{Tree}
-use Rattle.ilscope.specs.Declarations.{declared_programs, names_of}
+use Rattle.ilscope.specs.Declarations.{DeclaredProgram, declared_programs}
 use Rattle.ilscope.specs.Faults.{SomeOf, IsUnknownType, IsTwiceIn, IsTwice, IsBad}
 use Rattle.ilscope.specs.declared.fault.NameCause.{NameCause}
 use Rattle.ilscope.specs.declared.fault.NameCause.TheVariants.{Unknown, Twice, UnknownLabel, BackwardJump}
-use Rattle.ilscope.specs.declared.fault.NameCause.TheVariants.{TooMany, BadDeclaration}
+use Rattle.ilscope.specs.declared.fault.NameCause.TheVariants.{WritesInput, TooMany, BadDeclaration}
+use Rattle.ilscope.specs.Tables.{first_at}
 use Rattle.ilplan.specs.Constants.{constants_used, each_once}
-use Rattle.ilsyms.specs.Variables.{slots_of_tree, lines_of, uses_of}
+use Rattle.ilblocks.specs.declared.kind.Kind.{Kind}
+use Rattle.ilblocks.specs.Ports.{port_named, input_type}
+use Rattle.ilsyms.specs.Meaning.{same_name}
+use Rattle.ilsyms.specs.Variables.{slots_of_tree, blocks_of_tree, lines_of, uses_of}
 
--- the operand is a name, at the place, that is not among these
-abbrev pub IsUnknownName : List ℕ → List Name → ℕ → Operand Name → Type 0
-IsUnknownName text names place (Named name) = (¬ SomeOf (SameName text name) names) × (place ≡ name.from)
-IsUnknownName text names place (Constant value) = ⊥
+-- no variable of the program has the name, and no block instance has it
+abbrev pub IsNoVariable : List ℕ → DeclaredProgram → Name → Type 0
+IsNoVariable text p name = ¬ SomeOf (λ v. SameName text name v.name) p.variables
 
--- a use of a name, at the place, that the program does not declare
-abbrev pub IsUnknownIn : List ℕ → Written → ℕ → List (Use Name) → Type 0
-IsUnknownIn text program place uses = SomeOf (λ u. IsUnknownName text (names_of program) place u.operand) uses
+abbrev pub IsNoBlock : List ℕ → DeclaredProgram → Name → Type 0
+IsNoBlock text p name = ¬ SomeOf (λ b. SameName text name b.name) p.blocks
 
--- a line uses, at the place, a variable that its program does not declare
-abbrev pub IsUnknownVariable : Tree → ℕ → Type 0
-IsUnknownVariable tree place =
-    SomeOf (λ p. IsUnknownIn tree.text p.program place (uses_of p.program.lines)) (declared_programs tree)
+-- the number of the port of a name, of the first block instance of a name; none where there is no such port
+abbrev pub port_number : List ℕ → DeclaredProgram → Name → Name → Option (Kind × ℕ)
+port_number text p block port =
+    option_and_then
+    (λ b. option_map (λ number. (b.kind, number)) (port_named b.kind (text_of text port)))
+    (option_and_then (slice_get p.blocks) (first_at (λ b. same_name text block b.name) p.blocks))
+
+-- the place of a port at fault: the port's name where it is that of an argument, else the first word of the operand
+abbrev pub place_of_port : Purpose → Name → Name → ℕ
+place_of_port Pass block port = port.from
+place_of_port _ block port = block.from
+
+-- the symbol names, at the place, nothing that the program declares for this purpose: a variable, a block instance, or
+-- a port that its block has
+abbrev pub IsUnknownSymbol : List ℕ → DeclaredProgram → ℕ → Purpose → Symbol → Type 0
+IsUnknownSymbol text p place purpose (Variable name) = IsNoVariable text p name × (place ≡ name.from)
+IsUnknownSymbol text p place purpose (Port block port) =
+    (port_number text p block port ≡ None) × (place ≡ place_of_port purpose block port)
+IsUnknownSymbol text p place purpose (Block name) = IsNoBlock text p name × (place ≡ name.from)
+
+abbrev pub IsUnknownOperand : List ℕ → DeclaredProgram → ℕ → Purpose → Operand Symbol → Type 0
+IsUnknownOperand text p place purpose (Named symbol) = IsUnknownSymbol text p place purpose symbol
+IsUnknownOperand text p place purpose (Constant value) = ⊥
+
+abbrev pub IsUnknownUse : List ℕ → DeclaredProgram → ℕ → Use Symbol → Type 0
+IsUnknownUse text p place u = IsUnknownOperand text p place u.purpose u.operand
+
+-- a use, at the place, of what the program does not declare
+abbrev pub IsUnknownIn : List ℕ → DeclaredProgram → ℕ → List (Use Symbol) → Type 0
+IsUnknownIn text p place uses = SomeOf (IsUnknownUse text p place) uses
+
+-- a line uses, at the place, what its program does not declare
+abbrev pub IsUnknownName : Tree → ℕ → Type 0
+IsUnknownName tree place =
+    SomeOf (λ p. IsUnknownIn tree.text p place (uses_of p.program.lines)) (declared_programs tree)
+
+-- ---- ports
+
+-- an output is stored to, set, reset or given as an argument's port
+abbrev pub IsOutput : Option (Kind × ℕ) → Type 0
+IsOutput None = ⊥
+IsOutput (Some port) = IsNone (input_type 1 port.0 port.1)
+
+abbrev pub writes : Purpose → Bool
+writes Write = true
+writes Pass = true
+writes _ = false
+
+abbrev pub WritesOperand : List ℕ → DeclaredProgram → ℕ → Purpose → Operand Symbol → Type 0
+WritesOperand text p place purpose (Named (Port block port)) =
+    IsTrue (writes purpose) × IsOutput (port_number text p block port) × (place ≡ place_of_port purpose block port)
+WritesOperand text p place purpose _ = ⊥
+
+abbrev pub WritesOutput : List ℕ → DeclaredProgram → ℕ → Use Symbol → Type 0
+WritesOutput text p place u = WritesOperand text p place u.purpose u.operand
+
+-- a line stores, at the place, to an output port
+abbrev pub IsOutputWritten : Tree → ℕ → Type 0
+IsOutputWritten tree place =
+    SomeOf (λ p. SomeOf (WritesOutput tree.text p place) (uses_of p.program.lines)) (declared_programs tree)
+
+-- the words of the ports of a call's arguments, in order
+abbrev pub port_in : Symbol → Option Name
+port_in (Port block port) = Some port
+port_in _ = None
+
+abbrev pub ports_given : Option (Instruction Symbol Name) → List Name
+ports_given (Some (Call condition instance arguments)) = filter_map (λ x. port_in x.port) arguments
+ports_given _ = []
+
+-- a call gives, at the place, a port that it gave before
+abbrev pub IsGivenTwice : Tree → ℕ → Type 0
+IsGivenTwice tree place =
+    SomeOf
+    (λ p. SomeOf (λ line. IsTwiceIn (folded tree.text) (ports_given line.instruction) place) p.program.lines)
+    (declared_programs tree)
+
+-- ---- labels
 
 -- the labels of lines, in order
-abbrev pub labels_of : List (Line Name Name) → List Name
+abbrev pub labels_of : List (Line Symbol Name) → List Name
 labels_of lines = filter_map (λ line. line.label) lines
 
 -- the label that an instruction jumps to
-abbrev pub target_of : Option (Instruction Name Name) → Option Name
+abbrev pub target_of : Option (Instruction Symbol Name) → Option Name
 target_of (Some (Jump condition label)) = Some label
 target_of _ = None
 
 -- the instruction jumps to a label that has the property, and this label stands at the place
-abbrev pub JumpsTo : (Name → Type 0) → ℕ → Option (Instruction Name Name) → Type 0
+abbrev pub JumpsTo : (Name → Type 0) → ℕ → Option (Instruction Symbol Name) → Type 0
 JumpsTo P place instruction = IsSomeAnd (target_of instruction) (λ label. P label × (place ≡ label.from))
 
 -- a line jumps, at the place, to a label that none of the lines has
-abbrev pub JumpsNowhere : List ℕ → List (Line Name Name) → ℕ → Type 0
+abbrev pub JumpsNowhere : List ℕ → List (Line Symbol Name) → ℕ → Type 0
 JumpsNowhere text lines place =
     SomeOf
     (λ line. JumpsTo (λ label. ¬ SomeOf (SameName text label) (labels_of lines)) place line.instruction) lines
 
 -- a line jumps, at the place, to a label that it has itself or that a line before it has: where several lines have a
 -- label, the first is meant
-pub record JumpsBack (text : List ℕ) (lines : List (Line Name Name)) (place : ℕ) : Type 0 where
-  pub before : List (Line Name Name)
-  pub line : Line Name Name
-  pub after : List (Line Name Name)
+pub record JumpsBack (text : List ℕ) (lines : List (Line Symbol Name)) (place : ℕ) : Type 0 where
+  pub before : List (Line Symbol Name)
+  pub line : Line Symbol Name
+  pub after : List (Line Symbol Name)
   pub is : lines ≡ before ++ line ∷ after
   pub jumps : JumpsTo (λ label. SomeOf (SameName text label) (labels_of (before ++ line ∷ []))) place line.instruction
 
@@ -79,29 +160,32 @@ abbrev pub IsBackwardJump : Tree → ℕ → Type 0
 IsBackwardJump tree place = SomeOf (λ p. JumpsBack tree.text p.program.lines place) (declared_programs tree)
 
 -- with the use at the place there are more different constants than the limit, and without it as many
-pub record MakesTooManyConstants (uses : List (Use Name)) (place : ℕ) : Type 0 where
-  pub before : List (Use Name)
-  pub last : Use Name
-  pub after : List (Use Name)
+pub record MakesTooManyConstants (uses : List (Use Symbol)) (place : ℕ) : Type 0 where
+  pub before : List (Use Symbol)
+  pub last : Use Symbol
+  pub after : List (Use Symbol)
   pub is : uses ≡ before ++ last ∷ after
   pub full : length (each_once (constants_used before)) ≡ most_constants
   pub more : length (each_once (constants_used (before ++ last ∷ []))) ≡ most_constants + 1
   pub stands : place ≡ last.at
 
--- the program, the variable, or the instruction with the word or the constant, that exceeds its limit is at the place
+-- the program, the variable, the block instance, or the instruction with the word or the constant, that exceeds its
+-- limit is at the place
 abbrev pub IsTooMany : Tree → ℕ → Type 0
 IsTooMany tree place =
     (slice_get (map (λ p. p.program.name.from) (declared_programs tree)) most_instances ≡ Some place)
     ⊎ (slice_get (map (λ s. s.variable.from) (slots_of_tree tree)) most_slots ≡ Some place)
+    ⊎ (slice_get (map (λ b. b.name.from) (blocks_of_tree tree)) most_blocks ≡ Some place)
     ⊎ (slice_get (flat_map places_in (lines_of (declared_programs tree))) most_words ≡ Some place)
     ⊎ MakesTooManyConstants (uses_of (lines_of (declared_programs tree))) place
 
 -- a fault with this cause stands at the place
 abbrev pub IsFault : Tree → ℕ → NameCause → Type 0
-IsFault tree place Unknown = IsUnknownType tree place ⊎ IsUnknownVariable tree place
-IsFault tree place Twice = IsTwice tree place ⊎ IsLabelTwice tree place
+IsFault tree place Unknown = IsUnknownType tree place ⊎ IsUnknownName tree place
+IsFault tree place Twice = IsTwice tree place ⊎ IsLabelTwice tree place ⊎ IsGivenTwice tree place
 IsFault tree place UnknownLabel = IsUnknownLabel tree place
 IsFault tree place BackwardJump = IsBackwardJump tree place
+IsFault tree place WritesInput = IsOutputWritten tree place
 IsFault tree place TooMany = IsTooMany tree place
 IsFault tree place BadDeclaration = IsBad tree place
 

@@ -4,4 +4,5 @@ pub mod LabelSteps
 pub mod Meaning
 pub mod PlanningSteps
 pub mod Resolved
+pub mod UseSteps
 pub mod Variables

@@ -3,7 +3,7 @@
 use crate::uses::uses_of;
 use ilplan::Constants;
 use ilscope::ProgramScope;
-use ilsource::Name;
+use ilsource::Symbol;
 use iltrees::{Operand, Use};
 use limits::MOST_CONSTANTS;
 use std::alloc::{AllocError, Global};
@@ -18,7 +18,7 @@ pub(crate) struct Counted {
 impl Counted {
     ghost use Rattle.std.specs.Prelude.{[], ◌∷◌, ◌++◌, List, IfOk, OnOk};
     ghost use Rattle.iltrees.specs.declared.uses.Use.{Use};
-    ghost use Rattle.ilsource.specs.declared.name.Name.{Name};
+    ghost use Rattle.ilsource.specs.declared.symbol.Symbol.{Symbol};
     ghost use Rattle.ilsyms.specs.CountingSteps.{AreCounted};
     ghost use Rattle.ilsyms.specs.Variables.{lines_of, uses_of};
 
@@ -39,8 +39,8 @@ impl Counted {
     }
 
     /// Counts some uses more.
-    fn add_uses(&mut self, uses: &[Use<Name>]) -> Result<(), AllocError>
-        ensures { OnOk result ((before : List (Use Name))
+    fn add_uses(&mut self, uses: &[Use<Symbol>]) -> Result<(), AllocError>
+        ensures { OnOk result ((before : List (Use Symbol))
             → AreCounted before self.old.constants self.old.excess
             → AreCounted (before ++ uses.now) self.new.constants self.new.excess) }
     {
@@ -51,8 +51,8 @@ impl Counted {
     }
 
     /// Counts one use more.
-    fn add(&mut self, used: Use<Name>) -> Result<(), AllocError>
-        ensures { OnOk result ((before : List (Use Name))
+    fn add(&mut self, used: Use<Symbol>) -> Result<(), AllocError>
+        ensures { OnOk result ((before : List (Use Symbol))
             → AreCounted before self.old.constants self.old.excess
             → AreCounted (before ++ used ∷ []) self.new.constants self.new.excess) }
     {

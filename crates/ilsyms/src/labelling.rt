@@ -9,7 +9,7 @@ ghost use Rattle.ilsyms.specs.Faults.{labels_of};
 ghost use Rattle.ilsyms.specs.LabelSteps.{AreNumbered, IsKeptLabel, with_label};
 
 use ilscope::{Found, NameCause, Names, Scope, lesser_of};
-use ilsource::Name;
+use ilsource::{Name, Symbol};
 use iltrees::Line;
 use std::alloc::{AllocError, Global};
 
@@ -18,7 +18,7 @@ use std::alloc::{AllocError, Global};
 pub(crate) fn number_labels(
     alloc: Global,
     scope: &Scope<'_>,
-    lines: &[Line<Name, Name>],
+    lines: &[Line<Symbol, Name>],
 ) -> Result<(Names<usize>, Option<Found>), AllocError>
     ensures numbers { IfOk result (λ r. AreNumbered scope.now.text lines.now r.0) }
     ensures twice { IfOk result (λ r.
@@ -27,33 +27,33 @@ pub(crate) fn number_labels(
     let mut numbers = Names::new(alloc);
     let mut least = None;
     for (number, line) in lines.iter().enumerate() {
-        let again = add_label(alloc, scope, &mut numbers, line, number)?;
+        let again = add_name(alloc, scope, &mut numbers, line.label, number)?;
         least = lesser_of(least, again);
     }
     Ok((numbers, least))
 }
 
-/// Adds the number of a line under its label where that is new, and else gives the label's fault.
-fn add_label(
+/// Adds a number under a name where there is one and it is new, and else gives the name's fault.
+pub(crate) fn add_name(
     alloc: Global,
     scope: &Scope<'_>,
     numbers: &mut Names<usize>,
-    line: &Line<Name, Name>,
+    name: Option<Name>,
     number: usize,
 ) -> Result<Option<Found>, AllocError>
     ensures numbers { OnOk result
-        (numbers.new ≡ with_label scope.now.text numbers.old line.now.label number) }
+        (numbers.new ≡ with_label scope.now.text numbers.old name number) }
     ensures twice { IfOk result (λ again. IsLeastOf
-        (OfCause Twice (IsKeptLabel scope.now.text numbers.old line.now.label)) again) }
+        (OfCause Twice (IsKeptLabel scope.now.text numbers.old name)) again) }
 {
-    let Some(label) = line.label else {
+    let Some(name) = name else {
         return Ok(None);
     };
-    if numbers.add(alloc, scope.spelling(label), number)? {
+    if numbers.add(alloc, scope.spelling(name), number)? {
         return Ok(None);
     }
     Ok(Some(Found {
-        at: label.from,
+        at: name.from,
         cause: NameCause::Twice,
     }))
 }

@@ -7,11 +7,15 @@
 //! `IsFault` (specs/Faults.antt).
 #![tactic(auto)]
 
+mod arguments;
+mod blocks;
 mod counting;
 mod jumps;
 mod labelling;
+mod lines;
 mod numbering;
 mod planning;
+mod ports;
 mod resolving;
 mod slots;
 mod unknown;

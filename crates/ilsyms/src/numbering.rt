@@ -1,97 +1,167 @@
-//! Lines with numbers in place of names: of slots for variables, of lines for labels.
+//! Lines with places in a store in place of names, and with numbers of lines in place of labels.
 
+use crate::ports::port_of;
+use ilblocks::MOST_PORTS;
+use ilplan::Place;
 use ilscope::{Names, ProgramScope, Scope};
-use ilsource::Name;
-use iltrees::{Action, Instruction, Line, Nested, Operand, Piece};
+use ilsource::{Name, Symbol};
+use iltrees::{Action, Argument, Arguments, Instruction, Line, Nested, Operand, Piece};
 use std::alloc::{AllocError, Global};
 use std::marker::Model;
 
-/// The numbers of the slots of one program's variables, which stand one after another, and of the
-/// lines with its labels.
+/// The numbers of what one program declares, which stand one after another in its task.
+#[derive(Clone, Copy)]
+pub(crate) struct Numbers {
+    /// The first number.
+    pub(crate) first: usize,
+    /// How many the task has.
+    pub(crate) all: usize,
+}
+
+impl Numbers {
+    ghost use Rattle.std.specs.Prelude.{◌≡◌, ◌+◌, ◌<◌, ◌^◌, IfSome};
+    ghost use Rattle.std.specs.Option.{option_map_or};
+
+    /// The number in the task of what has this one in the program; past the last where it has none.
+    fn number(self, own: Option<usize>) -> usize
+        requires { IfSome own (λ k. self.first + k < 2 ^ 64) }
+        ensures { result ≡ option_map_or (λ k. self.first + k) own self.all }
+    {
+        match own {
+            Some(own) => self.first + own,
+            None => self.all,
+        }
+    }
+}
+
+/// The places of what one program declares, and the numbers of the lines with its labels.
 #[derive(Drop)]
 pub(crate) struct Numbering<'a, 's> {
     scope: &'a Scope<'s>,
-    program: usize,
-    variables: &'a ProgramScope<'s>,
-    /// The number of the first slot.
-    first: usize,
-    /// How many slots the task has.
-    all: usize,
+    number: usize,
+    program: &'a ProgramScope<'s>,
+    slots: Numbers,
+    blocks: Numbers,
     /// Under each label the number of the first line that has it.
     labels: Names<usize>,
-    /// How many lines there are.
-    end: usize,
 }
 
 impl<'a, 's> Model for Numbering<'a, 's> {
     ghost use Rattle.std.specs.Prelude.{◌≡◌, ◌+◌, ◌≤◌, ◌^◌, ◌<◌, length, slice_get, Some};
+    ghost use Rattle.std.specs.Prelude.{List};
+    ghost use Rattle.std.specs.Coded.{codes, code_by};
+    ghost use Rattle.iltrees.specs.declared.nested.Piece.{Piece};
+    ghost use Rattle.iltrees.specs.Trees.{pieces_of};
+    ghost use Rattle.iltrees.specs.TreeSteps.{tree_of, tree_again};
+    ghost use Rattle.ilsource.specs.declared.symbol.Symbol.{Symbol};
     ghost use Rattle.ilscope.specs.Declarations.{declared_programs};
     ghost use Rattle.ilsyms.specs.PlanningSteps.{Numbering};
 
     ghost Value = { Numbering };
 
+    ghost coded = { Prim.hlevel (
+      codes,
+      code_by (List (Piece Symbol)) (Prim.hlevel codes) pieces_of tree_of tree_again,
+    ) };
+
     ghost view = { λ n. record {
       text = n.scope.now.text;
-      variables = n.variables.now.variables;
-      first = n.first;
-      all = n.all;
+      program = n.program.now;
+      first_slot = n.slots.first;
+      all_slots = n.slots.all;
+      first_block = n.blocks.first;
+      all_blocks = n.blocks.all;
       labels = n.labels;
-      end = n.end;
     } };
 
     ghost invariant = { λ n.
-        (slice_get (declared_programs n.scope.now) n.program ≡ Some n.variables.now)
-        × (n.first + length n.variables.now.variables < 2 ^ 64) };
+        (slice_get (declared_programs n.scope.now) n.number ≡ Some n.program.now)
+        × (n.slots.first + length n.program.now.variables < 2 ^ 64)
+        × (n.blocks.first + length n.program.now.blocks < 2 ^ 64) };
 }
 
 impl<'a, 's> Numbering<'a, 's> {
     ghost use Rattle.std.specs.Prelude.{◌≡◌, ◌+◌, ◌<◌, ◌^◌, IfOk, length, map, option_map};
     ghost use Rattle.std.specs.Prelude.{slice_get, Some};
     ghost use Rattle.iltrees.specs.Renaming.{rename_action, rename_tree, rename, rename_line};
-    ghost use Rattle.iltrees.specs.Words.{CallsNothing, CallNothing};
+    ghost use Rattle.iltrees.specs.Renaming.{rename_argument};
     ghost use Rattle.ilscope.specs.Declarations.{declared_programs};
-    ghost use Rattle.ilsyms.specs.PlanningSteps.{Numbering, label_of, number_of, numbers};
+    ghost use Rattle.ilsyms.specs.PlanningSteps.{Numbering, label_of, numbers, place_by_number};
+    ghost use Rattle.ilsyms.specs.PlanningSteps.{number_of_block, number_of_port, slot_number};
 
-    /// The numbers of the variables of the program with this number, which begin with `first`, and
-    /// of its `end` lines, by their labels.
+    /// The numbering of the program with this number, with the numbers of its slots, its block
+    /// instances and its labels.
     pub(crate) fn new(
         scope: &'a Scope<'s>,
-        program: usize,
-        variables: &'a ProgramScope<'s>,
-        first: usize,
-        all: usize,
+        number: usize,
+        program: &'a ProgramScope<'s>,
+        slots: Numbers,
+        blocks: Numbers,
         labels: Names<usize>,
-        end: usize,
     ) -> Numbering<'a, 's>
-        requires program { slice_get (declared_programs scope.now) program ≡ Some variables.now }
-        requires fits { first + length variables.now.variables < 2 ^ 64 }
+        requires program { slice_get (declared_programs scope.now) number ≡ Some program.now }
+        requires slots { slots.first + length program.now.variables < 2 ^ 64 }
+        requires blocks { blocks.first + length program.now.blocks < 2 ^ 64 }
         ensures { result ≡ record {
           text = scope.now.text;
-          variables = variables.now.variables;
-          first = first;
-          all = all;
+          program = program.now;
+          first_slot = slots.first;
+          all_slots = slots.all;
+          first_block = blocks.first;
+          all_blocks = blocks.all;
           labels = labels;
-          end = end;
         } }
     {
         Numbering {
             scope,
+            number,
             program,
-            variables,
-            first,
-            all,
+            slots,
+            blocks,
             labels,
-            end,
         }
     }
 
-    /// The number of a name's slot; past the last where there is none.
-    fn number_of(&self, name: Name) -> usize
-        ensures { result ≡ number_of self.now name }
+    /// The number of a variable's slot; past the last where there is none.
+    fn slot(&self, name: Name) -> usize
+        ensures { result ≡ slot_number self.now name }
     {
-        match self.scope.variable_number(self.program, name) {
-            Some(number) => self.first + number,
-            None => self.all,
+        self.slots
+            .number(self.scope.variable_number(self.number, name))
+    }
+
+    /// The number of a block instance; past the last where there is none.
+    fn block(&self, name: Name) -> usize
+        ensures { result ≡ number_of_block self.now name }
+    {
+        let own = match self.scope.block(self.number, name) {
+            Some((own, _)) => Some(own),
+            None => None,
+        };
+        self.blocks.number(own)
+    }
+
+    /// The number of a port; past the last where its block has none of this name.
+    fn port(&self, block: Name, port: Name) -> usize
+        ensures { result ≡ number_of_port self.now block port }
+    {
+        match port_of(self.scope, self.number, block, port) {
+            Some((_, number)) => number,
+            None => MOST_PORTS,
+        }
+    }
+
+    /// The place of what a line names.
+    fn place(&self, symbol: Symbol) -> Place
+        ensures { result ≡ place_by_number self.now symbol }
+    {
+        match symbol {
+            Symbol::Variable(name) => Place::Slot(self.slot(name)),
+            Symbol::Port { block, port } => Place::Port {
+                block: self.block(block),
+                port: self.port(block, port),
+            },
+            Symbol::Block(name) => Place::Block(self.block(name)),
         }
     }
 
@@ -101,7 +171,7 @@ impl<'a, 's> Numbering<'a, 's> {
     {
         self.labels
             .get(self.scope.spelling(label))
-            .unwrap_or(self.end)
+            .unwrap_or(self.program.program().lines().len())
     }
 
     /// The same of a line's label, where it has one.
@@ -112,17 +182,35 @@ impl<'a, 's> Numbering<'a, 's> {
     }
 
     /// An operand.
-    fn operand(&self, operand: Operand<Name>) -> Operand<usize>
+    fn operand(&self, operand: Operand<Symbol>) -> Operand<Place>
         ensures { result ≡ (numbers self.now).operand operand }
     {
         match operand {
-            Operand::Name(name) => Operand::Name(self.number_of(name)),
+            Operand::Name(symbol) => Operand::Name(self.place(symbol)),
             Operand::Constant(value) => Operand::Constant(value),
         }
     }
 
+    /// The arguments of a call.
+    fn arguments(
+        &self,
+        alloc: Global,
+        arguments: &[Argument<Symbol>],
+    ) -> Result<Arguments<Place>, AllocError>
+        ensures { IfOk result (λ a. a ≡ map (rename_argument (numbers self.now)) arguments.now) }
+    {
+        let mut renamed = Vec::new(alloc);
+        for argument in arguments {
+            renamed.push(Argument {
+                port: self.place(argument.port),
+                operand: self.operand(argument.operand),
+            })?;
+        }
+        Ok(Arguments::new(renamed))
+    }
+
     /// What a piece does.
-    fn action(&self, action: Action<Name>) -> Action<usize>
+    fn action(&self, action: Action<Symbol>) -> Action<Place>
         ensures { result ≡ rename_action (numbers self.now) action }
     {
         match action {
@@ -138,7 +226,7 @@ impl<'a, 's> Numbering<'a, 's> {
     }
 
     /// What stands in parentheses.
-    fn nested(&self, alloc: Global, nested: &Nested<Name>) -> Result<Nested<usize>, AllocError>
+    fn nested(&self, alloc: Global, nested: &Nested<Symbol>) -> Result<Nested<Place>, AllocError>
         ensures { IfOk result (λ tree. tree ≡ rename_tree (numbers self.now) nested.now) }
     {
         let mut pieces = Vec::new(alloc);
@@ -151,13 +239,12 @@ impl<'a, 's> Numbering<'a, 's> {
         Ok(Nested::new(pieces))
     }
 
-    /// An instruction that calls nothing.
+    /// An instruction.
     fn instruction(
         &self,
         alloc: Global,
-        instruction: &Instruction<Name, Name>,
-    ) -> Result<Instruction<usize, usize>, AllocError>
-        requires { CallsNothing (Some instruction.now) }
+        instruction: &Instruction<Symbol, Name>,
+    ) -> Result<Instruction<Place, usize>, AllocError>
         ensures { IfOk result (λ i.
             i ≡ rename (numbers self.now) (label_of self.now) instruction.now) }
     {
@@ -185,21 +272,32 @@ impl<'a, 's> Numbering<'a, 's> {
             },
             Instruction::Store { negated, variable } => Instruction::Store {
                 negated: *negated,
-                variable: self.number_of(*variable),
+                variable: self.place(*variable),
             },
-            Instruction::Set(variable) => Instruction::Set(self.number_of(*variable)),
-            Instruction::Reset(variable) => Instruction::Reset(self.number_of(*variable)),
+            Instruction::Set(variable) => Instruction::Set(self.place(*variable)),
+            Instruction::Reset(variable) => Instruction::Reset(self.place(*variable)),
             Instruction::Jump(condition, label) => {
                 Instruction::Jump(*condition, self.label_of(*label))
             }
             Instruction::Return(condition) => Instruction::Return(*condition),
-            Instruction::Call { .. } => unreachable!(),
+            Instruction::Call {
+                condition,
+                instance,
+                arguments,
+            } => Instruction::Call {
+                condition: *condition,
+                instance: self.place(*instance),
+                arguments: self.arguments(alloc, arguments.as_slice())?,
+            },
         })
     }
 
     /// A line.
-    fn line(&self, alloc: Global, line: &Line<Name, Name>) -> Result<Line<usize, usize>, AllocError>
-        requires { CallsNothing line.now.instruction }
+    fn line(
+        &self,
+        alloc: Global,
+        line: &Line<Symbol, Name>,
+    ) -> Result<Line<Place, usize>, AllocError>
         ensures { IfOk result (λ l.
             l ≡ rename_line (numbers self.now) (label_of self.now) line.now) }
     {
@@ -218,9 +316,8 @@ impl<'a, 's> Numbering<'a, 's> {
     pub(crate) fn lines(
         &self,
         alloc: Global,
-        lines: &[Line<Name, Name>],
-    ) -> Result<Vec<Line<usize, usize>>, AllocError>
-        requires { CallNothing lines.now }
+        lines: &[Line<Symbol, Name>],
+    ) -> Result<Vec<Line<Place, usize>>, AllocError>
         ensures { IfOk result (λ v.
             v.items ≡ map (rename_line (numbers self.now) (label_of self.now)) lines.now) }
     {

@@ -3,14 +3,18 @@
 use crate::{NameCause, NameFault, resolve};
 use binding::Binding;
 use iloperators::Operator;
-use ilsource::{Constant, Declaration, Element, Name, Program, Source, Specification};
+use ilsource::{
+    Constant, Declaration, Declared, Element, Name, Program, Source, Specification, Symbol,
+};
 use iltrees::{Instruction, Line, Nested, Operand};
 use iltypes::Value;
 use std::alloc::{AllocError, Global};
 use std::test::Fail;
 
+mod blocks;
 mod labels;
 mod largest;
+mod places;
 
 const TEXT: &[u8] =
     b"PROGRAM Two\nVAR a : BOOL := TRUE; B : BOOL; END_VAR\nLD A\nAND( b\n)\nEND_PROGRAM\n";
@@ -21,22 +25,30 @@ fn one(alloc: Global, name: Name) -> Result<Vec<Name>, AllocError> {
     Ok(names)
 }
 
+/// BOOL.
+pub(crate) fn truth(initial: Option<Constant>) -> Declared {
+    Declared::Variables {
+        specification: Specification::Bool,
+        initial,
+    }
+}
+
 /// The program of [`TEXT`], where the name in parentheses is the one at `named`.
 fn source(alloc: Global, named: Name) -> Result<Source, AllocError> {
     let mut declarations = Vec::new(alloc);
     let first = one(alloc, Name { from: 16, to: 17 })?;
     let initial = Some(Constant::Bool(true));
-    declarations.push(Declaration::new(first, Specification::Bool, initial))?;
+    declarations.push(Declaration::new(first, truth(initial)))?;
     let second = one(alloc, Name { from: 34, to: 35 })?;
-    declarations.push(Declaration::new(second, Specification::Bool, None))?;
-    let nested = Nested::load(alloc, 57, false, Operand::Name(named))?;
+    declarations.push(Declaration::new(second, truth(None)))?;
+    let nested = Nested::load(alloc, 57, false, Operand::Name(Symbol::Variable(named)))?;
     let mut lines = Vec::new(alloc);
     lines.push(Line {
         at: 52,
         label: None,
         instruction: Some(Instruction::Load {
             negated: false,
-            operand: Operand::Name(Name { from: 55, to: 56 }),
+            operand: Operand::Name(Symbol::Variable(Name { from: 55, to: 56 })),
         }),
     })?;
     lines.push(Line {

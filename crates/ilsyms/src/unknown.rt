@@ -1,66 +1,54 @@
-//! Names in lines, looked up among the variables of their program.
+//! Names that their program does not declare.
 
-ghost use Rattle.std.specs.Prelude.{◌≡◌, ◌<◌, IfOk, Some, length, slice_get};
-ghost use Rattle.ilsource.specs.declared.name.Name.{Name};
-ghost use Rattle.ilscope.specs.Declarations.{DeclaredProgram, declared_programs, names_of};
+ghost use Rattle.std.specs.Prelude.{◌≡◌, ◌<◌, Some, length, slice_get};
+ghost use Rattle.ilscope.specs.Declarations.{DeclaredProgram, declared_programs};
 ghost use Rattle.ilscope.specs.Faults.{IsLeastOf};
 ghost use Rattle.ilscope.specs.ScopeSteps.{OfCause};
 ghost use Rattle.ilscope.specs.declared.fault.NameCause.TheVariants.{Unknown};
-ghost use Rattle.ilsyms.specs.Faults.{IsUnknownName, IsUnknownIn, IsUnknownVariable};
+ghost use Rattle.ilsyms.specs.Faults.{IsUnknownSymbol, IsUnknownUse};
 
-use crate::uses::uses_of;
-use ilscope::{Found, NameCause, Scope, lesser_of};
-use ilsource::Name;
-use iltrees::{Operand, Use};
-use std::alloc::{AllocError, Global};
+use crate::ports::{place_of_port, port_of};
+use ilscope::{Found, NameCause, Scope};
+use ilsource::Symbol;
+use iltrees::{Operand, Purpose, Use};
 
-/// The least fault of a name in a line that its program does not declare.
-pub(crate) fn unknown_variable(
-    alloc: Global,
-    scope: &Scope<'_>,
-) -> Result<Option<Found>, AllocError>
-    ensures { IfOk result (λ found.
-        IsLeastOf (OfCause Unknown (IsUnknownVariable scope.now)) found) }
-{
-    let mut least = None;
-    for (number, program) in scope.programs().iter().enumerate() {
-        let uses = uses_of(alloc, program.program())?;
-        least = lesser_of(least, unknown_in(scope, number, &uses));
-    }
-    Ok(least)
-}
-
-/// The least such fault among uses in the program with this number.
-fn unknown_in(scope: &Scope<'_>, number: usize, uses: &[Use<Name>]) -> Option<Found>
+/// The fault of a use of what the program with this number does not declare.
+pub(crate) fn unknown_use(scope: &Scope<'_>, number: usize, used: Use<Symbol>) -> Option<Found>
     requires { number < length (declared_programs scope.now) }
     ensures { (p : DeclaredProgram) → slice_get (declared_programs scope.now) number ≡ Some p
-        → IsLeastOf (OfCause Unknown (λ place. IsUnknownIn scope.now.text p.program place uses.now))
-        result }
+        → IsLeastOf (OfCause Unknown (λ place. IsUnknownUse scope.now.text p place used)) result }
 {
-    let mut least = None;
-    for used in uses {
-        least = lesser_of(least, unknown_name(scope, number, used.operand));
-    }
-    least
+    let Operand::Name(symbol) = used.operand else {
+        return None;
+    };
+    unknown_symbol(scope, number, used.purpose, symbol)
 }
 
-/// The fault of an operand, where it is a name that the program with this number does not declare.
-fn unknown_name(scope: &Scope<'_>, number: usize, operand: Operand<Name>) -> Option<Found>
+/// The fault of a symbol for which the program with this number declares nothing.
+fn unknown_symbol(
+    scope: &Scope<'_>,
+    number: usize,
+    purpose: Purpose,
+    symbol: Symbol,
+) -> Option<Found>
     requires { number < length (declared_programs scope.now) }
     ensures { (p : DeclaredProgram) → slice_get (declared_programs scope.now) number ≡ Some p
         → IsLeastOf
-        (OfCause Unknown (λ place.
-        IsUnknownName scope.now.text (names_of p.program) place operand))
-        result }
+        (OfCause Unknown (λ place. IsUnknownSymbol scope.now.text p place purpose symbol)) result }
 {
-    let Operand::Name(name) = operand else {
-        return None;
+    let (is_declared, at) = match symbol {
+        Symbol::Variable(name) => (scope.variable_number(number, name).is_some(), name.from),
+        Symbol::Port { block, port } => (
+            port_of(scope, number, block, port).is_some(),
+            place_of_port(purpose, block, port),
+        ),
+        Symbol::Block(name) => (scope.block(number, name).is_some(), name.from),
     };
-    if scope.declares(number, name) {
+    if is_declared {
         return None;
     }
     Some(Found {
-        at: name.from,
+        at,
         cause: NameCause::Unknown,
     })
 }

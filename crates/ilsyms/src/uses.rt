@@ -1,14 +1,20 @@
-//! What programs use.
+//! What programs use, and what is at fault with it.
 
-ghost use Rattle.std.specs.Prelude.{◌≡◌, IfOk};
+ghost use Rattle.std.specs.Prelude.{◌≡◌, ◌<◌, IfOk, Some, length, slice_get};
+ghost use Rattle.ilscope.specs.Declarations.{DeclaredProgram, declared_programs};
+ghost use Rattle.ilscope.specs.Faults.{IsLeastOf, SomeOf};
+ghost use Rattle.ilsyms.specs.UseSteps.{IsFaultOfUse, IsFaultOfUses};
 ghost use Rattle.ilsyms.specs.Variables.{uses_of};
 
-use ilsource::{Name, Program};
+use crate::ports::output_written;
+use crate::unknown::unknown_use;
+use ilscope::{Found, Scope, lesser_of};
+use ilsource::{Program, Symbol};
 use iltrees::Use;
 use std::alloc::{AllocError, Global};
 
 /// What a program's lines use, in the order of the text.
-pub(crate) fn uses_of(alloc: Global, program: &Program) -> Result<Vec<Use<Name>>, AllocError>
+pub(crate) fn uses_of(alloc: Global, program: &Program) -> Result<Vec<Use<Symbol>>, AllocError>
     ensures { IfOk result (λ v. v.items ≡ uses_of program.now.lines) }
 {
     let mut uses = Vec::new(alloc);
@@ -16,4 +22,44 @@ pub(crate) fn uses_of(alloc: Global, program: &Program) -> Result<Vec<Use<Name>>
         line.push_uses(&mut uses)?;
     }
     Ok(uses)
+}
+
+/// The least fault of a use: of what its program does not declare, or of a store to an output.
+pub(crate) fn fault_of_uses(alloc: Global, scope: &Scope<'_>) -> Result<Option<Found>, AllocError>
+    ensures { IfOk result (λ found. IsLeastOf
+        (λ place cause. SomeOf
+        (λ p. IsFaultOfUses scope.now.text p (uses_of p.program.lines) place cause)
+        (declared_programs scope.now)) found) }
+{
+    let mut least = None;
+    for (number, program) in scope.programs().iter().enumerate() {
+        let uses = uses_of(alloc, program.program())?;
+        least = lesser_of(least, fault_in_uses(scope, number, &uses));
+    }
+    Ok(least)
+}
+
+/// The least such fault among uses in the program with this number.
+fn fault_in_uses(scope: &Scope<'_>, number: usize, uses: &[Use<Symbol>]) -> Option<Found>
+    requires { number < length (declared_programs scope.now) }
+    ensures { (p : DeclaredProgram) → slice_get (declared_programs scope.now) number ≡ Some p
+        → IsLeastOf (IsFaultOfUses scope.now.text p uses.now) result }
+{
+    let mut least = None;
+    for used in uses {
+        least = lesser_of(least, fault_of_use(scope, number, *used));
+    }
+    least
+}
+
+/// The least fault of one use.
+fn fault_of_use(scope: &Scope<'_>, number: usize, used: Use<Symbol>) -> Option<Found>
+    requires { number < length (declared_programs scope.now) }
+    ensures { (p : DeclaredProgram) → slice_get (declared_programs scope.now) number ≡ Some p
+        → IsLeastOf (IsFaultOfUse scope.now.text p used) result }
+{
+    lesser_of(
+        unknown_use(scope, number, used),
+        output_written(scope, number, used),
+    )
 }

@@ -13,21 +13,22 @@ use Rattle.ilgrammar.specs.declared.ReadError.{ReadError}
 use Rattle.ilgrammar.specs.declared.ReadError.TheVariants as errors
 use Rattle.ilgrammar.specs.Items.{◌>>=◌, Item, begins, many}
 use Rattle.ilgrammar.specs.Results.{Fails, extend}
-use Rattle.ilsource.specs.declared.name.Name.{Name}
+use Rattle.ilsource.specs.declared.symbol.Symbol.{Symbol}
 use Rattle.iltokens.specs.declared.lexed.Mark.TheVariants as marks
 use Rattle.iltext.specs.declared.token.Token.{Token}
-use Rattle.iltext.specs.Terminals.{mark, operand, closing, ended}
+use Rattle.iltext.specs.Terminals.{mark, closing, ended}
+use Rattle.iltext.specs.Operands.{operand}
 use Rattle.iltext.specs.Instructions.{TextInstruction, TextLine, line_of, grown, grows, grows_by}
 use Rattle.iltext.specs.Instructions.{on_operand, on_content, on_either, beginning, applied, inner, content_of, content}
 use Rattle.iltext.specs.InstructionSteps.{pieces_at, pieces_in, may_open}
 use Rattle.iltext.proofs.Extends.{extend_ok}
 
 abbrev Pieces : Type 0
-Pieces = List (Piece Name)
+Pieces = List (Piece Symbol)
 
 -- ---- a tree that grows has more pieces
 
-grown_pieces : (t : Tree Name) (at : ℕ) (i : Option TextInstruction)
+grown_pieces : (t : Tree Symbol) (at : ℕ) (i : Option TextInstruction)
     → pieces_of (grown t at i) ≡ pieces_of t ++ pieces_at at i
 grown_pieces t at (Some (instructions.Load negated o)) = refl
 grown_pieces t at (Some (instructions.Apply operator o)) = refl
@@ -36,7 +37,7 @@ grown_pieces t at (Some (instructions.Transform function)) = refl
 grown_pieces t at (Some (instructions.Limit low high)) = simp append_assoc
 grown_pieces t at _ = sym (append-nil (pieces_of t))
 
-grows_pieces : (t : Tree Name) (lines : List TextLine)
+grows_pieces : (t : Tree Symbol) (lines : List TextLine)
     → pieces_of (grows_by t lines) ≡ pieces_of t ++ flat_map pieces_in lines
 grows_pieces t [] = sym (append-nil (pieces_of t))
 grows_pieces t (line ∷ lines) =
@@ -47,15 +48,15 @@ grows_pieces t (line ∷ lines) =
 -- ---- the content
 
 abbrev Trees : Type 0
-Trees = Result (Tree Name × List Token) (List Token)
+Trees = Result (Tree Symbol × List Token) (List Token)
 
 abbrev Lines : Type 0
 Lines = Result (List TextLine × List Token) (List Token)
 
-abbrev grow : Tree Name → List TextLine × List Token → Trees
+abbrev grow : Tree Symbol → List TextLine × List Token → Trees
 grow t q = Ok (grows_by t q.0, q.1)
 
-joined : (front : Pieces) (t : Tree Name) (r : Lines)
+joined : (front : Pieces) (t : Tree Symbol) (r : Lines)
     → extend (flat_map pieces_in) (front ++ pieces_of t) r ≡ extend pieces_of front (r >>= grow t)
 joined front t (Err d) = refl
 joined front t (Ok q) =
@@ -63,14 +64,14 @@ joined front t (Ok q) =
     (append_assoc front (pieces_of t) (flat_map pieces_in q.0)
     ∙ ap (λ (ps : Pieces). front ++ ps) (sym (grows_pieces t q.0)))
 
-regrouped : (t : Tree Name) (r : Lines)
+regrouped : (t : Tree Symbol) (r : Lines)
     → (r >>= grow t)
-    ≡ ((r >>= λ q. let x : Result ((Tree Name × List TextLine) × List Token) (List Token) = Ok ((t, q.0), q.1) in x)
+    ≡ ((r >>= λ q. let x : Result ((Tree Symbol × List TextLine) × List Token) (List Token) = Ok ((t, q.0), q.1) in x)
     >>= λ p. let x : Trees = Ok (grows_by p.0.0 p.0.1, p.1) in x)
 regrouped t (Ok q) = refl
 regrouped t (Err d) = refl
 
-pub begun : (more at : ℕ) (front : Pieces) (ts rest : List Token) (t : Tree Name)
+pub begun : (more at : ℕ) (front : Pieces) (ts rest : List Token) (t : Tree Symbol)
     → (beginning at).read ts ≡ Ok (t, rest)
     → extend (flat_map pieces_in) (front ++ pieces_of t) ((many (ended (inner more))).read rest)
     ≡ extend pieces_of front ((content more at).read ts)
@@ -128,18 +129,18 @@ module _ (more at : ℕ) (operator : Operator) (ts : List Token) (isnt : may_ope
   operand_fails errors.Memory h = tt
   operand_fails (errors.Fault d) h = rw (by_operand more at operator ts isnt, h) refl
 
-  pub operand_applied : (o : Operand Name) (rest : List Token) → operand.read ts ≡ Ok (o, rest)
+  pub operand_applied : (o : Operand Symbol) (rest : List Token) → operand.read ts ≡ Ok (o, rest)
       → (applied more operator at).read ts ≡ Ok (line_of at (instructions.Apply operator o), rest)
   unfolding on_operand
   operand_applied o rest h = rw (by_operand more at operator ts isnt, h) refl
 
 -- ---- the tree that the pieces spell
 
-one_tree : (t u : Tree Name) → pieces_of t ≡ pieces_of u → t ≡ u
+one_tree : (t u : Tree Symbol) → pieces_of t ≡ pieces_of u → t ≡ u
 one_tree t u e = sym (tree_again t) ∙ (ap tree_of e ∙ tree_again u)
 
-pub by_pieces : (content : ℕ → Item Token (Tree Name)) (operator : Operator) (at close : ℕ)
-    (ts inside rest after : List Token) (front new : Pieces) (nested : Tree Name)
+pub by_pieces : (content : ℕ → Item Token (Tree Symbol)) (operator : Operator) (at close : ℕ)
+    (ts inside rest after : List Token) (front new : Pieces) (nested : Tree Symbol)
     → (mark marks.Open).read ts ≡ Ok (tt, inside) → front ≡ []
     → extend pieces_of front ((content at).read inside) ≡ Ok (new, rest) → new ≡ pieces_of nested
     → closing.read rest ≡ Ok (close, after)
@@ -150,4 +151,4 @@ by_pieces content operator at close ts inside rest after front new nested opens 
     let same : is.0 ≡ nested =
     one_tree is.0 nested (sym (is.2 ∙ ap (λ (ps : Pieces). ps ++ pieces_of is.0) none) ∙ spelled) in
     rw (opens, is.1, closes)
-    (ap (λ (t : Tree Name). Ok (line_of at (instructions.Deferred operator t close), after)) same)
+    (ap (λ (t : Tree Symbol). Ok (line_of at (instructions.Deferred operator t close), after)) same)

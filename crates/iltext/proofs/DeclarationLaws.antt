@@ -1,7 +1,9 @@
 -- The items of declarations are lawful.
-use Rattle.std.proofs.Common.{◌≡◌, ℕ, ℤ, true, false, List, Option, refl}
+use Rattle.std.proofs.Common.{◌≡◌, ◌||◌, ℕ, ℤ, true, false, List, Option, refl}
 use Rattle.iloperators.specs.declared.function.IntegerType.{IntegerType}
 use Rattle.iloperators.specs.declared.function.IntegerType.TheVariants as integers
+use Rattle.ilblocks.specs.declared.kind.Kind.{Kind as BlockKind}
+use Rattle.ilblocks.specs.declared.kind.Kind.TheVariants as blocks
 use Rattle.ilgrammar.specs.Items.{lead, is_in}
 use Rattle.ilgrammar.proofs.Laws.{Lawful}
 use Rattle.ilgrammar.proofs.Firm.{Firm, Firm-one, Firm-map, Firm-seq, Firm-seq_open, Firm-lead, Firm-alt, Firm-fewer}
@@ -10,8 +12,9 @@ use Rattle.ilsource.specs.declared.name.Name.{Name}
 use Rattle.ilsource.specs.declared.declaration.Constant.{Constant}
 use Rattle.ilsource.specs.declared.declaration.Specification.{Specification}
 use Rattle.ilsource.specs.declared.declaration.Specification.TheVariants as specifications
+use Rattle.ilsource.specs.declared.declaration.Declared.{Declared}
 use Rattle.ilsource.specs.declared.declaration.TypeDeclaration.{TypeDeclaration}
-use Rattle.ilsource.specs.Programs.{Variables}
+use Rattle.ilsource.specs.Programs.{DeclaredNames}
 use Rattle.iltokens.specs.declared.keyword.Keyword.{Keyword}
 use Rattle.iltokens.specs.declared.keyword.Keyword.TheVariants as words
 use Rattle.iltokens.specs.declared.lexed.Mark.TheVariants as marks
@@ -19,24 +22,20 @@ use Rattle.iltokens.specs.declared.lexed.What.TheVariants as whats
 use Rattle.iltext.specs.declared.token.Kind.{Kind}
 use Rattle.iltext.specs.declared.token.Kind.TheVariants as kinds
 use Rattle.iltext.specs.declared.token.Token.{Token}
+use Rattle.iltext.specs.declared.block_kinds.TheConstants.{BLOCKS}
+use Rattle.iltext.specs.Roles.{lookup}
 use Rattle.iltext.specs.Terminals.{word, mark, name, spaced}
 use Rattle.iltext.specs.Declarations.{integer_word, integer, simple_word, simple, interval, range, specification}
-use Rattle.iltext.specs.Declarations.{initial, typing, type_declaration}
+use Rattle.iltext.specs.Declarations.{initial, typing, type_declaration, block, instances, declared}
 use Rattle.iltext.specs.Declarations.{next_name, more_names, names, declaration, declarations, vars}
 use Rattle.iltext.proofs.Marks.{Anything, token_of, Firm-word, Firm-mark, apart_word, apart_mark}
-use Rattle.iltext.proofs.Ends.{NoEnd, Firm-name, Firm-number, Firm-constant, Firm-spaced}
+use Rattle.iltext.proofs.Ends.{NoEnd, NoComma, NoOpen, Firm-name, Firm-number, Firm-constant, Firm-spaced}
 use Rattle.iltext.proofs.Ends.{word_no_end, mark_no_end, name_no_end, number_no_end, constant_no_end}
 
 -- ---- what may not follow
 
-abbrev NoComma : Token → Type 0
-NoComma t = (mark marks.Comma).starts t ≡ false
-
 abbrev NoAssign : Token → Type 0
 NoAssign t = (mark marks.Assign).starts t ≡ false
-
-abbrev NoOpen : Token → Type 0
-NoOpen t = (mark marks.Open).starts t ≡ false
 
 abbrev pub NoName : Token → Type 0
 NoName t = name.starts t ≡ false
@@ -107,23 +106,22 @@ begins_value _ f g e = (refl, refl)
 
 Firm-typing : Firm Token (Specification × Option Constant) typing NoEnd
 unfolding typing
-Firm-typing = Firm-map _
-    (Firm-seq (Firm-spaced (Firm-mark marks.Colon)) (λ t e. specification_no_end t.kind t.from t.to e)
-    (Firm-seq Firm-specification (λ t e. begins_value t.kind t.from t.to e)
-    (Firm-lead Lawful-initial (λ t e. semicolon_apart t e) (Firm-spaced (Firm-mark marks.Semicolon)))))
+Firm-typing = Firm-map _ (Firm-seq Firm-specification (λ t e. begins_value t.kind t.from t.to e)
+    (Firm-lead Lawful-initial (λ t e. semicolon_apart t e) (Firm-spaced (Firm-mark marks.Semicolon))))
 
-typing_apart : (t : Token) → typing.starts t ≡ true → NoEnd t × NoComma t
-unfolding typing mark
-typing_apart t e = (
+colon_apart : (t : Token) → (mark marks.Colon).starts t ≡ true → NoEnd t × NoComma t
+unfolding mark
+colon_apart t e = (
   mark_no_end marks.Colon refl t e,
   apart_mark marks.Colon (mark marks.Comma).starts (λ f g. refl) t.kind t.from t.to e,
 )
 
 pub Firm-type_declaration : Firm Token TypeDeclaration type_declaration NoEnd
-unfolding type_declaration
-Firm-type_declaration = Firm-map _ (Firm-seq (Firm-spaced Firm-name) (λ t e. (typing_apart t e).0) Firm-typing)
+unfolding type_declaration typing
+Firm-type_declaration = Firm-map _ (Firm-seq (Firm-spaced Firm-name) (λ t e. (colon_apart t e).0)
+    (Firm-seq (Firm-spaced (Firm-mark marks.Colon)) (λ t e. specification_no_end t.kind t.from t.to e) Firm-typing))
 
--- ---- variables
+-- ---- variables and block instances
 
 pub Firm-next_name : Firm Token Name next_name NoEnd
 unfolding next_name
@@ -139,11 +137,48 @@ unfolding names more_names next_name
 Firm-names = Firm-fewer (λ t. NoEnd t × NoComma t) (λ t e. (e.0, e))
     (Firm-map _ (Firm-seq_open (Firm-spaced Firm-name) (λ t e. mark_no_end marks.Comma refl t e) Lawful-more_names))
 
-pub Firm-declaration : Firm Token Variables declaration NoEnd
-unfolding declaration
-Firm-declaration = Firm-map _ (Firm-seq Firm-names (λ t e. typing_apart t e) Firm-typing)
+Firm-block : Firm Token BlockKind block Anything
+unfolding block
+Firm-block = Firm-one _ (token_of (kinds.Good (whats.Keyword words.Ton)) 0 0) blocks.Ton refl
 
-Lawful-declarations : Lawful Token (List Variables) declarations (λ t. NoEnd t × NoName t)
+Firm-instances : Firm Token BlockKind instances NoEnd
+unfolding instances
+Firm-instances = Firm-map _ (Firm-seq (Firm-spaced Firm-block) (λ t e. mark_no_end marks.Semicolon refl t e)
+    (Firm-spaced (Firm-mark marks.Semicolon)))
+
+word_apart : (w : Keyword) → is_in (simple_word w) || is_in (integer_word w) ≡ true → is_in (lookup BLOCKS w) ≡ false
+word_apart words.Bool e = refl
+word_apart words.Time e = refl
+word_apart words.Sint e = refl
+word_apart words.Int e = refl
+word_apart words.Dint e = refl
+word_apart words.Usint e = refl
+word_apart words.Uint e = refl
+word_apart words.Udint e = refl
+word_apart _ e = absurd cc
+
+typing_apart : (k : Kind) (f g : ℕ) → typing.starts (token_of k f g) ≡ true
+    → instances.starts (token_of k f g) ≡ false
+unfolding typing specification range integer simple instances block
+typing_apart (kinds.Good (whats.Keyword w)) f g e = word_apart w e
+typing_apart _ f g e = refl
+
+Firm-declared : Firm Token Declared declared NoEnd
+unfolding declared
+Firm-declared = Firm-fewer NoEnd (λ t e. (e, e))
+    (Firm-alt (Firm-map _ Firm-instances) (λ t e. typing_apart t.kind t.from t.to e) (Firm-map _ Firm-typing))
+
+declared_no_end : (k : Kind) (f g : ℕ) → declared.starts (token_of k f g) ≡ true → NoEnd (token_of k f g)
+unfolding declared instances block typing specification range integer simple mark
+declared_no_end (kinds.Good (whats.Mark m)) f g e = absurd cc
+declared_no_end _ f g e = refl
+
+pub Firm-declaration : Firm Token DeclaredNames declaration NoEnd
+unfolding declaration
+Firm-declaration = Firm-map _ (Firm-seq Firm-names (λ t e. colon_apart t e)
+    (Firm-seq (Firm-spaced (Firm-mark marks.Colon)) (λ t e. declared_no_end t.kind t.from t.to e) Firm-declared))
+
+Lawful-declarations : Lawful Token (List DeclaredNames) declarations (λ t. NoEnd t × NoName t)
 unfolding declarations declaration names
 Lawful-declarations = from_many (λ t e. name_no_end t.kind t.from t.to e) Firm-declaration
 
@@ -158,7 +193,7 @@ unfolding declarations declaration names name word mark
 inside_no_end (kinds.Good (whats.Mark m)) f g e = absurd cc
 inside_no_end _ f g e = refl
 
-pub Firm-vars : Firm Token (List Variables) vars NoEnd
+pub Firm-vars : Firm Token (List DeclaredNames) vars NoEnd
 unfolding vars
 Firm-vars = Firm-map _ (Firm-seq (Firm-spaced (Firm-word words.Var)) (λ t e. inside_no_end t.kind t.from t.to e)
     (Firm-lead Lawful-declarations (λ t e. last_apart words.EndVar t e) (Firm-spaced (Firm-word words.EndVar))))

@@ -11,13 +11,10 @@ use Rattle.iltokens.specs.declared.keyword.Keyword.TheVariants as words
 use Rattle.iltokens.specs.declared.lexed.Mark.{Mark}
 use Rattle.iltokens.specs.declared.lexed.Mark.TheVariants as marks
 use Rattle.iltokens.specs.declared.lexed.What.TheVariants as whats
-use Rattle.iltrees.specs.declared.operand.Operand.{Operand}
-use Rattle.iltrees.specs.declared.operand.Operand.TheVariants as operands
-use Rattle.iltypes.specs.declared.value.Value.TheVariants as values
 use Rattle.iltext.specs.declared.token.Kind.{Kind}
 use Rattle.iltext.specs.declared.token.Kind.TheVariants as kinds
 use Rattle.iltext.specs.declared.token.Token.{Token}
-use Rattle.iltext.specs.Terminals.{Seen, word, same_mark, mark, name, number, constant, operand, closing}
+use Rattle.iltext.specs.Terminals.{Seen, word, same_mark, mark, name, number, constant, closing}
 use Rattle.iltext.specs.Terminals.{line_ends, spaced, line_break, ended}
 use Rattle.iltext.proofs.Marks.{Anything, token_of, Firm-mark, apart_word, apart_mark}
 
@@ -34,11 +31,6 @@ Firm-number = Firm-one _ (token_of (kinds.Good (whats.Number (pos 0))) 0 0) (pos
 pub Firm-constant : Firm Token Constant constant Anything
 unfolding constant
 Firm-constant = Firm-one _ (token_of (kinds.Good (whats.Keyword words.True)) 0 0) (constants.Bool true) refl
-
-pub Firm-operand : Firm Token (Operand Name) operand Anything
-unfolding operand
-Firm-operand =
-    Firm-one _ (token_of (kinds.Good (whats.Keyword words.True)) 0 0) (operands.Constant (values.Bool true)) refl
 
 pub Firm-closing : Firm Token ℕ closing Anything
 unfolding closing
@@ -64,8 +56,30 @@ pub Firm-line_break : Firm Token Seen line_break NoEnd
 unfolding line_break
 Firm-line_break = Firm-spaced Firm-line_end
 
-pub Firm-ended : {A : Type 0} {a : Item Token A} → Firm Token A a Anything → Firm Token A (ended a) NoEnd
-Firm-ended x = Firm-map _ (Firm-seq x (λ t e. tt) Firm-line_break)
+-- none of these marks
+abbrev pub NoDot : Token → Type 0
+NoDot t = (mark marks.Dot).starts t ≡ false
+
+abbrev pub NoComma : Token → Type 0
+NoComma t = (mark marks.Comma).starts t ≡ false
+
+abbrev pub NoOpen : Token → Type 0
+NoOpen t = (mark marks.Open).starts t ≡ false
+
+-- what may not follow an instruction
+abbrev pub NoMore : Token → Type 0
+NoMore t = NoDot t × NoOpen t
+
+end_apart : (t : Token) → (mark marks.LineEnd).starts t ≡ true → NoMore t
+unfolding mark
+end_apart t e = (
+  apart_mark marks.LineEnd (mark marks.Dot).starts (λ f g. refl) t.kind t.from t.to e,
+  apart_mark marks.LineEnd (mark marks.Open).starts (λ f g. refl) t.kind t.from t.to e,
+)
+
+pub Firm-ended : {A : Type 0} {a : Item Token A} → Firm Token A a NoMore → Firm Token A (ended a) NoEnd
+unfolding line_break
+Firm-ended x = Firm-map _ (Firm-seq x (λ t e. end_apart t e) Firm-line_break)
 
 -- ---- no line end begins them
 
@@ -91,8 +105,3 @@ pub constant_no_end : (k : Kind) (f g : ℕ) → constant.starts (token_of k f g
 unfolding constant mark
 constant_no_end (kinds.Good (whats.Mark m)) f g e = absurd cc
 constant_no_end _ f g e = refl
-
-pub operand_no_end : (k : Kind) (f g : ℕ) → operand.starts (token_of k f g) ≡ true → NoEnd (token_of k f g)
-unfolding operand mark
-operand_no_end (kinds.Good (whats.Mark m)) f g e = absurd cc
-operand_no_end _ f g e = refl

@@ -6,11 +6,12 @@ use Rattle.iloperators.specs.Operators.{may_defer}
 use Rattle.iltrees.specs.declared.operand.Operand.{Operand}
 use Rattle.iltrees.specs.Trees.{Tree}
 use Rattle.ilgrammar.specs.Items.{Item, is_in}
-use Rattle.ilgrammar.proofs.Laws.{Lawful}
+use Rattle.ilgrammar.proofs.Laws.{Lawful, Lawful-fewer}
 use Rattle.ilgrammar.proofs.Selects.{Lawful-empty}
 use Rattle.ilgrammar.proofs.Firm.{Firm, Firm-one, Firm-map, Firm-seq, Firm-seq_open, Firm-alt, Firm-fewer, Firm-select}
 use Rattle.ilgrammar.proofs.Firm.{from_opt, from_many}
 use Rattle.ilsource.specs.declared.name.Name.{Name}
+use Rattle.ilsource.specs.declared.symbol.Symbol.{Symbol}
 use Rattle.iltokens.specs.declared.keyword.Keyword.TheVariants as words
 use Rattle.iltokens.specs.declared.lexed.Mark.TheVariants as marks
 use Rattle.iltokens.specs.declared.lexed.What.TheVariants as whats
@@ -20,16 +21,18 @@ use Rattle.iltext.specs.declared.token.Kind.{Kind}
 use Rattle.iltext.specs.declared.token.Kind.TheVariants as kinds
 use Rattle.iltext.specs.declared.token.Token.{Token}
 use Rattle.iltext.specs.Roles.{role_of_word, inner_role_at}
-use Rattle.iltext.specs.Terminals.{mark, name, operand, closing, line_break, ended}
+use Rattle.iltext.specs.Terminals.{mark, name, closing, line_break, ended}
+use Rattle.iltext.specs.Operands.{symbol, literal, operand}
 use Rattle.iltext.specs.Instructions.{TextLine, on_operand, on_content, on_either, bounds, operands, load, beginning}
 use Rattle.iltext.specs.Instructions.{inner_of, content_of, applied, inner, instruction, label, with_label, line, lines}
 use Rattle.iltext.proofs.Marks.{Anything, token_of, Firm-mark, apart_mark}
-use Rattle.iltext.proofs.Ends.{NoEnd, Firm-name, Firm-operand, Firm-closing, Firm-line_break, Firm-ended}
-use Rattle.iltext.proofs.Ends.{operand_no_end}
+use Rattle.iltext.proofs.Ends.{NoEnd, NoDot, NoMore, Firm-name, Firm-closing, Firm-line_break, Firm-ended}
+use Rattle.iltext.proofs.OperandLaws.{Firm-symbol, Firm-operand, operand_no_end}
+use Rattle.iltext.proofs.CallLaws.{Firm-call}
 
 -- ---- what follows an operator
 
-Firm-on_operand : (operator : Operator) (at : ℕ) → Firm Token TextLine (on_operand operator at) Anything
+Firm-on_operand : (operator : Operator) (at : ℕ) → Firm Token TextLine (on_operand operator at) NoDot
 unfolding on_operand
 Firm-on_operand operator at = Firm-map _ Firm-operand
 
@@ -42,7 +45,7 @@ unfolding closing mark
 closing_apart (kinds.Good (whats.Mark marks.Close)) f g e = (refl, refl)
 closing_apart _ f g e = absurd cc
 
-module _ (content : ℕ → Item Token (Tree Name)) (law : (at : ℕ) → Firm Token (Tree Name) (content at) NoInner)
+module _ (content : ℕ → Item Token (Tree Symbol)) (law : (at : ℕ) → Firm Token (Tree Symbol) (content at) NoInner)
     (operator : Operator) (at : ℕ) where
   Firm-on_content : Firm Token TextLine (on_content content operator at) Anything
   unfolding on_content
@@ -51,41 +54,47 @@ module _ (content : ℕ → Item Token (Tree Name)) (law : (at : ℕ) → Firm T
 
   operand_apart : (k : Kind) (f g : ℕ) → (on_operand operator at).starts (token_of k f g) ≡ true
       → (on_content content operator at).starts (token_of k f g) ≡ false
-  unfolding on_operand on_content operand mark
+  unfolding on_operand on_content operand symbol literal name mark
   operand_apart (kinds.Good (whats.Mark m)) f g e = absurd cc
   operand_apart _ f g e = refl
 
-  Firm-on_either : (may : Bool) → Firm Token TextLine (on_either may content operator at) Anything
-  Firm-on_either true = Firm-fewer Anything (λ t e. (tt, tt))
+  Firm-on_either : (may : Bool) → Firm Token TextLine (on_either may content operator at) NoDot
+  Firm-on_either true = Firm-fewer NoDot (λ t e. (tt, e))
       (Firm-alt Firm-on_content (λ t e. operand_apart t.kind t.from t.to e) (Firm-on_operand operator at))
   Firm-on_either false = Firm-on_operand operator at
 
-Firm-bounds : Firm Token (Operand Name × Operand Name) bounds Anything
-unfolding bounds
-Firm-bounds = Firm-map _ (Firm-seq Firm-operand (λ t e. tt)
+Firm-bounds : Firm Token (Operand Symbol × Operand Symbol) bounds NoDot
+unfolding bounds mark
+Firm-bounds = Firm-map _ (Firm-seq Firm-operand
+    (λ t e. apart_mark marks.Comma (mark marks.Dot).starts (λ f g. refl) t.kind t.from t.to e)
     (Firm-seq (Firm-mark marks.Comma) (λ t e. tt) Firm-operand))
 
 abbrev AreFirm : (Operator → ℕ → Item Token TextLine) → Type 0
-AreFirm applied = (operator : Operator) (at : ℕ) → Firm Token TextLine (applied operator at) Anything
+AreFirm applied = (operator : Operator) (at : ℕ) → Firm Token TextLine (applied operator at) NoDot
+
+-- with more that may not follow
+fewer : {A : Type 0} {a : Item Token A} → Firm Token A a NoDot → Firm Token A a NoMore
+fewer x = Firm-fewer NoMore (λ t e. e.0) x
 
 Lawful-operands : (applied : Operator → ℕ → Item Token TextLine) → AreFirm applied → (role : Role) (at : ℕ)
-    → Lawful Token TextLine (operands applied role at) Anything
-Lawful-operands applied law (roles.Load negated) at = (Firm-map _ Firm-operand).lawful
-Lawful-operands applied law (roles.Apply operator) at = (law operator at).lawful
-Lawful-operands applied law (roles.Transform function) at = Lawful-empty _ _ _
-Lawful-operands applied law roles.Limit at = (Firm-map _ Firm-bounds).lawful
-Lawful-operands applied law (roles.Store negated) at = (Firm-map _ Firm-name).lawful
-Lawful-operands applied law roles.Set at = (Firm-map _ Firm-name).lawful
-Lawful-operands applied law roles.Reset at = (Firm-map _ Firm-name).lawful
-Lawful-operands applied law (roles.Jump condition) at = (Firm-map _ Firm-name).lawful
-Lawful-operands applied law (roles.Return condition) at = Lawful-empty _ _ _
+    → Lawful Token TextLine (operands applied role at) NoMore
+Lawful-operands applied law (roles.Load negated) at = (fewer (Firm-map _ Firm-operand)).lawful
+Lawful-operands applied law (roles.Apply operator) at = (fewer (law operator at)).lawful
+Lawful-operands applied law (roles.Transform function) at = Lawful-fewer _ _ _ _ NoMore (λ t e. tt) (Lawful-empty _ _ _)
+Lawful-operands applied law roles.Limit at = (fewer (Firm-map _ Firm-bounds)).lawful
+Lawful-operands applied law (roles.Store negated) at = (fewer (Firm-map _ Firm-symbol)).lawful
+Lawful-operands applied law roles.Set at = (fewer (Firm-map _ Firm-symbol)).lawful
+Lawful-operands applied law roles.Reset at = (fewer (Firm-map _ Firm-symbol)).lawful
+Lawful-operands applied law (roles.Jump condition) at = (Firm-fewer NoMore (λ t e. tt) (Firm-map _ Firm-name)).lawful
+Lawful-operands applied law (roles.Return condition) at = Lawful-fewer _ _ _ _ NoMore (λ t e. tt) (Lawful-empty _ _ _)
+Lawful-operands applied law (roles.Call condition) at = (Firm-fewer NoMore (λ t e. e.1) (Firm-map _ Firm-call)).lawful
 
 -- ---- what stands in parentheses
 
 abbrev load_word : Token
 load_word = token_of (kinds.Good (whats.Keyword words.Ld)) 0 0
 
-Firm-load : Firm Token (Tree Name) load Anything
+Firm-load : Firm Token (Tree Symbol) load NoDot
 unfolding load role_of_word
 Firm-load = Firm-map _ (Firm-seq (Firm-one _ load_word (false, 0) refl) (λ t e. tt) Firm-operand)
 
@@ -98,16 +107,17 @@ break_apart : (t : Token) → operand.starts t ≡ true → line_break.starts t 
 unfolding line_break
 break_apart t e = operand_no_end t.kind t.from t.to e
 
-Firm-beginning : (at : ℕ) → Firm Token (Tree Name) (beginning at) NoEnd
+Firm-beginning : (at : ℕ) → Firm Token (Tree Symbol) (beginning at) NoEnd
 unfolding beginning
 Firm-beginning at = Firm-fewer NoEnd (λ t e. (e, e))
-    (Firm-alt (Firm-map _ (Firm-seq Firm-line_break (λ t e. load_no_end t.kind t.from t.to e) (Firm-ended Firm-load)))
-    (λ t e. break_apart t e) (Firm-ended (Firm-map _ Firm-operand)))
+    (Firm-alt (Firm-map _ (Firm-seq Firm-line_break (λ t e. load_no_end t.kind t.from t.to e)
+    (Firm-ended (fewer Firm-load))))
+    (λ t e. break_apart t e) (Firm-ended (fewer (Firm-map _ Firm-operand))))
 
 Firm-inner_of : (applied : Operator → ℕ → Item Token TextLine) → AreFirm applied
-    → Firm Token TextLine (inner_of applied) Anything
+    → Firm Token TextLine (inner_of applied) NoMore
 unfolding inner_of role_of_word
-Firm-inner_of applied law = Firm-fewer Anything (λ t e. (tt, tt))
+Firm-inner_of applied law = Firm-fewer NoMore (λ t e. (tt, e))
     (Firm-select (Firm-one _ load_word (roles.Load false, 0) refl) (λ x t e. tt)
     (λ x. Lawful-operands applied law x.0 x.1))
 
@@ -122,7 +132,7 @@ unfolding inner_of
 begins_inner applied t = refl
 
 Firm-content_of : (applied : Operator → ℕ → Item Token TextLine) → AreFirm applied
-    → (at : ℕ) → Firm Token (Tree Name) (content_of applied at) NoInner
+    → (at : ℕ) → Firm Token (Tree Symbol) (content_of applied at) NoInner
 unfolding content_of
 Firm-content_of applied law at =
     let inside = λ (t : Token) (e : (ended (inner_of applied)).starts t ≡ true).
@@ -141,9 +151,9 @@ Firm-inner_line more = Firm-ended (Firm-inner_of (applied more) (Firm-applied mo
 
 -- ---- lines
 
-Firm-instruction : Firm Token TextLine instruction Anything
+Firm-instruction : Firm Token TextLine instruction NoMore
 unfolding instruction role_of_word
-Firm-instruction = Firm-fewer Anything (λ t e. (tt, tt))
+Firm-instruction = Firm-fewer NoMore (λ t e. (tt, e))
     (Firm-select (Firm-one _ load_word (roles.Load false, 0) refl) (λ x t e. tt)
     (λ x. Lawful-operands (applied most_nesting) (Firm-applied most_nesting) x.0 x.1))
 
@@ -153,11 +163,11 @@ Firm-label = Firm-map _ (Firm-seq Firm-name (λ t e. tt) (Firm-mark marks.Colon)
 
 -- what may not follow a label alone
 abbrev NoInstruction : Token → Type 0
-NoInstruction t = instruction.starts t ≡ false
+NoInstruction t = NoMore t × (instruction.starts t ≡ false)
 
 Firm-with_label : Firm Token TextLine with_label NoInstruction
 unfolding with_label
-Firm-with_label = Firm-map _ (Firm-fewer NoInstruction (λ t e. (tt, (tt, e)))
+Firm-with_label = Firm-map _ (Firm-fewer NoInstruction (λ t e. (tt, e))
     (Firm-seq_open Firm-label (λ t e. tt) (from_opt Firm-instruction)))
 
 instruction_apart : (k : Kind) (f g : ℕ) → instruction.starts (token_of k f g) ≡ true
@@ -167,14 +177,20 @@ instruction_apart (kinds.Good whats.Name) f g e = absurd cc
 instruction_apart _ f g e = refl
 
 end_apart : (t : Token) → line_break.starts t ≡ true → NoInstruction t
-unfolding line_break instruction
-end_apart t e = apart_mark marks.LineEnd instruction.starts (λ f g. refl) t.kind t.from t.to e
+unfolding line_break instruction mark
+end_apart t e = (
+  (
+    apart_mark marks.LineEnd (mark marks.Dot).starts (λ f g. refl) t.kind t.from t.to e,
+    apart_mark marks.LineEnd (mark marks.Open).starts (λ f g. refl) t.kind t.from t.to e,
+  ),
+  apart_mark marks.LineEnd instruction.starts (λ f g. refl) t.kind t.from t.to e,
+)
 
 pub Firm-line : Firm Token TextLine line NoEnd
 unfolding line
 Firm-line = Firm-map _ (Firm-seq
     (Firm-alt Firm-with_label (λ t e. instruction_apart t.kind t.from t.to e) Firm-instruction)
-    (λ t e. (end_apart t e, tt)) Firm-line_break)
+    (λ t e. (end_apart t e, (end_apart t e).0)) Firm-line_break)
 
 abbrev pub NoLine : Token → Type 0
 NoLine t = line.starts t ≡ false

@@ -3,7 +3,7 @@ use Rattle.std.proofs.Common.{◌≡◌, ℕ, true, false, List, refl}
 use Rattle.ilgrammar.specs.Items.{lead}
 use Rattle.ilgrammar.proofs.Laws.{Lawful, Lawful-map, Lawful-lead_open}
 use Rattle.ilgrammar.proofs.Firm.{Firm, Firm-map, Firm-seq, Firm-lead, Firm-alt, Firm-fewer, from_many}
-use Rattle.ilsource.specs.Programs.{Variables, Written}
+use Rattle.ilsource.specs.Programs.{DeclaredNames, Written}
 use Rattle.ilsource.specs.declared.source.Element.{Element}
 use Rattle.iltokens.specs.declared.keyword.Keyword.{Keyword}
 use Rattle.iltokens.specs.declared.keyword.Keyword.TheVariants as words
@@ -38,7 +38,7 @@ Firm-body : Firm Token (List TextLine × Seen) (lead lines (spaced (word words.E
 unfolding lines
 Firm-body = Firm-lead Lawful-lines (λ t e. end_program_apart t e) (Firm-spaced (Firm-word words.EndProgram))
 
-Lawful-blocks : Lawful Token (List Variables) blocks (λ t. NoEnd t × NoVar t)
+Lawful-blocks : Lawful Token (List DeclaredNames) blocks (λ t. NoEnd t × NoVar t)
 unfolding blocks vars
 Lawful-blocks = Lawful-map _ _ _ _ _ _ (from_many (λ t e. word_no_end words.Var t e) Firm-vars)
 
@@ -56,7 +56,7 @@ body_apart (kinds.Good (whats.Keyword w)) f g e = (refl, body_word_apart w f g e
 body_apart (kinds.Good (whats.Mark marks.LineEnd)) f g e = absurd cc
 body_apart _ f g e = (refl, refl)
 
-Firm-inside : Firm Token (List Variables × (List TextLine × Seen))
+Firm-inside : Firm Token (List DeclaredNames × (List TextLine × Seen))
     (lead blocks (lead lines (spaced (word words.EndProgram)))) NoEnd
 unfolding blocks
 Firm-inside = Firm-lead {b = lead lines (spaced (word words.EndProgram))} Lawful-blocks

@@ -1,3 +1,4 @@
+pub mod CallLaws
 pub mod Contents
 pub mod Cut
 pub mod DeclarationLaws
@@ -7,5 +8,6 @@ pub mod InstructionLaws
 pub mod Laws
 pub mod LineEnds
 pub mod Marks
+pub mod OperandLaws
 pub mod Shallow
 pub mod Sources

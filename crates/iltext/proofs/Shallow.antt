@@ -1,4 +1,4 @@
--- Lines that are read have no more parentheses open at once than the limit, and no call.
+-- Lines that are read have no more parentheses open at once than the limit.
 use Rattle.std.proofs.Common.{◌≡◌, ℕ, zero, suc, ◌+◌, ◌≤◌, Bool, true, false, List, [], ◌∷◌, Option, Some, None}
 use Rattle.std.specs.Prelude.{⊤}
 use Rattle.std.proofs.Common.{Ok, inl, inr, sym, subst, ◌∙◌, arith}
@@ -7,9 +7,10 @@ use Rattle.iloperators.specs.declared.operator.Operator.{Operator}
 use Rattle.iloperators.specs.Operators.{may_defer}
 use Rattle.iltrees.specs.declared.instruction.Instruction.TheVariants as instructions
 use Rattle.iltrees.specs.Trees.{Tree, depth}
-use Rattle.iltrees.specs.Words.{IsShallow, AreShallow, CallsNothing, CallNothing}
+use Rattle.iltrees.specs.Words.{IsShallow, AreShallow}
 use Rattle.ilgrammar.specs.Items.{Item, alt, opt_whole, many_whole}
 use Rattle.ilsource.specs.declared.name.Name.{Name}
+use Rattle.ilsource.specs.declared.symbol.Symbol.{Symbol}
 use Rattle.iltext.specs.declared.roles.Role.{Role}
 use Rattle.iltext.specs.declared.roles.Role.TheVariants as roles
 use Rattle.iltext.specs.declared.token.Token.{Token}
@@ -27,59 +28,60 @@ HasRoom more (Some (instructions.Deferred operator u close)) = depth u + 1 ≤ m
 HasRoom more _ = ⊤
 
 abbrev Fits : ℕ → TextLine → Type 0
-Fits more line = HasRoom more line.instruction × CallsNothing line.instruction
+Fits more line = HasRoom more line.instruction
 
 abbrev AllFit : ℕ → Item Token TextLine → Type 0
 AllFit more item = (ts : List Token) (line : TextLine) → item.whole ts line → Fits more line
 
-abbrev AllWithin : ℕ → Item Token (Tree Name) → Type 0
-AllWithin more item = (ts : List Token) (t : Tree Name) → item.whole ts t → depth t ≤ more
+abbrev AllWithin : ℕ → Item Token (Tree Symbol) → Type 0
+AllWithin more item = (ts : List Token) (t : Tree Symbol) → item.whole ts t → depth t ≤ more
 
 -- ---- what follows an operator
 
 module _ (more : ℕ) where
   operand_fits : (operator : Operator) (at : ℕ) → AllFit more (on_operand operator at)
   unfolding on_operand
-  operand_fits operator at ts l w = subst (Fits more) (sym w.2) (tt, tt)
+  operand_fits operator at ts l w = subst (Fits more) (sym w.2) tt
 
   operands_fit : (of : Operator → ℕ → Item Token TextLine)
       → ((operator : Operator) (at : ℕ) → AllFit more (of operator at))
       → (role : Role) (at : ℕ) → AllFit more (operands of role at)
-  operands_fit of fit (roles.Load negated) at ts l w = subst (Fits more) (sym w.2) (tt, tt)
+  operands_fit of fit (roles.Load negated) at ts l w = subst (Fits more) (sym w.2) tt
   operands_fit of fit (roles.Apply operator) at ts l w = fit operator at ts l w
-  operands_fit of fit (roles.Transform function) at ts l w = subst (Fits more) (sym w.1) (tt, tt)
-  operands_fit of fit roles.Limit at ts l w = subst (Fits more) (sym w.2) (tt, tt)
-  operands_fit of fit (roles.Store negated) at ts l w = subst (Fits more) (sym w.2) (tt, tt)
-  operands_fit of fit roles.Set at ts l w = subst (Fits more) (sym w.2) (tt, tt)
-  operands_fit of fit roles.Reset at ts l w = subst (Fits more) (sym w.2) (tt, tt)
-  operands_fit of fit (roles.Jump condition) at ts l w = subst (Fits more) (sym w.2) (tt, tt)
-  operands_fit of fit (roles.Return condition) at ts l w = subst (Fits more) (sym w.1) (tt, tt)
+  operands_fit of fit (roles.Transform function) at ts l w = subst (Fits more) (sym w.1) tt
+  operands_fit of fit roles.Limit at ts l w = subst (Fits more) (sym w.2) tt
+  operands_fit of fit (roles.Store negated) at ts l w = subst (Fits more) (sym w.2) tt
+  operands_fit of fit roles.Set at ts l w = subst (Fits more) (sym w.2) tt
+  operands_fit of fit roles.Reset at ts l w = subst (Fits more) (sym w.2) tt
+  operands_fit of fit (roles.Jump condition) at ts l w = subst (Fits more) (sym w.2) tt
+  operands_fit of fit (roles.Return condition) at ts l w = subst (Fits more) (sym w.1) tt
+  operands_fit of fit (roles.Call condition) at ts l w = subst (Fits more) (sym w.2) tt
 
   -- ---- what stands in parentheses
 
-  grown_within : (t : Tree Name) (at : ℕ) (i : Option TextInstruction)
+  grown_within : (t : Tree Symbol) (at : ℕ) (i : Option TextInstruction)
       → depth t ≤ more → HasRoom more i → depth (grown t at i) ≤ more
   grown_within t at (Some (instructions.Deferred operator u close)) h room = omega arith
   grown_within t at _ h room = h
 
   loads_within : AllWithin more load
   unfolding load
-  loads_within ts t w = subst (λ (u : Tree Name). depth u ≤ more) (sym w.2) (omega arith)
+  loads_within ts t w = subst (λ (u : Tree Symbol). depth u ≤ more) (sym w.2) (omega arith)
 
   begins_within : (at : ℕ) → AllWithin more (beginning at)
   unfolding beginning
   begins_within at ts t (inl w) =
       let next = w.1.4 in let load_line = next.1.3 in
-      subst (λ (u : Tree Name). depth u ≤ more) (sym (w.2 ∙ next.2)) (loads_within _ _ load_line)
+      subst (λ (u : Tree Symbol). depth u ≤ more) (sym (w.2 ∙ next.2)) (loads_within _ _ load_line)
   begins_within at ts t (inr w) =
-      subst (λ (u : Tree Name). depth u ≤ more) (sym (w.2 ∙ w.1.3.2)) (omega arith)
+      subst (λ (u : Tree Symbol). depth u ≤ more) (sym (w.2 ∙ w.1.3.2)) (omega arith)
 
-  grows_within : (item : Item Token TextLine) (ts : List Token) (t : Tree Name) (lines : List TextLine)
+  grows_within : (item : Item Token TextLine) (ts : List Token) (t : Tree Symbol) (lines : List TextLine)
       → AllFit more item → depth t ≤ more → many_whole item ts lines → depth (grows_by t lines) ≤ more
   grows_within item ts t [] fit h w = h
   grows_within item ts t (l ∷ ls) fit h w =
       let first : Fits more l = fit w.0 l w.3 in
-      grows_within item w.1 (grows t l) ls fit (grown_within t l.at l.instruction h first.0) w.4
+      grows_within item w.1 (grows t l) ls fit (grown_within t l.at l.instruction h first) w.4
 
   ended_fits : (item : Item Token TextLine) → AllFit more item → AllFit more (ended item)
   ended_fits item fit ts l w = subst (Fits more) (sym w.2) (fit w.1.0 w.0.0 w.1.3)
@@ -94,17 +96,17 @@ module _ (more : ℕ) where
     unfolding content_of
     content_within at ts t w =
         let first = begins_within at w.1.0 w.0.0 w.1.3 in
-        subst (λ (u : Tree Name). depth u ≤ more) (sym w.2)
+        subst (λ (u : Tree Symbol). depth u ≤ more) (sym w.2)
         (grows_within (ended (inner_of of)) w.1.1 w.0.0 w.0.1 (ended_fits (inner_of of) inner_fits) first w.1.4)
 
 -- ---- parentheses
 
-either_fits : (more : ℕ) (content : ℕ → Item Token (Tree Name)) → ((at : ℕ) → AllWithin more (content at))
+either_fits : (more : ℕ) (content : ℕ → Item Token (Tree Symbol)) → ((at : ℕ) → AllWithin more (content at))
     → (may : Bool) (operator : Operator) (at : ℕ) → AllFit (suc more) (on_either may content operator at)
 unfolding on_content
 either_fits more content within true operator at ts l (inl w) =
     let inside = within at w.1.4.0 w.0.1.0 w.1.4.3 in
-    subst (Fits (suc more)) (sym w.2) (omega arith, tt)
+    subst (Fits (suc more)) (sym w.2) (omega arith)
 either_fits more content within true operator at ts l (inr w) = operand_fits (suc more) operator at ts l w
 either_fits more content within false operator at ts l w = operand_fits (suc more) operator at ts l w
 
@@ -124,7 +126,7 @@ instruction_fits ts l w =
 
 labelled_fits : (n : Name) (ts : List Token) (o : Option TextLine)
     → opt_whole instruction ts o → Fits most_nesting (labelled n o)
-labelled_fits n ts None w = (tt, tt)
+labelled_fits n ts None w = tt
 labelled_fits n ts (Some l) w = instruction_fits ts l w
 
 content_fits : AllFit most_nesting (alt with_label instruction)
@@ -140,17 +142,13 @@ shallow_one : (i : Option TextInstruction) → HasRoom most_nesting i → IsShal
 shallow_one (Some (instructions.Deferred operator u close)) room = room
 shallow_one _ room = tt
 
-all_fit : (ts : List Token) (ls : List TextLine) → many_whole line ts ls → AreShallow ls × CallNothing ls
-all_fit ts [] w = (tt, tt)
-all_fit ts (l ∷ ls) w =
-    let first = line_fits w.0 l w.3 in
-    let others = all_fit w.1 ls w.4 in
-    ((shallow_one l.instruction first.0, others.0), (first.1, others.1))
+all_fit : (ts : List Token) (ls : List TextLine) → many_whole line ts ls → AreShallow ls
+all_fit ts [] w = tt
+all_fit ts (l ∷ ls) w = (shallow_one l.instruction (line_fits w.0 l w.3), all_fit w.1 ls w.4)
 
-whole_fit : (ts : List Token) (ls : List TextLine) → lines.whole ts ls → AreShallow ls × CallNothing ls
+whole_fit : (ts : List Token) (ls : List TextLine) → lines.whole ts ls → AreShallow ls
 unfolding lines
 whole_fit ts ls w = all_fit ts ls w
 
-pub are_shallow : (ts rest : List Token) (ls : List TextLine) → lines.read ts ≡ Ok (ls, rest)
-    → AreShallow ls × CallNothing ls
+pub are_shallow : (ts rest : List Token) (ls : List TextLine) → lines.read ts ≡ Ok (ls, rest) → AreShallow ls
 are_shallow ts rest ls e = let t = Lawful-lines.ok ts ls rest e in whole_fit t.front ls t.whole

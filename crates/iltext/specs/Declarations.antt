@@ -3,20 +3,25 @@
 use Rattle.std.specs.Prelude.{ℤ, List, ◌∷◌, Option, Some, None}
 use Rattle.iloperators.specs.declared.function.IntegerType.{IntegerType}
 use Rattle.iloperators.specs.declared.function.IntegerType.TheVariants as integers
+use Rattle.ilblocks.specs.declared.kind.Kind.{Kind as BlockKind}
 use Rattle.ilgrammar.specs.Items.{Item, one, map, seq, lead, opt, alt, many}
 use Rattle.ilsource.specs.declared.name.Name.{Name}
 use Rattle.ilsource.specs.declared.declaration.Constant.{Constant}
 use Rattle.ilsource.specs.declared.declaration.Specification.{Specification}
 use Rattle.ilsource.specs.declared.declaration.Specification.TheVariants as specifications
 use Rattle.ilsource.specs.declared.declaration.TypeDeclaration.{TypeDeclaration}
-use Rattle.ilsource.specs.Programs.{Variables}
+use Rattle.ilsource.specs.declared.declaration.Declared.{Declared}
+use Rattle.ilsource.specs.declared.declaration.Declared.TheVariants as declareds
+use Rattle.ilsource.specs.Programs.{DeclaredNames}
 use Rattle.iltokens.specs.declared.keyword.Keyword.{Keyword}
 use Rattle.iltokens.specs.declared.keyword.Keyword.TheVariants as words
 use Rattle.iltokens.specs.declared.lexed.Mark.TheVariants as marks
 use Rattle.iltokens.specs.declared.lexed.What.TheVariants as whats
+use Rattle.iltext.specs.declared.block_kinds.TheConstants.{BLOCKS}
 use Rattle.iltext.specs.declared.token.Kind.{Kind}
 use Rattle.iltext.specs.declared.token.Kind.TheVariants as kinds
 use Rattle.iltext.specs.declared.token.Token.{Token}
+use Rattle.iltext.specs.Roles.{lookup}
 use Rattle.iltext.specs.Terminals.{word, mark, name, number, constant, spaced}
 
 -- ---- types
@@ -73,16 +78,16 @@ specification = alt (spaced simple) range
 unfoldable pub initial : Item Token (Option Constant)
 initial = opt (map (λ x. x.1) (seq (spaced (mark marks.Assign)) (spaced constant)))
 
--- ":" specification [":=" constant] ";"
+-- specification [":=" constant] ";"
 unfoldable pub typing : Item Token (Specification × Option Constant)
-typing = map (λ x. (x.1.0, x.1.1.0))
-    (seq (spaced (mark marks.Colon)) (seq specification (lead initial (spaced (mark marks.Semicolon)))))
+typing = map (λ x. (x.0, x.1.0)) (seq specification (lead initial (spaced (mark marks.Semicolon))))
 
--- name typing
+-- name ":" typing
 unfoldable pub type_declaration : Item Token TypeDeclaration
-type_declaration = map (λ x. record { name = x.0; specification = x.1.0; initial = x.1.1 }) (seq (spaced name) typing)
+type_declaration = map (λ x. record { name = x.0; specification = x.1.1.0; initial = x.1.1.1 })
+    (seq (spaced name) (seq (spaced (mark marks.Colon)) typing))
 
--- ---- variables
+-- ---- variables and block instances
 
 -- "," name
 unfoldable pub next_name : Item Token Name
@@ -95,13 +100,30 @@ more_names = many next_name
 unfoldable pub names : Item Token (List Name)
 names = map (λ x. x.0 ∷ x.1) (seq (spaced name) more_names)
 
--- names typing
-unfoldable pub declaration : Item Token Variables
-declaration = map (λ x. record { names = x.0; specification = x.1.0; initial = x.1.1 }) (seq names typing)
+abbrev pub block_at : Kind → Option BlockKind
+block_at (kinds.Good (whats.Keyword w)) = lookup BLOCKS w
+block_at _ = None
 
-unfoldable pub declarations : Item Token (List Variables)
+-- a kind of function block, by the table of its words
+unfoldable pub block : Item Token BlockKind
+block = one (λ t. block_at t.kind)
+
+-- block ";"
+unfoldable pub instances : Item Token BlockKind
+instances = map (λ x. x.0) (seq (spaced block) (spaced (mark marks.Semicolon)))
+
+-- block ";", or typing
+unfoldable pub declared : Item Token Declared
+declared = alt (map declareds.Blocks instances) (map (λ x. declareds.Variables x.0 x.1) typing)
+
+-- names ":" declared
+unfoldable pub declaration : Item Token DeclaredNames
+declaration = map (λ x. record { names = x.0; declared = x.1.1 })
+    (seq names (seq (spaced (mark marks.Colon)) declared))
+
+unfoldable pub declarations : Item Token (List DeclaredNames)
 declarations = many declaration
 
 -- VAR {declaration} END_VAR
-unfoldable pub vars : Item Token (List Variables)
+unfoldable pub vars : Item Token (List DeclaredNames)
 vars = map (λ x. x.1.0) (seq (spaced (word words.Var)) (lead declarations (spaced (word words.EndVar))))

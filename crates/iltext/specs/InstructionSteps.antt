@@ -8,13 +8,13 @@ use Rattle.iltrees.specs.declared.nested.Piece.{Piece}
 use Rattle.iltrees.specs.Trees.{piece, pieces_of}
 use Rattle.iloperators.specs.Operators.{may_defer}
 use Rattle.ilgrammar.specs.Items.{begins}
-use Rattle.ilsource.specs.declared.name.Name.{Name}
+use Rattle.ilsource.specs.declared.symbol.Symbol.{Symbol}
 use Rattle.iltokens.specs.declared.lexed.Mark.TheVariants as marks
 use Rattle.iltext.specs.declared.token.Token.{Token}
 use Rattle.iltext.specs.Terminals.{mark}
 use Rattle.iltext.specs.Instructions.{TextInstruction, TextLine}
 
-abbrev pub pieces_at : ℕ → Option TextInstruction → List (Piece Name)
+abbrev pub pieces_at : ℕ → Option TextInstruction → List (Piece Symbol)
 pieces_at at (Some (instructions.Load negated o)) = piece at (actions.Load negated o) ∷ []
 pieces_at at (Some (instructions.Apply operator o)) = piece at (actions.Apply operator o) ∷ []
 pieces_at at (Some (instructions.Deferred operator u close)) =
@@ -24,7 +24,7 @@ pieces_at at (Some (instructions.Limit low high)) =
     piece at (actions.Apply Max low) ∷ piece at (actions.Apply Min high) ∷ []
 pieces_at at _ = []
 
-abbrev pub pieces_in : TextLine → List (Piece Name)
+abbrev pub pieces_in : TextLine → List (Piece Symbol)
 pieces_in line = pieces_at line.at line.instruction
 
 -- whether `(` stands after an operator that may be deferred, where this many more may be opened

@@ -1,8 +1,10 @@
+pub mod Calls
 pub mod Cutting
 pub mod Declarations
 pub mod Faults
 pub mod Instructions
 pub mod InstructionSteps
+pub mod Operands
 pub mod Roles
 pub mod Parsing
 pub mod ParsingSteps

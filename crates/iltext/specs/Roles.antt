@@ -15,7 +15,7 @@ use Rattle.iltext.specs.declared.roles.TheConstants.{ROLES}
 use Rattle.iltext.specs.Terminals.{same_word}
 
 -- what a table has for a word
-abbrev pub lookup : List (Keyword × Role) → Keyword → Option Role
+abbrev pub lookup : {A : Type 0} → List (Keyword × A) → Keyword → Option A
 lookup [] word = None
 lookup (entry ∷ entries) word = if same_word entry.0 word then Some entry.1 else lookup entries word
 
@@ -30,13 +30,14 @@ role_of (kinds.Good (whats.Mark marks.Ampersand)) = role_of_word words.And
 role_of (kinds.Good (whats.Mark marks.AmpersandNot)) = role_of_word words.Andn
 role_of _ = None
 
--- whether it may stand in parentheses: all that leaves a value, and nothing that writes a variable or leads elsewhere
+-- whether it may stand in parentheses: all that leaves a value, and nothing that writes, leads elsewhere or calls
 abbrev pub may_nest : Role → Bool
 may_nest (roles.Store negated) = false
 may_nest roles.Set = false
 may_nest roles.Reset = false
 may_nest (roles.Jump condition) = false
 may_nest (roles.Return condition) = false
+may_nest (roles.Call condition) = false
 may_nest _ = true
 
 abbrev pub nesting : Role → Option Role
@@ -46,7 +47,8 @@ nesting role = if may_nest role then Some role else None
 abbrev pub inner_role_of : Kind → Option Role
 inner_role_of kind = option_and_then nesting (role_of kind)
 
--- whether a reserved word may stand in parentheses: those operators, TRUE and FALSE
+-- whether a reserved word may stand in parentheses by itself: those operators, TRUE and FALSE. R, which may stand there
+-- as the name of a port, is counted as the operator
 abbrev pub is_inner : Keyword → Bool
 is_inner words.True = true
 is_inner words.False = true

@@ -1,6 +1,6 @@
 -- Single tokens as items of the grammar, and the line ends after them. Line ends matter only between instructions, so
 -- elsewhere each word, name or mark takes those that follow it.
-use Rattle.std.specs.Prelude.{ℕ, ℤ, pos, Option, Some, None, Bool, true, false, if◌then◌else◌}
+use Rattle.std.specs.Prelude.{ℕ, ℤ, Option, Some, None, Bool, true, false, if◌then◌else◌}
 use denote.Enum.Bare.{sameb}
 use Rattle.iltokens.specs.contracts.keyword.Keyword.{the_type as all_words}
 use Rattle.iltokens.specs.contracts.lexed.Mark.{the_type as all_marks}
@@ -8,9 +8,6 @@ use Rattle.ilgrammar.specs.Items.{Item, one, map, seq, many}
 use Rattle.ilsource.specs.declared.name.Name.{Name}
 use Rattle.ilsource.specs.declared.declaration.Constant.{Constant}
 use Rattle.ilsource.specs.declared.declaration.Constant.TheVariants as constants
-use Rattle.iltrees.specs.declared.operand.Operand.{Operand}
-use Rattle.iltrees.specs.declared.operand.Operand.TheVariants as operands
-use Rattle.iltypes.specs.declared.value.Value.TheVariants as values
 use Rattle.iltokens.specs.declared.keyword.Keyword.{Keyword}
 use Rattle.iltokens.specs.declared.keyword.Keyword.TheVariants as words
 use Rattle.iltokens.specs.declared.lexed.Mark.{Mark}
@@ -78,22 +75,6 @@ number_at _ = None
 -- a number
 unfoldable pub number : Item Token ℤ
 number = one (λ t. number_at t.kind)
-
-abbrev pub operand_word : Keyword → Option (Operand Name)
-operand_word words.True = Some (operands.Constant (values.Bool true))
-operand_word words.False = Some (operands.Constant (values.Bool false))
-operand_word _ = None
-
-abbrev pub operand_at : Kind → Token → Option (Operand Name)
-operand_at (kinds.Good (whats.Keyword w)) t = operand_word w
-operand_at (kinds.Good (whats.Number n)) t = Some (operands.Constant (values.Int n))
-operand_at (kinds.Good (whats.Time n)) t = Some (operands.Constant (values.Int (pos n)))
-operand_at (kinds.Good whats.Name) t = Some (operands.Name (record { from = t.from; to = t.to }))
-operand_at _ t = None
-
--- a variable, TRUE, FALSE, a number, or a duration, which is the number of its milliseconds
-unfoldable pub operand : Item Token (Operand Name)
-operand = one (λ t. operand_at t.kind t)
 
 abbrev pub closing_at : Kind → ℕ → Option ℕ
 closing_at (kinds.Good (whats.Mark marks.Close)) at = Some at

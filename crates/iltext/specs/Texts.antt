@@ -2,7 +2,7 @@
 -- with neither a label nor an instruction are left out, and each line needs its end of line.
 use Rattle.std.specs.Prelude.{List, [], ◌∷◌, flat_map}
 use Rattle.ilgrammar.specs.Items.{Item, map, seq, lead, alt, many}
-use Rattle.ilsource.specs.Programs.{Variables, Written}
+use Rattle.ilsource.specs.Programs.{DeclaredNames, Written}
 use Rattle.ilsource.specs.declared.source.Element.{Element}
 use Rattle.ilsource.specs.declared.source.Element.TheVariants as elements
 use Rattle.iltokens.specs.declared.keyword.Keyword.TheVariants as words
@@ -16,7 +16,7 @@ abbrev pub flat : {A : Type 0} → List (List A) → List A
 flat = flat_map (λ xs. xs)
 
 -- the declarations of all VAR blocks in order
-unfoldable pub blocks : Item Token (List Variables)
+unfoldable pub blocks : Item Token (List DeclaredNames)
 blocks = map flat (many vars)
 
 -- PROGRAM name {vars} {line} END_PROGRAM

@@ -4,19 +4,21 @@ ghost use Rattle.std.specs.Prelude.{◌≡◌, List, length};
 ghost use Rattle.ilgrammar.specs.Items.{begins};
 ghost use Rattle.ilgrammar.specs.Results.{Gives};
 ghost use Rattle.iltext.specs.Declarations.{integer, simple, interval, range, specification};
-ghost use Rattle.iltext.specs.Declarations.{initial, typing, type_declaration};
+ghost use Rattle.iltext.specs.Declarations.{initial, typing, type_declaration, instances, declared};
 ghost use Rattle.iltext.specs.Declarations.{next_name, names, declaration, declarations, vars};
 ghost use Rattle.iltext.specs.Instructions.{with_label};
 ghost use Rattle.iltext.specs.Terminals.{spaced};
 ghost use Rattle.iltext.specs.Texts.{derived_type};
 
+use crate::block_kinds::{begins_instances, block};
 use crate::reading::{
     line_ends, spaced_constant, spaced_mark, spaced_name, spaced_number, spaced_word,
 };
 use crate::token::{Kind, Token};
+use ilblocks::Kind as BlockKind;
 use ilgrammar::ReadError;
 use iloperators::IntegerType;
-use ilsource::{Constant, Declaration, Name, Specification, TypeDeclaration};
+use ilsource::{Constant, Declaration, Declared, Name, Specification, TypeDeclaration};
 use iltokens::{Keyword, Mark, What};
 use std::alloc::Global;
 
@@ -151,15 +153,14 @@ fn initial<'a>(ts: &'a [Token]) -> Result<(Option<Constant>, &'a [Token]), ReadE
     }
 }
 
-/// `":" specification [":=" constant] ";"`
+/// `specification [":=" constant] ";"`
 #[tactic(auto, unfolding(crate::specs::Declarations::typing))]
 fn typing<'a>(
     ts: &'a [Token],
 ) -> Result<((Specification, Option<Constant>), &'a [Token]), ReadError<'a, Token>>
     ensures { Gives (λ x. (x.0, x.1.now)) result (typing.read ts.now) }
 {
-    let rest = spaced_mark(ts, Mark::Colon)?;
-    let (specification, rest) = specification(rest)?;
+    let (specification, rest) = specification(ts)?;
     let (initial, rest) = initial(rest)?;
     let rest = spaced_mark(rest, Mark::Semicolon)?;
     Ok(((specification, initial), rest))
@@ -173,6 +174,7 @@ pub fn type_declaration<'a>(
     ensures { Gives (λ x. (x.0, x.1.now)) result (type_declaration.read ts.now) }
 {
     let (name, rest) = spaced_name(ts)?;
+    let rest = spaced_mark(rest, Mark::Colon)?;
     let ((specification, initial), rest) = typing(rest)?;
     let declaration = TypeDeclaration {
         name,
@@ -246,7 +248,36 @@ pub fn begins_name(ts: &[Token]) -> bool
     )
 }
 
-/// `name {"," name} ":" specification [":=" constant] ";"`
+/// `block ";"`
+#[tactic(auto, unfolding(crate::specs::Declarations::instances))]
+fn instances<'a>(ts: &'a [Token]) -> Result<(BlockKind, &'a [Token]), ReadError<'a, Token>>
+    ensures { Gives (λ x. (x.0, x.1.now)) result (instances.read ts.now) }
+{
+    let (kind, rest) = block(ts)?;
+    let rest = line_ends(rest);
+    let rest = spaced_mark(rest, Mark::Semicolon)?;
+    Ok((kind, rest))
+}
+
+/// `block ";"` or `specification [":=" constant] ";"`
+#[tactic(auto, unfolding(crate::specs::Declarations::declared))]
+fn declared<'a>(ts: &'a [Token]) -> Result<(Declared, &'a [Token]), ReadError<'a, Token>>
+    ensures { Gives (λ x. (x.0, x.1.now)) result (declared.read ts.now) }
+{
+    if begins_instances(ts) {
+        let (kind, rest) = instances(ts)?;
+        Ok((Declared::Blocks(kind), rest))
+    } else {
+        let ((specification, initial), rest) = typing(ts)?;
+        let variables = Declared::Variables {
+            specification,
+            initial,
+        };
+        Ok((variables, rest))
+    }
+}
+
+/// `name {"," name} ":" (specification [":=" constant] | block) ";"`
 #[tactic(auto, unfolding(crate::specs::Declarations::declaration))]
 fn declaration<'a>(
     alloc: Global,
@@ -255,8 +286,9 @@ fn declaration<'a>(
     ensures { Gives (λ x. (x.0, x.1.now)) result (declaration.read ts.now) }
 {
     let (names, rest) = names(alloc, ts)?;
-    let ((specification, initial), rest) = typing(rest)?;
-    Ok((Declaration::new(names, specification, initial), rest))
+    let rest = spaced_mark(rest, Mark::Colon)?;
+    let (declared, rest) = declared(rest)?;
+    Ok((Declaration::new(names, declared), rest))
 }
 
 /// `{declaration}`

@@ -6,21 +6,23 @@ ghost use Rattle.ilgrammar.specs.Results.{Gives};
 ghost use Rattle.iltext.specs.Instructions.{line_of, applied, on_content, content, operands};
 ghost use Rattle.iltext.specs.Instructions.{instruction, label, with_label, line, lines};
 
+use crate::calls::call;
 use crate::declarations::begins_name;
+use crate::operands::{operand, symbol};
 use crate::parentheses::{bounds, content, may_open};
-use crate::reading::{closing, line_break, mark, name, operand};
+use crate::reading::{closing, line_break, mark, name};
 use crate::roles::{Role, role_of};
 use crate::token::Token;
 use ilgrammar::ReadError;
 use iloperators::Operator;
-use ilsource::Name;
+use ilsource::{Name, Symbol};
 use iltokens::Mark;
 use iltrees::{Instruction, Line, Nested};
 use limits::MOST_NESTING;
 use std::alloc::Global;
 
 /// An instruction at the place of its operator, with no label.
-fn line_of(at: usize, instruction: Instruction<Name, Name>) -> Line<Name, Name>
+fn line_of(at: usize, instruction: Instruction<Symbol, Name>) -> Line<Symbol, Name>
     ensures { result ≡ line_of at instruction }
 {
     Line {
@@ -37,7 +39,7 @@ fn on_content<'a>(
     operator: Operator,
     at: usize,
     ts: &'a [Token],
-) -> Result<(Line<Name, Name>, &'a [Token]), ReadError<'a, Token>>
+) -> Result<(Line<Symbol, Name>, &'a [Token]), ReadError<'a, Token>>
     ensures { Gives (λ x. (x.0, x.1.now)) result ((on_content (content 31) operator at).read ts.now) }
 {
     let rest = mark(ts, Mark::Open)?;
@@ -59,7 +61,7 @@ fn applied<'a>(
     operator: Operator,
     at: usize,
     ts: &'a [Token],
-) -> Result<(Line<Name, Name>, &'a [Token]), ReadError<'a, Token>>
+) -> Result<(Line<Symbol, Name>, &'a [Token]), ReadError<'a, Token>>
     ensures { Gives (λ x. (x.0, x.1.now)) result ((applied 32 operator at).read ts.now) }
 {
     if may_open(MOST_NESTING, operator, ts) {
@@ -76,7 +78,7 @@ fn operands<'a>(
     role: Role,
     at: usize,
     ts: &'a [Token],
-) -> Result<(Line<Name, Name>, &'a [Token]), ReadError<'a, Token>>
+) -> Result<(Line<Symbol, Name>, &'a [Token]), ReadError<'a, Token>>
     ensures { Gives (λ x. (x.0, x.1.now)) result ((operands (applied 32) role at).read ts.now) }
 {
     let (instruction, rest) = match role {
@@ -91,15 +93,15 @@ fn operands<'a>(
             (Instruction::Limit { low, high }, rest)
         }
         Role::Store { negated } => {
-            let (variable, rest) = name(ts)?;
+            let (variable, rest) = symbol(ts)?;
             (Instruction::Store { negated, variable }, rest)
         }
         Role::Set => {
-            let (variable, rest) = name(ts)?;
+            let (variable, rest) = symbol(ts)?;
             (Instruction::Set(variable), rest)
         }
         Role::Reset => {
-            let (variable, rest) = name(ts)?;
+            let (variable, rest) = symbol(ts)?;
             (Instruction::Reset(variable), rest)
         }
         Role::Jump(condition) => {
@@ -107,6 +109,15 @@ fn operands<'a>(
             (Instruction::Jump(condition, label), rest)
         }
         Role::Return(condition) => (Instruction::Return(condition), ts),
+        Role::Call(condition) => {
+            let ((block, arguments), rest) = call(alloc, ts)?;
+            let instruction = Instruction::Call {
+                condition,
+                instance: Symbol::Block(block),
+                arguments,
+            };
+            (instruction, rest)
+        }
     };
     Ok((line_of(at, instruction), rest))
 }
@@ -116,7 +127,7 @@ fn operands<'a>(
 fn instruction<'a>(
     alloc: Global,
     ts: &'a [Token],
-) -> Result<(Line<Name, Name>, &'a [Token]), ReadError<'a, Token>>
+) -> Result<(Line<Symbol, Name>, &'a [Token]), ReadError<'a, Token>>
     ensures { Gives (λ x. (x.0, x.1.now)) result (instruction.read ts.now) }
 {
     match ts {
@@ -153,7 +164,7 @@ fn label<'a>(ts: &'a [Token]) -> Result<(Name, &'a [Token]), ReadError<'a, Token
 fn with_label<'a>(
     alloc: Global,
     ts: &'a [Token],
-) -> Result<(Line<Name, Name>, &'a [Token]), ReadError<'a, Token>>
+) -> Result<(Line<Symbol, Name>, &'a [Token]), ReadError<'a, Token>>
     ensures { Gives (λ x. (x.0, x.1.now)) result (with_label.read ts.now) }
 {
     let (label, rest) = label(ts)?;
@@ -177,7 +188,7 @@ fn with_label<'a>(
 fn line<'a>(
     alloc: Global,
     ts: &'a [Token],
-) -> Result<(Line<Name, Name>, &'a [Token]), ReadError<'a, Token>>
+) -> Result<(Line<Symbol, Name>, &'a [Token]), ReadError<'a, Token>>
     ensures { Gives (λ x. (x.0, x.1.now)) result (line.read ts.now) }
 {
     let (line, rest) = if begins_name(ts) {
@@ -200,7 +211,7 @@ fn begins_line(ts: &[Token]) -> bool
 pub fn lines<'a>(
     alloc: Global,
     ts: &'a [Token],
-) -> Result<(Vec<Line<Name, Name>>, &'a [Token]), ReadError<'a, Token>>
+) -> Result<(Vec<Line<Symbol, Name>>, &'a [Token]), ReadError<'a, Token>>
     ensures { Gives (λ x. (x.0.items, x.1.now)) result (lines.read ts.now) }
 {
     let mut all = Vec::new(alloc);

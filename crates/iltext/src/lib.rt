@@ -8,10 +8,13 @@
 
 #![tactic(auto)]
 
+mod block_kinds;
+mod calls;
 mod cutting;
 mod declarations;
 mod fault;
 mod instructions;
+mod operands;
 mod parentheses;
 mod parser;
 mod programs;

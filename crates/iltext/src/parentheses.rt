@@ -5,18 +5,20 @@ ghost use Rattle.iltrees.specs.Trees.{piece, pieces_of, Load};
 ghost use Rattle.ilgrammar.specs.Items.{begins};
 ghost use Rattle.ilgrammar.specs.Results.{Gives, extend};
 ghost use Rattle.iltokens.specs.declared.lexed.Mark.TheVariants as marks;
-ghost use Rattle.iltext.specs.Terminals.{mark, operand, ended};
+ghost use Rattle.iltext.specs.Terminals.{mark, ended};
+ghost use Rattle.iltext.specs.Operands.{operand};
 ghost use Rattle.iltext.specs.Instructions.{bounds, load, beginning, applied, on_content, operands};
 ghost use Rattle.iltext.specs.Instructions.{inner, content};
 ghost use Rattle.iltext.specs.InstructionSteps.{pieces_in, may_open};
 ghost use Rattle.iltext.specs.Roles.{may_nest};
 
-use crate::reading::{begins_line_end, closing, line_break, mark, operand};
+use crate::operands::operand;
+use crate::reading::{begins_line_end, closing, line_break, mark};
 use crate::roles::{Role, inner_role_of, role_of};
 use crate::token::{Kind, Token};
 use ilgrammar::ReadError;
 use iloperators::Operator;
-use ilsource::Name;
+use ilsource::Symbol;
 use iltokens::{Mark, What};
 use iltrees::{Action, Operand, Piece};
 use std::alloc::AllocError;
@@ -42,7 +44,7 @@ fn opens(ts: &[Token]) -> bool
 #[tactic(auto, unfolding(crate::specs::Instructions::bounds))]
 pub fn bounds<'a>(
     ts: &'a [Token],
-) -> Result<((Operand<Name>, Operand<Name>), &'a [Token]), ReadError<'a, Token>>
+) -> Result<((Operand<Symbol>, Operand<Symbol>), &'a [Token]), ReadError<'a, Token>>
     ensures { Gives (λ x. (x.0, x.1.now)) result (bounds.read ts.now) }
 {
     let (low, rest) = operand(ts)?;
@@ -52,7 +54,11 @@ pub fn bounds<'a>(
 }
 
 /// Adds a piece.
-fn push(pieces: &mut Vec<Piece<Name>>, at: usize, action: Action<Name>) -> Result<(), AllocError>
+fn push(
+    pieces: &mut Vec<Piece<Symbol>>,
+    at: usize,
+    action: Action<Symbol>,
+) -> Result<(), AllocError>
     ensures { OnOk result (pieces.new.items ≡ pieces.old.items ++ piece at action ∷ []) }
 {
     pieces.push(Piece { at, action })?;
@@ -63,7 +69,7 @@ fn push(pieces: &mut Vec<Piece<Name>>, at: usize, action: Action<Name>) -> Resul
 #[tactic(auto, unfolding(crate::specs::Instructions::load))]
 fn load<'a>(
     ts: &'a [Token],
-) -> Result<((usize, bool, Operand<Name>), &'a [Token]), ReadError<'a, Token>>
+) -> Result<((usize, bool, Operand<Symbol>), &'a [Token]), ReadError<'a, Token>>
     ensures { Gives (λ x. (Load x.0.0 x.0.1 x.0.2, x.1.now)) result (load.read ts.now) }
 {
     match ts {
@@ -84,7 +90,7 @@ fn load<'a>(
 fn beginning<'a>(
     at: usize,
     ts: &'a [Token],
-) -> Result<((usize, bool, Operand<Name>), &'a [Token]), ReadError<'a, Token>>
+) -> Result<((usize, bool, Operand<Symbol>), &'a [Token]), ReadError<'a, Token>>
     ensures { Gives (λ x. (Load x.0.0 x.0.1 x.0.2, x.1.now)) result ((beginning at).read ts.now) }
 {
     if begins_line_end(ts) {
@@ -106,7 +112,7 @@ fn on_content<'a>(
     more: usize,
     operator: Operator,
     at: usize,
-    pieces: &mut Vec<Piece<Name>>,
+    pieces: &mut Vec<Piece<Symbol>>,
     ts: &'a [Token],
 ) -> Result<&'a [Token], ReadError<'a, Token>>
     ensures { Gives (λ rest. (pieces.new.items, rest.now)) result
@@ -134,7 +140,7 @@ fn applied<'a>(
     more: usize,
     operator: Operator,
     at: usize,
-    pieces: &mut Vec<Piece<Name>>,
+    pieces: &mut Vec<Piece<Symbol>>,
     ts: &'a [Token],
 ) -> Result<&'a [Token], ReadError<'a, Token>>
     ensures { Gives (λ rest. (pieces.new.items, rest.now)) result
@@ -155,7 +161,7 @@ fn operands<'a>(
     more: usize,
     role: Role,
     at: usize,
-    pieces: &mut Vec<Piece<Name>>,
+    pieces: &mut Vec<Piece<Symbol>>,
     ts: &'a [Token],
 ) -> Result<&'a [Token], ReadError<'a, Token>>
     requires { IsTrue (may_nest role) }
@@ -179,9 +185,12 @@ fn operands<'a>(
             push(pieces, at, Action::Apply(Operator::Min, high))?;
             Ok(rest)
         }
-        Role::Store { .. } | Role::Set | Role::Reset | Role::Jump(_) | Role::Return(_) => {
-            unreachable!()
-        }
+        Role::Store { .. }
+        | Role::Set
+        | Role::Reset
+        | Role::Jump(_)
+        | Role::Return(_)
+        | Role::Call(_) => { unreachable!() }
     }
 }
 
@@ -190,7 +199,7 @@ fn operands<'a>(
 #[tactic(auto, unfolding(crate::specs::Instructions::inner_of))]
 fn inner<'a>(
     more: usize,
-    pieces: &mut Vec<Piece<Name>>,
+    pieces: &mut Vec<Piece<Symbol>>,
     ts: &'a [Token],
 ) -> Result<&'a [Token], ReadError<'a, Token>>
     ensures { Gives (λ rest. (pieces.new.items, rest.now)) result
@@ -209,7 +218,7 @@ fn inner<'a>(
 #[cycle(nest)]
 fn inner_line<'a>(
     more: usize,
-    pieces: &mut Vec<Piece<Name>>,
+    pieces: &mut Vec<Piece<Symbol>>,
     ts: &'a [Token],
 ) -> Result<&'a [Token], ReadError<'a, Token>>
     ensures { Gives (λ rest. (pieces.new.items, rest.now)) result
@@ -234,7 +243,7 @@ fn begins_inner(more: usize, ts: &[Token]) -> bool
 pub fn content<'a>(
     more: usize,
     at: usize,
-    pieces: &mut Vec<Piece<Name>>,
+    pieces: &mut Vec<Piece<Symbol>>,
     ts: &'a [Token],
 ) -> Result<&'a [Token], ReadError<'a, Token>>
     ensures { Gives (λ rest. (pieces.new.items, rest.now)) result

@@ -3,15 +3,13 @@
 ghost use Rattle.std.specs.Prelude.{◌≡◌, ◌<◌, List, length, IsTrue, Ok};
 ghost use Rattle.ilgrammar.specs.Items.{begins};
 ghost use Rattle.ilgrammar.specs.Results.{Gives};
-ghost use Rattle.iltext.specs.Terminals.{word, mark, name, number, constant, operand, closing};
+ghost use Rattle.iltext.specs.Terminals.{word, mark, name, number, constant, closing};
 ghost use Rattle.iltext.specs.Terminals.{line_ends, spaced, line_break};
 
 use crate::token::{Kind, Token};
 use ilgrammar::ReadError;
 use ilsource::{Constant, Name};
 use iltokens::{Keyword, Mark, What};
-use iltrees::Operand;
-use iltypes::Value;
 
 /// This reserved word.
 #[tactic(auto, unfolding(crate::specs::Terminals::word))]
@@ -106,32 +104,6 @@ pub fn number<'a>(ts: &'a [Token]) -> Result<(i64, &'a [Token]), ReadError<'a, T
             Kind::Good(What::Number(number)) => Ok((number, rest)),
             _ => Err(ReadError::Fault(ts)),
         },
-        [] => Err(ReadError::Fault(ts)),
-    }
-}
-
-/// A variable, TRUE, FALSE, a number, or a duration, which is the number of its milliseconds.
-#[tactic(auto, unfolding(crate::specs::Terminals::operand))]
-pub fn operand<'a>(ts: &'a [Token]) -> Result<(Operand<Name>, &'a [Token]), ReadError<'a, Token>>
-    ensures { Gives (λ x. (x.0, x.1.now)) result (operand.read ts.now) }
-{
-    match ts {
-        [first, rest @ ..] => {
-            let operand = match first.kind {
-                Kind::Good(What::Keyword(Keyword::True)) => Operand::Constant(Value::Bool(true)),
-                Kind::Good(What::Keyword(Keyword::False)) => Operand::Constant(Value::Bool(false)),
-                Kind::Good(What::Number(number)) => Operand::Constant(Value::Int(number)),
-                Kind::Good(What::Time(milliseconds)) => Operand::Constant(Value::Int(i64::from(
-                    milliseconds,
-                ))),
-                Kind::Good(What::Name) => Operand::Name(Name {
-                    from: first.from,
-                    to: first.to,
-                }),
-                _ => return Err(ReadError::Fault(ts)),
-            };
-            Ok((operand, rest))
-        }
         [] => Err(ReadError::Fault(ts)),
     }
 }

@@ -19,20 +19,22 @@ pub enum Role {
     Transform(Function),
     /// LIMIT: two operands.
     Limit,
-    /// ST, STN: a variable.
+    /// ST, STN: a variable or a port.
     Store { negated: bool },
-    /// S: a variable.
+    /// S: a variable or a port.
     Set,
-    /// R: a variable.
+    /// R: a variable or a port.
     Reset,
     /// JMP, JMPC, JMPCN: a label.
     Jump(Condition),
     /// RET, RETC, RETCN: nothing.
     Return(Condition),
+    /// CAL, CALC, CALCN: a block instance, and arguments in parentheses where some are written.
+    Call(Condition),
 }
 
 /// What each word does as an operator.
-pub const ROLES: [(Keyword, Role); 64] = [
+pub const ROLES: [(Keyword, Role); 67] = [
     // Loads and stores, with the modifier N.
     (Keyword::Ld, Role::Load { negated: false }),
     (Keyword::Ldn, Role::Load { negated: true }),
@@ -47,6 +49,10 @@ pub const ROLES: [(Keyword, Role); 64] = [
     (Keyword::Ret, Role::Return(Condition::Always)),
     (Keyword::Retc, Role::Return(Condition::IfTrue)),
     (Keyword::Retcn, Role::Return(Condition::IfFalse)),
+    // Calls, with the modifiers C and CN.
+    (Keyword::Cal, Role::Call(Condition::Always)),
+    (Keyword::Calc, Role::Call(Condition::IfTrue)),
+    (Keyword::Calcn, Role::Call(Condition::IfFalse)),
     // Truth values.
     (Keyword::And, Role::Apply(Operator::And { negated: false })),
     (Keyword::Andn, Role::Apply(Operator::And { negated: true })),
@@ -197,7 +203,7 @@ pub const ROLES: [(Keyword, Role); 64] = [
 ];
 
 /// What a table has for a word.
-fn lookup(mut table: &[(Keyword, Role)], word: Keyword) -> Option<Role>
+pub fn lookup<T: Copy>(mut table: &[(Keyword, T)], word: Keyword) -> Option<T>
     ensures { result ≡ lookup table.entry.now word }
 {
     'table: while let [entry, rest @ ..] = table {
@@ -235,7 +241,12 @@ fn may_nest(role: Role) -> bool
 {
     !matches!(
         role,
-        Role::Store { .. } | Role::Set | Role::Reset | Role::Jump(_) | Role::Return(_),
+        Role::Store { .. }
+            | Role::Set
+            | Role::Reset
+            | Role::Jump(_)
+            | Role::Return(_)
+            | Role::Call(_),
     )
 }
 
@@ -250,7 +261,7 @@ pub fn inner_role_of(kind: Kind) -> Option<Role>
     }
 }
 
-/// Whether a reserved word may stand in parentheses.
+/// Whether a reserved word may stand in parentheses by itself, so R not as the name of a port.
 pub fn is_inner(word: Keyword) -> bool
     ensures { result ≡ is_inner word }
 {

@@ -1,5 +1,6 @@
 //! Texts with their first faults, texts and what they are printed as again, and long texts.
 
+mod calls;
 mod faults;
 mod long;
 mod rows;

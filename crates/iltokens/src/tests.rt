@@ -128,7 +128,7 @@ fn each_fault(rt: HostRuntime) {
 /// The tokens of a text, each as its bytes and the kind that the rules give it.
 #[test]
 fn tokens_of_whole_texts(rt: HostRuntime) {
-    let texts: [(&[u8], &[(&[u8], What)]); 6] = [
+    let texts: [(&[u8], &[(&[u8], What)]); 7] = [
         // An underscore stands between two digits only.
         (
             b"1_ 1__2",
@@ -171,6 +171,29 @@ fn tokens_of_whole_texts(rt: HostRuntime) {
             &[
                 (b"T#49d17h2m47s295ms", What::Time(4_294_967_295)),
                 (b"TIME#1d_2h", What::Time(93_600_000)),
+            ],
+        ),
+        // A dot stands alone, and in an address between its numbers; a number has none.
+        (
+            b"t.Q 1..2 T#1d.r %IX0.1",
+            &[
+                (b"t", What::Name),
+                (b".", What::Mark(Mark::Dot)),
+                (b"Q", What::Name),
+                (b"1", What::Number(1)),
+                (b"..", What::Mark(Mark::Range)),
+                (b"2", What::Number(2)),
+                (b"T#1d", What::Time(86_400_000)),
+                (b".", What::Mark(Mark::Dot)),
+                (b"r", What::Keyword(Keyword::R)),
+                (
+                    b"%IX0.1",
+                    What::Address {
+                        kind: AddressKind::InputBit,
+                        bus: 0,
+                        place: 1,
+                    },
+                ),
             ],
         ),
         // The longest mark is meant.

@@ -45,14 +45,20 @@ module _ {N M S T : Type 0} (a : Access N S) (b : Access M T) (new : NewNames N 
   write_same s n None = refl
   write_same s n (Some v) = h.write s n v
 
+  -- and so is one passed to a port
+  pass_same : (s : S) (n : N) (o : Option Value)
+      → option_and_then (b.pass (view s) (new.name n)) o ≡ option_map view (option_and_then (a.pass s n) o)
+  pass_same s n None = refl
+  pass_same s n (Some v) = h.pass s n v
+
   passed_same : (xs : List (Argument N)) (s : S)
       → passed b (map (rename_argument new) xs) (view s) ≡ option_map view (passed a xs s)
   passed_same [] s = refl
   passed_same (x ∷ xs) s =
       let rest = passed b (map (rename_argument new) xs) in
-      ap (λ o. option_and_then rest (option_and_then (b.write (view s) (new.name x.port)) o)) (h.read s x.operand)
-      ∙ (ap (option_and_then rest) (write_same s x.port (operand_value a s x.operand))
-      ∙ then_same (passed a xs) rest (option_and_then (a.write s x.port) (operand_value a s x.operand))
+      ap (λ o. option_and_then rest (option_and_then (b.pass (view s) (new.name x.port)) o)) (h.read s x.operand)
+      ∙ (ap (option_and_then rest) (pass_same s x.port (operand_value a s x.operand))
+      ∙ then_same (passed a xs) rest (option_and_then (a.pass s x.port) (operand_value a s x.operand))
       (passed_same xs))
 
   called_same : (n : N) (xs : List (Argument N)) (s : S)

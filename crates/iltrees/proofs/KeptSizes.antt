@@ -13,7 +13,7 @@ use Rattle.iltrees.specs.declared.nested.Action.{Action}
 use Rattle.iltrees.specs.declared.nested.Action.TheVariants as actions
 use Rattle.iltrees.specs.declared.operand.Operand.TheVariants.{Name}
 use Rattle.iltrees.specs.Trees.{Tree, Load, Reload, Apply, Transform, Deferred, piece, pieces_of, depth}
-use Rattle.iltrees.specs.Words.{place_of, places_of, IsShallow, CallsNothing}
+use Rattle.iltrees.specs.Words.{place_of, places_of, IsShallow}
 use Rattle.iltrees.specs.Uses.{uses_of_action, uses_of_piece, uses_of_argument, uses_of}
 use Rattle.iltrees.specs.Renaming.{NewNames, rename_action, rename_piece, rename_tree}
 use Rattle.iltrees.specs.Renaming.{rename_argument, rename_use, rename}
@@ -101,21 +101,6 @@ module _ {N M L K : Type 0} (new : NewNames N M) (label : L → K) where
   pub still_shallow : (i : Option (Instruction N L)) → IsShallow i → IsShallow (option_map (rename new label) i)
   still_shallow (Some (instructions.Deferred operator t close)) k = let e = depth_same new t in rw e k
   still_shallow _ k = tt
-
-  pub still_calling_nothing : (i : Option (Instruction N L)) → CallsNothing i
-      → CallsNothing (option_map (rename new label) i)
-  still_calling_nothing (Some (instructions.Jump condition l)) h = tt
-  still_calling_nothing (Some (instructions.Return condition)) h = tt
-  still_calling_nothing (Some (instructions.Call condition n xs)) h = absurd h
-  still_calling_nothing None h = tt
-  still_calling_nothing (Some (instructions.Load negated o)) h = tt
-  still_calling_nothing (Some (instructions.Apply operator o)) h = tt
-  still_calling_nothing (Some (instructions.Deferred operator t close)) h = tt
-  still_calling_nothing (Some (instructions.Transform function)) h = tt
-  still_calling_nothing (Some (instructions.Limit low high)) h = tt
-  still_calling_nothing (Some (instructions.Store negated n)) h = tt
-  still_calling_nothing (Some (instructions.Set n)) h = tt
-  still_calling_nothing (Some (instructions.Reset n)) h = tt
 
   pub uses_kept : ((n : N) → new.operand (Name n) ≡ Name (new.name n)) → (at : ℕ) (i : Option (Instruction N L))
       → option_map_or (uses_of at) (option_map (rename new label) i) []

@@ -17,11 +17,13 @@ use Rattle.iltrees.specs.declared.instruction.Instruction.{Instruction}
 use Rattle.iltrees.specs.declared.instruction.Instruction.TheVariants as instructions
 use Rattle.iltrees.specs.Trees.{Tree, Load, Reload, Apply, Transform, Deferred}
 
--- all that is known of names and stores: how a name is read and written, and what a call of a block instance leaves;
--- each where that is defined, so that a write is of a value in the variable's type
+-- all that is known of names and stores: how a name is read and written, how an argument is stored at a port of the
+-- block that is called, and what the call leaves; each where that is defined, so that a write is of a value in the
+-- variable's type
 pub record Access (N S : Type 0) : Type 0 where
   pub read : S → N → Option Value
   pub write : S → N → Value → Option S
+  pub pass : S → N → Value → Option S
   pub call : S → N → Option S
 
 abbrev pub operand_value : {N S : Type 0} → Access N S → S → Operand N → Option Value
@@ -72,7 +74,7 @@ leaves r (Some s) = after On r s
 -- the store after the arguments of a call, each stored at its port
 abbrev pub passed : {N S : Type 0} → Access N S → List (Argument N) → S → Option S
 passed a [] s = Some s
-passed a (x ∷ xs) s = option_and_then (passed a xs) (option_and_then (a.write s x.port) (operand_value a s x.operand))
+passed a (x ∷ xs) s = option_and_then (passed a xs) (option_and_then (a.pass s x.port) (operand_value a s x.operand))
 
 -- the store after the arguments and the call
 abbrev pub called : {N S : Type 0} → Access N S → N → List (Argument N) → S → Option S

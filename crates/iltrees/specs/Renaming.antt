@@ -15,7 +15,7 @@ use Rattle.iltrees.specs.declared.uses.Use.{Use}
 use Rattle.iltrees.specs.Trees.{Tree, Load, Reload, Apply, Transform, Deferred, piece, pieces_of}
 use Rattle.iltrees.specs.Meaning.{Access, On, operand_value}
 use Rattle.iltrees.specs.Passes.{passes, scan}
-use Rattle.iltrees.specs.Words.{places_in, IsShallow, CallsNothing}
+use Rattle.iltrees.specs.Words.{places_in, IsShallow}
 use Rattle.iltrees.specs.Uses.{uses_in}
 
 -- new names: of operands, so that a constant may become a place in a table, and of what is stored to and called
@@ -50,7 +50,7 @@ module _ {N M : Type 0} (new : NewNames N M) where
   rename_argument x = record { port = new.name x.port; operand = new.operand x.operand }
 
   abbrev pub rename_use : Use N → Use M
-  rename_use u = record { at = u.at; operand = new.operand u.operand }
+  rename_use u = record { at = u.at; purpose = u.purpose; operand = new.operand u.operand }
 
 module _ {N M L K : Type 0} (new : NewNames N M) (label : L → K) where
   abbrev pub rename : Instruction N L → Instruction M K
@@ -75,6 +75,7 @@ module _ {N M S T : Type 0} (a : Access N S) (b : Access M T) (new : NewNames N 
   pub record IsSeen : Type 0 where
     pub read : (s : S) (o : Operand N) → operand_value b (view s) (new.operand o) ≡ operand_value a s o
     pub write : (s : S) (n : N) (v : Value) → b.write (view s) (new.name n) v ≡ option_map view (a.write s n v)
+    pub pass : (s : S) (n : N) (v : Value) → b.pass (view s) (new.name n) v ≡ option_map view (a.pass s n v)
     pub call : (s : S) (n : N) → b.call (view s) (new.name n) ≡ option_map view (a.call s n)
 
 -- no label but one that is the same gets the new name of a line's label
@@ -115,14 +116,12 @@ ScansAreKept N M L K S T =
     → AreRenamed same same' new programs others → (s : S)
     → scan same' b others (view s) ≡ option_map view (scan same a programs s)
 
--- a renamed line has its words at the same places, no more parentheses open at once, and calls nothing where the line
--- doesn't
+-- a renamed line has its words at the same places, and no more parentheses open at once
 abbrev pub SizesAreKept : (N M L K : Type 0) → Type 0
 SizesAreKept N M L K =
     (new : NewNames N M) (label : L → K) (line : Line N L)
     → (places_in (rename_line new label line) ≡ places_in line)
     × (IsShallow line.instruction → IsShallow (rename_line new label line).instruction)
-    × (CallsNothing line.instruction → CallsNothing (rename_line new label line).instruction)
 
 -- the pieces of a renamed tree are the pieces of the tree, renamed
 abbrev pub PiecesAreKept : (N M : Type 0) → Type 0

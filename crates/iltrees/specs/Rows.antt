@@ -29,6 +29,7 @@ variables =
     record {
       read = λ s n. slice_get s n;
       write = λ s n v. if allowed v then Some (slice_set s n v) else None;
+      pass = λ s n v. if allowed v then Some (slice_set s n v) else None;
       call = λ s n. Some (slice_set s n (truth true));
     }
 

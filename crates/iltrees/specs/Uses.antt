@@ -11,37 +11,47 @@ use Rattle.iltrees.specs.declared.instruction.Line.{Line}
 use Rattle.iltrees.specs.declared.nested.Action.{Action}
 use Rattle.iltrees.specs.declared.nested.Action.TheVariants as actions
 use Rattle.iltrees.specs.declared.nested.Piece.{Piece}
+use Rattle.iltrees.specs.declared.uses.Purpose.{Purpose}
+use Rattle.iltrees.specs.declared.uses.Purpose.TheVariants as purposes
 use Rattle.iltrees.specs.declared.uses.Use.{Use}
 use Rattle.iltrees.specs.Trees.{pieces_of}
 
--- an operand that the instruction at this place uses
-abbrev pub use_at : {N : Type 0} → ℕ → Operand N → Use N
-use_at at o = record { at = at; operand = o }
+-- an operand that the instruction at this place uses, and what for
+abbrev pub use_at : {N : Type 0} → ℕ → Purpose → Operand N → Use N
+use_at at purpose o = record { at = at; purpose = purpose; operand = o }
+
+-- an operand that is read, and a variable that is written
+abbrev pub read_at : {N : Type 0} → ℕ → Operand N → Use N
+read_at at o = use_at at purposes.Read o
+
+abbrev pub write_at : {N : Type 0} → ℕ → N → Use N
+write_at at n = use_at at purposes.Write (Name n)
 
 abbrev pub uses_of_action : {N : Type 0} → ℕ → Action N → List (Use N)
-uses_of_action at (actions.Load negated o) = use_at at o ∷ []
-uses_of_action at (actions.Apply operator o) = use_at at o ∷ []
+uses_of_action at (actions.Load negated o) = read_at at o ∷ []
+uses_of_action at (actions.Apply operator o) = read_at at o ∷ []
 uses_of_action at _ = []
 
 abbrev pub uses_of_piece : {N : Type 0} → Piece N → List (Use N)
 uses_of_piece p = uses_of_action p.at p.action
 
 abbrev pub uses_of_argument : {N : Type 0} → ℕ → Argument N → List (Use N)
-uses_of_argument at x = use_at at (Name x.port) ∷ use_at at x.operand ∷ []
+uses_of_argument at x = use_at at purposes.Pass (Name x.port) ∷ read_at at x.operand ∷ []
 
 -- what an instruction at this place uses
 abbrev pub uses_of : {N L : Type 0} → ℕ → Instruction N L → List (Use N)
-uses_of at (instructions.Load negated o) = use_at at o ∷ []
-uses_of at (instructions.Apply operator o) = use_at at o ∷ []
+uses_of at (instructions.Load negated o) = read_at at o ∷ []
+uses_of at (instructions.Apply operator o) = read_at at o ∷ []
 uses_of at (instructions.Deferred operator t close) = flat_map uses_of_piece (pieces_of t)
 uses_of at (instructions.Transform function) = []
-uses_of at (instructions.Limit low high) = use_at at low ∷ use_at at high ∷ []
-uses_of at (instructions.Store negated n) = use_at at (Name n) ∷ []
-uses_of at (instructions.Set n) = use_at at (Name n) ∷ []
-uses_of at (instructions.Reset n) = use_at at (Name n) ∷ []
+uses_of at (instructions.Limit low high) = read_at at low ∷ read_at at high ∷ []
+uses_of at (instructions.Store negated n) = write_at at n ∷ []
+uses_of at (instructions.Set n) = write_at at n ∷ []
+uses_of at (instructions.Reset n) = write_at at n ∷ []
 uses_of at (instructions.Jump condition l) = []
 uses_of at (instructions.Return condition) = []
-uses_of at (instructions.Call condition n xs) = use_at at (Name n) ∷ flat_map (uses_of_argument at) xs
+uses_of at (instructions.Call condition n xs) =
+    use_at at purposes.Call (Name n) ∷ flat_map (uses_of_argument at) xs
 
 abbrev pub uses_in : {N L : Type 0} → Line N L → List (Use N)
 uses_in line = option_map_or (uses_of line.at) line.instruction []

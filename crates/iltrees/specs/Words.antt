@@ -46,12 +46,3 @@ IsShallow _ = ⊤
 abbrev pub AreShallow : {N L : Type 0} → List (Line N L) → Type 0
 AreShallow [] = ⊤
 AreShallow (line ∷ lines) = IsShallow line.instruction × AreShallow lines
-
--- no call: code has no words for calls yet
-abbrev pub CallsNothing : {N L : Type 0} → Option (Instruction N L) → Type 0
-CallsNothing (Some (instructions.Call condition n xs)) = ⊥
-CallsNothing _ = ⊤
-
-abbrev pub CallNothing : {N L : Type 0} → List (Line N L) → Type 0
-CallNothing [] = ⊤
-CallNothing (line ∷ lines) = CallsNothing line.instruction × CallNothing lines

@@ -1,7 +1,7 @@
 //! What a call hands to a block.
 
 use crate::operand::Operand;
-use crate::uses::{Use, push_use};
+use crate::uses::{Purpose, Use, push_use};
 use std::alloc::AllocError;
 use std::marker::Model;
 
@@ -56,8 +56,8 @@ impl<N: Copy> Arguments<N> {
             (uses.new.items ≡ uses.old.items ++ flat_map (uses_of_argument at) self.now) }
     {
         for argument in self.as_slice() {
-            push_use(uses, at, Operand::Name(argument.port))?;
-            push_use(uses, at, argument.operand)?;
+            push_use(uses, at, Purpose::Pass, Operand::Name(argument.port))?;
+            push_use(uses, at, Purpose::Read, argument.operand)?;
         }
         Ok(())
     }

@@ -1,11 +1,12 @@
 //! Instructions and lines (IEC 61131-3, 3.2).
 
-ghost use Rattle.std.specs.Prelude.{◌≡◌, ◌++◌, replicate, OnOk};
+ghost use Rattle.std.specs.Prelude.{◌≡◌, [], ◌∷◌, ◌++◌, replicate, OnOk};
+ghost use Rattle.iltrees.specs.Uses.{write_at};
 
 use crate::arguments::Arguments;
 use crate::nested::Nested;
 use crate::operand::Operand;
-use crate::uses::{Use, push_use};
+use crate::uses::{Purpose, Use, push_use};
 use iloperators::{Condition, Function, Operator};
 use std::alloc::AllocError;
 
@@ -123,6 +124,13 @@ fn push_same(places: &mut Vec<usize>, at: usize, times: usize) -> Result<(), All
     Ok(())
 }
 
+/// Adds that a variable is written.
+fn push_write<N: Drop>(uses: &mut Vec<Use<N>>, at: usize, variable: N) -> Result<(), AllocError>
+    ensures { OnOk result (uses.new.items ≡ uses.old.items ++ write_at at variable ∷ []) }
+{
+    push_use(uses, at, Purpose::Write, Operand::Name(variable))
+}
+
 impl<N: Copy, L: Drop> Instruction<N, L> {
     ghost use Rattle.iltrees.specs.Uses.{uses_of};
 
@@ -131,22 +139,22 @@ impl<N: Copy, L: Drop> Instruction<N, L> {
         ensures { OnOk result (uses.new.items ≡ uses.old.items ++ uses_of at self.now) }
     {
         match self {
-            Instruction::Load { operand, .. } => push_use(uses, at, *operand),
-            Instruction::Apply(_, operand) => push_use(uses, at, *operand),
+            Instruction::Load { operand, .. } => push_use(uses, at, Purpose::Read, *operand),
+            Instruction::Apply(_, operand) => push_use(uses, at, Purpose::Read, *operand),
             Instruction::Deferred { nested, .. } => nested.push_uses(uses),
             Instruction::Limit { low, high } => {
-                push_use(uses, at, *low)?;
-                push_use(uses, at, *high)
+                push_use(uses, at, Purpose::Read, *low)?;
+                push_use(uses, at, Purpose::Read, *high)
             }
-            Instruction::Store { variable, .. } => push_use(uses, at, Operand::Name(*variable)),
-            Instruction::Set(variable) => push_use(uses, at, Operand::Name(*variable)),
-            Instruction::Reset(variable) => push_use(uses, at, Operand::Name(*variable)),
+            Instruction::Store { variable, .. } => push_write(uses, at, *variable),
+            Instruction::Set(variable) => push_write(uses, at, *variable),
+            Instruction::Reset(variable) => push_write(uses, at, *variable),
             Instruction::Call {
                 instance,
                 arguments,
                 ..
             } => {
-                push_use(uses, at, Operand::Name(*instance))?;
+                push_use(uses, at, Purpose::Call, Operand::Name(*instance))?;
                 arguments.push_uses(at, uses)
             }
             Instruction::Transform(_) | Instruction::Jump(..) | Instruction::Return(_) => Ok(()),

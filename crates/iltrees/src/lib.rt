@@ -19,7 +19,7 @@ pub use instruction::{Instruction, Line};
 pub use nested::{Action, Nested, Piece};
 pub use operand::Operand;
 pub use renaming::renaming_keeps_the_meaning;
-pub use uses::Use;
+pub use uses::{Purpose, Use};
 
 #[cfg(test)]
 mod tests;

@@ -1,7 +1,7 @@
 //! What stands in parentheses, as one tree.
 
 use crate::operand::Operand;
-use crate::uses::{Use, push_use};
+use crate::uses::{Purpose, Use, push_use};
 use iloperators::{Function, Operator};
 use std::alloc::{AllocError, Global};
 use std::marker::Model;
@@ -124,8 +124,8 @@ impl<N: Copy> Piece<N> {
         ensures { OnOk result (uses.new.items ≡ uses.old.items ++ uses_of_piece self.now) }
     {
         match self.action {
-            Action::Load { operand, .. } => push_use(uses, self.at, operand),
-            Action::Apply(_, operand) => push_use(uses, self.at, operand),
+            Action::Load { operand, .. } => push_use(uses, self.at, Purpose::Read, operand),
+            Action::Apply(_, operand) => push_use(uses, self.at, Purpose::Read, operand),
             Action::Transform(_) | Action::Open(_) | Action::Close => Ok(()),
         }
     }

@@ -6,12 +6,26 @@ ghost use Rattle.iltrees.specs.Uses.{use_at};
 use crate::operand::Operand;
 use std::alloc::AllocError;
 
+/// What an instruction does with what it names.
+#[derive(Clone, Copy, PartialEq, Eq, Debug)]
+pub enum Purpose {
+    /// It is an operand.
+    Read,
+    /// It is stored to, set or reset.
+    Write,
+    /// It is called.
+    Call,
+    /// It is the port of an argument.
+    Pass,
+}
+
 /// An operand with the place of its instruction. What is stored to, set, reset or called is a name.
 #[derive(Clone, Copy, PartialEq, Eq, Debug)]
 pub struct Use<N> {
     /// The place in the text of the first byte of the instruction that uses it, in or out of
     /// parentheses.
     pub at: usize,
+    pub purpose: Purpose,
     pub operand: Operand<N>,
 }
 
@@ -19,10 +33,15 @@ pub struct Use<N> {
 pub(crate) fn push_use<N: Drop>(
     uses: &mut Vec<Use<N>>,
     at: usize,
+    purpose: Purpose,
     operand: Operand<N>,
 ) -> Result<(), AllocError>
-    ensures { OnOk result (uses.new.items ≡ uses.old.items ++ use_at at operand ∷ []) }
+    ensures { OnOk result (uses.new.items ≡ uses.old.items ++ use_at at purpose operand ∷ []) }
 {
-    uses.push(Use { at, operand })?;
+    uses.push(Use {
+        at,
+        purpose,
+        operand,
+    })?;
     Ok(())
 }

@@ -39,6 +39,18 @@ impl IlType {
     }
 }
 
+/// FALSE, which fills the unused places of a collection of fixed capacity.
+impl Default for Value {
+    ghost use Rattle.std.specs.Prelude.{◌≡◌, false};
+    ghost use Rattle.iltypes.specs.declared.value.Value.TheVariants.{Bool};
+
+    ghost is_default = { λ value. value ≡ Bool false };
+
+    fn default() -> Value {
+        Value::Bool(false)
+    }
+}
+
 impl fmt::Display for Value {
     ghost use Rattle.std.specs.Prelude.{Some};
     ghost use Rattle.iltypes.specs.Printed.{printed};

@@ -1,6 +1,6 @@
 -- The certificate that says most, from word to word: before the first, over a word that is not reached, over one that
 -- has its rule, and at one that is refused.
-use Rattle.std.proofs.Common.{◌≡◌, ℕ, zero, suc, ◌+◌, ◌<◌, ◌≤◌, ◌⊎◌, inl, inr, length, Bool, true, false, Option, Some}
+use Rattle.std.proofs.Common.{◌≡◌, ℕ, ◌+◌, ◌<◌, ◌≤◌, ◌⊎◌, inl, inr, length, Bool, true, false, Option, Some}
 use Rattle.std.proofs.Common.{None, refl, sym, ap, ◌∙◌, subst, arith}
 use Rattle.std.specs.Prelude.{IsTrue, replicate, slice_get}
 use Rattle.std.specs.Option.{option_map}
@@ -24,9 +24,10 @@ use Rattle.ilranges.proofs.Closing.{IsMetOrClosed, rule_met}
 use Rattle.ilranges.proofs.RefusalLaws.{keeps_refusals}
 use Rattle.ilranges.proofs.WayLaws.{keeps_order}
 use Rattle.ilverify.specs.Certificates.{Certificate, Leads, are_closed, is_closed, is_met, IsFine, IsConsistentBelow}
-use Rattle.ilverify.specs.Certificates.{IsCertified, Covers, IsClosest, IsRefusal}
+use Rattle.ilverify.specs.Certificates.{IsCertified, Covers, IsClosest, IsRangeRefusal}
 use Rattle.ilverify.specs.PassSteps.{target_of}
 use Rattle.ilverify.proofs.Growth.{below, leads_on, leads_wider, covers_trans, LeadsIf, Takes, AreStarts, starts_kept}
+use Rattle.ilverify.proofs.Lists.{get_replicate}
 use Rattle.ilverify.proofs.Order.{HasNoResult, into_trans, into_forgotten, forgotten_into, forgotten_none}
 use Rattle.ilverify.proofs.Order.{closed_wider, closed_is}
 
@@ -64,11 +65,6 @@ target_forward code place met entry word ways rule = omega arith
 pub record IsBlank (code : Listing) (certificate : Certificate) : Type 0 where
   pub long : length certificate ≡ length code.instructions
   pub none : (place : ℕ) (entry : Entry) → ¬ (slice_get certificate place ≡ Some (Some entry))
-
-get_replicate : {A : Type 0} (n k : ℕ) (x y : A) → slice_get (replicate n x) k ≡ Some y → x ≡ y
-get_replicate zero k x y e = absurd (cc)
-get_replicate (suc n) zero x y e = cc
-get_replicate (suc n) (suc k) x y e = get_replicate n k x y e
 
 pub blank : (code : Listing) → IsBlank code (replicate (length code.instructions) None)
 blank code = record {
@@ -308,7 +304,7 @@ pub refused : (code : Listing) (a : Certificate) (n line : ℕ) (cause : Cause) 
     → IsClosest code a n → slice_get code.instructions n ≡ Some word → slice_get a n ≡ Some (Some entry)
     → slice_get code.lines n ≡ Some line
     → IsLeastCause (ArisesAtWord code n (is_met a (n + 1)) entry word) cause
-    → IsRefusal code (record { word = n; line = line; cause = cause })
+    → IsRangeRefusal code (record { word = n; line = line; cause = cause })
 refused code a n line cause entry word h w e li least =
     let lt : n < length code.instructions = slice_get_within code.instructions n word w in
     let none : (other : Certificate) → IsConsistentBelow code other (n + 1) → ⊥ = (λ other o.

@@ -5,5 +5,8 @@ mod Lists
 mod Order
 mod Pending
 pub mod Refusals
+mod RequestPass
+mod RequestPaths
 mod Soundness
+pub mod Verdict
 mod Ways

@@ -1,6 +1,11 @@
--- Lists after one element is written.
+-- Lists by their elements, and after one is written.
 use Rattle.std.proofs.Common.{◌≡◌, ℕ, zero, suc, ◌<◌, List, [], ◌∷◌, length, Some, refl, ap, arith}
-use Rattle.std.specs.Prelude.{slice_get, slice_set}
+use Rattle.std.specs.Prelude.{replicate, slice_get, slice_set}
+
+pub get_replicate : {A : Type 0} (n k : ℕ) (x y : A) → slice_get (replicate n x) k ≡ Some y → x ≡ y
+get_replicate zero k x y e = absurd (cc)
+get_replicate (suc n) zero x y e = cc
+get_replicate (suc n) (suc k) x y e = get_replicate n k x y e
 
 pub set_there : {A : Type 0} (xs : List A) (i : ℕ) (v : A) → i < length xs → slice_get (slice_set xs i v) i ≡ Some v
 set_there [] i v h = absurd (omega arith)

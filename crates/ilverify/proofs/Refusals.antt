@@ -1,4 +1,4 @@
--- A code is refused at one word at most, for one cause.
+-- By what is known of values a code is refused at one word at most, for one cause.
 use Rattle.std.proofs.Common.{◌≡◌, ℕ, ◌+◌, Bool, false, Option, None, Some, inl, inr, refl, sym, ap, ◌∙◌, subst, arith}
 use Rattle.std.specs.Prelude.{slice_get}
 use Rattle.std.proofs.lemmas.Bool.{cases_lt}
@@ -10,7 +10,7 @@ use Rattle.ilranges.specs.declared.entry.Entry.{Entry}
 use Rattle.ilranges.specs.Entries.{IsInto}
 use Rattle.ilranges.specs.Refusals.{ArisesAtWord}
 use Rattle.ilverify.specs.declared.refusal.Refusal.{Refusal}
-use Rattle.ilverify.specs.Certificates.{Certificate, Leads, is_closed, is_met, IsClosest, IsRefusal}
+use Rattle.ilverify.specs.Certificates.{Certificate, Leads, is_closed, is_met, IsClosest, IsRangeRefusal}
 use Rattle.ilranges.proofs.OneCause.{one_cause}
 use Rattle.ilverify.proofs.Growth.{below}
 use Rattle.ilverify.proofs.Order.{same_entry, closed_wider}
@@ -27,7 +27,7 @@ same_reached code c d place a b h g e f =
     same_entry a b (subst (IsInto a) wide to.into) (subst (IsInto b) wide' from.into)
 
 -- no refusal stands at a lesser word than another
-same_word : (code : Listing) (a b : Refusal) → IsRefusal code a → IsRefusal code b → a.word ≡ b.word
+same_word : (code : Listing) (a b : Refusal) → IsRangeRefusal code a → IsRangeRefusal code b → a.word ≡ b.word
 same_word code a b h g =
     elim (cases_lt a.word b.word) as (λ _. a.word ≡ b.word) [
       | inl lt ↦ absurd (h.none_further g.certificate
@@ -66,8 +66,8 @@ same_met : (code : Listing) (c d : Certificate) (place at : ℕ) → IsClosest c
 same_met code c d place at h g = met_by code c d place h g at (slice_get c at) refl
 
 same_at : (code : Listing) (word line other : ℕ) (cause its : Cause)
-    → IsRefusal code (record { word = word; line = line; cause = cause })
-    → IsRefusal code (record { word = word; line = other; cause = its }) → (line ≡ other) × (cause ≡ its)
+    → IsRangeRefusal code (record { word = word; line = line; cause = cause })
+    → IsRangeRefusal code (record { word = word; line = other; cause = its }) → (line ≡ other) × (cause ≡ its)
 same_at code word line other cause its h g =
     let entry : h.entry ≡ g.entry = same_reached code h.certificate g.certificate word h.entry g.entry h.closest
     g.closest h.reached g.reached in
@@ -80,10 +80,10 @@ same_at code word line other cause its h g =
     (same_met code h.certificate g.certificate word (word + 1) h.closest g.closest) h.cause)) in
     (let a = h.line in let b = g.line in cc, one_cause g.word code word met g.entry cause its there g.cause)
 
-pub same_refusal : (code : Listing) (a b : Refusal) → IsRefusal code a → IsRefusal code b → a ≡ b
-same_refusal code a b h g =
+pub same_range_refusal : (code : Listing) (a b : Refusal) → IsRangeRefusal code a → IsRangeRefusal code b → a ≡ b
+same_range_refusal code a b h g =
     let word : b.word ≡ a.word = sym (same_word code a b h g) in
-    let there : IsRefusal code (record b { word = a.word }) = subst (λ (w : ℕ). IsRefusal code (record b { word = w }))
+    let there : IsRangeRefusal code (record b { word = a.word }) = subst (λ (w : ℕ). IsRangeRefusal code (record b { word = w }))
     word g in
     let rest : (a.line ≡ b.line) × (a.cause ≡ b.cause) = same_at code a.word a.line b.line a.cause b.cause h there in
     ap (λ (w : ℕ). record a { word = w }) (sym word)

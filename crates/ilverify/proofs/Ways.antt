@@ -16,6 +16,7 @@ use Rattle.iloperators.specs.declared.condition.Condition.TheVariants.{Always, I
 use Rattle.iloperators.specs.declared.operator.Operator.{Operator}
 use Rattle.ilcode.specs.declared.instruction.Instruction.{Instruction}
 use Rattle.ilcode.specs.declared.instruction.Instruction.TheVariants as words
+use Rattle.ilcode.specs.declared.instruction.Variable.TheVariants.{Slot, Port}
 use Rattle.ilcode.specs.Listings.{Listing}
 use Rattle.ilcode.specs.Steps.{is_start}
 use Rattle.ilranges.specs.declared.cause.Cause.TheVariants as causes
@@ -132,11 +133,14 @@ after_typed : (code : Listing) (entry : Entry) (word : Instruction) (after : Ent
 after_typed code entry (words.Load negated operand) after t h = typed_at code _ after h.is t
 after_typed code entry (words.Apply operator operand) after t h = typed_at code _ after h.is t
 after_typed code entry (words.Transform function) after t h = typed_at code _ after h.is t
-after_typed code entry (words.Store negated slot) after t h =
-    typed_at code _ after h.is (set_typed entry.slots code.slots slot h.stored t
-    (λ its e. stored_typed negated entry.result (slice_get code.slots slot) h.stored its e h.written))
-after_typed code entry (words.Set slot) after t h = typed_at code entry after h.1 t
-after_typed code entry (words.Reset slot) after t h = typed_at code entry after h.1 t
+after_typed code entry (words.Store negated (Slot slot)) after t h =
+    typed_at code _ after h.1.is (set_typed entry.slots code.slots slot h.1.stored t
+    (λ its e. stored_typed negated entry.result (slice_get code.slots slot) h.1.stored its e h.1.written))
+after_typed code entry (words.Store negated (Port block port)) after t h = typed_at code entry after h.1.is t
+after_typed code entry (words.Set variable) after t h = typed_at code entry after h.2 t
+after_typed code entry (words.Reset variable) after t h = typed_at code entry after h.2 t
+after_typed code entry (words.Pass operand block port) after t h = typed_at code _ after h.1.is t
+after_typed code entry (words.Call block) after t h = typed_at code _ after h.1 t
 after_typed code entry (words.Open operator) after t h = opens_typed code entry after operator entry.result t h
 after_typed code entry words.Close after t h = closes_typed code entry after entry.nesting t h
 after_typed code entry (words.Jump condition target) after t h = absurd h

@@ -1,5 +1,6 @@
--- Certificates (profile): an entry for each word, so that the rules lead from entry to entry.
-use Rattle.std.specs.Prelude.{◌≡◌, ℕ, ◌+◌, ◌<◌, Bool, true, false, List, [], ◌∷◌, length, Option, Some, None}
+-- Certificates (profile): an entry for each word, so that the rules lead from entry to entry. And why a code is
+-- refused.
+use Rattle.std.specs.Prelude.{◌≡◌, ℕ, ◌+◌, ◌<◌, ◌≤◌, ◌⊎◌, Bool, true, false, List, [], ◌∷◌, length, Option, Some, None}
 use Rattle.std.specs.Prelude.{IsTrue, slice_get, ⊤}
 use Rattle.ilcode.specs.declared.instruction.Instruction.{Instruction}
 use Rattle.ilcode.specs.Listings.{Listing}
@@ -10,6 +11,7 @@ use Rattle.ilranges.specs.declared.nesting.KnownOpened.{KnownOpened}
 use Rattle.ilranges.specs.Entries.{IsInto, opening}
 use Rattle.ilranges.specs.Refusals.{ArisesAtWord}
 use Rattle.ilranges.specs.Rules.{Ways, IsWay, IsRule}
+use Rattle.ilverify.specs.Requests.{HasFewRequests, IsRequestRefusal}
 use Rattle.ilverify.specs.declared.refusal.Refusal.{Refusal}
 use Rattle.ilverify.specs.declared.refusal.VerifyError.{VerifyError}
 use Rattle.ilverify.specs.declared.refusal.VerifyError.TheVariants.{Memory, Refused}
@@ -73,7 +75,7 @@ pub record IsClosest (code : Listing) (certificate : Certificate) (end : ℕ) : 
 
 -- the word is the least at which no certificate goes on, and the cause the least that arises there; no certificate is
 -- consistent
-pub record IsRefusal (code : Listing) (refusal : Refusal) : Type 0 where
+pub record IsRangeRefusal (code : Listing) (refusal : Refusal) : Type 0 where
   pub certificate : Certificate
   pub closest : IsClosest code certificate refusal.word
   pub entry : Entry
@@ -85,6 +87,24 @@ pub record IsRefusal (code : Listing) (refusal : Refusal) : Type 0 where
   pub line : slice_get code.lines refusal.word ≡ Some refusal.line
   pub none_further : (other : Certificate) → ¬ IsConsistentBelow code other (refusal.word + 1)
   pub uncertified : ¬ IsCertified code
+
+-- the code is accepted: some certificate is consistent, and no path holds too many requests
+abbrev pub IsAccepted : Listing → Type 0
+IsAccepted code = IsCertified code × HasFewRequests code
+
+-- why a code may be refused: by what is known of values, or by the requests on its paths
+abbrev pub MayRefuse : Listing → Refusal → Type 0
+MayRefuse code refusal = IsRangeRefusal code refusal ⊎ IsRequestRefusal code refusal
+
+-- at a lesser word, or at the same one by a cause of no greater number
+abbrev pub IsNotAfter : Refusal → Refusal → Type 0
+IsNotAfter one other =
+    (one.word < other.word) ⊎ ((one.word ≡ other.word) × (number_of one.cause ≤ number_of other.cause))
+
+-- the least of the two
+pub record IsRefusal (code : Listing) (refusal : Refusal) : Type 0 where
+  pub is : MayRefuse code refusal
+  pub least : (other : Refusal) → MayRefuse code other → IsNotAfter refusal other
 
 -- the number under which an error is reported
 abbrev pub number_of_error : VerifyError → ℕ

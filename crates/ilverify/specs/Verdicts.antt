@@ -1,8 +1,8 @@
 -- What holds of a code that the verifier accepts.
-use Rattle.std.specs.Prelude.{ℕ, ◌≤◌, List}
-use Rattle.iltypes.specs.declared.value.Value.{Value}
-use Rattle.iltypes.specs.Values.{AreOf}
-use Rattle.ilcode.specs.Listings.{Listing}
+use Rattle.std.specs.Prelude.{ℕ, ◌+◌, ◌≤◌, length}
+use Rattle.limits.specs.Limits.{most_requests}
+use Rattle.ilblocks.specs.Stores.{Store, IsStoreOf}
+use Rattle.ilcode.specs.Listings.{Listing, shape_of}
 use Rattle.ilcode.specs.Paths.{IsBound}
 use Rattle.ilcode.specs.Steps.{Configuration, Runs, start, IsSafe, Ends}
 
@@ -11,18 +11,20 @@ pub record Accepted : Type 0 where
   pub code : Listing
   pub bound : ℕ
 
--- the run from these values ends
-pub record Terminates (code : Listing) (from : List Value) : Type 0 where
+-- the run from this store ends
+pub record Terminates (code : Listing) (from : Store) : Type 0 where
   pub steps : ℕ
-  pub to : List Value
+  pub to : Store
   pub ends : Ends code from steps to
 
--- each run from values in their types is defined at each step, keeps the slots' values in their types, and ends; no run
--- has more steps than the bound, which is the greatest number of words on a path
+-- each run from a store of the code's types and kinds is defined at each step, keeps it one, and ends; no run has more
+-- steps than the bound, which is the greatest number of words on a path, and none makes more requests than the limit
 pub record IsVerified (code : Listing) (bound : ℕ) : Type 0 where
   pub safe : IsSafe code
-  pub kept : (from : List Value) (steps : ℕ) (c : Configuration) → AreOf from code.slots
-      → Runs code (start from) steps c → AreOf c.slots code.slots
-  pub ends : (from : List Value) → AreOf from code.slots → Terminates code from
-  pub few : (from : List Value) (steps : ℕ) (c : Configuration) → Runs code (start from) steps c → steps ≤ bound
+  pub kept : (from : Store) (steps : ℕ) (c : Configuration) → IsStoreOf (shape_of code) from
+      → Runs code (start from) steps c → IsStoreOf (shape_of code) c.store
+  pub ends : (from : Store) → IsStoreOf (shape_of code) from → Terminates code from
+  pub few : (from : Store) (steps : ℕ) (c : Configuration) → Runs code (start from) steps c → steps ≤ bound
+  pub asks : (from : Store) (steps : ℕ) (c : Configuration) → Runs code (start from) steps c
+      → length c.store.requests ≤ length from.requests + most_requests
   pub greatest : IsBound code bound

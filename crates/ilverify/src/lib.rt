@@ -2,9 +2,10 @@
 //!
 //! What crosses the boundary: [`verify`] takes a code and answers it as [`Verified`] with its
 //! bound, or the [`Refusal`] with word, line and cause. Of a `Verified` no step is undefined, each
-//! run ends, and the bound is the greatest number of words on a path (`IsVerified`,
-//! specs/Verdicts.antt, to be read first). The verdict is defined by certificates
-//! (specs/Certificates.antt): an entry for each word, consistent by the rules of `ilranges`.
+//! run ends and makes few requests, and the bound is the greatest number of words on a path
+//! (`IsVerified`, specs/Verdicts.antt, to be read first). The verdict is defined by certificates
+//! (specs/Certificates.antt): an entry for each word, consistent by the rules of `ilranges`; and by
+//! the calls of request blocks on each path (specs/Requests.antt).
 //!
 //! ```text
 //! let verified = verify(alloc, code)?;
@@ -14,6 +15,7 @@
 mod bound;
 mod pass;
 mod refusal;
+mod requests;
 mod verified;
 mod verifier;
 

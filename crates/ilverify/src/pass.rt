@@ -7,18 +7,18 @@
 //! (`IsFound`). Entries share the ranges that no word between them has changed.
 
 ghost use Rattle.std.specs.Prelude.{◌≡◌, ◌+◌, ◌<◌, length, slice_get, replicate, Some, None};
-ghost use Rattle.std.specs.Prelude.{IfOk, OnOk, MatchResult};
+ghost use Rattle.std.specs.Prelude.{IfOk, OnOk, MatchOption};
 ghost use Rattle.limits.specs.Limits.{most_words};
 ghost use Rattle.ilcode.specs.Listings.{IsLawful};
 ghost use Rattle.ilranges.specs.Changes.{changed, ways_of};
 ghost use Rattle.ilranges.specs.Entries.{arriving};
 ghost use Rattle.ilranges.specs.Rules.{IsRule};
-ghost use Rattle.ilverify.specs.Certificates.{is_met, IsCertified, IsError};
+ghost use Rattle.ilverify.specs.Certificates.{is_met, IsCertified, IsRangeRefusal};
 ghost use Rattle.ilverify.specs.PassSteps.{CanMeet, CanMeetAt, CanMeetIf, IsMeetingOf, Meets};
 ghost use Rattle.ilverify.specs.PassSteps.{MeetsIf, arrived, target_of, AreTyped, AreBounded};
 ghost use Rattle.ilverify.specs.PassSteps.{AreFollowed, IsFound};
 
-use crate::refusal::{Refusal, VerifyError};
+use crate::refusal::Refusal;
 use ilcode::{Code, Instruction};
 use ilranges::{Change, Changes, Entry, after_word};
 use std::alloc::{AllocError, Global};
@@ -162,7 +162,7 @@ fn follow_ways(
 }
 
 /// The word at the place.
-fn word_at(code: &Code, place: usize) -> Instruction
+pub(crate) fn word_at(code: &Code, place: usize) -> Instruction
     requires { place < length code.now.instructions }
     ensures value { slice_get code.now.instructions place ≡ Some result }
     ensures lawful { IsLawful code.now }
@@ -171,24 +171,28 @@ fn word_at(code: &Code, place: usize) -> Instruction
 }
 
 /// Judges the word at the place, where it is reached, and follows the ways from it.
-fn advance(code: &Code, pending: &mut Vec<Option<Entry>>, place: usize) -> Result<(), VerifyError>
+fn advance(
+    code: &Code,
+    pending: &mut Vec<Option<Entry>>,
+    place: usize,
+) -> Result<Option<Refusal>, AllocError>
     requires within { place < length code.now.instructions }
     requires found { IsFound code.now place pending.old.items }
-    ensures { MatchResult result
-        (λ _. IsFound code.now (place + 1) pending.new.items)
-        (IsError code.now) }
+    ensures { IfOk result (λ refusal. MatchOption refusal
+        (IsFound code.now (place + 1) pending.new.items)
+        (IsRangeRefusal code.now)) }
 {
     let Some(entry) = pending[place].take() else {
-        return Ok(());
+        return Ok(None);
     };
     let word = word_at(code, place);
     let met = is_met(pending, place + 1);
     match after_word(code, place, met, &entry, word) {
-        Ok(changes) => match follow_ways(code, pending, place, word, entry, changes) {
-            Ok(()) => Ok(()),
-            Err(error) => Err(VerifyError::Memory(error)),
-        },
-        Err(cause) => Err(VerifyError::Refused(Refusal {
+        Ok(changes) => {
+            follow_ways(code, pending, place, word, entry, changes)?;
+            Ok(None)
+        }
+        Err(cause) => Ok(Some(Refusal {
             word: place,
             line: code.lines()[place],
             cause,
@@ -206,13 +210,19 @@ fn begin(alloc: Global, code: &Code) -> Result<Vec<Option<Entry>>, AllocError>
     Ok(pending)
 }
 
-/// Judges the words that are reached, one after another.
-pub(crate) fn judge(alloc: Global, code: &Code) -> Result<(), VerifyError>
-    ensures { MatchResult result (λ _. IsCertified code.now) (IsError code.now) }
+/// Judges the words that are reached, one after another: the first refusal by what is known of
+/// values, if any.
+pub(crate) fn judge(alloc: Global, code: &Code) -> Result<Option<Refusal>, AllocError>
+    ensures { IfOk result (λ refusal. MatchOption refusal
+        (IsCertified code.now)
+        (IsRangeRefusal code.now)) }
 {
-    let mut pending = begin(alloc, code).map_err(VerifyError::Memory)?;
+    let mut pending = begin(alloc, code)?;
     for place in 0..code.instructions().len() {
-        advance(code, &mut pending, place)?;
+        let refusal = advance(code, &mut pending, place)?;
+        if refusal.is_some() {
+            return Ok(refusal);
+        }
     }
-    Ok(())
+    Ok(None)
 }

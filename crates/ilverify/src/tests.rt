@@ -3,13 +3,15 @@
 ghost use Rattle.std.specs.Prelude.{◌≤◌, length};
 
 use crate::{VerifyError, verify};
-use ilcode::{Code, Instruction, Operand};
+use ilblocks::Kind;
+use ilcode::{Code, Instruction, Operand, Variable};
 use iloperators::{Function, IntegerType, Operator};
 use iltypes::{IlType, Range, Value};
 use std::alloc::{AllocError, Global};
 use std::test::Fail;
 
 mod jumps;
+mod requests;
 
 pub(crate) const LEVEL: IlType = IlType::Int(Range { lo: 0, hi: 254 });
 
@@ -46,7 +48,7 @@ pub(crate) fn load(operand: Operand) -> Instruction {
 fn store(slot: usize) -> Instruction {
     Instruction::Store {
         negated: false,
-        slot,
+        variable: Variable::Slot(slot),
     }
 }
 
@@ -62,7 +64,7 @@ pub(crate) fn div(operand: Operand) -> Instruction {
     Instruction::Apply(Operator::Div, operand)
 }
 
-/// The code of three words on the lines 3 to 5, with these starts.
+/// The code of three words on the lines 3 to 5, with these starts and a TON and a GEAR_DO.
 fn code(alloc: Global, second_start: usize, words: [Instruction; 3]) -> Result<Code, AllocError>
     requires { second_start ≤ 3 }
 {
@@ -70,6 +72,7 @@ fn code(alloc: Global, second_start: usize, words: [Instruction; 3]) -> Result<C
         1,
         vec![in alloc; Value::Int(10), Value::Int(i64::MIN), Value::Int(-1)]?,
         vec![in alloc; LEVEL, DINT, IlType::Bool]?,
+        vec![in alloc; Kind::Ton, Kind::GearDo]?,
         vec![in alloc; 0usize, second_start]?,
         vec![in alloc; words[0], words[1], words[2]]?,
         vec![in alloc; 3usize, 4, 5]?,
@@ -108,11 +111,11 @@ fn the_least_word_and_cause_are_reported(rt: HostRuntime) -> Result<(), Fail> {
         ([load(X), store(2), load(X)], "refused 2 at word 1 line 4"),
         ([load(X), add(B), load(X)], "refused 2 at word 1 line 4"),
         (
-            [Instruction::Set(9), load(X), load(X)],
+            [Instruction::Set(Variable::Slot(9)), load(X), load(X)],
             "refused 3 at word 0 line 3",
         ),
         (
-            [load(B), Instruction::Set(3), load(X)],
+            [load(B), Instruction::Set(Variable::Slot(3)), load(X)],
             "refused 11 at word 1 line 4",
         ),
         (
@@ -176,7 +179,8 @@ fn code_of(alloc: Global, slots: Vec<IlType>, words: Vec<Instruction>) -> Result
     let constants = vec![in alloc; Value::Int(10)]?;
     let lines = vec![in alloc; 1usize; words.len()]?;
     let starts = vec![in alloc; 0usize]?;
-    Ok(Code::new(16, constants, slots, starts, words, lines))
+    let kinds = Vec::new(alloc);
+    Ok(Code::new(16, constants, slots, kinds, starts, words, lines))
 }
 
 /// `LD 10`, then `ADD( 10` and then `)`, each as often as given.

@@ -1,7 +1,8 @@
 -- The codes of a plan's tasks: as many as tasks, each at its task's number, and one task more.
 use Rattle.std.proofs.Common.{◌≡◌, ℕ, zero, suc, ◌+◌, ◌<◌, List, [], ◌∷◌, ◌++◌, length, get_or, Option, Some, None}
+use Rattle.std.proofs.Common.{Result, Ok, Err}
 use Rattle.std.proofs.Common.{refl, sym, ap, ◌∙◌, subst, add-one, take, arith}
-use Rattle.std.specs.Prelude.{slice_get, IfSome, IsSomeAnd, MatchOption, option_map, ⊤}
+use Rattle.std.specs.Prelude.{slice_get, IfSome, IsSomeAnd, MatchOption, MatchResult, option_map, ⊤}
 use Rattle.std.specs.Arc.{arc_value}
 use Rattle.std.specs.List.{AllZip}
 use Rattle.std.specs.declared.alloc.Global.{Global}
@@ -14,7 +15,7 @@ use Rattle.ilcode.specs.Paths.{IsBound}
 use Rattle.ilplan.specs.Plans.{Planned, PlannedTask}
 use Rattle.ilverify.specs.declared.refusal.VerifyError.{VerifyError}
 use Rattle.ilverify.specs.declared.refusal.VerifyError.TheVariants as verify_errors
-use Rattle.ilverify.specs.Certificates.{IsCertified, IsError, IsRefusal}
+use Rattle.ilverify.specs.Certificates.{IsAccepted, IsError, IsRefusal}
 use Rattle.ilverify.specs.Verdicts.{Accepted}
 use Rattle.plantload.specs.Loaded.{AreCodes, IsCodeOf, accepted_of, listing_for}
 use Rattle.plantload.specs.Loading.{IsCodeFault, IsLoadFaultOrMemory}
@@ -91,7 +92,7 @@ code_at plan codes k code h e = zipped_at (IsCodeOf plan) plan.tasks codes k cod
 
 -- a task whose plan has codes has a certificate
 pub certified_at : (plan : Planned) (codes : List Accepted) (k : ℕ) (t : PlannedTask) → AreCodes plan codes
-    → slice_get plan.tasks k ≡ Some t → IsCertified (listing_for plan t)
+    → slice_get plan.tasks k ≡ Some t → IsAccepted (listing_for plan t)
 certified_at plan codes k t h e = (zipped_with (IsCodeOf plan) plan.tasks codes k t h e).1.certified
 
 -- the first tasks have these shared codes
@@ -109,17 +110,23 @@ one_code_more plan k codes code below known this =
     rw (add-one, front.1, all)
     (all_zipped_more (IsCodeOf plan) (take k plan.tasks) (accepted_of codes) front.0 (arc_value code) known front.2)
 
+-- what a result was whose error was renamed
+pub was_ok : {A E : Type 0} (F : Type 0) (r : Result A E) (x : A) (Q : E → Type 0)
+    → MatchResult r (λ y. ◌≡◌ {A = Result A F} (Ok x) (Ok y)) Q → ((e : E) → Q e → ⊥) → r ≡ Ok x
+was_ok F (Ok y) x Q h none = let same : x ≡ y = cc in ap Ok (sym same)
+was_ok F (Err e) x Q h none = absurd (none e h)
+
 -- what is laid out for a task, accepted with its greatest path, is its code
 pub is_code : (o : Option PlannedTask) (plan : Planned) (listing : Listing) (code : Accepted)
-    → IfSome o (λ t. listing ≡ listing_for plan t) → code.code ≡ listing → IsCertified listing
+    → IfSome o (λ t. listing ≡ listing_for plan t) → code.code ≡ listing → IsAccepted listing
     → IsBound code.code code.bound → IfSome o (λ t. IsCodeOf plan t code)
 is_code None plan listing code layout same certified bound = tt
 is_code (Some t) plan listing code layout same certified bound =
-    record { laid = same ∙ layout; certified = subst IsCertified layout certified; bound = bound }
+    record { laid = same ∙ layout; certified = subst IsAccepted layout certified; bound = bound }
 
 -- the tasks before one whose code is refused have certificates
 certified_before : (plan : Planned) (n : ℕ) (codes : List (Arc Accepted Global)) → AreFirst plan n codes
-    → (k : ℕ) (t : PlannedTask) → k < n → slice_get plan.tasks k ≡ Some t → IsCertified (listing_for plan t)
+    → (k : ℕ) (t : PlannedTask) → k < n → slice_get plan.tasks k ≡ Some t → IsAccepted (listing_for plan t)
 certified_before plan n codes h k t lt e =
     let front = in_front plan.tasks n k t lt e in
     (zipped_with (IsCodeOf plan) (take n plan.tasks) (accepted_of codes) k t h front).1.certified

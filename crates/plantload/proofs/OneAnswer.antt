@@ -17,7 +17,7 @@ use Rattle.ilcode.proofs.RunPaths.{one_bound}
 use Rattle.ilverify.specs.declared.refusal.Refusal.{Refusal}
 use Rattle.ilverify.specs.Certificates.{IsRefusal}
 use Rattle.ilverify.specs.Verdicts.{Accepted}
-use Rattle.ilverify.proofs.Refusals.{same_refusal}
+use Rattle.ilverify.proofs.Verdict.{accepted_apart, same_refusal}
 use Rattle.plantload.specs.Loaded.{AreCodes, IsCodeOf, Loaded, Refused, listing_for}
 use Rattle.plantload.specs.Loading.{IsFirstRefused, IsLoadFault, IsLoaded, IsPlanFault, IsPlanOfText, IsSetup}
 use Rattle.plantload.specs.declared.fault.LoadFault.{LoadFault}
@@ -52,15 +52,16 @@ same_codes plan a b h g = codes_same plan plan.tasks a b h g
 -- where all tasks have codes, none is refused
 none_refused : (plan : Planned) (codes : List Accepted) (k : ℕ) (refusal : Refusal) → AreCodes plan codes
     → IsFirstRefused plan k refusal → ⊥
-none_refused plan codes k refusal h f = f.refused.uncertified (certified_at plan codes k f.task h f.is)
+none_refused plan codes k refusal h f =
+    accepted_apart (listing_for plan f.task) (certified_at plan codes k f.task h f.is) refusal f.refused
 
 -- a plan has one first task that is refused
 same_number : (plan : Planned) (j k : ℕ) (r q : Refusal) → IsFirstRefused plan j r → IsFirstRefused plan k q → j ≡ k
 same_number plan j k r q f g =
     elim (cases_lt j k) as (λ _. j ≡ k) [
-      | inl lt ↦ absurd (f.refused.uncertified (g.before j f.task lt f.is))
+      | inl lt ↦ absurd (accepted_apart (listing_for plan f.task) (g.before j f.task lt f.is) r f.refused)
       | inr ge ↦ elim (cases_lt k j) as (λ _. j ≡ k) [
-        | inl gt ↦ absurd (g.refused.uncertified (f.before k g.task gt g.is))
+        | inl gt ↦ absurd (accepted_apart (listing_for plan g.task) (f.before k g.task gt g.is) q g.refused)
         | inr le ↦ omega (arith, ge, le)
       ]
     ]

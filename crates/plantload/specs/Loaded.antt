@@ -10,7 +10,7 @@ use Rattle.ilcode.specs.Listings.{Listing}
 use Rattle.ilcode.specs.Paths.{IsBound}
 use Rattle.ilcompile.specs.Layout.{laid_out}
 use Rattle.ilverify.specs.declared.refusal.Refusal.{Refusal}
-use Rattle.ilverify.specs.Certificates.{IsCertified}
+use Rattle.ilverify.specs.Certificates.{IsAccepted}
 use Rattle.ilverify.specs.Verdicts.{Accepted}
 
 -- a plan and its tasks' codes
@@ -41,7 +41,7 @@ listing_for plan task = laid_out plan.buses plan.text task
 -- the code is what is laid out for the task; it has a certificate; and its bound is its greatest path
 pub record IsCodeOf (plan : Planned) (task : PlannedTask) (code : Accepted) : Type 0 where
   pub laid : code.code ≡ listing_for plan task
-  pub certified : IsCertified (listing_for plan task)
+  pub certified : IsAccepted (listing_for plan task)
   pub bound : IsBound code.code code.bound
 
 -- for each task of the plan, in order, its code

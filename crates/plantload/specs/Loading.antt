@@ -8,7 +8,7 @@ use Rattle.ilplan.specs.Plans.{Planned, PlannedTask}
 use Rattle.ilsyms.specs.Faults.{IsFault, IsWellNamed}
 use Rattle.ilsyms.specs.Resolved.{plan_of_tree}
 use Rattle.ilverify.specs.declared.refusal.Refusal.{Refusal}
-use Rattle.ilverify.specs.Certificates.{IsCertified, IsRefusal}
+use Rattle.ilverify.specs.Certificates.{IsAccepted, IsRefusal}
 use Rattle.plantload.specs.Loaded.{AreCodes, Loaded, listing_for}
 use Rattle.plantload.specs.declared.fault.LoadFault.{LoadFault}
 use Rattle.plantload.specs.declared.fault.LoadFault.TheVariants.{Memory, Text, Name, Code}
@@ -30,7 +30,7 @@ pub record IsFirstRefused (plan : Planned) (number : ℕ) (refusal : Refusal) : 
   pub task : PlannedTask
   pub is : slice_get plan.tasks number ≡ Some task
   pub before : (k : ℕ) (t : PlannedTask) → k < number → slice_get plan.tasks k ≡ Some t
-      → IsCertified (listing_for plan t)
+      → IsAccepted (listing_for plan t)
   pub refused : IsRefusal (listing_for plan task) refusal
 
 -- why the bytes have no plan: the text's first fault, else the least fault of its names

@@ -18,8 +18,9 @@ pub struct RefusedTask {
 }
 
 impl Model for RefusedTask {
-    ghost use Rattle.std.specs.Prelude.{◌<◌, length, ℕ, List};
+    ghost use Rattle.std.specs.Prelude.{◌<◌, length, List};
     ghost use Rattle.std.specs.Coded.{codes, code_by};
+    ghost use Rattle.ilplan.specs.declared.place.Place.{Place};
     ghost use Rattle.iltrees.specs.declared.nested.Piece.{Piece};
     ghost use Rattle.iltrees.specs.Trees.{pieces_of};
     ghost use Rattle.iltrees.specs.TreeSteps.{tree_of, tree_again};
@@ -29,7 +30,7 @@ impl Model for RefusedTask {
 
     ghost coded = { Prim.hlevel (
       codes,
-      code_by (List (Piece ℕ)) (Prim.hlevel codes) pieces_of tree_of tree_again,
+      code_by (List (Piece Place)) (Prim.hlevel codes) pieces_of tree_of tree_again,
     ) };
 
     ghost view = { λ r. refused_of r.plan r.task r.refusal };

@@ -14,8 +14,9 @@ pub struct Setup {
 }
 
 impl Model for Setup {
-    ghost use Rattle.std.specs.Prelude.{ℕ, List};
+    ghost use Rattle.std.specs.Prelude.{List};
     ghost use Rattle.std.specs.Coded.{codes, code_by};
+    ghost use Rattle.ilplan.specs.declared.place.Place.{Place};
     ghost use Rattle.iltrees.specs.declared.nested.Piece.{Piece};
     ghost use Rattle.iltrees.specs.Trees.{pieces_of};
     ghost use Rattle.iltrees.specs.TreeSteps.{tree_of, tree_again};
@@ -25,7 +26,7 @@ impl Model for Setup {
 
     ghost coded = { Prim.hlevel (
       codes,
-      code_by (List (Piece ℕ)) (Prim.hlevel codes) pieces_of tree_of tree_again,
+      code_by (List (Piece Place)) (Prim.hlevel codes) pieces_of tree_of tree_again,
     ) };
 
     ghost view = { λ s. record { plan = s.plan; codes = accepted_of s.verified.items } };

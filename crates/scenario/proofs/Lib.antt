@@ -1,4 +1,4 @@
 pub mod Judgement
-pub mod KnownEntries
+pub mod KnownStatements
 pub mod Orders
 pub mod ScenarioReading

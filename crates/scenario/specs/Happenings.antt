@@ -2,25 +2,25 @@
 -- lines.
 use Rattle.std.specs.Prelude.{ℕ, Option, Some, None, List}
 use Rattle.std.specs.List.{filter_map}
-use Rattle.scenario.specs.declared.entries.Entry.{Entry}
-use Rattle.scenario.specs.declared.entries.Entry.TheVariants as entry
+use Rattle.scenario.specs.declared.statements.Statement.{Statement}
+use Rattle.scenario.specs.declared.statements.Statement.TheVariants as statement
 use Rattle.scenario.specs.declared.happenings.Happening.{Happening}
 use Rattle.scenario.specs.declared.happenings.Happening.TheVariants.{Tick, Event, HearFault}
 
--- what happens by an entry: all others say what is on the buses
-abbrev pub happening_of : Entry → Option Happening
-happening_of (entry.Tick moment) = Some (Tick moment)
-happening_of (entry.Event bus frame) = Some (Event bus frame)
-happening_of (entry.HearFault bus) = Some (HearFault bus)
+-- what happens by a statement: all others say what is on the buses
+abbrev pub happening_of : Statement → Option Happening
+happening_of (statement.Tick moment) = Some (Tick moment)
+happening_of (statement.Event bus frame) = Some (Event bus frame)
+happening_of (statement.HearFault bus) = Some (HearFault bus)
 happening_of _ = None
 
-abbrev pub happenings : List Entry → List Happening
-happenings entries = filter_map happening_of entries
+abbrev pub happenings : List Statement → List Happening
+happenings statements = filter_map happening_of statements
 
 -- the moments of the ticks
-abbrev pub tick_in : Entry → Option ℕ
-tick_in (entry.Tick moment) = Some moment
+abbrev pub tick_in : Statement → Option ℕ
+tick_in (statement.Tick moment) = Some moment
 tick_in _ = None
 
-abbrev pub ticks : List Entry → List ℕ
-ticks entries = filter_map tick_in entries
+abbrev pub ticks : List Statement → List ℕ
+ticks statements = filter_map tick_in statements

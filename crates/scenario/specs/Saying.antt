@@ -7,21 +7,21 @@ use Rattle.limits.specs.Limits.{most_buses}
 use Rattle.wordlines.specs.WordLines.{number_in, hex_number}
 use Rattle.daliframe.specs.declared.schemes.EventScheme.{EventScheme}
 use Rattle.daliframe.specs.declared.schemes.EventScheme.TheVariants as scheme
-use Rattle.scenario.specs.declared.entries.FrameFate.{FrameFate}
-use Rattle.scenario.specs.declared.entries.FrameFate.TheVariants.{Lost, Damaged, Fault}
-use Rattle.scenario.specs.declared.entries.Entry.{Entry}
-use Rattle.scenario.specs.declared.entries.Entry.TheVariants.{Gear, LampFailure, Memory, Device, Instance, Reply}
-use Rattle.scenario.specs.declared.entries.Entry.TheVariants.{HearFault, Tick, Event}
+use Rattle.scenario.specs.declared.statements.FrameFate.{FrameFate}
+use Rattle.scenario.specs.declared.statements.FrameFate.TheVariants.{Lost, Damaged, Fault}
+use Rattle.scenario.specs.declared.statements.Statement.{Statement}
+use Rattle.scenario.specs.declared.statements.Statement.TheVariants.{Gear, LampFailure, Memory, Device}
+use Rattle.scenario.specs.declared.statements.Statement.TheVariants.{InputInstance, Reply, HearFault, Tick, Event}
 
 -- what the first word gives, where it gives something, and what the words after it make of that
-abbrev pub first : {A : Type 0} → Option (A × List (List ℕ)) → (A → List (List ℕ) → Option Entry) → Option Entry
+abbrev pub first : {A : Type 0} → Option (A × List (List ℕ)) → (A → List (List ℕ) → Option Statement) → Option Statement
 first None says = None
 first (Some taken) says = says taken.0 taken.1
 
 -- no word is left
-abbrev pub at_end : List (List ℕ) → Entry → Option Entry
-at_end [] entry = Some entry
-at_end (word ∷ rest) entry = None
+abbrev pub at_end : List (List ℕ) → Statement → Option Statement
+at_end [] statement = Some statement
+at_end (word ∷ rest) statement = None
 
 abbrev pub fate_of : List ℕ → Option FrameFate
 fate_of word =
@@ -55,19 +55,19 @@ scheme_in words =
     option_and_then (λ taken. option_map (λ named. (named, taken.1)) (scheme_with taken.0)) (number_in 255 words)
 
 -- `gear b s`
-abbrev pub gear_of : List (List ℕ) → Option Entry
+abbrev pub gear_of : List (List ℕ) → Option Statement
 gear_of words =
     first (bus_in words) (λ bus rest.
     first (number_in 63 rest) (λ short rest. at_end rest (Gear bus short)))
 
 -- `lampfailure b s`
-abbrev pub lamp_failure_of : List (List ℕ) → Option Entry
+abbrev pub lamp_failure_of : List (List ℕ) → Option Statement
 lamp_failure_of words =
     first (bus_in words) (λ bus rest.
     first (number_in 63 rest) (λ short rest. at_end rest (LampFailure bus short)))
 
 -- `memory b s bank offset value`
-abbrev pub memory_of : List (List ℕ) → Option Entry
+abbrev pub memory_of : List (List ℕ) → Option Statement
 memory_of words =
     first (bus_in words) (λ bus rest.
     first (number_in 63 rest) (λ short rest.
@@ -76,44 +76,44 @@ memory_of words =
     first (number_in 255 rest) (λ value rest. at_end rest (Memory bus short bank offset value))))))
 
 -- `device b s`
-abbrev pub device_of : List (List ℕ) → Option Entry
+abbrev pub device_of : List (List ℕ) → Option Statement
 device_of words =
     first (bus_in words) (λ bus rest.
     first (number_in 63 rest) (λ short rest. at_end rest (Device bus short)))
 
 -- `instance b s i type scheme value`
-abbrev pub instance_of : List (List ℕ) → Option Entry
+abbrev pub instance_of : List (List ℕ) → Option Statement
 instance_of words =
     first (bus_in words) (λ bus rest.
     first (number_in 63 rest) (λ short rest.
     first (number_in 31 rest) (λ number rest.
     first (number_in 31 rest) (λ kind rest.
     first (scheme_in rest) (λ scheme rest.
-    first (number_in 255 rest) (λ value rest. at_end rest (Instance bus short number kind scheme value)))))))
+    first (number_in 255 rest) (λ value rest. at_end rest (InputInstance bus short number kind scheme value)))))))
 
 -- `reply b n lost`, `damaged` or `fault`, where n counts from 1
-abbrev pub reply_of : List (List ℕ) → Option Entry
+abbrev pub reply_of : List (List ℕ) → Option Statement
 reply_of words =
     first (bus_in words) (λ bus rest.
     first (number_in 18446744073709551615 rest) (λ place rest.
     first (fate_in rest) (λ fate rest. if place == 0 then None else at_end rest (Reply bus place fate))))
 
 -- `hearfault b`
-abbrev pub hear_fault_of : List (List ℕ) → Option Entry
+abbrev pub hear_fault_of : List (List ℕ) → Option Statement
 hear_fault_of words = first (bus_in words) (λ bus rest. at_end rest (HearFault bus))
 
 -- `tick m`
-abbrev pub tick_of : List (List ℕ) → Option Entry
+abbrev pub tick_of : List (List ℕ) → Option Statement
 tick_of words = first (number_in 18446744073709551615 words) (λ moment rest. at_end rest (Tick moment))
 
 -- `event b HHHHHH`
-abbrev pub event_of : List (List ℕ) → Option Entry
+abbrev pub event_of : List (List ℕ) → Option Statement
 event_of words =
     first (bus_in words) (λ bus rest.
     first (frame_in rest) (λ frame rest. at_end rest (Event bus frame)))
 
 -- what the words after the keyword say
-abbrev pub said_after : List ℕ → List (List ℕ) → Option Entry
+abbrev pub said_after : List ℕ → List (List ℕ) → Option Statement
 said_after keyword words =
     if bytes_eq keyword (codes "gear") then gear_of words
     else if bytes_eq keyword (codes "lampfailure") then lamp_failure_of words
@@ -127,6 +127,6 @@ said_after keyword words =
     else None
 
 -- what the words of a line say, where it is a line of a scenario
-abbrev pub said : List (List ℕ) → Option Entry
+abbrev pub said : List (List ℕ) → Option Statement
 said [] = None
 said (keyword ∷ words) = said_after keyword words

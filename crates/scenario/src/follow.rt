@@ -1,34 +1,34 @@
-//! Which entry may stand after which.
+//! Which statement may stand after which.
 
 ghost use Rattle.std.specs.Prelude.{◌≡◌, ◌≤◌, ◌↔◌, IsTrue, IfSome, None};
 ghost use Rattle.std.specs.List.{list_any};
 ghost use Rattle.scenario.specs.Following.{is_gear_at, is_device_at, is_instance_at, is_reply_to};
 ghost use Rattle.scenario.specs.Following.{IsKnown, IsInTime, Follows, clock};
 
-use crate::entries::Entry;
+use crate::statements::Statement;
 use daliframe::{BusNumber, InstanceNumber, ShortAddress};
 
-/// Whether an entry may stand after those before it, at which the clock came to `now`.
-pub(crate) fn may_follow(before: &[Entry], now: Option<u64>, entry: &Entry) -> bool
+/// Whether a statement may stand after those before it, at which the clock came to `now`.
+pub(crate) fn may_follow(before: &[Statement], now: Option<u64>, statement: &Statement) -> bool
     requires { now ≡ clock before.now }
-    ensures { IsTrue result ↔ Follows before.now entry.now }
+    ensures { IsTrue result ↔ Follows before.now statement.now }
 {
-    is_in_time(now, entry) && is_known(before, entry)
+    is_in_time(now, statement) && is_known(before, statement)
 }
 
-/// Whether an entry may stand where the clock came to `now`.
-fn is_in_time(now: Option<u64>, entry: &Entry) -> bool
-    ensures { IsTrue result ↔ IsInTime now entry.now }
+/// Whether a statement may stand where the clock came to `now`.
+fn is_in_time(now: Option<u64>, statement: &Statement) -> bool
+    ensures { IsTrue result ↔ IsInTime now statement.now }
 {
-    match *entry {
-        Entry::Tick { moment } => is_upto(now, moment),
-        Entry::Event { .. } | Entry::HearFault { .. } => true,
-        Entry::Gear { .. }
-        | Entry::LampFailure { .. }
-        | Entry::Memory { .. }
-        | Entry::Device { .. }
-        | Entry::Instance { .. }
-        | Entry::Reply { .. } => is_nowhere(now),
+    match *statement {
+        Statement::Tick { moment } => is_upto(now, moment),
+        Statement::Event { .. } | Statement::HearFault { .. } => true,
+        Statement::Gear { .. }
+        | Statement::LampFailure { .. }
+        | Statement::Memory { .. }
+        | Statement::Device { .. }
+        | Statement::InputInstance { .. }
+        | Statement::Reply { .. } => is_nowhere(now),
     }
 }
 
@@ -52,43 +52,47 @@ fn is_nowhere(now: Option<u64>) -> bool
     }
 }
 
-/// Whether what an entry names is declared before it, and what it declares is not.
-fn is_known(before: &[Entry], entry: &Entry) -> bool
-    ensures { IsTrue result ↔ IsKnown before.now entry.now }
+/// Whether what a statement names is declared before it, and what it declares is not.
+fn is_known(before: &[Statement], statement: &Statement) -> bool
+    ensures { IsTrue result ↔ IsKnown before.now statement.now }
 {
-    match *entry {
-        Entry::Gear { bus, short } => !has_gear(before, bus, short),
-        Entry::LampFailure { bus, short } => has_gear(before, bus, short),
-        Entry::Memory { bus, short, .. } => has_gear(before, bus, short),
-        Entry::Device { bus, short } => !has_device(before, bus, short),
-        Entry::Instance {
+    match *statement {
+        Statement::Gear { bus, short } => !has_gear(before, bus, short),
+        Statement::LampFailure { bus, short } => has_gear(before, bus, short),
+        Statement::Memory { bus, short, .. } => has_gear(before, bus, short),
+        Statement::Device { bus, short } => !has_device(before, bus, short),
+        Statement::InputInstance {
             bus,
             short,
             number,
             ..
         } => { has_device(before, bus, short) && !has_instance(before, bus, short, number) }
-        Entry::Reply { bus, place, .. } => !has_reply(before, bus, place),
-        Entry::HearFault { .. } | Entry::Tick { .. } | Entry::Event { .. } => true,
+        Statement::Reply { bus, place, .. } => !has_reply(before, bus, place),
+        Statement::HearFault { .. } | Statement::Tick { .. } | Statement::Event { .. } => true,
     }
 }
 
 /// Whether a control gear is declared.
-fn has_gear(before: &[Entry], bus: BusNumber, short: ShortAddress) -> bool
+fn has_gear(before: &[Statement], bus: BusNumber, short: ShortAddress) -> bool
     ensures { result ≡ list_any (is_gear_at bus short) before.now }
 {
-    before.iter().any(|entry| entry.is_gear_at(bus, short))
+    before
+        .iter()
+        .any(|statement| statement.is_gear_at(bus, short))
 }
 
 /// Whether a control device is declared.
-fn has_device(before: &[Entry], bus: BusNumber, short: ShortAddress) -> bool
+fn has_device(before: &[Statement], bus: BusNumber, short: ShortAddress) -> bool
     ensures { result ≡ list_any (is_device_at bus short) before.now }
 {
-    before.iter().any(|entry| entry.is_device_at(bus, short))
+    before
+        .iter()
+        .any(|statement| statement.is_device_at(bus, short))
 }
 
 /// Whether an instance is declared.
 fn has_instance(
-    before: &[Entry],
+    before: &[Statement],
     bus: BusNumber,
     short: ShortAddress,
     number: InstanceNumber,
@@ -97,12 +101,14 @@ fn has_instance(
 {
     before
         .iter()
-        .any(|entry| entry.is_instance_at(bus, short, number))
+        .any(|statement| statement.is_instance_at(bus, short, number))
 }
 
 /// Whether a line says what becomes of a frame.
-fn has_reply(before: &[Entry], bus: BusNumber, place: u64) -> bool
+fn has_reply(before: &[Statement], bus: BusNumber, place: u64) -> bool
     ensures { result ≡ list_any (is_reply_to bus place) before.now }
 {
-    before.iter().any(|entry| entry.is_reply_to(bus, place))
+    before
+        .iter()
+        .any(|statement| statement.is_reply_to(bus, place))
 }

@@ -3,7 +3,7 @@
 ghost use Rattle.std.specs.Prelude.{◌≡◌};
 ghost use Rattle.scenario.specs.Happenings.{happening_of};
 
-use crate::entries::Entry;
+use crate::statements::Statement;
 use daliframe::{BusNumber, Frame24};
 use std::marker::Model;
 
@@ -21,7 +21,7 @@ pub enum Happening {
 /// What happens on the buses of a scenario and is still to be read, in order.
 #[derive(Drop)]
 pub struct Happenings<'a> {
-    rest: &'a [Entry],
+    rest: &'a [Statement],
 }
 
 impl<'a> Model for Happenings<'a> {
@@ -38,11 +38,11 @@ impl<'a> Happenings<'a> {
     ghost use Rattle.std.specs.Prelude.{◌≡◌, ◌∷◌, [], MatchOption};
     ghost use Rattle.scenario.specs.Happenings.{happenings};
 
-    /// What happens by these entries.
-    pub(crate) fn of(entries: &'a [Entry]) -> Self
-        ensures { result ≡ happenings entries.now }
+    /// What happens by these statements.
+    pub(crate) fn of(statements: &'a [Statement]) -> Self
+        ensures { result ≡ happenings statements.now }
     {
-        Happenings { rest: entries }
+        Happenings { rest: statements }
     }
 
     /// Takes what happens next, where anything is left.
@@ -50,9 +50,9 @@ impl<'a> Happenings<'a> {
         ensures { MatchOption result ((self.old ≡ []) × (self.new ≡ []))
             (λ happening. self.old ≡ happening ∷ self.new) }
     {
-        while let [entry, rest @ ..] = self.rest {
+        while let [statement, rest @ ..] = self.rest {
             self.rest = rest;
-            if let Some(happening) = happening_of(entry) {
+            if let Some(happening) = happening_of(statement) {
                 return Some(happening);
             }
         }
@@ -60,14 +60,14 @@ impl<'a> Happenings<'a> {
     }
 }
 
-/// What happens by an entry.
-fn happening_of(entry: &Entry) -> Option<Happening>
-    ensures { result ≡ happening_of entry.now }
+/// What happens by a statement.
+fn happening_of(statement: &Statement) -> Option<Happening>
+    ensures { result ≡ happening_of statement.now }
 {
-    match *entry {
-        Entry::Tick { moment } => Some(Happening::Tick { moment }),
-        Entry::Event { bus, frame } => Some(Happening::Event { bus, frame }),
-        Entry::HearFault { bus } => Some(Happening::HearFault { bus }),
+    match *statement {
+        Statement::Tick { moment } => Some(Happening::Tick { moment }),
+        Statement::Event { bus, frame } => Some(Happening::Event { bus, frame }),
+        Statement::HearFault { bus } => Some(Happening::HearFault { bus }),
         _ => None,
     }
 }

@@ -1,23 +1,23 @@
 //! Scenarios: what is on simulated buses and what happens there, as a file of lines says it.
 //!
 //! What crosses the boundary: [`parse`] reads a [`Scenario`], which contracts see as the list of
-//! its entries, or reports the first bad line by a [`ScenarioFault`]; [`Scenario::happenings`]
+//! its statements, or reports the first bad line by a [`ScenarioFault`]; [`Scenario::happenings`]
 //! gives its ticks and events in order. The definition to read first is `IsScenario`
-//! (specs/Scenarios.antt); what a line says stands in specs/Saying.antt, which entry may follow
+//! (specs/Scenarios.antt); what a line says stands in specs/Saying.antt, which statement may follow
 //! which in specs/Following.antt.
 #![tactic(auto)]
 
-mod entries;
 mod fault;
 mod follow;
 mod happenings;
 mod lines;
 mod scenario;
+mod statements;
 
-pub use entries::{Entry, FrameFate};
 pub use fault::{ScenarioCause, ScenarioFault};
 pub use happenings::{Happening, Happenings};
 pub use scenario::{Scenario, parse};
+pub use statements::{FrameFate, Statement};
 
 #[cfg(test)]
 mod tests;

@@ -8,23 +8,23 @@ ghost use Rattle.scenario.specs.Saying.{scheme_in, scheme_with};
 ghost use Rattle.scenario.specs.Saying.{hear_fault_of, tick_of, event_of, fate_of, fate_in};
 ghost use Rattle.scenario.specs.Saying.{frame_in, at_end};
 
-use crate::entries::{Entry, FrameFate};
+use crate::statements::{FrameFate, Statement};
 use daliframe::{
     BusNumber, EventScheme, Frame24, InstanceNumber, InstanceType, Number, ShortAddress,
 };
 use wordlines::{Words, hex_of};
 
 /// What a line says that isn't skipped.
-pub(crate) fn entry_of(line: &[u8]) -> Option<Entry>
+pub(crate) fn statement_of(line: &[u8]) -> Option<Statement>
     ensures { result ≡ said (words line.now) }
 {
     let mut words = Words::of(line);
     let keyword = words.next()?;
-    entry_after(keyword, words)
+    statement_after(keyword, words)
 }
 
 /// What the words after a keyword say.
-fn entry_after(keyword: &[u8], words: Words<'_>) -> Option<Entry>
+fn statement_after(keyword: &[u8], words: Words<'_>) -> Option<Statement>
     ensures { result ≡ said_after keyword.now words.entry }
 {
     if keyword == b"gear".as_slice() {
@@ -51,25 +51,25 @@ fn entry_after(keyword: &[u8], words: Words<'_>) -> Option<Entry>
 }
 
 /// The numbers of `gear b s`.
-fn gear(mut words: Words<'_>) -> Option<Entry>
+fn gear(mut words: Words<'_>) -> Option<Statement>
     ensures { result ≡ gear_of words.entry }
 {
     let bus: BusNumber = next_number(&mut words)?;
     let short: ShortAddress = next_number(&mut words)?;
-    ended(&words, Entry::Gear { bus, short })
+    ended(&words, Statement::Gear { bus, short })
 }
 
 /// The numbers of `lampfailure b s`.
-fn lamp_failure(mut words: Words<'_>) -> Option<Entry>
+fn lamp_failure(mut words: Words<'_>) -> Option<Statement>
     ensures { result ≡ lamp_failure_of words.entry }
 {
     let bus: BusNumber = next_number(&mut words)?;
     let short: ShortAddress = next_number(&mut words)?;
-    ended(&words, Entry::LampFailure { bus, short })
+    ended(&words, Statement::LampFailure { bus, short })
 }
 
 /// The numbers of `memory b s bank offset value`.
-fn memory(mut words: Words<'_>) -> Option<Entry>
+fn memory(mut words: Words<'_>) -> Option<Statement>
     ensures { result ≡ memory_of words.entry }
 {
     let bus: BusNumber = next_number(&mut words)?;
@@ -79,7 +79,7 @@ fn memory(mut words: Words<'_>) -> Option<Entry>
     let value = words.byte(u8::MAX)?;
     ended(
         &words,
-        Entry::Memory {
+        Statement::Memory {
             bus,
             short,
             bank,
@@ -90,16 +90,16 @@ fn memory(mut words: Words<'_>) -> Option<Entry>
 }
 
 /// The numbers of `device b s`.
-fn device(mut words: Words<'_>) -> Option<Entry>
+fn device(mut words: Words<'_>) -> Option<Statement>
     ensures { result ≡ device_of words.entry }
 {
     let bus: BusNumber = next_number(&mut words)?;
     let short: ShortAddress = next_number(&mut words)?;
-    ended(&words, Entry::Device { bus, short })
+    ended(&words, Statement::Device { bus, short })
 }
 
 /// The numbers of `instance b s i type scheme value`.
-fn instance(mut words: Words<'_>) -> Option<Entry>
+fn instance(mut words: Words<'_>) -> Option<Statement>
     ensures { result ≡ instance_of words.entry }
 {
     let bus: BusNumber = next_number(&mut words)?;
@@ -110,7 +110,7 @@ fn instance(mut words: Words<'_>) -> Option<Entry>
     let value = words.byte(u8::MAX)?;
     ended(
         &words,
-        Entry::Instance {
+        Statement::InputInstance {
             bus,
             short,
             number,
@@ -122,7 +122,7 @@ fn instance(mut words: Words<'_>) -> Option<Entry>
 }
 
 /// The numbers and the word of `reply b n lost`, `damaged` or `fault`.
-fn reply(mut words: Words<'_>) -> Option<Entry>
+fn reply(mut words: Words<'_>) -> Option<Statement>
     ensures { result ≡ reply_of words.entry }
 {
     let bus: BusNumber = next_number(&mut words)?;
@@ -131,39 +131,43 @@ fn reply(mut words: Words<'_>) -> Option<Entry>
     if place == 0 {
         return None;
     }
-    ended(&words, Entry::Reply { bus, place, fate })
+    ended(&words, Statement::Reply { bus, place, fate })
 }
 
 /// The number of `hearfault b`.
-fn hear_fault(mut words: Words<'_>) -> Option<Entry>
+fn hear_fault(mut words: Words<'_>) -> Option<Statement>
     ensures { result ≡ hear_fault_of words.entry }
 {
     let bus: BusNumber = next_number(&mut words)?;
-    ended(&words, Entry::HearFault { bus })
+    ended(&words, Statement::HearFault { bus })
 }
 
 /// The number of `tick m`.
-fn tick(mut words: Words<'_>) -> Option<Entry>
+fn tick(mut words: Words<'_>) -> Option<Statement>
     ensures { result ≡ tick_of words.entry }
 {
     let moment = words.number(u64::MAX)?;
-    ended(&words, Entry::Tick { moment })
+    ended(&words, Statement::Tick { moment })
 }
 
 /// The numbers of `event b HHHHHH`.
-fn event(mut words: Words<'_>) -> Option<Entry>
+fn event(mut words: Words<'_>) -> Option<Statement>
     ensures { result ≡ event_of words.entry }
 {
     let bus: BusNumber = next_number(&mut words)?;
     let frame = frame(&mut words)?;
-    ended(&words, Entry::Event { bus, frame })
+    ended(&words, Statement::Event { bus, frame })
 }
 
-/// The entry, where no word is left.
-fn ended(words: &Words<'_>, entry: Entry) -> Option<Entry>
-    ensures { result ≡ at_end words.now entry }
+/// The statement, where no word is left.
+fn ended(words: &Words<'_>, statement: Statement) -> Option<Statement>
+    ensures { result ≡ at_end words.now statement }
 {
-    if words.is_empty() { Some(entry) } else { None }
+    if words.is_empty() {
+        Some(statement)
+    } else {
+        None
+    }
 }
 
 /// Takes a number below the limit of its type.

@@ -5,36 +5,36 @@ ghost use Rattle.std.specs.Str.Lines.{lines};
 ghost use Rattle.limits.specs.Limits.{most_bytes};
 ghost use Rattle.wordlines.specs.WordLines.{IsSkipped};
 ghost use Rattle.wordlines.specs.LineRules.{Adds};
-ghost use Rattle.scenario.specs.declared.entries.Entry.{Entry};
+ghost use Rattle.scenario.specs.declared.statements.Statement.{Statement};
 ghost use Rattle.scenario.specs.Following.{clock};
 ghost use Rattle.scenario.specs.Scenarios.{scenario_rules, AddsSome, GivesIfRoom};
 ghost use Rattle.scenario.specs.Scenarios.{IsBadScenario, IsJudged, IsScenario, IsTooLong};
 
-use crate::entries::Entry;
 use crate::fault::{ScenarioCause, ScenarioFault};
 use crate::follow::may_follow;
 use crate::happenings::Happenings;
-use crate::lines::entry_of;
+use crate::lines::statement_of;
+use crate::statements::Statement;
 use std::alloc::Global;
 use std::marker::Model;
 use wordlines::{first_line, is_skipped};
 
-/// What happens on simulated buses: entries in order.
+/// What happens on simulated buses: statements in order.
 #[derive(Drop)]
 pub struct Scenario {
-    entries: Vec<Entry>,
+    statements: Vec<Statement>,
 }
 
 impl Model for Scenario {
     ghost use Rattle.std.specs.Prelude.{List, []};
     ghost use Rattle.scenario.specs.Following.{FollowOneAnother};
-    ghost use Rattle.scenario.specs.declared.entries.Entry.{Entry};
+    ghost use Rattle.scenario.specs.declared.statements.Statement.{Statement};
 
-    ghost Value = { List Entry };
+    ghost Value = { List Statement };
 
-    ghost view = { λ s. s.entries.items };
+    ghost view = { λ s. s.statements.items };
 
-    ghost invariant = { λ s. FollowOneAnother [] s.entries.items };
+    ghost invariant = { λ s. FollowOneAnother [] s.statements.items };
 }
 
 impl Scenario {
@@ -42,12 +42,12 @@ impl Scenario {
     ghost use Rattle.scenario.specs.Following.{FollowOneAnother};
     ghost use Rattle.scenario.specs.Happenings.{happenings};
 
-    /// The entries in order.
-    pub fn lines(&self) -> &[Entry]
-        ensures entries { result.now ≡ self.now }
+    /// The statements in order.
+    pub fn lines(&self) -> &[Statement]
+        ensures statements { result.now ≡ self.now }
         ensures order { FollowOneAnother [] self.now }
     {
-        self.entries.as_slice()
+        self.statements.as_slice()
     }
 
     /// What happens, in order: each tick, each event and each fault of hearing, and nothing else.
@@ -64,14 +64,15 @@ impl Scenario {
 /// # Errors
 ///
 /// The first bad line, or line 1 where there are more than [`limits::MOST_BYTES`] bytes. Memory is
-/// refused only where an entry is to be kept, each of which is that of a line.
+/// refused only where a statement is to be kept, each of which is that of a line.
 pub fn parse(alloc: Global, bytes: &[u8]) -> Result<Scenario, ScenarioFault>
-    ensures scenario { (entries : List Entry) → result ≡ Ok entries → IsScenario bytes.now entries }
-    ensures is_told { (entries : List Entry) → IsScenario bytes.now entries
-        → GivesIfRoom result (Ok entries) }
+    ensures scenario { (statements : List Statement) → result ≡ Ok statements
+        → IsScenario bytes.now statements }
+    ensures is_given { (statements : List Statement) → IsScenario bytes.now statements
+        → GivesIfRoom result (Ok statements) }
     ensures bad_line { (line : ℕ) → result ≡ Err (ScenarioFault.At line ScenarioCause.BadLine)
         → IsBadScenario bytes.now line }
-    ensures bad_is_told { (line : ℕ) → IsBadScenario bytes.now line
+    ensures bad_is_reported { (line : ℕ) → IsBadScenario bytes.now line
         → GivesIfRoom result (Err (ScenarioFault.At line ScenarioCause.BadLine)) }
     ensures memory { result ≡ Err ScenarioFault.Memory → AddsSome (lines bytes.now) }
     ensures too_long { (line : ℕ) → (result ≡ Err (ScenarioFault.At line ScenarioCause.TooLong))
@@ -83,46 +84,47 @@ pub fn parse(alloc: Global, bytes: &[u8]) -> Result<Scenario, ScenarioFault>
             cause: ScenarioCause::TooLong,
         });
     }
-    entries_of(alloc, bytes)
+    statements_of(alloc, bytes)
 }
 
-/// The scenario that lines tell, or the first bad line.
-fn entries_of(alloc: Global, bytes: &[u8]) -> Result<Scenario, ScenarioFault>
+/// The scenario that lines say, or the first bad line.
+fn statements_of(alloc: Global, bytes: &[u8]) -> Result<Scenario, ScenarioFault>
     requires { length bytes.now ≤ most_bytes }
     ensures { IsJudged bytes.now result }
 {
-    let mut entries = Vec::new(alloc);
+    let mut statements = Vec::new(alloc);
     let mut clock = None;
     let mut rest = bytes;
     let mut line = 1;
     'lines: while !rest.is_empty() {
         let (content, after) = first_line(rest);
         if !is_skipped(content) {
-            let Some(entry) = next_entry(entries.as_slice(), clock, content) else {
+            let Some(statement) = next_statement(statements.as_slice(), clock, content) else {
                 return Err(ScenarioFault::At {
                     line,
                     cause: ScenarioCause::BadLine,
                 });
             };
-            clock = entry.clock_after(clock);
-            entries.push(entry)?;
+            clock = statement.clock_after(clock);
+            statements.push(statement)?;
         }
         rest = after;
         line += 1;
     }
-    Ok(Scenario { entries })
+    Ok(Scenario { statements })
 }
 
-/// The entry that a line adds to those before it, at which the clock came to `now`.
-fn next_entry(before: &[Entry], now: Option<u64>, line: &[u8]) -> Option<Entry>
+/// The statement that a line adds to those before it, at which the clock came to `now`.
+fn next_statement(before: &[Statement], now: Option<u64>, line: &[u8]) -> Option<Statement>
     requires read { ¬ (IsSkipped line.now) }
     requires clock { now ≡ clock before.now }
-    ensures { MatchOption result ((entry : Entry) → ¬ Adds scenario_rules before.now line.now entry)
+    ensures { MatchOption result
+        ((statement : Statement) → ¬ Adds scenario_rules before.now line.now statement)
         (Adds scenario_rules before.now line.now) }
 {
-    let entry = entry_of(line)?;
-    if may_follow(before, now, &entry) {
-        Some(entry)
+    let statement = statement_of(line)?;
+    if may_follow(before, now, &statement) {
+        Some(statement)
     } else {
         None
     }

@@ -1,6 +1,6 @@
 //! Scenarios as they are written, with what they say, and the line of each fault.
 
-use crate::{Entry, FrameFate, Happening, ScenarioCause, ScenarioFault, parse};
+use crate::{FrameFate, Happening, ScenarioCause, ScenarioFault, Statement, parse};
 use daliframe::{BusNumber, EventScheme, Frame24, InstanceNumber, InstanceType, ShortAddress};
 use std::alloc::{AllocError, Global};
 use std::test::Fail;
@@ -11,23 +11,23 @@ const TEXT: &[u8] = b"# a bus\r\n\r\nhearfault 1\ngear 0 05\nlampfailure 0 5\nme
     event 1 02fFfE\ntick 7\nhearfault 0\ntick 7";
 
 /// What the lines of gear say.
-fn gear_lines() -> Option<[Entry; 5]> {
+fn gear_lines() -> Option<[Statement; 5]> {
     let bus = BusNumber::new(0)?;
     let short = ShortAddress::new(5)?;
     Some([
-        Entry::HearFault {
+        Statement::HearFault {
             bus: BusNumber::new(1)?,
         },
-        Entry::Gear { bus, short },
-        Entry::LampFailure { bus, short },
-        Entry::Memory {
+        Statement::Gear { bus, short },
+        Statement::LampFailure { bus, short },
+        Statement::Memory {
             bus,
             short,
             bank: 1,
             offset: 2,
             value: 255,
         },
-        Entry::Memory {
+        Statement::Memory {
             bus,
             short,
             bank: 1,
@@ -38,13 +38,13 @@ fn gear_lines() -> Option<[Entry; 5]> {
 }
 
 /// What the lines of a device say.
-fn device_lines() -> Option<[Entry; 2]> {
+fn device_lines() -> Option<[Statement; 2]> {
     let bus = BusNumber::new(15)?;
     let short = ShortAddress::new(63)?;
     let number = InstanceNumber::new(31)?;
     Some([
-        Entry::Device { bus, short },
-        Entry::Instance {
+        Statement::Device { bus, short },
+        Statement::InputInstance {
             bus,
             short,
             number,
@@ -56,20 +56,20 @@ fn device_lines() -> Option<[Entry; 2]> {
 }
 
 /// What the lines of replies say.
-fn reply_lines() -> Option<[Entry; 3]> {
+fn reply_lines() -> Option<[Statement; 3]> {
     let bus = BusNumber::new(2)?;
     Some([
-        Entry::Reply {
+        Statement::Reply {
             bus,
             place: 1,
             fate: FrameFate::Lost,
         },
-        Entry::Reply {
+        Statement::Reply {
             bus,
             place: u64::MAX,
             fate: FrameFate::Damaged,
         },
-        Entry::Reply {
+        Statement::Reply {
             bus: BusNumber::new(3)?,
             place: 1,
             fate: FrameFate::Fault,
@@ -78,18 +78,18 @@ fn reply_lines() -> Option<[Entry; 3]> {
 }
 
 /// What the last lines say.
-fn last_lines() -> Option<[Entry; 6]> {
+fn last_lines() -> Option<[Statement; 6]> {
     let first = BusNumber::new(0)?;
     let second = BusNumber::new(1)?;
     let short = ShortAddress::new(5)?;
     let frame = Frame24::new(0x02FFFE)?;
     Some([
-        Entry::LampFailure { bus: first, short },
-        Entry::Tick { moment: 0 },
-        Entry::Event { bus: second, frame },
-        Entry::Tick { moment: 7 },
-        Entry::HearFault { bus: first },
-        Entry::Tick { moment: 7 },
+        Statement::LampFailure { bus: first, short },
+        Statement::Tick { moment: 0 },
+        Statement::Event { bus: second, frame },
+        Statement::Tick { moment: 7 },
+        Statement::HearFault { bus: first },
+        Statement::Tick { moment: 7 },
     ])
 }
 

@@ -13,7 +13,7 @@ use Rattle.daliframe.specs.declared.forward24.Fields24.{Fields24}
 use Rattle.daliframe.specs.Frames.{HasFields16, HasFields24}
 use Rattle.transact.specs.declared.marks.Sent.{Sent}
 use Rattle.simbus.specs.declared.gears.Gear.{Gear}
-use Rattle.simbus.specs.declared.instances.Instance.{Instance}
+use Rattle.simbus.specs.declared.instances.InputInstance.{InputInstance}
 use Rattle.simbus.specs.declared.gears.MemoryByte.{MemoryByte}
 use Rattle.simbus.specs.declared.equipment.LiveGear.{LiveGear}
 use Rattle.simbus.specs.declared.equipment.LiveInstance.{LiveInstance}
@@ -63,12 +63,14 @@ gear_rest : (s : Sent) (h : List Sent) (n : ℕ) → s.frame ≡ Forward24 n →
     → live_gear h g ≡ live_gear (s ∷ h) g
 gear_rest s h n e r g = rw (r, e) refl
 
-instance_step : (s : Sent) (h : List Sent) (n : ℕ) → s.frame ≡ Forward24 n → is_reached s.mark ≡ true → (i : Instance) →
+instance_step : (s : Sent) (h : List Sent) (n : ℕ) → s.frame ≡ Forward24 n → is_reached s.mark ≡ true
+    → (i : InputInstance) →
     live_instance_after_fields (is_pair (Forward24 n) h) (device_dtr0 h) (device_fields_of n) (live_instance h i)
     ≡ live_instance (s ∷ h) i
 instance_step s h n e r i = rw (r, e) refl
 
-instance_rest : (s : Sent) (h : List Sent) (n : ℕ) → s.frame ≡ Forward16 n → is_reached s.mark ≡ true → (i : Instance)
+instance_rest : (s : Sent) (h : List Sent) (n : ℕ) → s.frame ≡ Forward16 n → is_reached s.mark ≡ true
+    → (i : InputInstance)
     → live_instance h i ≡ live_instance (s ∷ h) i
 instance_rest s h n e r i = rw (r, e) refl
 
@@ -169,7 +171,7 @@ setup_kept setup h e k =
     (λ g. refl) ∙ map-id setup.gears) in
     let instances : map (λ (live : LiveInstance). live.instance) e.instances.items ≡ setup.instances =
     rw k.instances (map_through (λ (live : LiveInstance). live.instance) (live_instance h)
-    (λ (i : Instance). i) setup.instances (λ i. refl) ∙ map-id setup.instances) in
+    (λ (i : InputInstance). i) setup.instances (λ i. refl) ∙ map-id setup.instances) in
     let memory : e.memory.items ≡ setup.memory = k.memory in
     ap (λ (x : List Gear). record {
       gears = x;
@@ -177,8 +179,13 @@ setup_kept setup h e k =
       instances = map
           (λ (live : LiveInstance). live.instance) e.instances.items;
     }) gears
-    ∙ (ap (λ (x : List MemoryByte). record { gears = setup.gears; memory = x; instances = map (λ (live : LiveInstance). live.instance) e.instances.items }) memory
-    ∙ ap (λ (x : List Instance). record { gears = setup.gears; memory = setup.memory; instances = x }) instances)
+    ∙ (ap (λ (x : List MemoryByte). record {
+      gears = setup.gears;
+      memory = x;
+      instances = map
+          (λ (live : LiveInstance). live.instance) e.instances.items;
+    }) memory
+    ∙ ap (λ (x : List InputInstance). record { gears = setup.gears; memory = setup.memory; instances = x }) instances)
 
 -- one frame more keeps what was declared
 pub setup_stays : (e new : Equipment) (s : Sent) (h : List Sent) → IsKept (setup_of e) (s ∷ h) new
@@ -211,18 +218,20 @@ found : (h : List Sent) (address : ℕ) (gears : List Gear) →
 found h address [] = refl
 found h address (g ∷ gears) = found_or (g.address == address) h g _ _ (found h address gears)
 
-found_instance_or : (b : Bool) (h : List Sent) (i : Instance) (x : Option LiveInstance) (y : Option Instance) →
+found_instance_or : (b : Bool) (h : List Sent) (i : InputInstance) (x : Option LiveInstance)
+    (y : Option InputInstance) →
     option_map (λ (live : LiveInstance). live.variables) x ≡ option_map
-    (λ (instance : Instance). instance_variables instance h) y →
+    (λ (instance : InputInstance). instance_variables instance h) y →
     option_map (λ (live : LiveInstance). live.variables) (cond b (Some (live_instance h i)) x)
-    ≡ option_map (λ (instance : Instance). instance_variables instance h) (cond b (Some i) y)
+    ≡ option_map (λ (instance : InputInstance). instance_variables instance h) (cond b (Some i) y)
 found_instance_or false h i x y e = e
 found_instance_or true h i x y e = refl
 
-instance_found : (h : List Sent) (address number : ℕ) (instances : List Instance) →
+instance_found : (h : List Sent) (address number : ℕ) (instances : List InputInstance) →
     option_map (λ (live : LiveInstance). live.variables)
     (find (λ (live : LiveInstance). is_instance address number live.instance) (map (live_instance h) instances))
-    ≡ option_map (λ (instance : Instance). instance_variables instance h) (find (is_instance address number) instances)
+    ≡ option_map (λ (instance : InputInstance). instance_variables instance h)
+    (find (is_instance address number) instances)
 instance_found h address number [] = refl
 instance_found h address number (i ∷ instances) =
     found_instance_or (is_instance address number i) h i _ _ (instance_found h address number instances)

@@ -13,7 +13,7 @@ use Rattle.transact.specs.declared.marks.Sent.{Sent}
 use Rattle.simbus.specs.declared.gears.Gear.{Gear}
 use Rattle.simbus.specs.declared.gears.GearVariables.{GearVariables}
 use Rattle.simbus.specs.declared.gears.MemoryByte.{MemoryByte}
-use Rattle.simbus.specs.declared.instances.Instance.{Instance}
+use Rattle.simbus.specs.declared.instances.InputInstance.{InputInstance}
 use Rattle.simbus.specs.declared.instances.InstanceVariables.{InstanceVariables}
 use Rattle.simbus.specs.Gears.{new_variables, after_frame}
 use Rattle.simbus.specs.Answers.{gear_answer, reply_of}
@@ -57,7 +57,7 @@ device_dtr0 (s ∷ earlier) =
     if is_reached s.mark then dtr0_after_frame s.frame (device_dtr0 earlier) else device_dtr0 earlier
 
 -- the variables of an instance
-abbrev pub instance_variables : Instance → List Sent → InstanceVariables
+abbrev pub instance_variables : InputInstance → List Sent → InstanceVariables
 instance_variables instance [] = variables_of instance
 instance_variables instance (s ∷ earlier) =
     if is_reached s.mark
@@ -69,14 +69,14 @@ instance_variables instance (s ∷ earlier) =
 pub record Setup : Type 0 where
   pub gears : List Gear
   pub memory : List MemoryByte
-  pub instances : List Instance
+  pub instances : List InputInstance
 
 -- the answers to a frame, after these frames
 abbrev pub answers : Setup → List Sent → Frame → List ℕ
 answers setup earlier frame =
     filter_map (λ (gear : Gear). gear_answer setup.memory frame gear (gear_variables gear.address earlier)) setup.gears
     ++ filter_map
-    (λ (instance : Instance). instance_answer frame instance (instance_variables instance earlier)) setup.instances
+    (λ (instance : InputInstance). instance_answer frame instance (instance_variables instance earlier)) setup.instances
 
 -- what the bus answers to a frame, after these frames
 abbrev pub answer_of : Setup → List Sent → Frame → Reply
@@ -89,12 +89,12 @@ variables_at setup earlier address =
     (find (λ (gear : Gear). gear.address == address) setup.gears)
 
 -- the variables of an instance of a control device by its short address and number, where it is declared
-abbrev pub is_instance : ℕ → ℕ → Instance → Bool
+abbrev pub is_instance : ℕ → ℕ → InputInstance → Bool
 is_instance address number instance = instance.address == address && instance.number == number
 
 abbrev pub instance_variables_at : Setup → List Sent → ℕ → ℕ → Option InstanceVariables
 instance_variables_at setup earlier address number =
-    option_map (λ (instance : Instance). instance_variables instance earlier)
+    option_map (λ (instance : InputInstance). instance_variables instance earlier)
     (find (is_instance address number) setup.instances)
 
 -- a frame as it was sent, where it reached the bus, and one that did not

@@ -11,7 +11,7 @@ use Rattle.simbus.specs.declared.instances.DeviceCommand.{DeviceCommand}
 use Rattle.simbus.specs.declared.instances.DeviceCommand.TheVariants.{Enable, Disable, SetEventScheme}
 use Rattle.simbus.specs.declared.instances.DeviceCommand.TheVariants.{QueryInstanceType}
 use Rattle.simbus.specs.declared.instances.DeviceCommand.TheVariants.{QueryEventScheme, QueryInputValue, Nothing}
-use Rattle.simbus.specs.declared.instances.Instance.{Instance}
+use Rattle.simbus.specs.declared.instances.InputInstance.{InputInstance}
 use Rattle.simbus.specs.declared.instances.InstanceVariables.{InstanceVariables}
 use Rattle.simbus.specs.FrameFields.{device_fields_of}
 
@@ -27,7 +27,7 @@ device_command_of opcode =
     else Nothing)))))
 
 -- what a frame that says this commands an instance: nothing, where it is for another one
-abbrev pub command_to : Instance → Fields24 → DeviceCommand
+abbrev pub command_to : InputInstance → Fields24 → DeviceCommand
 command_to instance (said.Command address number opcode) =
     if address == instance.address && number == instance.number then device_command_of opcode else Nothing
 command_to instance said.Event = Nothing
@@ -35,7 +35,7 @@ command_to instance (said.Dtr0 value) = Nothing
 command_to instance said.OtherCommand = Nothing
 
 -- before any frame: enabled, with the event scheme that was declared
-abbrev pub variables_of : Instance → InstanceVariables
+abbrev pub variables_of : InputInstance → InstanceVariables
 variables_of instance = record { scheme = instance.scheme; is_enabled = true }
 
 -- the variables with this event scheme, where there is one
@@ -53,11 +53,11 @@ after_device_command is_pair dtr0 QueryEventScheme v = v
 after_device_command is_pair dtr0 QueryInputValue v = v
 after_device_command is_pair dtr0 Nothing v = v
 
-abbrev pub instance_after_fields : Bool → ℕ → Instance → Fields24 → InstanceVariables → InstanceVariables
+abbrev pub instance_after_fields : Bool → ℕ → InputInstance → Fields24 → InstanceVariables → InstanceVariables
 instance_after_fields is_pair dtr0 instance fields v = after_device_command is_pair dtr0 (command_to instance fields) v
 
 -- after a frame: those of 16 bits are not for devices
-abbrev pub instance_after_frame : Bool → ℕ → Instance → Frame → InstanceVariables → InstanceVariables
+abbrev pub instance_after_frame : Bool → ℕ → InputInstance → Frame → InstanceVariables → InstanceVariables
 instance_after_frame is_pair dtr0 instance (Forward16 frame) v = v
 instance_after_frame is_pair dtr0 instance (Forward24 frame) v =
     instance_after_fields is_pair dtr0 instance (device_fields_of frame) v
@@ -74,7 +74,7 @@ dtr0_after_frame (Forward16 frame) dtr0 = dtr0
 dtr0_after_frame (Forward24 frame) dtr0 = dtr0_after_fields (device_fields_of frame) dtr0
 
 -- the answer to a command
-abbrev pub device_answer : Instance → DeviceCommand → InstanceVariables → Option ℕ
+abbrev pub device_answer : InputInstance → DeviceCommand → InstanceVariables → Option ℕ
 device_answer instance QueryInstanceType v = Some instance.instance_type
 device_answer instance QueryEventScheme v = Some (scheme_number v.scheme)
 device_answer instance QueryInputValue v = Some instance.value
@@ -83,10 +83,10 @@ device_answer instance Disable v = None
 device_answer instance SetEventScheme v = None
 device_answer instance Nothing v = None
 
-abbrev pub instance_fields_answer : Instance → Fields24 → InstanceVariables → Option ℕ
+abbrev pub instance_fields_answer : InputInstance → Fields24 → InstanceVariables → Option ℕ
 instance_fields_answer instance fields v = device_answer instance (command_to instance fields) v
 
 -- the answer of an instance to a frame
-abbrev pub instance_answer : Frame → Instance → InstanceVariables → Option ℕ
+abbrev pub instance_answer : Frame → InputInstance → InstanceVariables → Option ℕ
 instance_answer (Forward16 frame) instance v = None
 instance_answer (Forward24 frame) instance v = instance_fields_answer instance (device_fields_of frame) v

@@ -8,7 +8,7 @@ use Rattle.transact.specs.declared.marks.Reply.TheVariants as reply
 use Rattle.transact.specs.declared.marks.Sent.{Sent}
 use Rattle.simbus.specs.declared.gears.Gear.{Gear}
 use Rattle.simbus.specs.declared.gears.MemoryByte.{MemoryByte}
-use Rattle.simbus.specs.declared.instances.Instance.{Instance}
+use Rattle.simbus.specs.declared.instances.InputInstance.{InputInstance}
 use Rattle.simbus.specs.declared.equipment.LiveGear.{LiveGear}
 use Rattle.simbus.specs.declared.equipment.LiveInstance.{LiveInstance}
 use Rattle.simbus.specs.declared.equipment.Equipment.{Equipment}
@@ -21,7 +21,7 @@ use Rattle.simbus.specs.Histories.{Setup, same_frame, is_pair, gear_variables, d
 abbrev pub live_gear : List Sent → Gear → LiveGear
 live_gear earlier gear = record { gear = gear; variables = gear_variables gear.address earlier }
 
-abbrev pub live_instance : List Sent → Instance → LiveInstance
+abbrev pub live_instance : List Sent → InputInstance → LiveInstance
 live_instance earlier instance = record { instance = instance; variables = instance_variables instance earlier }
 
 -- one frame further

@@ -5,7 +5,7 @@ ghost use Rattle.scenario.specs.Happenings.{tick_in, ticks};
 ghost use Rattle.simbus.specs.ScriptedTicks.{new_clock, next_moment, after_tick};
 
 use buslink::Clock;
-use scenario::{Entry, Scenario};
+use scenario::{Scenario, Statement};
 use std::alloc::{AllocError, Global};
 use std::marker::Model;
 
@@ -51,21 +51,21 @@ impl ScriptedClock {
 }
 
 /// The moments of the ticks.
-fn ticks_in(alloc: Global, entries: &[Entry]) -> Result<Vec<u64>, AllocError>
-    ensures { IfOk result (λ v. v.items ≡ ticks entries.now) }
+fn ticks_in(alloc: Global, statements: &[Statement]) -> Result<Vec<u64>, AllocError>
+    ensures { IfOk result (λ v. v.items ≡ ticks statements.now) }
 {
-    entries
+    statements
         .iter()
-        .filter_map(|entry| tick_in(entry))
+        .filter_map(|statement| tick_in(statement))
         .collect(alloc)
 }
 
 /// The moment of a tick.
-fn tick_in(entry: &Entry) -> Option<u64>
-    ensures { result ≡ tick_in entry.now }
+fn tick_in(statement: &Statement) -> Option<u64>
+    ensures { result ≡ tick_in statement.now }
 {
-    match *entry {
-        Entry::Tick { moment } => Some(moment),
+    match *statement {
+        Statement::Tick { moment } => Some(moment),
         _ => None,
     }
 }

@@ -14,7 +14,7 @@ ghost use Rattle.simbus.specs.Kept.{IsAfterDeviceFields, IsKept, is_begun};
 ghost use Rattle.simbus.specs.Kept.{joined, gear_after_fields, live_instance_after_fields};
 ghost use Rattle.simbus.specs.Kept.{live_answer, live_instance_answer};
 
-use crate::{Gear, GearVariables, Instance, InstanceVariables, MemoryByte};
+use crate::{Gear, GearVariables, InputInstance, InstanceVariables, MemoryByte};
 use daliframe::{Fields16, Fields24, Frame, InstanceNumber, ShortAddress};
 use std::alloc::{AllocError, Global};
 use transact::{Mark, Reply};
@@ -29,7 +29,7 @@ pub(crate) struct LiveGear {
 /// An instance of a control device with its variables.
 #[derive(Clone, Copy)]
 pub(crate) struct LiveInstance {
-    instance: Instance,
+    instance: InputInstance,
     variables: InstanceVariables,
 }
 
@@ -158,7 +158,10 @@ fn live_gears(alloc: Global, gears: &[Gear]) -> Result<Vec<LiveGear>, AllocError
         .collect(alloc)
 }
 
-fn live_instances(alloc: Global, instances: &[Instance]) -> Result<Vec<LiveInstance>, AllocError>
+fn live_instances(
+    alloc: Global,
+    instances: &[InputInstance],
+) -> Result<Vec<LiveInstance>, AllocError>
     ensures { IfOk result (λ v. v.items ≡ map (live_instance []) instances.now) }
 {
     instances
@@ -209,7 +212,7 @@ impl Equipment {
         alloc: Global,
         gears: &[Gear],
         memory: Vec<MemoryByte>,
-        instances: &[Instance],
+        instances: &[InputInstance],
     ) -> Result<Self, AllocError>
         ensures { IfOk result (λ e. IsKept
             (record { gears = gears.now; memory = memory.items; instances = instances.now }) [] e) }

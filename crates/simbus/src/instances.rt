@@ -8,7 +8,7 @@ use daliframe::{EventScheme, Fields24, InstanceNumber, InstanceType, ShortAddres
 
 /// A simulated instance of a control device, as a scenario declares it.
 #[derive(Clone, Copy, Debug, PartialEq, Eq)]
-pub struct Instance {
+pub struct InputInstance {
     /// The device.
     pub address: ShortAddress,
     pub number: InstanceNumber,
@@ -57,7 +57,7 @@ impl DeviceCommand {
     }
 }
 
-impl Instance {
+impl InputInstance {
     /// Whether it is the instance of this device with this number.
     pub(crate) fn is_at(&self, address: ShortAddress, number: InstanceNumber) -> bool
         ensures { result ≡ is_instance address number self.now }

@@ -7,7 +7,8 @@ use std::test::Fail;
 use transact::{Outcome, Reply, Transaction};
 
 const ALL_KINDS: &str = "gear 0 5\ngear 0 6\ngear 1 7\nlampfailure 0 6\nmemory 0 5 2 3 4\n\
-    device 0 5\ninstance 0 5 2 1 3 9\nreply 0 2 lost\nreply 1 1 fault\ntick 1000\nevent 0 0a8809\nevent 1 0A8809\nhearfault 0\n";
+    device 0 5\ninstance 0 5 2 1 3 9\nreply 0 2 lost\nreply 1 1 fault\n\
+    tick 1000\nevent 0 0a8809\nevent 1 0A8809\nhearfault 0\n";
 
 #[test]
 fn setup_of_one_bus(rt: HostRuntime) -> Result<(), Fail> {

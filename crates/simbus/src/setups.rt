@@ -4,9 +4,9 @@ ghost use Rattle.std.specs.List.{filter_map, list_any};
 ghost use Rattle.simbus.specs.Setups.{gear_on, memory_on, instance_on, reply_on, arrival_on};
 ghost use Rattle.simbus.specs.Setups.{has_lamp_failure, gear_with_lamp};
 
-use crate::{Arrival, Gear, Instance, MemoryByte, ScriptedReply};
+use crate::{Arrival, Gear, InputInstance, MemoryByte, ScriptedReply};
 use daliframe::{BusNumber, ShortAddress};
-use scenario::{Entry, Scenario};
+use scenario::{Scenario, Statement};
 use std::alloc::{AllocError, Global};
 
 /// What a scenario says of one bus.
@@ -14,7 +14,7 @@ use std::alloc::{AllocError, Global};
 pub struct BusSetup {
     pub gears: Vec<Gear>,
     pub memory: Vec<MemoryByte>,
-    pub instances: Vec<Instance>,
+    pub instances: Vec<InputInstance>,
     pub script: Vec<ScriptedReply>,
     /// What comes to be heard, in order.
     pub arrivals: Vec<Arrival>,
@@ -38,23 +38,23 @@ impl BusSetup {
         ensures arrivals { IfOk result (λ s. s.arrivals.items ≡ filter_map
             (arrival_on bus) scenario.now) }
     {
-        let entries = scenario.lines();
+        let statements = scenario.lines();
         Ok(BusSetup {
-            gears: gears_on(alloc, entries, bus)?,
-            memory: all_memory_on(alloc, entries, bus)?,
-            instances: instances_on(alloc, entries, bus)?,
-            script: replies_on(alloc, entries, bus)?,
-            arrivals: arrivals_on(alloc, entries, bus)?,
+            gears: gears_on(alloc, statements, bus)?,
+            memory: all_memory_on(alloc, statements, bus)?,
+            instances: instances_on(alloc, statements, bus)?,
+            script: replies_on(alloc, statements, bus)?,
+            arrivals: arrivals_on(alloc, statements, bus)?,
         })
     }
 }
 
-/// A byte of memory that an entry says of gear on a bus.
-fn memory_on(entry: &Entry, bus: BusNumber) -> Option<MemoryByte>
-    ensures { result ≡ memory_on bus entry.now }
+/// A byte of memory that a statement says of gear on a bus.
+fn memory_on(statement: &Statement, bus: BusNumber) -> Option<MemoryByte>
+    ensures { result ≡ memory_on bus statement.now }
 {
-    match entry {
-        Entry::Memory {
+    match statement {
+        Statement::Memory {
             bus: on,
             short,
             bank,
@@ -70,19 +70,19 @@ fn memory_on(entry: &Entry, bus: BusNumber) -> Option<MemoryByte>
     }
 }
 
-/// The instance that an entry declares on a bus.
-fn instance_on(entry: &Entry, bus: BusNumber) -> Option<Instance>
-    ensures { result ≡ instance_on bus entry.now }
+/// The instance that a statement declares on a bus.
+fn instance_on(statement: &Statement, bus: BusNumber) -> Option<InputInstance>
+    ensures { result ≡ instance_on bus statement.now }
 {
-    match entry {
-        Entry::Instance {
+    match statement {
+        Statement::InputInstance {
             bus: on,
             short,
             number,
             kind,
             scheme,
             value,
-        } if on.number() == bus.number() => Some(Instance {
+        } if on.number() == bus.number() => Some(InputInstance {
             address: *short,
             number: *number,
             instance_type: *kind,
@@ -93,12 +93,12 @@ fn instance_on(entry: &Entry, bus: BusNumber) -> Option<Instance>
     }
 }
 
-/// What an entry says that becomes of a frame on a bus.
-fn reply_on(entry: &Entry, bus: BusNumber) -> Option<ScriptedReply>
-    ensures { result ≡ reply_on bus entry.now }
+/// What a statement says that becomes of a frame on a bus.
+fn reply_on(statement: &Statement, bus: BusNumber) -> Option<ScriptedReply>
+    ensures { result ≡ reply_on bus statement.now }
 {
-    match entry {
-        Entry::Reply {
+    match statement {
+        Statement::Reply {
             bus: on,
             place,
             fate,
@@ -110,119 +110,127 @@ fn reply_on(entry: &Entry, bus: BusNumber) -> Option<ScriptedReply>
     }
 }
 
-/// What an entry says that comes to be heard on a bus.
-fn arrival_on(entry: &Entry, bus: BusNumber) -> Option<Arrival>
-    ensures { result ≡ arrival_on bus entry.now }
+/// What a statement says that comes to be heard on a bus.
+fn arrival_on(statement: &Statement, bus: BusNumber) -> Option<Arrival>
+    ensures { result ≡ arrival_on bus statement.now }
 {
-    match entry {
-        Entry::Event { bus: on, frame } if on.number() == bus.number() => Some(Arrival::Frame(
+    match statement {
+        Statement::Event { bus: on, frame } if on.number() == bus.number() => Some(Arrival::Frame(
             *frame,
         )),
-        Entry::HearFault { bus: on } if on.number() == bus.number() => Some(Arrival::Fault),
+        Statement::HearFault { bus: on } if on.number() == bus.number() => Some(Arrival::Fault),
         _ => None,
     }
 }
 
-/// Whether an entry says that the lamp of this gear failed.
-fn has_lamp_failure(entry: &Entry, bus: BusNumber, gear: ShortAddress) -> bool
-    ensures { result ≡ has_lamp_failure bus gear entry.now }
+/// Whether a statement says that the lamp of this gear failed.
+fn has_lamp_failure(statement: &Statement, bus: BusNumber, gear: ShortAddress) -> bool
+    ensures { result ≡ has_lamp_failure bus gear statement.now }
 {
-    match entry {
-        Entry::LampFailure { bus: on, short } => on.number() == bus.number()
+    match statement {
+        Statement::LampFailure { bus: on, short } => on.number() == bus.number()
             && short.number() == gear.number(),
         _ => false,
     }
 }
 
-/// Whether one of these entries says that the lamp of this gear failed.
-fn has_failed_lamp(entries: &[Entry], bus: BusNumber, address: ShortAddress) -> bool
-    ensures { result ≡ list_any (has_lamp_failure bus address) entries.now }
+/// Whether one of these statements says that the lamp of this gear failed.
+fn has_failed_lamp(statements: &[Statement], bus: BusNumber, address: ShortAddress) -> bool
+    ensures { result ≡ list_any (has_lamp_failure bus address) statements.now }
 {
-    entries
+    statements
         .iter()
-        .any(|entry| has_lamp_failure(entry, bus, address))
+        .any(|statement| has_lamp_failure(statement, bus, address))
 }
 
-/// Gear at a short address, with its lamp as these entries say.
-fn gear_with_lamp(entries: &[Entry], bus: BusNumber, address: ShortAddress) -> Gear
-    ensures { result ≡ gear_with_lamp bus entries.now address }
+/// Gear at a short address, with its lamp as these statements say.
+fn gear_with_lamp(statements: &[Statement], bus: BusNumber, address: ShortAddress) -> Gear
+    ensures { result ≡ gear_with_lamp bus statements.now address }
 {
     Gear {
         address,
-        lamp_failure: has_failed_lamp(entries, bus, address),
+        lamp_failure: has_failed_lamp(statements, bus, address),
     }
 }
 
-/// The gear that an entry, one of these, declares on a bus, with its lamp.
-fn gear_on(entry: &Entry, entries: &[Entry], bus: BusNumber) -> Option<Gear>
-    ensures { result ≡ gear_on bus entries.now entry.now }
+/// The gear that a statement, one of these, declares on a bus, with its lamp.
+fn gear_on(statement: &Statement, statements: &[Statement], bus: BusNumber) -> Option<Gear>
+    ensures { result ≡ gear_on bus statements.now statement.now }
 {
-    match entry {
-        Entry::Gear { bus: on, short } if on.number() == bus.number() => Some(gear_with_lamp(
-            entries, bus, *short,
+    match statement {
+        Statement::Gear { bus: on, short } if on.number() == bus.number() => Some(gear_with_lamp(
+            statements, bus, *short,
         )),
         _ => None,
     }
 }
 
 /// The gear on a bus, in the order of their lines.
-fn gears_on(alloc: Global, entries: &[Entry], bus: BusNumber) -> Result<Vec<Gear>, AllocError>
-    ensures { IfOk result (λ v. v.items ≡ filter_map (gear_on bus entries.now) entries.now) }
+fn gears_on(
+    alloc: Global,
+    statements: &[Statement],
+    bus: BusNumber,
+) -> Result<Vec<Gear>, AllocError>
+    ensures { IfOk result (λ v. v.items ≡ filter_map (gear_on bus statements.now) statements.now) }
 {
-    entries
+    statements
         .iter()
-        .filter_map(|entry| gear_on(entry, entries, bus))
+        .filter_map(|statement| gear_on(statement, statements, bus))
         .collect(alloc)
 }
 
 /// The memory of the gear on a bus, in the order of the lines.
 fn all_memory_on(
     alloc: Global,
-    entries: &[Entry],
+    statements: &[Statement],
     bus: BusNumber,
 ) -> Result<Vec<MemoryByte>, AllocError>
-    ensures { IfOk result (λ v. v.items ≡ filter_map (memory_on bus) entries.now) }
+    ensures { IfOk result (λ v. v.items ≡ filter_map (memory_on bus) statements.now) }
 {
-    entries
+    statements
         .iter()
-        .filter_map(|entry| memory_on(entry, bus))
+        .filter_map(|statement| memory_on(statement, bus))
         .collect(alloc)
 }
 
 /// The instances on a bus, in the order of their lines.
 fn instances_on(
     alloc: Global,
-    entries: &[Entry],
+    statements: &[Statement],
     bus: BusNumber,
-) -> Result<Vec<Instance>, AllocError>
-    ensures { IfOk result (λ v. v.items ≡ filter_map (instance_on bus) entries.now) }
+) -> Result<Vec<InputInstance>, AllocError>
+    ensures { IfOk result (λ v. v.items ≡ filter_map (instance_on bus) statements.now) }
 {
-    entries
+    statements
         .iter()
-        .filter_map(|entry| instance_on(entry, bus))
+        .filter_map(|statement| instance_on(statement, bus))
         .collect(alloc)
 }
 
 /// What becomes of frames on a bus, in the order of the lines.
 fn replies_on(
     alloc: Global,
-    entries: &[Entry],
+    statements: &[Statement],
     bus: BusNumber,
 ) -> Result<Vec<ScriptedReply>, AllocError>
-    ensures { IfOk result (λ v. v.items ≡ filter_map (reply_on bus) entries.now) }
+    ensures { IfOk result (λ v. v.items ≡ filter_map (reply_on bus) statements.now) }
 {
-    entries
+    statements
         .iter()
-        .filter_map(|entry| reply_on(entry, bus))
+        .filter_map(|statement| reply_on(statement, bus))
         .collect(alloc)
 }
 
 /// What comes to be heard on a bus, in the order of the lines.
-fn arrivals_on(alloc: Global, entries: &[Entry], bus: BusNumber) -> Result<Vec<Arrival>, AllocError>
-    ensures { IfOk result (λ v. v.items ≡ filter_map (arrival_on bus) entries.now) }
+fn arrivals_on(
+    alloc: Global,
+    statements: &[Statement],
+    bus: BusNumber,
+) -> Result<Vec<Arrival>, AllocError>
+    ensures { IfOk result (λ v. v.items ≡ filter_map (arrival_on bus) statements.now) }
 {
-    entries
+    statements
         .iter()
-        .filter_map(|entry| arrival_on(entry, bus))
+        .filter_map(|statement| arrival_on(statement, bus))
         .collect(alloc)
 }

@@ -1,5 +1,5 @@
 //! Worked frames on simulated buses, and transactions of all kinds under all scripts.
-use crate::{Arrival, BusSetup, Gear, Instance, MemoryByte, ScriptedReply, SimBus};
+use crate::{Arrival, BusSetup, Gear, InputInstance, MemoryByte, ScriptedReply, SimBus};
 use buslink::{Bus, Fault, perform};
 use daliframe::{
     Address, BusNumber, EventScheme, Frame, Frame16, Frame24, InstanceNumber, InstanceType,
@@ -45,7 +45,7 @@ fn setup(alloc: Global, gears: u8) -> Result<BusSetup, Fail> {
         })?;
     }
     let number = InstanceNumber::new(2).ok_or("instance 2")?;
-    setup.instances.push(Instance {
+    setup.instances.push(InputInstance {
         address,
         number,
         instance_type: InstanceType::new(1).ok_or("type 1")?,
@@ -398,7 +398,8 @@ fn plain(kind: u8) -> Outcome {
     })
 }
 
-/// So many attempts lose their first frame, and then the frame at this place of an attempt has this fate.
+/// So many attempts lose their first frame, and then the frame at this place of an attempt has
+/// this fate.
 fn script(
     alloc: Global,
     lost: usize,

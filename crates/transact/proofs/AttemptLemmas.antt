@@ -13,7 +13,7 @@ use Rattle.transact.specs.Attempts.{all_marks, all_sent, last_mark}
 -- a front of count frames with these marks before its last one
 record Front (count : ℕ) (xs : List Mark) (x : Mark) : Type 0 where
   pub within : length xs < count
-  pub unbroken : All (λ mark. IsBroken mark → ⊥) xs
+  pub unbroken : All (λ mark. ¬ IsBroken mark) xs
   pub cut : length xs + 1 < count → IsBroken x
 
 shorter : (count : ℕ) (m : Mark) (xs : List Mark) (x : Mark) → Front (suc count) (m ∷ xs) x → Front count xs x
@@ -57,7 +57,7 @@ same_attempt count a b r s f g e =
       both.2,
     )
 
-none_more : (retries : ℕ) (a b : Attempt) → (a.last ≡ Lost → suc retries ≡ 0) → b.last ≡ Lost → a ≡ b → ⊥
+none_more : (retries : ℕ) (a b : Attempt) → (a.last ≡ Lost → suc retries ≡ 0) → b.last ≡ Lost → ¬ (a ≡ b)
 none_more retries a b settled lost e =
     let same : a.last ≡ Lost = cc in
     let none_left : suc retries ≡ 0 = settled same in

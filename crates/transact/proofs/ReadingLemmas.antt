@@ -54,7 +54,7 @@ reads_last list retries marks before a is settled e = record {
 -- no attempt goes behind one that is the last
 pub reads_too_much : (list : FrameList) (retries : ℕ) (marks rest : List Mark) (a : Attempt)
     → IsAttempt (length list.frames) a
-    → (a.last ≡ Lost → retries ≡ 0) → marks ≡ marks_of a ++ rest → (rest ≡ [] → ⊥) → ReadsNone list retries marks
+    → (a.last ≡ Lost → retries ≡ 0) → marks ≡ marks_of a ++ rest → ¬ (rest ≡ []) → ReadsNone list retries marks
 reads_too_much list retries marks rest a is settled e more [] h spelled = h
 reads_too_much list retries marks rest a is settled e more (b ∷ []) h spelled =
     more (same_attempt (length list.frames) a b rest [] is h.0 (sym e ∙ spelled)).1
@@ -151,7 +151,7 @@ step_last list retries marks end frames first front rest before middle s empty s
 
 pub step_none : (list : FrameList) (retries : ℕ) (marks : List Mark) (end : ℕ) (frames : List Frame) (first : ℕ)
     (front rest : List Mark) (before middle : List Sent)
-    → Step list marks end frames first front rest before middle → (rest ≡ [] → ⊥)
+    → Step list marks end frames first front rest before middle → ¬ (rest ≡ [])
     → (slice_index_or marks end Quiet ≡ Lost → retries ≡ 0) → ReadsNone list retries marks
 unfolding attempt_at
 step_none list retries marks end frames first front rest before middle s more settled =
@@ -185,14 +185,14 @@ none_left retries P refused p = elim (cases_lt 0 retries) as (λ _. retries ≡ 
   | inr ge ↦ omega arith
 ]
 
-zero_is_length : (marks : List Mark) → (length marks == 0) ≡ true → 0 < length marks → ⊥
+zero_is_length : (marks : List Mark) → (length marks == 0) ≡ true → ¬ (0 < length marks)
 zero_is_length marks e lt = let n : length marks ≡ 0 = eqb-true (length marks) 0 e in omega arith
 
 pub empty_at : (marks : List Mark) → true ≡ (length marks == 0) → marks ≡ []
 empty_at [] e = refl
 empty_at (m ∷ marks) e = absurd (zero_is_length (m ∷ marks) (sym e) (omega arith))
 
-pub filled_at : (marks : List Mark) → false ≡ (length marks == 0) → marks ≡ [] → ⊥
+pub filled_at : (marks : List Mark) → false ≡ (length marks == 0) → ¬ (marks ≡ [])
 filled_at marks e empty = let e' : false ≡ true = e ∙ ap (λ (xs : List Mark). length xs == 0) empty in cc
 
 -- what was read from the start is a report

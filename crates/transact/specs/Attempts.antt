@@ -20,7 +20,7 @@ marks_of a = a.before ++ a.last ∷ []
 -- frames the last is.
 pub record IsAttempt (count : ℕ) (a : Attempt) : Type 0 where
   pub within : length a.before < count
-  pub unbroken : All (λ mark. IsBroken mark → ⊥) a.before
+  pub unbroken : All (λ mark. ¬ IsBroken mark) a.before
   pub cut : length a.before + 1 < count → IsBroken a.last
 
 -- A report is of at most one attempt more than retries. Each attempt but the last ends by Lost; the last only where no
@@ -85,4 +85,4 @@ IsReportParts r = (marks : List Mark) × Spells r.transaction marks r
 -- no report of the transaction is spelled by these marks
 abbrev pub SpellsNone : FrameList → List Mark → Type 0
 SpellsNone list marks =
-    (attempts : List Attempt) → IsReport most_retries (length list.frames) attempts → marks ≡ all_marks attempts → ⊥
+    (attempts : List Attempt) → IsReport most_retries (length list.frames) attempts → ¬ (marks ≡ all_marks attempts)

@@ -14,7 +14,7 @@ pub record EndsAt (count : ℕ) (marks : List Mark) (end : ℕ) : Type 0 where
 
 -- no attempt at count frames has its marks at the front
 abbrev pub HasNoAttempt : ℕ → List Mark → Type 0
-HasNoAttempt count marks = (a : Attempt) (rest : List Mark) → IsAttempt count a → marks ≡ marks_of a ++ rest → ⊥
+HasNoAttempt count marks = (a : Attempt) (rest : List Mark) → IsAttempt count a → ¬ (marks ≡ marks_of a ++ rest)
 
 -- the marks are those of attempts that a report with so many retries has; what they sent goes behind before, and they
 -- end with last
@@ -28,4 +28,4 @@ pub record IsRead (list : FrameList) (retries : ℕ) (marks : List Mark) (before
 
 abbrev pub ReadsNone : FrameList → ℕ → List Mark → Type 0
 ReadsNone list retries marks =
-    (attempts : List Attempt) → IsReport retries (length list.frames) attempts → marks ≡ all_marks attempts → ⊥
+    (attempts : List Attempt) → IsReport retries (length list.frames) attempts → ¬ (marks ≡ all_marks attempts)

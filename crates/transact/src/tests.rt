@@ -122,7 +122,7 @@ fn printed_outcomes(rt: HostRuntime) -> Result<(), Fail> {
 }
 
 #[test]
-fn told_apart(rt: HostRuntime) -> Result<(), Fail> {
+fn transactions_differ(rt: HostRuntime) -> Result<(), Fail> {
     let handed_out = Transaction::of(&scene().ok_or("a request")?, TaskKind::Cyclic);
     let other = Transaction::of(&memory_byte().ok_or("a request")?, TaskKind::Cyclic);
     let copy = handed_out.clone()?;

@@ -99,8 +99,7 @@ impl Transaction {
         }
     }
 
-    /// Whether this is the same transaction, as where it is told whether it is the one that was
-    /// handed out.
+    /// Whether this is the same transaction, as that which was handed out.
     pub fn is_same(&self, other: &Self) -> bool
         ensures { IsTrue result ↔ (self.now ≡ other.now) }
     {

@@ -1,5 +1,5 @@
-//! `compile` on a task with parentheses, on one with jumps, and on one that is as large as the
-//! limits allow.
+//! `compile` on a task with parentheses, on one with jumps, on ones with calls, and on one that is
+//! as large as the limits allow.
 
 ghost use Rattle.std.specs.Prelude.{◌≡◌, [], ◌∷◌, length, IfOk};
 ghost use Rattle.ilplan.specs.Plans.{KeepsLimits};
@@ -7,17 +7,18 @@ ghost use Rattle.iltrees.specs.declared.operand.Operand.TheVariants as operands;
 ghost use Rattle.ilcompile.specs.Rows as rows;
 
 use crate::compile;
-use ilcode::{Instruction as Word, Operand as WordOperand};
+use ilblocks::Kind;
+use ilcode::{Instruction as Word, Operand as WordOperand, Variable};
 use iloperators::{Condition, Operator};
-use ilplan::{Constants, Instance, Plan, Slot, Task};
+use ilplan::{Constants, FunctionBlock, Instance, Place, Plan, Slot, Task};
 use ilsource::Name;
-use iltrees::{Instruction, Line, Nested, Operand};
+use iltrees::{Argument, Arguments, Instruction, Line, Nested, Operand};
 use iltypes::{IlType, Value};
 use std::alloc::{AllocError, Global};
 use std::test::Fail;
 
 /// The line of an instruction at a place.
-fn line(at: usize, instruction: Instruction<usize, usize>) -> Line<usize, usize>
+fn line(at: usize, instruction: Instruction<Place, usize>) -> Line<Place, usize>
     ensures { result ≡ rows.line at instruction }
 {
     Line {
@@ -28,7 +29,7 @@ fn line(at: usize, instruction: Instruction<usize, usize>) -> Line<usize, usize>
 }
 
 /// The LD of a constant, at a place.
-fn load(at: usize, value: Value) -> Line<usize, usize>
+fn load(at: usize, value: Value) -> Line<Place, usize>
     ensures { result ≡ rows.ld at (operands.Constant value) }
 {
     let operand = Operand::Constant(value);
@@ -37,10 +38,10 @@ fn load(at: usize, value: Value) -> Line<usize, usize>
 }
 
 /// LD 3, SUB( a, MUL 2, ), ST b.
-fn difference(alloc: Global) -> Result<Vec<Line<usize, usize>>, AllocError>
+fn difference(alloc: Global) -> Result<Vec<Line<Place, usize>>, AllocError>
     ensures { IfOk result (λ lines. lines.items ≡ rows.difference) }
 {
-    let nested = Nested::load(alloc, 3, false, Operand::Name(0))?;
+    let nested = Nested::load(alloc, 3, false, Operand::Name(Place::Slot(0)))?;
     let nested = nested.apply(4, Operator::Mul, Operand::Constant(Value::Int(2)))?;
     let operator = Operator::Sub;
     let close = 5;
@@ -50,7 +51,7 @@ fn difference(alloc: Global) -> Result<Vec<Line<usize, usize>>, AllocError>
         close,
     };
     let negated = false;
-    let variable = 1;
+    let variable = Place::Slot(1);
     let mut lines = Vec::new(alloc);
     lines.push(load(2, Value::Int(3)))?;
     lines.push(line(3, deferred))?;
@@ -59,10 +60,10 @@ fn difference(alloc: Global) -> Result<Vec<Line<usize, usize>>, AllocError>
 }
 
 /// LD a, JMPC 5, LDN a, JMPCN 5, LD TRUE, 5: ST b.
-fn two_jumps(alloc: Global) -> Result<Vec<Line<usize, usize>>, AllocError>
+fn two_jumps(alloc: Global) -> Result<Vec<Line<Place, usize>>, AllocError>
     ensures { IfOk result (λ lines. lines.items ≡ rows.two_jumps) }
 {
-    let operand = Operand::Name(0);
+    let operand = Operand::Name(Place::Slot(0));
     let mut lines = Vec::new(alloc);
     lines.push(line(
         2,
@@ -86,7 +87,80 @@ fn two_jumps(alloc: Global) -> Result<Vec<Line<usize, usize>>, AllocError>
         label: Some(5),
         instruction: Some(Instruction::Store {
             negated: false,
-            variable: 1,
+            variable: Place::Slot(1),
+        }),
+    })?;
+    Ok(lines)
+}
+
+/// An argument for a port.
+fn argument(block: usize, port: usize, operand: Operand<Place>) -> Argument<Place>
+    ensures { result ≡ rows.argument block port operand }
+{
+    let port = Place::Port { block, port };
+    Argument { port, operand }
+}
+
+/// LD a, CAL t(IN := a, PT := 500), LD t.Q, ST b, STN e.CLK.
+fn calling(alloc: Global) -> Result<Vec<Line<Place, usize>>, AllocError>
+    ensures { IfOk result (λ lines. lines.items ≡ rows.calling) }
+{
+    let negated = false;
+    let operand = Operand::Name(Place::Slot(0));
+    let limit = Operand::Constant(Value::Int(500));
+    let arguments = vec![in alloc; argument(0, 0, operand), argument(0, 1, limit)]?;
+    let call = Instruction::Call {
+        condition: Condition::Always,
+        instance: Place::Block(0),
+        arguments: Arguments::new(arguments),
+    };
+    let ends = Operand::Name(Place::Port { block: 0, port: 2 });
+    let store = Instruction::Store {
+        negated,
+        variable: Place::Slot(1),
+    };
+    let store_to_input = Instruction::Store {
+        negated: true,
+        variable: Place::Port { block: 1, port: 0 },
+    };
+    let mut lines = Vec::new(alloc);
+    lines.push(line(2, Instruction::Load { negated, operand }))?;
+    lines.push(line(3, call))?;
+    lines.push(line(
+        4,
+        Instruction::Load {
+            negated,
+            operand: ends,
+        },
+    ))?;
+    lines.push(line(5, store))?;
+    lines.push(line(6, store_to_input))?;
+    Ok(lines)
+}
+
+/// LD a, JMPC 9, CALC t(IN := a, PT := 7), 9: ST b.
+fn over_call(alloc: Global) -> Result<Vec<Line<Place, usize>>, AllocError>
+    ensures { IfOk result (λ lines. lines.items ≡ rows.over_call) }
+{
+    let negated = false;
+    let operand = Operand::Name(Place::Slot(0));
+    let limit = Operand::Constant(Value::Int(7));
+    let arguments = vec![in alloc; argument(0, 0, operand), argument(0, 1, limit)]?;
+    let call = Instruction::Call {
+        condition: Condition::IfTrue,
+        instance: Place::Block(0),
+        arguments: Arguments::new(arguments),
+    };
+    let mut lines = Vec::new(alloc);
+    lines.push(line(2, Instruction::Load { negated, operand }))?;
+    lines.push(line(3, Instruction::Jump(Condition::IfTrue, 9)))?;
+    lines.push(line(4, call))?;
+    lines.push(Line {
+        at: 5,
+        label: Some(9),
+        instruction: Some(Instruction::Store {
+            negated,
+            variable: Place::Slot(1),
         }),
     })?;
     Ok(lines)
@@ -95,7 +169,7 @@ fn two_jumps(alloc: Global) -> Result<Vec<Line<usize, usize>>, AllocError>
 /// A plan of one task with these lines and constants, on three buses.
 fn plan_of(
     alloc: Global,
-    lines: Vec<Line<usize, usize>>,
+    lines: Vec<Line<Place, usize>>,
     constants: Constants,
 ) -> Result<Plan, AllocError>
     requires { KeepsLimits (rows.task (lines.items ∷ []) constants) }
@@ -109,11 +183,17 @@ fn plan_of(
         initial: Value::Bool(false),
     };
     let slots = vec![in alloc; slot, slot]?;
+    let block = |kind: Kind| FunctionBlock {
+        instance: name,
+        name,
+        kind,
+    };
+    let blocks = vec![in alloc; block(Kind::Ton), block(Kind::RTrig)]?;
     let mut instances = Vec::new(alloc);
     instances.push(Instance::new(name, lines))?;
     let mut tasks = Vec::new(alloc);
     let name = String::from_str(alloc, "main")?;
-    tasks.push(Task::new(name, false, slots, constants, instances))?;
+    tasks.push(Task::new(name, false, slots, blocks, constants, instances))?;
     let text = vec![in alloc; b'\n'; 20]?;
     Ok(Plan::new(text, 3, Vec::new(alloc), tasks))
 }
@@ -141,7 +221,10 @@ fn parentheses_are_compiled(rt: HostRuntime) -> Result<(), Fail> {
         },
         Word::Apply(Operator::Mul, second),
         Word::Close,
-        Word::Store { negated, slot: 1 },
+        Word::Store {
+            negated,
+            variable: Variable::Slot(1),
+        },
     ];
     assert_eq!(rt; code.buses(), 3);
     assert_eq!(rt; code.constants(), [Value::Int(3), Value::Int(2)].as_slice());
@@ -174,8 +257,94 @@ fn jumps_are_compiled(rt: HostRuntime) -> Result<(), Fail> {
     Ok(())
 }
 
+/// Of LD a.
+const LOAD: Word = Word::Load {
+    negated: false,
+    operand: WordOperand::Slot(0),
+};
+
+/// Of t(IN := a, ..).
+const FIRST_ARGUMENT: Word = Word::Pass {
+    operand: WordOperand::Slot(0),
+    block: 0,
+    port: 0,
+};
+
+/// Of t(.., PT := ..), with the first constant.
+const SECOND_ARGUMENT: Word = Word::Pass {
+    operand: WordOperand::Constant(0),
+    block: 0,
+    port: 1,
+};
+
+/// Of ST b.
+const STORE: Word = Word::Store {
+    negated: false,
+    variable: Variable::Slot(1),
+};
+
+#[test]
+fn calls_are_compiled(rt: HostRuntime) -> Result<(), Fail> {
+    let alloc = rt.alloc();
+    let mut constants = Constants::new(alloc);
+    constants.add(Value::Int(500))?;
+    let plan = plan_of(alloc, calling(alloc)?, constants)?;
+    let code = compile(alloc, &plan, 0)?;
+    let output = Word::Load {
+        negated: false,
+        operand: WordOperand::Port { block: 0, port: 2 },
+    };
+    let input = Word::Store {
+        negated: true,
+        variable: Variable::Port { block: 1, port: 0 },
+    };
+    let words = [
+        LOAD,
+        FIRST_ARGUMENT,
+        SECOND_ARGUMENT,
+        Word::Call(0),
+        output,
+        STORE,
+        input,
+    ];
+    assert_eq!(rt; code.kinds(), [Kind::Ton, Kind::RTrig].as_slice());
+    assert_eq!(rt; code.instructions(), words.as_slice());
+    assert_eq!(rt; code.lines(), [3, 4, 4, 4, 5, 6, 7].as_slice());
+    Ok(())
+}
+
+#[test]
+fn conditional_calls_are_compiled(rt: HostRuntime) -> Result<(), Fail> {
+    let alloc = rt.alloc();
+    let mut constants = Constants::new(alloc);
+    constants.add(Value::Int(7))?;
+    let plan = plan_of(alloc, over_call(alloc)?, constants)?;
+    let code = compile(alloc, &plan, 0)?;
+    let target = 6;
+    let jump = Word::Jump {
+        condition: Condition::IfTrue,
+        target,
+    };
+    let jump_over = Word::Jump {
+        condition: Condition::IfFalse,
+        target,
+    };
+    let words = [
+        LOAD,
+        jump,
+        jump_over,
+        FIRST_ARGUMENT,
+        SECOND_ARGUMENT,
+        Word::Call(0),
+        STORE,
+    ];
+    assert_eq!(rt; code.instructions(), words.as_slice());
+    assert_eq!(rt; code.lines(), [3, 4, 5, 5, 5, 5, 6].as_slice());
+    Ok(())
+}
+
 /// 65,536 lines, each the LD of one of 4096 constants, and these.
-fn loads(alloc: Global) -> Result<(Vec<Line<usize, usize>>, Constants), AllocError>
+fn loads(alloc: Global) -> Result<(Vec<Line<Place, usize>>, Constants), AllocError>
     ensures { IfOk result (λ r. rows.LoadConstants r.0.items r.1 65536) }
 {
     let mut lines = Vec::new(alloc);

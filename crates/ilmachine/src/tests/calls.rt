@@ -4,7 +4,7 @@ ghost use Rattle.std.specs.Prelude.{◌≤◌, length};
 
 use crate::tests::are_of;
 use crate::{Snapshot, Work, scan, scan_into};
-use ilcode::{Code, Instruction, Operand};
+use ilcode::{Code, Instruction, Operand, Variable};
 use iltypes::{IlType, Value};
 use ilverify::verify;
 use std::alloc::{AllocError, Global};
@@ -21,6 +21,7 @@ fn a_scan_keeps_what_it_began_from(rt: HostRuntime) -> Result<(), Fail> {
         Vec::new(alloc),
         Vec::new(alloc),
         Vec::new(alloc),
+        Vec::new(alloc),
     );
     let verified = Arc::new(alloc, verify(alloc, code)?)?;
     let work = Work::new(7, Snapshot::new(alloc, verified, &[], 250)?)?;
@@ -29,6 +30,9 @@ fn a_scan_keeps_what_it_began_from(rt: HostRuntime) -> Result<(), Fail> {
     assert_eq!(rt; scanned.steps(), 0);
     assert_eq!(rt; scanned.snapshot().moment(), 250);
     assert_eq!(rt; scanned.snapshot().values().len(), 0);
+    assert_eq!(rt; scanned.snapshot().blocks().len(), 0);
+    assert_eq!(rt; scanned.blocks().len(), 0);
+    assert_eq!(rt; scanned.outbox().len(), 0);
     assert_eq!(rt; scanned.snapshot().verified().bound(), 0);
     Ok(())
 }
@@ -41,7 +45,7 @@ fn code_of(alloc: Global, slots: Vec<IlType>, words: Vec<Instruction>) -> Result
     let constants = vec![in alloc; Value::Bool(true)]?;
     let lines = vec![in alloc; 1usize; words.len()]?;
     let starts = vec![in alloc; 0usize]?;
-    Ok(Code::new(16, constants, slots, starts, words, lines))
+    Ok(Code::new(16, constants, slots, Vec::new(alloc), starts, words, lines))
 }
 
 /// A load of TRUE, and then a store to each slot in turn.
@@ -54,7 +58,7 @@ fn stores(alloc: Global, count: usize) -> Result<Vec<Instruction>, AllocError> {
     for place in 1..count {
         words.push(Instruction::Store {
             negated: false,
-            slot: place % 4096,
+            variable: Variable::Slot(place % 4096),
         })?;
     }
     Ok(words)

@@ -1,10 +1,11 @@
 //! Jumps: a divisor that a test keeps from 0, ways that meet, and a return to the next program.
 
-ghost use Rattle.std.specs.Prelude.{◌≡◌, length, IfOk};
+ghost use Rattle.std.specs.Prelude.{◌≡◌, ◌≤◌, length, IfOk};
+ghost use Rattle.ilcode.specs.Listings.{AreStarts};
 
 use crate::tests::are_of;
 use crate::{ScanResult, Snapshot, scan};
-use ilcode::{Code, Instruction, Operand};
+use ilcode::{Code, Instruction, Operand, Variable};
 use iloperators::{Condition, Operator};
 use iltypes::{IlType, Range, Value};
 use ilverify::verify;
@@ -24,7 +25,7 @@ fn load(operand: Operand) -> Instruction {
 fn store(slot: usize) -> Instruction {
     Instruction::Store {
         negated: false,
-        slot,
+        variable: Variable::Slot(slot),
     }
 }
 
@@ -39,6 +40,25 @@ fn types(alloc: Global) -> Result<Vec<IlType>, Fail>
     let few = Range::new(0, 20).ok_or("ordered")?;
     let many = Range::new(0, 100).ok_or("ordered")?;
     Ok(vec![in alloc; IlType::Int(few), IlType::Int(many), IlType::Bool]?)
+}
+
+/// The code of these words and constants over the three slots.
+fn code_of(
+    alloc: Global,
+    constants: Vec<Value>,
+    starts: Vec<usize>,
+    words: Vec<Instruction>,
+    lines: Vec<usize>,
+) -> Result<Code, Fail>
+    requires constants { length constants.items ≤ 3 }
+    requires starts { length starts.items ≤ 2 }
+    requires words { length words.items ≤ 10 }
+    requires lines { length lines.items ≡ length words.items }
+    requires ordered { AreStarts starts.items words.items }
+{
+    let types = types(alloc)?;
+    let kinds = Vec::new(alloc);
+    Ok(Code::new(1, constants, types, kinds, starts, words, lines))
 }
 
 /// The scan of the code from these values.
@@ -69,7 +89,7 @@ fn a_jump_passes_over_a_division_by_0(rt: HostRuntime) -> Result<(), Fail> {
         let constants = vec![in alloc; Value::Int(0), Value::Int(100)]?;
         let starts = vec![in alloc; 0usize]?;
         let lines = vec![in alloc; 1usize; 6]?;
-        let code = Code::new(1, constants, types(alloc)?, starts, words, lines);
+        let code = code_of(alloc, constants, starts, words, lines)?;
         let before = [Value::Int(divisor), Value::Int(7), Value::Bool(true)];
         let scanned = scanned(&rt, alloc, code, before)?;
         let after = [Value::Int(divisor), Value::Int(quotient), Value::Bool(true)];
@@ -106,7 +126,7 @@ fn ways_meet(rt: HostRuntime) -> Result<(), Fail> {
         let constants = vec![in alloc; Value::Int(1), Value::Int(2), Value::Int(100)]?;
         let starts = vec![in alloc; 0usize]?;
         let lines = vec![in alloc; 1usize; 10]?;
-        let code = Code::new(1, constants, types(alloc)?, starts, words, lines);
+        let code = code_of(alloc, constants, starts, words, lines)?;
         let before = [Value::Int(0), Value::Int(0), Value::Bool(truth)];
         let scanned = scanned(&rt, alloc, code, before)?;
         let after = [
@@ -137,7 +157,7 @@ fn a_return_leads_to_the_next_program(rt: HostRuntime) -> Result<(), Fail> {
         let constants = vec![in alloc; Value::Int(1), Value::Int(2)]?;
         let starts = vec![in alloc; 0usize, 4]?;
         let lines = vec![in alloc; 1usize; 6]?;
-        let code = Code::new(1, constants, types(alloc)?, starts, words, lines);
+        let code = code_of(alloc, constants, starts, words, lines)?;
         let before = [Value::Int(0), Value::Int(0), Value::Bool(truth)];
         let scanned = scanned(&rt, alloc, code, before)?;
         let after = [Value::Int(stored), Value::Int(2), Value::Bool(truth)];

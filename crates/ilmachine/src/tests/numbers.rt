@@ -4,7 +4,7 @@ ghost use Rattle.std.specs.Prelude.{◌≤◌, length};
 
 use crate::tests::are_of;
 use crate::{Snapshot, scan};
-use ilcode::{Code, Instruction, Operand};
+use ilcode::{Code, Instruction, Operand, Variable};
 use iloperators::{Function, IntegerType, Operator};
 use iltypes::{IlType, Range, Value};
 use ilverify::verify;
@@ -27,12 +27,12 @@ fn apply(operator: Operator, constant: usize) -> Instruction {
 fn store(slot: usize) -> Instruction {
     Instruction::Store {
         negated: false,
-        slot,
+        variable: Variable::Slot(slot),
     }
 }
 
-/// The values of a number (at the beginning -1) and of a truth value (at the beginning TRUE) after a
-/// scan of these words over these constants.
+/// The values of a number (at the beginning -1) and of a truth value (at the beginning TRUE) after
+/// a scan of these words over these constants.
 fn scanned(
     rt: &impl Abort,
     alloc: Global,
@@ -51,7 +51,7 @@ fn scanned(
     let lines = vec![in alloc; 1usize; words.len()]?;
     let starts = vec![in alloc; 0usize]?;
     assert_eq!(rt; values.len(), constants.len());
-    let code = Code::new(1, values, types, starts, words, lines);
+    let code = Code::new(1, values, types, Vec::new(alloc), starts, words, lines);
     let verified = Arc::new(alloc, verify(alloc, code)?)?;
     let before = [Value::Int(-1), Value::Bool(true)];
     assert!(rt; are_of(&before, verified.code().slots()));

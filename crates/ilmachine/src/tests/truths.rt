@@ -4,7 +4,7 @@ ghost use Rattle.std.specs.Prelude.{◌<◌, ◌≤◌, length};
 ghost use Rattle.ilcode.specs.Listings.{AreStarts};
 
 use crate::{ScanResult, Snapshot, scan};
-use ilcode::{Code, Instruction, Operand};
+use ilcode::{Code, Instruction, Operand, Variable};
 use iloperators::{Function, Operator};
 use iltypes::{IlType, Value};
 use ilverify::verify;
@@ -53,7 +53,10 @@ fn apply(operator: Operator, slot: usize) -> Instruction {
 }
 
 fn store(negated: bool, slot: usize) -> Instruction {
-    Instruction::Store { negated, slot }
+    Instruction::Store {
+        negated,
+        variable: Variable::Slot(slot),
+    }
 }
 
 /// A scan of the code of these words over three slots, which takes a step a word.
@@ -72,6 +75,7 @@ fn scan_of(
         1,
         vec![in alloc; Value::Bool(false), Value::Bool(true)]?,
         vec![in alloc; IlType::Bool, IlType::Bool, IlType::Bool]?,
+        Vec::new(alloc),
         Vec::from_slice(alloc, starts)?,
         Vec::from_slice(alloc, words)?,
         vec![in alloc; 1usize; words.len()]?,
@@ -148,8 +152,12 @@ fn words_do_what_the_standard_says(rt: HostRuntime) -> Result<(), Fail> {
         (NOT, !CURRENT, SLOT),
         (store(false, 0), CURRENT, CURRENT),
         (store(true, 0), CURRENT, !CURRENT),
-        (Instruction::Set(0), CURRENT, SLOT | CURRENT),
-        (Instruction::Reset(0), CURRENT, SLOT & !CURRENT),
+        (Instruction::Set(Variable::Slot(0)), CURRENT, SLOT | CURRENT),
+        (
+            Instruction::Reset(Variable::Slot(0)),
+            CURRENT,
+            SLOT & !CURRENT,
+        ),
     ];
     for (word, current, slot) in words {
         word_as_tabled(&rt, rt.alloc(), word, current, slot)?;
@@ -185,11 +193,11 @@ fn programs_of_one_start_scan_as_tabled(rt: HostRuntime) -> Result<(), Fail> {
     scans_as_tabled(&rt, alloc, &words, &[0], [!CURRENT, CURRENT, CURRENT])?;
     let words = [
         constant(0),
-        Instruction::Reset(0),
+        Instruction::Reset(Variable::Slot(0)),
         NOT,
-        Instruction::Set(1),
+        Instruction::Set(Variable::Slot(1)),
         and,
-        Instruction::Reset(2),
+        Instruction::Reset(Variable::Slot(2)),
     ];
     scans_as_tabled(&rt, alloc, &words, &[0], [SLOT, 0xFF, 0])
 }
@@ -206,18 +214,18 @@ fn programs_of_two_starts_scan_as_tabled(rt: HostRuntime) -> Result<(), Fail> {
     scans_as_tabled(&rt, alloc, &words, &[0, 2], [!SLOT, SLOT, CURRENT])?;
     let words = [
         load(false, 0),
-        Instruction::Set(2),
+        Instruction::Set(Variable::Slot(2)),
         load(true, 1),
-        Instruction::Reset(2),
+        Instruction::Reset(Variable::Slot(2)),
     ];
     let last = (CURRENT | SLOT) & OPERAND;
     scans_as_tabled(&rt, alloc, &words, &[0, 2], [SLOT, OPERAND, last])?;
     let words = [
         load(false, 0),
-        Instruction::Set(1),
+        Instruction::Set(Variable::Slot(1)),
         load(false, 1),
-        Instruction::Reset(0),
-        Instruction::Set(2),
+        Instruction::Reset(Variable::Slot(0)),
+        Instruction::Set(Variable::Slot(2)),
     ];
     let either = OPERAND | SLOT;
     scans_as_tabled(&rt, alloc, &words, &[0, 2], [0, either, CURRENT | either])?;
@@ -239,11 +247,11 @@ fn programs_of_three_starts_scan_as_tabled(rt: HostRuntime) -> Result<(), Fail> 
     let alloc = rt.alloc();
     let words = [
         constant(0),
-        Instruction::Set(0),
+        Instruction::Set(Variable::Slot(0)),
         load(true, 0),
         store(false, 1),
         load(false, 1),
-        Instruction::Reset(2),
+        Instruction::Reset(Variable::Slot(2)),
     ];
     scans_as_tabled(
         &rt,

@@ -3,7 +3,7 @@
 use crate::tests::words::{LAMP, LEVEL, TEN, TRUE, WIDE, ZERO, after, cause, code, ld, slot, st};
 use crate::tests::{int, range};
 use crate::{Cause, Entry, Known, Mark, after_word};
-use ilcode::Instruction;
+use ilcode::{Instruction, Variable};
 use iloperators::{Condition, Function, Operator};
 use std::alloc::{AllocError, Global};
 use std::test::Fail;
@@ -26,7 +26,7 @@ fn jump(condition: Condition) -> Instruction {
 }
 
 /// The mark that the words leave.
-fn mark(alloc: Global, words: &[Instruction]) -> Result<Option<Mark>, Fail> {
+pub(crate) fn mark(alloc: Global, words: &[Instruction]) -> Result<Option<Mark>, Fail> {
     match after(alloc, words, 0)? {
         Ok(entry) => Ok(entry.mark),
         Err(_) => Err("refused".into()),
@@ -51,7 +51,7 @@ fn which_words_leave_a_mark(rt: HostRuntime) -> Result<(), Fail> {
     let with_level = Instruction::Apply(Operator::Gt, slot(LEVEL));
     let add = with_ten(Operator::Add);
     let opened = Instruction::Open(Operator::Add);
-    let set = Instruction::Set(LAMP);
+    let set = Instruction::Set(Variable::Slot(LAMP));
     let close = Instruction::Close;
     let wide = Some(Mark::Copy(WIDE));
     let tested = test_of_level(Operator::Gt);

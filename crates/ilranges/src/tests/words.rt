@@ -4,7 +4,8 @@ ghost use Rattle.std.specs.Prelude.{◌≤ℤ◌, ◌<◌, length};
 
 use crate::tests::{GREATEST, LEAST, int, range};
 use crate::{Cause, Entry, Known, after_word, least_cause_is_one, words_are_safe};
-use ilcode::{Code, Instruction, Operand};
+use ilblocks::Kind;
+use ilcode::{Code, Instruction, Operand, Variable};
 use iloperators::{Function, IntegerType, Operator};
 use iltypes::{IlType, Value};
 use std::alloc::{AllocError, Global};
@@ -17,7 +18,7 @@ pub(crate) const TRUE: Operand = Operand::Constant(1);
 
 const FEWEST: Operand = Operand::Constant(2);
 
-const MANY: Operand = Operand::Constant(3);
+pub(crate) const MANY: Operand = Operand::Constant(3);
 
 pub(crate) const ZERO: Operand = Operand::Constant(4);
 
@@ -31,9 +32,10 @@ pub(crate) const WIDE: usize = 2;
 /// What its tables do not have.
 const NO_SLOT: usize = 3;
 
-const NO_CONSTANT: Operand = Operand::Constant(5);
+pub(crate) const NO_CONSTANT: Operand = Operand::Constant(5);
 
-/// A code of four words with two programs: one begins at 0, the other at 2.
+/// A code of four words on one bus, with a TON and a GEAR_DO and two programs: one begins at 0, the
+/// other at 2.
 pub(crate) fn code(alloc: Global) -> Result<Code, AllocError> {
     let constants = vec![in alloc;
         Value::Int(10),
@@ -44,10 +46,11 @@ pub(crate) fn code(alloc: Global) -> Result<Code, AllocError> {
     ]?;
     let all = IlType::Int(range(LEAST, GREATEST));
     let slots = vec![in alloc; IlType::Int(range(0, 254)), IlType::Bool, all]?;
+    let kinds = vec![in alloc; Kind::Ton, Kind::GearDo]?;
     let starts = vec![in alloc; 0usize, 2]?;
     let words = vec![in alloc; ld(TEN); 4]?;
     let lines = vec![in alloc; 1usize; 4]?;
-    Ok(Code::new(1, constants, slots, starts, words, lines))
+    Ok(Code::new(1, constants, slots, kinds, starts, words, lines))
 }
 
 pub(crate) fn ld(operand: Operand) -> Instruction {
@@ -67,14 +70,14 @@ fn ldn(operand: Operand) -> Instruction {
 pub(crate) fn st(slot: usize) -> Instruction {
     Instruction::Store {
         negated: false,
-        slot,
+        variable: Variable::Slot(slot),
     }
 }
 
 fn stn(slot: usize) -> Instruction {
     Instruction::Store {
         negated: true,
-        slot,
+        variable: Variable::Slot(slot),
     }
 }
 
@@ -123,7 +126,7 @@ pub(crate) fn after(
 }
 
 /// The current result that is known after the words.
-fn result(alloc: Global, words: &[Instruction]) -> Result<Option<Known>, Fail> {
+pub(crate) fn result(alloc: Global, words: &[Instruction]) -> Result<Option<Known>, Fail> {
     match after(alloc, words, 0)? {
         Ok(entry) => Ok(entry.result),
         Err(_) => Err("refused".into()),
@@ -176,7 +179,8 @@ fn what_is_known_of_slots_after_words(rt: HostRuntime) -> Result<(), Fail> {
     entry.arrive(&code(alloc)?, 2);
     assert_eq!(rt; entry.result, None);
     assert_eq!(rt; entry.slots.get(LEVEL), Some(int(10, 10)));
-    for word in [stn(LAMP), Instruction::Set(LAMP), Instruction::Reset(LAMP)] {
+    let lamp = Variable::Slot(LAMP);
+    for word in [stn(LAMP), Instruction::Set(lamp), Instruction::Reset(lamp)] {
         let Ok(entry) = after(alloc, &[ld(TRUE), word], 0)? else {
             return Err("refused".into());
         };
@@ -203,11 +207,11 @@ fn the_least_cause_at_words(rt: HostRuntime) -> Result<(), Fail> {
     assert_eq!(rt; cause(alloc, &[st(LEVEL)], 0)?, Cause::NoResult);
     assert_eq!(rt; cause(alloc, &[stn(LEVEL)], 0)?, Cause::WrongType);
     assert_eq!(rt;
-        cause(alloc, &[Instruction::Set(LEVEL)], 0)?,
+        cause(alloc, &[Instruction::Set(Variable::Slot(LEVEL))], 0)?,
         Cause::WrongType
     );
     assert_eq!(rt;
-        cause(alloc, &[Instruction::Reset(LAMP)], 0)?,
+        cause(alloc, &[Instruction::Reset(Variable::Slot(LAMP))], 0)?,
         Cause::NoResult
     );
     assert_eq!(rt; cause(alloc, &[Instruction::Close], 0)?, Cause::NoResult);

@@ -1,11 +1,12 @@
 //! Faults of labels and jumps, by the line of the name at fault.
 
 ghost use Rattle.std.specs.Prelude.{IfOk};
-ghost use Rattle.iltrees.specs.Words.{AreShallow, CallNothing, CallsNothing, IsShallow};
+ghost use Rattle.iltrees.specs.Words.{AreShallow, IsShallow};
 
 use super::largest::{answer, different_names};
+use super::truth;
 use iloperators::Condition;
-use ilsource::{Declaration, Element, Name, Program, Specification};
+use ilsource::{Declaration, Element, Name, Program, Symbol};
 use iltrees::{Instruction, Line};
 use std::alloc::{AllocError, Global};
 use std::test::Fail;
@@ -40,9 +41,8 @@ impl Draft {
         &mut self,
         alloc: Global,
         rows: &[Row<'_>],
-    ) -> Result<Vec<Line<Name, Name>>, AllocError>
-        ensures shallow { IfOk result (λ lines. AreShallow lines.items) }
-        ensures calls { IfOk result (λ lines. CallNothing lines.items) }
+    ) -> Result<Vec<Line<Symbol, Name>>, AllocError>
+        ensures { IfOk result (λ lines. AreShallow lines.items) }
     {
         let mut lines = Vec::new(alloc);
         for (label, target) in rows {
@@ -64,7 +64,7 @@ impl Draft {
         let mut names = Vec::new(alloc);
         names.push(self.name("v")?)?;
         let mut declarations = Vec::new(alloc);
-        declarations.push(Declaration::new(names, Specification::Bool, None))?;
+        declarations.push(Declaration::new(names, truth(None)))?;
         let lines = self.lines(alloc, rows)?;
         let program = Program::new(name, declarations, lines);
         self.elements.push(Element::Program(program))?;
@@ -73,9 +73,8 @@ impl Draft {
 }
 
 /// A line with a label and a jump, where they are.
-fn line(label: Option<Name>, target: Option<Name>) -> Line<Name, Name>
-    ensures shallow { IsShallow result.instruction }
-    ensures calls { CallsNothing result.instruction }
+fn line(label: Option<Name>, target: Option<Name>) -> Line<Symbol, Name>
+    ensures { IsShallow result.instruction }
 {
     let instruction = match target {
         Some(target) => Some(Instruction::Jump(Condition::Always, target)),
@@ -144,9 +143,8 @@ fn labels_are_those_of_their_program(rt: HostRuntime) -> Result<(), Fail> {
 }
 
 /// Lines that jump to the labels, and then the lines that have them.
-fn jumps_and_labels(alloc: Global, labels: &[Name]) -> Result<Vec<Line<Name, Name>>, AllocError>
-    ensures shallow { IfOk result (λ lines. AreShallow lines.items) }
-    ensures calls { IfOk result (λ lines. CallNothing lines.items) }
+fn jumps_and_labels(alloc: Global, labels: &[Name]) -> Result<Vec<Line<Symbol, Name>>, AllocError>
+    ensures { IfOk result (λ lines. AreShallow lines.items) }
 {
     let mut lines = Vec::new(alloc);
     for label in labels {

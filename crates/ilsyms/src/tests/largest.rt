@@ -3,9 +3,11 @@
 
 ghost use Rattle.std.specs.Prelude.{◌≤◌};
 
+use super::truth;
 use crate::resolve;
 use binding::Binding;
-use ilsource::{Declaration, Element, Name, Program, Source, Specification};
+use ilblocks::Kind;
+use ilsource::{Declaration, Declared, Element, Name, Program, Source};
 use std::alloc::{AllocError, Global};
 use std::test::Fail;
 
@@ -59,18 +61,34 @@ fn programs(rt: HostRuntime) -> Result<(), Fail> {
     Ok(())
 }
 
+/// The answer to one program whose declared names are so many.
+fn answer_to_names(alloc: Global, count: usize, declared: Declared) -> Result<String, Fail>
+    requires { count ≤ 17576 }
+{
+    let (text, names) = different_names(alloc, count)?;
+    let mut declarations = Vec::new(alloc);
+    declarations.push(Declaration::new(names, declared))?;
+    let mut elements = Vec::new(alloc);
+    let name = Name { from: 0, to: 1 };
+    let program = Program::new(name, declarations, Vec::new(alloc));
+    elements.push(Element::Program(program))?;
+    answer(alloc, text, elements)
+}
+
 #[test]
 fn variables(rt: HostRuntime) -> Result<(), Fail> {
-    let alloc = rt.alloc();
     for (count, wanted) in [(4096, "a plan"), (4097, "name fault 11 at 1:12289")] {
-        let (text, names) = different_names(alloc, count)?;
-        let mut declarations = Vec::new(alloc);
-        declarations.push(Declaration::new(names, Specification::Bool, None))?;
-        let mut elements = Vec::new(alloc);
-        let name = Name { from: 0, to: 1 };
-        let program = Program::new(name, declarations, Vec::new(alloc));
-        elements.push(Element::Program(program))?;
-        assert_eq!(rt; answer(alloc, text, elements)?.as_str(), wanted);
+        let given = answer_to_names(rt.alloc(), count, truth(None))?;
+        assert_eq!(rt; given.as_str(), wanted);
+    }
+    Ok(())
+}
+
+#[test]
+fn block_instances(rt: HostRuntime) -> Result<(), Fail> {
+    for (count, wanted) in [(256, "a plan"), (257, "name fault 11 at 1:769")] {
+        let given = answer_to_names(rt.alloc(), count, Declared::Blocks(Kind::Ton))?;
+        assert_eq!(rt; given.as_str(), wanted);
     }
     Ok(())
 }

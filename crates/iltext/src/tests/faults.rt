@@ -5,7 +5,7 @@ use std::alloc::{AllocError, Global};
 use std::test::Fail;
 
 /// The number, line and column of a text's fault; zeros where it has none.
-fn fault_of(alloc: Global, text: &[u8]) -> (u8, usize, usize) {
+pub fn fault_of(alloc: Global, text: &[u8]) -> (u8, usize, usize) {
     match parse(alloc, text) {
         Ok(_) => (0, 0, 0),
         Err(TextFault::At { line, col, cause }) => (cause.number(), line, col),
@@ -36,7 +36,7 @@ fn texts_and_their_first_faults(rt: HostRuntime) {
         (b"PROGRAM p\nVAR a : INT (0..); END_VAR\n", (4, 2, 17)),
         (b"PROGRAM p\nVAR a : INT (0.5); END_VAR\n", (4, 2, 15)),
         (b"PROGRAM p\nVAR a : BOOL (0..1); END_VAR\n", (4, 2, 14)),
-        (b"PROGRAM p\nVAR a : TON; END_VAR\n", (4, 2, 9)),
+        (b"PROGRAM p\nVAR a : TASK; END_VAR\n", (4, 2, 9)),
         (b"TYPE a, b : INT; END_TYPE", (4, 1, 7)),
         (b"TYPE a : INT; END_VAR", (4, 1, 15)),
         (b"PROGRAM p\nST a ;\nEND_PROGRAM \xc3", (4, 2, 6)),
@@ -55,7 +55,7 @@ fn texts_and_their_first_faults(rt: HostRuntime) {
 
 #[test]
 fn lines_and_their_first_faults(rt: HostRuntime) -> Result<(), Fail> {
-    let lines: [(&[u8], (u8, usize, usize)); 62] = [
+    let lines: [(&[u8], (u8, usize, usize)); 60] = [
         (b"LD a LD b\n", (4, 1, 6)),
         (b"LD a END_PROGRAM", (4, 1, 6)),
         (b"LD T#1s\nLD 9223372036854775808\n", (5, 2, 4)),
@@ -68,9 +68,7 @@ fn lines_and_their_first_faults(rt: HostRuntime) -> Result<(), Fail> {
         (b"MIN( a\n", (4, 1, 4)),
         (b"LD( a\n", (4, 1, 3)),
         (b"NOT(\n", (4, 1, 4)),
-        (b"CAL t\n", (4, 1, 1)),
         (b"INT_TO_INT\n", (4, 1, 11)),
-        (b"LD t.Q\n", (4, 1, 5)),
         // Labels, jumps and returns.
         (b"x LD a\n", (4, 1, 3)),
         (b"x\n: LD a\n", (4, 1, 2)),
@@ -96,7 +94,7 @@ fn lines_and_their_first_faults(rt: HostRuntime) -> Result<(), Fail> {
         (b"AND( b\nJMPC x\n)\n", (7, 2, 1)),
         (b"AND( b\nOR c\nRETCN\n)\n", (7, 3, 1)),
         (b"AND( JMP\n", (7, 1, 6)),
-        (b"JMP x\nCAL t\n", (4, 2, 1)),
+        (b"JMP x\nEND_VAR\n", (4, 2, 1)),
         // Parentheses.
         (b"LD a\n)\n", (4, 2, 1)),
         (b"AND( b )\n", (4, 1, 8)),
@@ -113,7 +111,7 @@ fn lines_and_their_first_faults(rt: HostRuntime) -> Result<(), Fail> {
         (b"AND( b\nOR( TRUE\n) NOT\n", (4, 3, 3)),
         (b"AND( b\nOR c TRUE\n", (4, 2, 6)),
         (b"AND( b\nSINT_TO_INT ABS\n", (4, 2, 13)),
-        (b"AND( b\n)\nCALC x\n", (4, 3, 1)),
+        (b"AND( b\n)\nCALC 5\n", (4, 3, 6)),
         (b"AND( b\nMIN( c\n", (4, 2, 4)),
         (b"AND( b\nx\n", (4, 2, 1)),
         (b"AND( 9223372036854775808\n", (5, 1, 6)),

@@ -41,6 +41,22 @@ fn sixty_four_programs(rt: HostRuntime) -> Result<(), Fail> {
     Ok(())
 }
 
+#[test]
+fn a_call_with_many_arguments(rt: HostRuntime) -> Result<(), Fail> {
+    let mut text = b"PROGRAM p\nCAL t(PT := 0".to_vec(rt.alloc())?;
+    for _ in 0..100_000 {
+        text.extend_from_slice(b",\nPT:=t.Q")?;
+    }
+    text.extend_from_slice(b")\nEND_PROGRAM\n")?;
+    let source = parse(rt.alloc(), &text)?;
+    let [Element::Program(program)] = source.elements() else {
+        return Err("one program".into());
+    };
+    assert_eq!(rt; program.lines().len(), 1);
+    assert_eq!(rt; program.lines()[0].words(), 100_002);
+    Ok(())
+}
+
 /// A text of 1 MiB is one tree, 32 parentheses deep; its time doesn't grow with the depth.
 #[test]
 fn deep_and_long_parentheses(rt: HostRuntime) -> Result<(), Fail> {

@@ -7,7 +7,7 @@ use std::alloc::Global;
 use std::test::Fail;
 
 /// What the lines of a program are printed as again.
-fn again(alloc: Global, lines: &[u8]) -> Result<Vec<u8>, Fail> {
+pub fn again(alloc: Global, lines: &[u8]) -> Result<Vec<u8>, Fail> {
     let mut text = b"PROGRAM p\n".to_vec(alloc)?;
     text.extend_from_slice(lines)?;
     text.extend_from_slice(b"END_PROGRAM\n")?;

@@ -1,8 +1,11 @@
 //! Source programs printed as texts, one instruction a line.
 
+use ilblocks::Kind;
 use iloperators::{Condition, Function, IntegerType, Operator};
-use ilsource::{Constant, Element, Name, Program, Source, Specification, TypeDeclaration};
-use iltrees::{Action, Instruction, Line, Operand};
+use ilsource::{
+    Constant, Declared, Element, Name, Program, Source, Specification, Symbol, TypeDeclaration,
+};
+use iltrees::{Action, Argument, Instruction, Line, Operand};
 use iltypes::Value;
 use std::alloc::{AllocError, Global};
 
@@ -77,9 +80,21 @@ impl Page<'_> {
         self.add(b";")
     }
 
-    fn add_operand(&mut self, alloc: Global, operand: Operand<Name>) -> Result<(), AllocError> {
+    fn add_symbol(&mut self, symbol: Symbol) -> Result<(), AllocError> {
+        match symbol {
+            Symbol::Variable(name) => self.add_name(name),
+            Symbol::Port { block, port } => {
+                self.add_name(block)?;
+                self.add(b".")?;
+                self.add_name(port)
+            }
+            Symbol::Block(_) => self.add(b"?"),
+        }
+    }
+
+    fn add_operand(&mut self, alloc: Global, operand: Operand<Symbol>) -> Result<(), AllocError> {
         match operand {
-            Operand::Name(name) => self.add_name(name),
+            Operand::Name(symbol) => self.add_symbol(symbol),
             Operand::Constant(Value::Bool(true)) => self.add(b"TRUE"),
             Operand::Constant(Value::Bool(false)) => self.add(b"FALSE"),
             Operand::Constant(Value::Int(number)) => self.add_number(alloc, number),
@@ -91,7 +106,7 @@ impl Page<'_> {
         &mut self,
         alloc: Global,
         word: &[u8],
-        operand: Operand<Name>,
+        operand: Operand<Symbol>,
     ) -> Result<(), AllocError> {
         self.add(word)?;
         self.add(b" ")?;
@@ -111,7 +126,7 @@ impl Page<'_> {
         }
     }
 
-    fn add_action(&mut self, alloc: Global, action: Action<Name>) -> Result<(), AllocError> {
+    fn add_action(&mut self, alloc: Global, action: Action<Symbol>) -> Result<(), AllocError> {
         match action {
             Action::Load { negated, operand } => self.add_with(alloc, load_name(negated), operand),
             Action::Apply(operator, operand) => {
@@ -126,10 +141,29 @@ impl Page<'_> {
         }
     }
 
+    /// The port of an argument is one of the block that is called.
+    fn add_arguments(
+        &mut self,
+        alloc: Global,
+        called: Name,
+        arguments: &[Argument<Symbol>],
+    ) -> Result<(), AllocError> {
+        for (number, argument) in arguments.iter().enumerate() {
+            self.add(if number == 0 { b"(" } else { b", " })?;
+            match argument.port {
+                Symbol::Port { block, port } if block == called => self.add_name(port)?,
+                _ => self.add(b"?")?,
+            }
+            self.add(b" := ")?;
+            self.add_operand(alloc, argument.operand)?;
+        }
+        self.add(if arguments.is_empty() { b"" } else { b")" })
+    }
+
     fn add_instruction(
         &mut self,
         alloc: Global,
-        instruction: &Instruction<Name, Name>,
+        instruction: &Instruction<Symbol, Name>,
     ) -> Result<(), AllocError> {
         match instruction {
             Instruction::Load { negated, operand } => {
@@ -168,12 +202,23 @@ impl Page<'_> {
                 self.add(b"\n")
             }
             Instruction::Return(condition) => self.add(return_name(*condition)),
+            Instruction::Call {
+                condition,
+                instance: Symbol::Block(block),
+                arguments,
+            } => {
+                self.add(call_name(*condition))?;
+                self.add(b" ")?;
+                self.add_name(*block)?;
+                self.add_arguments(alloc, *block, arguments.as_slice())?;
+                self.add(b"\n")
+            }
             Instruction::Call { .. } => self.add(b"?\n"),
         }
     }
 
     /// A line, with its label before its instruction.
-    fn add_line(&mut self, alloc: Global, line: &Line<Name, Name>) -> Result<(), AllocError> {
+    fn add_line(&mut self, alloc: Global, line: &Line<Symbol, Name>) -> Result<(), AllocError> {
         if let Some(label) = line.label {
             self.add_name(label)?;
             self.add(b":")?;
@@ -196,7 +241,17 @@ impl Page<'_> {
                 self.add(if number == 0 { b"" } else { b", " })?;
                 self.add_name(*name)?;
             }
-            self.add_typing(alloc, declaration.specification(), declaration.initial())?;
+            match declaration.declared() {
+                Declared::Variables {
+                    specification,
+                    initial,
+                } => self.add_typing(alloc, specification, initial)?,
+                Declared::Blocks(kind) => {
+                    self.add(b" : ")?;
+                    self.add(kind_name(kind))?;
+                    self.add(b";")?;
+                }
+            }
             self.add(b" END_VAR")?;
         }
         self.add(b"\n")?;
@@ -245,6 +300,31 @@ fn return_name(condition: Condition) -> &'static [u8] {
     }
 }
 
+fn call_name(condition: Condition) -> &'static [u8] {
+    match condition {
+        Condition::Always => b"CAL",
+        Condition::IfTrue => b"CALC",
+        Condition::IfFalse => b"CALCN",
+    }
+}
+
+fn kind_name(kind: Kind) -> &'static [u8] {
+    match kind {
+        Kind::RTrig => b"R_TRIG",
+        Kind::Ctu => b"CTU",
+        Kind::Ton => b"TON",
+        Kind::GearLevel => b"GEAR_LEVEL",
+        Kind::GearDo => b"GEAR_DO",
+        Kind::GearSet => b"GEAR_SET",
+        Kind::GearPair => b"GEAR_PAIR",
+        Kind::GearAsk => b"GEAR_ASK",
+        Kind::GearRead => b"GEAR_READ",
+        Kind::DevDo => b"DEV_DO",
+        Kind::DevScheme => b"DEV_SCHEME",
+        Kind::DevAsk => b"DEV_ASK",
+    }
+}
+
 fn operator_name(operator: Operator) -> &'static [u8] {
     match operator {
         Operator::And { negated: false } => b"AND",
@@ -273,7 +353,7 @@ fn operator_name(operator: Operator) -> &'static [u8] {
 pub fn shown_lines(
     alloc: Global,
     text: &[u8],
-    lines: &[Line<Name, Name>],
+    lines: &[Line<Symbol, Name>],
 ) -> Result<Vec<u8>, AllocError> {
     let mut page = Page {
         text,

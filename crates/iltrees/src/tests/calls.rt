@@ -1,6 +1,6 @@
 //! Each public call once, on lines built by hand.
 
-use crate::{Action, Argument, Arguments, Instruction, Line, Nested, Operand, Piece, Use};
+use crate::{Action, Argument, Arguments, Instruction, Line, Nested, Operand, Piece, Purpose, Use};
 use iloperators::{Condition, Function, Operator};
 use iltypes::Value;
 use std::alloc::Global;
@@ -153,15 +153,36 @@ fn uses_of(
 }
 
 /// A use of a name.
-fn name(at: usize, name: usize) -> Use<usize> {
+fn name(at: usize, purpose: Purpose, name: usize) -> Use<usize> {
     let operand = Operand::Name(name);
-    Use { at, operand }
+    Use {
+        at,
+        purpose,
+        operand,
+    }
+}
+
+/// A name that is read.
+fn read(at: usize, variable: usize) -> Use<usize> {
+    name(at, Purpose::Read, variable)
+}
+
+/// The store of the current result, negated, to a variable.
+fn store(variable: usize) -> Instruction<usize, usize> {
+    Instruction::Store {
+        negated: true,
+        variable,
+    }
 }
 
 #[test]
 fn uses_of_lines(rt: HostRuntime) -> Result<(), Fail> {
     let operand = Operand::Constant(Value::Int(5));
-    let five = Use { at: 13, operand };
+    let five = Use {
+        at: 13,
+        purpose: Purpose::Read,
+        operand,
+    };
     let nested = Instruction::Deferred {
         operator: Operator::Sub,
         nested: content(rt.alloc())?,
@@ -175,17 +196,19 @@ fn uses_of_lines(rt: HostRuntime) -> Result<(), Fail> {
     let uses = uses_of(rt.alloc(), Some(nested))?;
     assert_eq!(rt;
         uses.as_slice(),
-        [name(20, 1), name(30, 2), name(35, 3), name(42, 4)].as_slice()
+        [read(20, 1), read(30, 2), read(35, 3), read(42, 4)].as_slice()
     );
     let uses = uses_of(rt.alloc(), Some(limit))?;
-    assert_eq!(rt; uses.as_slice(), [five, name(13, 1)].as_slice());
+    assert_eq!(rt; uses.as_slice(), [five, read(13, 1)].as_slice());
     let uses = uses_of(rt.alloc(), Some(called))?;
     assert_eq!(rt;
         uses.as_slice(),
-        [name(13, 8), name(13, 9), five].as_slice()
+        [name(13, Purpose::Call, 8), name(13, Purpose::Pass, 9), five].as_slice()
     );
-    let uses = uses_of(rt.alloc(), Some(Instruction::Set(6)))?;
-    assert_eq!(rt; uses.as_slice(), [name(13, 6)].as_slice());
+    for written in [store(6), Instruction::Set(6), Instruction::Reset(6)] {
+        let uses = uses_of(rt.alloc(), Some(written))?;
+        assert_eq!(rt; uses.as_slice(), [name(13, Purpose::Write, 6)].as_slice());
+    }
     let uses = uses_of(rt.alloc(), None)?;
     assert!(rt; uses.is_empty());
     Ok(())

@@ -8,7 +8,8 @@ ghost use Rattle.iltrees.specs.Rows.{sum, sum_unbounded, guarded};
 ghost use Rattle.iltrees.specs.declared.operand.Operand.TheVariants.{Name};
 ghost use Rattle.iltrees.specs.Rows.{Places, Uses, LabelIsEmpty};
 ghost use Rattle.iltrees.specs.Rows.{difference, five_to_block, limit, number};
-ghost use Rattle.iltrees.specs.Uses.{use_at};
+ghost use Rattle.iltrees.specs.Uses.{read_at, use_at};
+ghost use Rattle.iltrees.specs.declared.uses.Purpose.TheVariants as purposes;
 ghost use Rattle.iltrees.specs.Rows.{backward, nested, limited, sets, returning, call, call_and_store, ld, st};
 
 /// Results, stores outside a type and uses of no result.
@@ -51,9 +52,10 @@ fn places_and_uses()
     ensures limit { Places limit (20 ∷ 20 ∷ []) }
     ensures call { Places (five_to_block Always) (20 ∷ 20 ∷ []) }
     ensures conditional_call { Places (five_to_block IfFalse) (20 ∷ 20 ∷ 20 ∷ []) }
-    ensures uses_in_parentheses { Uses difference (use_at 20 (Name 1) ∷ use_at 28 (Name 2) ∷ []) }
-    ensures uses_of_limit { Uses limit (use_at 20 (number 3) ∷ use_at 20 (Name 1) ∷ []) }
+    ensures uses_in_parentheses { Uses difference (read_at 20 (Name 1) ∷ read_at 28 (Name 2) ∷ []) }
+    ensures uses_of_limit { Uses limit (read_at 20 (number 3) ∷ read_at 20 (Name 1) ∷ []) }
     ensures uses_of_call { Uses (five_to_block IfTrue)
-        (use_at 20 (Name 1) ∷ use_at 20 (Name 2) ∷ use_at 20 (number 5) ∷ []) }
+        (use_at 20 purposes.Call (Name 1) ∷ use_at 20 purposes.Pass (Name 2)
+        ∷ read_at 20 (number 5) ∷ []) }
     ensures label { LabelIsEmpty }
 {}

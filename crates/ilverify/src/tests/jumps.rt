@@ -4,7 +4,8 @@ ghost use Rattle.std.specs.Prelude.{◌≤ℤ◌};
 
 use crate::tests::{LEVEL, div, load};
 use crate::{VerifyError, verify};
-use ilcode::{Code, Instruction, Operand};
+use ilblocks::Kind;
+use ilcode::{Code, Instruction, Operand, Variable};
 use iloperators::{Condition, Operator};
 use iltypes::{IlType, Range, Value};
 use std::alloc::{AllocError, Global};
@@ -13,14 +14,14 @@ use std::test::Fail;
 /// The slots: x from 0 to 20, b of BOOL, y from 0 to 254, n from 0 to 5, and m from -3 to 3.
 const X: Operand = Operand::Slot(0);
 
-const B: Operand = Operand::Slot(1);
+pub(crate) const B: Operand = Operand::Slot(1);
 
-const N: Operand = Operand::Slot(3);
+pub(crate) const N: Operand = Operand::Slot(3);
 
 const M: Operand = Operand::Slot(4);
 
 /// The constants 0, 1, 2 and 100.
-const ZERO: Operand = Operand::Constant(0);
+pub(crate) const ZERO: Operand = Operand::Constant(0);
 
 const ONE: Operand = Operand::Constant(1);
 
@@ -30,25 +31,25 @@ const HUNDRED: Operand = Operand::Constant(3);
 
 const TO_X: Instruction = Instruction::Store {
     negated: false,
-    slot: 0,
+    variable: Variable::Slot(0),
 };
 
 const TO_Y: Instruction = Instruction::Store {
     negated: false,
-    slot: 2,
+    variable: Variable::Slot(2),
 };
 
 const TO_N: Instruction = Instruction::Store {
     negated: false,
-    slot: 3,
+    variable: Variable::Slot(3),
 };
 
 const EQ_ZERO: Instruction = Instruction::Apply(Operator::Eq, ZERO);
 
-const OPEN: Instruction = Instruction::Open(Operator::Add);
+pub(crate) const OPEN: Instruction = Instruction::Open(Operator::Add);
 
 /// JMP, and RET as a jump past the last word.
-fn jump(target: usize) -> Instruction {
+pub(crate) fn jump(target: usize) -> Instruction {
     Instruction::Jump {
         condition: Condition::Always,
         target,
@@ -56,7 +57,7 @@ fn jump(target: usize) -> Instruction {
 }
 
 /// JMPC.
-fn jump_if(target: usize) -> Instruction {
+pub(crate) fn jump_if(target: usize) -> Instruction {
     Instruction::Jump {
         condition: Condition::IfTrue,
         target,
@@ -77,7 +78,8 @@ fn number(lo: i64, hi: i64) -> IlType
     IlType::Int(Range { lo, hi })
 }
 
-/// The words, of which the second program begins at a place; all stand on line 1.
+/// The words, of which the second program begins at a place, with a GEAR_DO and a TON; all stand on
+/// line 1.
 fn code(alloc: Global, start: usize, words: &[Instruction]) -> Result<Option<Code>, AllocError> {
     if start > words.len() || words.len() > 65_536 {
         return Ok(None);
@@ -95,14 +97,19 @@ fn code(alloc: Global, start: usize, words: &[Instruction]) -> Result<Option<Cod
         number(0, 5),
         number(-3, 3),
     ]?;
+    let kinds = vec![in alloc; Kind::GearDo, Kind::Ton]?;
     let starts = vec![in alloc; 0usize, start]?;
     let lines = vec![in alloc; 1usize; words.len()]?;
     let words = Vec::from_slice(alloc, words)?;
-    Ok(Some(Code::new(1, constants, slots, starts, words, lines)))
+    Ok(Some(Code::new(1, constants, slots, kinds, starts, words, lines)))
 }
 
 /// The number of the cause and the word; 0 and the bound, where the code is accepted.
-fn verdict(alloc: Global, start: usize, words: &[Instruction]) -> Result<(u8, usize), Fail> {
+pub(crate) fn verdict(
+    alloc: Global,
+    start: usize,
+    words: &[Instruction],
+) -> Result<(u8, usize), Fail> {
     let Some(code) = code(alloc, start, words)? else {
         return Err("it is no code".into());
     };

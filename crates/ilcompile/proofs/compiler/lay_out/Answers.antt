@@ -8,9 +8,10 @@ use Rattle.ilcompile.proofs.compiler.lay_out.Goals as goal
 pub new-requires : goal.new-requires
 new-requires c =
     let laid =
-    parts_are c.args.buses c.args.text.now c.args.task.now _ _ _ _ _
+    parts_are c.args.buses c.args.text.now c.args.task.now _ _ _ _ _ _
     (c.in_ok-constants.ensures.items ∙ c.as_slice.ensures.value ∙ c.constants.ensures.value)
     (rw c.slots.ensures.value at c.in_ok-slots.ensures)
+    (rw c.blocks-2.ensures.value at c.in_ok-kinds.ensures)
     (rw c.instances.ensures.value at c.in_ok-starts.ensures.starts)
     (rw (c.constants-2.ensures.value, c.instances.ensures.value) at c.in_ok-starts.ensures.words)
     (rw c.instances-2.ensures.value at c.in_ok-lines.ensures) in
@@ -20,11 +21,12 @@ new-requires c =
 pub returns-clause-meaning : goal.returns-clause-meaning
 returns-clause-meaning c =
     let laid =
-    parts_are c.args.buses c.args.text.now c.args.task.now _ _ _ _ _
+    parts_are c.args.buses c.args.text.now c.args.task.now _ _ _ _ _ _
     (c.in_ok-constants.ensures.items ∙ c.as_slice.ensures.value ∙ c.constants.ensures.value)
     (rw c.slots.ensures.value at c.in_ok-slots.ensures)
+    (rw c.blocks-2.ensures.value at c.in_ok-kinds.ensures)
     (rw c.instances.ensures.value at c.in_ok-starts.ensures.starts)
     (rw (c.constants-2.ensures.value, c.instances.ensures.value) at c.in_ok-starts.ensures.words)
     (rw c.instances-2.ensures.value at c.in_ok-lines.ensures) in
-    subst (IsMeant c.args.task.now) (sym (c.new.ensures ∙ laid))
+    subst (IsMeant c.args.buses c.args.task.now) (sym (c.new.ensures ∙ laid))
     (is_meant c.args.buses c.args.text.now c.args.task.now c.requires.limits)

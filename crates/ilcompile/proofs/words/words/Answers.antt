@@ -1,19 +1,7 @@
-use Rattle.std.proofs.Common.{◌≡◌, ◌+◌, ◌∷◌, [], ◌++◌, length, drop, sym, ap, ◌∙◌, subst, arith}
-use Rattle.iltrees.specs.Words.{CallNothing}
-use Rattle.ilplan.specs.Plans.{all_lines}
+use Rattle.std.proofs.Common.{◌≡◌, ◌+◌, ◌∷◌, [], ◌++◌, length, drop, ap, ◌∙◌, subst, arith}
 use Rattle.ilcompile.specs.Layout.{words_of_programs, starts_from, programs_of}
-use Rattle.ilcompile.proofs.Sizes.{calls_front}
 use Rattle.ilcompile.proofs.TwoPasses.{the_next, ProgramsLeft, fewer_programs}
 use Rattle.ilcompile.proofs.words.words.Goals as goal
-
-pub push_lines-requires-clause-calls : goal.push_lines-requires-clause-calls
-push_lines-requires-clause-calls c =
-    let i = c.loop-instance.instance-index in
-    let all = c.args.instances.now in
-    let next = the_next all i c.instance-item.result c.loop-instance-test.true c.instance-item.is in
-    subst CallNothing (sym c.lines.ensures.value)
-    (calls_front c.instance-item.result.lines (all_lines (drop (i + 1) all))
-    (subst (λ xs. CallNothing (all_lines xs)) next c.loop-instance.invariant.calls))
 
 pub loop-instance-preserved : goal.loop-instance-preserved
 loop-instance-preserved c =
@@ -28,10 +16,10 @@ loop-instance-preserved c =
     subst
     (λ xs. ProgramsLeft c.args.constants.now (words_of_programs c.args.constants.now 0 (programs_of all))
     (starts_from 0 (programs_of all)) c.loop-instance.words.items c.loop-instance.starts.items xs)
-    next (record { words = old.words; starts = old.starts; limit = old.limit; calls = old.calls }) in
+    next (record { words = old.words; starts = old.starts; limit = old.limit }) in
     let fewer =
     fewer_programs c.args.constants.now (words_of_programs c.args.constants.now 0 (programs_of all))
     (starts_from 0 (programs_of all)) c.loop-instance.words.items c.push_lines.new.words.items
     c.loop-instance.starts.items c.push.new.self.items c.instance-item.result (drop (i + 1) all) left start
     (rw c.lines.ensures.value at c.in_ok-push_lines.ensures) in
-    record { words = fewer.words; starts = fewer.starts; limit = fewer.limit; calls = fewer.calls }
+    record { words = fewer.words; starts = fewer.starts; limit = fewer.limit }

@@ -1,6 +1,6 @@
 use Rattle.std.proofs.Common.{◌≡◌, ◌+◌, ◌≤◌, ◌++◌, length, drop}
 use Rattle.limits.specs.Limits.{most_words}
-use Rattle.iltrees.specs.Words.{CallNothing, words_of_lines}
+use Rattle.iltrees.specs.Words.{words_of_lines}
 use Rattle.ilplan.specs.Plans.{all_lines}
 use Rattle.ilcompile.specs.Layout.{words_of_programs, starts_from, programs_of}
 use Rattle.ilcompile.proofs.words.words.Given as goal
@@ -14,5 +14,4 @@ invariant-loop-instance l = record {
       ++ starts_from (length l.words.items) (programs_of (drop l.instance-index l.instances))
       ≡ starts_from 0 (programs_of l.instances);
   limit : length l.words.items + words_of_lines (all_lines (drop l.instance-index l.instances)) ≤ most_words;
-  calls : CallNothing (all_lines (drop l.instance-index l.instances));
 }

@@ -1,18 +1,7 @@
-use Rattle.std.proofs.Common.{sym, ◌∙◌, ap}
-use Rattle.ilranges.specs.WordSteps.{may_modify}
-use Rattle.ilranges.proofs.LeastStores.{no_slot, nothing_stored, neither_stored}
+use Rattle.ilranges.proofs.LeastWrites.{store_to_output}
 use Rattle.ilranges.proofs.rules.store.Goals as goal
 
-pub returns-in-Some-None : goal.returns-in-Some-None
-returns-in-Some-None c =
-    rw (c.in-Some-None.is-0, c.in-Some-None.is-1, c.if_right.ensures)
-    (no_slot c.args.negated _ c.may_modify.result (sym c.may_modify.ensures))
-
-pub returns-in-None-Some : goal.returns-in-None-Some
-returns-in-None-Some c =
-    rw (c.in-None-Some.is-0, c.in-None-Some.is-1, c.if_right-in-None-Some.ensures)
-    (nothing_stored c.args.negated _ c.may_modify-right.result
-    (sym (c.may_modify-right.ensures ∙ ap (may_modify c.args.negated) c.of.ensures.value)))
-
-pub returns-in-None-None : goal.returns-in-None-None
-returns-in-None-None c = rw (c.in-None-None.is-0, c.in-None-None.is-1) (neither_stored c.args.negated)
+pub returns-else-writable : goal.returns-else-writable
+returns-else-writable c =
+    store_to_output c.args.negated c.args.current c.args.declared c.args.writable c.in_ok-stored.stored
+    c.if-writable.false c.in_ok-stored.ensures

@@ -1,6 +1,6 @@
 use Rattle.std.proofs.Common.{List, subst}
 use Rattle.std.proofs.lemmas.List.{take_all}
-use Rattle.ilsource.specs.Programs.{Variables}
+use Rattle.ilsource.specs.Programs.{DeclaredNames}
 use Rattle.ilscope.specs.Faults.{IsLeastOf, SomeOf}
 use Rattle.ilscope.specs.Kept.{types_in}
 use Rattle.ilscope.specs.ScopeSteps.{IsFaultIn}
@@ -15,18 +15,13 @@ loop-declaration-preserved c =
     c.declaration-item.result c.loop-declaration.least c.fault_of-fault.result c.loop-declaration-test.true
     c.declaration-item.is
     c.loop-declaration.invariant
-    (subst (λ (d : Variables). IsLeastOf (IsFaultIn (types_in c.args.lower.now c.args.types.now) d)
+    (subst (λ (d : DeclaredNames). IsLeastOf (IsFaultIn (types_in c.args.lower.now c.args.types.now) d)
     c.fault_of-fault.result)
-    (λ i. record {
-      names = c.names.ensures i;
-      specification = c.specification.ensures i;
-      initial =
-          c.initial.ensures i;
-    }) c.fault_of-fault.ensures))
+    (λ i. record { names = c.names.ensures i; declared = c.declared.ensures i }) c.fault_of-fault.ensures))
 
 pub returns : goal.returns
 returns c =
-    subst (λ (ds : List Variables). IsLeastOf
+    subst (λ (ds : List DeclaredNames). IsLeastOf
     (λ place cause. SomeOf (λ d. IsFaultIn (types_in c.args.lower.now c.args.types.now) d place cause) ds)
     c.loop-declaration.least)
     (take_all c.loop-declaration.declaration-index c.args.declarations.now c.loop-declaration-test.false)

@@ -3,6 +3,7 @@ use Rattle.std.proofs.lemmas.List.{take_all}
 use Rattle.iltrees.specs.declared.instruction.Line.{Line}
 use Rattle.ilsource.specs.Names.{folded}
 use Rattle.ilsource.specs.declared.name.Name.{Name}
+use Rattle.ilsource.specs.declared.symbol.Symbol.{Symbol}
 use Rattle.ilscope.specs.Faults.{IsLeastOf, IsTwiceIn}
 use Rattle.ilscope.specs.ScopeSteps.{OfCause}
 use Rattle.ilscope.specs.declared.fault.NameCause.TheVariants.{Twice}
@@ -17,7 +18,7 @@ loop-number-preserved c =
     record {
       numbers =
           numbered_more text c.args.lines.now c.loop-number.number c.index-lines-number.result c.loop-number-test.true
-          c.index-lines-number.is c.loop-number.numbers c.add_label.new.numbers c.in_ok-again.ensures.numbers
+          c.index-lines-number.is c.loop-number.numbers c.add_name.new.numbers c.in_ok-again.ensures.numbers
           c.loop-number.invariant.numbers;
       twice =
           rw c.lesser_of-least.ensures
@@ -30,11 +31,11 @@ loop-number-preserved c =
 
 pub returns-clause-numbers : goal.returns-clause-numbers
 returns-clause-numbers c =
-    subst (λ (ls : List (Line Name Name)). AreNumbered c.args.scope.now.text ls c.loop-number.numbers)
+    subst (λ (ls : List (Line Symbol Name)). AreNumbered c.args.scope.now.text ls c.loop-number.numbers)
     (take_all c.loop-number.number c.args.lines.now c.loop-number-test.false) c.loop-number.invariant.numbers
 
 pub returns-clause-twice : goal.returns-clause-twice
 returns-clause-twice c =
-    subst (λ (ls : List (Line Name Name)). IsLeastOf
+    subst (λ (ls : List (Line Symbol Name)). IsLeastOf
     (OfCause Twice (IsTwiceIn (folded c.args.scope.now.text) (labels_of ls))) c.loop-number.least)
     (take_all c.loop-number.number c.args.lines.now c.loop-number-test.false) c.loop-number.invariant.twice

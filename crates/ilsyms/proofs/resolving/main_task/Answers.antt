@@ -9,7 +9,6 @@ pub new-requires : goal.new-requires
 new-requires c =
     subst (λ (t : PlannedTask). KeepsLimits t)
     (λ i. task_of
-    (sym c.in_ok-name.ensures.ok i) false (sym c.requires.slots i) (sym c.requires.constants i)
-    (sym c.in_ok-instances.ensures.instances i))
-    (keeps_limits c.args.scope.now c.requires.named c.in_ok-instances.ensures.shallow
-    c.in_ok-instances.ensures.calls (initials_typed c.args.scope.now))
+    (sym c.in_ok-name.ensures.ok i) false (sym c.requires.slots i) (sym c.requires.blocks i)
+    (sym c.requires.constants i) (sym c.in_ok-instances.ensures.instances i))
+    (keeps_limits c.args.scope.now c.requires.named c.in_ok-instances.ensures.shallow (initials_typed c.args.scope.now))

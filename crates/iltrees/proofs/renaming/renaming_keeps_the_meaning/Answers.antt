@@ -1,5 +1,5 @@
 use Rattle.iltrees.proofs.KeptMeaning.{renamed_same, scan_same, operand_same}
-use Rattle.iltrees.proofs.KeptSizes.{places_kept, still_shallow, still_calling_nothing, pieces_same, uses_kept}
+use Rattle.iltrees.proofs.KeptSizes.{places_kept, still_shallow, pieces_same, uses_kept}
 use Rattle.iltrees.proofs.renaming.renaming_keeps_the_meaning.Goals as goal
 
 pub returns-clause-passes : goal.returns-clause-passes
@@ -18,7 +18,6 @@ returns-clause-sizes g c =
     λ new label line. (
       places_kept new label line.at line.instruction,
       still_shallow new label line.instruction,
-      still_calling_nothing new label line.instruction,
     )
 
 pub returns-clause-pieces : goal.returns-clause-pieces

@@ -42,8 +42,8 @@ follow_ways-requires-clause-bounded c =
     subst (λ (x : Option Entry). AreBounded code n (slice_set pending n x)) (sym c.take.ensures.after)
     (rest_bounded code n pending c.requires.found.bounded)
 
-pub returns-in-Ok-follow_ways : goal.returns-in-Ok-follow_ways
-returns-in-Ok-follow_ways c =
+pub returns-in_ok-follow_ways-in-Ok : goal.returns-in_ok-follow_ways-in-Ok
+returns-in_ok-follow_ways-in-Ok c =
     let code = c.args.code.now in
     let pending = c.args.pending.now.items in
     let n = c.args.place in
@@ -60,7 +60,7 @@ returns-in-Ok-follow_ways c =
     let ways = subst
     (λ (x : Option Entry). AreFollowed code n word entry changes
     (slice_set pending n x) c.follow_ways.new.pending.items)
-    c.take.ensures.after c.in-Ok-follow_ways.ensures in
+    c.take.ensures.after c.in_ok-follow_ways-in-Ok.ensures in
     found_next code n entry word changes pending c.follow_ways.new.pending.items f (e ∙ ap Some c.in-Some.is)
     c.word_at-word.ensures.value rule ways
 

@@ -24,12 +24,13 @@ returns-then-is_retried t c =
       rest_is = c.split_at.ensures.back;
       sends = c.push_attempt.ensures;
     } in
-    let told : IsTrue true ↔ ((slice_index_or c.args.marks.now c.in_ok-end.end Quiet ≡ Lost) × (0 < c.args.retries)) =
+    let last_lost : IsTrue true ↔
+    ((slice_index_or c.args.marks.now c.in_ok-end.end Quiet ≡ Lost) × (0 < c.args.retries)) =
     c.if-is_retried.ensures in
     step_retried c.args.transaction.now c.args.retries c.args.marks.now c.in_ok-end.end c.frames-frames.result.now
     c.first_priority.result c.split_at.result.0.now c.split_at.result.1.now c.args.sent.now.items
     c.push_attempt.new.sent.items c.read_attempts.new.sent.items c.read_attempts.result
-    step (told.0 refl).0 (told.0 refl).1 c.read_attempts.ensures
+    step (last_lost.0 refl).0 (last_lost.0 refl).1 c.read_attempts.ensures
 
 pub returns-then-is_empty : goal.returns-then-is_empty
 returns-then-is_empty t c =
@@ -43,13 +44,14 @@ returns-then-is_empty t c =
       rest_is = c.split_at.ensures.back;
       sends = c.push_attempt.ensures;
     } in
-    let told : IsTrue false ↔ ((slice_index_or c.args.marks.now c.in_ok-end.end Quiet ≡ Lost) × (0 < c.args.retries)) =
+    let last_lost : IsTrue false ↔
+    ((slice_index_or c.args.marks.now c.in_ok-end.end Quiet ≡ Lost) × (0 < c.args.retries)) =
     c.if-is_retried.ensures in
     step_last c.args.transaction.now c.args.retries c.args.marks.now c.in_ok-end.end c.frames-frames.result.now
     c.first_priority.result c.split_at.result.0.now c.split_at.result.1.now c.args.sent.now.items
     c.push_attempt.new.sent.items
     step (empty_at _ c.if-is_empty.ensures)
-    (none_left c.args.retries (slice_index_or c.args.marks.now c.in_ok-end.end Quiet ≡ Lost) told.1)
+    (none_left c.args.retries (slice_index_or c.args.marks.now c.in_ok-end.end Quiet ≡ Lost) last_lost.1)
 
 pub returns-else-is_empty : goal.returns-else-is_empty
 returns-else-is_empty t c =
@@ -63,10 +65,11 @@ returns-else-is_empty t c =
       rest_is = c.split_at.ensures.back;
       sends = c.push_attempt.ensures;
     } in
-    let told : IsTrue false ↔ ((slice_index_or c.args.marks.now c.in_ok-end.end Quiet ≡ Lost) × (0 < c.args.retries)) =
+    let last_lost : IsTrue false ↔
+    ((slice_index_or c.args.marks.now c.in_ok-end.end Quiet ≡ Lost) × (0 < c.args.retries)) =
     c.if-is_retried.ensures in
     step_none c.args.transaction.now c.args.retries c.args.marks.now c.in_ok-end.end c.frames-frames.result.now
     c.first_priority.result c.split_at.result.0.now c.split_at.result.1.now c.args.sent.now.items
     c.push_attempt.new.sent.items
     step (filled_at c.split_at.result.1.now c.if-is_empty.ensures)
-    (none_left c.args.retries (slice_index_or c.args.marks.now c.in_ok-end.end Quiet ≡ Lost) told.1)
+    (none_left c.args.retries (slice_index_or c.args.marks.now c.in_ok-end.end Quiet ≡ Lost) last_lost.1)

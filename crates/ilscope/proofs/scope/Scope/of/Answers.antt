@@ -17,14 +17,14 @@ invariant_of-result c =
     let lower : List ℕ = c.in_ok-lower.lower.items in
     let gathered = c.in_ok-programs.field-0 in
     rw c.lesser_of.ensures
-    (whole_scope tree lower gathered.types gathered.programs.items gathered.numbers.items gathered.least
+    (whole_scope tree lower gathered.types gathered.programs.items gathered.variable_numbers.items gathered.block_numbers.items gathered.least
     c.in_ok-twice.twice
     (c.in_ok-lower.ensures ∙ ap lowered c.text.ensures)
     (subst
-    (λ (l : List ℕ). IsGathered l tree.elements gathered.types gathered.programs.items gathered.numbers.items
+    (λ (l : List ℕ). IsGathered l tree.elements gathered.types gathered.programs.items gathered.variable_numbers.items gathered.block_numbers.items
     gathered.least) c.deref.ensures.value
     (subst (λ (es : List Element). IsGathered c.deref.result.now es gathered.types gathered.programs.items
-    gathered.numbers.items gathered.least)
+    gathered.variable_numbers.items gathered.block_numbers.items gathered.least)
     c.elements.ensures c.in_ok-programs.ensures))
     (subst (λ (l : List ℕ). IsLeastOf (OfCause Twice (IsTwiceIn (text_of l) (map name_of tree.elements)))
     c.in_ok-twice.twice) c.deref-2.ensures.value

@@ -2,7 +2,7 @@ use Rattle.std.proofs.Common.{ap, sym, subst, ◌∙◌, ◌++◌, [], List, tak
 use Rattle.std.specs.Prelude.{None}
 use Rattle.iltrees.specs.declared.uses.Use.{Use}
 use Rattle.ilsource.specs.Programs.{Written}
-use Rattle.ilsource.specs.declared.name.Name.{Name}
+use Rattle.ilsource.specs.declared.symbol.Symbol.{Symbol}
 use Rattle.ilsyms.specs.CountingSteps.{AreCounted}
 use Rattle.ilsyms.specs.Variables.{lines_of, uses_of}
 use Rattle.ilsyms.proofs.CountedUses.{none_counted}
@@ -24,5 +24,5 @@ loop-program-preserved c =
     c.deref.ensures.value ∙ c.in_ok-uses.ensures ∙ ap (λ (p : Written). uses_of p.lines) c.program.ensures.value
     in
     subst
-    (λ (us : List (Use Name)). AreCounted us c.add_uses.new.self.constants c.add_uses.new.self.excess)
-    (ap (λ (us : List (Use Name)). front ++ us) uses ∙ sym more) counted
+    (λ (us : List (Use Symbol)). AreCounted us c.add_uses.new.self.constants c.add_uses.new.self.excess)
+    (ap (λ (us : List (Use Symbol)). front ++ us) uses ∙ sym more) counted

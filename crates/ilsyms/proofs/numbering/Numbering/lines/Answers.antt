@@ -3,12 +3,7 @@ use Rattle.std.proofs.lemmas.List.{take_all, map-append}
 use Rattle.iltrees.specs.Renaming.{rename_line}
 use Rattle.ilscope.proofs.Least.{take_more}
 use Rattle.ilsyms.specs.PlanningSteps.{label_of, numbers}
-use Rattle.ilsyms.proofs.CallingNothing.{calls_at}
 use Rattle.ilsyms.proofs.numbering.Numbering.lines.Goals as goal
-
-pub line-requires : goal.line-requires
-line-requires c =
-    calls_at c.args.lines.now c.loop-line.line-index c.line-item.result c.line-item.is c.loop-line-test.true c.requires
 
 pub loop-line-preserved : goal.loop-line-preserved
 loop-line-preserved c =

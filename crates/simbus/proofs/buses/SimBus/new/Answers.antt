@@ -14,7 +14,13 @@ invariant_of-result c = record {
       (ap reverse c.new-2.ensures.items);
   sent_spare = omega (arith, c.new-2.ensures.len);
   heard_spare = omega (arith, c.new-3.ensures.len);
-  room = omega (arith, c.in_ok-with_capacity.ensures.len, c.in_ok-with_capacity.ensures.capacity, c.from_vec.ensures.len, c.len.ensures);
+  room = omega (
+    arith,
+    c.in_ok-with_capacity.ensures.len,
+    c.in_ok-with_capacity.ensures.capacity,
+    c.from_vec.ensures.len,
+    c.len.ensures,
+  );
 }
 
 pub returns : goal.returns

@@ -6,9 +6,9 @@ use Rattle.simbus.proofs.clocks.ScriptedClock.of.Goals as goal
 
 pub invariant_of-result : goal.invariant_of-result
 invariant_of-result c =
-    let entries : c.lines.result.now ≡ c.args.scenario.now = c.lines.ensures.entries in
+    let statements : c.lines.result.now ≡ c.args.scenario.now = c.lines.ensures.statements in
     let moments : c.in_ok-moments.moments.items ≡ ticks c.args.scenario.now = c.in_ok-moments.ensures
-    ∙ ap ticks entries in
+    ∙ ap ticks statements in
     record {
       never_fall =
           subst (λ (ms : List ℕ). AllPairs (λ earlier later. earlier ≤ later) ms) (sym moments)

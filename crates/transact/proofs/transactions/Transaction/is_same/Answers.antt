@@ -8,7 +8,7 @@ use Rattle.daliframe.specs.contracts.forward.FramePartialEq.TheImpl as frames
 use Rattle.gearcmd.specs.FrameLists.{FrameList}
 use Rattle.transact.proofs.transactions.Transaction.is_same.Goals as goal
 
--- `==` tells frames apart
+-- `==` holds of the same frames alone
 same_frame : (a b : Frame) → Decides (frames.eq-value.it a b) (a ≡ b)
 same_frame (Forward16 a) (Forward16 b) = Decides-like _ (λ e. ap Forward16 e) (λ e. cc) (Decides-eqb a b)
 same_frame (Forward24 a) (Forward24 b) = Decides-like _ (λ e. ap Forward24 e) (λ e. cc) (Decides-eqb a b)

@@ -1,0 +1,5 @@
+pub mod Blocks
+pub mod Inputs
+pub mod Parts
+pub mod Ports
+pub mod Stores

@@ -1,0 +1,113 @@
+-- The ports of function blocks (IEC 61131-3, 2.5.2.3; profile for request blocks).
+use Rattle.std.specs.Prelude.{ℕ, ℤ, pos, negsuc, ◌-◌, ◌≤ℤ◌, int_le, List, map, Bool, true, false, T}
+use Rattle.std.specs.Prelude.{Option, Some, None, slice_get, codes, option_and_then}
+use Rattle.std.specs.List.{position}
+use Rattle.std.specs.Str.{str_eq_ignore_ascii_case}
+use Rattle.iltypes.specs.declared.value.IlType.{IlType}
+use Rattle.iltypes.specs.declared.value.IlType.TheVariants as types
+use Rattle.iltypes.specs.declared.value.Value.{Value}
+use Rattle.iltypes.specs.declared.value.Value.TheVariants as values
+use Rattle.ilblocks.specs.declared.kind.Kind.{Kind}
+use Rattle.ilblocks.specs.declared.kind.Kind.TheVariants as kinds
+use Rattle.ilblocks.specs.declared.port.Direction.{Direction}
+use Rattle.ilblocks.specs.declared.port.Direction.TheVariants.{Input, Output}
+use Rattle.ilblocks.specs.declared.port.Port.{Port}
+use Rattle.ilblocks.specs.declared.port.PortName.{PortName}
+use Rattle.ilblocks.specs.declared.port.PortName.TheVariants as port_names
+use Rattle.ilblocks.specs.declared.port.PortValues.{PortValues}
+use Rattle.ilblocks.specs.declared.port.PortValues.TheVariants.{Truth, Int, UpTo, Bus}
+use Rattle.ilblocks.specs.declared.port.TheConstants as tables
+
+-- the ports of a kind, in the order of their numbers, by its table
+abbrev pub ports_of : Kind → List Port
+ports_of kinds.RTrig = tables.R_TRIG
+ports_of kinds.Ctu = tables.CTU
+ports_of kinds.Ton = tables.TON
+ports_of kinds.GearLevel = tables.GEAR_LEVEL
+ports_of kinds.GearDo = tables.GEAR_DO
+ports_of kinds.GearSet = tables.GEAR_SET
+ports_of kinds.GearPair = tables.GEAR_PAIR
+ports_of kinds.GearAsk = tables.GEAR_ASK
+ports_of kinds.GearRead = tables.GEAR_READ
+ports_of kinds.DevDo = tables.DEV_DO
+ports_of kinds.DevScheme = tables.DEV_SCHEME
+ports_of kinds.DevAsk = tables.DEV_ASK
+
+-- whether a call may make a request
+abbrev pub makes_requests : Kind → Bool
+makes_requests kinds.RTrig = false
+makes_requests kinds.Ctu = false
+makes_requests kinds.Ton = false
+makes_requests _ = true
+
+-- a range is ordered, so there is one where a test shows that
+abbrev pub range_if : (low high : ℤ) (is : Bool) → (T is → low ≤ℤ high) → IlType
+range_if low high true ordered = types.Int (record { lo = low; hi = high; ordered = ordered tt })
+range_if low high false ordered = types.Bool
+
+-- the whole numbers from low to high
+abbrev pub numbers : ℤ → ℤ → IlType
+numbers low high = range_if low high (int_le low high) (λ is. record { le = is })
+
+-- the type of a port, on so many buses
+abbrev pub type_of : ℕ → PortValues → IlType
+type_of buses Truth = types.Bool
+type_of buses Int = numbers (negsuc 32767) (pos 32767)
+type_of buses (UpTo greatest) = numbers (pos 0) (pos greatest)
+type_of buses Bus = numbers (pos 0) (pos (buses - 1))
+
+abbrev pub types_of_ports : ℕ → Kind → List IlType
+types_of_ports buses kind = map (λ port. type_of buses port.values) (ports_of kind)
+
+-- the type of the port of this number, where the kind has it
+abbrev pub port_type : ℕ → Kind → ℕ → Option IlType
+port_type buses kind port = slice_get (types_of_ports buses kind) port
+
+-- the type of a port that programs store to
+abbrev pub type_if_input : ℕ → Direction → PortValues → Option IlType
+type_if_input buses Input port = Some (type_of buses port)
+type_if_input buses Output port = None
+
+-- the type of the input of this number; none where the kind has none, or an output there
+abbrev pub input_type : ℕ → Kind → ℕ → Option IlType
+input_type buses kind port =
+    option_and_then (λ p. type_if_input buses p.direction p.values) (slice_get (ports_of kind) port)
+
+-- how a port's name is written
+abbrev pub spelling : PortName → List ℕ
+spelling port_names.Clk = codes "CLK"
+spelling port_names.Q = codes "Q"
+spelling port_names.Cu = codes "CU"
+spelling port_names.R = codes "R"
+spelling port_names.Pv = codes "PV"
+spelling port_names.Cv = codes "CV"
+spelling port_names.In = codes "IN"
+spelling port_names.Pt = codes "PT"
+spelling port_names.Et = codes "ET"
+spelling port_names.Req = codes "REQ"
+spelling port_names.Bus = codes "BUS"
+spelling port_names.Adr = codes "ADR"
+spelling port_names.Level = codes "LEVEL"
+spelling port_names.Cmd = codes "CMD"
+spelling port_names.Data = codes "DATA"
+spelling port_names.Bank = codes "BANK"
+spelling port_names.Offset = codes "OFFSET"
+spelling port_names.Inst = codes "INST"
+spelling port_names.Scheme = codes "SCHEME"
+
+-- the name is that of the port, in any letter case (IEC 61131-3, 2.1.2)
+abbrev pub is_named : List ℕ → Port → Bool
+is_named name port = str_eq_ignore_ascii_case (spelling port.name) name
+
+-- the number of the first port with the name
+abbrev pub port_named : Kind → List ℕ → Option ℕ
+port_named kind name = position (is_named name) (ports_of kind)
+
+-- each port has FALSE or 0 at first
+abbrev pub first_of : PortValues → Value
+first_of Truth = values.Bool false
+first_of _ = values.Int (pos 0)
+
+-- no kind has more ports
+abbrev pub most_ports : ℕ
+most_ports = 5

@@ -1,0 +1,263 @@
+-- A run makes no more requests than its words may, and its moment stays.
+use Rattle.std.proofs.Common.{◌≡◌, ℕ, ◌+◌, ◌≤◌, List, [], ◌∷◌, ◌++◌, length, Bool, true, false, cond}
+use Rattle.std.proofs.Common.{Option, Some, None, refl, sym, ap, ◌∙◌, subst, arith}
+use Rattle.std.specs.Prelude.{slice_get, slice_set, nat_lt, ◌==◌}
+use Rattle.std.specs.Option.{option_map, option_and_then, option_map_or}
+use Rattle.std.proofs.lemmas.List.Sums.{sum_by_push}
+use Rattle.iltypes.specs.declared.value.Value.{Value}
+use Rattle.iltypes.specs.declared.value.Value.TheVariants as values
+use Rattle.iltypes.specs.Slots.{written}
+use Rattle.iloperators.specs.declared.operator.Operator.{Operator}
+use Rattle.iloperators.specs.Conditions.{holds}
+use Rattle.iloperators.specs.Functions.{modified, value_of_function}
+use Rattle.iloperators.specs.Operators.{both}
+use Rattle.limits.specs.Limits.{most_nesting}
+use Rattle.gearcmd.specs.declared.requests.Request.{Request}
+use Rattle.ilblocks.specs.declared.kind.Kind.{Kind}
+use Rattle.ilblocks.specs.declared.kind.Kind.TheVariants as kinds
+use Rattle.ilblocks.specs.Calls.{Block, requested, rises}
+use Rattle.ilblocks.specs.Ports.{makes_requests}
+use Rattle.ilblocks.specs.Stores.{Store, with_input, type_of_input, listed, after_block, called}
+use Rattle.ilcode.specs.declared.nesting.Opened.{Opened}
+use Rattle.ilcode.specs.declared.instruction.Instruction.{Instruction}
+use Rattle.ilcode.specs.declared.instruction.Instruction.TheVariants as words
+use Rattle.ilcode.specs.declared.instruction.Variable.{Variable}
+use Rattle.ilcode.specs.declared.instruction.Variable.TheVariants as variables
+use Rattle.ilcode.specs.Listings.{Listing, shape_of}
+use Rattle.ilcode.specs.Paths.{may_request, requests_on}
+use Rattle.ilcode.specs.Steps.{Configuration, at, opened, value_of, stored_at, with_result, with_store, sets, calls}
+use Rattle.ilcode.specs.Steps.{opens, closes, is_target, goes_to, jumps}
+use Rattle.ilcode.specs.Steps.{effect, is_start, if_closed, entered, step_by, step}
+
+-- the second store has at most so many requests more
+record Adds (most : ℕ) (from to : Store) : Type 0 where
+  few : length to.requests ≤ length from.requests + most
+  moment : to.moment ≡ from.moment
+
+adds_none : (s : Store) → Adds 0 s s
+adds_none s = record { few = omega arith; moment = refl }
+
+-- ---- stores and calls
+
+slots_add : (s t : Store) (o : Option (List Value)) → option_map (λ slots. record s { slots = slots }) o ≡ Some t
+    → Adds 0 s t
+slots_add s t None e = absurd (cc)
+slots_add s t (Some slots) e =
+    let same : record s { slots = slots } ≡ t = cc in
+    subst (Adds 0 s) same (record { few = omega arith; moment = refl })
+
+blocks_add : (s t : Store) (block : ℕ) (o : Option Block)
+    → option_map (λ b. record s { blocks = slice_set s.blocks block b }) o ≡ Some t → Adds 0 s t
+blocks_add s t block None e = absurd (cc)
+blocks_add s t block (Some b) e =
+    let same : record s { blocks = slice_set s.blocks block b } ≡ t = cc in
+    subst (Adds 0 s) same (record { few = omega arith; moment = refl })
+
+stored_adds : (code : Listing) (s t : Store) (variable : Variable) (value : Value)
+    → stored_at code s variable value ≡ Some t → Adds 0 s t
+stored_adds code s t (variables.Slot slot) value e = slots_add s t (written code.slots s.slots slot value) e
+stored_adds code s t (variables.Port block port) value e =
+    let type = type_of_input (shape_of code) block port in
+    blocks_add s t block (option_and_then (λ b. with_input b port value type) (slice_get s.blocks block)) e
+
+maybe_stored_adds : (code : Listing) (s t : Store) (variable : Variable) (o : Option Value)
+    → option_and_then (stored_at code s variable) o ≡ Some t → Adds 0 s t
+maybe_stored_adds code s t variable None e = absurd (cc)
+maybe_stored_adds code s t variable (Some value) e = stored_adds code s t variable value e
+
+never : (rises : Bool) (request : Option Request) → request ≡ None → cond rises request None ≡ None
+never true request e = e
+never false request e = refl
+
+-- a call makes no request where its kind makes none, else at most one
+none_requested : (kind : Kind) (b : Block) → makes_requests kind ≡ false → requested kind b ≡ None
+none_requested kinds.RTrig b e = never (rises b) None refl
+none_requested kinds.Ctu b e = never (rises b) None refl
+none_requested kinds.Ton b e = never (rises b) None refl
+none_requested kinds.GearLevel b e = absurd (cc)
+none_requested kinds.GearDo b e = absurd (cc)
+none_requested kinds.GearSet b e = absurd (cc)
+none_requested kinds.GearPair b e = absurd (cc)
+none_requested kinds.GearAsk b e = absurd (cc)
+none_requested kinds.GearRead b e = absurd (cc)
+none_requested kinds.DevDo b e = absurd (cc)
+none_requested kinds.DevScheme b e = absurd (cc)
+none_requested kinds.DevAsk b e = absurd (cc)
+
+listed_few : (o : Option Request) → length (listed o) ≤ 1
+listed_few None = omega arith
+listed_few (Some request) = omega arith
+
+long_both : (xs ys : List Request) → length (xs ++ ys) ≡ length xs + length ys
+long_both [] ys = omega arith
+long_both (x ∷ xs) ys = let e = long_both xs ys in omega arith
+
+-- so many requests are listed at most
+listed_by : (kind : Kind) (b : Block) (may : Bool) → makes_requests kind ≡ may
+    → length (listed (requested kind b)) ≤ cond may 1 0
+listed_by kind b true e = listed_few (requested kind b)
+listed_by kind b false e =
+    let none = ap (λ (o : Option Request). length (listed o)) (none_requested kind b e) in omega (arith, none)
+
+block_adds : (s t : Store) (kind : Kind) (block : ℕ) (o : Option Block)
+    → option_map (after_block kind s block) o ≡ Some t → Adds (cond (makes_requests kind) 1 0) s t
+block_adds s t kind block None e = absurd (cc)
+block_adds s t kind block (Some b) e =
+    let same : after_block kind s block b ≡ t = cc in
+    let long = long_both s.requests (listed (requested kind b)) in
+    let few = listed_by kind b (makes_requests kind) refl in
+    subst (Adds (cond (makes_requests kind) 1 0) s) same (record { few = omega (arith, long, few); moment = refl })
+
+call_adds : (s t : Store) (block : ℕ) (o : Option Kind)
+    → option_and_then (λ kind. option_map (after_block kind s block) (slice_get s.blocks block)) o ≡ Some t
+    → Adds (cond (option_map_or makes_requests o false) 1 0) s t
+call_adds s t block None e = absurd (cc)
+call_adds s t block (Some kind) e = block_adds s t kind block (slice_get s.blocks block) e
+
+-- ---- words
+
+made : (c d : Configuration) (place : ℕ) (store : Store) (result : Option Value) (nesting : List Opened)
+    → Some (at place store result nesting) ≡ Some d → store ≡ d.store
+made c d place store result nesting e =
+    let p : at place store result nesting ≡ d = cc in ap (λ (x : Configuration). x.store) p
+
+-- the store stays
+same_adds : (s t : Store) → s ≡ t → Adds 0 s t
+same_adds s t e = subst (Adds 0 s) e (adds_none s)
+
+result_adds : (c d : Configuration) (nesting : List Opened) (o : Option Value) → with_result c nesting o ≡ Some d
+    → Adds 0 c.store d.store
+result_adds c d nesting None e = absurd (cc)
+result_adds c d nesting (Some value) e =
+    same_adds c.store d.store (made c d (c.place + 1) c.store (Some value) nesting e)
+
+store_adds : (c d : Configuration) (o : Option Store) → ((t : Store) → o ≡ Some t → Adds 0 c.store t)
+    → with_store c o ≡ Some d → Adds 0 c.store d.store
+store_adds c d None adds e = absurd (cc)
+store_adds c d (Some t) adds e =
+    subst (Adds 0 c.store) (made c d (c.place + 1) t c.result c.nesting e) (adds t refl)
+
+calls_adds : (c d : Configuration) (most : ℕ) (o : Option Store)
+    → ((t : Store) → o ≡ Some t → Adds most c.store t) → calls c o ≡ Some d → Adds most c.store d.store
+calls_adds c d most None adds e = absurd (cc)
+calls_adds c d most (Some t) adds e =
+    subst (Adds most c.store) (made c d (c.place + 1) t None c.nesting e) (adds t refl)
+
+sets_adds : (code : Listing) (c d : Configuration) (variable : Variable) (truth : Bool) (result : Option Value)
+    → sets code c variable truth result ≡ Some d → Adds 0 c.store d.store
+sets_adds code c d variable truth None e = absurd (cc)
+sets_adds code c d variable truth (Some (values.Int n)) e = absurd (cc)
+sets_adds code c d variable truth (Some (values.Bool true)) e =
+    store_adds c d (stored_at code c.store variable (values.Bool truth))
+    (λ t h. stored_adds code c.store t variable (values.Bool truth) h) e
+sets_adds code c d variable truth (Some (values.Bool false)) e =
+    store_adds c d (Some c.store) (λ t h. let same : c.store ≡ t = cc in same_adds c.store t same) e
+
+room_adds : (c d : Configuration) (operator : Operator) (value : Value) (room : Bool)
+    → cond room (Some (at (c.place + 1) c.store None (opened operator value ∷ c.nesting))) None ≡ Some d
+    → Adds 0 c.store d.store
+room_adds c d operator value true e =
+    same_adds c.store d.store (made c d (c.place + 1) c.store None (opened operator value ∷ c.nesting) e)
+room_adds c d operator value false e = absurd (cc)
+
+opens_adds : (c d : Configuration) (operator : Operator) (result : Option Value) → opens c operator result ≡ Some d
+    → Adds 0 c.store d.store
+opens_adds c d operator None e = absurd (cc)
+opens_adds c d operator (Some value) e = room_adds c d operator value (nat_lt (length c.nesting) most_nesting) e
+
+closes_adds : (c d : Configuration) (nesting : List Opened) → closes c nesting ≡ Some d → Adds 0 c.store d.store
+closes_adds c d [] e = absurd (cc)
+closes_adds c d (innermost ∷ nesting) e =
+    result_adds c d nesting (both innermost.operator (Some innermost.saved) c.result) e
+
+goes_adds : (c d : Configuration) (place : ℕ) → Some (goes_to c place) ≡ Some d → Adds 0 c.store d.store
+goes_adds c d place e =
+    let p : goes_to c place ≡ d = cc in same_adds c.store d.store (ap (λ (x : Configuration). x.store) p)
+
+lawful_adds : (c d : Configuration) (target : ℕ) (lawful : Bool)
+    → cond lawful (Some (goes_to c target)) None ≡ Some d → Adds 0 c.store d.store
+lawful_adds c d target true e = goes_adds c d target e
+lawful_adds c d target false e = absurd (cc)
+
+jumps_adds : (code : Listing) (c d : Configuration) (target : ℕ) (nesting : List Opened) (met : Option Bool)
+    → jumps code c target nesting met ≡ Some d → Adds 0 c.store d.store
+jumps_adds code c d target [] None e = absurd (cc)
+jumps_adds code c d target [] (Some true) e = lawful_adds c d target (is_target code c.place target) e
+jumps_adds code c d target [] (Some false) e = goes_adds c d (c.place + 1) e
+jumps_adds code c d target (innermost ∷ nesting) met e = absurd (cc)
+
+-- a word makes no more requests than it may
+effect_adds : (code : Listing) (c d : Configuration) (word : Instruction) → effect code c word ≡ Some d
+    → Adds (cond (may_request code word) 1 0) c.store d.store
+effect_adds code c d (words.Load negated operand) e =
+    result_adds c d c.nesting (option_and_then (modified negated) (value_of code c.store operand)) e
+effect_adds code c d (words.Apply operator operand) e =
+    result_adds c d c.nesting (both operator c.result (value_of code c.store operand)) e
+effect_adds code c d (words.Transform function) e =
+    result_adds c d c.nesting (option_and_then (value_of_function function) c.result) e
+effect_adds code c d (words.Store negated variable) e =
+    let value = option_and_then (modified negated) c.result in
+    store_adds c d (option_and_then (stored_at code c.store variable) value)
+    (λ t h. maybe_stored_adds code c.store t variable value h) e
+effect_adds code c d (words.Set variable) e = sets_adds code c d variable true c.result e
+effect_adds code c d (words.Reset variable) e = sets_adds code c d variable false c.result e
+effect_adds code c d (words.Pass operand block port) e =
+    let variable = variables.Port block port in
+    let value = value_of code c.store operand in
+    store_adds c d (option_and_then (stored_at code c.store variable) value)
+    (λ t h. maybe_stored_adds code c.store t variable value h) e
+effect_adds code c d (words.Call block) e =
+    let kind = slice_get code.kinds block in
+    calls_adds c d (cond (option_map_or makes_requests kind false) 1 0) (called (shape_of code) c.store block)
+    (λ t h. call_adds c.store t block kind h) e
+effect_adds code c d (words.Open operator) e = opens_adds c d operator c.result e
+effect_adds code c d words.Close e = closes_adds c d c.nesting e
+effect_adds code c d (words.Jump condition target) e =
+    jumps_adds code c d target c.nesting (holds condition c.result) e
+
+-- ---- steps
+
+if_closed_store : (c d e : Configuration) (nesting : List Opened) → c.store ≡ d.store → if_closed nesting c ≡ Some e
+    → d.store ≡ e.store
+if_closed_store c d e [] p h = let q : c ≡ e = cc in sym p ∙ ap (λ (x : Configuration). x.store) q
+if_closed_store c d e (innermost ∷ nesting) p h = absurd (cc)
+
+entered_by : (c d : Configuration) (starts ends : Bool)
+    → cond starts (if_closed c.nesting (record c { result = None })) (cond ends (if_closed c.nesting c) (Some c))
+    ≡ Some d → c.store ≡ d.store
+entered_by c d true ends h = if_closed_store (record c { result = None }) c d c.nesting refl h
+entered_by c d false true h = if_closed_store c c d c.nesting refl h
+entered_by c d false false h = if_closed_store c c d [] refl h
+
+by_effect : (code : Listing) (c d : Configuration) (word : Instruction) (o : Option Configuration)
+    → effect code c word ≡ o → option_and_then (entered code) o ≡ Some d
+    → Adds (cond (may_request code word) 1 0) c.store d.store
+by_effect code c d word None e h = absurd (cc)
+by_effect code c d word (Some b) e h =
+    let same = entered_by b d (is_start code b.place) (b.place == length code.instructions) h in
+    subst (Adds (cond (may_request code word) 1 0) c.store) same (effect_adds code c b word e)
+
+step_adds : (code : Listing) (c d : Configuration) (o : Option Instruction) → step_by code c o ≡ Some d
+    → Adds (cond (option_map_or (may_request code) o false) 1 0) c.store d.store
+step_adds code c d None h = absurd (cc)
+step_adds code c d (Some word) h = by_effect code c d word (effect code c word) refl h
+
+-- ---- runs
+
+-- the second store is after no more requests than the words at these places may make, at the same moment
+pub record HasFew (code : Listing) (places : List ℕ) (from to : Store) : Type 0 where
+  pub few : length to.requests ≤ length from.requests + requests_on code places
+  pub moment : to.moment ≡ from.moment
+
+pub few_at_first : (code : Listing) (from : Store) → HasFew code [] from from
+few_at_first code from = record { few = omega arith; moment = refl }
+
+-- one step more
+pub few_more : (code : Listing) (places : List ℕ) (from : Store) (c d : Configuration)
+    → HasFew code places from c.store → step code c ≡ Some d → HasFew code (places ++ c.place ∷ []) from d.store
+few_more code places from c d h e =
+    let a = step_adds code c d (slice_get code.instructions c.place) e in
+    let may : ℕ → Bool =
+    λ place. option_map_or (may_request code) (slice_get code.instructions place) false in
+    let more = sum_by_push (λ (place : ℕ). cond (may place) 1 0) places c.place in
+    record { few = omega (arith, h.few, a.few, more); moment = a.moment ∙ h.moment }

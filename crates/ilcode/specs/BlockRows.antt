@@ -1,0 +1,95 @@
+-- Worked codes with the two block instances: t, a TON, and g, a GEAR_DO.
+use Rattle.std.specs.Prelude.{ℕ, Bool, true, false, List, [], ◌∷◌}
+use Rattle.iltypes.specs.declared.value.Value.TheVariants as values
+use Rattle.daliframe.specs.declared.addressing.Address.{Address}
+use Rattle.gearcmd.specs.declared.requests.Command.TheVariants as commands
+use Rattle.gearcmd.specs.declared.requests.Request.{Request}
+use Rattle.ilblocks.specs.declared.kind.Kind.TheVariants.{Ton, GearDo}
+use Rattle.ilblocks.specs.Calls.{Block, at_first}
+use Rattle.ilblocks.specs.Stores.{Store}
+use Rattle.ilcode.specs.declared.instruction.Instruction.{Instruction}
+use Rattle.ilcode.specs.declared.instruction.Instruction.TheVariants.{Load, Pass, Call, Set, Reset}
+use Rattle.ilcode.specs.declared.instruction.Instruction.TheVariants.{Store as St}
+use Rattle.ilcode.specs.declared.instruction.Operand.TheVariants.{Slot, Port}
+use Rattle.ilcode.specs.declared.instruction.Variable.TheVariants as variables
+use Rattle.ilcode.specs.Rows.{whole}
+
+-- t with these values of IN, PT, Q and ET, IN at its last call, and the moment at which that became TRUE
+abbrev pub timer : Bool → ℕ → Bool → ℕ → Bool → ℕ → Block
+timer input preset output elapsed before start =
+    record {
+      ports = values.Bool input ∷ whole preset ∷ values.Bool output ∷ whole elapsed ∷ [];
+      before = before;
+      start = start;
+    }
+
+-- g with these values of REQ, BUS, ADR and CMD, and REQ at its last call
+abbrev pub gear : Bool → ℕ → ℕ → ℕ → Bool → Block
+gear request bus address command before =
+    record {
+      ports = values.Bool request ∷ whole bus ∷ whole address ∷ whole command ∷ [];
+      before = before;
+      start = 0;
+    }
+
+abbrev pub no_timer : Block
+no_timer = at_first Ton
+
+abbrev pub no_gear : Block
+no_gear = at_first GearDo
+
+-- the store with these instances and requests
+abbrev pub with_blocks : Block → Block → List Request → Store → Store
+with_blocks t g requests store = record store { blocks = t ∷ g ∷ []; requests = requests }
+
+abbrev pub with_timer : Block → Store → Store
+with_timer t = with_blocks t no_gear []
+
+-- a GEAR_DO request on bus 0
+abbrev pub request : Address → ℕ → Request
+request address command = record { bus = 0; command = commands.GearDo address command }
+
+-- IN := d, PT := b
+abbrev pub pass_in : Instruction
+pass_in = Pass (Slot 3) 0 0
+
+abbrev pub pass_pt : Instruction
+pass_pt = Pass (Slot 1) 0 1
+
+-- CAL t, CAL g
+abbrev pub call_t : Instruction
+call_t = Call 0
+
+abbrev pub call_g : Instruction
+call_g = Call 1
+
+-- CAL t(IN := d, PT := b)
+abbrev pub timed : List Instruction
+timed = pass_in ∷ pass_pt ∷ call_t ∷ []
+
+-- LD t.Q, LD t.ET
+abbrev pub ld_q : Instruction
+ld_q = Load false (Port 0 2)
+
+abbrev pub ld_et : Instruction
+ld_et = Load false (Port 0 3)
+
+-- ST t.IN, STN t.IN, S t.IN, R t.IN, ST t.Q
+abbrev pub st_in : Instruction
+st_in = St false (variables.Port 0 0)
+
+abbrev pub stn_in : Instruction
+stn_in = St true (variables.Port 0 0)
+
+abbrev pub s_in : Instruction
+s_in = Set (variables.Port 0 0)
+
+abbrev pub r_in : Instruction
+r_in = Reset (variables.Port 0 0)
+
+abbrev pub st_q : Instruction
+st_q = St false (variables.Port 0 2)
+
+-- CAL g(REQ := d, ADR := a, CMD := b)
+abbrev pub requested : List Instruction
+requested = Pass (Slot 3) 1 0 ∷ Pass (Slot 0) 1 2 ∷ Pass (Slot 1) 1 3 ∷ call_g ∷ []

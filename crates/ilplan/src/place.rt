@@ -1,0 +1,12 @@
+//! Places in a store.
+
+/// What an instruction names, by numbers of variables, block instances and ports.
+#[derive(Clone, Copy, PartialEq, Eq, Debug)]
+pub enum Place {
+    /// The variable in the slot of this number.
+    Slot(usize),
+    /// A port of the block instance of this number.
+    Port { block: usize, port: usize },
+    /// The block instance of this number, which is called.
+    Block(usize),
+}

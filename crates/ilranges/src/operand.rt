@@ -1,0 +1,66 @@
+//! What is known of an operand, and what a store writes.
+
+ghost use Rattle.std.specs.Prelude.{◌≡◌};
+ghost use Rattle.ilblocks.specs.Stores.{type_of_port, type_of_input};
+ghost use Rattle.ilcode.specs.Listings.{shape_of};
+ghost use Rattle.ilranges.specs.Entries.{known_of, type_of_variable, may_write};
+
+use crate::entry::Entry;
+use crate::known::Known;
+use ilcode::{Code, Operand, Variable};
+use iltypes::IlType;
+
+/// The type of a port, where the code has the block instance and its kind the port.
+fn type_of_port(code: &Code, block: usize, port: usize) -> Option<IlType>
+    ensures { result ≡ type_of_port (shape_of code.now) block port }
+{
+    let buses = code.buses();
+    match code.kinds().get(block) {
+        Some(kind) => kind.port_type(buses, port),
+        None => None,
+    }
+}
+
+/// The type of an input, where the code has the block instance and its kind the input.
+fn type_of_input(code: &Code, block: usize, port: usize) -> Option<IlType>
+    ensures { result ≡ type_of_input (shape_of code.now) block port }
+{
+    let buses = code.buses();
+    match code.kinds().get(block) {
+        Some(kind) => kind.input_type(buses, port),
+        None => None,
+    }
+}
+
+/// What is known of an operand, where its table has it: of a port that it is of its type.
+pub(crate) fn known_of(code: &Code, entry: &Entry, operand: Operand) -> Option<Known>
+    ensures { result ≡ known_of code.now entry.now operand }
+{
+    match operand {
+        Operand::Slot(slot) => entry.slots.get(slot),
+        Operand::Constant(constant) => {
+            code.constants().get(constant).copied().map(Known::of_value)
+        }
+        Operand::Port { block, port } => type_of_port(code, block, port).map(Known::of),
+    }
+}
+
+/// The type of what a store writes, where its table has it.
+pub(crate) fn type_of_variable(code: &Code, variable: Variable) -> Option<IlType>
+    ensures { result ≡ type_of_variable code.now variable }
+{
+    match variable {
+        Variable::Slot(slot) => code.slots().get(slot).copied(),
+        Variable::Port { block, port } => type_of_port(code, block, port),
+    }
+}
+
+/// Whether a program may write it: a variable, or an input.
+pub(crate) fn may_write(code: &Code, variable: Variable) -> bool
+    ensures { result ≡ may_write code.now variable }
+{
+    match variable {
+        Variable::Slot(_) => true,
+        Variable::Port { block, port } => type_of_input(code, block, port).is_some(),
+    }
+}

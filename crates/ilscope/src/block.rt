@@ -1,0 +1,12 @@
+//! Block instances of a program.
+
+use ilblocks::Kind;
+use ilsource::Name;
+
+/// A function block instance of a program (IEC 61131-3, 2.5.2.2).
+#[derive(Clone, Copy, PartialEq, Eq, Debug)]
+pub struct DeclaredBlock {
+    /// The name in its declaration.
+    pub name: Name,
+    pub kind: Kind,
+}

@@ -1,0 +1,15 @@
+use Rattle.std.proofs.Common.{take}
+use Rattle.ilsource.specs.Names.{folded}
+use Rattle.ilscope.specs.Faults.{IsLeastOf, IsTwiceIn, SomeOf}
+use Rattle.ilscope.specs.ScopeSteps.{OfCause}
+use Rattle.ilscope.specs.declared.fault.NameCause.TheVariants.{Twice}
+use Rattle.ilsyms.specs.Faults.{ports_given}
+use Rattle.ilsyms.proofs.arguments.given_twice.Given as goal
+
+abbrev pub invariant-loop-line : goal.invariant-loop-line
+invariant-loop-line l =
+    IsLeastOf
+    (λ place cause.
+    SomeOf (λ line. OfCause Twice (IsTwiceIn (folded l.scope.text) (ports_given line.instruction)) place cause)
+    (take l.line-index l.lines))
+    l.least

@@ -1,0 +1,13 @@
+use Rattle.std.proofs.Common.{take}
+use Rattle.ilsource.specs.Names.{folded}
+use Rattle.ilscope.specs.Faults.{IsLeastOf, IsTwiceIn}
+use Rattle.ilscope.specs.ScopeSteps.{OfCause}
+use Rattle.ilscope.specs.declared.fault.NameCause.TheVariants.{Twice}
+use Rattle.ilsyms.proofs.GivenPorts.{given, AreKnown}
+use Rattle.ilsyms.proofs.arguments.given_twice_among.Given as goal
+
+abbrev pub invariant-loop-number : goal.invariant-loop-number
+invariant-loop-number l = record {
+  known : AreKnown l.fn.scope.text (given (take l.number l.fn.arguments)) l.given;
+  twice : IsLeastOf (OfCause Twice (IsTwiceIn (folded l.fn.scope.text) (given (take l.number l.fn.arguments)))) l.least;
+}

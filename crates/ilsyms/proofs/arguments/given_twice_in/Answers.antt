@@ -1,0 +1,17 @@
+use Rattle.std.proofs.Common.{List, ap, sym, subst}
+use Rattle.std.specs.Prelude.{IfOk}
+use Rattle.ilsource.specs.Names.{folded}
+use Rattle.ilsource.specs.declared.name.Name.{Name}
+use Rattle.ilscope.specs.Faults.{IsLeastOf, IsTwiceIn}
+use Rattle.ilscope.specs.ScopeSteps.{OfCause}
+use Rattle.ilscope.specs.declared.fault.NameCause.TheVariants.{Twice}
+use Rattle.ilsyms.specs.Faults.{ports_given}
+use Rattle.ilsyms.proofs.arguments.given_twice_in.Goals as goal
+
+pub returns-in-Some : goal.returns-in-Some
+returns-in-Some c =
+    subst
+    (λ (ports : List Name).
+    IfOk c.given_twice_by.result (λ found.
+    IsLeastOf (OfCause Twice (IsTwiceIn (folded c.args.scope.now.text) ports)) found))
+    (sym (ap ports_given c.in-Some.is)) c.given_twice_by.ensures

@@ -1,0 +1,12 @@
+use Rattle.std.proofs.Common.{take}
+use Rattle.ilscope.specs.Declarations.{declared_programs}
+use Rattle.ilscope.specs.Faults.{SomeOf, IsLeastOf}
+use Rattle.ilsyms.specs.LabelSteps.{IsFaultOfLines}
+use Rattle.ilsyms.proofs.lines.fault_of_lines.Given as goal
+
+abbrev pub invariant-loop-program : goal.invariant-loop-program
+invariant-loop-program l =
+    IsLeastOf
+    (λ place cause. SomeOf (λ p. IsFaultOfLines l.scope.text p.program.lines place cause)
+    (take l.program-index (declared_programs l.scope)))
+    l.least

@@ -1,0 +1,15 @@
+use Rattle.std.proofs.Common.{sym, subst}
+use Rattle.iltrees.specs.declared.operand.Operand.{Operand}
+use Rattle.ilsource.specs.declared.symbol.Symbol.{Symbol}
+use Rattle.ilscope.specs.Faults.{IsLeastOf}
+use Rattle.ilscope.specs.ScopeSteps.{OfCause}
+use Rattle.ilscope.specs.declared.fault.NameCause.TheVariants.{Unknown}
+use Rattle.ilsyms.specs.Faults.{IsUnknownOperand}
+use Rattle.ilsyms.proofs.unknown.unknown_use.Goals as goal
+
+pub returns : goal.returns
+returns c p at =
+    subst (λ (o : Operand Symbol). IsLeastOf
+    (OfCause Unknown (λ place. IsUnknownOperand c.args.scope.now.text p place c.args.used.purpose o))
+    c.unknown_symbol.result)
+    (sym c.in-Name.is) (c.unknown_symbol.ensures p at)

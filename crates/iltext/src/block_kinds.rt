@@ -1,0 +1,63 @@
+//! The kinds of function blocks, by their words (IEC 61131-3, 2.5.2.3; profile for requests).
+
+ghost use Rattle.std.specs.Prelude.{◌≡◌};
+ghost use Rattle.ilgrammar.specs.Items.{begins};
+ghost use Rattle.ilgrammar.specs.Results.{Gives};
+ghost use Rattle.iltext.specs.Declarations.{block_at, block, instances};
+
+use crate::roles::lookup;
+use crate::token::{Kind, Token};
+use ilblocks::Kind as BlockKind;
+use ilgrammar::ReadError;
+use iltokens::{Keyword, What};
+
+/// The kind of block that each word is.
+pub const BLOCKS: [(Keyword, BlockKind); 12] = [
+    (Keyword::RTrig, BlockKind::RTrig),
+    (Keyword::Ctu, BlockKind::Ctu),
+    (Keyword::Ton, BlockKind::Ton),
+    (Keyword::GearLevel, BlockKind::GearLevel),
+    (Keyword::GearDo, BlockKind::GearDo),
+    (Keyword::GearSet, BlockKind::GearSet),
+    (Keyword::GearPair, BlockKind::GearPair),
+    (Keyword::GearAsk, BlockKind::GearAsk),
+    (Keyword::GearRead, BlockKind::GearRead),
+    (Keyword::DevDo, BlockKind::DevDo),
+    (Keyword::DevScheme, BlockKind::DevScheme),
+    (Keyword::DevAsk, BlockKind::DevAsk),
+];
+
+/// The kind of block that a token is the word of.
+fn kind_of(kind: Kind) -> Option<BlockKind>
+    ensures { result ≡ block_at kind }
+{
+    match kind {
+        Kind::Good(What::Keyword(word)) => lookup(&BLOCKS, word),
+        _ => None,
+    }
+}
+
+/// A kind of function block.
+#[tactic(auto, unfolding(crate::specs::Declarations::block))]
+pub fn block<'a>(ts: &'a [Token]) -> Result<(BlockKind, &'a [Token]), ReadError<'a, Token>>
+    ensures { Gives (λ x. (x.0, x.1.now)) result (block.read ts.now) }
+{
+    match ts {
+        [first, rest @ ..] => match kind_of(first.kind) {
+            Some(kind) => Ok((kind, rest)),
+            None => Err(ReadError::Fault(ts)),
+        },
+        [] => Err(ReadError::Fault(ts)),
+    }
+}
+
+/// Whether the word of a kind of function block stands first.
+#[tactic(auto, unfolding(crate::specs::Declarations::instances, crate::specs::Declarations::block))]
+pub fn begins_instances(ts: &[Token]) -> bool
+    ensures { result ≡ begins instances ts.now }
+{
+    match ts {
+        [] => false,
+        [first, ..] => kind_of(first.kind).is_some(),
+    }
+}
