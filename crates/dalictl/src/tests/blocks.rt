@@ -28,6 +28,11 @@ const EACH_SECOND: &str = "PROGRAM p\n\
     LD c.CU\nSTN c.CU\nSTN g.REQ\nCAL c(PV := 2)\nCAL g(ADR := 80, CMD := 5)\n\
     LD c.CV\nST n\nLD c.Q\nST full\nEND_PROGRAM\n";
 
+/// A timer with the longest delay.
+const LONGEST: &str = "PROGRAM p\n\
+    VAR t : TON; e : TIME; q : BOOL; END_VAR\n\
+    LD TRUE\nST t.IN\nCAL t(PT := T#4294967295ms)\nLD t.ET\nST e\nLD t.Q\nST q\nEND_PROGRAM\n";
+
 /// Two programs on two buses: a question to gear 5, and then a level and an OFF to a group.
 const TWO_PROGRAMS: &str = "PROGRAM p\n\
     VAR ask : GEAR_ASK; END_VAR\n\
@@ -37,7 +42,7 @@ const TWO_PROGRAMS: &str = "PROGRAM p\n\
     LD TRUE\nST off.REQ\nST dim.REQ\n\
     CAL dim(ADR := 80, LEVEL := 254)\nCAL off(BUS := 1, ADR := 64)\nEND_PROGRAM\n";
 
-const ROWS: [Row; 9] = [
+const ROWS: [Row; 10] = [
     Row {
         text: TOGGLE,
         line: "step t.il main --scans 2",
@@ -75,6 +80,14 @@ const ROWS: [Row; 9] = [
             scan 1 steps 12 bound 12\n\
             scan 2 steps 12 bound 12\nrequest bus 0 class 4 FF05\n\
             p.n = 2\np.full = TRUE\n",
+    },
+    // The moments of the last scan have more than 32 bits.
+    Row {
+        text: LONGEST,
+        line: "step t.il main --scans 3 --every 4294967295",
+        status: 0,
+        printed: "scan 0 steps 8 bound 8\nscan 1 steps 8 bound 8\nscan 2 steps 8 bound 8\n\
+            p.e = 4294967295\np.q = TRUE\n",
     },
     Row {
         text: TWO_PROGRAMS,
@@ -130,16 +143,24 @@ fn senders(alloc: Global, many: usize) -> Result<String, AllocError> {
     Ok(text)
 }
 
-/// What one scan of that program prints.
-fn sent(alloc: Global, many: usize) -> Result<String, AllocError> {
-    let steps = 3 * many + 1;
-    let mut printed = format!(in alloc; "scan 0 steps {steps} bound {steps}\n")?;
-    for number in 0..many {
-        let address = 2 * number + 1;
-        printed.push_str(&format!(in alloc; "request bus 0 class 4 {address:02X}00\n")?)?;
-    }
-    Ok(printed)
-}
+/// What one scan of that program prints with 16 blocks.
+const SIXTEEN_SENT: &str = "scan 0 steps 49 bound 49\n\
+    request bus 0 class 4 0100\n\
+    request bus 0 class 4 0300\n\
+    request bus 0 class 4 0500\n\
+    request bus 0 class 4 0700\n\
+    request bus 0 class 4 0900\n\
+    request bus 0 class 4 0B00\n\
+    request bus 0 class 4 0D00\n\
+    request bus 0 class 4 0F00\n\
+    request bus 0 class 4 1100\n\
+    request bus 0 class 4 1300\n\
+    request bus 0 class 4 1500\n\
+    request bus 0 class 4 1700\n\
+    request bus 0 class 4 1900\n\
+    request bus 0 class 4 1B00\n\
+    request bus 0 class 4 1D00\n\
+    request bus 0 class 4 1F00\n";
 
 #[test]
 fn sixteen_requests_are_printed_in_order(rt: HostRuntime) -> Result<(), Fail> {
@@ -148,7 +169,7 @@ fn sixteen_requests_are_printed_in_order(rt: HostRuntime) -> Result<(), Fail> {
     let text = senders(alloc, 16)?;
     let machine = Machine::new(alloc, words, text.as_bytes(), b"");
     assert!(rt; run(&machine).number() == 0);
-    assert!(rt; shows(&machine.printed, &sent(alloc, 16)?));
+    assert!(rt; shows(&machine.printed, SIXTEEN_SENT));
     let text = senders(alloc, 17)?;
     let machine = Machine::new(alloc, words, text.as_bytes(), b"");
     assert!(rt; run(&machine).number() == 1);
