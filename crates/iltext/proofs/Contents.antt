@@ -14,9 +14,9 @@ use Rattle.ilgrammar.specs.declared.ReadError.TheVariants as errors
 use Rattle.ilgrammar.specs.Items.{◌>>=◌, Item, begins, many}
 use Rattle.ilgrammar.specs.Results.{Fails, extend}
 use Rattle.ilsource.specs.declared.symbol.Symbol.{Symbol}
-use Rattle.iltokens.specs.declared.lexed.Mark.TheVariants as marks
+use Rattle.iltokens.specs.declared.lexed.Delimiter.TheVariants as delimiters
 use Rattle.iltext.specs.declared.token.Token.{Token}
-use Rattle.iltext.specs.Terminals.{mark, closing, ended}
+use Rattle.iltext.specs.Terminals.{delimiter, closing, ended}
 use Rattle.iltext.specs.Operands.{operand}
 use Rattle.iltext.specs.Instructions.{TextInstruction, TextLine, line_of, grown, grows, grows_by}
 use Rattle.iltext.specs.Instructions.{on_operand, on_content, on_either, beginning, applied, inner, content_of, content}
@@ -93,14 +93,14 @@ module _ (more at : ℕ) (operator : Operator) (ts : List Token) where
   abbrev Reads : Bool → Item Token TextLine → Type 0
   Reads may item = (on_either may (content more) operator at).read ts ≡ item.read ts
 
-  opened : (may opens : Bool) → begins (mark marks.Open) ts ≡ opens → (may && opens) ≡ true
+  opened : (may opens : Bool) → begins (delimiter delimiters.Open) ts ≡ opens → (may && opens) ≡ true
       → Reads may (on_content (content more) operator at)
   unfolding on_content
   opened true true is e = rw is refl
   opened true false is e = absurd cc
   opened false opens is e = absurd cc
 
-  unopened : (may opens : Bool) → begins (mark marks.Open) ts ≡ opens → (may && opens) ≡ false
+  unopened : (may opens : Bool) → begins (delimiter delimiters.Open) ts ≡ opens → (may && opens) ≡ false
       → Reads may (on_operand operator at)
   unfolding on_content
   unopened true true is e = absurd cc
@@ -113,7 +113,7 @@ unfolding applied
 by_content zero at operator ts e = absurd cc
 by_content (suc more) at operator ts e =
     let same : more ≡ suc more - 1 = omega arith in
-    opened more at operator ts (may_defer operator) (begins (mark marks.Open) ts) refl e
+    opened more at operator ts (may_defer operator) (begins (delimiter delimiters.Open) ts) refl e
     ∙ ap (λ (n : ℕ). (on_content (content n) operator at).read ts) same
 
 by_operand : (more at : ℕ) (operator : Operator) (ts : List Token) → may_open more operator ts ≡ false
@@ -121,7 +121,7 @@ by_operand : (more at : ℕ) (operator : Operator) (ts : List Token) → may_ope
 unfolding applied
 by_operand zero at operator ts e = refl
 by_operand (suc more) at operator ts e =
-    unopened more at operator ts (may_defer operator) (begins (mark marks.Open) ts) refl e
+    unopened more at operator ts (may_defer operator) (begins (delimiter delimiters.Open) ts) refl e
 
 module _ (more at : ℕ) (operator : Operator) (ts : List Token) (isnt : may_open more operator ts ≡ false) where
   pub operand_fails : (e : ReadError Token) → Fails e (operand.read ts) → Fails e ((applied more operator at).read ts)
@@ -141,7 +141,7 @@ one_tree t u e = sym (tree_again t) ∙ (ap tree_of e ∙ tree_again u)
 
 pub by_pieces : (content : ℕ → Item Token (Tree Symbol)) (operator : Operator) (at close : ℕ)
     (ts inside rest after : List Token) (front new : Pieces) (nested : Tree Symbol)
-    → (mark marks.Open).read ts ≡ Ok (tt, inside) → front ≡ []
+    → (delimiter delimiters.Open).read ts ≡ Ok (tt, inside) → front ≡ []
     → extend pieces_of front ((content at).read inside) ≡ Ok (new, rest) → new ≡ pieces_of nested
     → closing.read rest ≡ Ok (close, after)
     → (on_content content operator at).read ts ≡ Ok (line_of at (instructions.Deferred operator nested close), after)

@@ -1,7 +1,7 @@
 -- A text has one list of tokens.
 use Rattle.std.proofs.Common.{◌≡◌, ℕ, ◌≤◌, List, [], ◌∷◌, length, refl, sym, ap, ◌∙◌}
 use Rattle.iltokens.specs.declared.lexed.Lexed.TheVariants as lexed
-use Rattle.iltokens.proofs.Telling.{one_told, ends_within}
+use Rattle.iltokens.proofs.Reporting.{one_reported, ends_within}
 use Rattle.iltext.specs.declared.token.Kind.{Kind}
 use Rattle.iltext.specs.declared.token.Kind.TheVariants as kinds
 use Rattle.iltext.specs.declared.token.Token.{Token}
@@ -19,13 +19,13 @@ one_cut text at le [] [] h i = refl
 one_cut text at le [] (u ∷ us) h i = go u.kind i.0
   where
     go : (k : Kind) → Stands text at u k → [] ≡ u ∷ us
-    go (kinds.Good w) i = let e = one_told text at le lexed.End (lexed.Token w u.from u.to) h i in absurd cc
-    go (kinds.Bad d) i = let e = one_told text at le lexed.End (lexed.Fault d u.from) h i.0 in absurd cc
+    go (kinds.Good w) i = let e = one_reported text at le lexed.End (lexed.Token w u.from u.to) h i in absurd cc
+    go (kinds.Bad d) i = let e = one_reported text at le lexed.End (lexed.Fault d u.from) h i.0 in absurd cc
 one_cut text at le (t ∷ ts) [] h i = go t.kind h.0
   where
     go : (j : Kind) → Stands text at t j → t ∷ ts ≡ []
-    go (kinds.Good v) h = let e = one_told text at le lexed.End (lexed.Token v t.from t.to) i h in absurd cc
-    go (kinds.Bad c) h = let e = one_told text at le lexed.End (lexed.Fault c t.from) i h.0 in absurd cc
+    go (kinds.Good v) h = let e = one_reported text at le lexed.End (lexed.Token v t.from t.to) i h in absurd cc
+    go (kinds.Bad c) h = let e = one_reported text at le lexed.End (lexed.Fault c t.from) i h.0 in absurd cc
 one_cut text at le (t ∷ ts) (u ∷ us) h i =
     go t.kind u.kind refl refl h i (λ further a b. one_cut text t.to further ts us a b)
   where
@@ -33,19 +33,19 @@ one_cut text at le (t ∷ ts) (u ∷ us) h i =
         → Stands text at u k × Follows k (Cuts text u.to us) us
         → (t.to ≤ length text → Cuts text t.to ts → Cuts text t.to us → ts ≡ us) → t ∷ ts ≡ u ∷ us
     go (kinds.Good v) (kinds.Bad d) a b h i ih =
-        let e = one_told text at le (lexed.Token v t.from t.to) (lexed.Fault d u.from) h.0 i.0.0 in
+        let e = one_reported text at le (lexed.Token v t.from t.to) (lexed.Fault d u.from) h.0 i.0.0 in
         absurd cc
     go (kinds.Bad c) (kinds.Good w) a b h i ih =
-        let e = one_told text at le (lexed.Fault c t.from) (lexed.Token w u.from u.to) h.0.0 i.0 in
+        let e = one_reported text at le (lexed.Fault c t.from) (lexed.Token w u.from u.to) h.0.0 i.0 in
         absurd cc
     go (kinds.Bad c) (kinds.Bad d) a b h i ih =
-        let e = one_told text at le (lexed.Fault c t.from) (lexed.Fault d u.from) h.0.0 i.0.0 in
+        let e = one_reported text at le (lexed.Fault c t.from) (lexed.Fault d u.from) h.0.0 i.0.0 in
         let cause : c ≡ d = cc in
         let place : t.from ≡ u.from = cc in
         let same : t ≡ u = equal t u (a ∙ ap kinds.Bad cause ∙ sym b) place (h.0.1 ∙ place ∙ sym i.0.1) in
         let x = h.1 in let y = i.1 in cc
     go (kinds.Good v) (kinds.Good w) a b h i ih =
-        let e = one_told text at le (lexed.Token v t.from t.to) (lexed.Token w u.from u.to) h.0 i.0 in
+        let e = one_reported text at le (lexed.Token v t.from t.to) (lexed.Token w u.from u.to) h.0 i.0 in
         let what : v ≡ w = cc in
         let from : t.from ≡ u.from = cc in
         let to : t.to ≡ u.to = cc in

@@ -17,25 +17,25 @@ use Rattle.ilsource.specs.declared.declaration.TypeDeclaration.{TypeDeclaration}
 use Rattle.ilsource.specs.Programs.{DeclaredNames}
 use Rattle.iltokens.specs.declared.keyword.Keyword.{Keyword}
 use Rattle.iltokens.specs.declared.keyword.Keyword.TheVariants as words
-use Rattle.iltokens.specs.declared.lexed.Mark.TheVariants as marks
+use Rattle.iltokens.specs.declared.lexed.Delimiter.TheVariants as delimiters
 use Rattle.iltokens.specs.declared.lexed.What.TheVariants as whats
 use Rattle.iltext.specs.declared.token.Kind.{Kind}
 use Rattle.iltext.specs.declared.token.Kind.TheVariants as kinds
 use Rattle.iltext.specs.declared.token.Token.{Token}
 use Rattle.iltext.specs.declared.block_kinds.TheConstants.{BLOCKS}
 use Rattle.iltext.specs.Roles.{lookup}
-use Rattle.iltext.specs.Terminals.{word, mark, name, spaced}
+use Rattle.iltext.specs.Terminals.{word, delimiter, name, spaced}
 use Rattle.iltext.specs.Declarations.{integer_word, integer, simple_word, simple, interval, range, specification}
 use Rattle.iltext.specs.Declarations.{initial, typing, type_declaration, block, instances, declared}
 use Rattle.iltext.specs.Declarations.{next_name, more_names, names, declaration, declarations, vars}
-use Rattle.iltext.proofs.Marks.{Anything, token_of, Firm-word, Firm-mark, apart_word, apart_mark}
+use Rattle.iltext.proofs.Delimiters.{Anything, token_of, Firm-word, Firm-delimiter, apart_word, apart_delimiter}
 use Rattle.iltext.proofs.Ends.{NoEnd, NoComma, NoOpen, Firm-name, Firm-number, Firm-constant, Firm-spaced}
-use Rattle.iltext.proofs.Ends.{word_no_end, mark_no_end, name_no_end, number_no_end, constant_no_end}
+use Rattle.iltext.proofs.Ends.{word_no_end, delimiter_no_end, name_no_end, number_no_end, constant_no_end}
 
 -- ---- what may not follow
 
 abbrev NoAssign : Token → Type 0
-NoAssign t = (mark marks.Assign).starts t ≡ false
+NoAssign t = (delimiter delimiters.Assign).starts t ≡ false
 
 abbrev pub NoName : Token → Type 0
 NoName t = name.starts t ≡ false
@@ -52,16 +52,18 @@ Firm-simple = Firm-one _ (token_of (kinds.Good (whats.Keyword words.Bool)) 0 0) 
 
 Firm-interval : Firm Token (ℤ × ℤ) interval NoEnd
 unfolding interval
-Firm-interval = Firm-map _ (Firm-seq (Firm-spaced (Firm-mark marks.Open)) (λ t e. number_no_end t.kind t.from t.to e)
-    (Firm-seq (Firm-spaced Firm-number) (λ t e. mark_no_end marks.Range refl t e)
-    (Firm-seq (Firm-spaced (Firm-mark marks.Range)) (λ t e. number_no_end t.kind t.from t.to e)
-    (Firm-seq (Firm-spaced Firm-number) (λ t e. mark_no_end marks.Close refl t e)
-    (Firm-spaced (Firm-mark marks.Close))))))
+Firm-interval = Firm-map _ (Firm-seq (Firm-spaced (Firm-delimiter delimiters.Open))
+    (λ t e. number_no_end t.kind t.from t.to e)
+    (Firm-seq (Firm-spaced Firm-number) (λ t e. delimiter_no_end delimiters.Range refl t e)
+    (Firm-seq (Firm-spaced (Firm-delimiter delimiters.Range)) (λ t e. number_no_end t.kind t.from t.to e)
+    (Firm-seq (Firm-spaced Firm-number) (λ t e. delimiter_no_end delimiters.Close refl t e)
+    (Firm-spaced (Firm-delimiter delimiters.Close))))))
 
 Firm-range : Firm Token Specification range (λ t. NoEnd t × NoOpen t)
 unfolding range interval
 Firm-range = Firm-map _ (Firm-fewer (λ t. NoEnd t × NoOpen t) (λ t e. (e.0, e))
-    (Firm-seq_open (Firm-spaced Firm-integer) (λ t e. mark_no_end marks.Open refl t e) (from_opt Firm-interval)))
+    (Firm-seq_open (Firm-spaced Firm-integer) (λ t e. delimiter_no_end delimiters.Open refl t e)
+    (from_opt Firm-interval)))
 
 integer_apart : (w : Keyword) → is_in (integer_word w) ≡ true → is_in (simple_word w) ≡ false
 integer_apart words.Bool e = absurd cc
@@ -80,62 +82,66 @@ Firm-specification = Firm-fewer (λ t. NoEnd t × NoOpen t) (λ t e. (e.0, e))
     (Firm-alt (Firm-spaced Firm-simple) (λ t e. range_apart t.kind t.from t.to e) Firm-range)
 
 specification_no_end : (k : Kind) (f g : ℕ) → specification.starts (token_of k f g) ≡ true → NoEnd (token_of k f g)
-unfolding specification range integer simple mark
-specification_no_end (kinds.Good (whats.Mark m)) f g e = absurd cc
+unfolding specification range integer simple delimiter
+specification_no_end (kinds.Good (whats.Delimiter m)) f g e = absurd cc
 specification_no_end _ f g e = refl
 
 Lawful-initial : Lawful Token (Option Constant) initial (λ t. NoEnd t × NoAssign t)
 unfolding initial
 Lawful-initial = from_opt (Firm-map _
-    (Firm-seq (Firm-spaced (Firm-mark marks.Assign)) (λ t e. constant_no_end t.kind t.from t.to e)
+    (Firm-seq (Firm-spaced (Firm-delimiter delimiters.Assign)) (λ t e. constant_no_end t.kind t.from t.to e)
     (Firm-spaced Firm-constant)))
 
-semicolon_apart : (t : Token) → (mark marks.Semicolon).starts t ≡ true → NoEnd t × NoAssign t
-unfolding mark
+semicolon_apart : (t : Token) → (delimiter delimiters.Semicolon).starts t ≡ true → NoEnd t × NoAssign t
+unfolding delimiter
 semicolon_apart t e = (
-  mark_no_end marks.Semicolon refl t e,
-  apart_mark marks.Semicolon (mark marks.Assign).starts (λ f g. refl) t.kind t.from t.to e,
+  delimiter_no_end delimiters.Semicolon refl t e,
+  apart_delimiter delimiters.Semicolon (delimiter delimiters.Assign).starts (λ f g. refl) t.kind t.from t.to e,
 )
 
-begins_value : (k : Kind) (f g : ℕ) → (lead initial (spaced (mark marks.Semicolon))).starts (token_of k f g) ≡ true
+begins_value : (k : Kind) (f g : ℕ) → (lead initial (spaced (delimiter delimiters.Semicolon))).starts (token_of k f g)
+    ≡ true
     → NoEnd (token_of k f g) × NoOpen (token_of k f g)
-unfolding initial mark
-begins_value (kinds.Good (whats.Mark marks.LineEnd)) f g e = absurd cc
-begins_value (kinds.Good (whats.Mark marks.Open)) f g e = absurd cc
+unfolding initial delimiter
+begins_value (kinds.Good (whats.Delimiter delimiters.LineEnd)) f g e = absurd cc
+begins_value (kinds.Good (whats.Delimiter delimiters.Open)) f g e = absurd cc
 begins_value _ f g e = (refl, refl)
 
 Firm-typing : Firm Token (Specification × Option Constant) typing NoEnd
 unfolding typing
 Firm-typing = Firm-map _ (Firm-seq Firm-specification (λ t e. begins_value t.kind t.from t.to e)
-    (Firm-lead Lawful-initial (λ t e. semicolon_apart t e) (Firm-spaced (Firm-mark marks.Semicolon))))
+    (Firm-lead Lawful-initial (λ t e. semicolon_apart t e) (Firm-spaced (Firm-delimiter delimiters.Semicolon))))
 
-colon_apart : (t : Token) → (mark marks.Colon).starts t ≡ true → NoEnd t × NoComma t
-unfolding mark
+colon_apart : (t : Token) → (delimiter delimiters.Colon).starts t ≡ true → NoEnd t × NoComma t
+unfolding delimiter
 colon_apart t e = (
-  mark_no_end marks.Colon refl t e,
-  apart_mark marks.Colon (mark marks.Comma).starts (λ f g. refl) t.kind t.from t.to e,
+  delimiter_no_end delimiters.Colon refl t e,
+  apart_delimiter delimiters.Colon (delimiter delimiters.Comma).starts (λ f g. refl) t.kind t.from t.to e,
 )
 
 pub Firm-type_declaration : Firm Token TypeDeclaration type_declaration NoEnd
 unfolding type_declaration typing
 Firm-type_declaration = Firm-map _ (Firm-seq (Firm-spaced Firm-name) (λ t e. (colon_apart t e).0)
-    (Firm-seq (Firm-spaced (Firm-mark marks.Colon)) (λ t e. specification_no_end t.kind t.from t.to e) Firm-typing))
+    (Firm-seq (Firm-spaced (Firm-delimiter delimiters.Colon))
+    (λ t e. specification_no_end t.kind t.from t.to e) Firm-typing))
 
 -- ---- variables and block instances
 
 pub Firm-next_name : Firm Token Name next_name NoEnd
 unfolding next_name
-Firm-next_name = Firm-map _ (Firm-seq (Firm-spaced (Firm-mark marks.Comma)) (λ t e. name_no_end t.kind t.from t.to e)
+Firm-next_name = Firm-map _ (Firm-seq (Firm-spaced (Firm-delimiter delimiters.Comma))
+    (λ t e. name_no_end t.kind t.from t.to e)
     (Firm-spaced Firm-name))
 
 Lawful-more_names : Lawful Token (List Name) more_names (λ t. NoEnd t × NoComma t)
 unfolding more_names next_name
-Lawful-more_names = from_many (λ t e. mark_no_end marks.Comma refl t e) Firm-next_name
+Lawful-more_names = from_many (λ t e. delimiter_no_end delimiters.Comma refl t e) Firm-next_name
 
 Firm-names : Firm Token (List Name) names (λ t. NoEnd t × NoComma t)
 unfolding names more_names next_name
 Firm-names = Firm-fewer (λ t. NoEnd t × NoComma t) (λ t e. (e.0, e))
-    (Firm-map _ (Firm-seq_open (Firm-spaced Firm-name) (λ t e. mark_no_end marks.Comma refl t e) Lawful-more_names))
+    (Firm-map _ (Firm-seq_open (Firm-spaced Firm-name)
+    (λ t e. delimiter_no_end delimiters.Comma refl t e) Lawful-more_names))
 
 Firm-block : Firm Token BlockKind block Anything
 unfolding block
@@ -143,8 +149,8 @@ Firm-block = Firm-one _ (token_of (kinds.Good (whats.Keyword words.Ton)) 0 0) bl
 
 Firm-instances : Firm Token BlockKind instances NoEnd
 unfolding instances
-Firm-instances = Firm-map _ (Firm-seq (Firm-spaced Firm-block) (λ t e. mark_no_end marks.Semicolon refl t e)
-    (Firm-spaced (Firm-mark marks.Semicolon)))
+Firm-instances = Firm-map _ (Firm-seq (Firm-spaced Firm-block) (λ t e. delimiter_no_end delimiters.Semicolon refl t e)
+    (Firm-spaced (Firm-delimiter delimiters.Semicolon)))
 
 word_apart : (w : Keyword) → is_in (simple_word w) || is_in (integer_word w) ≡ true → is_in (lookup BLOCKS w) ≡ false
 word_apart words.Bool e = refl
@@ -169,14 +175,15 @@ Firm-declared = Firm-fewer NoEnd (λ t e. (e, e))
     (Firm-alt (Firm-map _ Firm-instances) (λ t e. typing_apart t.kind t.from t.to e) (Firm-map _ Firm-typing))
 
 declared_no_end : (k : Kind) (f g : ℕ) → declared.starts (token_of k f g) ≡ true → NoEnd (token_of k f g)
-unfolding declared instances block typing specification range integer simple mark
-declared_no_end (kinds.Good (whats.Mark m)) f g e = absurd cc
+unfolding declared instances block typing specification range integer simple delimiter
+declared_no_end (kinds.Good (whats.Delimiter m)) f g e = absurd cc
 declared_no_end _ f g e = refl
 
 pub Firm-declaration : Firm Token DeclaredNames declaration NoEnd
 unfolding declaration
 Firm-declaration = Firm-map _ (Firm-seq Firm-names (λ t e. colon_apart t e)
-    (Firm-seq (Firm-spaced (Firm-mark marks.Colon)) (λ t e. declared_no_end t.kind t.from t.to e) Firm-declared))
+    (Firm-seq (Firm-spaced (Firm-delimiter delimiters.Colon))
+    (λ t e. declared_no_end t.kind t.from t.to e) Firm-declared))
 
 Lawful-declarations : Lawful Token (List DeclaredNames) declarations (λ t. NoEnd t × NoName t)
 unfolding declarations declaration names
@@ -189,8 +196,8 @@ last_apart w t e = (word_no_end w t e, apart_word w name.starts (λ f g. refl) t
 
 inside_no_end : (k : Kind) (f g : ℕ) → (lead declarations (spaced (word words.EndVar))).starts (token_of k f g) ≡ true
     → NoEnd (token_of k f g)
-unfolding declarations declaration names name word mark
-inside_no_end (kinds.Good (whats.Mark m)) f g e = absurd cc
+unfolding declarations declaration names name word delimiter
+inside_no_end (kinds.Good (whats.Delimiter m)) f g e = absurd cc
 inside_no_end _ f g e = refl
 
 pub Firm-vars : Firm Token (List DeclaredNames) vars NoEnd

@@ -8,15 +8,15 @@ use Rattle.ilsource.specs.declared.declaration.Constant.{Constant}
 use Rattle.ilsource.specs.declared.declaration.Constant.TheVariants as constants
 use Rattle.iltokens.specs.declared.keyword.Keyword.{Keyword}
 use Rattle.iltokens.specs.declared.keyword.Keyword.TheVariants as words
-use Rattle.iltokens.specs.declared.lexed.Mark.{Mark}
-use Rattle.iltokens.specs.declared.lexed.Mark.TheVariants as marks
+use Rattle.iltokens.specs.declared.lexed.Delimiter.{Delimiter}
+use Rattle.iltokens.specs.declared.lexed.Delimiter.TheVariants as delimiters
 use Rattle.iltokens.specs.declared.lexed.What.TheVariants as whats
 use Rattle.iltext.specs.declared.token.Kind.{Kind}
 use Rattle.iltext.specs.declared.token.Kind.TheVariants as kinds
 use Rattle.iltext.specs.declared.token.Token.{Token}
-use Rattle.iltext.specs.Terminals.{Seen, word, same_mark, mark, name, number, constant, closing}
+use Rattle.iltext.specs.Terminals.{Seen, word, same_delimiter, delimiter, name, number, constant, closing}
 use Rattle.iltext.specs.Terminals.{line_ends, spaced, line_break, ended}
-use Rattle.iltext.proofs.Marks.{Anything, token_of, Firm-mark, apart_word, apart_mark}
+use Rattle.iltext.proofs.Delimiters.{Anything, token_of, Firm-delimiter, apart_word, apart_delimiter}
 
 -- ---- single tokens
 
@@ -34,15 +34,15 @@ Firm-constant = Firm-one _ (token_of (kinds.Good (whats.Keyword words.True)) 0 0
 
 pub Firm-closing : Firm Token ℕ closing Anything
 unfolding closing
-Firm-closing = Firm-one _ (token_of (kinds.Good (whats.Mark marks.Close)) 0 0) 0 refl
+Firm-closing = Firm-one _ (token_of (kinds.Good (whats.Delimiter delimiters.Close)) 0 0) 0 refl
 
 -- ---- line ends
 
 abbrev pub NoEnd : Token → Type 0
-NoEnd t = (mark marks.LineEnd).starts t ≡ false
+NoEnd t = (delimiter delimiters.LineEnd).starts t ≡ false
 
-pub Firm-line_end : Firm Token Seen (mark marks.LineEnd) Anything
-Firm-line_end = Firm-mark marks.LineEnd
+pub Firm-line_end : Firm Token Seen (delimiter delimiters.LineEnd) Anything
+Firm-line_end = Firm-delimiter delimiters.LineEnd
 
 pub Lawful-line_ends : Lawful Token Seen line_ends NoEnd
 unfolding line_ends
@@ -56,25 +56,25 @@ pub Firm-line_break : Firm Token Seen line_break NoEnd
 unfolding line_break
 Firm-line_break = Firm-spaced Firm-line_end
 
--- none of these marks
+-- none of these delimiters
 abbrev pub NoDot : Token → Type 0
-NoDot t = (mark marks.Dot).starts t ≡ false
+NoDot t = (delimiter delimiters.Dot).starts t ≡ false
 
 abbrev pub NoComma : Token → Type 0
-NoComma t = (mark marks.Comma).starts t ≡ false
+NoComma t = (delimiter delimiters.Comma).starts t ≡ false
 
 abbrev pub NoOpen : Token → Type 0
-NoOpen t = (mark marks.Open).starts t ≡ false
+NoOpen t = (delimiter delimiters.Open).starts t ≡ false
 
 -- what may not follow an instruction
 abbrev pub NoMore : Token → Type 0
 NoMore t = NoDot t × NoOpen t
 
-end_apart : (t : Token) → (mark marks.LineEnd).starts t ≡ true → NoMore t
-unfolding mark
+end_apart : (t : Token) → (delimiter delimiters.LineEnd).starts t ≡ true → NoMore t
+unfolding delimiter
 end_apart t e = (
-  apart_mark marks.LineEnd (mark marks.Dot).starts (λ f g. refl) t.kind t.from t.to e,
-  apart_mark marks.LineEnd (mark marks.Open).starts (λ f g. refl) t.kind t.from t.to e,
+  apart_delimiter delimiters.LineEnd (delimiter delimiters.Dot).starts (λ f g. refl) t.kind t.from t.to e,
+  apart_delimiter delimiters.LineEnd (delimiter delimiters.Open).starts (λ f g. refl) t.kind t.from t.to e,
 )
 
 pub Firm-ended : {A : Type 0} {a : Item Token A} → Firm Token A a NoMore → Firm Token A (ended a) NoEnd
@@ -84,24 +84,26 @@ Firm-ended x = Firm-map _ (Firm-seq x (λ t e. end_apart t e) Firm-line_break)
 -- ---- no line end begins them
 
 pub word_no_end : (w : Keyword) (t : Token) → (word w).starts t ≡ true → NoEnd t
-unfolding mark
-word_no_end w t e = apart_word w (mark marks.LineEnd).starts (λ f g. refl) t.kind t.from t.to e
+unfolding delimiter
+word_no_end w t e = apart_word w (delimiter delimiters.LineEnd).starts (λ f g. refl) t.kind t.from t.to e
 
-pub mark_no_end : (m : Mark) → same_mark m marks.LineEnd ≡ false → (t : Token) → (mark m).starts t ≡ true → NoEnd t
-unfolding mark
-mark_no_end m other t e = apart_mark m (mark marks.LineEnd).starts (λ f g. rw other refl) t.kind t.from t.to e
+pub delimiter_no_end : (m : Delimiter) → same_delimiter m delimiters.LineEnd ≡ false → (t : Token)
+    → (delimiter m).starts t ≡ true → NoEnd t
+unfolding delimiter
+delimiter_no_end m other t e = apart_delimiter m (delimiter delimiters.LineEnd).starts
+    (λ f g. rw other refl) t.kind t.from t.to e
 
 pub name_no_end : (k : Kind) (f g : ℕ) → name.starts (token_of k f g) ≡ true → NoEnd (token_of k f g)
-unfolding name mark
+unfolding name delimiter
 name_no_end (kinds.Good whats.Name) f g e = refl
 name_no_end _ f g e = absurd cc
 
 pub number_no_end : (k : Kind) (f g : ℕ) → number.starts (token_of k f g) ≡ true → NoEnd (token_of k f g)
-unfolding number mark
+unfolding number delimiter
 number_no_end (kinds.Good (whats.Number n)) f g e = refl
 number_no_end _ f g e = absurd cc
 
 pub constant_no_end : (k : Kind) (f g : ℕ) → constant.starts (token_of k f g) ≡ true → NoEnd (token_of k f g)
-unfolding constant mark
-constant_no_end (kinds.Good (whats.Mark m)) f g e = absurd cc
+unfolding constant delimiter
+constant_no_end (kinds.Good (whats.Delimiter m)) f g e = absurd cc
 constant_no_end _ f g e = refl

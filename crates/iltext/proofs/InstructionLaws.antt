@@ -13,7 +13,7 @@ use Rattle.ilgrammar.proofs.Firm.{from_opt, from_many}
 use Rattle.ilsource.specs.declared.name.Name.{Name}
 use Rattle.ilsource.specs.declared.symbol.Symbol.{Symbol}
 use Rattle.iltokens.specs.declared.keyword.Keyword.TheVariants as words
-use Rattle.iltokens.specs.declared.lexed.Mark.TheVariants as marks
+use Rattle.iltokens.specs.declared.lexed.Delimiter.TheVariants as delimiters
 use Rattle.iltokens.specs.declared.lexed.What.TheVariants as whats
 use Rattle.iltext.specs.declared.roles.Role.{Role}
 use Rattle.iltext.specs.declared.roles.Role.TheVariants as roles
@@ -21,11 +21,11 @@ use Rattle.iltext.specs.declared.token.Kind.{Kind}
 use Rattle.iltext.specs.declared.token.Kind.TheVariants as kinds
 use Rattle.iltext.specs.declared.token.Token.{Token}
 use Rattle.iltext.specs.Roles.{role_of_word, inner_role_at}
-use Rattle.iltext.specs.Terminals.{mark, name, closing, line_break, ended}
+use Rattle.iltext.specs.Terminals.{delimiter, name, closing, line_break, ended}
 use Rattle.iltext.specs.Operands.{symbol, literal, operand}
 use Rattle.iltext.specs.Instructions.{TextLine, on_operand, on_content, on_either, bounds, operands, load, beginning}
 use Rattle.iltext.specs.Instructions.{inner_of, content_of, applied, inner, instruction, label, with_label, line, lines}
-use Rattle.iltext.proofs.Marks.{Anything, token_of, Firm-mark, apart_mark}
+use Rattle.iltext.proofs.Delimiters.{Anything, token_of, Firm-delimiter, apart_delimiter}
 use Rattle.iltext.proofs.Ends.{NoEnd, NoDot, NoMore, Firm-name, Firm-closing, Firm-line_break, Firm-ended}
 use Rattle.iltext.proofs.OperandLaws.{Firm-symbol, Firm-operand, operand_no_end}
 use Rattle.iltext.proofs.CallLaws.{Firm-call}
@@ -41,21 +41,21 @@ abbrev NoInner : Token → Type 0
 NoInner t = NoEnd t × (is_in (inner_role_at t) ≡ false)
 
 closing_apart : (k : Kind) (f g : ℕ) → closing.starts (token_of k f g) ≡ true → NoInner (token_of k f g)
-unfolding closing mark
-closing_apart (kinds.Good (whats.Mark marks.Close)) f g e = (refl, refl)
+unfolding closing delimiter
+closing_apart (kinds.Good (whats.Delimiter delimiters.Close)) f g e = (refl, refl)
 closing_apart _ f g e = absurd cc
 
 module _ (content : ℕ → Item Token (Tree Symbol)) (law : (at : ℕ) → Firm Token (Tree Symbol) (content at) NoInner)
     (operator : Operator) (at : ℕ) where
   Firm-on_content : Firm Token TextLine (on_content content operator at) Anything
   unfolding on_content
-  Firm-on_content = Firm-map _ (Firm-seq (Firm-mark marks.Open) (λ t e. tt)
+  Firm-on_content = Firm-map _ (Firm-seq (Firm-delimiter delimiters.Open) (λ t e. tt)
       (Firm-seq (law at) (λ t e. closing_apart t.kind t.from t.to e) Firm-closing))
 
   operand_apart : (k : Kind) (f g : ℕ) → (on_operand operator at).starts (token_of k f g) ≡ true
       → (on_content content operator at).starts (token_of k f g) ≡ false
-  unfolding on_operand on_content operand symbol literal name mark
-  operand_apart (kinds.Good (whats.Mark m)) f g e = absurd cc
+  unfolding on_operand on_content operand symbol literal name delimiter
+  operand_apart (kinds.Good (whats.Delimiter m)) f g e = absurd cc
   operand_apart _ f g e = refl
 
   Firm-on_either : (may : Bool) → Firm Token TextLine (on_either may content operator at) NoDot
@@ -64,10 +64,10 @@ module _ (content : ℕ → Item Token (Tree Symbol)) (law : (at : ℕ) → Firm
   Firm-on_either false = Firm-on_operand operator at
 
 Firm-bounds : Firm Token (Operand Symbol × Operand Symbol) bounds NoDot
-unfolding bounds mark
+unfolding bounds delimiter
 Firm-bounds = Firm-map _ (Firm-seq Firm-operand
-    (λ t e. apart_mark marks.Comma (mark marks.Dot).starts (λ f g. refl) t.kind t.from t.to e)
-    (Firm-seq (Firm-mark marks.Comma) (λ t e. tt) Firm-operand))
+    (λ t e. apart_delimiter delimiters.Comma (delimiter delimiters.Dot).starts (λ f g. refl) t.kind t.from t.to e)
+    (Firm-seq (Firm-delimiter delimiters.Comma) (λ t e. tt) Firm-operand))
 
 abbrev AreFirm : (Operator → ℕ → Item Token TextLine) → Type 0
 AreFirm applied = (operator : Operator) (at : ℕ) → Firm Token TextLine (applied operator at) NoDot
@@ -99,8 +99,8 @@ unfolding load role_of_word
 Firm-load = Firm-map _ (Firm-seq (Firm-one _ load_word (false, 0) refl) (λ t e. tt) Firm-operand)
 
 load_no_end : (k : Kind) (f g : ℕ) → (ended load).starts (token_of k f g) ≡ true → NoEnd (token_of k f g)
-unfolding load mark
-load_no_end (kinds.Good (whats.Mark marks.LineEnd)) f g e = absurd cc
+unfolding load delimiter
+load_no_end (kinds.Good (whats.Delimiter delimiters.LineEnd)) f g e = absurd cc
 load_no_end _ f g e = refl
 
 break_apart : (t : Token) → operand.starts t ≡ true → line_break.starts t ≡ false
@@ -122,8 +122,8 @@ Firm-inner_of applied law = Firm-fewer NoMore (λ t e. (tt, e))
     (λ x. Lawful-operands applied law x.0 x.1))
 
 inner_no_end : (k : Kind) (f g : ℕ) → is_in (inner_role_at (token_of k f g)) ≡ true → NoEnd (token_of k f g)
-unfolding mark
-inner_no_end (kinds.Good (whats.Mark marks.LineEnd)) f g e = absurd cc
+unfolding delimiter
+inner_no_end (kinds.Good (whats.Delimiter delimiters.LineEnd)) f g e = absurd cc
 inner_no_end _ f g e = refl
 
 begins_inner : (applied : Operator → ℕ → Item Token TextLine) (t : Token)
@@ -159,7 +159,7 @@ Firm-instruction = Firm-fewer NoMore (λ t e. (tt, e))
 
 Firm-label : Firm Token Name label Anything
 unfolding label
-Firm-label = Firm-map _ (Firm-seq Firm-name (λ t e. tt) (Firm-mark marks.Colon))
+Firm-label = Firm-map _ (Firm-seq Firm-name (λ t e. tt) (Firm-delimiter delimiters.Colon))
 
 -- what may not follow a label alone
 abbrev NoInstruction : Token → Type 0
@@ -177,13 +177,13 @@ instruction_apart (kinds.Good whats.Name) f g e = absurd cc
 instruction_apart _ f g e = refl
 
 end_apart : (t : Token) → line_break.starts t ≡ true → NoInstruction t
-unfolding line_break instruction mark
+unfolding line_break instruction delimiter
 end_apart t e = (
   (
-    apart_mark marks.LineEnd (mark marks.Dot).starts (λ f g. refl) t.kind t.from t.to e,
-    apart_mark marks.LineEnd (mark marks.Open).starts (λ f g. refl) t.kind t.from t.to e,
+    apart_delimiter delimiters.LineEnd (delimiter delimiters.Dot).starts (λ f g. refl) t.kind t.from t.to e,
+    apart_delimiter delimiters.LineEnd (delimiter delimiters.Open).starts (λ f g. refl) t.kind t.from t.to e,
   ),
-  apart_mark marks.LineEnd instruction.starts (λ f g. refl) t.kind t.from t.to e,
+  apart_delimiter delimiters.LineEnd instruction.starts (λ f g. refl) t.kind t.from t.to e,
 )
 
 pub Firm-line : Firm Token TextLine line NoEnd
@@ -196,8 +196,8 @@ abbrev pub NoLine : Token → Type 0
 NoLine t = line.starts t ≡ false
 
 pub line_no_end : (k : Kind) (f g : ℕ) → line.starts (token_of k f g) ≡ true → NoEnd (token_of k f g)
-unfolding line with_label label name instruction mark
-line_no_end (kinds.Good (whats.Mark marks.LineEnd)) f g e = absurd cc
+unfolding line with_label label name instruction delimiter
+line_no_end (kinds.Good (whats.Delimiter delimiters.LineEnd)) f g e = absurd cc
 line_no_end _ f g e = refl
 
 pub Lawful-lines : Lawful Token (List TextLine) lines (λ t. NoEnd t × NoLine t)

@@ -7,17 +7,17 @@ use Rattle.ilsource.specs.Programs.{DeclaredNames, Written}
 use Rattle.ilsource.specs.declared.source.Element.{Element}
 use Rattle.iltokens.specs.declared.keyword.Keyword.{Keyword}
 use Rattle.iltokens.specs.declared.keyword.Keyword.TheVariants as words
-use Rattle.iltokens.specs.declared.lexed.Mark.TheVariants as marks
+use Rattle.iltokens.specs.declared.lexed.Delimiter.TheVariants as delimiters
 use Rattle.iltokens.specs.declared.lexed.What.TheVariants as whats
 use Rattle.iltext.specs.declared.token.Kind.{Kind}
 use Rattle.iltext.specs.declared.token.Kind.TheVariants as kinds
 use Rattle.iltext.specs.declared.token.Token.{Token}
 use Rattle.iltext.specs.Roles.{role_of_word}
-use Rattle.iltext.specs.Terminals.{Seen, word, mark, name, spaced}
+use Rattle.iltext.specs.Terminals.{Seen, word, delimiter, name, spaced}
 use Rattle.iltext.specs.Declarations.{type_declaration, vars}
 use Rattle.iltext.specs.Instructions.{TextLine, instruction, label, with_label, line, lines}
 use Rattle.iltext.specs.Texts.{blocks, program, derived_type, derived_types, types, unit, units, text}
-use Rattle.iltext.proofs.Marks.{token_of, Firm-word, apart_word}
+use Rattle.iltext.proofs.Delimiters.{token_of, Firm-word, apart_word}
 use Rattle.iltext.proofs.Ends.{NoEnd, Firm-name, Firm-spaced, Lawful-line_ends, word_no_end, name_no_end}
 use Rattle.iltext.proofs.DeclarationLaws.{NoName, Firm-type_declaration, last_apart, Firm-vars}
 use Rattle.iltext.proofs.InstructionLaws.{NoLine, Lawful-lines}
@@ -51,9 +51,9 @@ body_word_apart _ f g e = refl
 
 body_apart : (k : Kind) (f g : ℕ) → (lead lines (spaced (word words.EndProgram))).starts (token_of k f g) ≡ true
     → NoEnd (token_of k f g) × NoVar (token_of k f g)
-unfolding lines line with_label label name instruction word mark
+unfolding lines line with_label label name instruction word delimiter
 body_apart (kinds.Good (whats.Keyword w)) f g e = (refl, body_word_apart w f g e)
-body_apart (kinds.Good (whats.Mark marks.LineEnd)) f g e = absurd cc
+body_apart (kinds.Good (whats.Delimiter delimiters.LineEnd)) f g e = absurd cc
 body_apart _ f g e = (refl, refl)
 
 Firm-inside : Firm Token (List DeclaredNames × (List TextLine × Seen))
@@ -65,8 +65,8 @@ Firm-inside = Firm-lead {b = lead lines (spaced (word words.EndProgram))} Lawful
 inside_apart : (k : Kind) (f g : ℕ)
     → (lead blocks (lead lines (spaced (word words.EndProgram)))).starts (token_of k f g) ≡ true
     → NoEnd (token_of k f g)
-unfolding blocks vars lines line with_label label name instruction word mark
-inside_apart (kinds.Good (whats.Mark marks.LineEnd)) f g e = absurd cc
+unfolding blocks vars lines line with_label label name instruction word delimiter
+inside_apart (kinds.Good (whats.Delimiter delimiters.LineEnd)) f g e = absurd cc
 inside_apart _ f g e = refl
 
 pub Firm-program : Firm Token Written program NoEnd
@@ -87,8 +87,8 @@ Lawful-derived_types = from_many (λ t e. name_no_end t.kind t.from t.to e) Firm
 
 types_no_end : (k : Kind) (f g : ℕ)
     → (lead derived_types (spaced (word words.EndType))).starts (token_of k f g) ≡ true → NoEnd (token_of k f g)
-unfolding derived_types derived_type type_declaration name word mark
-types_no_end (kinds.Good (whats.Mark m)) f g e = absurd cc
+unfolding derived_types derived_type type_declaration name word delimiter
+types_no_end (kinds.Good (whats.Delimiter m)) f g e = absurd cc
 types_no_end _ f g e = refl
 
 Firm-types : Firm Token (List Element) types NoEnd
@@ -111,8 +111,8 @@ abbrev NoUnit : Token → Type 0
 NoUnit t = unit.starts t ≡ false
 
 unit_no_end : (k : Kind) (f g : ℕ) → unit.starts (token_of k f g) ≡ true → NoEnd (token_of k f g)
-unfolding unit types program word mark
-unit_no_end (kinds.Good (whats.Mark m)) f g e = absurd cc
+unfolding unit types program word delimiter
+unit_no_end (kinds.Good (whats.Delimiter m)) f g e = absurd cc
 unit_no_end _ f g e = refl
 
 Lawful-units : Lawful Token (List Element) units (λ t. NoEnd t × NoUnit t)

@@ -7,7 +7,7 @@ pub mod Extends
 pub mod InstructionLaws
 pub mod Laws
 pub mod LineEnds
-pub mod Marks
+pub mod Delimiters
 pub mod OperandLaws
 pub mod Shallow
 pub mod Sources

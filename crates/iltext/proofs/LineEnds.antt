@@ -2,9 +2,9 @@
 use Rattle.std.proofs.Common.{◌≡◌, true, false, List, [], ◌∷◌, drop, Option, Some, None, Result, Ok, Err, refl, sym}
 use Rattle.ilgrammar.specs.Items.{◌>>=◌, begins, many, one_read, one_read_at, is_in}
 use Rattle.ilgrammar.proofs.Repeats.{none_more, one_more}
-use Rattle.iltokens.specs.declared.lexed.Mark.TheVariants as marks
+use Rattle.iltokens.specs.declared.lexed.Delimiter.TheVariants as delimiters
 use Rattle.iltext.specs.declared.token.Token.{Token}
-use Rattle.iltext.specs.Terminals.{Seen, mark_at, mark, line_ends}
+use Rattle.iltext.specs.Terminals.{Seen, delimiter_at, delimiter, line_ends}
 use Rattle.iltext.proofs.Ends.{Firm-line_end}
 
 one_goes : (class : Token → Option Seen) (t : Token) (ts : List Token) → is_in (class t) ≡ true
@@ -15,10 +15,10 @@ one_goes class t ts is = go (class t) is
     go (Some tt) is = refl
     go None is = absurd cc
 
-end_goes : (t : Token) (ts : List Token) → (mark marks.LineEnd).starts t ≡ true
-    → (mark marks.LineEnd).read (t ∷ ts) ≡ Ok (tt, ts)
-unfolding mark
-end_goes t ts is = one_goes (λ t. mark_at marks.LineEnd t.kind) t ts is
+end_goes : (t : Token) (ts : List Token) → (delimiter delimiters.LineEnd).starts t ≡ true
+    → (delimiter delimiters.LineEnd).read (t ∷ ts) ≡ Ok (tt, ts)
+unfolding delimiter
+end_goes t ts is = one_goes (λ t. delimiter_at delimiters.LineEnd t.kind) t ts is
 
 abbrev marked : List Seen × List Token → Result (Seen × List Token) (List Token)
 marked p = Ok (tt, p.1)
@@ -30,14 +30,14 @@ same_rest : (r : Result (List Seen × List Token) (List Token)) → ((r >>= more
 same_rest (Ok q) = refl
 same_rest (Err d) = refl
 
-pub goes_over : (ts : List Token) → begins (mark marks.LineEnd) ts ≡ true
+pub goes_over : (ts : List Token) → begins (delimiter delimiters.LineEnd) ts ≡ true
     → line_ends.read (drop 1 ts) ≡ line_ends.read ts
 unfolding line_ends
 goes_over [] is = absurd cc
 goes_over (t ∷ ts) is =
     sym (rw (one_more _ _ _ _ Firm-line_end.lawful Firm-line_end.solid (t ∷ ts) is, end_goes t ts is)
-    (same_rest ((many (mark marks.LineEnd)).read ts)))
+    (same_rest ((many (delimiter delimiters.LineEnd)).read ts)))
 
-pub stays_there : (ts : List Token) → begins (mark marks.LineEnd) ts ≡ false → line_ends.read ts ≡ Ok (tt, ts)
+pub stays_there : (ts : List Token) → begins (delimiter delimiters.LineEnd) ts ≡ false → line_ends.read ts ≡ Ok (tt, ts)
 unfolding line_ends
 stays_there ts is = rw (none_more _ _ _ _ Firm-line_end.lawful Firm-line_end.solid ts is) refl

@@ -6,9 +6,9 @@ use Rattle.ilgrammar.specs.Items.{Item, map, seq, select, opt, many}
 use Rattle.ilsource.specs.declared.name.Name.{Name}
 use Rattle.ilsource.specs.declared.symbol.Symbol.{Symbol}
 use Rattle.ilsource.specs.declared.symbol.Symbol.TheVariants as symbols
-use Rattle.iltokens.specs.declared.lexed.Mark.TheVariants as marks
+use Rattle.iltokens.specs.declared.lexed.Delimiter.TheVariants as delimiters
 use Rattle.iltext.specs.declared.token.Token.{Token}
-use Rattle.iltext.specs.Terminals.{mark, name, spaced}
+use Rattle.iltext.specs.Terminals.{delimiter, name, spaced}
 use Rattle.iltext.specs.Operands.{port, spaced_operand}
 
 -- the argument for a port of the block instance
@@ -18,11 +18,12 @@ argument_of block port operand = record { port = symbols.Port block port; operan
 -- port ":=" operand
 unfoldable pub argument : Name → Item Token (Argument Symbol)
 argument block =
-    map (λ x. argument_of block x.0 x.1.1) (seq (spaced port) (seq (spaced (mark marks.Assign)) spaced_operand))
+    map (λ x. argument_of block x.0 x.1.1)
+    (seq (spaced port) (seq (spaced (delimiter delimiters.Assign)) spaced_operand))
 
 -- "," argument
 unfoldable pub next_argument : Name → Item Token (Argument Symbol)
-next_argument block = map (λ x. x.1) (seq (spaced (mark marks.Comma)) (argument block))
+next_argument block = map (λ x. x.1) (seq (spaced (delimiter delimiters.Comma)) (argument block))
 
 unfoldable pub more_arguments : Name → Item Token (List (Argument Symbol))
 more_arguments block = many (next_argument block)
@@ -33,7 +34,9 @@ arguments block = map (λ x. x.0 ∷ x.1) (seq (argument block) (more_arguments 
 
 -- "(" arguments ")"
 unfoldable pub passed : Name → Item Token (List (Argument Symbol))
-passed block = map (λ x. x.1.0) (seq (spaced (mark marks.Open)) (seq (arguments block) (mark marks.Close)))
+passed block =
+    map (λ x. x.1.0)
+    (seq (spaced (delimiter delimiters.Open)) (seq (arguments block) (delimiter delimiters.Close)))
 
 -- a block instance, and what is passed to it: nothing, where no parentheses are written
 abbrev pub called : Name → Option (List (Argument Symbol)) → Name × List (Argument Symbol)

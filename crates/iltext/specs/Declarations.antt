@@ -15,14 +15,14 @@ use Rattle.ilsource.specs.declared.declaration.Declared.TheVariants as declareds
 use Rattle.ilsource.specs.Programs.{DeclaredNames}
 use Rattle.iltokens.specs.declared.keyword.Keyword.{Keyword}
 use Rattle.iltokens.specs.declared.keyword.Keyword.TheVariants as words
-use Rattle.iltokens.specs.declared.lexed.Mark.TheVariants as marks
+use Rattle.iltokens.specs.declared.lexed.Delimiter.TheVariants as delimiters
 use Rattle.iltokens.specs.declared.lexed.What.TheVariants as whats
 use Rattle.iltext.specs.declared.block_kinds.TheConstants.{BLOCKS}
 use Rattle.iltext.specs.declared.token.Kind.{Kind}
 use Rattle.iltext.specs.declared.token.Kind.TheVariants as kinds
 use Rattle.iltext.specs.declared.token.Token.{Token}
 use Rattle.iltext.specs.Roles.{lookup}
-use Rattle.iltext.specs.Terminals.{word, mark, name, number, constant, spaced}
+use Rattle.iltext.specs.Terminals.{word, delimiter, name, number, constant, spaced}
 
 -- ---- types
 
@@ -60,8 +60,8 @@ simple = one (λ t. simple_at t.kind t)
 -- "(" number ".." number ")"
 unfoldable pub interval : Item Token (ℤ × ℤ)
 interval = map (λ x. (x.1.0, x.1.1.1.0))
-    (seq (spaced (mark marks.Open)) (seq (spaced number) (seq (spaced (mark marks.Range))
-    (seq (spaced number) (spaced (mark marks.Close))))))
+    (seq (spaced (delimiter delimiters.Open)) (seq (spaced number) (seq (spaced (delimiter delimiters.Range))
+    (seq (spaced number) (spaced (delimiter delimiters.Close))))))
 
 abbrev pub within : IntegerType → Option (ℤ × ℤ) → Specification
 within base None = specifications.Integer base
@@ -76,22 +76,22 @@ specification = alt (spaced simple) range
 
 -- [":=" constant]
 unfoldable pub initial : Item Token (Option Constant)
-initial = opt (map (λ x. x.1) (seq (spaced (mark marks.Assign)) (spaced constant)))
+initial = opt (map (λ x. x.1) (seq (spaced (delimiter delimiters.Assign)) (spaced constant)))
 
 -- specification [":=" constant] ";"
 unfoldable pub typing : Item Token (Specification × Option Constant)
-typing = map (λ x. (x.0, x.1.0)) (seq specification (lead initial (spaced (mark marks.Semicolon))))
+typing = map (λ x. (x.0, x.1.0)) (seq specification (lead initial (spaced (delimiter delimiters.Semicolon))))
 
 -- name ":" typing
 unfoldable pub type_declaration : Item Token TypeDeclaration
 type_declaration = map (λ x. record { name = x.0; specification = x.1.1.0; initial = x.1.1.1 })
-    (seq (spaced name) (seq (spaced (mark marks.Colon)) typing))
+    (seq (spaced name) (seq (spaced (delimiter delimiters.Colon)) typing))
 
 -- ---- variables and block instances
 
 -- "," name
 unfoldable pub next_name : Item Token Name
-next_name = map (λ x. x.1) (seq (spaced (mark marks.Comma)) (spaced name))
+next_name = map (λ x. x.1) (seq (spaced (delimiter delimiters.Comma)) (spaced name))
 
 unfoldable pub more_names : Item Token (List Name)
 more_names = many next_name
@@ -110,7 +110,7 @@ block = one (λ t. block_at t.kind)
 
 -- block ";"
 unfoldable pub instances : Item Token BlockKind
-instances = map (λ x. x.0) (seq (spaced block) (spaced (mark marks.Semicolon)))
+instances = map (λ x. x.0) (seq (spaced block) (spaced (delimiter delimiters.Semicolon)))
 
 -- block ";", or typing
 unfoldable pub declared : Item Token Declared
@@ -119,7 +119,7 @@ declared = alt (map declareds.Blocks instances) (map (λ x. declareds.Variables 
 -- names ":" declared
 unfoldable pub declaration : Item Token DeclaredNames
 declaration = map (λ x. record { names = x.0; declared = x.1.1 })
-    (seq names (seq (spaced (mark marks.Colon)) declared))
+    (seq names (seq (spaced (delimiter delimiters.Colon)) declared))
 
 unfoldable pub declarations : Item Token (List DeclaredNames)
 declarations = many declaration

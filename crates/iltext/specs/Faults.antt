@@ -4,9 +4,9 @@ use Rattle.std.specs.Prelude.{List, [], ◌∷◌, length, Option, Some}
 use Rattle.limits.specs.Limits.{most_nesting}
 use Rattle.iloperators.specs.Operators.{may_defer}
 use Rattle.ilsource.specs.Places.{line_at, col_at}
-use Rattle.iltokens.specs.declared.lexed.Cause.{Cause}
-use Rattle.iltokens.specs.declared.lexed.Cause.TheVariants as lexical
-use Rattle.iltokens.specs.declared.lexed.Mark.TheVariants as marks
+use Rattle.iltokens.specs.declared.lexed.LexicalCause.{LexicalCause}
+use Rattle.iltokens.specs.declared.lexed.LexicalCause.TheVariants as lexical
+use Rattle.iltokens.specs.declared.lexed.Delimiter.TheVariants as delimiters
 use Rattle.iltokens.specs.declared.lexed.What.TheVariants as whats
 use Rattle.iltext.specs.declared.fault.TextCause.{TextCause}
 use Rattle.iltext.specs.declared.fault.TextCause.TheVariants.{NotAscii, BadToken, Unexpected, BadNumber, TooDeep}
@@ -46,8 +46,8 @@ defers kind = is_deferrable (role_of kind)
 
 -- how many are open after a token, where so many are open before it and such an operator stands just before it or not
 abbrev pub open_after : Bool → ℕ → Kind → ℕ
-open_after true count (kinds.Good (whats.Mark marks.Open)) = count + 1
-open_after before count (kinds.Good (whats.Mark marks.Close)) = count - 1
+open_after true count (kinds.Good (whats.Delimiter delimiters.Open)) = count + 1
+open_after before count (kinds.Good (whats.Delimiter delimiters.Close)) = count - 1
 open_after before count kind = count
 
 -- how many are open after tokens: `(` right after such an operator opens one, and `)` closes one, if one is open
@@ -57,7 +57,7 @@ open_after_all before count (t ∷ ts) = open_after_all (defers t.kind) (open_af
 
 -- ---- causes and places
 
-abbrev pub cause_of : Cause → TextCause
+abbrev pub cause_of : LexicalCause → TextCause
 cause_of lexical.NotAscii = NotAscii
 cause_of lexical.BadToken = BadToken
 cause_of lexical.BadNumber = BadNumber
@@ -66,7 +66,8 @@ cause_of lexical.CommentOpen = CommentOpen
 -- the cause is what stands there, whatever was expected, where so many parentheses are open
 abbrev pub cause_of_kind : ℕ → Kind → TextCause
 cause_of_kind count (kinds.Bad cause) = cause_of cause
-cause_of_kind count (kinds.Good (whats.Mark marks.Open)) = if nat_le most_nesting count then TooDeep else Unexpected
+cause_of_kind count (kinds.Good (whats.Delimiter delimiters.Open)) =
+    if nat_le most_nesting count then TooDeep else Unexpected
 cause_of_kind count (kinds.Good (whats.Keyword word)) =
     if nat_lt 0 count && not (is_inner word) then NotNested else Unexpected
 cause_of_kind count _ = Unexpected

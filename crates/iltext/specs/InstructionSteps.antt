@@ -9,9 +9,9 @@ use Rattle.iltrees.specs.Trees.{piece, pieces_of}
 use Rattle.iloperators.specs.Operators.{may_defer}
 use Rattle.ilgrammar.specs.Items.{begins}
 use Rattle.ilsource.specs.declared.symbol.Symbol.{Symbol}
-use Rattle.iltokens.specs.declared.lexed.Mark.TheVariants as marks
+use Rattle.iltokens.specs.declared.lexed.Delimiter.TheVariants as delimiters
 use Rattle.iltext.specs.declared.token.Token.{Token}
-use Rattle.iltext.specs.Terminals.{mark}
+use Rattle.iltext.specs.Terminals.{delimiter}
 use Rattle.iltext.specs.Instructions.{TextInstruction, TextLine}
 
 abbrev pub pieces_at : ℕ → Option TextInstruction → List (Piece Symbol)
@@ -30,4 +30,4 @@ pieces_in line = pieces_at line.at line.instruction
 -- whether `(` stands after an operator that may be deferred, where this many more may be opened
 abbrev pub may_open : ℕ → Operator → List Token → Bool
 may_open zero operator ts = false
-may_open (suc more) operator ts = may_defer operator && begins (mark marks.Open) ts
+may_open (suc more) operator ts = may_defer operator && begins (delimiter delimiters.Open) ts

@@ -16,12 +16,12 @@ use Rattle.ilgrammar.specs.Items.{Item, one, empty, map, seq, select, opt, alt, 
 use Rattle.ilsource.specs.declared.name.Name.{Name}
 use Rattle.ilsource.specs.declared.symbol.Symbol.{Symbol}
 use Rattle.ilsource.specs.declared.symbol.Symbol.TheVariants as symbols
-use Rattle.iltokens.specs.declared.lexed.Mark.TheVariants as marks
+use Rattle.iltokens.specs.declared.lexed.Delimiter.TheVariants as delimiters
 use Rattle.iltext.specs.declared.roles.Role.{Role}
 use Rattle.iltext.specs.declared.roles.Role.TheVariants as roles
 use Rattle.iltext.specs.declared.token.Token.{Token}
 use Rattle.iltext.specs.Roles.{role_of, role_at, inner_role_at}
-use Rattle.iltext.specs.Terminals.{mark, name, closing, line_break, ended}
+use Rattle.iltext.specs.Terminals.{delimiter, name, closing, line_break, ended}
 use Rattle.iltext.specs.Operands.{symbol, operand}
 use Rattle.iltext.specs.Calls.{call}
 
@@ -63,7 +63,7 @@ on_operand operator at = map (λ o. line_of at (instructions.Apply operator o)) 
 unfoldable pub on_content : (ℕ → Item Token (Tree Symbol)) → Operator → ℕ → Item Token TextLine
 on_content content operator at =
     map (λ x. line_of at (instructions.Deferred operator x.1.0 x.1.1))
-    (seq (mark marks.Open) (seq (content at) closing))
+    (seq (delimiter delimiters.Open) (seq (content at) closing))
 
 -- parentheses too, where the operator may be deferred
 abbrev pub on_either : Bool → (ℕ → Item Token (Tree Symbol)) → Operator → ℕ → Item Token TextLine
@@ -72,7 +72,7 @@ on_either false content operator at = on_operand operator at
 
 -- operand "," operand
 unfoldable pub bounds : Item Token (Operand Symbol × Operand Symbol)
-bounds = map (λ x. (x.0, x.1.1)) (seq operand (seq (mark marks.Comma) operand))
+bounds = map (λ x. (x.0, x.1.1)) (seq operand (seq (delimiter delimiters.Comma) operand))
 
 abbrev pub call_of : Condition → Name × List (Argument Symbol) → TextInstruction
 call_of condition x = instructions.Call condition (symbols.Block x.0) x.1
@@ -131,7 +131,7 @@ instruction = select (one role_at) (λ x. operands (applied most_nesting) x.0 x.
 
 -- name ":"
 unfoldable pub label : Item Token Name
-label = map (λ x. x.0) (seq name (mark marks.Colon))
+label = map (λ x. x.0) (seq name (delimiter delimiters.Colon))
 
 -- the line of an instruction, with a label before it; the place of a label alone is the label's
 abbrev pub labelled : Name → Option TextLine → TextLine

@@ -10,12 +10,12 @@ use Rattle.iltypes.specs.declared.value.Value.{Value}
 use Rattle.iltypes.specs.declared.value.Value.TheVariants as values
 use Rattle.iltokens.specs.declared.keyword.Keyword.{Keyword}
 use Rattle.iltokens.specs.declared.keyword.Keyword.TheVariants as words
-use Rattle.iltokens.specs.declared.lexed.Mark.TheVariants as marks
+use Rattle.iltokens.specs.declared.lexed.Delimiter.TheVariants as delimiters
 use Rattle.iltokens.specs.declared.lexed.What.TheVariants as whats
 use Rattle.iltext.specs.declared.token.Kind.{Kind}
 use Rattle.iltext.specs.declared.token.Kind.TheVariants as kinds
 use Rattle.iltext.specs.declared.token.Token.{Token}
-use Rattle.iltext.specs.Terminals.{mark, name, spaced}
+use Rattle.iltext.specs.Terminals.{delimiter, name, spaced}
 
 -- ---- variables and ports
 
@@ -30,7 +30,7 @@ port = one (λ t. port_at t.kind t)
 
 -- "." port
 unfoldable pub dot_port : Item Token Name
-dot_port = map (λ x. x.1) (seq (mark marks.Dot) port)
+dot_port = map (λ x. x.1) (seq (delimiter delimiters.Dot) port)
 
 abbrev pub symbol_of : Name → Option Name → Symbol
 symbol_of name None = symbols.Variable name
@@ -64,10 +64,10 @@ named_or named value = alt (map operands.Name named) (map operands.Constant valu
 unfoldable pub operand : Item Token (Operand Symbol)
 operand = named_or symbol literal
 
--- ---- the same in the parentheses of a call, where each word and mark takes the line ends after it
+-- ---- the same in the parentheses of a call, where each word and delimiter takes the line ends after it
 
 unfoldable pub spaced_dot_port : Item Token Name
-spaced_dot_port = map (λ x. x.1) (seq (spaced (mark marks.Dot)) (spaced port))
+spaced_dot_port = map (λ x. x.1) (seq (spaced (delimiter delimiters.Dot)) (spaced port))
 
 unfoldable pub spaced_symbol : Item Token Symbol
 spaced_symbol = map (λ x. symbol_of x.0 x.1) (seq (spaced name) (opt spaced_dot_port))

@@ -4,7 +4,7 @@ use Rattle.std.specs.Option.{option_map, option_and_then}
 use Rattle.ilgrammar.specs.Items.{is_in}
 use Rattle.iltokens.specs.declared.keyword.Keyword.{Keyword}
 use Rattle.iltokens.specs.declared.keyword.Keyword.TheVariants as words
-use Rattle.iltokens.specs.declared.lexed.Mark.TheVariants as marks
+use Rattle.iltokens.specs.declared.lexed.Delimiter.TheVariants as delimiters
 use Rattle.iltokens.specs.declared.lexed.What.TheVariants as whats
 use Rattle.iltext.specs.declared.token.Kind.{Kind}
 use Rattle.iltext.specs.declared.token.Kind.TheVariants as kinds
@@ -26,8 +26,8 @@ role_of_word word = lookup ROLES word
 -- what a token does as an operator: `&` and `&N` are AND and ANDN
 abbrev pub role_of : Kind → Option Role
 role_of (kinds.Good (whats.Keyword word)) = role_of_word word
-role_of (kinds.Good (whats.Mark marks.Ampersand)) = role_of_word words.And
-role_of (kinds.Good (whats.Mark marks.AmpersandNot)) = role_of_word words.Andn
+role_of (kinds.Good (whats.Delimiter delimiters.Ampersand)) = role_of_word words.And
+role_of (kinds.Good (whats.Delimiter delimiters.AmpersandNot)) = role_of_word words.Andn
 role_of _ = None
 
 -- whether it may stand in parentheses: all that leaves a value, and nothing that writes, leads elsewhere or calls

@@ -1,17 +1,17 @@
 -- Single tokens as items of the grammar, and the line ends after them. Line ends matter only between instructions, so
--- elsewhere each word, name or mark takes those that follow it.
+-- elsewhere each word, name or delimiter takes those that follow it.
 use Rattle.std.specs.Prelude.{ℕ, ℤ, Option, Some, None, Bool, true, false, if◌then◌else◌}
 use denote.Enum.Bare.{sameb}
 use Rattle.iltokens.specs.contracts.keyword.Keyword.{the_type as all_words}
-use Rattle.iltokens.specs.contracts.lexed.Mark.{the_type as all_marks}
+use Rattle.iltokens.specs.contracts.lexed.Delimiter.{the_type as all_delimiters}
 use Rattle.ilgrammar.specs.Items.{Item, one, map, seq, many}
 use Rattle.ilsource.specs.declared.name.Name.{Name}
 use Rattle.ilsource.specs.declared.declaration.Constant.{Constant}
 use Rattle.ilsource.specs.declared.declaration.Constant.TheVariants as constants
 use Rattle.iltokens.specs.declared.keyword.Keyword.{Keyword}
 use Rattle.iltokens.specs.declared.keyword.Keyword.TheVariants as words
-use Rattle.iltokens.specs.declared.lexed.Mark.{Mark}
-use Rattle.iltokens.specs.declared.lexed.Mark.TheVariants as marks
+use Rattle.iltokens.specs.declared.lexed.Delimiter.{Delimiter}
+use Rattle.iltokens.specs.declared.lexed.Delimiter.TheVariants as delimiters
 use Rattle.iltext.specs.declared.token.Kind.{Kind}
 use Rattle.iltokens.specs.declared.lexed.What.TheVariants as whats
 use Rattle.iltext.specs.declared.token.Kind.TheVariants as kinds
@@ -33,17 +33,17 @@ word_at w _ = None
 unfoldable pub word : Keyword → Item Token Seen
 word w = one (λ t. word_at w t.kind)
 
--- whether two marks are the same
-abbrev pub same_mark : Mark → Mark → Bool
-same_mark = sameb all_marks
+-- whether two delimiters are the same
+abbrev pub same_delimiter : Delimiter → Delimiter → Bool
+same_delimiter = sameb all_delimiters
 
-abbrev pub mark_at : Mark → Kind → Option Seen
-mark_at m (kinds.Good (whats.Mark n)) = if same_mark n m then Some tt else None
-mark_at m _ = None
+abbrev pub delimiter_at : Delimiter → Kind → Option Seen
+delimiter_at m (kinds.Good (whats.Delimiter n)) = if same_delimiter n m then Some tt else None
+delimiter_at m _ = None
 
--- this mark
-unfoldable pub mark : Mark → Item Token Seen
-mark m = one (λ t. mark_at m t.kind)
+-- this delimiter
+unfoldable pub delimiter : Delimiter → Item Token Seen
+delimiter m = one (λ t. delimiter_at m t.kind)
 
 abbrev pub name_at : Kind → Token → Option Name
 name_at (kinds.Good whats.Name) t = Some (record { from = t.from; to = t.to })
@@ -77,7 +77,7 @@ unfoldable pub number : Item Token ℤ
 number = one (λ t. number_at t.kind)
 
 abbrev pub closing_at : Kind → ℕ → Option ℕ
-closing_at (kinds.Good (whats.Mark marks.Close)) at = Some at
+closing_at (kinds.Good (whats.Delimiter delimiters.Close)) at = Some at
 closing_at _ at = None
 
 -- ")", by its place
@@ -86,7 +86,7 @@ closing = one (λ t. closing_at t.kind t.from)
 
 -- any number of line ends
 unfoldable pub line_ends : Item Token Seen
-line_ends = map (λ x. tt) (many (mark marks.LineEnd))
+line_ends = map (λ x. tt) (many (delimiter delimiters.LineEnd))
 
 -- an item and the line ends after it
 abbrev pub spaced : {A : Type 0} → Item Token A → Item Token A
@@ -94,7 +94,7 @@ spaced a = map (λ x. x.0) (seq a line_ends)
 
 -- the end of a line, and empty lines
 unfoldable pub line_break : Item Token Seen
-line_break = spaced (mark marks.LineEnd)
+line_break = spaced (delimiter delimiters.LineEnd)
 
 -- an item, the end of its line, and empty lines
 abbrev pub ended : {A : Type 0} → Item Token A → Item Token A

@@ -6,11 +6,11 @@ ghost use Rattle.ilgrammar.specs.Results.{Gives};
 ghost use Rattle.iltext.specs.Calls.{argument, next_argument, arguments, passed, call};
 
 use crate::operands::{spaced_operand, spaced_port};
-use crate::reading::{mark, name, spaced_mark};
+use crate::reading::{delimiter, name, spaced_delimiter};
 use crate::token::{Kind, Token};
 use ilgrammar::ReadError;
 use ilsource::{Name, Symbol};
-use iltokens::{Mark, What};
+use iltokens::{Delimiter, What};
 use iltrees::{Argument, Arguments};
 use std::alloc::Global;
 
@@ -23,13 +23,13 @@ fn argument<'a>(
     ensures { Gives (λ x. (x.0, x.1.now)) result ((argument block).read ts.now) }
 {
     let (port, rest) = spaced_port(ts)?;
-    let rest = spaced_mark(rest, Mark::Assign)?;
+    let rest = spaced_delimiter(rest, Delimiter::Assign)?;
     let (operand, rest) = spaced_operand(rest)?;
     let port = Symbol::Port { block, port };
     Ok((Argument { port, operand }, rest))
 }
 
-#[tactic(auto, unfolding(crate::specs::Calls::next_argument, crate::specs::Terminals::mark))]
+#[tactic(auto, unfolding(crate::specs::Calls::next_argument, crate::specs::Terminals::delimiter))]
 fn begins_next_argument(block: Name, ts: &[Token]) -> bool
     ensures { result ≡ begins (next_argument block) ts.now }
 {
@@ -37,7 +37,7 @@ fn begins_next_argument(block: Name, ts: &[Token]) -> bool
         ts,
         [
             Token {
-                kind: Kind::Good(What::Mark(Mark::Comma)),
+                kind: Kind::Good(What::Delimiter(Delimiter::Comma)),
                 ..
             },
             ..
@@ -53,7 +53,7 @@ fn next_argument<'a>(
 ) -> Result<(Argument<Symbol>, &'a [Token]), ReadError<'a, Token>>
     ensures { Gives (λ x. (x.0, x.1.now)) result ((next_argument block).read ts.now) }
 {
-    let rest = spaced_mark(ts, Mark::Comma)?;
+    let rest = spaced_delimiter(ts, Delimiter::Comma)?;
     argument(block, rest)
 }
 
@@ -87,13 +87,13 @@ fn passed<'a>(
 ) -> Result<(Vec<Argument<Symbol>>, &'a [Token]), ReadError<'a, Token>>
     ensures { Gives (λ x. (x.0.items, x.1.now)) result ((passed block).read ts.now) }
 {
-    let rest = spaced_mark(ts, Mark::Open)?;
+    let rest = spaced_delimiter(ts, Delimiter::Open)?;
     let (all, rest) = arguments(alloc, block, rest)?;
-    let rest = mark(rest, Mark::Close)?;
+    let rest = delimiter(rest, Delimiter::Close)?;
     Ok((all, rest))
 }
 
-#[tactic(auto, unfolding(crate::specs::Calls::passed, crate::specs::Terminals::mark))]
+#[tactic(auto, unfolding(crate::specs::Calls::passed, crate::specs::Terminals::delimiter))]
 fn begins_passed(block: Name, ts: &[Token]) -> bool
     ensures { result ≡ begins (passed block) ts.now }
 {
@@ -101,7 +101,7 @@ fn begins_passed(block: Name, ts: &[Token]) -> bool
         ts,
         [
             Token {
-                kind: Kind::Good(What::Mark(Mark::Open)),
+                kind: Kind::Good(What::Delimiter(Delimiter::Open)),
                 ..
             },
             ..

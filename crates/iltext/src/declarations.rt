@@ -12,14 +12,14 @@ ghost use Rattle.iltext.specs.Texts.{derived_type};
 
 use crate::block_kinds::{begins_instances, block};
 use crate::reading::{
-    line_ends, spaced_constant, spaced_mark, spaced_name, spaced_number, spaced_word,
+    line_ends, spaced_constant, spaced_delimiter, spaced_name, spaced_number, spaced_word,
 };
 use crate::token::{Kind, Token};
 use ilblocks::Kind as BlockKind;
 use ilgrammar::ReadError;
 use iloperators::IntegerType;
 use ilsource::{Constant, Declaration, Declared, Name, Specification, TypeDeclaration};
-use iltokens::{Keyword, Mark, What};
+use iltokens::{Delimiter, Keyword, What};
 use std::alloc::Global;
 
 /// SINT, INT, DINT, USINT, UINT or UDINT.
@@ -71,16 +71,16 @@ fn simple<'a>(ts: &'a [Token]) -> Result<(Specification, &'a [Token]), ReadError
 fn interval<'a>(ts: &'a [Token]) -> Result<((i64, i64), &'a [Token]), ReadError<'a, Token>>
     ensures { Gives (λ x. (x.0, x.1.now)) result (interval.read ts.now) }
 {
-    let rest = spaced_mark(ts, Mark::Open)?;
+    let rest = spaced_delimiter(ts, Delimiter::Open)?;
     let (low, rest) = spaced_number(rest)?;
-    let rest = spaced_mark(rest, Mark::Range)?;
+    let rest = spaced_delimiter(rest, Delimiter::Range)?;
     let (high, rest) = spaced_number(rest)?;
-    let rest = spaced_mark(rest, Mark::Close)?;
+    let rest = spaced_delimiter(rest, Delimiter::Close)?;
     Ok(((low, high), rest))
 }
 
 /// An integer type, or a subrange of one.
-#[tactic(auto, unfolding(crate::specs::Declarations::range, crate::specs::Declarations::interval, crate::specs::Terminals::mark))]
+#[tactic(auto, unfolding(crate::specs::Declarations::range, crate::specs::Declarations::interval, crate::specs::Terminals::delimiter))]
 fn range<'a>(ts: &'a [Token]) -> Result<(Specification, &'a [Token]), ReadError<'a, Token>>
     ensures { Gives (λ x. (x.0, x.1.now)) result (range.read ts.now) }
 {
@@ -89,7 +89,7 @@ fn range<'a>(ts: &'a [Token]) -> Result<(Specification, &'a [Token]), ReadError<
     match rest {
         [
             Token {
-                kind: Kind::Good(What::Mark(Mark::Open)),
+                kind: Kind::Good(What::Delimiter(Delimiter::Open)),
                 ..
             },
             ..
@@ -133,19 +133,19 @@ fn specification<'a>(ts: &'a [Token]) -> Result<(Specification, &'a [Token]), Re
 }
 
 /// `[":=" constant]`
-#[tactic(auto, unfolding(crate::specs::Declarations::initial, crate::specs::Terminals::mark))]
+#[tactic(auto, unfolding(crate::specs::Declarations::initial, crate::specs::Terminals::delimiter))]
 fn initial<'a>(ts: &'a [Token]) -> Result<(Option<Constant>, &'a [Token]), ReadError<'a, Token>>
     ensures { Gives (λ x. (x.0, x.1.now)) result (initial.read ts.now) }
 {
     match ts {
         [
             Token {
-                kind: Kind::Good(What::Mark(Mark::Assign)),
+                kind: Kind::Good(What::Delimiter(Delimiter::Assign)),
                 ..
             },
             ..
         ] => {
-            let rest = spaced_mark(ts, Mark::Assign)?;
+            let rest = spaced_delimiter(ts, Delimiter::Assign)?;
             let (value, rest) = spaced_constant(rest)?;
             Ok((Some(value), rest))
         }
@@ -162,7 +162,7 @@ fn typing<'a>(
 {
     let (specification, rest) = specification(ts)?;
     let (initial, rest) = initial(rest)?;
-    let rest = spaced_mark(rest, Mark::Semicolon)?;
+    let rest = spaced_delimiter(rest, Delimiter::Semicolon)?;
     Ok(((specification, initial), rest))
 }
 
@@ -174,7 +174,7 @@ pub fn type_declaration<'a>(
     ensures { Gives (λ x. (x.0, x.1.now)) result (type_declaration.read ts.now) }
 {
     let (name, rest) = spaced_name(ts)?;
-    let rest = spaced_mark(rest, Mark::Colon)?;
+    let rest = spaced_delimiter(rest, Delimiter::Colon)?;
     let ((specification, initial), rest) = typing(rest)?;
     let declaration = TypeDeclaration {
         name,
@@ -184,7 +184,7 @@ pub fn type_declaration<'a>(
     Ok((declaration, rest))
 }
 
-#[tactic(auto, unfolding(crate::specs::Declarations::next_name, crate::specs::Terminals::mark))]
+#[tactic(auto, unfolding(crate::specs::Declarations::next_name, crate::specs::Terminals::delimiter))]
 fn begins_next_name(ts: &[Token]) -> bool
     ensures { result ≡ begins next_name ts.now }
 {
@@ -192,7 +192,7 @@ fn begins_next_name(ts: &[Token]) -> bool
         ts,
         [
             Token {
-                kind: Kind::Good(What::Mark(Mark::Comma)),
+                kind: Kind::Good(What::Delimiter(Delimiter::Comma)),
                 ..
             },
             ..
@@ -205,7 +205,7 @@ fn begins_next_name(ts: &[Token]) -> bool
 fn next_name<'a>(ts: &'a [Token]) -> Result<(Name, &'a [Token]), ReadError<'a, Token>>
     ensures { Gives (λ x. (x.0, x.1.now)) result (next_name.read ts.now) }
 {
-    let rest = spaced_mark(ts, Mark::Comma)?;
+    let rest = spaced_delimiter(ts, Delimiter::Comma)?;
     spaced_name(rest)
 }
 
@@ -255,7 +255,7 @@ fn instances<'a>(ts: &'a [Token]) -> Result<(BlockKind, &'a [Token]), ReadError<
 {
     let (kind, rest) = block(ts)?;
     let rest = line_ends(rest);
-    let rest = spaced_mark(rest, Mark::Semicolon)?;
+    let rest = spaced_delimiter(rest, Delimiter::Semicolon)?;
     Ok((kind, rest))
 }
 
@@ -286,7 +286,7 @@ fn declaration<'a>(
     ensures { Gives (λ x. (x.0, x.1.now)) result (declaration.read ts.now) }
 {
     let (names, rest) = names(alloc, ts)?;
-    let rest = spaced_mark(rest, Mark::Colon)?;
+    let rest = spaced_delimiter(rest, Delimiter::Colon)?;
     let (declared, rest) = declared(rest)?;
     Ok((Declaration::new(names, declared), rest))
 }

@@ -8,7 +8,7 @@ ghost use Rattle.iltext.specs.Faults.{place_at, Reports};
 use crate::roles::{Role, is_inner, role_of};
 use crate::token::{Kind, Token};
 use ilsource::Place;
-use iltokens::{Cause, Mark, What};
+use iltokens::{Delimiter, LexicalCause, What};
 use limits::MOST_NESTING;
 use std::fmt;
 use thiserror::Error;
@@ -110,12 +110,12 @@ fn open_after(before: &[Token]) -> usize
     let mut deferred = false;
     'tokens: for token in before {
         match token.kind {
-            Kind::Good(What::Mark(Mark::Open)) => {
+            Kind::Good(What::Delimiter(Delimiter::Open)) => {
                 if deferred {
                     count += 1;
                 }
             }
-            Kind::Good(What::Mark(Mark::Close)) => count = count.saturating_sub(1),
+            Kind::Good(What::Delimiter(Delimiter::Close)) => count = count.saturating_sub(1),
             _ => {}
         }
         deferred = defers(token.kind);
@@ -130,11 +130,11 @@ fn cause_at(before: &[Token], rest: &[Token]) -> TextCause
     match rest {
         [] => TextCause::Unexpected,
         [first, ..] => match first.kind {
-            Kind::Bad(Cause::NotAscii) => TextCause::NotAscii,
-            Kind::Bad(Cause::BadToken) => TextCause::BadToken,
-            Kind::Bad(Cause::BadNumber) => TextCause::BadNumber,
-            Kind::Bad(Cause::CommentOpen) => TextCause::CommentOpen,
-            Kind::Good(What::Mark(Mark::Open)) => {
+            Kind::Bad(LexicalCause::NotAscii) => TextCause::NotAscii,
+            Kind::Bad(LexicalCause::BadToken) => TextCause::BadToken,
+            Kind::Bad(LexicalCause::BadNumber) => TextCause::BadNumber,
+            Kind::Bad(LexicalCause::CommentOpen) => TextCause::CommentOpen,
+            Kind::Good(What::Delimiter(Delimiter::Open)) => {
                 if open_after(before) >= MOST_NESTING {
                     TextCause::TooDeep
                 } else {

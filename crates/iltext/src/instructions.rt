@@ -10,13 +10,13 @@ use crate::calls::call;
 use crate::declarations::begins_name;
 use crate::operands::{operand, symbol};
 use crate::parentheses::{bounds, content, may_open};
-use crate::reading::{closing, line_break, mark, name};
+use crate::reading::{closing, delimiter, line_break, name};
 use crate::roles::{Role, role_of};
 use crate::token::Token;
 use ilgrammar::ReadError;
 use iloperators::Operator;
 use ilsource::{Name, Symbol};
-use iltokens::Mark;
+use iltokens::Delimiter;
 use iltrees::{Instruction, Line, Nested};
 use limits::MOST_NESTING;
 use std::alloc::Global;
@@ -42,7 +42,7 @@ fn on_content<'a>(
 ) -> Result<(Line<Symbol, Name>, &'a [Token]), ReadError<'a, Token>>
     ensures { Gives (λ x. (x.0, x.1.now)) result ((on_content (content 31) operator at).read ts.now) }
 {
-    let rest = mark(ts, Mark::Open)?;
+    let rest = delimiter(ts, Delimiter::Open)?;
     let mut pieces = Vec::new(alloc);
     let rest = content(MOST_NESTING - 1, at, &mut pieces, rest)?;
     let (close, rest) = closing(rest)?;
@@ -155,7 +155,7 @@ fn label<'a>(ts: &'a [Token]) -> Result<(Name, &'a [Token]), ReadError<'a, Token
     ensures { Gives (λ x. (x.0, x.1.now)) result (label.read ts.now) }
 {
     let (label, rest) = name(ts)?;
-    let rest = mark(rest, Mark::Colon)?;
+    let rest = delimiter(rest, Delimiter::Colon)?;
     Ok((label, rest))
 }
 

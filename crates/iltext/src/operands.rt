@@ -7,11 +7,11 @@ ghost use Rattle.iltext.specs.Terminals.{name, spaced};
 ghost use Rattle.iltext.specs.Operands.{port, dot_port, symbol_of, symbol, literal, operand};
 ghost use Rattle.iltext.specs.Operands.{spaced_dot_port, spaced_symbol, spaced_operand};
 
-use crate::reading::{line_ends, mark, name, spaced_mark, spaced_name};
+use crate::reading::{delimiter, line_ends, name, spaced_delimiter, spaced_name};
 use crate::token::{Kind, Token};
 use ilgrammar::ReadError;
 use ilsource::{Name, Symbol};
-use iltokens::{Keyword, Mark, What};
+use iltokens::{Delimiter, Keyword, What};
 use iltrees::Operand;
 use iltypes::Value;
 
@@ -44,7 +44,7 @@ pub fn spaced_port<'a>(ts: &'a [Token]) -> Result<(Name, &'a [Token]), ReadError
 }
 
 /// Whether `.` stands first.
-#[tactic(auto, unfolding(crate::specs::Operands::dot_port, crate::specs::Operands::spaced_dot_port, crate::specs::Terminals::mark))]
+#[tactic(auto, unfolding(crate::specs::Operands::dot_port, crate::specs::Operands::spaced_dot_port, crate::specs::Terminals::delimiter))]
 fn begins_dot_port(ts: &[Token]) -> bool
     ensures same_line { result ≡ begins dot_port ts.now }
     ensures spaced { result ≡ begins spaced_dot_port ts.now }
@@ -53,7 +53,7 @@ fn begins_dot_port(ts: &[Token]) -> bool
         ts,
         [
             Token {
-                kind: Kind::Good(What::Mark(Mark::Dot)),
+                kind: Kind::Good(What::Delimiter(Delimiter::Dot)),
                 ..
             },
             ..
@@ -66,7 +66,7 @@ fn begins_dot_port(ts: &[Token]) -> bool
 fn dot_port<'a>(ts: &'a [Token]) -> Result<(Name, &'a [Token]), ReadError<'a, Token>>
     ensures { Gives (λ x. (x.0, x.1.now)) result (dot_port.read ts.now) }
 {
-    let rest = mark(ts, Mark::Dot)?;
+    let rest = delimiter(ts, Delimiter::Dot)?;
     port(rest)
 }
 
@@ -141,7 +141,7 @@ pub fn operand<'a>(ts: &'a [Token]) -> Result<(Operand<Symbol>, &'a [Token]), Re
 fn spaced_dot_port<'a>(ts: &'a [Token]) -> Result<(Name, &'a [Token]), ReadError<'a, Token>>
     ensures { Gives (λ x. (x.0, x.1.now)) result (spaced_dot_port.read ts.now) }
 {
-    let rest = spaced_mark(ts, Mark::Dot)?;
+    let rest = spaced_delimiter(ts, Delimiter::Dot)?;
     spaced_port(rest)
 }
 
@@ -159,7 +159,7 @@ fn spaced_symbol<'a>(ts: &'a [Token]) -> Result<(Symbol, &'a [Token]), ReadError
     }
 }
 
-/// A variable, a port or a constant, with the line ends after each word and mark.
+/// A variable, a port or a constant, with the line ends after each word and delimiter.
 #[tactic(auto, unfolding(crate::specs::Operands::spaced_operand))]
 pub fn spaced_operand<'a>(
     ts: &'a [Token],

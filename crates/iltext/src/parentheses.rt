@@ -4,8 +4,8 @@ ghost use Rattle.std.specs.Prelude.{◌≡◌, ◌<◌, [], ◌∷◌, ◌++◌,
 ghost use Rattle.iltrees.specs.Trees.{piece, pieces_of, Load};
 ghost use Rattle.ilgrammar.specs.Items.{begins};
 ghost use Rattle.ilgrammar.specs.Results.{Gives, extend};
-ghost use Rattle.iltokens.specs.declared.lexed.Mark.TheVariants as marks;
-ghost use Rattle.iltext.specs.Terminals.{mark, ended};
+ghost use Rattle.iltokens.specs.declared.lexed.Delimiter.TheVariants as delimiters;
+ghost use Rattle.iltext.specs.Terminals.{delimiter, ended};
 ghost use Rattle.iltext.specs.Operands.{operand};
 ghost use Rattle.iltext.specs.Instructions.{bounds, load, beginning, applied, on_content, operands};
 ghost use Rattle.iltext.specs.Instructions.{inner, content};
@@ -13,26 +13,26 @@ ghost use Rattle.iltext.specs.InstructionSteps.{pieces_in, may_open};
 ghost use Rattle.iltext.specs.Roles.{may_nest};
 
 use crate::operands::operand;
-use crate::reading::{begins_line_end, closing, line_break, mark};
+use crate::reading::{begins_line_end, closing, delimiter, line_break};
 use crate::roles::{Role, inner_role_of, role_of};
 use crate::token::{Kind, Token};
 use ilgrammar::ReadError;
 use iloperators::Operator;
 use ilsource::Symbol;
-use iltokens::{Mark, What};
+use iltokens::{Delimiter, What};
 use iltrees::{Action, Operand, Piece};
 use std::alloc::AllocError;
 
 /// Whether `(` stands first.
-#[tactic(auto, unfolding(crate::specs::Terminals::mark))]
+#[tactic(auto, unfolding(crate::specs::Terminals::delimiter))]
 fn opens(ts: &[Token]) -> bool
-    ensures { result ≡ begins (mark marks.Open) ts.now }
+    ensures { result ≡ begins (delimiter delimiters.Open) ts.now }
 {
     matches!(
         ts,
         [
             Token {
-                kind: Kind::Good(What::Mark(Mark::Open)),
+                kind: Kind::Good(What::Delimiter(Delimiter::Open)),
                 ..
             },
             ..
@@ -48,7 +48,7 @@ pub fn bounds<'a>(
     ensures { Gives (λ x. (x.0, x.1.now)) result (bounds.read ts.now) }
 {
     let (low, rest) = operand(ts)?;
-    let rest = mark(rest, Mark::Comma)?;
+    let rest = delimiter(rest, Delimiter::Comma)?;
     let (high, rest) = operand(rest)?;
     Ok(((low, high), rest))
 }
@@ -118,7 +118,7 @@ fn on_content<'a>(
     ensures { Gives (λ rest. (pieces.new.items, rest.now)) result
         (extend pieces_in pieces.old.items ((on_content (content more) operator at).read ts.now)) }
 {
-    let rest = mark(ts, Mark::Open)?;
+    let rest = delimiter(ts, Delimiter::Open)?;
     push(pieces, at, Action::Open(operator))?;
     let rest = content(more, at, pieces, rest)?;
     let (close, rest) = closing(rest)?;

@@ -3,13 +3,13 @@
 ghost use Rattle.std.specs.Prelude.{◌≡◌, ◌<◌, List, length, IsTrue, Ok};
 ghost use Rattle.ilgrammar.specs.Items.{begins};
 ghost use Rattle.ilgrammar.specs.Results.{Gives};
-ghost use Rattle.iltext.specs.Terminals.{word, mark, name, number, constant, closing};
+ghost use Rattle.iltext.specs.Terminals.{word, delimiter, name, number, constant, closing};
 ghost use Rattle.iltext.specs.Terminals.{line_ends, spaced, line_break};
 
 use crate::token::{Kind, Token};
 use ilgrammar::ReadError;
 use ilsource::{Constant, Name};
-use iltokens::{Keyword, Mark, What};
+use iltokens::{Delimiter, Keyword, What};
 
 /// This reserved word.
 #[tactic(auto, unfolding(crate::specs::Terminals::word))]
@@ -34,15 +34,18 @@ pub fn word<'a>(ts: &'a [Token], wanted: Keyword) -> Result<&'a [Token], ReadErr
     }
 }
 
-/// This mark.
-#[tactic(auto, unfolding(crate::specs::Terminals::mark))]
-pub fn mark<'a>(ts: &'a [Token], wanted: Mark) -> Result<&'a [Token], ReadError<'a, Token>>
-    ensures { Gives (λ rest. (tt, rest.now)) result ((mark wanted).read ts.now) }
+/// This delimiter.
+#[tactic(auto, unfolding(crate::specs::Terminals::delimiter))]
+pub fn delimiter<'a>(
+    ts: &'a [Token],
+    wanted: Delimiter,
+) -> Result<&'a [Token], ReadError<'a, Token>>
+    ensures { Gives (λ rest. (tt, rest.now)) result ((delimiter wanted).read ts.now) }
 {
     match ts {
         [
             Token {
-                kind: Kind::Good(What::Mark(found)),
+                kind: Kind::Good(What::Delimiter(found)),
                 ..
             },
             rest @ ..,
@@ -115,7 +118,7 @@ pub fn closing<'a>(ts: &'a [Token]) -> Result<(usize, &'a [Token]), ReadError<'a
 {
     match ts {
         [first, rest @ ..] => match first.kind {
-            Kind::Good(What::Mark(Mark::Close)) => Ok((first.from, rest)),
+            Kind::Good(What::Delimiter(Delimiter::Close)) => Ok((first.from, rest)),
             _ => Err(ReadError::Fault(ts)),
         },
         [] => Err(ReadError::Fault(ts)),
@@ -123,9 +126,9 @@ pub fn closing<'a>(ts: &'a [Token]) -> Result<(usize, &'a [Token]), ReadError<'a
 }
 
 /// Whether a line end stands first.
-#[tactic(auto, unfolding(crate::specs::Terminals::mark, crate::specs::Terminals::line_break))]
+#[tactic(auto, unfolding(crate::specs::Terminals::delimiter, crate::specs::Terminals::line_break))]
 pub fn begins_line_end(ts: &[Token]) -> bool
-    ensures begins { result ≡ begins (mark Mark.LineEnd) ts.now }
+    ensures begins { result ≡ begins (delimiter Delimiter.LineEnd) ts.now }
     ensures breaks { result ≡ begins line_break ts.now }
     ensures some { IsTrue result → 0 < length ts.now }
 {
@@ -133,7 +136,7 @@ pub fn begins_line_end(ts: &[Token]) -> bool
         ts,
         [
             Token {
-                kind: Kind::Good(What::Mark(Mark::LineEnd)),
+                kind: Kind::Good(What::Delimiter(Delimiter::LineEnd)),
                 ..
             },
             ..
@@ -158,7 +161,7 @@ pub fn line_ends(ts: &[Token]) -> &[Token]
 pub fn line_break(ts: &[Token]) -> Result<&[Token], ReadError<'_, Token>>
     ensures { Gives (λ rest. (tt, rest.now)) result (line_break.read ts.now) }
 {
-    spaced_mark(ts, Mark::LineEnd)
+    spaced_delimiter(ts, Delimiter::LineEnd)
 }
 
 /// This reserved word and the line ends after it.
@@ -172,11 +175,14 @@ pub fn spaced_word<'a>(
     Ok(line_ends(rest))
 }
 
-/// This mark and the line ends after it.
-pub fn spaced_mark<'a>(ts: &'a [Token], wanted: Mark) -> Result<&'a [Token], ReadError<'a, Token>>
-    ensures { Gives (λ rest. (tt, rest.now)) result ((spaced (mark wanted)).read ts.now) }
+/// This delimiter and the line ends after it.
+pub fn spaced_delimiter<'a>(
+    ts: &'a [Token],
+    wanted: Delimiter,
+) -> Result<&'a [Token], ReadError<'a, Token>>
+    ensures { Gives (λ rest. (tt, rest.now)) result ((spaced (delimiter wanted)).read ts.now) }
 {
-    let rest = mark(ts, wanted)?;
+    let rest = delimiter(ts, wanted)?;
     Ok(line_ends(rest))
 }
 

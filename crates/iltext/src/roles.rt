@@ -6,7 +6,7 @@ ghost use Rattle.iltext.specs.Roles.{may_nest, inner_role_of, is_inner};
 
 use crate::token::Kind;
 use iloperators::{Condition, Function, IntegerType, Operator};
-use iltokens::{Keyword, Mark, What};
+use iltokens::{Delimiter, Keyword, What};
 
 /// What an operator does, which also says what is written after it.
 #[derive(Clone, Copy, PartialEq, Eq, Debug)]
@@ -229,8 +229,8 @@ pub fn role_of(kind: Kind) -> Option<Role>
 {
     match kind {
         Kind::Good(What::Keyword(word)) => role_of_word(word),
-        Kind::Good(What::Mark(Mark::Ampersand)) => role_of_word(Keyword::And),
-        Kind::Good(What::Mark(Mark::AmpersandNot)) => role_of_word(Keyword::Andn),
+        Kind::Good(What::Delimiter(Delimiter::Ampersand)) => role_of_word(Keyword::And),
+        Kind::Good(What::Delimiter(Delimiter::AmpersandNot)) => role_of_word(Keyword::Andn),
         _ => None,
     }
 }

@@ -1,13 +1,13 @@
 //! Tokens as the grammar sees them.
 
-use iltokens::{Cause, What};
+use iltokens::{LexicalCause, What};
 
 /// What stands at a place of a text.
 #[derive(Clone, Copy, PartialEq, Eq, Debug)]
 pub enum Kind {
     Good(What),
     /// What begins no token, and why.
-    Bad(Cause),
+    Bad(LexicalCause),
 }
 
 /// A token and its bytes `from..to` in the text.

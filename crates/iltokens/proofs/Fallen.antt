@@ -2,7 +2,7 @@
 use Rattle.std.proofs.Common.{◌≡◌, ℤ, ℕ, ◌+◌, ◌-◌, ◌^◌, ◌<◌, ◌≤◌, Bool, true, false, cond, eqb, leb, ltb, List, [], ◌∷◌}
 use Rattle.std.proofs.Common.{◌++◌, length, drop, Option, Some, None, ◌&&◌, ◌||◌, refl, ap, arith, eqb-true}
 use Rattle.std.proofs.Common.{length-drop, length-append}
-use Rattle.iltokens.specs.declared.lexed.Cause.TheVariants.{NotAscii, BadToken, BadNumber, CommentOpen}
+use Rattle.iltokens.specs.declared.lexed.LexicalCause.TheVariants.{NotAscii, BadToken, BadNumber, CommentOpen}
 use Rattle.iltokens.specs.Blanks.{AreBlanks}
 use Rattle.iltokens.specs.NumberSteps.{unsigned, signed}
 use Rattle.iltokens.specs.TimeSteps.{time}
@@ -10,7 +10,8 @@ use Rattle.iltokens.specs.AddressSteps.{Place, address}
 use Rattle.iltokens.specs.Letters.{is_letter}
 use Rattle.iltokens.specs.Digits.{is_digit}
 use Rattle.iltokens.specs.FrontSteps.{Front, end, taken, fault, in_limits, number_front, number_at, time_front, word_at}
-use Rattle.iltokens.specs.FrontSteps.{address_front, address_at, colon_at, dot_at, ampersand_at, return_at, mark_at}
+use Rattle.iltokens.specs.FrontSteps.{address_front, address_at, colon_at, dot_at, ampersand_at, return_at}
+use Rattle.iltokens.specs.FrontSteps.{delimiter_at}
 use Rattle.iltokens.specs.FrontSteps.{front_at}
 use Rattle.iltokens.specs.Tokens.{IsAfterBlanks, BeginsWith}
 
@@ -74,9 +75,9 @@ return_fits b (c ∷ bs) lt = chosen (eqb c 10) b _ _ (λ e. tt) (λ e. lt)
 below : (b n : ℕ) → n < 128 → eqb b n ≡ true → b < 128
 below b n lt e = let x = eqb-true b n e in omega arith
 
-mark_fits : (b : ℕ) (bs : List ℕ) → Fits b (mark_at (b ∷ bs))
-unfolding mark_at
-mark_fits b bs =
+delimiter_fits : (b : ℕ) (bs : List ℕ) → Fits b (delimiter_at (b ∷ bs))
+unfolding delimiter_at
+delimiter_fits b bs =
     chosen (eqb b 44) b _ _ (λ e. tt) (λ e.
     chosen (eqb b 59) b _ _ (λ e. tt) (λ e.
     chosen (eqb b 40) b _ _ (λ e. tt) (λ e.
@@ -104,7 +105,7 @@ front_fits b bs =
     chosen (eqb b 37) b _ _ (λ e. address_fits b (b ∷ bs) (below b 37 (omega arith) e)) (λ e.
     chosen (is_letter b) b _ _ (λ e. word_fits b (b ∷ bs)) (λ e.
     chosen (is_digit 10 b) b _ _ (λ e. number_fits b false (b ∷ bs) (digit_below b e)) (λ e.
-    mark_fits b bs)))))
+    delimiter_fits b bs)))))
 
 -- ---- places
 

@@ -8,10 +8,10 @@ use Rattle.std.specs.Char.{to_ascii_lowercase}
 use Rattle.std.proofs.lemmas.Bool.{leb-true, leb-false, ltb-true, ltb-false}
 use Rattle.iltokens.specs.declared.lexed.AddressKind.{AddressKind}
 use Rattle.iltokens.specs.declared.lexed.AddressKind.TheVariants as kinds
-use Rattle.iltokens.specs.declared.lexed.Mark.TheVariants as marks
+use Rattle.iltokens.specs.declared.lexed.Delimiter.TheVariants as delimiters
 use Rattle.iltokens.specs.declared.lexed.What.{What}
 use Rattle.iltokens.specs.declared.lexed.What.TheVariants as whats
-use Rattle.iltokens.specs.declared.lexed.Cause.TheVariants.{BadNumber}
+use Rattle.iltokens.specs.declared.lexed.LexicalCause.TheVariants.{BadNumber}
 use Rattle.iltokens.specs.Digits.{is_digit}
 use Rattle.iltokens.specs.NumberSteps.{unsigned, signed}
 use Rattle.iltokens.specs.TimeSteps.{time}
@@ -20,7 +20,7 @@ use Rattle.iltokens.specs.Letters.{is_letter}
 use Rattle.iltokens.specs.WordSteps.{after_name}
 use Rattle.iltokens.specs.FrontSteps.{Front, end, taken, fault, in_limits, number_front, number_at, word_kind}
 use Rattle.iltokens.specs.FrontSteps.{word_front, time_front, word_at, address_front, address_at, colon_at, dot_at}
-use Rattle.iltokens.specs.FrontSteps.{ampersand_at, mark_at, front_at}
+use Rattle.iltokens.specs.FrontSteps.{ampersand_at, delimiter_at, front_at}
 use Rattle.iltokens.specs.Spellings as forms
 use Rattle.iltokens.specs.Spellings.{Reads, Spells, IsUnsigned, IsNumber, IsTime, IsAddress}
 use Rattle.iltokens.specs.Longest.{IsWithin}
@@ -59,9 +59,9 @@ rest_at (b ∷ bs) =
     (cond (eqb b 37) (place_rest (address (b ∷ bs)))
     (cond (is_letter b) (Some (word_rest (time (b ∷ bs)) (b ∷ bs)))
     (cond (is_digit 10 b) (rest_of (unsigned (b ∷ bs)))
-    (front_rest (mark_at (b ∷ bs)))))))
+    (front_rest (delimiter_at (b ∷ bs)))))))
 
--- a whole token is told by its limits
+-- a whole token is reported by its limits
 abbrev pub Limited : What → Front → Type 0
 Limited what f = (IsWithin what × (f ≡ taken what [])) ⊎ ((IsWithin what → ⊥) × (f ≡ fault BadNumber))
 
@@ -310,32 +310,35 @@ address_reaches u kind bus place h rest =
     (limited_address kind bus place rest (address (37 ∷ others))
     (subst (λ (z : List ℕ). AddressTo kind bus place rest (address z)) e (address_to u kind bus place h rest))))
 
--- ---- marks
+-- ---- delimiters
 
 simple : (what : What) (rest : List ℕ) → IsWithin what → Reaches what rest (taken what rest) (Some rest)
 simple what rest w = (omega arith, λ z. inl (w, ap (taken what) z))
 
 -- a mark that goes on with one more byte, where this stands there
-either_mark : (what longer : What) (rest : List ℕ) (t : Bool) (b : ℕ) (bs : List ℕ) → IsWithin what → rest ≡ b ∷ bs
+either_delimiter : (what longer : What) (rest : List ℕ) (t : Bool) (b : ℕ) (bs : List ℕ) → IsWithin what → rest ≡ b ∷ bs
     → Reaches what rest (cond t (taken longer bs) (taken what rest))
     (front_rest (cond t (taken longer bs) (taken what rest)))
-either_mark what longer rest true b bs w e =
+either_delimiter what longer rest true b bs w e =
     (let size = ap length e in omega arith, λ z. absurd (let bad = sym z ∙ e in cc))
-either_mark what longer rest false b bs w e = simple what rest w
+either_delimiter what longer rest false b bs w e = simple what rest w
 
-colon_reaches : (rest : List ℕ) → Reaches (whats.Mark marks.Colon) rest (colon_at rest) (front_rest (colon_at rest))
-colon_reaches [] = simple (whats.Mark marks.Colon) [] tt
-colon_reaches (b ∷ bs) = either_mark (whats.Mark marks.Colon) (whats.Mark marks.Assign) (b ∷ bs) (eqb b 61) b bs tt refl
+colon_reaches : (rest : List ℕ) → Reaches (whats.Delimiter delimiters.Colon) rest (colon_at rest)
+    (front_rest (colon_at rest))
+colon_reaches [] = simple (whats.Delimiter delimiters.Colon) [] tt
+colon_reaches (b ∷ bs) = either_delimiter (whats.Delimiter delimiters.Colon) (whats.Delimiter delimiters.Assign)
+    (b ∷ bs) (eqb b 61) b bs tt refl
 
-dot_reaches : (rest : List ℕ) → Reaches (whats.Mark marks.Dot) rest (dot_at rest) (front_rest (dot_at rest))
-dot_reaches [] = simple (whats.Mark marks.Dot) [] tt
-dot_reaches (b ∷ bs) = either_mark (whats.Mark marks.Dot) (whats.Mark marks.Range) (b ∷ bs) (eqb b 46) b bs tt refl
+dot_reaches : (rest : List ℕ) → Reaches (whats.Delimiter delimiters.Dot) rest (dot_at rest) (front_rest (dot_at rest))
+dot_reaches [] = simple (whats.Delimiter delimiters.Dot) [] tt
+dot_reaches (b ∷ bs) = either_delimiter (whats.Delimiter delimiters.Dot) (whats.Delimiter delimiters.Range) (b ∷ bs)
+    (eqb b 46) b bs tt refl
 
 ampersand_reaches : (rest : List ℕ)
-    → Reaches (whats.Mark marks.Ampersand) rest (ampersand_at rest) (front_rest (ampersand_at rest))
-ampersand_reaches [] = simple (whats.Mark marks.Ampersand) [] tt
+    → Reaches (whats.Delimiter delimiters.Ampersand) rest (ampersand_at rest) (front_rest (ampersand_at rest))
+ampersand_reaches [] = simple (whats.Delimiter delimiters.Ampersand) [] tt
 ampersand_reaches (b ∷ bs) =
-    either_mark (whats.Mark marks.Ampersand) (whats.Mark marks.AmpersandNot) (b ∷ bs)
+    either_delimiter (whats.Delimiter delimiters.Ampersand) (whats.Delimiter delimiters.AmpersandNot) (b ∷ bs)
     ((eqb b 78) || (eqb b 110)) b bs tt refl
 
 ampersand_not : (u : List ℕ) → Reads (codes "&n") u → (n : ℕ) × (u ≡ 38 ∷ n ∷ []) × (((eqb n 78) || (eqb n 110)) ≡ true)
@@ -352,14 +355,15 @@ ampersand_not (b ∷ c ∷ []) h =
     go (inr k) = let x : c ≡ 78 = (let f = k.0 in omega arith) in rw x refl
 
 ampersand_not_at : (n : ℕ) (rest : List ℕ) → ((eqb n 78) || (eqb n 110)) ≡ true
-    → Reaches (whats.Mark marks.AmpersandNot) rest (ampersand_at (n ∷ rest)) (front_rest (ampersand_at (n ∷ rest)))
-ampersand_not_at n rest is = rw is (simple (whats.Mark marks.AmpersandNot) rest tt)
+    → Reaches (whats.Delimiter delimiters.AmpersandNot) rest (ampersand_at (n ∷ rest))
+    (front_rest (ampersand_at (n ∷ rest)))
+ampersand_not_at n rest is = rw is (simple (whats.Delimiter delimiters.AmpersandNot) rest tt)
 
 -- ---- all tokens
 
 pub reaches : (what : What) (u : List ℕ) → Spells what u → (rest : List ℕ)
     → Reaches what rest (front_at (u ++ rest)) (rest_at (u ++ rest))
-unfolding front_at mark_at is_digit
+unfolding front_at delimiter_at is_digit
 reaches (whats.Keyword k) [] h rest = absurd h.0
 reaches (whats.Keyword k) (b ∷ w) h rest =
     at_letter (whats.Keyword k) rest b (w ++ rest) h.0.0
@@ -371,18 +375,18 @@ reaches whats.Name (b ∷ w) h rest =
 reaches (whats.Number n) u h rest = number_reaches u n h rest
 reaches (whats.Time n) u h rest = time_reaches u n h rest
 reaches (whats.Address kind bus place) u h rest = address_reaches u kind bus place h rest
-reaches (whats.Mark marks.Comma) u h rest = rw h (simple (whats.Mark marks.Comma) rest tt)
-reaches (whats.Mark marks.Colon) u h rest = rw h (colon_reaches rest)
-reaches (whats.Mark marks.Semicolon) u h rest = rw h (simple (whats.Mark marks.Semicolon) rest tt)
-reaches (whats.Mark marks.Assign) u h rest = rw h (simple (whats.Mark marks.Assign) rest tt)
-reaches (whats.Mark marks.Dot) u h rest = rw h (dot_reaches rest)
-reaches (whats.Mark marks.Range) u h rest = rw h (simple (whats.Mark marks.Range) rest tt)
-reaches (whats.Mark marks.Open) u h rest = rw h (simple (whats.Mark marks.Open) rest tt)
-reaches (whats.Mark marks.Close) u h rest = rw h (simple (whats.Mark marks.Close) rest tt)
-reaches (whats.Mark marks.Ampersand) u h rest = rw h (ampersand_reaches rest)
-reaches (whats.Mark marks.AmpersandNot) u h rest =
+reaches (whats.Delimiter delimiters.Comma) u h rest = rw h (simple (whats.Delimiter delimiters.Comma) rest tt)
+reaches (whats.Delimiter delimiters.Colon) u h rest = rw h (colon_reaches rest)
+reaches (whats.Delimiter delimiters.Semicolon) u h rest = rw h (simple (whats.Delimiter delimiters.Semicolon) rest tt)
+reaches (whats.Delimiter delimiters.Assign) u h rest = rw h (simple (whats.Delimiter delimiters.Assign) rest tt)
+reaches (whats.Delimiter delimiters.Dot) u h rest = rw h (dot_reaches rest)
+reaches (whats.Delimiter delimiters.Range) u h rest = rw h (simple (whats.Delimiter delimiters.Range) rest tt)
+reaches (whats.Delimiter delimiters.Open) u h rest = rw h (simple (whats.Delimiter delimiters.Open) rest tt)
+reaches (whats.Delimiter delimiters.Close) u h rest = rw h (simple (whats.Delimiter delimiters.Close) rest tt)
+reaches (whats.Delimiter delimiters.Ampersand) u h rest = rw h (ampersand_reaches rest)
+reaches (whats.Delimiter delimiters.AmpersandNot) u h rest =
     let k = ampersand_not u h in
     let e = k.1 in
     rw e (ampersand_not_at k.0 rest k.2)
-reaches (whats.Mark marks.LineEnd) u (inl h) rest = rw h (simple (whats.Mark marks.LineEnd) rest tt)
-reaches (whats.Mark marks.LineEnd) u (inr h) rest = rw h (simple (whats.Mark marks.LineEnd) rest tt)
+reaches (whats.Delimiter delimiters.LineEnd) u (inl h) rest = rw h (simple (whats.Delimiter delimiters.LineEnd) rest tt)
+reaches (whats.Delimiter delimiters.LineEnd) u (inr h) rest = rw h (simple (whats.Delimiter delimiters.LineEnd) rest tt)

@@ -9,7 +9,7 @@ pub mod OverBlanks
 pub mod OverDigits
 pub mod ReservedWords
 pub mod Spelled
-pub mod Telling
+pub mod Reporting
 pub mod TimeLaws
 pub mod TimesAgain
 pub mod TokenLaws

@@ -35,21 +35,21 @@ digits_within base lt bs = go (digits base bs) (digits_found base lt bs)
     go (Some read) f = let e = f.2 in let le = within_append f.0 read.1 in (rw e le)
 
 -- what is read with a base goes further than the decimal digits before its hash
-further : (n size : ℕ) (rest : List ℕ) (o p : Option (ℕ × List ℕ)) (told : ℕ) (stop : List ℕ) → Within size o
-    → p ≡ Some (told, stop)
+further : (n size : ℕ) (rest : List ℕ) (o p : Option (ℕ × List ℕ)) (held : ℕ) (stop : List ℕ) → Within size o
+    → p ≡ Some (held, stop)
     → size < length stop → ReadTo n rest p → ReadTo n rest (option_or o p)
-further n size rest None p told stop within e lt h = h
-further n size rest (Some read) p told stop within e lt h =
+further n size rest None p held stop within e lt h = h
+further n size rest (Some read) p held stop within e lt h =
     let k = subst (λ (q : Option (ℕ × List ℕ)). ReadTo n rest q) e h in
     let le : length stop ≤ length rest = k.0 in
     (omega arith, λ z. absurd (let none : length rest ≡ 0 = ap length z in omega arith))
 
-digit_hash : (b : ℕ) (bs : List ℕ) → (b ≡ 50) ⊎ (b ≡ 56) → (told : ℕ) × (digits 10 (b ∷ 35 ∷ bs) ≡ Some (told, 35 ∷ bs))
+digit_hash : (b : ℕ) (bs : List ℕ) → (b ≡ 50) ⊎ (b ≡ 56) → (held : ℕ) × (digits 10 (b ∷ 35 ∷ bs) ≡ Some (held, 35 ∷ bs))
 unfolding is_digit
 digit_hash b bs (inl e) = rw e (2, ap (λ (r : ℕ × List ℕ). Some r) (stops_at 10 2 35 bs refl refl))
 digit_hash b bs (inr e) = rw e (8, ap (λ (r : ℕ × List ℕ). Some r) (stops_at 10 8 35 bs refl refl))
 
-two_digits_hash : (bs : List ℕ) → (told : ℕ) × (digits 10 (49 ∷ 54 ∷ 35 ∷ bs) ≡ Some (told, 35 ∷ bs))
+two_digits_hash : (bs : List ℕ) → (held : ℕ) × (digits 10 (49 ∷ 54 ∷ 35 ∷ bs) ≡ Some (held, 35 ∷ bs))
 unfolding is_digit
 two_digits_hash bs = (
   _,
@@ -175,11 +175,11 @@ plain_stops : (value : ℕ) (bs : List ℕ) → plain_from value (46 ∷ bs) ≡
 unfolding plain_from is_digit
 plain_stops value bs = refl
 
-placed : (kind : AddressKind) (bus place told : ℕ) (rest : List ℕ) (o : Option (ℕ × List ℕ)) → told ≡ capped bus
+placed : (kind : AddressKind) (bus place held : ℕ) (rest : List ℕ) (o : Option (ℕ × List ℕ)) → held ≡ capped bus
     → ReadTo place rest o
-    → AddressTo kind bus place rest (with_place kind told o)
-placed kind bus place told rest None e h = absurd h
-placed kind bus place told rest (Some read) e h = (h.0, λ z. (refl, e, h.1 z))
+    → AddressTo kind bus place rest (with_place kind held o)
+placed kind bus place held rest None e h = absurd h
+placed kind bus place held rest (Some read) e h = (h.0, λ z. (refl, e, h.1 z))
 
 pub address_to : (u : List ℕ) (kind : AddressKind) (bus place : ℕ) → IsAddress u kind bus place → (rest : List ℕ)
     → AddressTo kind bus place rest (address (u ++ rest))

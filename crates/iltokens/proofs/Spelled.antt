@@ -1,4 +1,4 @@
--- What is told as a token spells it.
+-- What is reported as a token spells it.
 use Rattle.std.proofs.Common.{◌≡◌, ℕ, Bool, true, false, cond, eqb, List, [], ◌∷◌, ◌++◌, Option, Some, None, ◌&&◌, refl}
 use Rattle.std.proofs.Common.{sym, ap, ◌∙◌, append_assoc, arith, eqb-true}
 use Rattle.std.specs.Prelude.{codes}
@@ -143,10 +143,10 @@ AddressAt bs (Some p) =
 
 module _ (bs : List ℕ) (kind : AddressKind) (prefix numbers : List ℕ) (begins : bs ≡ prefix ++ numbers)
     (reads : Reads (forms.prefix_of kind) prefix) where
-  module _ (told bus : ℕ) (first dot : List ℕ) (on_bus : forms.PlainDigits first bus) (is : numbers ≡ first ++ dot)
-      (kept : told ≡ capped bus) where
+  module _ (held bus : ℕ) (first dot : List ℕ) (on_bus : forms.PlainDigits first bus) (is : numbers ≡ first ++ dot)
+      (kept : held ≡ capped bus) where
     placed : (others : List ℕ) (o : Option (ℕ × List ℕ)) → dot ≡ 46 ∷ others → Found forms.PlainDigits others o
-        → AddressAt bs (with_place kind told o)
+        → AddressAt bs (with_place kind held o)
     placed others None e h = tt
     placed others (Some read) e h = (
       prefix ++ first ++ codes "." ++ h.0,
@@ -154,7 +154,15 @@ module _ (bs : List ℕ) (kind : AddressKind) (prefix numbers : List ℕ) (begin
       h.1,
       begins ∙ ap (λ (z : List ℕ). prefix ++ z)
           (is ∙ ap (λ (z : List ℕ). first ++ z) (e ∙ ap (λ (z : List ℕ). 46 ∷ z) h.2)) ∙ regroup h.0 read.1,
-      record { prefix = prefix; first = first; second = h.0; parts = refl; reads = reads; on_bus = on_bus; at_place = h.3 },
+      record {
+        prefix = prefix;
+        first = first;
+        second = h.0;
+        parts = refl;
+        reads = reads;
+        on_bus = on_bus;
+        at_place = h.3;
+      },
       kept,
       h.4,
     )
@@ -163,11 +171,11 @@ module _ (bs : List ℕ) (kind : AddressKind) (prefix numbers : List ℕ) (begin
             → prefix ++ (first ++ 46 ∷ (u ++ rest)) ≡ ((prefix ++ first) ++ codes "." ++ u) ++ rest
         regroup u rest = simp append_assoc
 
-    dotted : (ds : List ℕ) → dot ≡ ds → AddressAt bs (after_dot kind told ds)
+    dotted : (ds : List ℕ) → dot ≡ ds → AddressAt bs (after_dot kind held ds)
     dotted [] e = tt
     dotted (b ∷ others) e = go (eqb b 46) refl
       where
-        go : (t : Bool) → eqb b 46 ≡ t → AddressAt bs (cond t (with_place kind told (plain others)) None)
+        go : (t : Bool) → eqb b 46 ≡ t → AddressAt bs (cond t (with_place kind held (plain others)) None)
         go true same = placed others (plain others) (let x = eqb-true b 46 same in rw (← x) e) (plain_found others)
         go false same = tt
 

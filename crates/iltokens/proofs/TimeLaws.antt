@@ -55,11 +55,11 @@ some_time units.Millisecond = omega arith
 pub scale_grows : (unit : Unit) (count : ℕ) → count ≤ count * milliseconds unit
 scale_grows unit count = le-mul_of_pos_right count (some_time unit)
 
-scaled_found : (unit : Unit) (bs number others : List ℕ) (count told : ℕ) (o : Option (List ℕ)) → bs ≡ number ++ others
-    → forms.Digits 10 number count → told
-    ≡ capped count → WordAt (forms.letters unit) others o → Found (IsPart unit) bs (scaled unit told o)
-scaled_found unit bs number others count told None e are kept w = tt
-scaled_found unit bs number others count told (Some rest) e are kept w = (
+scaled_found : (unit : Unit) (bs number others : List ℕ) (count held : ℕ) (o : Option (List ℕ)) → bs ≡ number ++ others
+    → forms.Digits 10 number count → held
+    ≡ capped count → WordAt (forms.letters unit) others o → Found (IsPart unit) bs (scaled unit held o)
+scaled_found unit bs number others count held None e are kept w = tt
+scaled_found unit bs number others count held (Some rest) e are kept w = (
   number ++ w.0,
   count * milliseconds unit,
   e ∙ ap (λ (z : List ℕ). number ++ z) w.1 ∙ sym (append_assoc number w.0 rest),
@@ -101,9 +101,9 @@ unmarked (b ∷ bs) = go (eqb b 95)
     go true = refl
     go false = refl
 
-marks : (rest : List ℕ) → (rest ≡ after_mark true rest) ⊎ (rest ≡ 95 ∷ after_mark true rest)
-marks [] = inl refl
-marks (b ∷ bs) = go (eqb b 95) refl
+delimiters : (rest : List ℕ) → (rest ≡ after_mark true rest) ⊎ (rest ≡ 95 ∷ after_mark true rest)
+delimiters [] = inl refl
+delimiters (b ∷ bs) = go (eqb b 95) refl
   where
     go : (t : Bool) → eqb b 95 ≡ t
         → (b ∷ bs ≡ cond (t && true) bs (b ∷ bs)) ⊎ (b ∷ bs ≡ 95 ∷ cond (t && true) bs (b ∷ bs))
@@ -113,9 +113,9 @@ marks (b ∷ bs) = go (eqb b 95) refl
 abbrev pub state : ℕ → Bool → List ℕ → Parts
 state total some rest = record { total = total; some = some; rest = rest }
 
-pub summed : (total told value n : ℕ) → total ≡ capped value → told ≡ capped n
-    → min (total + told) (2 ^ 64 - 1) ≡ capped (value + n)
-summed total told value n e f = omega arith
+pub summed : (total held value n : ℕ) → total ≡ capped value → held ≡ capped n
+    → min (total + held) (2 ^ 64 - 1) ≡ capped (value + n)
+summed total held value n e f = omega arith
 
 module _ (unit : Unit) (limit : ℕ) (lt : milliseconds unit < limit) (bs : List ℕ) where
   one_part : (some : Bool) (total : ℕ) (rest : List ℕ) → GoodWhen some limit bs total rest → (o : Option (ℕ × List ℕ))
@@ -130,7 +130,7 @@ module _ (unit : Unit) (limit : ℕ) (lt : milliseconds unit < limit) (bs : List
     (let a = h.1 in let b = f.4 in omega arith),
     omega arith,
   )
-  one_part true total rest h (Some read) f = go (marks rest)
+  one_part true total rest h (Some read) f = go (delimiters rest)
     where
       smaller : milliseconds unit < h.2
       smaller = let le = h.6 in omega arith

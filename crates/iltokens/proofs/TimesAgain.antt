@@ -241,19 +241,19 @@ run (x ∷ us) p = run us (with_part x p)
 abbrev Ends : ℕ → List ℕ → Parts → Type 0
 Ends n rest p = (p.some ≡ true) × (length p.rest ≤ length rest) × (rest ≡ [] → p.total ≡ capped n)
 
-with_is : (x : Unit) (told : ℕ) (some : Bool) (bs : List ℕ)
-    → with_part x (state told some bs) ≡ added (state told some bs) (part x (after_mark some bs))
+with_is : (x : Unit) (held : ℕ) (some : Bool) (bs : List ℕ)
+    → with_part x (state held some bs) ≡ added (state held some bs) (part x (after_mark some bs))
 unfolding with_part parts_begin
-with_is x told some bs = refl
+with_is x held some bs = refl
 
-skips : (x : Unit) (us : List Unit) (told : ℕ) (some : Bool) (bs : List ℕ) → part x (after_mark some bs) ≡ None
-    → run (x ∷ us) (state told some bs) ≡ run us (state told some bs)
-skips x us told some bs e = ap (run us) (with_is x told some bs ∙ ap (added (state told some bs)) e)
+skips : (x : Unit) (us : List Unit) (held : ℕ) (some : Bool) (bs : List ℕ) → part x (after_mark some bs) ≡ None
+    → run (x ∷ us) (state held some bs) ≡ run us (state held some bs)
+skips x us held some bs e = ap (run us) (with_is x held some bs ∙ ap (added (state held some bs)) e)
 
-reads_one : (x : Unit) (us : List Unit) (told : ℕ) (some : Bool) (bs : List ℕ) (read : ℕ × List ℕ)
+reads_one : (x : Unit) (us : List Unit) (held : ℕ) (some : Bool) (bs : List ℕ) (read : ℕ × List ℕ)
     → part x (after_mark some bs) ≡ Some read
-    → run (x ∷ us) (state told some bs) ≡ run us (state (min (told + read.0) (2 ^ 64 - 1)) true read.1)
-reads_one x us told some bs read e = ap (run us) (with_is x told some bs ∙ ap (added (state told some bs)) e)
+    → run (x ∷ us) (state held some bs) ≡ run us (state (min (held + read.0) (2 ^ 64 - 1)) true read.1)
+reads_one x us held some bs read e = ap (run us) (with_is x held some bs ∙ ap (added (state held some bs)) e)
 
 mark_shorter : (some : Bool) (bs : List ℕ) → length (after_mark some bs) ≤ length bs
 mark_shorter some [] = omega arith
@@ -282,77 +282,77 @@ part_less x bs read e = go (subst (λ (o : Option (ℕ × List ℕ)). Found (IsP
 
 -- where a part stands already, what is read is no more than what is there
 abbrev Goes : List ℕ → ℕ → Parts → Type 0
-Goes rest told p = (p.some ≡ true) × (length p.rest ≤ length rest) × (rest ≡ [] → p.total ≡ told)
+Goes rest held p = (p.some ≡ true) × (length p.rest ≤ length rest) × (rest ≡ [] → p.total ≡ held)
 
-goes_on : (us : List Unit) (told : ℕ) (rest : List ℕ) → Goes rest told (run us (state told true rest))
-goes_on [] told rest = (refl, omega arith, λ e. refl)
-goes_on (x ∷ us) told rest = go (part x (after_mark true rest)) refl (λ n bs. goes_on us n bs)
+goes_on : (us : List Unit) (held : ℕ) (rest : List ℕ) → Goes rest held (run us (state held true rest))
+goes_on [] held rest = (refl, omega arith, λ e. refl)
+goes_on (x ∷ us) held rest = go (part x (after_mark true rest)) refl (λ n bs. goes_on us n bs)
   where
     go : (o : Option (ℕ × List ℕ)) → part x (after_mark true rest) ≡ o
         → ((n : ℕ) (bs : List ℕ) → Goes bs n (run us (state n true bs)))
-        → Goes rest told (run (x ∷ us) (state told true rest))
-    go None e ih = subst (λ (p : Parts). Goes rest told p) (sym (skips x us told true rest e)) (ih told rest)
+        → Goes rest held (run (x ∷ us) (state held true rest))
+    go None e ih = subst (λ (p : Parts). Goes rest held p) (sym (skips x us held true rest e)) (ih held rest)
     go (Some read) e ih =
         let less = part_less x (after_mark true rest) read e in
         let marked = mark_shorter true rest in
-        let h = ih (min (told + read.0) (2 ^ 64 - 1)) read.1 in
-        subst (λ (p : Parts). Goes rest told p) (sym (reads_one x us told true rest read e))
+        let h = ih (min (held + read.0) (2 ^ 64 - 1)) read.1 in
+        subst (λ (p : Parts). Goes rest held p) (sym (reads_one x us held true rest read e))
         (h.0, (let le = h.1 in omega arith), (λ n. absurd (let z : length rest ≡ 0 = ap length n in omega arith)))
 
 -- what follows these units' parts is read in their order
 abbrev Reached : List Unit → Type 0
 Reached us =
-    (some : Bool) (w : List ℕ) (n told total : ℕ) (rest : List ℕ) → Falling some us w n → told ≡ capped total
-    → Ends (total + n) rest (run us (state told some (w ++ rest)))
+    (some : Bool) (w : List ℕ) (n held total : ℕ) (rest : List ℕ) → Falling some us w n → held ≡ capped total
+    → Ends (total + n) rest (run us (state held some (w ++ rest)))
 
 reached_none : Reached []
-reached_none some w n told total rest h e = (h.0, rw h.1 (omega arith), λ z. (let f = h.2 in omega arith))
+reached_none some w n held total rest h e = (h.0, rw h.1 (omega arith), λ z. (let f = h.2 in omega arith))
 
-nothing_left : (us : List Unit) (some : Bool) (w : List ℕ) (n told total : ℕ) (rest : List ℕ) → IsNothing some w n
-    → told ≡ capped total
-    → Ends (total + n) rest (run us (state told some (w ++ rest)))
-nothing_left us some w n told total rest h e =
-    let k = goes_on us told rest in
+nothing_left : (us : List Unit) (some : Bool) (w : List ℕ) (n held total : ℕ) (rest : List ℕ) → IsNothing some w n
+    → held ≡ capped total
+    → Ends (total + n) rest (run us (state held some (w ++ rest)))
+nothing_left us some w n held total rest h e =
+    let k = goes_on us held rest in
     rw (h.0, h.1) (k.0, k.1, λ z. k.2 z ∙ (let f = h.2 in omega arith))
 
 -- one unit more, whose part isn't there
 reached_skip : (x : Unit) (us : List Unit) → AllApart x us → Reached us
-    → (some : Bool) (w : List ℕ) (n told total : ℕ) (rest : List ℕ)
-    → Falling some us w n → told ≡ capped total → Ends (total + n) rest (run (x ∷ us) (state told some (w ++ rest)))
-reached_skip x us apart ih some w n told total rest h e = go (blocked x us apart some w n h)
+    → (some : Bool) (w : List ℕ) (n held total : ℕ) (rest : List ℕ)
+    → Falling some us w n → held ≡ capped total → Ends (total + n) rest (run (x ∷ us) (state held some (w ++ rest)))
+reached_skip x us apart ih some w n held total rest h e = go (blocked x us apart some w n h)
   where
     go : IsNothing some w n ⊎ ((rest : List ℕ) → part x (after_mark some (w ++ rest)) ≡ None)
-        → Ends (total + n) rest (run (x ∷ us) (state told some (w ++ rest)))
-    go (inl nothing) = nothing_left (x ∷ us) some w n told total rest nothing e
+        → Ends (total + n) rest (run (x ∷ us) (state held some (w ++ rest)))
+    go (inl nothing) = nothing_left (x ∷ us) some w n held total rest nothing e
     go (inr stops) =
-        subst (λ (p : Parts). Ends (total + n) rest p) (sym (skips x us told some (w ++ rest) (stops rest)))
-        (ih some w n told total rest h e)
+        subst (λ (p : Parts). Ends (total + n) rest p) (sym (skips x us held some (w ++ rest) (stops rest)))
+        (ih some w n held total rest h e)
 
 -- one unit more, whose part is read
-reached_take : (x : Unit) (us : List Unit) → Reached us → (some : Bool) (w : List ℕ) (n told total : ℕ) (rest : List ℕ)
+reached_take : (x : Unit) (us : List Unit) → Reached us → (some : Bool) (w : List ℕ) (n held total : ℕ) (rest : List ℕ)
     → (t : Takes some x (λ v b. Falling true us v b) w n)
-    → after_unit x (t.is.word ++ (t.others ++ rest)) ≡ Some (t.others ++ rest) → told ≡ capped total
-    → Ends (total + n) rest (run (x ∷ us) (state told some (w ++ rest)))
-reached_take x us ih some w n told total rest t own e =
+    → after_unit x (t.is.word ++ (t.others ++ rest)) ≡ Some (t.others ++ rest) → held ≡ capped total
+    → Ends (total + n) rest (run (x ∷ us) (state held some (w ++ rest)))
+reached_take x us ih some w n held total rest t own e =
     let whole : w ++ rest ≡ (t.lead ++ t.here) ++ (t.others ++ rest) = ap
     (λ (z : List ℕ). z ++ rest) t.parts ∙ append_assoc (t.lead ++ t.here) t.others rest in
     let read : part x (after_mark some (w ++ rest)) ≡ Some (capped t.first, t.others ++ rest) =
     ap (λ (z : List ℕ). part x (after_mark some z)) whole ∙ ap (part x)
     (led x some t.lead t.here (t.others ++ rest) t.first t.mark t.is) ∙ part_some x t.here
     (t.others ++ rest) t.first t.is own in
-    let kept : min (told + capped t.first) (2 ^ 64 - 1) ≡ capped (total + t.first) = summed told
+    let kept : min (held + capped t.first) (2 ^ 64 - 1) ≡ capped (total + t.first) = summed held
     (capped t.first) total t.first e refl in
-    let h = ih true t.others t.sum (min (told + capped t.first) (2 ^ 64 - 1)) (total + t.first) rest t.more kept in
+    let h = ih true t.others t.sum (min (held + capped t.first) (2 ^ 64 - 1)) (total + t.first) rest t.more kept in
     let sums : (total + t.first) + t.sum ≡ total + n = (let s = t.total in omega arith) in
     subst (λ (p : Parts). Ends (total + n) rest p)
-    (sym (reads_one x us told some (w ++ rest) (capped t.first, t.others ++ rest) read))
+    (sym (reads_one x us held some (w ++ rest) (capped t.first, t.others ++ rest) read))
     (h.0, h.1, λ z. h.2 z ∙ ap capped sums)
 
 reached_unit : (x : Unit) (us : List Unit) → AllApart x us → Own x → Reached us → Reached (x ∷ us)
-reached_unit x us apart own ih some w n told total rest (inl h) e =
-    reached_skip x us apart ih some w n told total rest h e
-reached_unit x us apart own ih some w n told total rest (inr t) e =
-    reached_take x us ih some w n told total rest t (own t.is.word (t.others ++ rest) t.is.reads) e
+reached_unit x us apart own ih some w n held total rest (inl h) e =
+    reached_skip x us apart ih some w n held total rest h e
+reached_unit x us apart own ih some w n held total rest (inr t) e =
+    reached_take x us ih some w n held total rest t (own t.is.word (t.others ++ rest) t.is.reads) e
 
 reached_millis : Reached (below units.Second)
 reached_millis = reached_unit units.Millisecond [] tt own_milli reached_none
@@ -412,13 +412,13 @@ minute_apart : AllApart units.Minute (below units.Minute)
 minute_apart = (minute_second, (minute_milli, tt))
 
 reached_minutes : Reached (below units.Hour)
-reached_minutes some w n told total rest (inl h) e =
-    reached_skip units.Minute (below units.Minute) minute_apart reached_seconds some w n told total rest h e
-reached_minutes some w n told total rest (inr t) e = go (own_minute t.is.word (t.others ++ rest) t.is.reads)
+reached_minutes some w n held total rest (inl h) e =
+    reached_skip units.Minute (below units.Minute) minute_apart reached_seconds some w n held total rest h e
+reached_minutes some w n held total rest (inr t) e = go (own_minute t.is.word (t.others ++ rest) t.is.reads)
   where
     go : (after_unit units.Minute (t.is.word ++ (t.others ++ rest)) ≡ Some (t.others ++ rest)) ⊎ BeginsSecond
-        (t.others ++ rest) → Ends (total + n) rest (run (below units.Hour) (state told some (w ++ rest)))
-    go (inl own) = reached_take units.Minute (below units.Minute) reached_seconds some w n told total rest t own e
+        (t.others ++ rest) → Ends (total + n) rest (run (below units.Hour) (state held some (w ++ rest)))
+    go (inl own) = reached_take units.Minute (below units.Minute) reached_seconds some w n held total rest t own e
     go (inr s) = instead (begins_no_second (below units.Minute) t.others rest t.sum t.more s)
       where
         regroup : (c : ℕ) (others : List ℕ)
@@ -430,7 +430,7 @@ reached_minutes some w n told total rest (inr t) e = go (own_minute t.is.word (t
             (append_assoc t.here (c ∷ []) others))
 
         -- what is read then ends behind the s
-        instead : t.others ≡ [] → Ends (total + n) rest (run (below units.Hour) (state told some (w ++ rest)))
+        instead : t.others ≡ [] → Ends (total + n) rest (run (below units.Hour) (state held some (w ++ rest)))
         instead none =
             let follows : rest ≡ s.0 ∷ s.1 = ap (λ (z : List ℕ). z ++ rest) (sym none) ∙ s.2 in
             let part = joined t.here t.first s.0 t.is s.3 in
@@ -451,7 +451,7 @@ reached_minutes some w n told total rest (inr t) e = go (own_minute t.is.word (t
               more = (refl, refl, refl);
             })) in
             let h = reached_skip units.Minute (below units.Minute) minute_apart reached_seconds some
-            (t.lead ++ (t.here ++ s.0 ∷ [])) (t.is.count * 1 + 0) told total s.1 millis e in
+            (t.lead ++ (t.here ++ s.0 ∷ [])) (t.is.count * 1 + 0) held total s.1 millis e in
             rw whole (
               h.0,
               (let le = h.1 in let size : length rest ≡ suc
@@ -522,7 +522,18 @@ opens _ _ _ (AreParts.first unit u n is) = (
   unit,
   refl,
   λ w m more. from_first unit (u ++ w) (n + m)
-      (inr (record { lead = []; here = u; others = w; first = n; sum = m; parts = refl; total = refl; mark = inl refl; is = is; more = more })),
+      (inr (record {
+        lead = [];
+        here = u;
+        others = w;
+        first = n;
+        sum = m;
+        parts = refl;
+        total = refl;
+        mark = inl refl;
+        is = is;
+        more = more;
+      })),
 )
 opens _ _ _ (AreParts.then least v m unit u n h lt is) =
     let k = opens least v m h in (
@@ -530,7 +541,18 @@ opens _ _ _ (AreParts.then least v m unit u n h lt is) =
       refl,
       λ w j more.
           let later = k.2 (u ++ w) (n + j) (suffix k.0 unit (let e = k.1 in omega arith) (u ++ w) (n + j)
-          (inr (record { lead = []; here = u; others = w; first = n; sum = j; parts = refl; total = refl; mark = inl refl; is = is; more = more }))) in
+          (inr (record {
+            lead = [];
+            here = u;
+            others = w;
+            first = n;
+            sum = j;
+            parts = refl;
+            total = refl;
+            mark = inl refl;
+            is = is;
+            more = more;
+          }))) in
           subst (λ (z : List ℕ). Falling false all_units z ((m + n) + j)) (sym (append_assoc v u w))
           (subst (λ (s : ℕ). Falling false all_units (v ++ (u ++ w)) s) (omega arith) later),
     )
@@ -540,7 +562,18 @@ opens _ _ _ (AreParts.apart least v m unit u n h lt is) =
       refl,
       λ w j more.
           let later = k.2 (95 ∷ u ++ w) (n + j) (suffix k.0 unit (let e = k.1 in omega arith) (95 ∷ u ++ w) (n + j)
-          (inr (record { lead = 95 ∷ []; here = u; others = w; first = n; sum = j; parts = refl; total = refl; mark = inr (refl, refl); is = is; more = more }))) in
+          (inr (record {
+            lead = 95 ∷ [];
+            here = u;
+            others = w;
+            first = n;
+            sum = j;
+            parts = refl;
+            total = refl;
+            mark = inr (refl, refl);
+            is = is;
+            more = more;
+          }))) in
           subst (λ (z : List ℕ). Falling false all_units z ((m + n) + j)) (sym (append_assoc v (95 ∷ u) w))
           (subst (λ (s : ℕ). Falling false all_units (v ++ (95 ∷ u ++ w)) s) (omega arith) later),
     )

@@ -2,11 +2,11 @@
 use Rattle.std.specs.Prelude.{ℕ, ℤ, ◌-◌, ◌^◌, List, [], ◌∷◌, length, take, drop, Option, Some, None}
 use Rattle.std.specs.Prelude.{Bool, true, false, ◌&&◌, ◌||◌, ◌==◌, nat_le, nat_lt, if◌then◌else◌}
 use Rattle.iltokens.specs.declared.keyword.Keyword.{Keyword}
-use Rattle.iltokens.specs.declared.lexed.Mark.TheVariants as marks
+use Rattle.iltokens.specs.declared.lexed.Delimiter.TheVariants as delimiters
 use Rattle.iltokens.specs.declared.lexed.What.{What}
 use Rattle.iltokens.specs.declared.lexed.What.TheVariants as whats
-use Rattle.iltokens.specs.declared.lexed.Cause.{Cause}
-use Rattle.iltokens.specs.declared.lexed.Cause.TheVariants.{NotAscii, BadToken, BadNumber}
+use Rattle.iltokens.specs.declared.lexed.LexicalCause.{LexicalCause}
+use Rattle.iltokens.specs.declared.lexed.LexicalCause.TheVariants.{NotAscii, BadToken, BadNumber}
 use Rattle.iltokens.specs.Digits.{is_digit}
 use Rattle.iltokens.specs.NumberSteps.{unsigned, signed}
 use Rattle.iltokens.specs.TimeSteps.{time}
@@ -19,7 +19,7 @@ use Rattle.iltokens.specs.AddressSteps.{Place, address}
 pub data Front : Type 0 where
   end : Front
   taken : What → List ℕ → Front
-  fault : Cause → Front
+  fault : LexicalCause → Front
 
 abbrev pub in_limits : Option ℤ → List ℕ → Front
 in_limits None rest = fault BadNumber
@@ -63,39 +63,45 @@ address_at bs = address_front (address bs)
 
 -- after `:`
 abbrev pub colon_at : List ℕ → Front
-colon_at [] = taken (whats.Mark marks.Colon) []
-colon_at (b ∷ bs) = if b == 61 then taken (whats.Mark marks.Assign) bs else taken (whats.Mark marks.Colon) (b ∷ bs)
+colon_at [] = taken (whats.Delimiter delimiters.Colon) []
+colon_at (b ∷ bs) =
+    if b == 61
+    then taken (whats.Delimiter delimiters.Assign) bs
+    else taken (whats.Delimiter delimiters.Colon) (b ∷ bs)
 
 -- after `.`
 abbrev pub dot_at : List ℕ → Front
-dot_at [] = taken (whats.Mark marks.Dot) []
-dot_at (b ∷ bs) = if b == 46 then taken (whats.Mark marks.Range) bs else taken (whats.Mark marks.Dot) (b ∷ bs)
+dot_at [] = taken (whats.Delimiter delimiters.Dot) []
+dot_at (b ∷ bs) =
+    if b == 46
+    then taken (whats.Delimiter delimiters.Range) bs
+    else taken (whats.Delimiter delimiters.Dot) (b ∷ bs)
 
 -- after `&`
 abbrev pub ampersand_at : List ℕ → Front
-ampersand_at [] = taken (whats.Mark marks.Ampersand) []
+ampersand_at [] = taken (whats.Delimiter delimiters.Ampersand) []
 ampersand_at (b ∷ bs) =
     if (b == 78) || (b == 110)
-    then taken (whats.Mark marks.AmpersandNot) bs
-    else taken (whats.Mark marks.Ampersand) (b ∷ bs)
+    then taken (whats.Delimiter delimiters.AmpersandNot) bs
+    else taken (whats.Delimiter delimiters.Ampersand) (b ∷ bs)
 
 -- after a carriage return
 abbrev pub return_at : List ℕ → Front
 return_at [] = fault BadToken
-return_at (b ∷ bs) = if b == 10 then taken (whats.Mark marks.LineEnd) bs else fault BadToken
+return_at (b ∷ bs) = if b == 10 then taken (whats.Delimiter delimiters.LineEnd) bs else fault BadToken
 
--- a mark, a line end or what begins no token
-unfoldable pub mark_at : List ℕ → Front
-mark_at [] = end
-mark_at (b ∷ bs) =
-    if b == 44 then taken (whats.Mark marks.Comma) bs
-    else (if b == 59 then taken (whats.Mark marks.Semicolon) bs
-    else (if b == 40 then taken (whats.Mark marks.Open) bs
-    else (if b == 41 then taken (whats.Mark marks.Close) bs
+-- a delimiter, a line end or what begins no token
+unfoldable pub delimiter_at : List ℕ → Front
+delimiter_at [] = end
+delimiter_at (b ∷ bs) =
+    if b == 44 then taken (whats.Delimiter delimiters.Comma) bs
+    else (if b == 59 then taken (whats.Delimiter delimiters.Semicolon) bs
+    else (if b == 40 then taken (whats.Delimiter delimiters.Open) bs
+    else (if b == 41 then taken (whats.Delimiter delimiters.Close) bs
     else (if b == 58 then colon_at bs
     else (if b == 46 then dot_at bs
     else (if b == 38 then ampersand_at bs
-    else (if b == 10 then taken (whats.Mark marks.LineEnd) bs
+    else (if b == 10 then taken (whats.Delimiter delimiters.LineEnd) bs
     else (if b == 13 then return_at bs
     else (if nat_le 128 b then fault NotAscii
     else fault BadToken)))))))))
@@ -108,4 +114,4 @@ front_at (b ∷ bs) =
     else (if b == 37 then address_at (b ∷ bs)
     else (if is_letter b then word_at (b ∷ bs)
     else (if is_digit 10 b then number_at false (b ∷ bs)
-    else mark_at (b ∷ bs)))))
+    else delimiter_at (b ∷ bs)))))

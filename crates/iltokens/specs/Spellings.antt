@@ -5,8 +5,8 @@ use Rattle.std.specs.Char.{to_ascii_lowercase}
 use Rattle.iltokens.specs.declared.lexed.AddressKind.{AddressKind}
 use Rattle.iltokens.specs.declared.lexed.AddressKind.TheVariants as kinds
 use Rattle.iltokens.specs.declared.keyword.Keyword.{Keyword}
-use Rattle.iltokens.specs.declared.lexed.Mark.{Mark}
-use Rattle.iltokens.specs.declared.lexed.Mark.TheVariants as marks
+use Rattle.iltokens.specs.declared.lexed.Delimiter.{Delimiter}
+use Rattle.iltokens.specs.declared.lexed.Delimiter.TheVariants as delimiters
 use Rattle.iltokens.specs.declared.lexed.What.{What}
 use Rattle.iltokens.specs.declared.lexed.What.TheVariants as whats
 use Rattle.iltokens.specs.declared.time.Unit.{Unit}
@@ -115,21 +115,21 @@ pub record IsAddress (u : List ℕ) (kind : AddressKind) (bus place : ℕ) : Typ
   pub on_bus : PlainDigits first bus
   pub at_place : PlainDigits second place
 
--- ---- marks
+-- ---- delimiters
 
-abbrev pub IsMark : Mark → List ℕ → Type 0
-IsMark marks.Comma u = u ≡ codes ","
-IsMark marks.Colon u = u ≡ codes ":"
-IsMark marks.Semicolon u = u ≡ codes ";"
-IsMark marks.Assign u = u ≡ codes ":="
-IsMark marks.Dot u = u ≡ codes "."
-IsMark marks.Range u = u ≡ codes ".."
-IsMark marks.Open u = u ≡ codes "("
-IsMark marks.Close u = u ≡ codes ")"
-IsMark marks.Ampersand u = u ≡ codes "&"
-IsMark marks.AmpersandNot u = Reads (codes "&n") u
+abbrev pub IsDelimiter : Delimiter → List ℕ → Type 0
+IsDelimiter delimiters.Comma u = u ≡ codes ","
+IsDelimiter delimiters.Colon u = u ≡ codes ":"
+IsDelimiter delimiters.Semicolon u = u ≡ codes ";"
+IsDelimiter delimiters.Assign u = u ≡ codes ":="
+IsDelimiter delimiters.Dot u = u ≡ codes "."
+IsDelimiter delimiters.Range u = u ≡ codes ".."
+IsDelimiter delimiters.Open u = u ≡ codes "("
+IsDelimiter delimiters.Close u = u ≡ codes ")"
+IsDelimiter delimiters.Ampersand u = u ≡ codes "&"
+IsDelimiter delimiters.AmpersandNot u = Reads (codes "&n") u
 -- LF, or CR and LF
-IsMark marks.LineEnd u = (u ≡ 10 ∷ []) ⊎ (u ≡ 13 ∷ 10 ∷ [])
+IsDelimiter delimiters.LineEnd u = (u ≡ 10 ∷ []) ⊎ (u ≡ 13 ∷ 10 ∷ [])
 
 -- ---- all kinds
 
@@ -139,4 +139,4 @@ Spells whats.Name u = IsName u × ((w : Keyword) → ¬ IsSpelled u w)
 Spells (whats.Number n) u = IsNumber u n
 Spells (whats.Time n) u = IsTime u n
 Spells (whats.Address kind bus place) u = IsAddress u kind bus place
-Spells (whats.Mark m) u = IsMark m u
+Spells (whats.Delimiter m) u = IsDelimiter m u

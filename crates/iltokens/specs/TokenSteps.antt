@@ -2,7 +2,7 @@
 use Rattle.std.specs.Prelude.{ℕ, ◌-◌, List, length, drop, Result, Ok, Err}
 use Rattle.iltokens.specs.declared.lexed.Lexed.{Lexed}
 use Rattle.iltokens.specs.declared.lexed.Lexed.TheVariants as lexed
-use Rattle.iltokens.specs.declared.lexed.Cause.TheVariants.{CommentOpen}
+use Rattle.iltokens.specs.declared.lexed.LexicalCause.TheVariants.{CommentOpen}
 use Rattle.iltokens.specs.BlankSteps.{blanks}
 use Rattle.iltokens.specs.FrontSteps.{Front, end, taken, fault, front_at}
 

@@ -3,7 +3,7 @@ use Rattle.std.specs.Prelude.{◌≡◌, ℕ, ◌+◌, ◌<◌, ◌≤◌, List,
 use Rattle.iltokens.specs.declared.lexed.What.{What}
 use Rattle.iltokens.specs.declared.lexed.Lexed.{Lexed}
 use Rattle.iltokens.specs.declared.lexed.Lexed.TheVariants as lexed
-use Rattle.iltokens.specs.declared.lexed.Cause.TheVariants.{NotAscii, BadToken, BadNumber, CommentOpen}
+use Rattle.iltokens.specs.declared.lexed.LexicalCause.TheVariants.{NotAscii, BadToken, BadNumber, CommentOpen}
 use Rattle.iltokens.specs.Blanks.{AreBlanks, OpensComment, BeginsNoBlank}
 use Rattle.iltokens.specs.Longest.{IsWithin, IsLongest, SpellsNone}
 

@@ -2,13 +2,13 @@
 
 ghost use Rattle.std.specs.Prelude.{◌≡◌, ◌<◌, length};
 ghost use Rattle.iltokens.specs.FrontSteps.{number_at, word_kind, word_at, address_at};
-ghost use Rattle.iltokens.specs.FrontSteps.{mark_at, front_at};
+ghost use Rattle.iltokens.specs.FrontSteps.{delimiter_at, front_at};
 ghost use Rattle.iltokens.specs.Views.{front_view, IsShorter};
 
 use crate::address::direct_address;
 use crate::digits::is_digit;
 use crate::keyword::reserved;
-use crate::lexed::{Cause, Mark, What};
+use crate::lexed::{Delimiter, LexicalCause, What};
 use crate::number::{signed, unsigned};
 use crate::spelling::{after_name, is_letter};
 use crate::time::time;
@@ -18,7 +18,7 @@ pub enum Front<'a> {
     End,
     /// A token, and what stands after it.
     Token(What, &'a [u8]),
-    Fault(Cause),
+    Fault(LexicalCause),
 }
 
 #[tactic(auto, unfolding(crate::specs::FrontSteps::number_at))]
@@ -29,9 +29,9 @@ fn number_at(negative: bool, magnitude: &[u8]) -> Front<'_>
     match unsigned(magnitude) {
         Some((value, rest)) => match signed(negative, value) {
             Some(number) => Front::Token(What::Number(number), rest),
-            None => Front::Fault(Cause::BadNumber),
+            None => Front::Fault(LexicalCause::BadNumber),
         },
-        None => Front::Fault(Cause::BadToken),
+        None => Front::Fault(LexicalCause::BadToken),
     }
 }
 
@@ -57,7 +57,7 @@ fn word_at(bytes: &[u8]) -> Front<'_>
             if milliseconds <= 0xffff_ffff {
                 Front::Token(What::Time(milliseconds as u32), rest)
             } else {
-                Front::Fault(Cause::BadNumber)
+                Front::Fault(LexicalCause::BadNumber)
             }
         }
         None => {
@@ -84,38 +84,41 @@ fn address_at(bytes: &[u8]) -> Front<'_>
                 };
                 Front::Token(what, found.rest)
             } else {
-                Front::Fault(Cause::BadNumber)
+                Front::Fault(LexicalCause::BadNumber)
             }
         }
-        None => Front::Fault(Cause::BadToken),
+        None => Front::Fault(LexicalCause::BadToken),
     }
 }
 
-/// A mark, a line end or what begins no token.
-#[tactic(auto, unfolding(crate::specs::FrontSteps::mark_at))]
-fn mark_at(bytes: &[u8]) -> Front<'_>
-    ensures exact { front_view result ≡ mark_at bytes.now }
+/// A delimiter, a line end or what begins no token.
+#[tactic(auto, unfolding(crate::specs::FrontSteps::delimiter_at))]
+fn delimiter_at(bytes: &[u8]) -> Front<'_>
+    ensures exact { front_view result ≡ delimiter_at bytes.now }
     ensures within { IsShorter result (length bytes.now) }
 {
     match bytes {
         [] => Front::End,
-        [b',', rest @ ..] => Front::Token(What::Mark(Mark::Comma), rest),
-        [b';', rest @ ..] => Front::Token(What::Mark(Mark::Semicolon), rest),
-        [b'(', rest @ ..] => Front::Token(What::Mark(Mark::Open), rest),
-        [b')', rest @ ..] => Front::Token(What::Mark(Mark::Close), rest),
-        [b':', b'=', rest @ ..] => Front::Token(What::Mark(Mark::Assign), rest),
-        [b':', rest @ ..] => Front::Token(What::Mark(Mark::Colon), rest),
-        [b'.', b'.', rest @ ..] => Front::Token(What::Mark(Mark::Range), rest),
-        [b'.', rest @ ..] => Front::Token(What::Mark(Mark::Dot), rest),
-        [b'&', b'N' | b'n', rest @ ..] => Front::Token(What::Mark(Mark::AmpersandNot), rest),
-        [b'&', rest @ ..] => Front::Token(What::Mark(Mark::Ampersand), rest),
-        [b'\n', rest @ ..] => Front::Token(What::Mark(Mark::LineEnd), rest),
-        [b'\r', b'\n', rest @ ..] => Front::Token(What::Mark(Mark::LineEnd), rest),
+        [b',', rest @ ..] => Front::Token(What::Delimiter(Delimiter::Comma), rest),
+        [b';', rest @ ..] => Front::Token(What::Delimiter(Delimiter::Semicolon), rest),
+        [b'(', rest @ ..] => Front::Token(What::Delimiter(Delimiter::Open), rest),
+        [b')', rest @ ..] => Front::Token(What::Delimiter(Delimiter::Close), rest),
+        [b':', b'=', rest @ ..] => Front::Token(What::Delimiter(Delimiter::Assign), rest),
+        [b':', rest @ ..] => Front::Token(What::Delimiter(Delimiter::Colon), rest),
+        [b'.', b'.', rest @ ..] => Front::Token(What::Delimiter(Delimiter::Range), rest),
+        [b'.', rest @ ..] => Front::Token(What::Delimiter(Delimiter::Dot), rest),
+        [b'&', b'N' | b'n', rest @ ..] => Front::Token(
+            What::Delimiter(Delimiter::AmpersandNot),
+            rest,
+        ),
+        [b'&', rest @ ..] => Front::Token(What::Delimiter(Delimiter::Ampersand), rest),
+        [b'\n', rest @ ..] => Front::Token(What::Delimiter(Delimiter::LineEnd), rest),
+        [b'\r', b'\n', rest @ ..] => Front::Token(What::Delimiter(Delimiter::LineEnd), rest),
         [byte, ..] => {
             if *byte >= 0x80 {
-                Front::Fault(Cause::NotAscii)
+                Front::Fault(LexicalCause::NotAscii)
             } else {
-                Front::Fault(Cause::BadToken)
+                Front::Fault(LexicalCause::BadToken)
             }
         }
     }
@@ -138,7 +141,7 @@ pub fn front_at(bytes: &[u8]) -> Front<'_>
             } else if is_digit(10, *byte) {
                 number_at(false, bytes)
             } else {
-                mark_at(bytes)
+                delimiter_at(bytes)
             }
         }
     }

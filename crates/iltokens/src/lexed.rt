@@ -16,9 +16,9 @@ pub enum AddressKind {
     InputBit,
 }
 
-/// A mark between words, or the end of a line.
+/// A delimiter (IEC 61131-3, annex C), an operator of special characters, or the end of a line.
 #[derive(Clone, Copy, PartialEq, Eq, Debug)]
-pub enum Mark {
+pub enum Delimiter {
     Comma,
     Colon,
     Semicolon,
@@ -54,12 +54,12 @@ pub enum What {
         bus: u64,
         place: u64,
     },
-    Mark(Mark),
+    Delimiter(Delimiter),
 }
 
 /// Why no token stands somewhere.
 #[derive(Clone, Copy, PartialEq, Eq, Debug)]
-pub enum Cause {
+pub enum LexicalCause {
     /// A byte of 80 hex or more outside comments.
     NotAscii,
     /// A byte that begins no token.
@@ -70,16 +70,16 @@ pub enum Cause {
     CommentOpen,
 }
 
-impl Cause {
+impl LexicalCause {
     /// The number by which the fault is printed.
     pub fn number(self) -> u8
         ensures { result ≡ number_of self }
     {
         match self {
-            Cause::NotAscii => 2,
-            Cause::BadToken => 3,
-            Cause::BadNumber => 5,
-            Cause::CommentOpen => 8,
+            LexicalCause::NotAscii => 2,
+            LexicalCause::BadToken => 3,
+            LexicalCause::BadNumber => 5,
+            LexicalCause::CommentOpen => 8,
         }
     }
 }
@@ -92,5 +92,5 @@ pub enum Lexed {
     /// Nothing but blanks and comments.
     End,
     /// A fault at this byte.
-    Fault { cause: Cause, at: usize },
+    Fault { cause: LexicalCause, at: usize },
 }

@@ -6,7 +6,7 @@ ghost use Rattle.iltokens.specs.Tokens.{IsAhead, StandsNext};
 
 use crate::blanks::blanks;
 use crate::front::{Front, front_at};
-use crate::lexed::{Cause, Lexed};
+use crate::lexed::{Lexed, LexicalCause};
 
 /// The longest token after the blanks and comments at the byte `at` of `bytes`, or the end of the
 /// text, or the fault there: a byte of 80 hex or more, a byte that begins no token, a number or
@@ -33,7 +33,7 @@ fn next_token(bytes: &[u8], at: usize) -> Lexed
     let (_, ahead) = bytes.split_at(at);
     match blanks(ahead) {
         Err(open) => Lexed::Fault {
-            cause: Cause::CommentOpen,
+            cause: LexicalCause::CommentOpen,
             at: bytes.len() - open.len(),
         },
         Ok(rest) => {

@@ -2,8 +2,8 @@
 //!
 //! What crosses the boundary: [`token`], which goes over the blanks and comments at a place and
 //! gives the longest token after them as a [`Lexed`], or the end, or the fault that stands there.
-//! What a token is, is a [`What`]: reserved words, names, numbers, durations, addresses, marks and
-//! line ends. Read `StandsNext` first (specs/Tokens.antt), then what each kind spells
+//! What a token is, is a [`What`]: reserved words, names, numbers, durations, addresses, delimiters
+//! and line ends. Read `StandsNext` first (specs/Tokens.antt), then what each kind spells
 //! (specs/Spellings.antt) and the table of reserved words ([`reserved`], specs/Keywords.antt).
 
 #![tactic(auto)]
@@ -20,7 +20,7 @@ mod spelling;
 mod time;
 
 pub use keyword::{Keyword, reserved};
-pub use lexed::{AddressKind, Cause, Lexed, Mark, What};
+pub use lexed::{AddressKind, Delimiter, Lexed, LexicalCause, What};
 pub use lexer::token;
 
 #[cfg(test)]

@@ -1,8 +1,9 @@
 //! Tokens of small texts.
 
-use crate::{AddressKind, Cause, Keyword, Lexed, Mark, What, reserved, token};
+use crate::{AddressKind, Delimiter, Keyword, Lexed, LexicalCause, What, reserved, token};
 use std::test::Fail;
 
+/// What the first token of a text is.
 fn kind_at(text: &[u8]) -> Result<What, Fail> {
     match token(text, 0) {
         Lexed::Token { what, .. } => Ok(what),
@@ -23,12 +24,12 @@ fn each_kind_of_token(rt: HostRuntime) -> Result<(), Fail> {
         (b"t#1d2h_3m4s5ms", What::Time(93_784_005)),
         (b"TIME#4294967295MS", What::Time(u32::MAX)),
         (b"T#1d25h", What::Time(176_400_000)),
-        (b":=", What::Mark(Mark::Assign)),
-        (b"..5", What::Mark(Mark::Range)),
-        (b"&NIGHT", What::Mark(Mark::AmpersandNot)),
-        (b"&(", What::Mark(Mark::Ampersand)),
-        (b"\r\n", What::Mark(Mark::LineEnd)),
-        (b" \t(**)(*)*)\n", What::Mark(Mark::LineEnd)),
+        (b":=", What::Delimiter(Delimiter::Assign)),
+        (b"..5", What::Delimiter(Delimiter::Range)),
+        (b"&NIGHT", What::Delimiter(Delimiter::AmpersandNot)),
+        (b"&(", What::Delimiter(Delimiter::Ampersand)),
+        (b"\r\n", What::Delimiter(Delimiter::LineEnd)),
+        (b" \t(**)(*)*)\n", What::Delimiter(Delimiter::LineEnd)),
     ];
     for (text, what) in texts {
         assert_eq!(rt; kind_at(text)?, what);
@@ -101,7 +102,7 @@ fn places_of_tokens(rt: HostRuntime) {
         }
     }
     let bad = Lexed::Fault {
-        cause: Cause::BadToken,
+        cause: LexicalCause::BadToken,
         at: 15,
     };
     assert_eq!(rt; token(text, 15), bad);
@@ -110,14 +111,14 @@ fn places_of_tokens(rt: HostRuntime) {
 
 #[test]
 fn each_fault(rt: HostRuntime) {
-    let texts: [(&[u8], Cause, usize, u8); 7] = [
-        (b" \xc3", Cause::NotAscii, 1, 2),
-        (b"\0", Cause::BadToken, 0, 3),
-        (b"\r", Cause::BadToken, 0, 3),
-        (b"9223372036854775808", Cause::BadNumber, 0, 5),
-        (b"T#4294967296ms", Cause::BadNumber, 0, 5),
-        (b"%IX0.99999999999999999999", Cause::BadNumber, 0, 5),
-        (b"  (*) (* *", Cause::CommentOpen, 2, 8),
+    let texts: [(&[u8], LexicalCause, usize, u8); 7] = [
+        (b" \xc3", LexicalCause::NotAscii, 1, 2),
+        (b"\0", LexicalCause::BadToken, 0, 3),
+        (b"\r", LexicalCause::BadToken, 0, 3),
+        (b"9223372036854775808", LexicalCause::BadNumber, 0, 5),
+        (b"T#4294967296ms", LexicalCause::BadNumber, 0, 5),
+        (b"%IX0.99999999999999999999", LexicalCause::BadNumber, 0, 5),
+        (b"  (*) (* *", LexicalCause::CommentOpen, 2, 8),
     ];
     for (text, cause, at, number) in texts {
         assert_eq!(rt; token(text, 0), Lexed::Fault { cause, at });
@@ -125,10 +126,30 @@ fn each_fault(rt: HostRuntime) {
     }
 }
 
-/// The tokens of a text, each as its bytes and the kind that the rules give it.
+/// Whether a text begins with these tokens, each given by its bytes and its kind, with nothing but
+/// blanks and comments between them.
+fn begins_with(text: &[u8], tokens: &[(&[u8], What)]) -> bool {
+    let mut at = 0;
+    for (bytes, wanted) in tokens {
+        if at > text.len() {
+            return false;
+        }
+        match token(text, at) {
+            Lexed::Token { what, from, to } => {
+                if what != *wanted || text.get(from..to) != Some(*bytes) {
+                    return false;
+                }
+                at = to;
+            }
+            _ => return false,
+        }
+    }
+    true
+}
+
 #[test]
-fn tokens_of_whole_texts(rt: HostRuntime) {
-    let texts: [(&[u8], &[(&[u8], What)]); 7] = [
+fn numbers_of_whole_texts(rt: HostRuntime) {
+    let texts: [(&[u8], &[(&[u8], What)]); 2] = [
         // An underscore stands between two digits only.
         (
             b"1_ 1__2",
@@ -151,6 +172,15 @@ fn tokens_of_whole_texts(rt: HostRuntime) {
                 (b"g", What::Name),
             ],
         ),
+    ];
+    for (text, tokens) in texts {
+        assert!(rt; begins_with(text, tokens), "{text:?}");
+    }
+}
+
+#[test]
+fn durations_of_whole_texts(rt: HostRuntime) {
+    let texts: [(&[u8], &[(&[u8], What)]); 2] = [
         // Units fall, and an underscore stands between two parts only.
         (
             b"T#5m3s T#5s3m T#5m__3s T#5ms5ms",
@@ -173,68 +203,146 @@ fn tokens_of_whole_texts(rt: HostRuntime) {
                 (b"TIME#1d_2h", What::Time(93_600_000)),
             ],
         ),
-        // A dot stands alone, and in an address between its numbers; a number has none.
+    ];
+    for (text, tokens) in texts {
+        assert!(rt; begins_with(text, tokens), "{text:?}");
+    }
+}
+
+#[test]
+fn delimiters_of_whole_texts(rt: HostRuntime) {
+    let texts: [(&[u8], &[(&[u8], What)]); 3] = [
+        // A dot stands alone: a number has none.
         (
-            b"t.Q 1..2 T#1d.r %IX0.1",
+            b"t.Q 1..2 T#1d.r",
             &[
                 (b"t", What::Name),
-                (b".", What::Mark(Mark::Dot)),
+                (b".", What::Delimiter(Delimiter::Dot)),
                 (b"Q", What::Name),
                 (b"1", What::Number(1)),
-                (b"..", What::Mark(Mark::Range)),
+                (b"..", What::Delimiter(Delimiter::Range)),
                 (b"2", What::Number(2)),
                 (b"T#1d", What::Time(86_400_000)),
-                (b".", What::Mark(Mark::Dot)),
+                (b".", What::Delimiter(Delimiter::Dot)),
                 (b"r", What::Keyword(Keyword::R)),
-                (
-                    b"%IX0.1",
-                    What::Address {
-                        kind: AddressKind::InputBit,
-                        bus: 0,
-                        place: 1,
-                    },
-                ),
             ],
         ),
-        // The longest mark is meant.
+        // The longest delimiter is meant.
         (
             b":=:: =",
             &[
-                (b":=", What::Mark(Mark::Assign)),
-                (b":", What::Mark(Mark::Colon)),
-                (b":", What::Mark(Mark::Colon)),
+                (b":=", What::Delimiter(Delimiter::Assign)),
+                (b":", What::Delimiter(Delimiter::Colon)),
+                (b":", What::Delimiter(Delimiter::Colon)),
             ],
         ),
         (
             b"...;&n&\r\n\n",
             &[
-                (b"..", What::Mark(Mark::Range)),
-                (b".", What::Mark(Mark::Dot)),
-                (b";", What::Mark(Mark::Semicolon)),
-                (b"&n", What::Mark(Mark::AmpersandNot)),
-                (b"&", What::Mark(Mark::Ampersand)),
-                (b"\r\n", What::Mark(Mark::LineEnd)),
-                (b"\n", What::Mark(Mark::LineEnd)),
+                (b"..", What::Delimiter(Delimiter::Range)),
+                (b".", What::Delimiter(Delimiter::Dot)),
+                (b";", What::Delimiter(Delimiter::Semicolon)),
+                (b"&n", What::Delimiter(Delimiter::AmpersandNot)),
+                (b"&", What::Delimiter(Delimiter::Ampersand)),
+                (b"\r\n", What::Delimiter(Delimiter::LineEnd)),
+                (b"\n", What::Delimiter(Delimiter::LineEnd)),
             ],
         ),
     ];
     for (text, tokens) in texts {
-        let mut at = 0;
-        for (bytes, wanted) in tokens {
-            match text.get(at..) {
-                None => assert!(rt; false, "past the end of {text:?}"),
-                Some(_) => {
-                    assert!(rt; at <= text.len());
-                    match token(text, at) {
-                        Lexed::Token { what, from, to } => {
-                            assert_eq!(rt; what, *wanted);
-                            assert_eq!(rt; text.get(from..to).unwrap_or_default(), *bytes);
-                            at = to;
-                        }
-                        _ => assert!(rt; false, "no token in {text:?} at {at}"),
-                    }
-                }
-            }
-        }
+        assert!(rt; begins_with(text, tokens), "{text:?}");
+    }
+}
+
+/// An address as a token.
+fn address(kind: AddressKind, bus: u64, place: u64) -> What {
+    What::Address { kind, bus, place }
+}
+
+#[test]
+fn addresses_of_whole_texts(rt: HostRuntime) {
+    let texts: [(&[u8], &[(&[u8], What)]); 5] = [
+        (
+            b"%QB0.5 %iw15.191\t%Ix007.00",
+            &[
+                (b"%QB0.5", address(AddressKind::OutputByte, 0, 5)),
+                (b"%iw15.191", address(AddressKind::InputWord, 15, 191)),
+                (b"%Ix007.00", address(AddressKind::InputBit, 7, 0)),
+            ],
+        ),
+        (
+            b"%IX0.3:",
+            &[
+                (b"%IX0.3", address(AddressKind::InputBit, 0, 3)),
+                (b":", What::Delimiter(Delimiter::Colon)),
+            ],
+        ),
+        // The longest is meant, and plain digits have neither letters nor underscores.
+        (
+            b"%QB0.5x%QB0.1_0",
+            &[
+                (b"%QB0.5", address(AddressKind::OutputByte, 0, 5)),
+                (b"x", What::Name),
+                (b"%QB0.1", address(AddressKind::OutputByte, 0, 1)),
+                (b"_0", What::Name),
+            ],
+        ),
+        (
+            b"%IX0.1.2",
+            &[
+                (b"%IX0.1", address(AddressKind::InputBit, 0, 1)),
+                (b".", What::Delimiter(Delimiter::Dot)),
+                (b"2", What::Number(2)),
+            ],
+        ),
+        (
+            b"%QB9223372036854775807.9223372036854775807",
+            &[(
+                b"%QB9223372036854775807.9223372036854775807",
+                address(AddressKind::OutputByte, i64::MAX as u64, i64::MAX as u64),
+            )],
+        ),
+    ];
+    for (text, tokens) in texts {
+        assert!(rt; begins_with(text, tokens), "{text:?}");
+    }
+}
+
+#[test]
+fn what_spells_no_address(rt: HostRuntime) {
+    let bad = Lexed::Fault {
+        cause: LexicalCause::BadToken,
+        at: 1,
+    };
+    let texts: [&[u8]; 14] = [
+        b" %",
+        b" %QB 0.5",
+        b" %QB0 .5",
+        b" %QB0. 5",
+        b" %QB0.",
+        b" %QB.5",
+        b" %QB0",
+        b" %QX0.1",
+        b" %IB0.1",
+        b" %QB+0.5",
+        b" %QB0.-5",
+        b" %QB1_0.5",
+        b" %QB16#1.5",
+        b" %QB(**)0.5",
+    ];
+    for text in texts {
+        assert_eq!(rt; token(text, 0), bad, "{text:?}");
+    }
+    let large = Lexed::Fault {
+        cause: LexicalCause::BadNumber,
+        at: 1,
+    };
+    let texts: [&[u8]; 3] = [
+        b" %QB99999999999999999999.1",
+        b" %IW9223372036854775808.0",
+        b" %IX0.9223372036854775808",
+    ];
+    for text in texts {
+        assert_eq!(rt; token(text, 0), large, "{text:?}");
     }
 }

@@ -1,7 +1,7 @@
 //! Block instances that are declared and called, and their ports.
 
 use crate::parse;
-use crate::tests::faults::fault_of;
+use crate::tests::faults::{fault_in_program, fault_of};
 use crate::tests::rows::again;
 use crate::tests::shown::shown;
 use ilsource::Element;
@@ -92,8 +92,8 @@ fn places_of_calls(rt: HostRuntime) -> Result<(), Fail> {
 }
 
 #[test]
-fn faults_of_calls_and_ports(rt: HostRuntime) -> Result<(), Fail> {
-    let lines: [(&[u8], (u8, usize, usize)); 49] = [
+fn faults_of_calls(rt: HostRuntime) -> Result<(), Fail> {
+    let lines: [(&[u8], (u8, usize, usize)); 35] = [
         (b"CAL\nt\n", (4, 1, 4)),
         (b"CAL 5\n", (4, 1, 5)),
         (b"CAL t.Q\n", (4, 1, 6)),
@@ -131,7 +131,16 @@ fn faults_of_calls_and_ports(rt: HostRuntime) -> Result<(), Fail> {
         (b"AND( CALCN\n", (7, 1, 6)),
         (b"CAL t(IN := a)\nAND( b\nST c\n)\n", (7, 3, 1)),
         (b"AND( b\n)\nCAL t(IN := CAL)\n", (4, 3, 13)),
-        // Ports.
+    ];
+    for (lines, fault) in lines {
+        assert_eq!(rt; fault_in_program(rt.alloc(), lines)?, fault, "{lines:?}");
+    }
+    Ok(())
+}
+
+#[test]
+fn faults_of_ports(rt: HostRuntime) -> Result<(), Fail> {
+    let lines: [(&[u8], (u8, usize, usize)); 14] = [
         (b"LD t.LD\n", (4, 1, 6)),
         (b"LD t.5\n", (4, 1, 6)),
         (b"LD t.\nQ\n", (4, 1, 6)),
@@ -147,11 +156,8 @@ fn faults_of_calls_and_ports(rt: HostRuntime) -> Result<(), Fail> {
         (b"AND( t.ST\n", (7, 1, 8)),
         (b"AND( t.R\nR t.R\n)\n", (7, 2, 1)),
     ];
-    for (lines, (number, line, col)) in lines {
-        let mut text = b"PROGRAM p\n".to_vec(rt.alloc())?;
-        text.extend_from_slice(lines)?;
-        let fault = (number, line.saturating_add(1), col);
-        assert_eq!(rt; fault_of(rt.alloc(), &text), fault, "{lines:?}");
+    for (lines, fault) in lines {
+        assert_eq!(rt; fault_in_program(rt.alloc(), lines)?, fault, "{lines:?}");
     }
     Ok(())
 }

@@ -53,9 +53,17 @@ fn texts_and_their_first_faults(rt: HostRuntime) {
     }
 }
 
+/// The fault of a program of these lines, of which the first is line 1.
+pub fn fault_in_program(alloc: Global, lines: &[u8]) -> Result<(u8, usize, usize), AllocError> {
+    let mut text = b"PROGRAM p\n".to_vec(alloc)?;
+    text.extend_from_slice(lines)?;
+    let (number, line, col) = fault_of(alloc, &text);
+    Ok((number, line.saturating_sub(1), col))
+}
+
 #[test]
-fn lines_and_their_first_faults(rt: HostRuntime) -> Result<(), Fail> {
-    let lines: [(&[u8], (u8, usize, usize)); 60] = [
+fn faults_of_instructions(rt: HostRuntime) -> Result<(), Fail> {
+    let lines: [(&[u8], (u8, usize, usize)); 13] = [
         (b"LD a LD b\n", (4, 1, 6)),
         (b"LD a END_PROGRAM", (4, 1, 6)),
         (b"LD T#1s\nLD 9223372036854775808\n", (5, 2, 4)),
@@ -69,7 +77,16 @@ fn lines_and_their_first_faults(rt: HostRuntime) -> Result<(), Fail> {
         (b"LD( a\n", (4, 1, 3)),
         (b"NOT(\n", (4, 1, 4)),
         (b"INT_TO_INT\n", (4, 1, 11)),
-        // Labels, jumps and returns.
+    ];
+    for (lines, fault) in lines {
+        assert_eq!(rt; fault_in_program(rt.alloc(), lines)?, fault, "{lines:?}");
+    }
+    Ok(())
+}
+
+#[test]
+fn faults_of_labels_and_jumps(rt: HostRuntime) -> Result<(), Fail> {
+    let lines: [(&[u8], (u8, usize, usize)); 25] = [
         (b"x LD a\n", (4, 1, 3)),
         (b"x\n: LD a\n", (4, 1, 2)),
         (b"x: y: LD a\n", (4, 1, 4)),
@@ -95,7 +112,16 @@ fn lines_and_their_first_faults(rt: HostRuntime) -> Result<(), Fail> {
         (b"AND( b\nOR c\nRETCN\n)\n", (7, 3, 1)),
         (b"AND( JMP\n", (7, 1, 6)),
         (b"JMP x\nEND_VAR\n", (4, 2, 1)),
-        // Parentheses.
+    ];
+    for (lines, fault) in lines {
+        assert_eq!(rt; fault_in_program(rt.alloc(), lines)?, fault, "{lines:?}");
+    }
+    Ok(())
+}
+
+#[test]
+fn faults_in_parentheses(rt: HostRuntime) -> Result<(), Fail> {
+    let lines: [(&[u8], (u8, usize, usize)); 22] = [
         (b"LD a\n)\n", (4, 2, 1)),
         (b"AND( b )\n", (4, 1, 8)),
         (b"AND( b\n) LD c\n", (4, 2, 3)),
@@ -119,13 +145,58 @@ fn lines_and_their_first_faults(rt: HostRuntime) -> Result<(), Fail> {
         (b"AND( b\n(* c", (8, 2, 1)),
         (b"AND( b\n", (4, 2, 1)),
     ];
-    for (lines, (number, line, col)) in lines {
-        let mut text = b"PROGRAM p\n".to_vec(rt.alloc())?;
-        text.extend_from_slice(lines)?;
-        let fault = (number, line.saturating_add(1), col);
-        assert_eq!(rt; fault_of(rt.alloc(), &text), fault, "{lines:?}");
+    for (lines, fault) in lines {
+        assert_eq!(rt; fault_in_program(rt.alloc(), lines)?, fault, "{lines:?}");
     }
     Ok(())
+}
+
+/// An address stands nowhere in a text so far.
+#[test]
+fn faults_at_addresses(rt: HostRuntime) -> Result<(), Fail> {
+    let lines: [(&[u8], (u8, usize, usize)); 17] = [
+        (b"LD %QB0.5\n", (4, 1, 4)),
+        (b"ST %IX0.3\n", (4, 1, 4)),
+        (b"%QB0.1: LD a\n", (4, 1, 1)),
+        (b"LD a\n%iw0.1\n", (4, 2, 1)),
+        (b"NOT %IX0.0\n", (4, 1, 5)),
+        (b"JMP %IX0.0\n", (4, 1, 5)),
+        (b"LIMIT 1, %IW0.0\n", (4, 1, 10)),
+        (b"CAL t(IN := %IX0.0)\n", (4, 1, 13)),
+        (b"LD t.%IX0.0\n", (4, 1, 6)),
+        (b"AND( %IX0.1\n)\n", (4, 1, 6)),
+        (b"AND( b\nOR %IX0.1\n)\n", (4, 2, 4)),
+        // A number past 64 signed bits, whatever was expected.
+        (b"LD %QB9223372036854775808.0\n", (5, 1, 4)),
+        (b"NOT %IW0.9223372036854775808\n", (5, 1, 5)),
+        (b"AND( b\n%IX99999999999999999999.1\n", (5, 2, 1)),
+        // No address.
+        (b"LD %QB 0.5\n", (3, 1, 4)),
+        (b"LD %QX0.1\n", (3, 1, 4)),
+        (b"AND( %QB0.\n)\n", (3, 1, 6)),
+    ];
+    for (lines, fault) in lines {
+        assert_eq!(rt; fault_in_program(rt.alloc(), lines)?, fault, "{lines:?}");
+    }
+    Ok(())
+}
+
+#[test]
+fn addresses_outside_lines(rt: HostRuntime) {
+    let texts: [(&[u8], (u8, usize, usize)); 6] = [
+        (b"%IX0.0", (4, 1, 1)),
+        (b"PROGRAM %IW0.0\n", (4, 1, 9)),
+        (b"PROGRAM p VAR %QB0.1 : USINT; END_VAR\n", (4, 1, 15)),
+        (b"PROGRAM p VAR a : %QB0.1; END_VAR\n", (4, 1, 19)),
+        (b"PROGRAM p VAR a AT %QB0.1 : USINT; END_VAR\n", (4, 1, 17)),
+        (
+            b"TYPE t : INT := %iw0.99999999999999999999; END_TYPE\n",
+            (5, 1, 17),
+        ),
+    ];
+    for (text, fault) in texts {
+        assert_eq!(rt; fault_of(rt.alloc(), text), fault, "{text:?}");
+    }
 }
 
 /// A program that opens parentheses as often as `open` says and closes them, with `last` on a line

@@ -17,20 +17,24 @@ struct Page<'a> {
 }
 
 impl Page<'_> {
+    /// These bytes.
     fn add(&mut self, word: &[u8]) -> Result<(), AllocError> {
         self.out.extend_from_slice(word)
     }
 
+    /// A name, as the text spells it.
     fn add_name(&mut self, name: Name) -> Result<(), AllocError> {
         let word = name.text(self.text);
         self.out.extend_from_slice(word)
     }
 
+    /// A number in decimal digits, with its sign if it is negative.
     fn add_number(&mut self, alloc: Global, number: i64) -> Result<(), AllocError> {
         let digits = format!(in alloc; "{number}")?;
         self.add(digits.as_bytes())
     }
 
+    /// A constant; a duration in milliseconds.
     fn add_constant(&mut self, alloc: Global, constant: Constant) -> Result<(), AllocError> {
         match constant {
             Constant::Bool(true) => self.add(b"TRUE"),
@@ -44,6 +48,7 @@ impl Page<'_> {
         }
     }
 
+    /// A type as it is written after the colon.
     fn add_specification(
         &mut self,
         alloc: Global,
@@ -65,6 +70,7 @@ impl Page<'_> {
         }
     }
 
+    /// What a declaration says after its names: the type, the initial value, and the semicolon.
     fn add_typing(
         &mut self,
         alloc: Global,
@@ -80,6 +86,7 @@ impl Page<'_> {
         self.add(b";")
     }
 
+    /// A variable or a port; `?` for a block, which is no operand.
     fn add_symbol(&mut self, symbol: Symbol) -> Result<(), AllocError> {
         match symbol {
             Symbol::Variable(name) => self.add_name(name),
@@ -92,6 +99,7 @@ impl Page<'_> {
         }
     }
 
+    /// What an instruction applies to.
     fn add_operand(&mut self, alloc: Global, operand: Operand<Symbol>) -> Result<(), AllocError> {
         match operand {
             Operand::Name(symbol) => self.add_symbol(symbol),
@@ -114,6 +122,7 @@ impl Page<'_> {
         self.add(b"\n")
     }
 
+    /// A function without operand; a conversion is shown by its second type alone.
     fn add_function(&mut self, function: Function) -> Result<(), AllocError> {
         match function {
             Function::Not => self.add(b"NOT\n"),
@@ -126,6 +135,7 @@ impl Page<'_> {
         }
     }
 
+    /// A piece of what stands in parentheses, on a line of its own.
     fn add_action(&mut self, alloc: Global, action: Action<Symbol>) -> Result<(), AllocError> {
         match action {
             Action::Load { negated, operand } => self.add_with(alloc, load_name(negated), operand),
@@ -160,6 +170,7 @@ impl Page<'_> {
         self.add(if arguments.is_empty() { b"" } else { b")" })
     }
 
+    /// An instruction and the end of its line; what it defers stands on lines of its own.
     fn add_instruction(
         &mut self,
         alloc: Global,
@@ -232,6 +243,7 @@ impl Page<'_> {
         }
     }
 
+    /// A program, with a VAR block for each declaration.
     fn add_program(&mut self, alloc: Global, program: &Program) -> Result<(), AllocError> {
         self.add(b"PROGRAM ")?;
         self.add_name(program.name())?;
@@ -261,6 +273,7 @@ impl Page<'_> {
         self.add(b"END_PROGRAM\n")
     }
 
+    /// The declaration of a type.
     fn add_type(&mut self, alloc: Global, declared: &TypeDeclaration) -> Result<(), AllocError> {
         self.add(b"TYPE ")?;
         self.add_name(declared.name)?;
@@ -269,6 +282,7 @@ impl Page<'_> {
     }
 }
 
+/// The word for a type of integers.
 fn type_name(base: IntegerType) -> &'static [u8] {
     match base {
         IntegerType::Sint => b"SINT",
@@ -280,10 +294,12 @@ fn type_name(base: IntegerType) -> &'static [u8] {
     }
 }
 
+/// The operator that loads.
 fn load_name(negated: bool) -> &'static [u8] {
     if negated { b"LDN" } else { b"LD" }
 }
 
+/// The operator of a jump.
 fn jump_name(condition: Condition) -> &'static [u8] {
     match condition {
         Condition::Always => b"JMP",
@@ -292,6 +308,7 @@ fn jump_name(condition: Condition) -> &'static [u8] {
     }
 }
 
+/// The operator of a return, with the end of its line.
 fn return_name(condition: Condition) -> &'static [u8] {
     match condition {
         Condition::Always => b"RET\n",
@@ -300,6 +317,7 @@ fn return_name(condition: Condition) -> &'static [u8] {
     }
 }
 
+/// The operator of a call.
 fn call_name(condition: Condition) -> &'static [u8] {
     match condition {
         Condition::Always => b"CAL",
@@ -308,6 +326,7 @@ fn call_name(condition: Condition) -> &'static [u8] {
     }
 }
 
+/// The word for a kind of block.
 fn kind_name(kind: Kind) -> &'static [u8] {
     match kind {
         Kind::RTrig => b"R_TRIG",
@@ -325,6 +344,7 @@ fn kind_name(kind: Kind) -> &'static [u8] {
     }
 }
 
+/// The operator, with its modifier.
 fn operator_name(operator: Operator) -> &'static [u8] {
     match operator {
         Operator::And { negated: false } => b"AND",

@@ -1,17 +1,17 @@
--- Words and marks as items, and what each is apart from.
+-- Words and delimiters as items, and what each is apart from.
 use Rattle.std.proofs.Common.{◌≡◌, ℕ, Bool, true, false, cond, Option, Some, None, refl, sym, ap, subst, rules}
 use denote.Enum.Bare.{same_true, true_same}
 use Rattle.ilgrammar.specs.Items.{is_in}
 use Rattle.ilgrammar.proofs.Firm.{Firm, Firm-one}
 use Rattle.iltokens.specs.declared.keyword.Keyword.{Keyword}
-use Rattle.iltokens.specs.declared.lexed.Mark.{Mark}
+use Rattle.iltokens.specs.declared.lexed.Delimiter.{Delimiter}
 use Rattle.iltokens.specs.contracts.keyword.Keyword.{the_type as all_words}
-use Rattle.iltokens.specs.contracts.lexed.Mark.{the_type as all_marks}
+use Rattle.iltokens.specs.contracts.lexed.Delimiter.{the_type as all_delimiters}
 use Rattle.iltext.specs.declared.token.Kind.{Kind}
 use Rattle.iltokens.specs.declared.lexed.What.TheVariants as whats
 use Rattle.iltext.specs.declared.token.Kind.TheVariants as kinds
 use Rattle.iltext.specs.declared.token.Token.{Token}
-use Rattle.iltext.specs.Terminals.{Seen, same_word, word, same_mark, mark}
+use Rattle.iltext.specs.Terminals.{Seen, same_word, word, same_delimiter, delimiter}
 
 abbrev pub Anything : Token → Type 0
 Anything t = Unit {0}
@@ -41,16 +41,18 @@ apart_word w p h (kinds.Good (whats.Keyword v)) f g e =
     subst (λ (x : Keyword). p (token_of (kinds.Good (whats.Keyword x)) f g) ≡ false) same (h f g)
 apart_word w p h _ f g e = absurd cc
 
-pub Firm-mark : (m : Mark) → Firm Token Seen (mark m) Anything
-unfolding mark
-Firm-mark m = Firm-one _ (token_of (kinds.Good (whats.Mark m)) 0 0) tt (ap taken (true_same all_marks m m refl))
+pub Firm-delimiter : (m : Delimiter) → Firm Token Seen (delimiter m) Anything
+unfolding delimiter
+Firm-delimiter m = Firm-one _ (token_of (kinds.Good (whats.Delimiter m)) 0 0) tt
+    (ap taken (true_same all_delimiters m m refl))
 
--- what a mark is apart from
-pub apart_mark : (m : Mark) (p : Token → Bool) → ((f g : ℕ) → p (token_of (kinds.Good (whats.Mark m)) f g) ≡ false)
+-- what a delimiter is apart from
+pub apart_delimiter : (m : Delimiter) (p : Token → Bool)
+    → ((f g : ℕ) → p (token_of (kinds.Good (whats.Delimiter m)) f g) ≡ false)
     → (k : Kind) (f g : ℕ)
-    → (mark m).starts (token_of k f g) ≡ true → p (token_of k f g) ≡ false
-unfolding mark
-apart_mark m p h (kinds.Good (whats.Mark n)) f g e =
-    let same : m ≡ n = sym (same_true all_marks (search rules) n m (chosen (same_mark n m) e)) in
-    subst (λ (x : Mark). p (token_of (kinds.Good (whats.Mark x)) f g) ≡ false) same (h f g)
-apart_mark m p h _ f g e = absurd cc
+    → (delimiter m).starts (token_of k f g) ≡ true → p (token_of k f g) ≡ false
+unfolding delimiter
+apart_delimiter m p h (kinds.Good (whats.Delimiter n)) f g e =
+    let same : m ≡ n = sym (same_true all_delimiters (search rules) n m (chosen (same_delimiter n m) e)) in
+    subst (λ (x : Delimiter). p (token_of (kinds.Good (whats.Delimiter x)) f g) ≡ false) same (h f g)
+apart_delimiter m p h _ f g e = absurd cc

@@ -1,4 +1,4 @@
--- What is told is the longest token, the end or the fault, and nothing else is.
+-- What is reported is the longest token, the end or the fault, and nothing else is.
 use Rattle.std.proofs.Common.{◌≡◌, ℕ, ◌+◌, ◌-◌, ◌<◌, ◌≤◌, Bool, true, false, cond, eqb, leb, List, [], ◌∷◌, ◌++◌}
 use Rattle.std.proofs.Common.{length, drop, Option, Some, None, Result, Ok, Err, inl, inr, refl, sym, ap, subst, ◌∙◌}
 use Rattle.std.proofs.Common.{arith, eqb-true, length-drop, length-append}
@@ -7,21 +7,21 @@ use Rattle.std.proofs.lemmas.Bool.{le-leb}
 use Rattle.iltokens.specs.declared.lexed.What.{What}
 use Rattle.iltokens.specs.declared.lexed.Lexed.{Lexed}
 use Rattle.iltokens.specs.declared.lexed.Lexed.TheVariants as lexed
-use Rattle.iltokens.specs.declared.lexed.Cause.TheVariants.{NotAscii, BadToken, BadNumber, CommentOpen}
+use Rattle.iltokens.specs.declared.lexed.LexicalCause.TheVariants.{NotAscii, BadToken, BadNumber, CommentOpen}
 use Rattle.iltokens.specs.BlankSteps.{blanks}
 use Rattle.iltokens.specs.Blanks.{AreBlanks, OpensComment, NoOpening, BeginsNoBlank}
 use Rattle.iltokens.specs.Spellings.{Spells}
 use Rattle.iltokens.specs.Longest.{IsWithin, IsLongest, SpellsNone}
 use Rattle.iltokens.specs.Digits.{is_digit}
 use Rattle.iltokens.specs.Letters.{is_letter}
-use Rattle.iltokens.specs.FrontSteps.{Front, end, taken, fault, mark_at, front_at}
+use Rattle.iltokens.specs.FrontSteps.{Front, end, taken, fault, delimiter_at, front_at}
 use Rattle.iltokens.specs.TokenSteps.{lexed_front, lexed_blanks, token_at}
 use Rattle.iltokens.specs.Tokens.{BeginsWith, TokenStands, OutsideStands, StandsNext}
 use Rattle.iltokens.proofs.Comments.{Passed, AllBlanks, blanks_are}
 use Rattle.iltokens.proofs.BlanksAgain.{blanks_end, blanks_open}
 use Rattle.iltokens.proofs.Fallen.{Fits, front_nil, front_fits, after_blanks, shorter, begins}
 use Rattle.iltokens.proofs.FrontsAgain.{rest_at, Limited, Reaches, reaches}
-use Rattle.iltokens.proofs.TokenLaws.{Told, front_told}
+use Rattle.iltokens.proofs.TokenLaws.{Reported, front_reported}
 
 -- ---- the longest
 
@@ -50,12 +50,12 @@ spells_none : (bs : List ℕ) → rest_at bs ≡ None → SpellsNone bs
 spells_none bs is u after any e s =
     subst (λ (o : Option (List ℕ)). Reaches any after (front_at bs) o) is (reaches_at bs u after any e s)
 
--- ---- what is told stands there
+-- ---- what is reported stands there
 
 after_front : (bytes : List ℕ) (at : ℕ) (rest : List ℕ) (f : Front) (o : Option (List ℕ)) → at ≤ length bytes
     → Passed (drop at bytes) rest BeginsNoBlank → ((b : ℕ) (bs : List ℕ) → rest ≡ b ∷ bs → Fits b f)
     → (rest ≡ [] → f ≡ end)
-    → rest_at rest ≡ o → Told rest f o → StandsNext bytes at (lexed_front (length bytes) rest f)
+    → rest_at rest ≡ o → Reported rest f o → StandsNext bytes at (lexed_front (length bytes) rest f)
 after_front bytes at rest end None le p fits nil is t =
     after_blanks bytes at rest p.0 (λ r. r ≡ []) (length bytes) le p.1 p.2 t (rw t (omega arith))
 after_front bytes at rest end (Some r) le p fits nil is t = absurd t
@@ -86,16 +86,16 @@ after_front bytes at rest (fault NotAscii) (Some r) le p fits nil is t = absurd 
 after_front bytes at rest (fault BadToken) (Some r) le p fits nil is t = absurd t
 after_front bytes at rest (fault BadNumber) None le p fits nil is t = absurd t
 
-pub token_told : (bytes : List ℕ) (at : ℕ) → at ≤ length bytes → StandsNext bytes at (token_at bytes at)
+pub token_reported : (bytes : List ℕ) (at : ℕ) → at ≤ length bytes → StandsNext bytes at (token_at bytes at)
 unfolding token_at
-token_told bytes at le = go (blanks (drop at bytes)) (blanks_are (drop at bytes))
+token_reported bytes at le = go (blanks (drop at bytes)) (blanks_are (drop at bytes))
   where
     go : (r : Result (List ℕ) (List ℕ)) → AllBlanks (drop at bytes) r
         → StandsNext bytes at (lexed_blanks (length bytes) r)
     go (Ok rest) p =
         after_front bytes at rest (front_at rest) (rest_at rest) le p
         (λ b bs e. subst (λ (z : List ℕ). Fits b (front_at z)) (sym e) (front_fits b bs))
-        (λ e. ap front_at e ∙ front_nil) refl (front_told rest)
+        (λ e. ap front_at e ∙ front_nil) refl (front_reported rest)
     go (Err rest) p =
         after_blanks bytes at rest p.0 OpensComment (length bytes - length rest) le p.1 p.2 p.3
         (shorter bytes at rest p.0 p.1)
@@ -119,7 +119,7 @@ same_size (a ∷ u) (b ∷ v) r after e l =
     let k = same_size u v r after others (omega arith) in
     (rw first (ap (λ (z : List ℕ). b ∷ z) k.0), k.1)
 
--- another token that is told there has the same bytes
+-- another token that is reported there has the same bytes
 same_front : (bs front v r : List ℕ) (what other : What) → (l : IsLongest bs front what) → bs ≡ v ++ r → Spells other v
     → rest_at bs ≡ Some r
     → (v ≡ front) × (r ≡ l.after)
@@ -151,7 +151,8 @@ module _ (bs front : List ℕ) (what : What) (l : IsLongest bs front what) where
       let k = same_front bs front v r what other l e h is in
       (subst (λ (z : List ℕ). Limited other (front_at z)) k.0 (whole other v h), k.1)
 
-  is_token : IsWithin what → (f : Front) (o : Option (List ℕ)) → rest_at bs ≡ o → Told bs f o → f ≡ taken what l.after
+  is_token : IsWithin what → (f : Front) (o : Option (List ℕ)) → rest_at bs ≡ o → Reported bs f o
+      → f ≡ taken what l.after
   is_token within end None is t = absurd (no_rest bs front what l is)
   is_token within end (Some r) is t = absurd t
   is_token within (taken other rest) None is t = absurd t
@@ -171,7 +172,7 @@ module _ (bs front : List ℕ) (what : What) (l : IsLongest bs front what) where
   is_token within (fault CommentOpen) None is t = absurd (no_rest bs front what l is)
   is_token within (fault CommentOpen) (Some r) is t = absurd t
 
-  is_outside : (IsWithin what → ⊥) → (f : Front) (o : Option (List ℕ)) → rest_at bs ≡ o → Told bs f o
+  is_outside : (IsWithin what → ⊥) → (f : Front) (o : Option (List ℕ)) → rest_at bs ≡ o → Reported bs f o
       → f ≡ fault BadNumber
   is_outside outside end None is t = absurd (no_rest bs front what l is)
   is_outside outside end (Some r) is t = absurd t
@@ -187,8 +188,9 @@ module _ (bs front : List ℕ) (what : What) (l : IsLongest bs front what) where
   is_outside outside (fault CommentOpen) None is t = absurd (no_rest bs front what l is)
   is_outside outside (fault CommentOpen) (Some r) is t = absurd t
 
--- where no token is spelled, a fault of the first byte is told
-is_bad : (b : ℕ) (bs : List ℕ) → SpellsNone (b ∷ bs) → (f : Front) (o : Option (List ℕ)) → Told (b ∷ bs) f o → Fits b f
+-- where no token is spelled, a fault of the first byte is reported
+is_bad : (b : ℕ) (bs : List ℕ) → SpellsNone (b ∷ bs) → (f : Front) (o : Option (List ℕ)) → Reported (b ∷ bs) f o
+    → Fits b f
     → ((b < 128) → f ≡ fault BadToken) × ((128 ≤ b) → f ≡ fault NotAscii)
 is_bad b bs none end o t fits = absurd fits
 is_bad b bs none (taken what rest) None t fits = absurd t
@@ -222,9 +224,9 @@ high_digit b le = grind arith
 high_test : (b : ℕ) → 128 ≤ b → leb 128 b ≡ true
 high_test b le = le-leb 128 b le
 
-high_mark : (b : ℕ) (bs : List ℕ) → 128 ≤ b → mark_at (b ∷ bs) ≡ fault NotAscii
-unfolding mark_at
-high_mark b bs le =
+high_byte : (b : ℕ) (bs : List ℕ) → 128 ≤ b → delimiter_at (b ∷ bs) ≡ fault NotAscii
+unfolding delimiter_at
+high_byte b bs le =
     let test = high_test b le in
     second (eqb b 44) _ _ _ (high_differs b 44 le (omega arith))
     (second (eqb b 59) _ _ _ (high_differs b 59 le (omega arith))
@@ -245,9 +247,9 @@ not_ascii b bs le =
     (second (eqb b 37) _ _ _ (high_differs b 37 le (omega arith))
     (second (is_letter b) _ _ _ (high_letter b le)
     (second (is_digit 10 b) _ _ _ (high_digit b le)
-    (high_mark b bs le)))))
+    (high_byte b bs le)))))
 
--- ---- any answer that is told
+-- ---- any answer that is reported
 
 module _ (bytes : List ℕ) (at : ℕ) (le : at ≤ length bytes) where
   there : (place : ℕ) (u rest : List ℕ) → drop at bytes ≡ u ++ rest → place ≡ at + length u
@@ -279,14 +281,15 @@ module _ (bytes : List ℕ) (at : ℕ) (le : at ≤ length bytes) where
   low_front : (rest : List ℕ) → BeginsWith (λ b. b < 128) rest → SpellsNone rest → front_at rest ≡ fault BadToken
   low_front [] h none = absurd h
   low_front (b ∷ rest) h none =
-      (is_bad b rest none (front_at (b ∷ rest)) (rest_at (b ∷ rest)) (front_told (b ∷ rest)) (front_fits b rest)).0 h
+      (is_bad b rest none (front_at (b ∷ rest)) (rest_at (b ∷ rest)) (front_reported (b ∷ rest))
+      (front_fits b rest)).0 h
 
   pub token_only : (l : Lexed) → StandsNext bytes at l → l ≡ token_at bytes at
   token_only (lexed.Token what from to) h =
       let t = h.ahead.1 in
       let begun = there from h.before h.rest h.parts h.here in
       let front : front_at h.rest ≡ taken what t.2.after = is_token h.rest t.0 what t.2 t.3 (front_at h.rest)
-      (rest_at h.rest) refl (front_told h.rest) in
+      (rest_at h.rest) refl (front_reported h.rest) in
       let size = shorter bytes at h.rest h.before h.parts in
       let ended : length bytes - length t.2.after ≡ to = omega
       (arith, ap length t.2.parts, length-append t.0 t.2.after, t.1) in
@@ -312,14 +315,14 @@ module _ (bytes : List ℕ) (at : ℕ) (le : at ≤ length bytes) where
   token_only (lexed.Fault BadNumber place) h =
       let t = h.ahead.1 in
       let front : front_at h.rest ≡ fault BadNumber = is_outside h.rest t.0 t.1 t.2 t.3 (front_at h.rest)
-      (rest_at h.rest) refl (front_told h.rest) in
+      (rest_at h.rest) refl (front_reported h.rest) in
       sym (at_rest h.before h.rest h.parts h.blanks h.ahead.0 ∙ ap (lexed_front (length bytes) h.rest) front ∙ ap
       (λ (n : ℕ). lexed.Fault BadNumber n) (there place h.before h.rest h.parts h.here))
 
--- one answer is told of a place
-pub one_told : (bytes : List ℕ) (at : ℕ) → at ≤ length bytes → (a b : Lexed) → StandsNext bytes at a
+-- one answer is reported of a place
+pub one_reported : (bytes : List ℕ) (at : ℕ) → at ≤ length bytes → (a b : Lexed) → StandsNext bytes at a
     → StandsNext bytes at b → a ≡ b
-one_told bytes at le a b h k = token_only bytes at le a h ∙ sym (token_only bytes at le b k)
+one_reported bytes at le a b h k = token_only bytes at le a h ∙ sym (token_only bytes at le b k)
 
 -- a token ends within the bytes
 pub ends_within : (bytes : List ℕ) (at : ℕ) (what : What) (from to : ℕ) → at ≤ length bytes
