@@ -48,11 +48,12 @@ fn the_modifier_takes_the_opposite(rt: HostRuntime) {
     }
 }
 
-// The range from the first number to the second.
+/// The range from the first number to the second.
 fn range(limits: (i64, i64)) -> Result<Range, Fail> {
     Ok(Range::new(limits.0, limits.1).ok_or("lo is not above hi")?)
 }
 
+/// The least and the greatest number of a range, where there is one.
 fn limits(range: Option<Range>) -> Option<(i64, i64)> {
     let range = range?;
     Some((range.lo, range.hi))
