@@ -13,4 +13,5 @@ pub mod Reporting
 pub mod TimeLaws
 pub mod TimesAgain
 pub mod TokenLaws
+pub mod WordRows
 pub mod WordsAgain
