@@ -1,2 +1,4 @@
 pub mod BindingJudged
 pub mod BindingReading
+pub mod BoundSources
+pub mod Spelled

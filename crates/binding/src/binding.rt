@@ -1,20 +1,26 @@
 //! Bindings, and how they are read.
 
-ghost use Rattle.std.specs.Prelude.{◌≤◌, length, Some, None, MatchResult};
-ghost use Rattle.std.specs.Str.Lines.{lines};
+ghost use Rattle.std.specs.Prelude.{◌≡◌, ◌≤◌, length, All, Contains, Some, IfErr, IfOk, MatchOption};
+ghost use Rattle.std.specs.Prelude.{Option};
 ghost use Rattle.limits.specs.Limits.{most_bytes};
-ghost use Rattle.wordlines.specs.LineRules.{AllLead};
-ghost use Rattle.binding.specs.Bindings.{binding_rules, IsFaultAt};
+ghost use Rattle.wordlines.specs.WordLines.{IsSkipped};
+ghost use Rattle.wordlines.specs.LineRules.{Leads};
+ghost use Rattle.binding.specs.Bindings.{binding_rules, BindsSource, IsJudged};
+ghost use Rattle.binding.specs.Wirings.{Wiring, IsAt};
 
 use crate::fault::{BindCause, BindFault};
-use crate::lines::binding_after;
+use crate::lines::{BindingLine, line_of};
+use crate::sources::BoundSource;
+use dalievent::Source;
+use std::alloc::Global;
 use std::marker::Model;
 use wordlines::{first_line, is_skipped};
 
-/// What a controller is connected to: its buses.
+/// What a controller is connected to: its buses, and the sources of events that it listens to.
 #[derive(Drop)]
 pub struct Binding {
-    pub(crate) buses: u8,
+    buses: u8,
+    sources: Vec<BoundSource>,
 }
 
 impl Model for Binding {
@@ -22,21 +28,27 @@ impl Model for Binding {
 
     ghost Value = { Wiring };
 
-    ghost view = { λ b. record { buses = b.buses } };
+    ghost view = { λ b. record { buses = b.buses; sources = b.sources.items } };
 
-    ghost invariant = { λ b. IsWithinLimits (record { buses = b.buses }) };
+    ghost invariant = { λ b. IsWithinLimits (record { buses = b.buses; sources = b.sources.items }) };
 }
 
 impl Binding {
-    ghost use Rattle.std.specs.Prelude.{◌≡◌, ◌≢◌, ◌↔◌, ℕ};
-    ghost use Rattle.binding.specs.Wirings.{Wiring, IsWithinLimits};
-    ghost use Rattle.binding.specs.Bindings.{IsBinding, IsBadBinding, IsTooLong};
+    ghost use Rattle.std.specs.Prelude.{◌≡◌, ◌↔◌, ℕ};
+    ghost use Rattle.std.specs.Str.Lines.{lines};
+    ghost use Rattle.dalievent.specs.declared.messages.Source.{Source};
+    ghost use Rattle.binding.specs.Wirings.{Wiring, one_bus, IsBoundAt, IsInRange, IsWithinLimits};
+    ghost use Rattle.binding.specs.Bindings.{BindsSome, GivesIfRoom, HasPlaceFor, IsBadBinding};
+    ghost use Rattle.binding.specs.Bindings.{IsBinding, IsTooLong, with_source};
 
-    /// One bus.
-    pub fn one_bus() -> Binding
-        ensures { result.buses ≡ 1 }
+    /// One bus, and no source. No memory is taken.
+    pub fn one_bus(alloc: Global) -> Binding
+        ensures { result ≡ one_bus }
     {
-        Binding { buses: 1 }
+        Binding {
+            buses: 1,
+            sources: Vec::new(alloc),
+        }
     }
 
     /// The number of buses, 1 to [`limits::MOST_BUSES`].
@@ -47,21 +59,46 @@ impl Binding {
         self.buses
     }
 
-    /// The binding that a file spells: lines of words between single spaces, of which `buses N`
-    /// stands there once, and first. Empty lines and lines that begin with `#` are skipped; a line
-    /// ends with LF or CR LF, and the last needs no end. No memory is taken.
+    /// The sources that are bound, in the order of their lines: each on a bus below the number of
+    /// buses, and none at the place of another.
+    pub fn sources(&self) -> &[BoundSource]
+        ensures value { result.now ≡ self.now.sources }
+    {
+        self.sources.as_slice()
+    }
+
+    /// The source that is bound at this place of a bus.
+    pub fn source(&self, bus: u8, number: u8) -> Option<Source>
+        ensures { (source : Source) → (result ≡ Some source)
+            ↔ IsBoundAt self.now bus number source }
+    {
+        match bound_at(&self.sources, bus, number) {
+            Some(bound) => Some(bound.source),
+            None => None,
+        }
+    }
+
+    /// The binding that a file spells: lines of words between single spaces. `buses N` stands there
+    /// once, and first, and then `source b.k` with a source of events, each at a place of its own.
+    /// Empty lines and lines that begin with `#` are skipped; a line ends with LF or CR LF, and the
+    /// last needs no end.
     ///
     /// # Errors
     ///
-    /// The first bad line; line 1 where none is bad and none tells the number of buses, or where
-    /// there are more than [`limits::MOST_BYTES`] bytes.
-    pub fn parse(bytes: &[u8]) -> Result<Binding, BindFault>
-        ensures binding { (wiring : Wiring) → (result ≡ Ok wiring) ↔ IsBinding bytes.now wiring }
-        ensures bad_line { (line : ℕ) → (result ≡ Err (BindFault.At line BindCause.BadLine))
-            ↔ IsBadBinding bytes.now line }
+    /// The first bad line; line 1 where none is bad and none says the number of buses, or where
+    /// there are more than [`limits::MOST_BYTES`] bytes. Memory is refused only where a source is to
+    /// be kept, each of which is that of a line.
+    pub fn parse(alloc: Global, bytes: &[u8]) -> Result<Binding, BindFault>
+        ensures binding { (wiring : Wiring) → result ≡ Ok wiring → IsBinding bytes.now wiring }
+        ensures is_given { (wiring : Wiring) → IsBinding bytes.now wiring
+            → GivesIfRoom result (Ok wiring) }
+        ensures bad_line { (line : ℕ) → result ≡ Err (BindFault.At line BindCause.BadLine)
+            → IsBadBinding bytes.now line }
+        ensures bad_is_reported { (line : ℕ) → IsBadBinding bytes.now line
+            → GivesIfRoom result (Err (BindFault.At line BindCause.BadLine)) }
         ensures too_long { (line : ℕ) → (result ≡ Err (BindFault.At line BindCause.TooLong))
             ↔ IsTooLong bytes.now line }
-        ensures memory { result ≢ Err BindFault.Memory }
+        ensures memory { result ≡ Err BindFault.Memory → BindsSome (lines bytes.now) }
     {
         if limits::is_too_long(bytes) {
             return Err(BindFault::At {
@@ -69,39 +106,81 @@ impl Binding {
                 cause: BindCause::TooLong,
             });
         }
-        match wiring_of(bytes) {
-            Ok(binding) => Ok(binding),
-            Err(line) => Err(BindFault::At {
-                line,
-                cause: BindCause::BadLine,
-            }),
+        binding_of(alloc, bytes)
+    }
+
+    /// The binding with one source more, where its bus is there and its place is free.
+    fn with(self, bound: BoundSource) -> Result<Option<Binding>, BindFault>
+        requires { IsInRange bound }
+        ensures more { IfOk result (λ more. MatchOption more (¬ HasPlaceFor bound self)
+            (λ wiring. HasPlaceFor bound self × (wiring ≡ with_source bound self))) }
+        ensures memory { IfErr result (λ fault. (fault ≡ BindFault.Memory)
+            × HasPlaceFor bound self) }
+    {
+        if bound.bus >= self.buses || bound_at(&self.sources, bound.bus, bound.number).is_some() {
+            return Ok(None);
         }
+        let Binding { buses, mut sources } = self;
+        sources.push(bound)?;
+        Ok(Some(Binding { buses, sources }))
     }
 }
 
-/// The binding that lines tell, or the line at fault.
-fn wiring_of(bytes: &[u8]) -> Result<Binding, usize>
-    requires { length bytes.now ≤ most_bytes }
-    ensures { MatchResult result
-        (λ wiring. AllLead binding_rules None (lines bytes.now) (Some wiring))
-        (IsFaultAt (lines bytes.now)) }
+/// What is bound at this place of a bus.
+fn bound_at(sources: &[BoundSource], bus: u8, number: u8) -> Option<&BoundSource>
+    ensures { MatchOption result (All (λ bound. ¬ IsAt bus number bound) sources.now)
+        (λ bound. Contains sources.now bound.now × IsAt bus number bound.now) }
 {
+    sources.iter().find(|bound| bound.is_at(bus, number))
+}
+
+/// The binding that lines say, or the line at fault.
+fn binding_of(alloc: Global, bytes: &[u8]) -> Result<Binding, BindFault>
+    requires { length bytes.now ≤ most_bytes }
+    ensures { IsJudged bytes.now result }
+{
+    let mut before = None;
     let mut rest = bytes;
     let mut line = 1;
-    let mut told = None;
     'lines: while !rest.is_empty() {
         let (content, after) = first_line(rest);
         if !is_skipped(content) {
-            let Some(binding) = binding_after(&told, content) else {
-                return Err(line);
+            let Some(binding) = binding_after(alloc, before, content)? else {
+                return Err(BindFault::At {
+                    line,
+                    cause: BindCause::BadLine,
+                });
             };
-            told = Some(binding);
+            before = Some(binding);
         }
         rest = after;
         line += 1;
     }
-    match told {
-        Some(binding) => Ok(binding),
-        None => Err(1),
+    before.ok_or(BindFault::At {
+        line: 1,
+        cause: BindCause::BadLine,
+    })
+}
+
+/// The binding that a line and those before it say, where it may stand after them.
+fn binding_after(
+    alloc: Global,
+    before: Option<Binding>,
+    line: &[u8],
+) -> Result<Option<Binding>, BindFault>
+    requires { ¬ IsSkipped line.now }
+    ensures leads { IfOk result (λ after. MatchOption after
+        ((next : Option Wiring) → ¬ Leads binding_rules before line.now next)
+        (λ wiring. Leads binding_rules before line.now (Some wiring))) }
+    ensures memory { IfErr result (λ fault. (fault ≡ BindFault.Memory)
+        × BindsSource before line.now) }
+{
+    match (line_of(line), before) {
+        (Some(BindingLine::Buses(buses)), None) => Ok(Some(Binding {
+            buses,
+            sources: Vec::new(alloc),
+        })),
+        (Some(BindingLine::Bound(bound)), Some(binding)) => binding.with(bound),
+        _ => Ok(None),
     }
 }

@@ -1,12 +1,13 @@
 //! The faults of a binding.
 
+use std::alloc::AllocFailed;
 use std::fmt;
 use thiserror::Error;
 
 /// What is wrong with a line of a binding.
 #[derive(Clone, Copy, PartialEq, Eq, Debug)]
 pub enum BindCause {
-    /// It is no line of a binding, or can't stand after those before it, or no line tells the
+    /// It is no line of a binding, or can't stand after those before it, or no line says the
     /// number of buses.
     BadLine,
     /// There are more than [`limits::MOST_BYTES`] bytes.
@@ -68,5 +69,16 @@ impl BindFault {
             BindFault::Memory => 1,
             BindFault::At { cause, .. } => cause.number(),
         }
+    }
+}
+
+impl<T: Drop> From<AllocFailed<T>> for BindFault {
+    ghost use Rattle.std.specs.Prelude.{◌≡◌};
+    ghost use Rattle.binding.specs.declared.fault.BindFault.TheVariants.{Memory};
+
+    ghost from_gives = { λ _ fault. fault ≡ Memory };
+
+    fn from(_refused: AllocFailed<T>) -> Self {
+        BindFault::Memory
     }
 }

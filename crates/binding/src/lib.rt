@@ -13,9 +13,11 @@
 mod binding;
 mod fault;
 mod lines;
+mod sources;
 
 pub use binding::Binding;
 pub use fault::{BindCause, BindFault};
+pub use sources::BoundSource;
 
 #[cfg(test)]
 mod tests;

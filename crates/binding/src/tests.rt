@@ -1,11 +1,13 @@
 //! Bindings as they are written, with their number of buses, and the line of each fault.
 
+mod sources;
+
 use crate::{BindCause, BindFault, Binding};
 use std::test::Fail;
 
 #[test]
 fn bindings_are_read(rt: HostRuntime) -> Result<(), Fail> {
-    assert_eq!(rt; Binding::one_bus().buses(), 1);
+    assert_eq!(rt; Binding::one_bus(rt.alloc()).buses(), 1);
     let good: [(&[u8], u8); 7] = [
         (b"buses 1", 1),
         (b"buses 16", 16),
@@ -16,7 +18,7 @@ fn bindings_are_read(rt: HostRuntime) -> Result<(), Fail> {
         (b"buses 000000000000000000000000000003", 3),
     ];
     for (bytes, buses) in good {
-        assert_eq!(rt; Binding::parse(bytes)?.buses(), buses);
+        assert_eq!(rt; Binding::parse(rt.alloc(), bytes)?.buses(), buses);
     }
     Ok(())
 }
@@ -33,8 +35,8 @@ fn the_line_at_fault_is_reported(rt: HostRuntime) -> Result<(), Fail> {
         (b"buses 1\nbuses 1\n", 2),
         (b"buses 1\r", 1),
         (b"\n\nbuses 1\r\r\n", 3),
-        (b"buses 1\n#\n source 0.0\n", 3),
-        (b"source 0.0\nbuses 1\n", 1),
+        (b"buses 1\n#\n source 0.0 device 0 0\n", 3),
+        (b"source 0.0 device 0 0\nbuses 1\n", 1),
         (b"#\n\nBuses 1", 3),
         (b"buses", 1),
         (b"buses ", 1),
@@ -45,7 +47,7 @@ fn the_line_at_fault_is_reported(rt: HostRuntime) -> Result<(), Fail> {
         (b"buses\t1", 1),
     ];
     for (bytes, wanted) in bad {
-        match Binding::parse(bytes) {
+        match Binding::parse(rt.alloc(), bytes) {
             Err(BindFault::At { line, cause }) => {
                 assert_eq!(rt; line, wanted);
                 assert_eq!(rt; cause, BindCause::BadLine);
@@ -61,9 +63,9 @@ fn a_binding_has_a_mebibyte_at_most(rt: HostRuntime) -> Result<(), Fail> {
     let mut bytes = Vec::new(rt.alloc());
     bytes.extend_from_slice(b"buses 16\n#")?;
     bytes.resize(1_048_576, b'x')?;
-    assert_eq!(rt; Binding::parse(&bytes)?.buses(), 16);
+    assert_eq!(rt; Binding::parse(rt.alloc(), &bytes)?.buses(), 16);
     bytes.push(b'x')?;
-    match Binding::parse(&bytes) {
+    match Binding::parse(rt.alloc(), &bytes) {
         Err(fault) => {
             let printed = fault.to_string(rt.alloc())?;
             assert_eq!(rt; printed.as_str(), "bind fault at 1");
@@ -78,7 +80,7 @@ fn a_binding_has_a_mebibyte_at_most(rt: HostRuntime) -> Result<(), Fail> {
 fn many_lines_come_before_the_number_of_buses(rt: HostRuntime) -> Result<(), Fail> {
     let mut bytes = vec![in rt.alloc(); b'\n'; 1_048_567]?;
     bytes.extend_from_slice(b"buses 17\n")?;
-    match Binding::parse(&bytes) {
+    match Binding::parse(rt.alloc(), &bytes) {
         Err(BindFault::At { line, cause }) => {
             assert_eq!(rt; line, 1_048_568);
             assert_eq!(rt; cause.number(), 2);

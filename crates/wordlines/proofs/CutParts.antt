@@ -48,6 +48,15 @@ lines_at bs x rest h =
 some_word : (m : ℕ) (bs : List ℕ) → slice_split (λ b. b == m) bs ≡ [] → ⊥
 some_word m bs h = let none = ap length h in absurd (omega (arith, none, length-slice_split (λ b. b == m) bs))
 
+-- three parts, of which the last is cut once more, are not two
+pub three_parts : (m : ℕ) (all : List (List ℕ)) (rest more : Option (Bor (List ℕ))) (middle last : Bor (List ℕ))
+    (first second front back : List ℕ) → all ≡ first ∷ parts_of m (option_copied rest) → rest ≡ Some middle
+    → slice_split (λ b. b == m) middle.now ≡ second ∷ parts_of m (option_copied more) → more ≡ Some last
+    → all ≡ front ∷ back ∷ [] → ⊥
+three_parts m all rest more middle last first second front back h r k l two =
+    let none : parts_of m (option_copied more) ≡ [] = cc in
+    some_word m last.now (rw l at none)
+
 -- there is a word after a space, and none where no space stood
 pub none_left : (rest : Option (Bor (List ℕ))) (test : Bool) → is_some rest ≡ not test
     → IsTrue test ↔ (parts_of 32 (option_copied rest) ≡ [])

@@ -46,3 +46,7 @@ IsTaken most before after (Some number) = number_in most before ≡ Some (number
 abbrev pub parts_of : ℕ → Option (List ℕ) → List (List ℕ)
 parts_of mark None = []
 parts_of mark (Some bytes) = slice_split (λ byte. byte == mark) bytes
+
+-- a word of these two parts: exactly one dot (46) stands in it, between them
+abbrev pub AreAroundDot : List ℕ → List ℕ → List ℕ → Type 0
+AreAroundDot word front back = slice_split (λ byte. byte == 46) word ≡ front ∷ back ∷ []

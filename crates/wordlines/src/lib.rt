@@ -9,6 +9,7 @@ mod lines;
 mod numerals;
 mod words;
 
+pub use cuts::parts_around_dot;
 pub use lines::{first_line, is_skipped};
 pub use numerals::{hex_of, number_of};
 pub use words::Words;

@@ -1,6 +1,6 @@
 //! Each public call once.
 
-use crate::{Words, first_line, hex_of, is_skipped, number_of};
+use crate::{Words, first_line, hex_of, is_skipped, number_of, parts_around_dot};
 use std::test::Fail;
 
 #[test]
@@ -23,6 +23,20 @@ fn words_stand_between_spaces(rt: HostRuntime) -> Result<(), Fail> {
     assert_eq!(rt; words.next().ok_or("a word")?, b"7".as_slice());
     assert!(rt; words.is_empty());
     assert!(rt; words.next().is_none());
+    Ok(())
+}
+
+#[test]
+fn two_parts_stand_around_one_dot(rt: HostRuntime) -> Result<(), Fail> {
+    let (front, back) = parts_around_dot(b"12.3").ok_or("two parts")?;
+    assert_eq!(rt; front, b"12".as_slice());
+    assert_eq!(rt; back, b"3".as_slice());
+    let (front, back) = parts_around_dot(b".").ok_or("two parts")?;
+    assert!(rt; front.is_empty() && back.is_empty());
+    let wrong: [&[u8]; 4] = [b"", b"12", b"1.2.3", b".."];
+    for word in wrong {
+        assert!(rt; parts_around_dot(word).is_none());
+    }
     Ok(())
 }
 

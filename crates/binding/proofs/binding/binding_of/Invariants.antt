@@ -1,12 +1,12 @@
 use Rattle.std.proofs.Common.{◌≤◌, ◌+◌, length}
 use Rattle.binding.proofs.BindingReading.{IsRead}
-use Rattle.binding.proofs.binding.wiring_of.Given as goal
+use Rattle.binding.proofs.binding.binding_of.Given as goal
 
 abbrev pub invariant-lines : goal.invariant-lines
 invariant-lines l =
     record {
       room : l.line + length l.rest ≤ 1 + length l.fn.bytes;
-      read : IsRead l.fn.bytes l.rest l.told l.line;
+      read : IsRead l.fn.bytes l.rest l.before l.line;
     }
 
 abbrev pub decreases-lines : goal.decreases-lines
