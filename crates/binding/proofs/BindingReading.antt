@@ -1,5 +1,6 @@
 -- Lines of a binding: they say one wiring at most, their fault is one, and what reading one line more adds.
-use Rattle.std.proofs.Common.{◌≡◌, ℕ, ◌+◌, List, [], ◌∷◌, ◌++◌, Option, Some, None, length, ap, sym, ◌∙◌, inl, inr, subst}
+use Rattle.std.proofs.Common.{◌≡◌, ℕ, ◌+◌, List, [], ◌∷◌, ◌++◌, Option, Some, None, length, ap, sym, ◌∙◌}
+use Rattle.std.proofs.Common.{inl, inr, subst}
 use Rattle.std.specs.Str.Lines.{lines}
 use Rattle.wordlines.specs.WordLines.{IsSkipped}
 use Rattle.wordlines.specs.LineRules.{Leads, AllLead}
@@ -64,7 +65,8 @@ pub bad_read : (bytes rest after : List ℕ) (before : Option Wiring) (number : 
     → lines rest ≡ line ∷ lines after → ((next : Option Wiring) → ¬ Leads binding_rules before line next)
     → IsFaultAt (lines bytes) number
 bad_read bytes rest after before number line r first bad =
-    inl (reading.bad_read BindingLine (Option Wiring) binding_rules None bytes rest after before number line r first bad)
+    inl
+    (reading.bad_read BindingLine (Option Wiring) binding_rules None bytes rest after before number line r first bad)
 
 -- the source of this line is to be kept
 pub binds_read : (bytes rest after : List ℕ) (before : Option Wiring) (number : ℕ) (line : List ℕ)

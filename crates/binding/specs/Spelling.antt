@@ -1,5 +1,5 @@
--- What the words of a line say (profile): `buses N`, or `source b.k` and a source of events, by the keyword of its event
--- scheme (IEC 62386-103, clause 9) and its two parts. Numbers are decimal, each in its range.
+-- What the words of a line say (profile): `buses N`, or `source b.k` and a source of events, by the keyword of its
+-- event scheme (IEC 62386-103, clause 9) and its two parts. Numbers are decimal, each in its range.
 use Rattle.std.specs.Prelude.{◌≡◌, ℕ, ◌-◌, List, [], ◌∷◌, codes, Some}
 use Rattle.limits.specs.Limits.{most_buses, most_sources}
 use Rattle.wordlines.specs.WordLines.{number_upto, AreAroundDot}

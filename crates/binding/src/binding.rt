@@ -1,7 +1,7 @@
 //! Bindings, and how they are read.
 
-ghost use Rattle.std.specs.Prelude.{◌≡◌, ◌≤◌, length, All, Contains, Some, IfErr, IfOk, MatchOption};
-ghost use Rattle.std.specs.Prelude.{Option};
+ghost use Rattle.std.specs.Prelude.{◌≡◌, ◌≤◌, length, All, Contains, Option, Some, MatchOption};
+ghost use Rattle.std.specs.Prelude.{IfErr, IfOk};
 ghost use Rattle.limits.specs.Limits.{most_bytes};
 ghost use Rattle.wordlines.specs.WordLines.{IsSkipped};
 ghost use Rattle.wordlines.specs.LineRules.{Leads};
@@ -30,7 +30,8 @@ impl Model for Binding {
 
     ghost view = { λ b. record { buses = b.buses; sources = b.sources.items } };
 
-    ghost invariant = { λ b. IsWithinLimits (record { buses = b.buses; sources = b.sources.items }) };
+    ghost invariant = { λ b. IsWithinLimits
+        (record { buses = b.buses; sources = b.sources.items }) };
 }
 
 impl Binding {
@@ -86,8 +87,8 @@ impl Binding {
     /// # Errors
     ///
     /// The first bad line; line 1 where none is bad and none says the number of buses, or where
-    /// there are more than [`limits::MOST_BYTES`] bytes. Memory is refused only where a source is to
-    /// be kept, each of which is that of a line.
+    /// there are more than [`limits::MOST_BYTES`] bytes. Memory is refused only where a source is
+    /// to be kept, each of which is that of a line.
     pub fn parse(alloc: Global, bytes: &[u8]) -> Result<Binding, BindFault>
         ensures binding { (wiring : Wiring) → result ≡ Ok wiring → IsBinding bytes.now wiring }
         ensures is_given { (wiring : Wiring) → IsBinding bytes.now wiring

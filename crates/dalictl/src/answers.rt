@@ -36,7 +36,7 @@ pub enum Answer {
 pub fn respond(alloc: Global, invocation: Invocation, binding: Option<&[u8]>, text: &[u8]) -> Answer
     ensures { IsAnswer invocation.entry (option_copied binding.entry) text.now result }
 {
-    match binding_of(binding) {
+    match binding_of(alloc, binding) {
         Ok(binding) => respond_under(alloc, &binding, invocation, text),
         Err(stop) => Answer::Stopped(stop),
     }
@@ -63,14 +63,19 @@ fn respond_under(alloc: Global, binding: &Binding, invocation: Invocation, text:
     }
 }
 
-/// The binding that a file's bytes spell, or why they spell none; without a file there is one bus.
-pub fn binding_of(bytes: Option<&[u8]>) -> Result<Binding, Stop>
+/// The binding that a file's bytes spell; without a file there is one bus.
+///
+/// # Errors
+///
+/// The file's first bad line, or that it is too long; or, where it binds a source of events, that
+/// the allocator is out of memory.
+pub fn binding_of(alloc: Global, bytes: Option<&[u8]>) -> Result<Binding, Stop>
     ensures binding { IfOk result (IsConnected (option_copied bytes.entry)) }
     ensures stop { IfErr result (IsBindingStop (option_copied bytes.entry)) }
 {
     match bytes {
-        None => Ok(Binding::one_bus()),
-        Some(bytes) => match Binding::parse(bytes) {
+        None => Ok(Binding::one_bus(alloc)),
+        Some(bytes) => match Binding::parse(alloc, bytes) {
             Ok(binding) => Ok(binding),
             Err(fault) => Err(Stop::from(fault)),
         },

@@ -134,7 +134,7 @@ fn report(
     wanted: &str,
 ) -> Result<(), Fail> {
     let source = source(alloc, types, variables)?;
-    let scope = Scope::of(alloc, &source, &Binding::one_bus())?;
+    let scope = Scope::of(alloc, &source, &Binding::one_bus(alloc))?;
     match scope.fault() {
         None => assert_eq!(rt; "", wanted),
         Some(fault) => assert_eq!(rt; fault.to_string(alloc)?.as_str(), wanted),
@@ -339,7 +339,7 @@ fn variables_have_types_and_initial_values(rt: HostRuntime) -> Result<(), Fail> 
     ];
     for (written, initial, value_type, value) in rows {
         let source = source(alloc, types, &[(&["x", "y"], written, initial)])?;
-        let scope = Scope::of(alloc, &source, &Binding::one_bus())?;
+        let scope = Scope::of(alloc, &source, &Binding::one_bus(alloc))?;
         assert_eq!(rt; scope.programs().len(), 1);
         let program = &scope.programs()[0];
         assert_eq!(rt; program.program().declarations().len(), 1);
@@ -361,7 +361,7 @@ fn names_are_looked_up(rt: HostRuntime) -> Result<(), Fail> {
         (&["c"], COUNTERS, None),
     ];
     let source = source(alloc, &[(&["b"], INT, None)], &declared)?;
-    let scope = Scope::of(alloc, &source, &Binding::one_bus())?;
+    let scope = Scope::of(alloc, &source, &Binding::one_bus(alloc))?;
     assert_eq!(rt; scope.source().text().len(), source.text().len());
     // The text is `b Main a B A t b T c`, with a line for each.
     let rows = [

@@ -69,7 +69,7 @@ fn source(alloc: Global, named: Name) -> Result<Source, AllocError> {
 #[test]
 fn names_come_back_as_declared(rt: HostRuntime) -> Result<(), Fail> {
     let source = source(rt.alloc(), Name { from: 62, to: 63 })?;
-    let plan = resolve(rt.alloc(), &source, &Binding::one_bus())?;
+    let plan = resolve(rt.alloc(), &source, &Binding::one_bus(rt.alloc()))?;
     assert_eq!(rt; plan.buses(), 1);
     assert_eq!(rt; plan.tasks(), 1);
     if plan.tasks() == 1 {
@@ -94,7 +94,7 @@ fn names_come_back_as_declared(rt: HostRuntime) -> Result<(), Fail> {
 #[test]
 fn a_name_in_parentheses_is_looked_up(rt: HostRuntime) -> Result<(), Fail> {
     let source = source(rt.alloc(), Name { from: 57, to: 60 })?;
-    match resolve(rt.alloc(), &source, &Binding::one_bus()) {
+    match resolve(rt.alloc(), &source, &Binding::one_bus(rt.alloc())) {
         Err(NameFault::At { line, col, cause }) => {
             assert_eq!(rt; (line, col), (4, 1));
             assert_eq!(rt; cause, NameCause::Unknown);

@@ -9,7 +9,11 @@ const ACCEPTED: &str = "PROGRAM p\nVAR a, b : BOOL; END_VAR\nLD a\nANDN b\nST a\
 
 #[test]
 fn a_text_is_loaded(rt: HostRuntime) -> Result<(), Fail> {
-    let setup = load(rt.alloc(), ACCEPTED.as_bytes(), &Binding::one_bus())?;
+    let setup = load(
+        rt.alloc(),
+        ACCEPTED.as_bytes(),
+        &Binding::one_bus(rt.alloc()),
+    )?;
     assert_eq!(rt; setup.plan().tasks(), 1);
     let code = setup.code(0);
     assert_eq!(rt; code.code().instructions().len(), 3);
@@ -19,7 +23,11 @@ fn a_text_is_loaded(rt: HostRuntime) -> Result<(), Fail> {
 
 #[test]
 fn a_plan_has_its_codes(rt: HostRuntime) -> Result<(), Fail> {
-    let plan = plan_of(rt.alloc(), ACCEPTED.as_bytes(), &Binding::one_bus())?;
+    let plan = plan_of(
+        rt.alloc(),
+        ACCEPTED.as_bytes(),
+        &Binding::one_bus(rt.alloc()),
+    )?;
     let setup = setup_of(rt.alloc(), plan)?;
     assert_eq!(rt; setup.plan().tasks(), 1);
     assert_eq!(rt; setup.code(0).code().lines(), [3, 4, 5].as_slice());
@@ -45,7 +53,7 @@ fn the_first_fault_is_printed(rt: HostRuntime) -> Result<(), Fail> {
         ),
     ];
     for (text, line) in rows {
-        let Err(fault) = load(rt.alloc(), text.as_bytes(), &Binding::one_bus()) else {
+        let Err(fault) = load(rt.alloc(), text.as_bytes(), &Binding::one_bus(rt.alloc())) else {
             return Err("it isn't loaded".into());
         };
         let printed = fault.to_string(rt.alloc())?;
@@ -58,7 +66,7 @@ fn the_first_fault_is_printed(rt: HostRuntime) -> Result<(), Fail> {
 fn a_refused_task_is_named(rt: HostRuntime) -> Result<(), Fail> {
     let text = "PROGRAM p\nVAR a : BOOL; END_VAR\nLD a\nNOT\nST a\nEND_PROGRAM\n\
         PROGRAM q\nVAR a : BOOL; END_VAR\nNOT\nEND_PROGRAM\n";
-    match load(rt.alloc(), text.as_bytes(), &Binding::one_bus()) {
+    match load(rt.alloc(), text.as_bytes(), &Binding::one_bus(rt.alloc())) {
         Err(LoadFault::Code(refused)) => {
             assert_eq!(rt; refused.task(), 0);
             assert_eq!(rt; refused.task_name(), "main");

@@ -29,6 +29,8 @@ impl Shelf {
             "t.il" => Some(self.text),
             "two" => Some("# a house\nbuses 2\n"),
             "seventeen" => Some("# a town\nbuses 17\n"),
+            "buttons" => Some("buses 2\nsource 1.0 device 5 1\nsource 0.7 instance 1 3\n"),
+            "twice" => Some("buses 1\nsource 0.0 device 5 1\nsource 0.0 device 6 1\n"),
             _ => None,
         }
     }
@@ -52,7 +54,7 @@ impl Disk for Shelf {
     }
 }
 
-const ROWS: [Row; 13] = [
+const ROWS: [Row; 16] = [
     Row {
         text: ACCEPTED,
         line: "check t.il",
@@ -131,6 +133,24 @@ const ROWS: [Row; 13] = [
         line: "step t.il main --bind seventeen",
         status: 1,
         printed: "bind fault at 2\n",
+    },
+    Row {
+        text: ACCEPTED,
+        line: "check t.il --bind buttons",
+        status: 0,
+        printed: "task main words 4 bound 4\n",
+    },
+    Row {
+        text: ACCEPTED,
+        line: "step t.il main --bind buttons",
+        status: 0,
+        printed: "scan 0 steps 4 bound 4\np.a = FALSE\np.b = FALSE\np.c = TRUE\n",
+    },
+    Row {
+        text: ACCEPTED,
+        line: "check t.il --bind twice",
+        status: 1,
+        printed: "bind fault at 3\n",
     },
 ];
 
