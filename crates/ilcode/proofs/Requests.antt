@@ -56,7 +56,7 @@ blocks_add s t block (Some b) e =
 stored_adds : (code : Listing) (s t : Store) (variable : Variable) (value : Value)
     → stored_at code s variable value ≡ Some t → Adds 0 s t
 stored_adds code s t (variables.Slot slot) value e = slots_add s t (written code.slots s.slots slot value) e
-stored_adds code s t (variables.Port block port) value e =
+stored_adds code s t (variables.Port port block) value e =
     let type = type_of_input (shape_of code) block port in
     blocks_add s t block (option_and_then (λ b. with_input b port value type) (slice_get s.blocks block)) e
 
@@ -201,8 +201,8 @@ effect_adds code c d (words.Store negated variable) e =
     (λ t h. maybe_stored_adds code c.store t variable value h) e
 effect_adds code c d (words.Set variable) e = sets_adds code c d variable true c.result e
 effect_adds code c d (words.Reset variable) e = sets_adds code c d variable false c.result e
-effect_adds code c d (words.Pass operand block port) e =
-    let variable = variables.Port block port in
+effect_adds code c d (words.Pass port block operand) e =
+    let variable = variables.Port port block in
     let value = value_of code c.store operand in
     store_adds c d (option_and_then (stored_at code c.store variable) value)
     (λ t h. maybe_stored_adds code c.store t variable value h) e

@@ -51,10 +51,10 @@ request address command = record { bus = 0; command = commands.GearDo address co
 
 -- IN := d, PT := b
 abbrev pub pass_in : Instruction
-pass_in = Pass (Slot 3) 0 0
+pass_in = Pass 0 0 (Slot 3)
 
 abbrev pub pass_pt : Instruction
-pass_pt = Pass (Slot 1) 0 1
+pass_pt = Pass 1 0 (Slot 1)
 
 -- CAL t, CAL g
 abbrev pub call_t : Instruction
@@ -69,10 +69,10 @@ timed = pass_in ∷ pass_pt ∷ call_t ∷ []
 
 -- LD t.Q, LD t.ET
 abbrev pub ld_q : Instruction
-ld_q = Load false (Port 0 2)
+ld_q = Load false (Port 2 0)
 
 abbrev pub ld_et : Instruction
-ld_et = Load false (Port 0 3)
+ld_et = Load false (Port 3 0)
 
 -- ST t.IN, STN t.IN, S t.IN, R t.IN, ST t.Q
 abbrev pub st_in : Instruction
@@ -88,8 +88,8 @@ abbrev pub r_in : Instruction
 r_in = Reset (variables.Port 0 0)
 
 abbrev pub st_q : Instruction
-st_q = St false (variables.Port 0 2)
+st_q = St false (variables.Port 2 0)
 
 -- CAL g(REQ := d, ADR := a, CMD := b)
 abbrev pub requested : List Instruction
-requested = Pass (Slot 3) 1 0 ∷ Pass (Slot 0) 1 2 ∷ Pass (Slot 1) 1 3 ∷ call_g ∷ []
+requested = Pass 0 1 (Slot 3) ∷ Pass 2 1 (Slot 0) ∷ Pass 3 1 (Slot 1) ∷ call_g ∷ []

@@ -19,7 +19,7 @@ const LOAD: Instruction = Instruction::Load {
 
 const STORE: Instruction = Instruction::Store {
     negated: true,
-    variable: Variable::Port { block: 0, port: 1 },
+    variable: Variable::Port { port: 1, block: 0 },
 };
 
 #[test]
@@ -107,4 +107,9 @@ fn the_longest_lists(rt: HostRuntime) -> Result<(), Fail> {
     assert_eq!(rt; code.instructions().len(), 65_536);
     assert_eq!(rt; code.lines().len(), 65_536);
     Ok(())
+}
+
+#[test]
+fn a_word_has_eight_bytes(rt: HostRuntime) {
+    assert_eq!(rt; size_of::<Instruction>(), 8);
 }

@@ -92,7 +92,7 @@ module _ (code : Listing) (few : length code.kinds ≤ most_blocks) where
     onward t = at (p + 1) t r []
 
     pass_nowhere : (operand : WordOperand) (o : Option Value)
-        → effect code (at p s r []) (words.Pass operand most_blocks 0)
+        → effect code (at p s r []) (words.Pass 0 most_blocks operand)
         ≡ option_map onward (option_and_then nowhere o)
     pass_nowhere operand o =
         ap (option_map onward) (none_passed s (value_of code s operand)) ∙ ap (option_map onward) (sym (none_given o))
@@ -144,5 +144,5 @@ module _ (code : Listing) (few : length code.kinds ≤ most_blocks) where
         let done = λ (u : Store). at (p + length xs + 1) u None [] in
         then_comes (at p s r []) (λ t. at (p + length xs) t r []) done (λ t. called_place shape t n)
         (passed access xs s) (arguments_run k xs p s r has)
-        (λ t. comes_by code front (at (p + length xs) t r []) done (called_place shape t n) (words.Call (block_of n)) last
-        (ap (option_map done) (called_same n t)))
+        (λ t. comes_by code front (at (p + length xs) t r []) done (called_place shape t n) (words.Call (block_of n))
+        last (ap (option_map done) (called_same n t)))

@@ -100,7 +100,8 @@ laid_out_lawful buses text t low high k =
 -- parts that are laid out so make that code
 pub parts_are : (buses : ℕ) (text : List ℕ) (t : PlannedTask) (constants : List Value) (slots : List IlType)
     (kinds : List Kind) (starts : List ℕ) (ws : List Word) (numbers : List ℕ)
-    → constants ≡ t.constants → slots ≡ types_of t → kinds ≡ kinds_of t → starts ≡ starts_from 0 (programs_of t.instances)
+    → constants ≡ t.constants → slots ≡ types_of t → kinds ≡ kinds_of t
+    → starts ≡ starts_from 0 (programs_of t.instances)
     → ws ≡ words_of_programs t.constants 0 (programs_of t.instances)
     → numbers ≡ map (line_at text) (places_of_programs (programs_of t.instances))
     → listing_of buses constants slots kinds starts ws numbers ≡ laid_out buses text t

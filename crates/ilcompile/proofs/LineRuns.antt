@@ -176,7 +176,8 @@ module _ (code : Listing) (front : List Word) (base end : ℕ)
           → target ≡ or_zero o → Enters (p + n) o r s x → Passes (at p s r []) x
       goes_on s r target w None x is e le f z h =
           let c = at p s r [] in
-          let no : is_target code p target ≡ false = subst (λ t. is_target code p t ≡ false) (sym z) (no_target code p) in
+          let no : is_target code p target ≡ false =
+          subst (λ t. is_target code p t ≡ false) (sym z) (no_target code p) in
           subst (Passes c) (sym h)
           (stuck_here code front c w is (f ∙ ap (λ b. cond b (Some (goes_to c target)) None) no))
       goes_on s r target w (Some q) x is e le f z h =
@@ -357,7 +358,8 @@ module _ (code : Listing) (front : List Word) (base end : ℕ)
   by_way lines p n label f next here le Out r s = (omega arith, omega arith, (next Out r s).2)
 
   -- all lines that are left
-  pub lines_run : (few : length code.kinds ≤ most_blocks) (lines : List (Line Place ℕ)) (p : ℕ) → HasWords front p (words_of_lines code.constants end p lines)
+  pub lines_run : (few : length code.kinds ≤ most_blocks) (lines : List (Line Place ℕ)) (p : ℕ)
+      → HasWords front p (words_of_lines code.constants end p lines)
       → Each (IsFit code.constants) lines → base ≤ p → p + counts.words_of_lines lines ≡ end → Run p lines
   lines_run few [] p has fit le e On r s =
       let z : at p s r [] ≡ at end s r [] = ap (λ q. at q s r []) (omega arith) in (

@@ -292,7 +292,8 @@ module _ (code : Listing) where
       (subst (λ n. Comes (at n s1 b.0 []) left) l.place (next s1 b.0 b.2))
 
   -- all programs that are left
-  programs_run : (few : length code.kinds ≤ most_blocks) (programs : Programs) (front : List Word) (before : List ℕ) (p : ℕ)
+  programs_run : (few : length code.kinds ≤ most_blocks) (programs : Programs) (front : List Word)
+      (before : List ℕ) (p : ℕ)
       → Left front before p programs → Each (Each (IsFit code.constants)) programs → (s : Store) (r : Option Value)
       → Ready programs r → Comes (at p s r []) (scan number_same access programs s)
   programs_run few [] front before p l fit s r ready =
@@ -311,12 +312,13 @@ module _ (code : Listing) where
       (λ s1 r1 rd. programs_run few more (front ++ ws) (before ++ p ∷ []) q l' fit.1 s1 r1 rd))
 
   -- from the first word on
-  pub all_run : (few : length code.kinds ≤ most_blocks) (programs : Programs) → code.instructions ≡ words_of_programs code.constants 0 programs
+  pub all_run : (few : length code.kinds ≤ most_blocks) (programs : Programs)
+      → code.instructions ≡ words_of_programs code.constants 0 programs
       → code.starts ≡ starts_from 0 programs → Each (Each (IsFit code.constants)) programs
       → (s : Store) → Comes (at 0 s None []) (scan number_same access programs s)
   all_run few programs words starts fit s =
-      programs_run few programs [] [] 0 (record { place = refl; words = words; starts = starts; behind = tt }) fit s None
-      (first programs)
+      programs_run few programs [] [] 0 (record { place = refl; words = words; starts = starts; behind = tt }) fit s
+      None (first programs)
     where
       first : (ps : Programs) → Ready ps None
       first [] = tt

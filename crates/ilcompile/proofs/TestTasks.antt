@@ -20,7 +20,8 @@ use Rattle.ilcompile.specs.Rows.{task, ld, AreLoads, LoadConstants}
 
 -- ---- lines that load
 
-loads_more : (lines : List (Line Place ℕ)) (value : Value) → AreLoads lines → AreLoads (lines ++ ld 0 (Constant value) ∷ [])
+loads_more : (lines : List (Line Place ℕ)) (value : Value) → AreLoads lines
+    → AreLoads (lines ++ ld 0 (Constant value) ∷ [])
 loads_more [] value h = ((value, refl), tt)
 loads_more (line ∷ lines) value h = (h.0, loads_more lines value h.1)
 
@@ -53,8 +54,8 @@ one_load_more lines constants number value h =
       long = omega (arith, length-append lines (ld 0 (Constant value) ∷ []));
     }
 
-pub next_load : (lines lines' : List (Line Place ℕ)) (line : Line Place ℕ) (constants constants' : List Value) (number : ℕ)
-    (value : Value) → line ≡ ld 0 (Constant value) → lines' ≡ lines ++ line ∷ []
+pub next_load : (lines lines' : List (Line Place ℕ)) (line : Line Place ℕ) (constants constants' : List Value)
+    (number : ℕ) (value : Value) → line ≡ ld 0 (Constant value) → lines' ≡ lines ++ line ∷ []
     → constants' ≡ with_constant constants value → LoadConstants lines constants number
     → LoadConstants lines' constants' (number + 1)
 next_load lines lines' line constants constants' number value a b c h =

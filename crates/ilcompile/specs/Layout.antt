@@ -42,15 +42,15 @@ number_of constants value = position_or_len (same_value value) constants
 -- an operand by its number; an instance has no value, and is past the last constant
 abbrev pub operand_of : List Value → Operand Place → WordOperand
 operand_of constants (Name (places.Slot slot)) = operands.Slot slot
-operand_of constants (Name (places.Port block port)) = operands.Port block port
+operand_of constants (Name (places.Port block port)) = operands.Port port block
 operand_of constants (Name (places.Block block)) = operands.Constant most_constants
 operand_of constants (Constant value) = operands.Constant (number_of constants value)
 
 -- what is stored to; an instance is not, and its port is that of an instance past the last
 abbrev pub variable_of : Place → Variable
 variable_of (places.Slot slot) = variables.Slot slot
-variable_of (places.Port block port) = variables.Port block port
-variable_of (places.Block block) = variables.Port most_blocks 0
+variable_of (places.Port block port) = variables.Port port block
+variable_of (places.Block block) = variables.Port 0 most_blocks
 
 -- the instance that is called; what is none is past the last
 abbrev pub block_of : Place → ℕ
@@ -59,8 +59,8 @@ block_of _ = most_blocks
 
 -- the word of an argument; a variable is no port
 abbrev pub pass_to : Place → WordOperand → Word
-pass_to (places.Port block port) operand = words.Pass operand block port
-pass_to _ operand = words.Pass operand most_blocks 0
+pass_to (places.Port block port) operand = words.Pass port block operand
+pass_to _ operand = words.Pass 0 most_blocks operand
 
 abbrev pub word_of_argument : List Value → Argument Place → Word
 word_of_argument constants x = pass_to x.port (operand_of constants x.operand)

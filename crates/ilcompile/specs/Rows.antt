@@ -178,7 +178,8 @@ astray =
     (record { at = 2; label = Some 3; instruction = Some (instructions.Load false a) }
     ∷ jump 3 IfTrue 3 ∷ jump 4 IfTrue 4 ∷ [])
     ∷ (record { at = 5; label = Some 4; instruction = Some (instructions.Load false b) }
-    ∷ jump 6 IfFalse 3 ∷ record { at = 7; label = Some 3; instruction = Some (instructions.Store false (places.Slot 1)) } ∷ [])
+    ∷ jump 6 IfFalse 3
+    ∷ record { at = 7; label = Some 3; instruction = Some (instructions.Store false (places.Slot 1)) } ∷ [])
     ∷ []
 
 abbrev pub words_astray : List Word
@@ -209,9 +210,9 @@ calling =
 
 abbrev pub words_calling : List Word
 words_calling =
-    words.Load false (operands.Slot 0) ∷ words.Pass (operands.Slot 0) 0 0 ∷ words.Pass (operands.Constant 0) 0 1
-    ∷ words.Call 0 ∷ words.Load false (operands.Port 0 2) ∷ words.Store false in_b
-    ∷ words.Store true (variables.Port 1 0) ∷ []
+    words.Load false (operands.Slot 0) ∷ words.Pass 0 0 (operands.Slot 0) ∷ words.Pass 1 0 (operands.Constant 0)
+    ∷ words.Call 0 ∷ words.Load false (operands.Port 2 0) ∷ words.Store false in_b
+    ∷ words.Store true (variables.Port 0 1) ∷ []
 
 -- LD a, CALC e(CLK := t.Q), 4: LD b, CALCN t(); and LD b, CALCN t(PT := 20, IN := TRUE)
 abbrev pub calling_if : List (List (Line Place ℕ))
@@ -223,10 +224,10 @@ calling_if =
 
 abbrev pub words_calling_if : List Word
 words_calling_if =
-    words.Load false (operands.Slot 0) ∷ words.Jump IfFalse 4 ∷ words.Pass (operands.Port 0 2) 1 0 ∷ words.Call 1
+    words.Load false (operands.Slot 0) ∷ words.Jump IfFalse 4 ∷ words.Pass 0 1 (operands.Port 2 0) ∷ words.Call 1
     ∷ words.Load false (operands.Slot 1) ∷ words.Jump IfTrue 7 ∷ words.Call 0
-    ∷ words.Load false (operands.Slot 1) ∷ words.Jump IfTrue 12 ∷ words.Pass (operands.Constant 0) 0 1
-    ∷ words.Pass (operands.Constant 1) 0 0 ∷ words.Call 0 ∷ []
+    ∷ words.Load false (operands.Slot 1) ∷ words.Jump IfTrue 12 ∷ words.Pass 1 0 (operands.Constant 0)
+    ∷ words.Pass 0 0 (operands.Constant 1) ∷ words.Call 0 ∷ []
 
 -- LD a, JMPC 9, CALC t(IN := a, PT := 7), 9: ST b; the first jump passes over all words of the call
 abbrev pub over_call : List (Line Place ℕ)
@@ -237,7 +238,7 @@ over_call =
 abbrev pub words_over_call : List Word
 words_over_call =
     words.Load false (operands.Slot 0) ∷ words.Jump IfTrue 6 ∷ words.Jump IfFalse 6
-    ∷ words.Pass (operands.Slot 0) 0 0 ∷ words.Pass (operands.Constant 0) 0 1 ∷ words.Call 0
+    ∷ words.Pass 0 0 (operands.Slot 0) ∷ words.Pass 1 0 (operands.Constant 0) ∷ words.Call 0
     ∷ words.Store false in_b ∷ []
 
 -- LD t, ST t, S e, CAL a, CAL t(a := b): no table has what is none
@@ -249,8 +250,8 @@ misnamed =
 
 abbrev pub words_misnamed : List Word
 words_misnamed =
-    words.Load false (operands.Constant 4096) ∷ words.Store false (variables.Port 256 0)
-    ∷ words.Set (variables.Port 256 0) ∷ words.Call 256 ∷ words.Pass (operands.Slot 1) 256 0 ∷ words.Call 0 ∷ []
+    words.Load false (operands.Constant 4096) ∷ words.Store false (variables.Port 0 256)
+    ∷ words.Set (variables.Port 0 256) ∷ words.Call 256 ∷ words.Pass 0 256 (operands.Slot 1) ∷ words.Call 0 ∷ []
 
 -- each line loads a constant
 abbrev pub AreLoads : List (Line Place ℕ) → Type 0

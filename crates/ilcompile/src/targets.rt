@@ -34,19 +34,19 @@ pub(crate) fn count(lines: &[Line<Place, usize>]) -> usize
 /// is at `start`.
 pub(crate) fn targets(
     alloc: Global,
-    start: usize,
+    start: u32,
     lines: &[Line<Place, usize>],
-) -> Result<Vec<usize>, AllocError>
+) -> Result<Vec<u32>, AllocError>
     requires { start + words_of_lines lines.now ≤ most_words }
     ensures { IfOk result (λ targets. reverse targets.items ≡ targets_of start lines.now) }
 {
     let mut labels = HashMap::new(alloc);
     let mut targets = Vec::new(alloc);
-    let mut place = start + count(lines);
+    let mut place = start + count(lines) as u32;
     for index in (0..lines.len()).rev() {
         let line = &lines[index];
         push_target(&mut targets, &labels, &line.instruction)?;
-        place -= line.words();
+        place -= line.words() as u32;
         set_place(&mut labels, line.label, place)?;
     }
     Ok(targets)
@@ -54,8 +54,8 @@ pub(crate) fn targets(
 
 /// Adds the target of an instruction that jumps to a label.
 fn push_target(
-    targets: &mut Vec<usize>,
-    labels: &HashMap<usize, usize>,
+    targets: &mut Vec<u32>,
+    labels: &HashMap<usize, u32>,
     instruction: &Option<Instruction<Place, usize>>,
 ) -> Result<(), AllocError>
     ensures { OnOk result (targets.new.items
@@ -69,9 +69,9 @@ fn push_target(
 
 /// Sets the place of a line's label.
 fn set_place(
-    labels: &mut HashMap<usize, usize>,
+    labels: &mut HashMap<usize, u32>,
     label: Option<usize>,
-    place: usize,
+    place: u32,
 ) -> Result<(), AllocError>
     ensures { OnOk result ((other : ℕ) → place_in labels.new other
         ≡ (if has_label number_same other label then place else place_in labels.old other)) }
@@ -84,9 +84,9 @@ fn set_place(
 
 /// The last target, where the instruction jumps to a label, which is taken from the list.
 pub(crate) fn next_target(
-    targets: &mut Vec<usize>,
+    targets: &mut Vec<u32>,
     instruction: &Option<Instruction<Place, usize>>,
-) -> usize
+) -> u32
     ensures { IsTaken instruction.now targets.old.items targets.new.items result }
 {
     match instruction {

@@ -1,7 +1,7 @@
 //! The words of lines.
 
 ghost use Rattle.std.specs.Prelude.{◌≡◌, ◌≤◌, ◌+◌, ◌∷◌, ◌++◌, [], length, map, IfOk, OnOk};
-ghost use Rattle.limits.specs.Limits.{most_words};
+ghost use Rattle.limits.specs.Limits.{most_constants, most_words};
 ghost use Rattle.iltrees.specs.Words as counts;
 ghost use Rattle.ilplan.specs.Plans.{all_lines};
 ghost use Rattle.ilcode.specs.declared.instruction.Instruction.TheVariants as variants;
@@ -23,7 +23,8 @@ pub(crate) fn words(
     constants: &Constants,
     instances: &[Instance],
 ) -> Result<(Vec<usize>, Vec<Word>), AllocError>
-    requires { counts.words_of_lines (all_lines instances.now) ≤ most_words }
+    requires few { length constants.now ≤ most_constants }
+    requires limit { counts.words_of_lines (all_lines instances.now) ≤ most_words }
     ensures starts { IfOk result (λ code.
         code.0.items ≡ starts_from 0 (programs_of instances.now)) }
     ensures words { IfOk result (λ code.
@@ -45,15 +46,16 @@ fn push_lines(
     constants: &Constants,
     lines: &[Line<Place, usize>],
 ) -> Result<(), AllocError>
-    requires { length words.old.items + counts.words_of_lines lines.now ≤ most_words }
+    requires few { length constants.now ≤ most_constants }
+    requires limit { length words.old.items + counts.words_of_lines lines.now ≤ most_words }
     ensures { OnOk result (words.new.items ≡ words.old.items ++ words_of_lines constants.now
         (length words.old.items + counts.words_of_lines lines.now) (length words.old.items)
         lines.now) }
 {
-    let end = words.len() + count(lines);
-    let mut targets = targets(alloc, words.len(), lines)?;
+    let end = (words.len() + count(lines)) as u32;
+    let mut targets = targets(alloc, words.len() as u32, lines)?;
     for line in lines {
-        let next = words.len() + line.words();
+        let next = (words.len() + line.words()) as u32;
         let target = next_target(&mut targets, &line.instruction);
         push_line(words, constants, end, next, target, line)?;
     }
@@ -65,11 +67,12 @@ fn push_lines(
 fn push_line(
     words: &mut Vec<Word>,
     constants: &Constants,
-    end: usize,
-    next: usize,
-    target: usize,
+    end: u32,
+    next: u32,
+    target: u32,
     line: &Line<Place, usize>,
 ) -> Result<(), AllocError>
+    requires few { length constants.now ≤ most_constants }
     ensures { OnOk result (words.new.items
         ≡ words.old.items ++ words_in constants.now end next (λ label. target) line.now) }
 {
@@ -84,11 +87,12 @@ fn push_line(
 fn push_words(
     words: &mut Vec<Word>,
     constants: &Constants,
-    end: usize,
-    next: usize,
-    target: usize,
+    end: u32,
+    next: u32,
+    target: u32,
     instruction: &Instruction<Place, usize>,
 ) -> Result<(), AllocError>
+    requires few { length constants.now ≤ most_constants }
     ensures { OnOk result (words.new.items
         ≡ words.old.items ++ words_of constants.now end next (λ label. target) instruction.now) }
 {
@@ -134,6 +138,7 @@ fn push_pieces(
     constants: &Constants,
     pieces: &[Piece<Place>],
 ) -> Result<(), AllocError>
+    requires few { length constants.now ≤ most_constants }
     ensures { OnOk result (words.new.items
         ≡ words.old.items ++ map (λ p. word_of constants.now p.action) pieces.now) }
 {
@@ -144,11 +149,7 @@ fn push_pieces(
 }
 
 /// Adds the jump over a call that is not carried out.
-fn push_jump_over(
-    words: &mut Vec<Word>,
-    next: usize,
-    condition: Condition,
-) -> Result<(), AllocError>
+fn push_jump_over(words: &mut Vec<Word>, next: u32, condition: Condition) -> Result<(), AllocError>
     ensures { OnOk result (words.new.items ≡ words.old.items ++ jump_over next condition) }
 {
     match condition {
@@ -164,6 +165,7 @@ fn push_arguments(
     constants: &Constants,
     arguments: &[Argument<Place>],
 ) -> Result<(), AllocError>
+    requires few { length constants.now ≤ most_constants }
     ensures { OnOk result (words.new.items
         ≡ words.old.items ++ map (word_of_argument constants.now) arguments.now) }
 {
@@ -183,6 +185,7 @@ fn push(words: &mut Vec<Word>, word: Word) -> Result<(), AllocError>
 
 /// The word of a piece.
 fn word(constants: &Constants, action: Action<Place>) -> Word
+    requires few { length constants.now ≤ most_constants }
     ensures { result ≡ word_of constants.now action }
 {
     match action {
@@ -196,6 +199,7 @@ fn word(constants: &Constants, action: Action<Place>) -> Word
 
 /// LD, LDN.
 fn load(constants: &Constants, negated: bool, operand: Operand<Place>) -> Word
+    requires few { length constants.now ≤ most_constants }
     ensures { result ≡ word_of constants.now (Action.Load negated operand) }
 {
     Word::Load {
@@ -206,6 +210,7 @@ fn load(constants: &Constants, negated: bool, operand: Operand<Place>) -> Word
 
 /// An operator with its operand.
 fn apply(constants: &Constants, operator: Operator, operand: Operand<Place>) -> Word
+    requires few { length constants.now ≤ most_constants }
     ensures { result ≡ word_of constants.now (Action.Apply operator operand) }
 {
     Word::Apply(operator, numbered(constants, operand))
@@ -223,25 +228,26 @@ fn store(negated: bool, place: Place) -> Word
 
 /// An argument of a call.
 fn pass(constants: &Constants, argument: Argument<Place>) -> Word
+    requires few { length constants.now ≤ most_constants }
     ensures { result ≡ word_of_argument constants.now argument }
 {
     let operand = numbered(constants, argument.operand);
     match argument.port {
         Place::Port { block, port } => Word::Pass {
-            operand,
-            block,
             port,
+            block,
+            operand,
         },
         Place::Slot(_) | Place::Block(_) => Word::Pass {
-            operand,
-            block: MOST_BLOCKS,
             port: 0,
+            block: MOST_BLOCKS as u16,
+            operand,
         },
     }
 }
 
 /// A jump to a place.
-fn jump(condition: Condition, target: usize) -> Word
+fn jump(condition: Condition, target: u32) -> Word
     ensures { result ≡ variants.Jump condition target }
 {
     Word::Jump { condition, target }
@@ -249,13 +255,14 @@ fn jump(condition: Condition, target: usize) -> Word
 
 /// An operand by its number.
 fn numbered(constants: &Constants, operand: Operand<Place>) -> WordOperand
+    requires few { length constants.now ≤ most_constants }
     ensures { result ≡ operand_of constants.now operand }
 {
     match operand {
         Operand::Name(Place::Slot(slot)) => WordOperand::Slot(slot),
-        Operand::Name(Place::Port { block, port }) => WordOperand::Port { block, port },
-        Operand::Name(Place::Block(_)) => WordOperand::Constant(MOST_CONSTANTS),
-        Operand::Constant(value) => WordOperand::Constant(constants.number_of(value)),
+        Operand::Name(Place::Port { block, port }) => WordOperand::Port { port, block },
+        Operand::Name(Place::Block(_)) => WordOperand::Constant(MOST_CONSTANTS as u16),
+        Operand::Constant(value) => WordOperand::Constant(constants.number_of(value) as u16),
     }
 }
 
@@ -265,20 +272,20 @@ fn variable(place: Place) -> Variable
 {
     match place {
         Place::Slot(slot) => Variable::Slot(slot),
-        Place::Port { block, port } => Variable::Port { block, port },
+        Place::Port { block, port } => Variable::Port { port, block },
         Place::Block(_) => Variable::Port {
-            block: MOST_BLOCKS,
             port: 0,
+            block: MOST_BLOCKS as u16,
         },
     }
 }
 
 /// The block instance that is called.
-fn block(place: Place) -> usize
+fn block(place: Place) -> u16
     ensures { result ≡ block_of place }
 {
     match place {
         Place::Block(block) => block,
-        Place::Slot(_) | Place::Port { .. } => MOST_BLOCKS,
+        Place::Slot(_) | Place::Port { .. } => MOST_BLOCKS as u16,
     }
 }

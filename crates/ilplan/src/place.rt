@@ -4,9 +4,9 @@
 #[derive(Clone, Copy, PartialEq, Eq, Debug)]
 pub enum Place {
     /// The variable in the slot of this number.
-    Slot(usize),
+    Slot(u16),
     /// A port of the block instance of this number.
-    Port { block: usize, port: usize },
+    Port { block: u16, port: u8 },
     /// The block instance of this number, which is called.
-    Block(usize),
+    Block(u16),
 }

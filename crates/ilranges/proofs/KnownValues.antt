@@ -78,7 +78,7 @@ pub operand_known : (code : Listing) (entry : Entry) (c : Configuration) (operan
     → IsOperandKnown (value_of code c.store operand) (known_of code entry operand)
 operand_known code entry c (operands.Slot slot) f = slot_known c.store.slots entry.slots slot f.slots
 operand_known code entry c (operands.Constant constant) f = constant_known (slice_get code.constants constant)
-operand_known code entry c (operands.Port block port) f =
+operand_known code entry c (operands.Port port block) f =
     port_known (shape_of code) c.store block port (port_value c.store block port)
     (type_of_port (shape_of code) block port) f.typed refl refl
 

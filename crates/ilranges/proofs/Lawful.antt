@@ -213,8 +213,8 @@ lawful_before code place entry (words.Set variable) after h cause a =
     set_lawful entry.result (type_of_variable code variable) (may_write code variable) h.0 h.1 cause a
 lawful_before code place entry (words.Reset variable) after h cause a =
     set_lawful entry.result (type_of_variable code variable) (may_write code variable) h.0 h.1 cause a
-lawful_before code place entry (words.Pass operand block port) after h cause a =
-    let input = variables.Port block port in
+lawful_before code place entry (words.Pass port block operand) after h cause a =
+    let input = variables.Port port block in
     passed_lawful (known_of code entry operand) (type_of_variable code input) (may_write code input) h.1.stored h.0
     h.1.passed cause a
 lawful_before code place entry (words.Call block) after h cause a =

@@ -41,7 +41,7 @@ pub load_marked : (code : Listing) (store : Store) (negated : Bool) (operand : O
     → IsMarked store.slots (Some v) (mark_of_load negated operand known)
 load_marked code store true operand known v e k = tt
 load_marked code store false (Constant constant) known v e k = tt
-load_marked code store false (Port block port) known v e k = tt
+load_marked code store false (Port port block) known v e k = tt
 load_marked code store false (Slot slot) knowns.Bool v e k = tt
 load_marked code store false (Slot slot) (knowns.Int range) (values.Bool b) e k = absurd k
 load_marked code store false (Slot slot) (knowns.Int range) (values.Int z) e k =
@@ -53,7 +53,7 @@ constant_value : (code : Listing) (store : Store) (operand : Operand) (value : V
     → constant_of code operand ≡ Some value → value_of code store operand ≡ Some value
 constant_value code store (Slot slot) value e = absurd (cc)
 constant_value code store (Constant constant) value e = e
-constant_value code store (Port block port) value e = absurd (cc)
+constant_value code store (Port port block) value e = absurd (cc)
 
 -- the outcome of a comparison of the number that was copied
 compared : (slots : List Value) (result operand : Option Value) (slot : ℕ) (operator : Operator) (limit : ℤ)

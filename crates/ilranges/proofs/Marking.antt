@@ -31,7 +31,7 @@ load_marks negated operand (knowns.Int r) knowns.Bool w = absurd w
 load_marks true operand (knowns.Int r) (knowns.Int s) w = tt
 load_marks false (Slot slot) (knowns.Int r) (knowns.Int s) w = refl
 load_marks false (Constant constant) (knowns.Int r) (knowns.Int s) w = tt
-load_marks false (Port block port) (knowns.Int r) (knowns.Int s) w = tt
+load_marks false (Port port block) (knowns.Int r) (knowns.Int s) w = tt
 
 pub apply_marks : (mark wider : Option Mark) (operator : Operator) (constant : Option Value) → IsMarkInto mark wider
     → IsMarkInto (mark_of_apply mark operator constant) (mark_of_apply wider operator constant)

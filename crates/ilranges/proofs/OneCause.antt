@@ -74,8 +74,8 @@ same_ranges code place met entry (words.Store negated variable) f a g b h k =
     same_slot entry.result (type_of_variable code variable) f a g b h k
 same_ranges code place met entry (words.Set variable) f a g b h k = absurd h
 same_ranges code place met entry (words.Reset variable) f a g b h k = absurd h
-same_ranges code place met entry (words.Pass operand block port) f a g b h k =
-    same_slot (known_of code entry operand) (type_of_variable code (variables.Port block port)) f a g b h k
+same_ranges code place met entry (words.Pass port block operand) f a g b h k =
+    same_slot (known_of code entry operand) (type_of_variable code (variables.Port port block)) f a g b h k
 same_ranges code place met entry (words.Call block) f a g b h k = absurd h
 same_ranges code place met entry (words.Open operator) f a g b h k = absurd h
 same_ranges code place met entry words.Close f a g b h k = absurd (none_at_close entry.nesting entry.result f a h)

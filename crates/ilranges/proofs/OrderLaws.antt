@@ -61,7 +61,7 @@ pub operand_within : (code : Listing) (entry wider : Entry) (operand : Operand) 
 operand_within code entry wider (operands.Slot slot) i = slot_within entry.slots wider.slots slot i.slots
 operand_within code entry wider (operands.Constant constant) i =
     both_self (option_map known_of_value (slice_get code.constants constant))
-operand_within code entry wider (operands.Port block port) i =
+operand_within code entry wider (operands.Port port block) i =
     both_self (option_map known_of_type (type_of_port (shape_of code) block port))
 
 pub set_within : (slots wider : List Known) (slot : ℕ) (known other : Known) → AllZip IsKnownWithin slots wider
@@ -140,7 +140,7 @@ gives_into entry wider after other nesting wider_nesting mark_of wider_mark_of P
 writes_into : (entry wider after other : Entry) (variable : Variable) (P Q : Known → Type 0) → IsInto entry wider
     → ((known its : Known) → P known → Q its → IsKnownWithin known its) → Writes entry variable P after
     → Writes wider variable Q other → IsInto after other
-writes_into entry wider after other (variables.Port block port) P Q i each h g =
+writes_into entry wider after other (variables.Port port block) P Q i each h g =
     into_of entry wider after other h.is g.is i
 writes_into entry wider after other (variables.Slot slot) P Q i each h g =
     into_of _ _ after other h.is g.is (record {
@@ -204,7 +204,7 @@ after_into (words.Store negated variable) code entry wider after other i h g =
     stored_within negated entry.result wider.result (type_of_variable code variable) known its i.result) h.1 g.1
 after_into (words.Set variable) code entry wider after other i h g = into_of entry wider after other h.2 g.2 i
 after_into (words.Reset variable) code entry wider after other i h g = into_of entry wider after other h.2 g.2 i
-after_into (words.Pass operand block port) code entry wider after other i h g =
+after_into (words.Pass port block operand) code entry wider after other i h g =
     passes_into entry wider after other _ _ i h.1 g.1
 after_into (words.Call block) code entry wider after other i h g =
     into_of _ _ after other h.1 g.1 (record { slots = i.slots; result = tt; mark = tt; nesting = i.nesting })

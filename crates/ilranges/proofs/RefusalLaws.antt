@@ -211,8 +211,8 @@ kept_before code place entry wider (words.Set variable) after i g cause a =
 kept_before code place entry wider (words.Reset variable) after i g cause a =
     set_kept entry.result wider.result (type_of_variable code variable) (may_write code variable) i.result g.0 g.1
     cause a
-kept_before code place entry wider (words.Pass operand block port) after i g cause a =
-    let input = variables.Port block port in
+kept_before code place entry wider (words.Pass port block operand) after i g cause a =
+    let input = variables.Port port block in
     pass_kept (known_of code entry operand) (known_of code wider operand) (type_of_variable code input)
     (may_write code input) g.1.stored (operand_within code entry wider operand i) g.0 g.1.passed cause a
 kept_before code place entry wider (words.Call block) after i g cause a =

@@ -118,7 +118,7 @@ leaves code entry after c (words.Store negated variable) le n h f =
     writes code entry after c variable negated f h.0 h.1
 leaves code entry after c (words.Set variable) le n h f = sets_all code entry after c variable true f h.0 h.1 h.2
 leaves code entry after c (words.Reset variable) le n h f = sets_all code entry after c variable false f h.0 h.1 h.2
-leaves code entry after c (words.Pass operand block port) le n h f =
+leaves code entry after c (words.Pass port block operand) le n h f =
     passes code entry after c operand block port f h.0 h.1
 leaves code entry after c (words.Call block) le n h f = calls_by code entry after c block le f h.0 h.1
 leaves code entry after c (words.Open operator) le n h f =

@@ -79,10 +79,10 @@ slot_leaves code entry after c slot value type slots f e o k m p =
 
 -- a value of its type is stored to an input, of which no more is known then
 port_leaves : (code : Listing) (entry after : Entry) (c : Configuration) (block port : ℕ) (value : Value)
-    (type : IlType) (mark : Option Mark) → Fits code entry c → IsTrue (may_write code (variables.Port block port))
+    (type : IlType) (mark : Option Mark) → Fits code entry c → IsTrue (may_write code (variables.Port port block))
     → type_of_port (shape_of code) block port ≡ Some type → IsOf value type → IsMarked c.store.slots c.result mark
     → after ≡ record entry { mark = mark }
-    → Leaves code c (with_store c (stored_at code c.store (variables.Port block port) value)) after
+    → Leaves code c (with_store c (stored_at code c.store (variables.Port port block) value)) after
 port_leaves code entry after c block port value type mark f w e o m p =
     let t = port_keeps (shape_of code) c.store block port value type f.typed w e o in
     let to = at (c.place + 1) t.to c.result c.nesting in
@@ -127,7 +127,7 @@ writes_value code entry after c (variables.Slot slot) negated value type known f
     slot_leaves code entry after c slot value type (slice_set entry.slots slot known) f e o
     (set_known c.store.slots entry.slots slot value known f.slots k)
     (store_marked c.store.slots code.slots c.result entry.mark slot negated value type f.typed.slots e o h f.mark) p
-writes_value code entry after c (variables.Port block port) negated value type known f w e o k h p =
+writes_value code entry after c (variables.Port port block) negated value type known f w e o k h p =
     port_leaves code entry after c block port value type entry.mark f w e o f.mark p
 
 -- where the value is there
@@ -156,11 +156,11 @@ unmodified None = refl
 unmodified (Some x) = refl
 
 pub passes : (code : Listing) (entry after : Entry) (c : Configuration) (operand : Operand) (block port : ℕ)
-    → Fits code entry c → IsTrue (may_write code (variables.Port block port))
+    → Fits code entry c → IsTrue (may_write code (variables.Port port block))
     → Passes entry (IsStored false (known_of code entry operand) (type_of_port (shape_of code) block port)) after
-    → Leaves code c (effect code c (words.Pass operand block port)) after
+    → Leaves code c (effect code c (words.Pass port block operand)) after
 passes code entry after c operand block port f w g =
-    let input = variables.Port block port in
+    let input = variables.Port port block in
     let value = value_of code c.store operand in
     let h = stored_has code input false value (known_of code entry operand) (type_of_variable code input) g.stored refl
     (result_of_operand _ _ (operand_known code entry c operand f)) g.passed in
@@ -239,7 +239,7 @@ sets_by code entry after c (variables.Slot slot) truth true outcome f w r e p =
     slot_leaves code entry after c slot (values.Bool truth) types.Bool entry.slots f e tt
     (truth_known c.store.slots code.slots entry.slots slot truth f.typed.slots e f.slots)
     (truth_marked c.store.slots code.slots c.result entry.mark slot truth outcome f.typed.slots e r f.mark) p
-sets_by code entry after c (variables.Port block port) truth true outcome f w r e p =
+sets_by code entry after c (variables.Port port block) truth true outcome f w r e p =
     port_leaves code entry after c block port (values.Bool truth) types.Bool entry.mark f w e tt f.mark p
 
 pub sets_all : (code : Listing) (entry after : Entry) (c : Configuration) (variable : Variable) (truth : Bool)

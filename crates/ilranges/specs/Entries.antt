@@ -28,17 +28,17 @@ arriving code place entry = if is_start code place then record entry { result = 
 abbrev pub known_of : Listing → Entry → Operand → Option Known
 known_of code entry (operands.Slot slot) = slice_get entry.slots slot
 known_of code entry (operands.Constant constant) = option_map known_of_value (slice_get code.constants constant)
-known_of code entry (operands.Port block port) = option_map known_of_type (type_of_port (shape_of code) block port)
+known_of code entry (operands.Port port block) = option_map known_of_type (type_of_port (shape_of code) block port)
 
 -- the type of what a store writes, where its table has it
 abbrev pub type_of_variable : Listing → Variable → Option IlType
 type_of_variable code (variables.Slot slot) = slice_get code.slots slot
-type_of_variable code (variables.Port block port) = type_of_port (shape_of code) block port
+type_of_variable code (variables.Port port block) = type_of_port (shape_of code) block port
 
 -- whether a program may write it: a variable, or an input
 abbrev pub may_write : Listing → Variable → Bool
 may_write code (variables.Slot slot) = true
-may_write code (variables.Port block port) = is_some (type_of_input (shape_of code) block port)
+may_write code (variables.Port port block) = is_some (type_of_input (shape_of code) block port)
 
 -- 'there may be no current result' holds of every current result
 abbrev pub IsResultInto : Option Known → Option Known → Type 0

@@ -53,7 +53,7 @@ mark_of_load _ _ _ = None
 abbrev pub constant_of : Listing → Operand → Option Value
 constant_of code (Slot slot) = None
 constant_of code (Constant constant) = slice_get code.constants constant
-constant_of code (Port block port) = None
+constant_of code (Port port block) = None
 
 abbrev pub mark_of_apply : Option Mark → Operator → Option Value → Option Mark
 mark_of_apply (Some (Copy slot)) operator (Some (values.Int limit)) =

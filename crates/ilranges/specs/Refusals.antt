@@ -164,8 +164,8 @@ ArisesBeforeNesting code place entry (words.Set variable) cause =
     ArisesAtSet entry.result (type_of_variable code variable) (may_write code variable) cause
 ArisesBeforeNesting code place entry (words.Reset variable) cause =
     ArisesAtSet entry.result (type_of_variable code variable) (may_write code variable) cause
-ArisesBeforeNesting code place entry (words.Pass operand block port) cause =
-    let input = variables.Port block port in
+ArisesBeforeNesting code place entry (words.Pass port block operand) cause =
+    let input = variables.Port port block in
     ArisesAtPass (known_of code entry operand) (type_of_variable code input) (may_write code input) cause
 ArisesBeforeNesting code place entry (words.Call block) cause = ArisesAtCall (slice_get code.kinds block) cause
 ArisesBeforeNesting code place entry (words.Open operator) cause = ArisesAtOpen entry.result cause

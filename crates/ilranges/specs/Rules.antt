@@ -78,7 +78,7 @@ unmarked known = None
 -- a slot is known as what was stored from then on, and a port as before
 abbrev pub with_stored : Entry → Variable → Known → Entry
 with_stored entry (variables.Slot slot) stored = record entry { slots = slice_set entry.slots slot stored }
-with_stored entry (variables.Port block port) stored = entry
+with_stored entry (variables.Port port block) stored = entry
 
 -- the word stores to the variable; the current result and its mark stay
 pub record Writes (entry : Entry) (variable : Variable) (IsWritten : Known → Type 0) (after : Entry) : Type 0 where
@@ -130,8 +130,8 @@ IsEntryAfter code entry (words.Set variable) after =
     IsTrue (may_write code variable) × MaySet entry.result (type_of_variable code variable) × (after ≡ entry)
 IsEntryAfter code entry (words.Reset variable) after =
     IsTrue (may_write code variable) × MaySet entry.result (type_of_variable code variable) × (after ≡ entry)
-IsEntryAfter code entry (words.Pass operand block port) after =
-    let input = variables.Port block port in
+IsEntryAfter code entry (words.Pass port block operand) after =
+    let input = variables.Port port block in
     IsTrue (may_write code input)
     × Passes entry (IsStored false (known_of code entry operand) (type_of_variable code input)) after
 IsEntryAfter code entry (words.Call block) after =

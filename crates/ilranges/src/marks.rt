@@ -16,7 +16,7 @@ pub(crate) fn mark_of_load(negated: bool, operand: Operand, known: Known) -> Opt
     ensures { result ≡ mark_of_load negated operand known }
 {
     match (negated, operand, known) {
-        (false, Operand::Slot(slot), Known::Int(_)) => Some(Mark::Copy(slot)),
+        (false, Operand::Slot(slot), Known::Int(_)) => Some(Mark::Copy(usize::from(slot))),
         _ => None,
     }
 }
@@ -27,7 +27,7 @@ pub(crate) fn constant_of(code: &Code, operand: Operand) -> Option<Value>
 {
     match operand {
         Operand::Slot(_) | Operand::Port { .. } => None,
-        Operand::Constant(constant) => code.constants().get(constant).copied(),
+        Operand::Constant(constant) => code.constants().get(usize::from(constant)).copied(),
     }
 }
 

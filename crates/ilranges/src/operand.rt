@@ -11,23 +11,23 @@ use ilcode::{Code, Operand, Variable};
 use iltypes::IlType;
 
 /// The type of a port, where the code has the block instance and its kind the port.
-fn type_of_port(code: &Code, block: usize, port: usize) -> Option<IlType>
+fn type_of_port(code: &Code, block: u16, port: u8) -> Option<IlType>
     ensures { result ≡ type_of_port (shape_of code.now) block port }
 {
     let buses = code.buses();
-    match code.kinds().get(block) {
-        Some(kind) => kind.port_type(buses, port),
+    match code.kinds().get(usize::from(block)) {
+        Some(kind) => kind.port_type(buses, usize::from(port)),
         None => None,
     }
 }
 
 /// The type of an input, where the code has the block instance and its kind the input.
-fn type_of_input(code: &Code, block: usize, port: usize) -> Option<IlType>
+fn type_of_input(code: &Code, block: u16, port: u8) -> Option<IlType>
     ensures { result ≡ type_of_input (shape_of code.now) block port }
 {
     let buses = code.buses();
-    match code.kinds().get(block) {
-        Some(kind) => kind.input_type(buses, port),
+    match code.kinds().get(usize::from(block)) {
+        Some(kind) => kind.input_type(buses, usize::from(port)),
         None => None,
     }
 }
@@ -37,11 +37,14 @@ pub(crate) fn known_of(code: &Code, entry: &Entry, operand: Operand) -> Option<K
     ensures { result ≡ known_of code.now entry.now operand }
 {
     match operand {
-        Operand::Slot(slot) => entry.slots.get(slot),
+        Operand::Slot(slot) => entry.slots.get(usize::from(slot)),
         Operand::Constant(constant) => {
-            code.constants().get(constant).copied().map(Known::of_value)
+            code.constants()
+                .get(usize::from(constant))
+                .copied()
+                .map(Known::of_value)
         }
-        Operand::Port { block, port } => type_of_port(code, block, port).map(Known::of),
+        Operand::Port { port, block } => type_of_port(code, block, port).map(Known::of),
     }
 }
 
@@ -50,8 +53,8 @@ pub(crate) fn type_of_variable(code: &Code, variable: Variable) -> Option<IlType
     ensures { result ≡ type_of_variable code.now variable }
 {
     match variable {
-        Variable::Slot(slot) => code.slots().get(slot).copied(),
-        Variable::Port { block, port } => type_of_port(code, block, port),
+        Variable::Slot(slot) => code.slots().get(usize::from(slot)).copied(),
+        Variable::Port { port, block } => type_of_port(code, block, port),
     }
 }
 
@@ -61,6 +64,6 @@ pub(crate) fn may_write(code: &Code, variable: Variable) -> bool
 {
     match variable {
         Variable::Slot(_) => true,
-        Variable::Port { block, port } => type_of_input(code, block, port).is_some(),
+        Variable::Port { port, block } => type_of_input(code, block, port).is_some(),
     }
 }

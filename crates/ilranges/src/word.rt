@@ -70,11 +70,11 @@ fn judge(code: &Code, place: usize, entry: &Entry, word: Instruction) -> Result<
             Ok(onward(Change::Keep))
         }
         Instruction::Pass {
-            operand,
-            block,
             port,
+            block,
+            operand,
         } => {
-            let input = Variable::Port { block, port };
+            let input = Variable::Port { port, block };
             let declared = type_of_variable(code, input);
             rules::pass(
                 known_of(code, entry, operand),
@@ -87,7 +87,11 @@ fn judge(code: &Code, place: usize, entry: &Entry, word: Instruction) -> Result<
         Instruction::Open(operator) => Ok(onward(open(entry, operator)?)),
         Instruction::Close => Ok(onward(close(entry)?)),
         Instruction::Jump { condition, target } => {
-            check_jump(condition, code.is_target(place, target), entry.result)?;
+            check_jump(
+                condition,
+                code.is_target(place, target as usize),
+                entry.result,
+            )?;
             Ok(jump(entry, condition))
         }
     }
@@ -98,18 +102,18 @@ fn write(variable: Variable, stored: Known) -> Change
     ensures { (entry : Entry) → changed entry result ≡ with_stored entry variable stored }
 {
     match variable {
-        Variable::Slot(slot) => Change::Write(slot, stored),
+        Variable::Slot(slot) => Change::Write(usize::from(slot), stored),
         Variable::Port { .. } => Change::Keep,
     }
 }
 
 /// What a call changes, of the block instance of this number.
-fn call(code: &Code, block: usize) -> Result<Change, Cause>
+fn call(code: &Code, block: u16) -> Result<Change, Cause>
     ensures { MatchResult result
         (λ change. IsSome (slice_get code.now.kinds block) × (change ≡ Forget))
         (IsLeastCause (ArisesAtCall (slice_get code.now.kinds block))) }
 {
-    if block < code.kinds().len() {
+    if usize::from(block) < code.kinds().len() {
         Ok(Change::Forget)
     } else {
         Err(Cause::BadSlot)

@@ -23,13 +23,14 @@ impl Numbers {
     ghost use Rattle.std.specs.Option.{option_map_or};
 
     /// The number in the task of what has this one in the program; past the last where it has none.
-    fn number(self, own: Option<usize>) -> usize
-        requires { IfSome own (λ k. self.first + k < 2 ^ 64) }
+    fn number(self, own: Option<usize>) -> u16
+        requires own { IfSome own (λ k. self.first + k < 2 ^ 16) }
+        requires all { self.all < 2 ^ 16 }
         ensures { result ≡ option_map_or (λ k. self.first + k) own self.all }
     {
         match own {
-            Some(own) => self.first + own,
-            None => self.all,
+            Some(own) => (self.first + own) as u16,
+            None => self.all as u16,
         }
     }
 }
@@ -76,8 +77,9 @@ impl<'a, 's> Model for Numbering<'a, 's> {
 
     ghost invariant = { λ n.
         (slice_get (declared_programs n.scope.now) n.number ≡ Some n.program.now)
-        × (n.slots.first + length n.program.now.variables < 2 ^ 64)
-        × (n.blocks.first + length n.program.now.blocks < 2 ^ 64) };
+        × (n.slots.first + length n.program.now.variables < 2 ^ 16)
+        × (n.blocks.first + length n.program.now.blocks < 2 ^ 16)
+        × (n.slots.all < 2 ^ 16) × (n.blocks.all < 2 ^ 16) };
 }
 
 impl<'a, 's> Numbering<'a, 's> {
@@ -100,8 +102,10 @@ impl<'a, 's> Numbering<'a, 's> {
         labels: Names<usize>,
     ) -> Numbering<'a, 's>
         requires program { slice_get (declared_programs scope.now) number ≡ Some program.now }
-        requires slots { slots.first + length program.now.variables < 2 ^ 64 }
-        requires blocks { blocks.first + length program.now.blocks < 2 ^ 64 }
+        requires slots { slots.first + length program.now.variables < 2 ^ 16 }
+        requires blocks { blocks.first + length program.now.blocks < 2 ^ 16 }
+        requires all_slots { slots.all < 2 ^ 16 }
+        requires all_blocks { blocks.all < 2 ^ 16 }
         ensures { result ≡ record {
           text = scope.now.text;
           program = program.now;
@@ -123,7 +127,7 @@ impl<'a, 's> Numbering<'a, 's> {
     }
 
     /// The number of a variable's slot; past the last where there is none.
-    fn slot(&self, name: Name) -> usize
+    fn slot(&self, name: Name) -> u16
         ensures { result ≡ slot_number self.now name }
     {
         self.slots
@@ -131,7 +135,7 @@ impl<'a, 's> Numbering<'a, 's> {
     }
 
     /// The number of a block instance; past the last where there is none.
-    fn block(&self, name: Name) -> usize
+    fn block(&self, name: Name) -> u16
         ensures { result ≡ number_of_block self.now name }
     {
         let own = match self.scope.block(self.number, name) {
@@ -142,12 +146,12 @@ impl<'a, 's> Numbering<'a, 's> {
     }
 
     /// The number of a port; past the last where its block has none of this name.
-    fn port(&self, block: Name, port: Name) -> usize
+    fn port(&self, block: Name, port: Name) -> u8
         ensures { result ≡ number_of_port self.now block port }
     {
         match port_of(self.scope, self.number, block, port) {
-            Some((_, number)) => number,
-            None => MOST_PORTS,
+            Some((_, number)) => number as u8,
+            None => MOST_PORTS as u8,
         }
     }
 

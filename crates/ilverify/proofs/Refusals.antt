@@ -83,8 +83,8 @@ same_at code word line other cause its h g =
 pub same_range_refusal : (code : Listing) (a b : Refusal) → IsRangeRefusal code a → IsRangeRefusal code b → a ≡ b
 same_range_refusal code a b h g =
     let word : b.word ≡ a.word = sym (same_word code a b h g) in
-    let there : IsRangeRefusal code (record b { word = a.word }) = subst (λ (w : ℕ). IsRangeRefusal code (record b { word = w }))
-    word g in
+    let there : IsRangeRefusal code (record b { word = a.word }) =
+    subst (λ (w : ℕ). IsRangeRefusal code (record b { word = w })) word g in
     let rest : (a.line ≡ b.line) × (a.cause ≡ b.cause) = same_at code a.word a.line b.line a.cause b.cause h there in
     ap (λ (w : ℕ). record a { word = w }) (sym word)
     ∙ ap (λ (l : ℕ). record a { word = b.word; line = l }) rest.0

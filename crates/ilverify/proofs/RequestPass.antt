@@ -1,6 +1,6 @@
 -- The greatest number of requests on the paths to each place, from word to word.
-use Rattle.std.proofs.Common.{◌≡◌, ℕ, ◌+◌, ◌<◌, ◌≤◌, ◌⊎◌, inl, inr, List, [], ◌∷◌, ◌++◌, length, Bool, true, false, cond}
-use Rattle.std.proofs.Common.{Option, Some, None, refl, sym, ap, ◌∙◌, subst, arith, length-set}
+use Rattle.std.proofs.Common.{◌≡◌, ℕ, ◌+◌, ◌<◌, ◌≤◌, ◌⊎◌, inl, inr, List, [], ◌∷◌, ◌++◌, length, Bool, true, false}
+use Rattle.std.proofs.Common.{cond, Option, Some, None, refl, sym, ap, ◌∙◌, subst, arith, length-set}
 use Rattle.std.specs.Prelude.{slice_get, slice_set, get_or, replicate, max}
 use Rattle.std.specs.Option.{unwrap_or}
 use Rattle.std.proofs.lemmas.Bool.{cases_eq, cases_lt}
@@ -163,7 +163,7 @@ raises_after code most place requests (words.Transform function) = raises_one mo
 raises_after code most place requests (words.Store negated variable) = raises_one most (place + 1) requests
 raises_after code most place requests (words.Set variable) = raises_one most (place + 1) requests
 raises_after code most place requests (words.Reset variable) = raises_one most (place + 1) requests
-raises_after code most place requests (words.Pass operand block port) = raises_one most (place + 1) requests
+raises_after code most place requests (words.Pass port block operand) = raises_one most (place + 1) requests
 raises_after code most place requests (words.Call block) = raises_one most (place + 1) requests
 raises_after code most place requests (words.Open operator) = raises_one most (place + 1) requests
 raises_after code most place requests words.Close = raises_one most (place + 1) requests

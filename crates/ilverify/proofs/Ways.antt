@@ -136,10 +136,10 @@ after_typed code entry (words.Transform function) after t h = typed_at code _ af
 after_typed code entry (words.Store negated (Slot slot)) after t h =
     typed_at code _ after h.1.is (set_typed entry.slots code.slots slot h.1.stored t
     (λ its e. stored_typed negated entry.result (slice_get code.slots slot) h.1.stored its e h.1.written))
-after_typed code entry (words.Store negated (Port block port)) after t h = typed_at code entry after h.1.is t
+after_typed code entry (words.Store negated (Port port block)) after t h = typed_at code entry after h.1.is t
 after_typed code entry (words.Set variable) after t h = typed_at code entry after h.2 t
 after_typed code entry (words.Reset variable) after t h = typed_at code entry after h.2 t
-after_typed code entry (words.Pass operand block port) after t h = typed_at code _ after h.1.is t
+after_typed code entry (words.Pass port block operand) after t h = typed_at code _ after h.1.is t
 after_typed code entry (words.Call block) after t h = typed_at code _ after h.1 t
 after_typed code entry (words.Open operator) after t h = opens_typed code entry after operator entry.result t h
 after_typed code entry words.Close after t h = closes_typed code entry after entry.nesting t h

@@ -28,9 +28,10 @@ fn words_at(longest: &[u32], place: usize) -> u32
 
 /// How many words are on the longest path from a jump's target on; none where the target is not
 /// lawful.
-fn words_from_target(code: &Code, place: usize, target: usize, longest: &[u32]) -> u32
+fn words_from_target(code: &Code, place: usize, target: u32, longest: &[u32]) -> u32
     ensures { result ≡ words_at_target code.now longest.now place target }
 {
+    let target = target as usize;
     if code.is_target(place, target) {
         words_at(longest, target)
     } else {

@@ -51,7 +51,7 @@ fn target_of(place: usize, word: Instruction) -> usize
     ensures { result ≡ target_of place word }
 {
     match word {
-        Instruction::Jump { target, .. } => target,
+        Instruction::Jump { target, .. } => target as usize,
         _ => place + 1,
     }
 }

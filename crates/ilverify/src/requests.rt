@@ -43,7 +43,7 @@ fn may_request(code: &Code, word: Instruction) -> bool
     ensures { result ≡ may_request code.now word }
 {
     match word {
-        Instruction::Call(block) => match code.kinds().get(block) {
+        Instruction::Call(block) => match code.kinds().get(usize::from(block)) {
             Some(kind) => kind.makes_requests(),
             None => false,
         },
@@ -83,7 +83,7 @@ fn raise_after(
 {
     match word {
         Instruction::Jump { condition, target } => {
-            raise_target(code, most, place, target, requests);
+            raise_target(code, most, place, target as usize, requests);
             match condition {
                 Condition::Always => {}
                 Condition::IfTrue | Condition::IfFalse => raise(most, place + 1, requests),

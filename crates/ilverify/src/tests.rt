@@ -45,7 +45,7 @@ pub(crate) fn load(operand: Operand) -> Instruction {
     }
 }
 
-fn store(slot: usize) -> Instruction {
+fn store(slot: u16) -> Instruction {
     Instruction::Store {
         negated: false,
         variable: Variable::Slot(slot),
@@ -219,7 +219,7 @@ fn the_33rd_parenthesis_is_refused(rt: HostRuntime) -> Result<(), Fail> {
 fn on_all_slots(alloc: Global, count: usize) -> Result<Vec<Instruction>, AllocError> {
     let mut words = Vec::new(alloc);
     for place in 0..count {
-        let slot = place % 4096;
+        let slot = (place % 4096) as u16;
         words.push(match place % 3 {
             0 => load(Operand::Slot(slot)),
             1 => Instruction::Apply(Operator::Max, Operand::Slot(slot)),

@@ -19,29 +19,29 @@ fn arguments()
         (with_timer (timer true 0 false 0 false 0) (store_of 7 0 0 true)) }
     ensures with_no_result { Come [] (pass_pt ∷ []) (store_of 7 9 0 true) None
         (with_timer (timer false 9 false 0 false 0) (store_of 7 9 0 true)) }
-    ensures constant { Come [] (Pass (Constant 2) 0 1 ∷ []) (store_of 7 9 0 true) None
+    ensures constant { Come [] (Pass 1 0 (Constant 2) ∷ []) (store_of 7 9 0 true) None
         (with_timer (timer false 256 false 0 false 0) (store_of 7 9 0 true)) }
-    ensures outside { AreStuck [] (Pass (Constant 3) 0 1 ∷ []) (store_of 7 9 0 true) }
-    ensures of_another_kind { AreStuck [] (Pass (Slot 0) 0 0 ∷ []) (store_of 1 0 0 true) }
-    ensures to_an_output { AreStuck [] (Pass (Slot 3) 0 2 ∷ []) (store_of 7 0 0 true) }
-    ensures no_port { AreStuck [] (Pass (Slot 3) 0 4 ∷ []) (store_of 7 0 0 true) }
-    ensures no_instance { AreStuck [] (Pass (Slot 3) 2 0 ∷ []) (store_of 7 0 0 true) }
-    ensures past_the_buses { AreStuck [] (Pass (Slot 0) 1 1 ∷ []) (store_of 1 0 0 true) }
-    ensures last_address { Come [] (Pass (Slot 0) 1 2 ∷ []) (store_of 80 0 0 true) None
+    ensures outside { AreStuck [] (Pass 1 0 (Constant 3) ∷ []) (store_of 7 9 0 true) }
+    ensures of_another_kind { AreStuck [] (Pass 0 0 (Slot 0) ∷ []) (store_of 1 0 0 true) }
+    ensures to_an_output { AreStuck [] (Pass 2 0 (Slot 3) ∷ []) (store_of 7 0 0 true) }
+    ensures no_port { AreStuck [] (Pass 4 0 (Slot 3) ∷ []) (store_of 7 0 0 true) }
+    ensures no_instance { AreStuck [] (Pass 0 2 (Slot 3) ∷ []) (store_of 7 0 0 true) }
+    ensures past_the_buses { AreStuck [] (Pass 1 1 (Slot 0) ∷ []) (store_of 1 0 0 true) }
+    ensures last_address { Come [] (Pass 2 1 (Slot 0) ∷ []) (store_of 80 0 0 true) None
         (with_blocks no_timer (gear false 0 80 0 false) [] (store_of 80 0 0 true)) }
-    ensures past_the_addresses { AreStuck [] (Pass (Slot 0) 1 2 ∷ []) (store_of 81 0 0 true) }
+    ensures past_the_addresses { AreStuck [] (Pass 2 1 (Slot 0) ∷ []) (store_of 81 0 0 true) }
 {}
 
 /// Ports as operands and as what is stored to: each is read, an input alone is stored to.
 fn ports()
-    ensures input { Come [] (pass_pt ∷ Load false (Port 0 1) ∷ []) (store_of 7 9 0 true)
+    ensures input { Come [] (pass_pt ∷ Load false (Port 1 0) ∷ []) (store_of 7 9 0 true)
         (Some (whole 9)) (with_timer (timer false 9 false 0 false 0) (store_of 7 9 0 true)) }
     ensures output { Come [] (ld_q ∷ []) (store_of 7 9 0 true) (Some (truth false))
         (store_of 7 9 0 true) }
-    ensures opposite { Come [] (Load true (Port 0 2) ∷ []) (store_of 7 9 0 true)
+    ensures opposite { Come [] (Load true (Port 2 0) ∷ []) (store_of 7 9 0 true)
         (Some (truth true)) (store_of 7 9 0 true) }
-    ensures no_port { AreStuck [] (Load false (Port 0 4) ∷ []) (store_of 7 9 0 true) }
-    ensures no_instance { AreStuck [] (Load false (Port 2 0) ∷ []) (store_of 7 9 0 true) }
+    ensures no_port { AreStuck [] (Load false (Port 4 0) ∷ []) (store_of 7 9 0 true) }
+    ensures no_instance { AreStuck [] (Load false (Port 0 2) ∷ []) (store_of 7 9 0 true) }
     ensures stored { Come [] (ld_d ∷ st_in ∷ []) (store_of 7 9 0 true) (Some (truth true))
         (with_timer (timer true 0 false 0 false 0) (store_of 7 9 0 true)) }
     ensures stored_opposite { Come [] (ld_d ∷ stn_in ∷ []) (store_of 7 9 0 false)

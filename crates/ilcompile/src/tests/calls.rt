@@ -94,7 +94,7 @@ fn two_jumps(alloc: Global) -> Result<Vec<Line<Place, usize>>, AllocError>
 }
 
 /// An argument for a port.
-fn argument(block: usize, port: usize, operand: Operand<Place>) -> Argument<Place>
+fn argument(block: u16, port: u8, operand: Operand<Place>) -> Argument<Place>
     ensures { result ≡ rows.argument block port operand }
 {
     let port = Place::Port { block, port };
@@ -265,16 +265,16 @@ const LOAD: Word = Word::Load {
 
 /// Of t(IN := a, ..).
 const FIRST_ARGUMENT: Word = Word::Pass {
-    operand: WordOperand::Slot(0),
-    block: 0,
     port: 0,
+    block: 0,
+    operand: WordOperand::Slot(0),
 };
 
 /// Of t(.., PT := ..), with the first constant.
 const SECOND_ARGUMENT: Word = Word::Pass {
-    operand: WordOperand::Constant(0),
-    block: 0,
     port: 1,
+    block: 0,
+    operand: WordOperand::Constant(0),
 };
 
 /// Of ST b.
@@ -292,11 +292,11 @@ fn calls_are_compiled(rt: HostRuntime) -> Result<(), Fail> {
     let code = compile(alloc, &plan, 0)?;
     let output = Word::Load {
         negated: false,
-        operand: WordOperand::Port { block: 0, port: 2 },
+        operand: WordOperand::Port { port: 2, block: 0 },
     };
     let input = Word::Store {
         negated: true,
-        variable: Variable::Port { block: 1, port: 0 },
+        variable: Variable::Port { port: 0, block: 1 },
     };
     let words = [
         LOAD,

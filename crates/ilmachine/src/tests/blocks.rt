@@ -32,11 +32,11 @@ fn store(variable: Variable) -> Instruction {
 }
 
 /// The constant of this number to an input.
-fn pass(constant: usize, block: usize, port: usize) -> Instruction {
+fn pass(constant: u16, block: u16, port: u8) -> Instruction {
     Instruction::Pass {
-        operand: Operand::Constant(constant),
-        block,
         port,
+        block,
+        operand: Operand::Constant(constant),
     }
 }
 
@@ -84,12 +84,12 @@ fn a_timer_runs_from_scan_to_scan(rt: HostRuntime) -> Result<(), Fail> {
     let alloc = rt.alloc();
     let words = vec![in alloc;
         load(Operand::Slot(0)),
-        store(Variable::Port { block: 0, port: 0 }),
+        store(Variable::Port { port: 0, block: 0 }),
         pass(3, 0, 1),
         Instruction::Call(0),
-        load(Operand::Port { block: 0, port: 3 }),
+        load(Operand::Port { port: 3, block: 0 }),
         store(Variable::Slot(1)),
-        load(Operand::Port { block: 0, port: 2 }),
+        load(Operand::Port { port: 2, block: 0 }),
         store(Variable::Slot(2)),
     ]?;
     let verified = verified_of(alloc, vec![in alloc; Kind::Ton]?, words)?;
@@ -131,8 +131,8 @@ fn requests_come_in_the_order_of_calls_at_rising_edges(rt: HostRuntime) -> Resul
     let alloc = rt.alloc();
     let words = vec![in alloc;
         load(Operand::Slot(0)),
-        store(Variable::Port { block: 0, port: 0 }),
-        store(Variable::Port { block: 1, port: 0 }),
+        store(Variable::Port { port: 0, block: 0 }),
+        store(Variable::Port { port: 0, block: 1 }),
         pass(1, 1, 1),
         pass(2, 1, 3),
         Instruction::Call(1),
@@ -185,7 +185,7 @@ fn a_full_outbox(rt: HostRuntime) -> Result<(), Fail> {
     let mut words = Vec::new(alloc);
     words.push(load(Operand::Constant(4)))?;
     for block in 0..16 {
-        words.push(store(Variable::Port { block, port: 0 }))?;
+        words.push(store(Variable::Port { port: 0, block }))?;
     }
     for block in 0..16 {
         words.push(Instruction::Call(block))?;

@@ -58,7 +58,7 @@ fn stores(alloc: Global, count: usize) -> Result<Vec<Instruction>, AllocError> {
     for place in 1..count {
         words.push(Instruction::Store {
             negated: false,
-            variable: Variable::Slot(place % 4096),
+            variable: Variable::Slot((place % 4096) as u16),
         })?;
     }
     Ok(words)

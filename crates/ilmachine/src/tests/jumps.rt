@@ -22,14 +22,14 @@ fn load(operand: Operand) -> Instruction {
     }
 }
 
-fn store(slot: usize) -> Instruction {
+fn store(slot: u16) -> Instruction {
     Instruction::Store {
         negated: false,
         variable: Variable::Slot(slot),
     }
 }
 
-fn jump(condition: Condition, target: usize) -> Instruction {
+fn jump(condition: Condition, target: u32) -> Instruction {
     Instruction::Jump { condition, target }
 }
 

@@ -13,18 +13,18 @@ use std::process::Abort;
 use std::sync::Arc;
 use std::test::Fail;
 
-fn load(constant: usize) -> Instruction {
+fn load(constant: u16) -> Instruction {
     Instruction::Load {
         negated: false,
         operand: Operand::Constant(constant),
     }
 }
 
-fn apply(operator: Operator, constant: usize) -> Instruction {
+fn apply(operator: Operator, constant: u16) -> Instruction {
     Instruction::Apply(operator, Operand::Constant(constant))
 }
 
-fn store(slot: usize) -> Instruction {
+fn store(slot: u16) -> Instruction {
     Instruction::Store {
         negated: false,
         variable: Variable::Slot(slot),

@@ -34,25 +34,25 @@ const XOR: Operator = Operator::Xor { negated: false };
 
 const XORN: Operator = Operator::Xor { negated: true };
 
-fn constant(constant: usize) -> Instruction {
+fn constant(constant: u16) -> Instruction {
     Instruction::Load {
         negated: false,
         operand: Operand::Constant(constant),
     }
 }
 
-fn load(negated: bool, slot: usize) -> Instruction {
+fn load(negated: bool, slot: u16) -> Instruction {
     Instruction::Load {
         negated,
         operand: Operand::Slot(slot),
     }
 }
 
-fn apply(operator: Operator, slot: usize) -> Instruction {
+fn apply(operator: Operator, slot: u16) -> Instruction {
     Instruction::Apply(operator, Operand::Slot(slot))
 }
 
-fn store(negated: bool, slot: usize) -> Instruction {
+fn store(negated: bool, slot: u16) -> Instruction {
     Instruction::Store {
         negated,
         variable: Variable::Slot(slot),

@@ -11,55 +11,55 @@ use iloperators::Operator;
 use std::test::Fail;
 
 /// The block instances of the code: a TON and a GEAR_DO.
-const TIMER: usize = 0;
+const TIMER: u16 = 0;
 
-const GEAR: usize = 1;
+const GEAR: u16 = 1;
 
-const NO_BLOCK: usize = 2;
+const NO_BLOCK: u16 = 2;
 
 /// The ports of the TON, as they are numbered; no port has the last number.
-const IN: usize = 0;
+const IN: u8 = 0;
 
-const PT: usize = 1;
+const PT: u8 = 1;
 
-const Q: usize = 2;
+const Q: u8 = 2;
 
-const ET: usize = 3;
+const ET: u8 = 3;
 
-const NO_PORT: usize = 4;
+const NO_PORT: u8 = 4;
 
 /// Ports of the GEAR_DO.
-const BUS: usize = 1;
+const BUS: u8 = 1;
 
-const ADR: usize = 2;
+const ADR: u8 = 2;
 
 /// The greatest number of milliseconds.
 const LONGEST: i64 = 4_294_967_295;
 
 /// LD of a port.
-fn ld_port(block: usize, port: usize) -> Instruction {
-    ld(Operand::Port { block, port })
+fn ld_port(block: u16, port: u8) -> Instruction {
+    ld(Operand::Port { port, block })
 }
 
 /// ST to a port of the TON.
-fn st_port(port: usize) -> Instruction {
+fn st_port(port: u8) -> Instruction {
     Instruction::Store {
         negated: false,
-        variable: Variable::Port { block: TIMER, port },
+        variable: Variable::Port { port, block: TIMER },
     }
 }
 
 /// S of a port of the TON.
-fn set_port(port: usize) -> Instruction {
-    Instruction::Set(Variable::Port { block: TIMER, port })
+fn set_port(port: u8) -> Instruction {
+    Instruction::Set(Variable::Port { port, block: TIMER })
 }
 
 /// An argument of CAL.
-fn pass(operand: Operand, block: usize, port: usize) -> Instruction {
+fn pass(operand: Operand, block: u16, port: u8) -> Instruction {
     Instruction::Pass {
-        operand,
-        block,
         port,
+        block,
+        operand,
     }
 }
 
@@ -92,15 +92,15 @@ fn what_arguments_and_calls_leave(rt: HostRuntime) -> Result<(), Fail> {
     assert_eq!(rt; result(alloc, &[level, st_port(PT)])?, known);
     assert_eq!(rt;
         mark(alloc, &[level, st_port(PT)])?,
-        Some(Mark::Copy(LEVEL))
+        Some(Mark::Copy(usize::from(LEVEL)))
     );
     assert_eq!(rt; result(alloc, &[level, call])?, None);
     assert_eq!(rt; mark(alloc, &[level, call])?, None);
     let Ok(entry) = after(alloc, &[ld(TEN), st(LEVEL), argument, call], 0)? else {
         return Err("refused".into());
     };
-    assert_eq!(rt; entry.slots.get(LEVEL), Some(int(10, 10)));
-    assert_eq!(rt; entry.slots.get(LAMP), Some(Known::Bool));
+    assert_eq!(rt; entry.slots.get(usize::from(LEVEL)), Some(int(10, 10)));
+    assert_eq!(rt; entry.slots.get(usize::from(LAMP)), Some(Known::Bool));
     Ok(())
 }
 

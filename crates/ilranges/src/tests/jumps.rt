@@ -36,7 +36,7 @@ pub(crate) fn mark(alloc: Global, words: &[Instruction]) -> Result<Option<Mark>,
 /// A test of the slot LEVEL.
 fn test_of_level(comparison: Operator) -> Option<Mark> {
     Some(Mark::Test {
-        slot: LEVEL,
+        slot: usize::from(LEVEL),
         comparison,
         limit: 10,
     })
@@ -46,14 +46,14 @@ fn test_of_level(comparison: Operator) -> Option<Mark> {
 fn which_words_leave_a_mark(rt: HostRuntime) -> Result<(), Fail> {
     let alloc = rt.alloc();
     let level = ld(slot(LEVEL));
-    let copy = Some(Mark::Copy(LEVEL));
+    let copy = Some(Mark::Copy(usize::from(LEVEL)));
     let greater = with_ten(Operator::Gt);
     let with_level = Instruction::Apply(Operator::Gt, slot(LEVEL));
     let add = with_ten(Operator::Add);
     let opened = Instruction::Open(Operator::Add);
     let set = Instruction::Set(Variable::Slot(LAMP));
     let close = Instruction::Close;
-    let wide = Some(Mark::Copy(WIDE));
+    let wide = Some(Mark::Copy(usize::from(WIDE)));
     let tested = test_of_level(Operator::Gt);
     let turned = test_of_level(Operator::Le);
     assert_eq!(rt; mark(alloc, &[level])?, copy);
@@ -87,7 +87,7 @@ fn ways(
     alloc: Global,
     words: &[Instruction],
     condition: Condition,
-    slot: usize,
+    slot: u16,
 ) -> Result<(Way, Way), Fail> {
     let code = code(alloc)?;
     if code.instructions().len() == 0 {
@@ -103,14 +103,14 @@ fn ways(
     let target = match changes.target {
         Some(change) => {
             change.apply(&mut there)?;
-            Some(there.slots.get(slot))
+            Some(there.slots.get(usize::from(slot)))
         }
         None => None,
     };
     let next = match changes.next {
         Some(change) => {
             change.apply(&mut on)?;
-            Some(on.slots.get(slot))
+            Some(on.slots.get(usize::from(slot)))
         }
         None => None,
     };
@@ -183,7 +183,7 @@ fn cause_at(
     words: &[Instruction],
     condition: Condition,
     place: usize,
-    target: usize,
+    target: u32,
 ) -> Result<Option<Cause>, Fail> {
     let code = code(alloc)?;
     let Ok(entry) = after(alloc, words, 0)? else {

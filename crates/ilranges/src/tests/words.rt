@@ -23,14 +23,14 @@ pub(crate) const MANY: Operand = Operand::Constant(3);
 pub(crate) const ZERO: Operand = Operand::Constant(4);
 
 /// Its slots: 0 to 254, BOOL, and all numbers.
-pub(crate) const LEVEL: usize = 0;
+pub(crate) const LEVEL: u16 = 0;
 
-pub(crate) const LAMP: usize = 1;
+pub(crate) const LAMP: u16 = 1;
 
-pub(crate) const WIDE: usize = 2;
+pub(crate) const WIDE: u16 = 2;
 
 /// What its tables do not have.
-const NO_SLOT: usize = 3;
+const NO_SLOT: u16 = 3;
 
 pub(crate) const NO_CONSTANT: Operand = Operand::Constant(5);
 
@@ -53,6 +53,7 @@ pub(crate) fn code(alloc: Global) -> Result<Code, AllocError> {
     Ok(Code::new(1, constants, slots, kinds, starts, words, lines))
 }
 
+/// LD of the operand.
 pub(crate) fn ld(operand: Operand) -> Instruction {
     Instruction::Load {
         negated: false,
@@ -60,6 +61,7 @@ pub(crate) fn ld(operand: Operand) -> Instruction {
     }
 }
 
+/// LDN of the operand.
 fn ldn(operand: Operand) -> Instruction {
     Instruction::Load {
         negated: true,
@@ -67,21 +69,24 @@ fn ldn(operand: Operand) -> Instruction {
     }
 }
 
-pub(crate) fn st(slot: usize) -> Instruction {
+/// ST to the slot of this number.
+pub(crate) fn st(slot: u16) -> Instruction {
     Instruction::Store {
         negated: false,
         variable: Variable::Slot(slot),
     }
 }
 
-fn stn(slot: usize) -> Instruction {
+/// STN to the slot of this number.
+fn stn(slot: u16) -> Instruction {
     Instruction::Store {
         negated: true,
         variable: Variable::Slot(slot),
     }
 }
 
-pub(crate) fn slot(slot: usize) -> Operand {
+/// The slot of this number as an operand.
+pub(crate) fn slot(slot: u16) -> Operand {
     Operand::Slot(slot)
 }
 
@@ -171,21 +176,28 @@ fn what_is_known_of_slots_after_words(rt: HostRuntime) -> Result<(), Fail> {
     let Ok(mut entry) = stored else {
         return Err("refused".into());
     };
-    assert_eq!(rt; entry.slots.get(LEVEL), Some(int(10, 10)));
-    assert_eq!(rt; entry.slots.get(WIDE), Some(int(LEAST, GREATEST)));
+    assert_eq!(rt; entry.slots.get(usize::from(LEVEL)), Some(int(10, 10)));
+    assert_eq!(rt;
+        entry.slots.get(usize::from(WIDE)),
+        Some(int(LEAST, GREATEST))
+    );
     assert_eq!(rt; entry.result, Some(int(10, 10)));
     entry.arrive(&code(alloc)?, 1);
     assert_eq!(rt; entry.result, Some(int(10, 10)));
     entry.arrive(&code(alloc)?, 2);
     assert_eq!(rt; entry.result, None);
-    assert_eq!(rt; entry.slots.get(LEVEL), Some(int(10, 10)));
+    assert_eq!(rt; entry.slots.get(usize::from(LEVEL)), Some(int(10, 10)));
     let lamp = Variable::Slot(LAMP);
     for word in [stn(LAMP), Instruction::Set(lamp), Instruction::Reset(lamp)] {
         let Ok(entry) = after(alloc, &[ld(TRUE), word], 0)? else {
             return Err("refused".into());
         };
-        assert_eq!(rt; entry.slots.get(LAMP), Some(Known::Bool), "{word:?}");
-        assert_eq!(rt; entry.slots.get(NO_SLOT), None);
+        assert_eq!(rt;
+            entry.slots.get(usize::from(LAMP)),
+            Some(Known::Bool),
+            "{word:?}"
+        );
+        assert_eq!(rt; entry.slots.get(usize::from(NO_SLOT)), None);
     }
     Ok(())
 }

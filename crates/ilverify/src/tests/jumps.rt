@@ -49,7 +49,7 @@ const EQ_ZERO: Instruction = Instruction::Apply(Operator::Eq, ZERO);
 pub(crate) const OPEN: Instruction = Instruction::Open(Operator::Add);
 
 /// JMP, and RET as a jump past the last word.
-pub(crate) fn jump(target: usize) -> Instruction {
+pub(crate) fn jump(target: u32) -> Instruction {
     Instruction::Jump {
         condition: Condition::Always,
         target,
@@ -57,7 +57,7 @@ pub(crate) fn jump(target: usize) -> Instruction {
 }
 
 /// JMPC.
-pub(crate) fn jump_if(target: usize) -> Instruction {
+pub(crate) fn jump_if(target: u32) -> Instruction {
     Instruction::Jump {
         condition: Condition::IfTrue,
         target,
@@ -65,7 +65,7 @@ pub(crate) fn jump_if(target: usize) -> Instruction {
 }
 
 /// JMPCN.
-fn jump_unless(target: usize) -> Instruction {
+fn jump_unless(target: u32) -> Instruction {
     Instruction::Jump {
         condition: Condition::IfFalse,
         target,

@@ -32,8 +32,8 @@ fn two_ways(
     [before, one, other, after]: [u8; 4],
 ) -> Result<Vec<Instruction>, AllocError> {
     let mut words = repeat(alloc, before, CALL, &[load(B)])?;
-    let other_place = usize::from(before) + usize::from(one) + 3;
-    let after_place = other_place + usize::from(other);
+    let other_place = u32::from(before) + u32::from(one) + 3;
+    let after_place = other_place + u32::from(other);
     words.push(jump_if(other_place))?;
     words.extend_from_slice(&repeat(alloc, one, CALL, &[jump(after_place)])?)?;
     words.extend_from_slice(&repeat(alloc, other, CALL, &[])?)?;

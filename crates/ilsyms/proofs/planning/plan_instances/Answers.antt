@@ -39,6 +39,16 @@ new-numbering-requires-clause-blocks c =
     let first = c.loop-number.invariant.first_block in
     omega (arith, fit, few, first)
 
+pub new-numbering-requires-clause-all_slots : goal.new-numbering-requires-clause-all_slots
+new-numbering-requires-clause-all_slots c =
+    let few = few_slots c.args.scope.now c.requires.named in
+    omega (arith, few, c.loop-number.invariant.all_slots, c.requires.slots)
+
+pub new-numbering-requires-clause-all_blocks : goal.new-numbering-requires-clause-all_blocks
+new-numbering-requires-clause-all_blocks c =
+    let few = few_blocks c.args.scope.now c.requires.named in
+    omega (arith, few, c.loop-number.invariant.all_blocks, c.requires.blocks)
+
 pub loop-number-preserved : goal.loop-number-preserved
 loop-number-preserved c =
     let text = c.args.scope.now.text in

@@ -7,8 +7,8 @@ use Rattle.ilsyms.proofs.Numbers.{fits}
 use Rattle.ilsyms.proofs.numbering.Numbering.block.Goals as goal
 use Rattle.ilsyms.proofs.numbering.Numbering.block.Goals.{in-Some, in-None}
 
-pub number-requires : goal.number-requires
-number-requires c =
+pub number-requires-clause-own : goal.number-requires-clause-own
+number-requires-clause-own c =
     let inside = c.self.inside in
     let spelled = folded inside.scope.now.text in
     let number = λ (found : Option (ℕ × Kind)). option_map (λ (b : ℕ × Kind). b.0) found in

@@ -4,8 +4,8 @@ use Rattle.ilscope.specs.declared.variable.Variable.{Variable}
 use Rattle.ilsyms.proofs.Numbers.{fits}
 use Rattle.ilsyms.proofs.numbering.Numbering.slot.Goals as goal
 
-pub number-requires : goal.number-requires
-number-requires c =
+pub number-requires-clause-own : goal.number-requires-clause-own
+number-requires-clause-own c =
     let inside = c.self.inside in
     let spelled = folded inside.scope.now.text in
     fits (λ (v : Variable). bytes_eq (spelled c.args.name) (spelled v.name)) inside.program.now.variables
