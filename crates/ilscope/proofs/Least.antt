@@ -6,8 +6,7 @@ use Rattle.std.proofs.Math.Seq.{take-suc}
 use Rattle.std.proofs.lemmas.List.{get_or_default}
 use Rattle.std.specs.Prelude.{Option, Some, None, slice_get, if◌then◌else◌}
 use Rattle.ilscope.specs.Causes.{number_of}
-use Rattle.ilscope.specs.Faults.{SomeOf, IsLeastOf}
-use Rattle.ilscope.specs.ScopeSteps.{OfCause}
+use Rattle.ilscope.specs.Faults.{IsLeastOf, OfCause, SomeOf}
 use Rattle.ilscope.specs.Order.{comes_before, lesser_of_two}
 use Rattle.ilscope.specs.declared.fault.NameCause.{NameCause}
 use Rattle.ilscope.specs.declared.found.Found.{Found}

@@ -11,9 +11,10 @@ use Rattle.ilsource.specs.declared.source.Element.TheVariants.{DerivedType, Prog
 use Rattle.ilscope.specs.DataTypes.{types_below}
 use Rattle.ilscope.specs.Declarations.{Standing, declarations_in, name_of, names_of, standing}
 use Rattle.ilscope.specs.Faults.{SomeOf, IsBadIn, IsFaultOfDeclarations, IsLeast, IsLeastOf, IsTwiceIn, IsUnknownTypeIn}
+use Rattle.ilscope.specs.Faults.{OfCause}
 use Rattle.ilscope.specs.Order.{lesser_of_two}
 use Rattle.ilscope.specs.Reports.{IsReportOf, IsReportOfOption, ReportsLeast}
-use Rattle.ilscope.specs.ScopeSteps.{IsFaultIn, IsFaultOfElement, OfCause, names_in}
+use Rattle.ilscope.specs.ScopeSteps.{IsFaultIn, IsFaultOfElement, names_in}
 use Rattle.ilscope.specs.declared.fault.NameCause.{NameCause}
 use Rattle.ilscope.specs.declared.fault.NameCause.TheVariants.{Unknown, Twice, UnknownLabel, BackwardJump}
 use Rattle.ilscope.specs.declared.fault.NameCause.TheVariants.{WritesInput, TooMany, BadDeclaration}

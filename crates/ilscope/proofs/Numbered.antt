@@ -7,10 +7,9 @@ use Rattle.std.specs.Option.{option_or}
 use Rattle.std.proofs.lemmas.List.{get_or_default, length-map, length-take-le}
 use Rattle.std.proofs.lemmas.Slice.Eq.{bytes_eq-Decides}
 use Rattle.ilsource.specs.declared.name.Name.{Name}
-use Rattle.ilscope.specs.Faults.{SomeOf, SomeLater, IsTwiceIn, IsLeastOf}
+use Rattle.ilscope.specs.Faults.{IsLeastOf, IsTwiceIn, OfCause, SomeLater, SomeOf}
 use Rattle.ilscope.specs.Kept.{Kept, with_new}
 use Rattle.ilscope.specs.Order.{lesser_of_two}
-use Rattle.ilscope.specs.ScopeSteps.{OfCause}
 use Rattle.ilscope.specs.Tables.{first_at}
 use Rattle.ilscope.specs.declared.fault.NameCause.TheVariants.{Twice}
 use Rattle.ilscope.specs.declared.found.Found.{Found}

@@ -15,10 +15,10 @@ use Rattle.ilsource.specs.declared.source.Element.TheVariants as elements
 use Rattle.ilscope.specs.DataTypes.{TypeNames, declared_type, types_below}
 use Rattle.ilscope.specs.Declarations.{DeclaredProgram, Standing, above_next, declared_program, names_of, standing}
 use Rattle.ilscope.specs.Declarations.{blocks_of, variables_of, with_declared}
-use Rattle.ilscope.specs.Faults.{SomeOf, IsLeastOf, IsTwiceIn}
+use Rattle.ilscope.specs.Faults.{IsLeastOf, IsTwiceIn, OfCause, SomeOf}
 use Rattle.ilscope.specs.Kept.{Kept, types_in, with_new}
 use Rattle.ilscope.specs.Order.{lesser_of_two}
-use Rattle.ilscope.specs.ScopeSteps.{AreAllNumbers, AreNumbersOf, IsFaultIn, IsFaultOfElement, IsGathered, OfCause}
+use Rattle.ilscope.specs.ScopeSteps.{AreAllNumbers, AreNumbersOf, IsFaultIn, IsFaultOfElement, IsGathered}
 use Rattle.ilscope.specs.ScopeSteps.{above_all, block_names, variable_names}
 use Rattle.ilscope.specs.declared.data_type.DataType.{DataType}
 use Rattle.ilscope.specs.declared.fault.NameCause.TheVariants.{Twice}

@@ -5,10 +5,10 @@ use Rattle.ilsource.specs.Names.{folded, text_of}
 use Rattle.ilsource.specs.Trees.{Tree}
 use Rattle.ilsource.specs.declared.name.Name.{Name}
 use Rattle.ilscope.specs.Declarations.{DeclaredProgram, declared_program, name_of, standing}
-use Rattle.ilscope.specs.Faults.{SomeOf, IsLeastOf, IsTwiceIn}
+use Rattle.ilscope.specs.Faults.{IsLeastOf, IsTwiceIn, OfCause, SomeOf}
 use Rattle.ilscope.specs.Kept.{Kept}
 use Rattle.ilscope.specs.Order.{lesser_of_two}
-use Rattle.ilscope.specs.ScopeSteps.{AreAllNumbers, IsFaultOfElement, IsGathered, IsScopeOf, OfCause, block_names}
+use Rattle.ilscope.specs.ScopeSteps.{AreAllNumbers, IsFaultOfElement, IsGathered, IsScopeOf, block_names}
 use Rattle.ilscope.specs.ScopeSteps.{variable_names}
 use Rattle.ilscope.specs.Tables.{lowered}
 use Rattle.ilscope.specs.declared.data_type.DataType.{DataType}

@@ -95,6 +95,10 @@ IsFaultOfDeclarations tree place Twice = IsTwice tree place
 IsFaultOfDeclarations tree place BadDeclaration = IsBad tree place
 IsFaultOfDeclarations tree place _ = ⊥
 
+-- the faults of one cause, at these places
+abbrev pub OfCause : NameCause → (ℕ → Type 0) → ℕ → NameCause → Type 0
+OfCause its At place cause = (cause ≡ its) × At place
+
 -- the first place and cause aren't after the second
 abbrev pub IsNotAfter : ℕ → NameCause → ℕ → NameCause → Type 0
 IsNotAfter place cause other its = (place < other) ⊎ ((place ≡ other) × (number_of cause ≤ number_of its))

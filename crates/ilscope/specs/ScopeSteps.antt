@@ -11,17 +11,13 @@ use Rattle.ilsource.specs.declared.source.Element.TheVariants.{DerivedType, Prog
 use Rattle.ilscope.specs.DataTypes.{TypeNames, types_below}
 use Rattle.ilscope.specs.Declarations.{DeclaredProgram, Standing, above_next, declarations_in, declared_program}
 use Rattle.ilscope.specs.Declarations.{declared_programs, names_of, standing}
-use Rattle.ilscope.specs.Faults.{SomeOf, IsBadIn, IsFaultOfDeclarations, IsLeastOf, IsTwiceIn, IsUnknownTypeIn}
+use Rattle.ilscope.specs.Faults.{IsBadIn, IsFaultOfDeclarations, IsLeastOf, IsTwiceIn, IsUnknownTypeIn, OfCause, SomeOf}
 use Rattle.ilscope.specs.Kept.{Kept, types_in}
 use Rattle.ilscope.specs.Tables.{first_at, lowered}
 use Rattle.ilscope.specs.declared.data_type.DataType.{DataType}
 use Rattle.ilscope.specs.declared.fault.NameCause.{NameCause}
 use Rattle.ilscope.specs.declared.fault.NameCause.TheVariants.{Unknown, Twice, BadDeclaration}
 use Rattle.ilscope.specs.declared.found.Found.{Found}
-
--- the faults of one cause, at these places
-abbrev pub OfCause : NameCause → (ℕ → Type 0) → ℕ → NameCause → Type 0
-OfCause its At place cause = (cause ≡ its) × At place
 
 -- a fault of what one declaration says
 abbrev pub IsFaultIn : TypeNames → DeclaredNames → ℕ → NameCause → Type 0
@@ -54,7 +50,8 @@ AreNumbersOf spelled names numbers =
     (key : List ℕ) → lookup (bytes_eq key) numbers ≡ first_at (bytes_eq key) (map spelled names)
 
 -- the same for each program, of these names in it
-abbrev pub AreAllNumbers : (Name → List ℕ) → (DeclaredProgram → List Name) → List DeclaredProgram → List (Kept ℕ) → Type 0
+abbrev pub AreAllNumbers :
+    (Name → List ℕ) → (DeclaredProgram → List Name) → List DeclaredProgram → List (Kept ℕ) → Type 0
 AreAllNumbers spelled names [] [] = ⊤
 AreAllNumbers spelled names (program ∷ programs) (numbers ∷ more) =
     AreNumbersOf spelled (names program) numbers × AreAllNumbers spelled names programs more

@@ -2,9 +2,9 @@
 
 ghost use Rattle.std.specs.Prelude.{◌≡◌, ◌↔◌, ℕ, IsTrue};
 ghost use Rattle.ilscope.specs.Faults.{IsBadIn, IsBadInitial, IsBadSubrange, IsUnknownIn};
-ghost use Rattle.ilscope.specs.Faults.{IsLeastOf, SomeOf};
+ghost use Rattle.ilscope.specs.Faults.{IsLeastOf, OfCause, SomeOf};
 ghost use Rattle.ilscope.specs.Kept.{types_in};
-ghost use Rattle.ilscope.specs.ScopeSteps.{IsFaultIn, OfCause};
+ghost use Rattle.ilscope.specs.ScopeSteps.{IsFaultIn};
 ghost use Rattle.ilsource.specs.declared.declaration.Declared.TheVariants.{Variables};
 ghost use Rattle.ilscope.specs.declared.fault.NameCause.TheVariants.{BadDeclaration, Unknown};
 

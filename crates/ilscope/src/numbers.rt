@@ -3,9 +3,8 @@
 ghost use Rattle.std.specs.Prelude.{◌≡◌, ℕ, List, IfOk, OnOk, IsSome, bytes_eq, map};
 ghost use Rattle.std.specs.Map.{lookup};
 ghost use Rattle.ilsource.specs.Names.{text_of};
-ghost use Rattle.ilscope.specs.Faults.{IsLeastOf, IsTwiceIn};
+ghost use Rattle.ilscope.specs.Faults.{IsLeastOf, IsTwiceIn, OfCause};
 ghost use Rattle.ilscope.specs.Kept.{with_new};
-ghost use Rattle.ilscope.specs.ScopeSteps.{OfCause};
 ghost use Rattle.ilscope.specs.Tables.{first_at};
 ghost use Rattle.ilscope.specs.declared.fault.NameCause.TheVariants.{Twice};
 

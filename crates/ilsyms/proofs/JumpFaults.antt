@@ -8,10 +8,9 @@ use Rattle.iltrees.specs.declared.instruction.Line.{Line}
 use Rattle.ilsource.specs.declared.name.Name.{Name}
 use Rattle.ilsource.specs.declared.symbol.Symbol.{Symbol}
 use Rattle.ilsource.specs.Names.{folded, SameName}
-use Rattle.ilscope.specs.Faults.{SomeOf, IsLeastOf, IsTwiceIn}
+use Rattle.ilscope.specs.Faults.{IsLeastOf, IsTwiceIn, OfCause, SomeOf}
 use Rattle.ilscope.specs.Kept.{Kept}
 use Rattle.ilscope.specs.Order.{lesser_of_two}
-use Rattle.ilscope.specs.ScopeSteps.{OfCause}
 use Rattle.ilscope.specs.Tables.{first_at}
 use Rattle.ilscope.specs.declared.fault.NameCause.{NameCause}
 use Rattle.ilscope.specs.declared.fault.NameCause.TheVariants.{Unknown, Twice, UnknownLabel, BackwardJump}
@@ -218,7 +217,9 @@ module _ (text : List ℕ) (kept : Kept ℕ) (lines : List (Line Symbol Name)) (
           }
       from_faults BackwardJump b =
           let here : slice_get lines (length b.before) ≡ Some b.line =
-          ap (λ (ls : List (Line Symbol Name)). slice_get ls (length b.before)) b.is ∙ got_past b.before b.after b.line in
+          ap (λ (ls : List (Line Symbol Name)). slice_get ls (length b.before)) b.is
+          ∙ got_past b.before b.after b.line
+          in
           let below = got_below lines (length b.before) b.line here in
           record {
             number = length b.before;
@@ -240,7 +241,8 @@ module _ (text : List ℕ) (kept : Kept ℕ) (lines : List (Line Symbol Name)) (
         → IsLeastOf (IsFaultBefore text kept lines bound) o → IsLeastOf (IsFaultOfJumps text lines) o
     all_jumps bound whole o h =
         best_same (IsFaultBefore text kept lines bound) (IsFaultOfJumps text lines) o
-        (λ place cause f. to_faults bound whole place cause f) (λ place cause s. from_faults bound whole place cause s) h
+        (λ place cause f. to_faults bound whole place cause f)
+        (λ place cause s. from_faults bound whole place cause s) h
 
 -- with one line more
 pub jumps_more : (text : List ℕ) (kept : Kept ℕ) (lines : List (Line Symbol Name)) (n : ℕ) (line : Line Symbol Name)

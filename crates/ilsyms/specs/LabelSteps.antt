@@ -9,12 +9,11 @@ use Rattle.iltrees.specs.Passes.{has_label}
 use Rattle.ilsource.specs.declared.name.Name.{Name}
 use Rattle.ilsource.specs.declared.symbol.Symbol.{Symbol}
 use Rattle.ilsource.specs.Names.{folded}
-use Rattle.ilscope.specs.Faults.{SomeOf, IsTwiceIn}
+use Rattle.ilscope.specs.Faults.{IsTwiceIn, OfCause, SomeOf}
 use Rattle.ilscope.specs.Kept.{Kept, with_new}
 use Rattle.ilscope.specs.Tables.{first_at}
 use Rattle.ilscope.specs.declared.fault.NameCause.{NameCause}
 use Rattle.ilscope.specs.declared.fault.NameCause.TheVariants.{Twice, UnknownLabel, BackwardJump}
-use Rattle.ilscope.specs.ScopeSteps.{OfCause}
 use Rattle.ilsyms.specs.Faults.{labels_of, ports_given, JumpsTo, JumpsNowhere, JumpsBack}
 use Rattle.ilsyms.specs.Meaning.{same_name}
 

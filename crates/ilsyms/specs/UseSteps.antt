@@ -3,8 +3,7 @@ use Rattle.std.specs.Prelude.{ℕ, List, ◌⊎◌}
 use Rattle.iltrees.specs.declared.uses.Use.{Use}
 use Rattle.ilsource.specs.declared.symbol.Symbol.{Symbol}
 use Rattle.ilscope.specs.Declarations.{DeclaredProgram}
-use Rattle.ilscope.specs.Faults.{SomeOf}
-use Rattle.ilscope.specs.ScopeSteps.{OfCause}
+use Rattle.ilscope.specs.Faults.{OfCause, SomeOf}
 use Rattle.ilscope.specs.declared.fault.NameCause.{NameCause}
 use Rattle.ilscope.specs.declared.fault.NameCause.TheVariants.{Unknown, WritesInput}
 use Rattle.ilsyms.specs.Faults.{IsUnknownUse, WritesOutput}

@@ -4,9 +4,8 @@ ghost use Rattle.std.specs.Prelude.{◌≡◌, ℕ, List, Some, IfOk, IfErr, OnO
 ghost use Rattle.iltypes.specs.declared.value.Value.{Value};
 ghost use Rattle.limits.specs.Limits.{most_blocks, most_instances, most_slots};
 ghost use Rattle.ilscope.specs.Declarations.{declared_programs};
-ghost use Rattle.ilscope.specs.Faults.{IsLeastOf};
+ghost use Rattle.ilscope.specs.Faults.{IsLeastOf, OfCause};
 ghost use Rattle.ilscope.specs.Reports.{IsMemoryOrReportsLeast, ReportsLeast};
-ghost use Rattle.ilscope.specs.ScopeSteps.{OfCause};
 ghost use Rattle.ilscope.specs.declared.fault.NameCause.TheVariants.{TooMany};
 ghost use Rattle.ilscope.specs.declared.fault.NameFault.{NameFault};
 ghost use Rattle.ilblocks.specs.Stores.{Store};

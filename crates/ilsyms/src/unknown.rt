@@ -2,8 +2,7 @@
 
 ghost use Rattle.std.specs.Prelude.{◌≡◌, ◌<◌, Some, length, slice_get};
 ghost use Rattle.ilscope.specs.Declarations.{DeclaredProgram, declared_programs};
-ghost use Rattle.ilscope.specs.Faults.{IsLeastOf};
-ghost use Rattle.ilscope.specs.ScopeSteps.{OfCause};
+ghost use Rattle.ilscope.specs.Faults.{IsLeastOf, OfCause};
 ghost use Rattle.ilscope.specs.declared.fault.NameCause.TheVariants.{Unknown};
 ghost use Rattle.ilsyms.specs.Faults.{IsUnknownSymbol, IsUnknownUse};
 

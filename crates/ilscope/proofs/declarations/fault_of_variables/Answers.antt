@@ -1,7 +1,6 @@
 use Rattle.ilsource.specs.declared.declaration.Declared.TheVariants.{Variables}
-use Rattle.ilscope.specs.Faults.{IsBadIn, IsUnknownIn}
+use Rattle.ilscope.specs.Faults.{IsBadIn, IsUnknownIn, OfCause}
 use Rattle.ilscope.specs.Kept.{types_in}
-use Rattle.ilscope.specs.ScopeSteps.{OfCause}
 use Rattle.ilscope.specs.declared.fault.NameCause.TheVariants.{BadDeclaration, Unknown}
 use Rattle.ilscope.proofs.Least.{both_least}
 use Rattle.ilscope.proofs.declarations.fault_of_variables.Goals as goal

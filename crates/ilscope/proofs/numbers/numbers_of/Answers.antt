@@ -3,8 +3,7 @@ use Rattle.std.specs.Prelude.{bytes_eq}
 use Rattle.std.proofs.lemmas.List.{take_all}
 use Rattle.ilsource.specs.Names.{text_of}
 use Rattle.ilsource.specs.declared.name.Name.{Name}
-use Rattle.ilscope.specs.Faults.{IsLeastOf, IsTwiceIn}
-use Rattle.ilscope.specs.ScopeSteps.{OfCause}
+use Rattle.ilscope.specs.Faults.{IsLeastOf, IsTwiceIn, OfCause}
 use Rattle.ilscope.specs.Tables.{first_at}
 use Rattle.ilscope.specs.declared.fault.NameCause.TheVariants.{Twice}
 use Rattle.ilscope.proofs.Numbered.{numbers_more, twice_more}

@@ -1,7 +1,6 @@
 use Rattle.std.proofs.Common.{take}
 use Rattle.ilsource.specs.Names.{folded}
-use Rattle.ilscope.specs.Faults.{IsLeastOf, IsTwiceIn, SomeOf}
-use Rattle.ilscope.specs.ScopeSteps.{OfCause}
+use Rattle.ilscope.specs.Faults.{IsLeastOf, IsTwiceIn, OfCause, SomeOf}
 use Rattle.ilscope.specs.declared.fault.NameCause.TheVariants.{Twice}
 use Rattle.ilsyms.specs.Faults.{ports_given}
 use Rattle.ilsyms.proofs.arguments.given_twice.Given as goal

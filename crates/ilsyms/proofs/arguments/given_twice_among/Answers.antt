@@ -3,8 +3,7 @@ use Rattle.std.proofs.lemmas.List.{take_all}
 use Rattle.iltrees.specs.declared.arguments.Argument.{Argument}
 use Rattle.ilsource.specs.Names.{folded}
 use Rattle.ilsource.specs.declared.symbol.Symbol.{Symbol}
-use Rattle.ilscope.specs.Faults.{IsLeastOf, IsTwiceIn}
-use Rattle.ilscope.specs.ScopeSteps.{OfCause}
+use Rattle.ilscope.specs.Faults.{IsLeastOf, IsTwiceIn, OfCause}
 use Rattle.ilscope.specs.declared.fault.NameCause.TheVariants.{Twice}
 use Rattle.ilsyms.proofs.GivenPorts.{given, given_more, given_twice_more}
 use Rattle.ilsyms.proofs.arguments.given_twice_among.Goals as goal

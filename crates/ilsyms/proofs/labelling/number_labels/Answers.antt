@@ -4,8 +4,7 @@ use Rattle.iltrees.specs.declared.instruction.Line.{Line}
 use Rattle.ilsource.specs.Names.{folded}
 use Rattle.ilsource.specs.declared.name.Name.{Name}
 use Rattle.ilsource.specs.declared.symbol.Symbol.{Symbol}
-use Rattle.ilscope.specs.Faults.{IsLeastOf, IsTwiceIn}
-use Rattle.ilscope.specs.ScopeSteps.{OfCause}
+use Rattle.ilscope.specs.Faults.{IsLeastOf, IsTwiceIn, OfCause}
 use Rattle.ilscope.specs.declared.fault.NameCause.TheVariants.{Twice}
 use Rattle.ilsyms.specs.Faults.{labels_of}
 use Rattle.ilsyms.specs.LabelSteps.{AreNumbered}

@@ -1,7 +1,6 @@
 use Rattle.std.proofs.Common.{take}
 use Rattle.ilsource.specs.Names.{folded}
-use Rattle.ilscope.specs.Faults.{IsLeastOf, IsTwiceIn}
-use Rattle.ilscope.specs.ScopeSteps.{OfCause}
+use Rattle.ilscope.specs.Faults.{IsLeastOf, IsTwiceIn, OfCause}
 use Rattle.ilscope.specs.declared.fault.NameCause.TheVariants.{Twice}
 use Rattle.ilsyms.specs.Faults.{labels_of}
 use Rattle.ilsyms.specs.LabelSteps.{AreNumbered}

@@ -1,5 +1,5 @@
+use Rattle.ilscope.specs.Faults.{OfCause}
 use Rattle.ilscope.proofs.Least.{both_least}
-use Rattle.ilscope.specs.ScopeSteps.{OfCause}
 use Rattle.ilscope.specs.declared.fault.NameCause.TheVariants.{Twice}
 use Rattle.ilsyms.specs.LabelSteps.{IsFaultOfLabels, IsGivenTwiceIn}
 use Rattle.ilsyms.proofs.lines.fault_in_lines.Goals as goal

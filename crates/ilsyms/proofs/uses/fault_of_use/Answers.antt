@@ -1,4 +1,4 @@
-use Rattle.ilscope.specs.ScopeSteps.{OfCause}
+use Rattle.ilscope.specs.Faults.{OfCause}
 use Rattle.ilscope.specs.declared.fault.NameCause.TheVariants.{Unknown, WritesInput}
 use Rattle.ilscope.proofs.Least.{both_least}
 use Rattle.ilsyms.specs.Faults.{IsUnknownUse, WritesOutput}

@@ -4,10 +4,10 @@ use Rattle.ilsource.specs.Programs.{DeclaredNames, Written}
 use Rattle.ilsource.specs.declared.name.Name.{Name}
 use Rattle.ilsource.specs.declared.source.Element.TheVariants as elements
 use Rattle.ilscope.specs.Declarations.{blocks_of, names_of, variables_of}
-use Rattle.ilscope.specs.Faults.{IsLeastOf, IsTwiceIn, SomeOf}
+use Rattle.ilscope.specs.Faults.{IsLeastOf, IsTwiceIn, OfCause, SomeOf}
 use Rattle.ilscope.specs.Kept.{types_in}
 use Rattle.ilscope.specs.Order.{lesser_of_two}
-use Rattle.ilscope.specs.ScopeSteps.{AreNumbersOf, IsFaultIn, IsGathered, OfCause, block_names, variable_names}
+use Rattle.ilscope.specs.ScopeSteps.{AreNumbersOf, IsFaultIn, IsGathered, block_names, variable_names}
 use Rattle.ilscope.specs.declared.block.DeclaredBlock.{DeclaredBlock}
 use Rattle.ilscope.specs.declared.fault.NameCause.TheVariants.{Twice}
 use Rattle.ilscope.specs.declared.variable.Variable.{Variable}
@@ -34,7 +34,8 @@ returns c front h =
     ∙ ap (λ (bs : List DeclaredBlock). map (λ b. b.name) bs) (c.deref-3.ensures.value ∙ sym c.new.ensures.blocks))
     c.in_ok-block_numbers.ensures.numbers
     in
-    let twice : IsLeastOf (OfCause Twice (IsTwiceIn (text_of lower) (names_of c.new.result.program))) c.in_ok-twice.twice =
+    let names = names_of c.new.result.program in
+    let twice : IsLeastOf (OfCause Twice (IsTwiceIn (text_of lower) names)) c.in_ok-twice.twice =
     subst (λ (ns : List Name). IsLeastOf (OfCause Twice (IsTwiceIn (text_of lower) ns)) c.in_ok-twice.twice)
     (c.deref-5.ensures.value ∙ c.in_ok-names-3.ensures ∙ ap names_of program) c.in_ok-twice.ensures.twice
     in

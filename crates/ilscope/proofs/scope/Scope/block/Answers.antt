@@ -38,7 +38,8 @@ returns-in_err-block-clause-none c p e =
     let spelled = folded c.args.self.now.text in
     rw c.from_residual-in_err-block.ensures
     (none_is (λ (b : DeclaredBlock). spelled b.name) p.blocks (spelled c.args.name) None
-    (ap (λ (o : Option (ℕ × Kind)). option_map (λ b. b.0) o) (sym c.from_residual-in_err-block.ensures) ∙ returns-in_err-block-clause-number c p e))
+    (ap (λ (o : Option (ℕ × Kind)). option_map (λ b. b.0) o) (sym c.from_residual-in_err-block.ensures)
+    ∙ returns-in_err-block-clause-number c p e))
 
 pub returns-clause-kind : goal.returns-clause-kind
 returns-clause-kind c p e =

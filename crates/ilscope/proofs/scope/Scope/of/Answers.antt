@@ -4,8 +4,8 @@ use Rattle.ilsource.specs.Trees.{Tree}
 use Rattle.ilsource.specs.declared.name.Name.{Name}
 use Rattle.ilsource.specs.declared.source.Element.{Element}
 use Rattle.ilscope.specs.Declarations.{name_of}
-use Rattle.ilscope.specs.Faults.{IsLeastOf, IsTwiceIn}
-use Rattle.ilscope.specs.ScopeSteps.{IsGathered, OfCause}
+use Rattle.ilscope.specs.Faults.{IsLeastOf, IsTwiceIn, OfCause}
+use Rattle.ilscope.specs.ScopeSteps.{IsGathered}
 use Rattle.ilscope.specs.Tables.{lowered}
 use Rattle.ilscope.specs.declared.fault.NameCause.TheVariants.{Twice}
 use Rattle.ilscope.proofs.WholeScope.{whole_scope}
@@ -17,12 +17,12 @@ invariant_of-result c =
     let lower : List ℕ = c.in_ok-lower.lower.items in
     let gathered = c.in_ok-programs.field-0 in
     rw c.lesser_of.ensures
-    (whole_scope tree lower gathered.types gathered.programs.items gathered.variable_numbers.items gathered.block_numbers.items gathered.least
-    c.in_ok-twice.twice
+    (whole_scope tree lower gathered.types gathered.programs.items gathered.variable_numbers.items
+    gathered.block_numbers.items gathered.least c.in_ok-twice.twice
     (c.in_ok-lower.ensures ∙ ap lowered c.text.ensures)
     (subst
-    (λ (l : List ℕ). IsGathered l tree.elements gathered.types gathered.programs.items gathered.variable_numbers.items gathered.block_numbers.items
-    gathered.least) c.deref.ensures.value
+    (λ (l : List ℕ). IsGathered l tree.elements gathered.types gathered.programs.items
+    gathered.variable_numbers.items gathered.block_numbers.items gathered.least) c.deref.ensures.value
     (subst (λ (es : List Element). IsGathered c.deref.result.now es gathered.types gathered.programs.items
     gathered.variable_numbers.items gathered.block_numbers.items gathered.least)
     c.elements.ensures c.in_ok-programs.ensures))

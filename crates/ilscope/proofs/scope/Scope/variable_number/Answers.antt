@@ -13,8 +13,10 @@ use Rattle.ilscope.proofs.scope.Scope.variable_number.Goals as goal
 pub index-requires : goal.index-requires
 index-requires c =
     let inside = c.self.inside in
-    let many = as_many (folded inside.source.now.text) variable_names inside.programs.items inside.variable_numbers.items
-    c.self.invariant.variables_numbered in
+    let many =
+    as_many (folded inside.source.now.text) variable_names inside.programs.items inside.variable_numbers.items
+    c.self.invariant.variables_numbered
+    in
     let programs = ap (λ (ps : List DeclaredProgram). length ps) c.self.invariant.declared in
     let here = ap (λ (t : Tree). length (declared_programs t)) c.self.view_is in
     let below = c.requires in
