@@ -33,6 +33,7 @@ const TIMERS: Written<'static> = Written::Blocks(Ton);
 
 const COUNTERS: Written<'static> = Written::Blocks(Ctu);
 
+/// The numbers of `base` from `low` to `high`.
 const fn within(base: iloperators::IntegerType, low: i64, high: i64) -> Written<'static> {
     Written::Type(Specification::Subrange { base, low, high })
 }
@@ -45,6 +46,7 @@ struct Draft {
 }
 
 impl Draft {
+    /// Adds a word, a line of its own.
     fn name(&mut self, word: &str) -> Result<Name, AllocError> {
         let from = self.text.len();
         self.text.extend_from_slice(word.as_bytes())?;
@@ -53,6 +55,7 @@ impl Draft {
         Ok(Name { from, to })
     }
 
+    /// What a row declares, for which a type's name is added.
     fn declared(
         &mut self,
         written: Written<'_>,
@@ -91,6 +94,7 @@ impl Draft {
         Ok(())
     }
 
+    /// Adds a program with these variables and block instances, and no lines.
     fn add_program(
         &mut self,
         alloc: Global,
@@ -287,9 +291,49 @@ fn numbers(low: i64, high: i64) -> Result<IlType, Fail> {
     Ok(IlType::Int(Range::new(low, high).ok_or("low is not above high")?))
 }
 
+/// How variables are declared, and the type and the initial value that they have.
+type Meant<'a> = (Written<'a>, Option<Constant>, IlType, Value);
+
+/// The variables of such declarations below these types must have those.
+fn expect_variables(
+    rt: &impl Abort,
+    alloc: Global,
+    types: &[Row<'_>],
+    rows: &[Meant<'_>],
+) -> Result<(), Fail> {
+    for (written, initial, value_type, value) in rows {
+        let source = source(alloc, types, &[(&["x", "y"], *written, *initial)])?;
+        let scope = Scope::of(alloc, &source, &Binding::one_bus(alloc))?;
+        let [program] = scope.programs() else {
+            return Err("one program".into());
+        };
+        assert_eq!(rt; program.program().declarations().len(), 1);
+        assert_eq!(rt; program.variables().len(), 2);
+        for variable in program.variables() {
+            assert_eq!(rt; variable.value_type, *value_type, "{value:?}");
+            assert_eq!(rt; variable.initial, *value);
+        }
+    }
+    Ok(())
+}
+
 #[test]
-fn variables_have_types_and_initial_values(rt: HostRuntime) -> Result<(), Fail> {
-    let alloc = rt.alloc();
+fn variables_of_standard_types(rt: HostRuntime) -> Result<(), Fail> {
+    let times = numbers(0, 4_294_967_295)?;
+    let (one, five) = (Some(Constant::Number(1)), Some(Constant::Time(5)));
+    let rows = [
+        (BOOL, None, IlType::Bool, Value::Bool(false)),
+        (BOOL, one, IlType::Bool, Value::Bool(true)),
+        (TIME, None, times, Value::Int(0)),
+        (TIME, five, times, Value::Int(5)),
+        (INT, None, numbers(-32_768, 32_767)?, Value::Int(0)),
+        (within(Udint, 3, 7), None, numbers(3, 7)?, Value::Int(3)),
+    ];
+    expect_variables(&rt, rt.alloc(), &[], &rows)
+}
+
+#[test]
+fn variables_of_declared_types(rt: HostRuntime) -> Result<(), Fail> {
     let types: &[Row<'_>] = &[
         (&["Level"], within(Int, -5, 254), None),
         (&["Dim"], Written::Named("LEVEL"), Some(Constant::Number(9))),
@@ -298,32 +342,12 @@ fn variables_have_types_and_initial_values(rt: HostRuntime) -> Result<(), Fail> 
         (&["Bad"], within(Int, 5, 1), None),
     ];
     let of_level = numbers(-5, 254)?;
+    let (three, time) = (Some(Constant::Number(3)), Some(Constant::Time(3)));
     let rows = [
-        (BOOL, None, IlType::Bool, Value::Bool(false)),
-        (
-            BOOL,
-            Some(Constant::Number(1)),
-            IlType::Bool,
-            Value::Bool(true),
-        ),
-        (TIME, None, numbers(0, 4_294_967_295)?, Value::Int(0)),
-        (
-            TIME,
-            Some(Constant::Time(5)),
-            numbers(0, 4_294_967_295)?,
-            Value::Int(5),
-        ),
-        (INT, None, numbers(-32_768, 32_767)?, Value::Int(0)),
-        (within(Udint, 3, 7), None, numbers(3, 7)?, Value::Int(3)),
         (Written::Named("level"), None, of_level, Value::Int(-5)),
         // The first declaration is meant.
         (Written::Named("dim"), None, of_level, Value::Int(9)),
-        (
-            Written::Named("Dim"),
-            Some(Constant::Time(3)),
-            of_level,
-            Value::Int(3),
-        ),
+        (Written::Named("Dim"), time, of_level, Value::Int(3)),
         (
             Written::Named("Switch"),
             None,
@@ -332,24 +356,12 @@ fn variables_have_types_and_initial_values(rt: HostRuntime) -> Result<(), Fail> 
         ),
         (
             Written::Named("Bad"),
-            Some(Constant::Number(3)),
+            three,
             IlType::Bool,
             Value::Bool(false),
         ),
     ];
-    for (written, initial, value_type, value) in rows {
-        let source = source(alloc, types, &[(&["x", "y"], written, initial)])?;
-        let scope = Scope::of(alloc, &source, &Binding::one_bus(alloc))?;
-        assert_eq!(rt; scope.programs().len(), 1);
-        let program = &scope.programs()[0];
-        assert_eq!(rt; program.program().declarations().len(), 1);
-        assert_eq!(rt; program.variables().len(), 2);
-        for variable in program.variables() {
-            assert_eq!(rt; variable.value_type, value_type, "{value:?}");
-            assert_eq!(rt; variable.initial, value);
-        }
-    }
-    Ok(())
+    expect_variables(&rt, rt.alloc(), types, &rows)
 }
 
 #[test]
