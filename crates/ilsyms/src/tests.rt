@@ -19,18 +19,28 @@ mod places;
 const TEXT: &[u8] =
     b"PROGRAM Two\nVAR a : BOOL := TRUE; B : BOOL; END_VAR\nLD A\nAND( b\n)\nEND_PROGRAM\n";
 
+/// This name alone.
 fn one(alloc: Global, name: Name) -> Result<Vec<Name>, AllocError> {
     let mut names = Vec::new(alloc);
     names.push(name)?;
     Ok(names)
 }
 
-/// BOOL.
+/// Variables of BOOL, with the initial value that is written.
 pub(crate) fn truth(initial: Option<Constant>) -> Declared {
     Declared::Variables {
         specification: Specification::Bool,
         initial,
     }
+}
+
+/// Adds a word to a text, a line of its own.
+pub(crate) fn add_word(text: &mut Vec<u8>, word: &str) -> Result<Name, AllocError> {
+    let from = text.len();
+    text.extend_from_slice(word.as_bytes())?;
+    let to = text.len();
+    text.push(b'\n')?;
+    Ok(Name { from, to })
 }
 
 /// The program of [`TEXT`], where the name in parentheses is the one at `named`.

@@ -4,7 +4,7 @@ ghost use Rattle.std.specs.Prelude.{IfOk, Some};
 ghost use Rattle.iltrees.specs.Words.{AreShallow, IsShallow};
 
 use super::largest::answer;
-use super::truth;
+use super::{add_word, truth};
 use ilblocks::Kind;
 use iloperators::{Condition, Operator};
 use ilsource::{Declaration, Declared, Element, Name, Program, Symbol};
@@ -20,14 +20,12 @@ struct Draft {
 }
 
 impl Draft {
+    /// Adds a name, a line of its own.
     fn name(&mut self, word: &str) -> Result<Name, AllocError> {
-        let from = self.text.len();
-        self.text.extend_from_slice(word.as_bytes())?;
-        let to = self.text.len();
-        self.text.push(b'\n')?;
-        Ok(Name { from, to })
+        add_word(&mut self.text, word)
     }
 
+    /// Adds names, which a blank divides.
     fn names(&mut self, alloc: Global, words: &str) -> Result<Vec<Name>, AllocError> {
         let mut names = Vec::new(alloc);
         for word in words.split(' ') {
@@ -36,6 +34,7 @@ impl Draft {
         Ok(names)
     }
 
+    /// Adds names that are declared together.
     fn declaration(
         &mut self,
         alloc: Global,

@@ -4,7 +4,7 @@ ghost use Rattle.std.specs.Prelude.{IfOk};
 ghost use Rattle.iltrees.specs.Words.{AreShallow, IsShallow};
 
 use super::largest::{answer, different_names};
-use super::truth;
+use super::{add_word, truth};
 use iloperators::Condition;
 use ilsource::{Declaration, Element, Name, Program, Symbol};
 use iltrees::{Instruction, Line};
@@ -22,14 +22,12 @@ struct Draft {
 }
 
 impl Draft {
+    /// Adds a name, a line of its own.
     fn name(&mut self, word: &str) -> Result<Name, AllocError> {
-        let from = self.text.len();
-        self.text.extend_from_slice(word.as_bytes())?;
-        let to = self.text.len();
-        self.text.push(b'\n')?;
-        Ok(Name { from, to })
+        add_word(&mut self.text, word)
     }
 
+    /// Adds a label, where the word is not empty.
     fn label(&mut self, word: &str) -> Result<Option<Name>, AllocError> {
         if word.is_empty() {
             return Ok(None);
@@ -37,6 +35,7 @@ impl Draft {
         Ok(Some(self.name(word)?))
     }
 
+    /// Lines of these labels and jumps.
     fn lines(
         &mut self,
         alloc: Global,

@@ -14,10 +14,12 @@ use std::test::Fail;
 // Both programs have an `a` and a `t`.
 const TEXT: &[u8] = b"P a t Q a b s t In Clk Cv";
 
+/// The name from one byte of the text to another.
 const fn word(from: usize, to: usize) -> Name {
     Name { from, to }
 }
 
+/// Names that are declared together.
 fn declaration(
     alloc: Global,
     names: &[Name],
