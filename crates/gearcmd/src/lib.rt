@@ -6,7 +6,7 @@
 //! (IEC 62386-102; profile for control devices and classes).
 #![tactic(auto)]
 
-pub mod blocks;
+mod blocks;
 mod commands;
 mod lines;
 mod requests;
@@ -15,6 +15,7 @@ mod statuses;
 #[cfg(test)]
 mod tests;
 
+pub use blocks::{DevAsk, DevDo, GearAsk, GearDo, GearPair, GearSet};
 pub use commands::{
     DevAskCommand, DevDoCommand, GearAskCommand, GearDoCommand, GearPairCommand, GearSetCommand,
     dev_ask_opcode, dev_do_opcode, gear_ask_opcode, gear_do_opcode, gear_pair_opcode,
