@@ -27,7 +27,11 @@ impl Model for Taken {
 
     ghost Value = { Taking };
 
-    ghost view = { λ t. record { moment = t.moment; steps = t.steps; requests = t.requests.items } };
+    ghost view = { λ t. record {
+      moment = t.moment;
+      steps = t.steps;
+      requests = t.requests.items;
+    } };
 }
 
 impl Taken {

@@ -6,10 +6,12 @@ use crate::{
 };
 use std::test::Fail;
 
+/// A level to the address of this number; nothing above 80.
 fn level(number: u8, level: u8) -> Option<Frame16> {
     Some(Frame16::level(Address::from_number(number)?, level))
 }
 
+/// A command to the address of this number; nothing above 80.
 fn command(number: u8, opcode: u8) -> Option<Frame16> {
     Some(Frame16::command(Address::from_number(number)?, opcode))
 }
@@ -64,6 +66,7 @@ fn frames_of_control_devices(rt: HostRuntime) -> Result<(), Fail> {
     Ok(())
 }
 
+/// The fields of the 16-bit frame of this number, by trying all addresses.
 fn plain_fields16(number: u32) -> Option<Fields16> {
     let (first, value) = (number / 256, (number % 256) as u8);
     for target in 0..=80 {
@@ -93,6 +96,7 @@ fn plain_fields16(number: u32) -> Option<Fields16> {
     })
 }
 
+/// The fields of the 24-bit frame of this number, by quotients and remainders.
 fn plain_fields24(number: u32) -> Option<Fields24> {
     let (first, second) = (number / 65_536 % 256, (number / 256 % 256) as u8);
     let opcode = (number % 256) as u8;

@@ -63,6 +63,7 @@ fn reply(bus: &mut SimBus, number: u16) -> Result<Option<Reply>, AllocError> {
 
 const QUIET: Option<Reply> = Some(Reply::Quiet);
 
+/// An answer with this byte.
 fn answer(byte: u8) -> Option<Reply> {
     Some(Reply::Answer(byte))
 }

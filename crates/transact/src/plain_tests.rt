@@ -10,6 +10,7 @@ use std::test::Fail;
 /// A frame as its number of bits and its number.
 type Bits = (u8, u32);
 
+/// The number of a frame's bits, and its number.
 fn bits(frame: &Frame) -> Bits {
     match frame {
         Frame::Forward16(frame) => (16, u32::from(frame.number())),
@@ -55,7 +56,16 @@ fn command_of(kind: u8, a: u8, c: u8, d: u8) -> Option<Command> {
             offset,
         });
     }
-    let instance = InstanceNumber::new(d)?;
+    device_command_of(kind, address, InstanceNumber::new(d)?, c)
+}
+
+/// The same of the blocks 7 to 9, which ask control devices.
+fn device_command_of(
+    kind: u8,
+    address: ShortAddress,
+    instance: InstanceNumber,
+    c: u8,
+) -> Option<Command> {
     Some(match kind {
         7 => {
             let command = DevDoCommand::new(c)?;
@@ -96,6 +106,7 @@ fn transaction_of(kind: u8, a: u8, c: u8, d: u8, task: TaskKind) -> Option<Trans
     Some(Transaction::of(&request, task))
 }
 
+/// The opcode of the command of this number of a block of a kind, by sums.
 fn plain_opcode(kind: u8, c: u8) -> u16 {
     let index = u16::from(c);
     match (kind, index) {
@@ -118,6 +129,7 @@ fn plain_opcode(kind: u8, c: u8) -> u16 {
     }
 }
 
+/// The frames of what a block of a kind asks, with the parts of `command_of`, by sums.
 fn plain_frames(kind: u8, a: u8, c: u8, d: u8) -> [Option<Bits>; 3] {
     let (number, index, value) = (u32::from(a), u32::from(c), u32::from(d));
     let opcode = u32::from(plain_opcode(kind, c));
@@ -137,6 +149,7 @@ fn plain_frames(kind: u8, a: u8, c: u8, d: u8) -> [Option<Bits>; 3] {
     }
 }
 
+/// The class of what a block of a kind asks.
 fn plain_class(kind: u8, task: TaskKind) -> u8 {
     match kind {
         3 | 4 | 7 | 8 => 3,
@@ -171,6 +184,7 @@ fn every_kind_of_request(rt: HostRuntime) {
     assert_eq!(rt; requests, 52_864);
 }
 
+/// Whether these are a transaction's frames, and it has no other.
 fn has_frames(transaction: &Transaction, frames: &[Option<Bits>]) -> bool {
     let mut same = true;
     for place in 0..4 {
@@ -196,6 +210,7 @@ fn is_attempt(marks: &[Mark], count: usize) -> bool {
     }
 }
 
+/// Whether an attempt with these marks ends with a loss.
 fn is_lost(marks: &[Mark]) -> bool {
     marks.last() == Some(&Mark::Lost)
 }
@@ -245,6 +260,7 @@ fn says(report: &Report, transaction: &Transaction, marks: &[Mark], split: (usiz
     same
 }
 
+/// The outcome of a report whose last mark is this one.
 fn plain_outcome(last: Option<&Mark>) -> Option<Outcome> {
     match last {
         None => None,

@@ -28,6 +28,7 @@ fn sent(alloc: Global, report: &Report) -> Result<String, AllocError> {
     Ok(text)
 }
 
+/// The request of this command on bus 0.
 fn on_bus_0(command: Command) -> Request {
     Request {
         bus: BusNumber::default(),
@@ -44,6 +45,7 @@ fn scene() -> Option<Request> {
     }))
 }
 
+/// READ MEMORY LOCATION of bank 0, offset 3, of short address 63.
 fn memory_byte() -> Option<Request> {
     Some(on_bus_0(Command::GearRead {
         address: ShortAddress::new(63)?,
@@ -52,6 +54,7 @@ fn memory_byte() -> Option<Request> {
     }))
 }
 
+/// SET EVENT SCHEME 2 of instance 2 of short address 5.
 fn event_scheme() -> Option<Request> {
     Some(on_bus_0(Command::DevScheme {
         address: ShortAddress::new(5)?,

@@ -2,7 +2,8 @@
 
 ghost use Rattle.std.specs.Prelude.{[], ◌∷◌, true, false};
 ghost use Rattle.iltypes.specs.declared.value.Value.TheVariants.{Bool as truth};
-ghost use Rattle.iloperators.specs.declared.condition.Condition.TheVariants.{Always, IfTrue, IfFalse};
+ghost use Rattle.iloperators.specs.declared.condition.Condition.TheVariants.{Always, IfTrue};
+ghost use Rattle.iloperators.specs.declared.condition.Condition.TheVariants.{IfFalse};
 ghost use Rattle.iltrees.specs.Rows.{Ends, IsStuck, EndInTurn, AreStuck, whole, before_call};
 ghost use Rattle.iltrees.specs.Rows.{sum, sum_unbounded, guarded};
 ghost use Rattle.iltrees.specs.declared.operand.Operand.TheVariants.{Name};
@@ -10,7 +11,8 @@ ghost use Rattle.iltrees.specs.Rows.{Places, Uses, LabelIsEmpty};
 ghost use Rattle.iltrees.specs.Rows.{difference, five_to_block, limit, number};
 ghost use Rattle.iltrees.specs.Uses.{read_at, use_at};
 ghost use Rattle.iltrees.specs.declared.uses.Purpose.TheVariants as purposes;
-ghost use Rattle.iltrees.specs.Rows.{backward, nested, limited, sets, returning, call, call_and_store, ld, st};
+ghost use Rattle.iltrees.specs.Rows.{backward, nested, limited, sets, returning};
+ghost use Rattle.iltrees.specs.Rows.{call, call_and_store, ld, st};
 
 /// Results, stores outside a type and uses of no result.
 fn sums()
