@@ -34,7 +34,8 @@ among values (u ∷ uses) h =
       among values uses (λ v e. h v (later_among v (constants_used uses) o e)),
     )
 
-pub uses_among : {N L : Type 0} (lines : List (Line N L)) → AreAmong (different_constants lines) (flat_map uses_in lines)
+pub uses_among : {N L : Type 0} (lines : List (Line N L))
+    → AreAmong (different_constants lines) (flat_map uses_in lines)
 uses_among lines =
     let all = constants_used (flat_map uses_in lines) in
     among (different_constants lines) (flat_map uses_in lines) (λ v e. any_each_once v all ∙ e)

@@ -47,7 +47,9 @@ call place arguments = line (instructions.Call Always place arguments)
 abbrev pub task : List (Line Place ℕ) → PlannedTask
 task lines =
     task_of [] false (variable ∷ variable ∷ [])
-    (record { instance = word; name = word; kind = RTrig } ∷ record { instance = word; name = word; kind = GearLevel } ∷ [])
+    (record { instance = word; name = word; kind = RTrig }
+    ∷ record { instance = word; name = word; kind = GearLevel }
+    ∷ [])
     []
     (record { name = word; lines = lines } ∷ [])
 

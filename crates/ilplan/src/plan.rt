@@ -33,7 +33,8 @@ impl Model for Plan {
 
     ghost view = { λ p. plan_of p.text.items p.buses p.globals.items p.tasks.items };
 
-    ghost invariant = { λ p. IsLawful (plan_of p.text.items p.buses p.globals.items p.tasks.items) };
+    ghost invariant = { λ p.
+        IsLawful (plan_of p.text.items p.buses p.globals.items p.tasks.items) };
 }
 
 impl Plan {

@@ -21,18 +21,21 @@ fn names_are_printed_as_declared(rt: HostRuntime) -> Result<(), Fail> {
     Ok(())
 }
 
+const PROGRAM: Name = Name { from: 8, to: 11 };
+
+/// The lamp, which is on at first.
+const LAMP: Slot = Slot {
+    instance: PROGRAM,
+    variable: Name { from: 16, to: 20 },
+    value_type: IlType::Bool,
+    initial: Value::Bool(true),
+};
+
 #[test]
-fn a_plan_gives_back_its_parts(rt: HostRuntime) -> Result<(), Fail> {
+fn a_task_gives_back_its_parts(rt: HostRuntime) -> Result<(), Fail> {
     let alloc = rt.alloc();
-    let program = Name { from: 8, to: 11 };
-    let slot = Slot {
-        instance: program,
-        variable: Name { from: 16, to: 20 },
-        value_type: IlType::Bool,
-        initial: Value::Bool(true),
-    };
     let block = FunctionBlock {
-        instance: program,
+        instance: PROGRAM,
         name: Name { from: 12, to: 15 },
         kind: Kind::Ton,
     };
@@ -47,14 +50,38 @@ fn a_plan_gives_back_its_parts(rt: HostRuntime) -> Result<(), Fail> {
         }),
     })?;
     let mut instances = Vec::new(alloc);
-    instances.push(Instance::new(program, lines))?;
+    instances.push(Instance::new(PROGRAM, lines))?;
     let mut slots = Vec::new(alloc);
-    slots.push(slot)?;
+    slots.push(LAMP)?;
     let mut blocks = Vec::new(alloc);
     blocks.push(block)?;
     let name = String::from_str(alloc, "main")?;
     let task = Task::new(name, true, slots, blocks, Constants::new(alloc), instances);
+    assert_eq!(rt; task.name(), "main");
+    assert!(rt; task.is_event());
+    assert_eq!(rt; task.slots(), [LAMP].as_slice());
+    assert_eq!(rt; task.blocks(), [block].as_slice());
     assert_eq!(rt; task.constants().len(), 0);
+    assert_eq!(rt; task.instances().len(), 1);
+    assert_eq!(rt; task.instances()[0].name(), PROGRAM);
+    let [line] = task.instances()[0].lines() else {
+        panic!(rt; "one line");
+    };
+    let Some(Instruction::Load { operand, .. }) = &line.instruction else {
+        panic!(rt; "a load");
+    };
+    assert_eq!(rt; *operand, output);
+    Ok(())
+}
+
+#[test]
+fn a_plan_gives_back_its_parts(rt: HostRuntime) -> Result<(), Fail> {
+    let alloc = rt.alloc();
+    let mut slots = Vec::new(alloc);
+    slots.push(LAMP)?;
+    let name = String::from_str(alloc, "main")?;
+    let (blocks, instances) = (Vec::new(alloc), Vec::new(alloc));
+    let task = Task::new(name, true, slots, blocks, Constants::new(alloc), instances);
     let mut tasks = Vec::new(alloc);
     tasks.push(task)?;
     let mut globals = Vec::new(alloc);
@@ -68,20 +95,8 @@ fn a_plan_gives_back_its_parts(rt: HostRuntime) -> Result<(), Fail> {
     assert_eq!(rt; plan.task_name(0), "main");
     assert!(rt; plan.is_event(0));
     assert_eq!(rt; plan.slot_name(0, 0).to_string(alloc)?.as_str(), "Two.Lamp");
-    let task = plan.task(0);
-    assert_eq!(rt; task.name(), "main");
-    assert!(rt; task.is_event());
-    assert_eq!(rt; task.slots(), [slot].as_slice());
-    assert_eq!(rt; task.instances().len(), 1);
-    assert_eq!(rt; task.instances()[0].name(), program);
-    assert_eq!(rt; task.blocks(), [block].as_slice());
-    let [line] = task.instances()[0].lines() else {
-        panic!(rt; "one line");
-    };
-    let Some(Instruction::Load { operand, .. }) = &line.instruction else {
-        panic!(rt; "a load");
-    };
-    assert_eq!(rt; *operand, output);
+    assert_eq!(rt; plan.task(0).name(), "main");
+    assert_eq!(rt; plan.task(0).slots(), [LAMP].as_slice());
     Ok(())
 }
 

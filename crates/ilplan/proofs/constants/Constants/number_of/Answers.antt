@@ -10,6 +10,8 @@ returns-in-None c =
     let keys = c.self.inside.values.keys in
     let same = ap (λ test. position_or_len (test c.args.value) keys) same_test in
     record {
-      value = subst (λ (known : List Value). c.len.result ≡ position_or_len (same_value c.args.value) known) c.self.view_is
+      value = subst
+          (λ (known : List Value). c.len.result ≡ position_or_len (same_value c.args.value) known)
+          c.self.view_is
           (c.len.ensures.len ∙ sym (none_found _ keys (sym c.in-None.ensures.index)) ∙ same);
     }
