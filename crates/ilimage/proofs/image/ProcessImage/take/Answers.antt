@@ -1,0 +1,63 @@
+use Rattle.std.proofs.Common.{◌≡◌, ◌∙◌, ℕ, List, Some, Option, ap, sym, subst}
+use Rattle.std.specs.Prelude.{slice_get}
+use Rattle.std.specs.Option.{option_map}
+use Rattle.std.proofs.lemmas.Result.{IfOk-weaker}
+use Rattle.iltypes.specs.declared.value.Value.{Value}
+use Rattle.iltypes.specs.Values.{AreOf}
+use Rattle.ilimage.specs.Images.{ProcessImage, TaskLayout, TaskImage}
+use Rattle.ilimage.specs.ImageSteps.{HasGlobals, slot_values}
+use Rattle.ilimage.specs.Snapshots.{ScanStart}
+use Rattle.ilimage.proofs.Places.{layout_at, slot_value}
+use Rattle.ilimage.proofs.Commits.{read_task}
+use Rattle.ilimage.proofs.image.ProcessImage.take.Goals as goal
+
+pub snapshot-requires : goal.snapshot-requires
+snapshot-requires c =
+    let image = c.args.self.now in
+    let f = c.self.inside in
+    let h = read_task image c.args.task c.index.result.now f.types.items f.globals.items f.tasks.items c.self.view_is
+    c.self.invariant c.requires c.index.ensures in
+    let globals = c.deref.ensures.value ∙ ap (λ (i : ProcessImage). i.globals) c.self.view_is in
+    record {
+      types = image.types;
+      typed = h.lawful.typed;
+      values = subst (λ (gs : List Value). AreOf gs image.types) (sym globals) h.whole.globals;
+    }
+
+pub returns-clause-verified : goal.returns-clause-verified
+returns-clause-verified c =
+    let image = c.args.self.now in
+    let f = c.self.inside in
+    let h = read_task image c.args.task c.index.result.now f.types.items f.globals.items f.tasks.items c.self.view_is
+    c.self.invariant c.requires c.index.ensures in
+    IfOk-weaker c.snapshot.result _ _
+    (λ s e. ap (option_map (λ (l : TaskLayout). l.verified)) (layout_at image c.args.task c.index.result.now h.is)
+    ∙ ap Some (sym (ap (λ (s : ScanStart). s.verified) e)))
+    c.snapshot.ensures
+
+pub returns-clause-values : goal.returns-clause-values
+returns-clause-values c =
+    let image = c.args.self.now in
+    let f = c.self.inside in
+    let t = c.index.result.now in
+    let h = read_task image c.args.task t f.types.items f.globals.items f.tasks.items c.self.view_is c.self.invariant
+    c.requires c.index.ensures in
+    let globals = c.deref.ensures.value ∙ ap (λ (i : ProcessImage). i.globals) c.self.view_is in
+    let has : HasGlobals t.layout image.globals =
+    record { types = image.types; typed = h.lawful.typed; values = h.whole.globals } in
+    IfOk-weaker c.snapshot.result _ _
+    (λ s e slot. ap (λ (s : ScanStart). slice_get s.lasting.slots slot) e
+    ∙ ap (λ (gs : List Value). slice_get (slot_values gs t) slot) globals
+    ∙ slot_value image c.args.task slot t h.is has)
+    c.snapshot.ensures
+
+pub returns-clause-blocks : goal.returns-clause-blocks
+returns-clause-blocks c =
+    let image = c.args.self.now in
+    let f = c.self.inside in
+    let h = read_task image c.args.task c.index.result.now f.types.items f.globals.items f.tasks.items c.self.view_is
+    c.self.invariant c.requires c.index.ensures in
+    IfOk-weaker c.snapshot.result _ _
+    (λ s e. ap (option_map (λ (t : TaskImage). t.own.blocks)) h.is
+    ∙ ap Some (sym (ap (λ (s : ScanStart). s.lasting.blocks) e)))
+    c.snapshot.ensures

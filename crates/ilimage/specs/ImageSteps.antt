@@ -1,0 +1,37 @@
+-- What single steps of the process image do.
+use Rattle.std.specs.Prelude.{ℕ, List, [], ◌∷◌, ◌++◌, map, false, if◌then◌else◌, slice_set, slice_index_or}
+use Rattle.iltypes.specs.declared.value.IlType.{IlType}
+use Rattle.iltypes.specs.declared.value.Value.{Value}
+use Rattle.iltypes.specs.declared.value.Value.TheVariants as values
+use Rattle.iltypes.specs.Values.{AreOf}
+use Rattle.ilblocks.specs.Calls.{Block}
+use Rattle.ilverify.specs.Verdicts.{Accepted}
+use Rattle.ilimage.specs.declared.external.External.{External}
+use Rattle.ilimage.specs.Images.{TaskLayout, TaskImage, AreTyped}
+
+abbrev pub task_of : Accepted → List External → List Value → List Block → TaskImage
+task_of verified externals values blocks =
+    record {
+      layout = record { verified = verified; externals = externals };
+      own = record { slots = values; blocks = blocks };
+    }
+
+abbrev pub global_value : List Value → External → Value
+global_value globals external = slice_index_or globals external.global (values.Bool false)
+
+-- the values of a task's slots, of these of the global variables
+abbrev pub slot_values : List Value → TaskImage → List Value
+slot_values globals t = map (global_value globals) t.layout.externals ++ t.own.slots
+
+-- the values of the global variables after a scan that left these in the slots of these externals
+abbrev pub stored_globals : List External → List Value → List Value → List Value
+stored_globals (external ∷ more) (value ∷ others) globals =
+    stored_globals more others (if external.stored then slice_set globals external.global value else globals)
+stored_globals [] others globals = globals
+stored_globals (external ∷ more) [] globals = globals
+
+-- the code's first slots are global variables with these values
+pub record HasGlobals (t : TaskLayout) (globals : List Value) : Type 0 where
+  pub types : List IlType
+  pub typed : AreTyped types t.verified.code.slots t.externals
+  pub values : AreOf globals types

@@ -1,0 +1,4 @@
+pub mod Images
+pub mod ImageSteps
+pub mod Laws
+pub mod Snapshots

@@ -1,0 +1,142 @@
+//! The process image.
+
+ghost use Rattle.std.specs.Prelude.{◌≡◌, ◌<◌, ◌≤◌, All, length};
+ghost use Rattle.ilimage.specs.ImageSteps.{stored_globals};
+
+use crate::external::External;
+use crate::snapshot::Snapshot;
+use crate::task::TaskImage;
+use ilblocks::BlockState;
+use iltypes::{IlType, Value};
+use std::alloc::{AllocError, Global};
+use std::marker::Model;
+
+/// A value for each global variable of a plant, and for each task the values of its own variables
+/// and its block instances. Each value is in its variable's type.
+#[derive(Drop)]
+pub struct ProcessImage {
+    types: Vec<IlType>,
+    globals: Vec<Value>,
+    tasks: Vec<TaskImage>,
+}
+
+impl Model for ProcessImage {
+    ghost use Rattle.ilimage.specs.Images.{ProcessImage, IsImage, image_of};
+
+    ghost Value = { ProcessImage };
+
+    ghost view = { λ i. image_of i.types.items i.globals.items i.tasks.items };
+
+    ghost invariant = { λ i. IsImage (image_of i.types.items i.globals.items i.tasks.items) };
+}
+
+impl ProcessImage {
+    ghost use Rattle.std.specs.Prelude.{◌≡◌, ◌≢◌, ℕ, ◌<◌, IfOk, Some, length, slice_get};
+    ghost use Rattle.std.specs.Option.{IsSomeAnd, option_and_then};
+    ghost use Rattle.iltypes.specs.Values.{AreOf};
+    ghost use Rattle.ilblocks.specs.Stores.{Lasting};
+    ghost use Rattle.ilimage.specs.Images.{ProcessImage, Variable, IsImage, image_of};
+    ghost use Rattle.ilimage.specs.Images.{layout_of, value_of, verified_of, blocks_of};
+    ghost use Rattle.ilimage.specs.Images.{variable_in, written_in};
+    ghost use Rattle.ilimage.specs.Images.{Global as GlobalVariable};
+    ghost use Rattle.ilimage.specs.Snapshots.{ScanStart, IsLastingOf, MayHave};
+
+    /// The image with these global variables, each with a value of its type, and these tasks.
+    pub fn new(types: Vec<IlType>, globals: Vec<Value>, tasks: Vec<TaskImage>) -> ProcessImage
+        requires { IsImage (image_of types.items globals.items tasks.items) }
+        ensures { result ≡ image_of types.items globals.items tasks.items }
+    {
+        ProcessImage {
+            types,
+            globals,
+            tasks,
+        }
+    }
+
+    /// The value of a global variable.
+    pub fn value(&self, global: usize) -> Value
+        requires { global < length self.now.globals }
+        ensures value { value_of self.now (GlobalVariable global) ≡ Some result }
+        ensures in_type { MayHave self.now.types global result }
+    {
+        self.globals[global]
+    }
+
+    /// The values of the global variables.
+    pub fn values(&self) -> &[Value]
+        ensures value { result.now ≡ self.now.globals }
+        ensures in_types { AreOf self.now.globals self.now.types }
+    {
+        &self.globals
+    }
+
+    /// The tasks.
+    pub fn tasks(&self) -> &[TaskImage]
+        ensures value { result.now ≡ self.now.tasks }
+        ensures image { IsImage self.now }
+    {
+        &self.tasks
+    }
+
+    /// What a scan of a task starts from at this moment, in milliseconds: its code, under each slot
+    /// the value of the slot's variable, and its block instances.
+    pub fn take(&self, alloc: Global, task: usize, moment: u64) -> Result<Snapshot, AllocError>
+        requires { task < length self.now.tasks }
+        ensures verified { IfOk result (λ snapshot.
+            verified_of (layout_of self.now) task ≡ Some snapshot.verified) }
+        ensures values { IfOk result (λ snapshot. (slot : ℕ) →
+            slice_get snapshot.lasting.slots slot
+            ≡ option_and_then (value_of self.now) (variable_in (layout_of self.now) task slot)) }
+        ensures blocks { IfOk result (λ snapshot.
+            blocks_of self.now task ≡ Some snapshot.lasting.blocks) }
+        ensures moment { IfOk result (λ snapshot. snapshot.moment ≡ moment) }
+    {
+        self.tasks[task].snapshot(alloc, &self.globals, moment)
+    }
+
+    /// Writes what a scan of a task left, a value in its type for each slot of the code and block
+    /// instances of its kinds: the globals that the task stores, its own variables and its block
+    /// instances. It takes no memory.
+    pub fn commit(&mut self, task: usize, values: &[Value], blocks: Vec<BlockState>)
+        requires { IsSomeAnd (verified_of (layout_of self.old) task) (λ verified.
+            IsLastingOf verified.code (record { slots = values.now; blocks = blocks.items })) }
+        ensures layout { layout_of self.new ≡ layout_of self.old }
+        ensures written { (slot : ℕ) (variable : Variable)
+            → written_in (layout_of self.old) task slot ≡ Some variable
+            → value_of self.new variable ≡ slice_get values.now slot }
+        ensures kept { (variable : Variable)
+            → ((slot : ℕ) → written_in (layout_of self.old) task slot ≢ Some variable)
+            → value_of self.new variable ≡ value_of self.old variable }
+        ensures blocks { blocks_of self.new task ≡ Some blocks.items }
+        ensures others { (other : ℕ) → other ≢ task
+            → blocks_of self.new other ≡ blocks_of self.old other }
+    {
+        store_globals(&mut self.globals, self.tasks[task].externals(), values);
+        self.tasks[task].keep(values, blocks);
+    }
+
+    /// Gives a global variable a value of its type. It takes no memory.
+    pub fn set_input(&mut self, global: usize, value: Value)
+        requires { MayHave self.old.types global value }
+        ensures layout { layout_of self.new ≡ layout_of self.old }
+        ensures written { value_of self.new (GlobalVariable global) ≡ Some value }
+        ensures kept { (variable : Variable) → variable ≢ GlobalVariable global
+            → value_of self.new variable ≡ value_of self.old variable }
+        ensures blocks { (task : ℕ) → blocks_of self.new task ≡ blocks_of self.old task }
+    {
+        self.globals[global] = value;
+    }
+}
+
+/// Writes, of the values in a task's first slots, those of the global variables that it stores.
+fn store_globals(globals: &mut [Value], externals: &[External], values: &[Value])
+    requires there { All (λ external. external.global < length globals.old) externals.now }
+    requires values { length externals.now ≤ length values.now }
+    ensures { globals.new ≡ stored_globals externals.now values.now globals.old }
+{
+    for (slot, external) in externals.iter().enumerate() {
+        if external.stored {
+            globals[external.global] = values[slot];
+        }
+    }
+}

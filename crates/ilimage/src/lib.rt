@@ -1,0 +1,26 @@
+//! The process image: a value for each global variable of a plant, and for each task the values of
+//! its own variables and its block instances.
+//!
+//! What crosses the boundary: a [`ProcessImage`] is made of [`TaskImage`]s. [`ProcessImage::take`]
+//! gives the [`Snapshot`] that a scan of a task starts from, and [`ProcessImage::commit`] writes
+//! what the scan left: the globals that the task stores, its own variables and its block instances.
+//! Which variable stands in which slot, and which a scan writes, is `variable_in` and `written_in`
+//! (specs/Images.antt, to be read first).
+//!
+//! ```text
+//! let snapshot = image.take(alloc, task, moment)?;
+//! image.commit(task, &values, blocks);
+//! ```
+#![tactic(auto)]
+
+mod external;
+mod image;
+mod law;
+mod snapshot;
+mod task;
+
+pub use external::External;
+pub use image::ProcessImage;
+pub use law::variables_and_blocks_are_the_image;
+pub use snapshot::Snapshot;
+pub use task::TaskImage;

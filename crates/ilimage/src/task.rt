@@ -1,0 +1,170 @@
+//! Tasks in the process image.
+
+ghost use Rattle.std.specs.Prelude.{◌≡◌, ◌<◌, All, IfOk, length, map};
+ghost use Rattle.ilimage.specs.ImageSteps.{global_value};
+
+use crate::external::External;
+use crate::snapshot::{Snapshot, first_blocks};
+use ilblocks::BlockState;
+use iltypes::Value;
+use ilverify::Verified;
+use std::alloc::{AllocError, Global};
+use std::marker::Model;
+use std::sync::Arc;
+
+/// A task in the process image: its verified code, the global variables in the code's first slots,
+/// the values of the task's own variables, which the other slots are, and its block instances.
+#[derive(Drop)]
+pub struct TaskImage {
+    verified: Arc<Verified, Global>,
+    externals: Vec<External>,
+    values: Vec<Value>,
+    blocks: Vec<BlockState>,
+}
+
+impl Model for TaskImage {
+    ghost use Rattle.std.specs.Arc.{arc_value};
+    ghost use Rattle.ilimage.specs.Images.{TaskImage, IsTaskImage};
+    ghost use Rattle.ilimage.specs.ImageSteps.{task_of};
+
+    ghost Value = { TaskImage };
+
+    ghost view = { λ t. task_of (arc_value t.verified) t.externals.items t.values.items
+        t.blocks.items };
+
+    ghost invariant = { λ t. IsTaskImage (task_of (arc_value t.verified) t.externals.items
+        t.values.items t.blocks.items) };
+}
+
+impl TaskImage {
+    ghost use Rattle.std.specs.Prelude.{◌≡◌, ◌<◌, ◌≤◌, All, IfOk, drop, length};
+    ghost use Rattle.std.specs.List.{AllZip};
+    ghost use Rattle.std.specs.Arc.{arc_value};
+    ghost use Rattle.iltypes.specs.Values.{AreOf};
+    ghost use Rattle.ilblocks.specs.Calls.{IsBlockOf};
+    ghost use Rattle.ilimage.specs.Images.{TaskLayout, TaskImage, own_types, first_task};
+    ghost use Rattle.ilimage.specs.ImageSteps.{HasGlobals, task_of, slot_values};
+    ghost use Rattle.ilimage.specs.Snapshots.{start_of};
+
+    /// A task of this code, whose first slots are these global variables, with these values of its
+    /// own variables, one in its type for each slot that is left, and with each block instance as
+    /// it is before its first call.
+    pub fn new(
+        alloc: Global,
+        verified: Arc<Verified, Global>,
+        externals: Vec<External>,
+        values: Vec<Value>,
+    ) -> Result<TaskImage, AllocError>
+        requires { AreOf values.items
+            (drop (length externals.items) (arc_value verified).code.slots) }
+        ensures { IfOk result (λ made.
+            made ≡ first_task (arc_value verified) externals.items values.items) }
+    {
+        let blocks = first_blocks(alloc, verified.code().kinds())?;
+        Ok(TaskImage {
+            verified,
+            externals,
+            values,
+            blocks,
+        })
+    }
+
+    /// The verified code.
+    pub fn verified(&self) -> &Arc<Verified, Global>
+        ensures value { arc_value result.now ≡ self.now.layout.verified }
+    {
+        &self.verified
+    }
+
+    /// The global variables in the first slots of the code.
+    pub fn externals(&self) -> &[External]
+        ensures value { result.now ≡ self.now.layout.externals }
+    {
+        &self.externals
+    }
+
+    /// The values of the task's own variables.
+    pub fn values(&self) -> &[Value]
+        ensures value { result.now ≡ self.now.own.slots }
+        ensures in_types { AreOf self.now.own.slots (own_types self.now.layout) }
+    {
+        &self.values
+    }
+
+    /// What each block instance of the task keeps.
+    pub fn blocks(&self) -> &[BlockState]
+        ensures value { result.now ≡ self.now.own.blocks }
+        ensures in_types { AllZip (IsBlockOf self.now.layout.verified.code.buses)
+            self.now.own.blocks self.now.layout.verified.code.kinds }
+    {
+        &self.blocks
+    }
+
+    /// The values of the code's slots, of these of the global variables.
+    fn slot_values(&self, alloc: Global, globals: &[Value]) -> Result<Vec<Value>, AllocError>
+        requires { All (λ external. external.global < length globals.now)
+            self.now.layout.externals }
+        ensures { IfOk result (λ values. values.items ≡ slot_values globals.now self.now) }
+    {
+        let mut values = global_values(alloc, &self.externals, globals)?;
+        values.extend_from_slice(&self.values)?;
+        Ok(values)
+    }
+
+    /// A copy of the block instances.
+    fn copy_blocks(&self) -> Result<Vec<BlockState>, AllocError>
+        ensures { IfOk result (λ blocks. blocks.items ≡ self.now.own.blocks) }
+    {
+        self.blocks.clone()
+    }
+
+    /// What a scan of the task starts from at this moment, where the global variables have these
+    /// values.
+    pub(crate) fn snapshot(
+        &self,
+        alloc: Global,
+        globals: &[Value],
+        moment: u64,
+    ) -> Result<Snapshot, AllocError>
+        requires { HasGlobals self.now.layout globals.now }
+        ensures { IfOk result (λ snapshot. snapshot ≡ start_of self.now.layout.verified
+            (record { slots = slot_values globals.now self.now; blocks = self.now.own.blocks })
+            moment) }
+    {
+        let values = self.slot_values(alloc, globals)?;
+        let blocks = self.copy_blocks()?;
+        let verified = self.verified.clone()?;
+        Ok(Snapshot::of(verified, values, blocks, moment))
+    }
+
+    /// Keeps what a scan left: of the values of the code's slots those of the task's own variables,
+    /// and the block instances.
+    pub(crate) fn keep(&mut self, values: &[Value], blocks: Vec<BlockState>)
+        requires values { AreOf values.now self.old.layout.verified.code.slots }
+        requires externals { length self.old.layout.externals ≤ length values.now }
+        requires blocks { AllZip (IsBlockOf self.old.layout.verified.code.buses) blocks.items
+            self.old.layout.verified.code.kinds }
+        ensures { self.new ≡ task_of self.old.layout.verified self.old.layout.externals
+            (drop (length self.old.layout.externals) values.now) blocks.items }
+    {
+        self.values.copy_from_slice(&values[self.externals.len()..]);
+        self.blocks = blocks;
+    }
+}
+
+/// The values of these global variables.
+fn global_values(
+    alloc: Global,
+    externals: &[External],
+    globals: &[Value],
+) -> Result<Vec<Value>, AllocError>
+    requires { All (λ external. external.global < length globals.now) externals.now }
+    ensures { IfOk result (λ values.
+        values.items ≡ map (global_value globals.now) externals.now) }
+{
+    let mut values = Vec::new(alloc);
+    for external in externals {
+        values.push(globals[external.global])?;
+    }
+    Ok(values)
+}
