@@ -24,3 +24,6 @@ pub use image::ProcessImage;
 pub use law::variables_and_blocks_are_the_image;
 pub use snapshot::Snapshot;
 pub use task::TaskImage;
+
+#[cfg(test)]
+mod tests;

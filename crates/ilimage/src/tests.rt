@@ -1,0 +1,3 @@
+//! Worked rows.
+
+mod rows;
