@@ -1,7 +1,6 @@
 -- A worked image: of a button and a lamp one task reads the button, sets the lamp and keeps a number of its own; another
 -- reads the lamp alone and keeps a truth value.
 use Rattle.std.specs.Prelude.{ℕ, pos, Bool, true, false, List, [], ◌∷◌}
-use Rattle.iltypes.specs.declared.range.Range.{Range}
 use Rattle.iltypes.specs.declared.value.IlType.{IlType}
 use Rattle.iltypes.specs.declared.value.IlType.TheVariants as types
 use Rattle.iltypes.specs.declared.value.Value.{Value}

@@ -1,4 +1,4 @@
-use Rattle.std.proofs.Common.{◌≡◌, ◌∙◌, ◌<◌, ap, sym, length, get_or, false, arith}
+use Rattle.std.proofs.Common.{◌∙◌, ◌<◌, ap, sym, length, get_or, false, arith}
 use Rattle.std.proofs.lemmas.Option.{slice_get-get_or}
 use Rattle.iltypes.specs.declared.value.Value.TheVariants as values
 use Rattle.ilimage.specs.declared.external.External.{External}

@@ -1,4 +1,4 @@
-use Rattle.std.proofs.Common.{◌≡◌, ◌≤◌, ◌<◌, ◌∙◌, ℕ, List, ap, sym, subst, length, All, arith}
+use Rattle.std.proofs.Common.{◌≤◌, ◌<◌, ◌∙◌, ℕ, List, ap, sym, subst, length, All, arith}
 use Rattle.std.proofs.lemmas.List.{with_items_is}
 use Rattle.std.proofs.lemmas.Option.{slice_get_within}
 use Rattle.std.specs.List.{AllZip}
@@ -8,7 +8,7 @@ use Rattle.iltypes.specs.Values.{AreOf}
 use Rattle.ilblocks.specs.Calls.{IsBlockOf}
 use Rattle.ilblocks.proofs.Blocks.{as_long}
 use Rattle.ilimage.specs.declared.external.External.{External}
-use Rattle.ilimage.specs.Images.{ProcessImage, TaskImage, Variable, IsImage, layout_of, value_of, blocks_of}
+use Rattle.ilimage.specs.Images.{ProcessImage, TaskImage, IsImage, layout_of, value_of, blocks_of}
 use Rattle.ilimage.specs.ImageSteps.{stored_globals}
 use Rattle.ilimage.proofs.Places.{item_read, typed_there, externals_fit}
 use Rattle.ilimage.proofs.Commits.{left, committing, is_committed, layout_stays, image_stays, written, kept, blocks_are}

@@ -1,10 +1,10 @@
-use Rattle.std.proofs.Common.{◌≡◌, ◌∙◌, Some, Option, List, refl, ap, sym, subst, length, arith}
+use Rattle.std.proofs.Common.{◌∙◌, Option, List, refl, ap, sym, subst, length, arith}
 use Rattle.std.specs.Prelude.{slice_get}
 use Rattle.std.proofs.lemmas.Option.{slice_get_read}
 use Rattle.std.specs.Option.{IsSomeAnd}
 use Rattle.iltypes.specs.declared.value.IlType.{IlType}
 use Rattle.iltypes.specs.declared.value.Value.{Value}
-use Rattle.iltypes.specs.Values.{IsOf, AreOf}
+use Rattle.iltypes.specs.Values.{IsOf}
 use Rattle.ilblocks.proofs.Stores.{type_at}
 use Rattle.ilimage.specs.Images.{ProcessImage, IsImage}
 use Rattle.ilimage.proofs.image.ProcessImage.value.Goals as goal

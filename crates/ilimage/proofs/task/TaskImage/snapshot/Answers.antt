@@ -1,4 +1,4 @@
-use Rattle.std.proofs.Common.{◌≡◌, ◌∙◌, ℕ, ◌<◌, List, All, ap, sym, subst, length}
+use Rattle.std.proofs.Common.{◌∙◌, ℕ, ◌<◌, List, All, ap, sym, subst}
 use Rattle.std.specs.List.{AllZip}
 use Rattle.iltypes.specs.declared.value.Value.{Value}
 use Rattle.iltypes.specs.Values.{AreOf}
