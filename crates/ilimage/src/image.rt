@@ -70,6 +70,13 @@ impl ProcessImage {
         &self.globals
     }
 
+    /// The types of the global variables.
+    pub fn types(&self) -> &[IlType]
+        ensures value { result.now ≡ self.now.types }
+    {
+        &self.types
+    }
+
     /// The tasks.
     pub fn tasks(&self) -> &[TaskImage]
         ensures value { result.now ≡ self.now.tasks }
