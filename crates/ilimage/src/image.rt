@@ -14,13 +14,13 @@ use std::marker::Model;
 /// A value for each global variable of a plant, and for each task the values of its own variables
 /// and its block instances. Each value is in its variable's type.
 #[derive(Drop)]
-pub struct ProcessImage {
+pub struct Image {
     types: Vec<IlType>,
     globals: Vec<Value>,
     tasks: Vec<TaskImage>,
 }
 
-impl Model for ProcessImage {
+impl Model for Image {
     ghost use Rattle.ilimage.specs.Images.{ProcessImage, IsImage, image_of};
 
     ghost Value = { ProcessImage };
@@ -30,7 +30,7 @@ impl Model for ProcessImage {
     ghost invariant = { λ i. IsImage (image_of i.types.items i.globals.items i.tasks.items) };
 }
 
-impl ProcessImage {
+impl Image {
     ghost use Rattle.std.specs.Prelude.{◌≡◌, ◌≢◌, ℕ, ◌<◌, IfOk, Some, length, slice_get};
     ghost use Rattle.std.specs.Option.{IsSomeAnd, option_and_then};
     ghost use Rattle.iltypes.specs.Values.{AreOf};
@@ -42,11 +42,11 @@ impl ProcessImage {
     ghost use Rattle.ilimage.specs.Snapshots.{ScanStart, IsLastingOf, MayHave};
 
     /// The image with these global variables, each with a value of its type, and these tasks.
-    pub fn new(types: Vec<IlType>, globals: Vec<Value>, tasks: Vec<TaskImage>) -> ProcessImage
+    pub fn new(types: Vec<IlType>, globals: Vec<Value>, tasks: Vec<TaskImage>) -> Image
         requires { IsImage (image_of types.items globals.items tasks.items) }
         ensures { result ≡ image_of types.items globals.items tasks.items }
     {
-        ProcessImage {
+        Image {
             types,
             globals,
             tasks,

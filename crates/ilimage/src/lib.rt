@@ -1,9 +1,9 @@
 //! The process image: a value for each global variable of a plant, and for each task the values of
 //! its own variables and its block instances.
 //!
-//! What crosses the boundary: a [`ProcessImage`] is made of [`TaskImage`]s. [`ProcessImage::take`]
-//! gives the [`Snapshot`] that a scan of a task starts from, and [`ProcessImage::commit`] writes
-//! what the scan left: the globals that the task stores, its own variables and its block instances.
+//! What crosses the boundary: an [`Image`] is made of [`TaskImage`]s. [`Image::take`] gives the
+//! [`Snapshot`] that a scan of a task starts from, and [`Image::commit`] writes what the scan left:
+//! the globals that the task stores, its own variables and its block instances.
 //! Which variable stands in which slot, and which a scan writes, is `variable_in` and `written_in`
 //! (specs/Images.antt, to be read first).
 //!
@@ -20,7 +20,7 @@ mod snapshot;
 mod task;
 
 pub use external::External;
-pub use image::ProcessImage;
+pub use image::Image;
 pub use law::variables_and_blocks_are_the_image;
 pub use snapshot::Snapshot;
 pub use task::TaskImage;

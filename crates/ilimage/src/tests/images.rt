@@ -4,7 +4,7 @@ ghost use Rattle.std.specs.Prelude.{◌≡◌, ◌≤◌, All, IfOk, IsTrue, Som
 ghost use Rattle.ilimage.specs.Images.{IsLawfulTask, verified_of, layout_of};
 
 use crate::tests::{are_apart, are_of, are_own, are_typed, may_have};
-use crate::{External, ProcessImage, Snapshot, TaskImage};
+use crate::{External, Image, Snapshot, TaskImage};
 use ilblocks::Kind;
 use ilcode::Code;
 use iltypes::{IlType, Range, Value};
@@ -61,14 +61,14 @@ fn image_of(
     types: Vec<IlType>,
     globals: Vec<Value>,
     tasks: Vec<TaskImage>,
-) -> ProcessImage {
+) -> Image {
     assert!(rt; are_of(&globals, &types));
     assert!(rt; are_lawful(&types, &tasks));
-    ProcessImage::new(types, globals, tasks)
+    Image::new(types, globals, tasks)
 }
 
 /// What a scan of the task starts from, where there is this task.
-fn take(rt: &impl Abort, alloc: Global, image: &ProcessImage, task: usize) -> Result<Snapshot, Fail>
+fn take(rt: &impl Abort, alloc: Global, image: &Image, task: usize) -> Result<Snapshot, Fail>
     ensures { IfOk result (λ snapshot.
         verified_of (layout_of image.now) task ≡ Some snapshot.verified) }
 {
@@ -85,12 +85,7 @@ fn change(rt: &impl Abort, snapshot: &mut Snapshot, slot: usize, value: Value)
 }
 
 /// Writes what a scan of the task left.
-fn leave(
-    alloc: Global,
-    image: &mut ProcessImage,
-    task: usize,
-    snapshot: &Snapshot,
-) -> Result<(), Fail>
+fn leave(alloc: Global, image: &mut Image, task: usize, snapshot: &Snapshot) -> Result<(), Fail>
     requires { verified_of (layout_of image.old) task ≡ Some snapshot.now.verified }
 {
     let blocks = snapshot.blocks().to_vec(alloc)?;
@@ -100,7 +95,7 @@ fn leave(
 
 /// Of a button and a lamp one task reads the button, sets the lamp, and has a number of its own and
 /// a trigger; another reads the lamp alone, and has a truth value.
-fn house(rt: &impl Abort, alloc: Global) -> Result<ProcessImage, Fail> {
+fn house(rt: &impl Abort, alloc: Global) -> Result<Image, Fail> {
     let level = IlType::Int(Range::new(0, 254).ok_or("ordered")?);
     let (button, lamp) = (
         External {

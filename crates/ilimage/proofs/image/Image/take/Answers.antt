@@ -9,7 +9,7 @@ use Rattle.ilimage.specs.ImageSteps.{HasGlobals, slot_values}
 use Rattle.ilimage.specs.Snapshots.{ScanStart}
 use Rattle.ilimage.proofs.Places.{layout_at, slot_value}
 use Rattle.ilimage.proofs.Commits.{read_task}
-use Rattle.ilimage.proofs.image.ProcessImage.take.Goals as goal
+use Rattle.ilimage.proofs.image.Image.take.Goals as goal
 
 pub snapshot-requires : goal.snapshot-requires
 snapshot-requires c =

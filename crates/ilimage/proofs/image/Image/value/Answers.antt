@@ -7,7 +7,7 @@ use Rattle.iltypes.specs.declared.value.Value.{Value}
 use Rattle.iltypes.specs.Values.{IsOf}
 use Rattle.ilblocks.proofs.Stores.{type_at}
 use Rattle.ilimage.specs.Images.{ProcessImage, IsImage}
-use Rattle.ilimage.proofs.image.ProcessImage.value.Goals as goal
+use Rattle.ilimage.proofs.image.Image.value.Goals as goal
 
 pub returns-clause-in_type : goal.returns-clause-in_type
 returns-clause-in_type c =

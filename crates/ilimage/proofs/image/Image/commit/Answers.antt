@@ -13,7 +13,7 @@ use Rattle.ilimage.specs.ImageSteps.{stored_globals}
 use Rattle.ilimage.proofs.Places.{item_read, typed_there, externals_fit}
 use Rattle.ilimage.proofs.Commits.{left, committing, is_committed, layout_stays, image_stays, written, kept, blocks_are}
 use Rattle.ilimage.proofs.Commits.{other_blocks}
-use Rattle.ilimage.proofs.image.ProcessImage.commit.Goals as goal
+use Rattle.ilimage.proofs.image.Image.commit.Goals as goal
 
 pub store_globals-requires : goal.store_globals-requires
 store_globals-requires c =

@@ -7,7 +7,7 @@ use Rattle.ilimage.specs.Images.{ProcessImage, value_of}
 use Rattle.ilimage.specs.Snapshots.{MayHave}
 use Rattle.ilimage.proofs.Places.{there}
 use Rattle.ilimage.proofs.Commits.{get_set_same, set_kept}
-use Rattle.ilimage.proofs.image.ProcessImage.set_input.Goals as goal
+use Rattle.ilimage.proofs.image.Image.set_input.Goals as goal
 
 pub index_mut-requires : goal.index_mut-requires
 index_mut-requires c =
