@@ -80,7 +80,7 @@ impl ClassQueue {
 /// Takes an item in behind the others where a place is free. Whether it was taken in.
 ///
 /// It is generic, and takes the item by reference, since the toolchain finds no proof where a
-/// request itself is moved into a call.
+/// request itself is moved into a call of a generic function.
 fn accept<T: Copy>(places: &mut HeapCircularBuffer<T>, item: &T) -> bool
     ensures accepted { IsTrue result ↔ (length places.old.items < places.old.capacity) }
     ensures items { places.new ≡ (if result

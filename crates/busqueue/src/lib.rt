@@ -1,5 +1,5 @@
 //! The requests that wait for one bus: four classes, each a queue of 64 places, and a count of what
-//! was dropped for want of a place.
+//! was dropped where no place was free.
 //!
 //! What crosses the boundary: [`Queues::offer`] takes a request of a [`Class`] in, or drops and
 //! counts it; [`Queues::next`] hands out the oldest request of the least class. `after_offer` and
