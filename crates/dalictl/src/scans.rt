@@ -7,7 +7,8 @@ ghost use Rattle.ilblocks.specs.Stores.{blocks_at_first};
 ghost use Rattle.dalictl.specs.Stepping.{IsScanAt, ScansTo, lasting};
 
 use gearcmd::Request;
-use ilmachine::{ScanResult, Snapshot, scan};
+use ilimage::Snapshot;
+use ilmachine::{ScanResult, scan};
 use iltypes::Value;
 use ilverify::Verified;
 use std::alloc::{AllocError, Global};
@@ -113,5 +114,5 @@ fn next(alloc: Global, snapshot: Snapshot, moment: u64) -> Result<(Taken, Snapsh
 {
     let made = scan(snapshot)?;
     let taken = Taken::of(alloc, &made)?;
-    Ok((taken, Snapshot::after(made, moment)))
+    Ok((taken, made.into_next(moment)))
 }

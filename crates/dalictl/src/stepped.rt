@@ -5,7 +5,7 @@ ghost use Rattle.std.specs.Prelude.{◌≡◌, ◌<◌, length, slice_get, Some,
 use crate::lines::{ScanLine, TaskLine, VariableLine};
 use crate::scans::{Scans, Taken};
 use gearcmd::{Request, TaskKind};
-use ilmachine::Snapshot;
+use ilimage::Snapshot;
 use plantload::Setup;
 use std::marker::Model;
 

@@ -1,3 +1,4 @@
 pub mod Commits
 pub mod Equality
 pub mod Places
+pub mod Overrides

@@ -7,6 +7,7 @@ use Rattle.iltypes.specs.Values.{AreOf}
 use Rattle.ilblocks.specs.Calls.{Block}
 use Rattle.ilverify.specs.Verdicts.{Accepted}
 use Rattle.ilimage.specs.declared.external.External.{External}
+use Rattle.ilimage.specs.declared.overriding.Override.{Override}
 use Rattle.ilimage.specs.Images.{TaskLayout, TaskImage, AreTyped}
 
 abbrev pub task_of : Accepted → List External → List Value → List Block → TaskImage
@@ -29,6 +30,11 @@ stored_globals (external ∷ more) (value ∷ others) globals =
     stored_globals more others (if external.stored then slice_set globals external.global value else globals)
 stored_globals [] others globals = globals
 stored_globals (external ∷ more) [] globals = globals
+
+-- the values of the global variables under overrides
+abbrev pub globals_under : List Override → List Value → List Value
+globals_under [] globals = globals
+globals_under (given ∷ more) globals = globals_under more (slice_set globals given.global given.value)
 
 -- the code's first slots are global variables with these values
 pub record HasGlobals (t : TaskLayout) (globals : List Value) : Type 0 where

@@ -1,6 +1,6 @@
 -- The process image (IEC 61131-3, 2.4.3.1 and 2.7.2, and profile): a value for each global variable, and for each task
 -- the values of its programs' own variables and its block instances.
-use Rattle.std.specs.Prelude.{◌≡◌, ℕ, ◌-◌, All, List, [], ◌∷◌, map, length, drop, ⊤, if◌then◌else◌, slice_get}
+use Rattle.std.specs.Prelude.{◌≡◌, ℕ, ◌-◌, ◌==◌, All, List, [], ◌∷◌, map, length, drop, ⊤, if◌then◌else◌, slice_get}
 use Rattle.std.specs.Prelude.{Option, Some, None, option_map, option_and_then}
 use Rattle.std.specs.List.{AllZip}
 use Rattle.iltypes.specs.declared.value.IlType.{IlType}
@@ -10,6 +10,7 @@ use Rattle.ilblocks.specs.Calls.{Block, IsBlockOf}
 use Rattle.ilblocks.specs.Stores.{Lasting, blocks_at_first}
 use Rattle.ilverify.specs.Verdicts.{Accepted}
 use Rattle.ilimage.specs.declared.external.External.{External}
+use Rattle.ilimage.specs.declared.overriding.Override.{Override}
 
 -- a task as the image knows it: its verified code, whose first slots are these global variables in their order; the
 -- slots after them are the task's own variables
@@ -84,6 +85,20 @@ abbrev pub written_in : Layout → ℕ → ℕ → Option Variable
 written_in layout task slot =
     option_and_then (λ t. written_at task (slot - length t.externals) (slice_get t.externals slot))
     (slice_get layout.tasks task)
+
+-- ---- overrides
+
+-- the value of the global variable of this number, which without overrides is this one: the last override of it says
+-- which
+abbrev pub overridden : List Override → ℕ → Option Value → Option Value
+overridden [] number value = value
+overridden (given ∷ more) number value =
+    overridden more number (if given.global == number then Some given.value else value)
+
+-- the value of a variable under overrides of global ones
+abbrev pub value_under : List Override → ProcessImage → Variable → Option Value
+value_under overrides image (Global number) = overridden overrides number (value_of image (Global number))
+value_under overrides image (Own task number) = value_of image (Own task number)
 
 -- ---- lawful layouts
 

@@ -8,6 +8,7 @@ use Rattle.iltypes.specs.declared.value.Value.TheVariants as values
 use Rattle.ilcode.specs.Listings.{listing_of}
 use Rattle.ilverify.specs.Verdicts.{Accepted}
 use Rattle.ilimage.specs.declared.external.External.{External}
+use Rattle.ilimage.specs.declared.overriding.Override.{Override}
 use Rattle.ilimage.specs.Images.{TaskImage, ProcessImage, first_task, image_of}
 
 abbrev pub whole : ℕ → Value
@@ -33,3 +34,10 @@ watcher = first_task (accepted (level ∷ types.Bool ∷ [])) (external 1 false 
 
 abbrev pub house : ProcessImage
 house = image_of (types.Bool ∷ level ∷ []) (values.Bool true ∷ whole 254 ∷ []) (setter 7 ∷ watcher ∷ [])
+
+abbrev pub overriding : ℕ → Value → Override
+overriding global value = record { global = global; value = value }
+
+-- the lamp is overridden twice
+abbrev pub lamp_twice : List Override
+lamp_twice = overriding 1 (whole 3) ∷ overriding 1 (whole 5) ∷ []

@@ -1,9 +1,10 @@
 //! The process image.
 
-ghost use Rattle.std.specs.Prelude.{◌≡◌, ◌<◌, ◌≤◌, All, length};
-ghost use Rattle.ilimage.specs.ImageSteps.{stored_globals};
+ghost use Rattle.std.specs.Prelude.{◌≡◌, ◌<◌, ◌≤◌, All, IfOk, length};
+ghost use Rattle.ilimage.specs.ImageSteps.{stored_globals, globals_under};
 
 use crate::external::External;
+use crate::overriding::Override;
 use crate::snapshot::Snapshot;
 use crate::task::TaskImage;
 use ilblocks::BlockState;
@@ -31,13 +32,14 @@ impl Model for Image {
 }
 
 impl Image {
-    ghost use Rattle.std.specs.Prelude.{◌≡◌, ◌≢◌, ℕ, ◌<◌, IfOk, Some, length, slice_get};
+    ghost use Rattle.std.specs.Prelude.{◌≡◌, ◌≢◌, ℕ, ◌<◌, All, IfOk, Some, length};
+    ghost use Rattle.std.specs.Prelude.{slice_get};
     ghost use Rattle.std.specs.Option.{IsSomeAnd, option_and_then};
     ghost use Rattle.iltypes.specs.Values.{AreOf};
     ghost use Rattle.ilblocks.specs.Stores.{Lasting};
     ghost use Rattle.ilimage.specs.Images.{ProcessImage, Variable, IsImage, image_of};
     ghost use Rattle.ilimage.specs.Images.{layout_of, value_of, verified_of, blocks_of};
-    ghost use Rattle.ilimage.specs.Images.{variable_in, written_in};
+    ghost use Rattle.ilimage.specs.Images.{variable_in, written_in, value_under};
     ghost use Rattle.ilimage.specs.Images.{Global as GlobalVariable};
     ghost use Rattle.ilimage.specs.Snapshots.{ScanStart, IsLastingOf, MayHave};
 
@@ -101,6 +103,33 @@ impl Image {
         self.tasks[task].snapshot(alloc, &self.globals, moment)
     }
 
+    /// As [`Image::take`], under overrides: in the slot of a global variable that they name is the
+    /// value that the last override of it gives. An event task is taken with its trigger TRUE, and
+    /// with the information and count of the event that activated it.
+    pub fn take_with(
+        &self,
+        alloc: Global,
+        task: usize,
+        moment: u64,
+        overrides: &[Override],
+    ) -> Result<Snapshot, AllocError>
+        requires task { task < length self.now.tasks }
+        requires in_types { All (λ given. MayHave self.now.types given.global given.value)
+            overrides.now }
+        ensures verified { IfOk result (λ snapshot.
+            verified_of (layout_of self.now) task ≡ Some snapshot.verified) }
+        ensures values { IfOk result (λ snapshot. (slot : ℕ) →
+            slice_get snapshot.lasting.slots slot
+            ≡ option_and_then (value_under overrides.now self.now)
+                (variable_in (layout_of self.now) task slot)) }
+        ensures blocks { IfOk result (λ snapshot.
+            blocks_of self.now task ≡ Some snapshot.lasting.blocks) }
+        ensures moment { IfOk result (λ snapshot. snapshot.moment ≡ moment) }
+    {
+        let globals = override_globals(alloc, &self.globals, overrides)?;
+        self.tasks[task].snapshot(alloc, &globals, moment)
+    }
+
     /// Writes what a scan of a task left, a value in its type for each slot of the code and block
     /// instances of its kinds: the globals that the task stores, its own variables and its block
     /// instances. It takes no memory.
@@ -133,6 +162,22 @@ impl Image {
     {
         self.globals[global] = value;
     }
+}
+
+/// The values of the global variables under overrides.
+fn override_globals(
+    alloc: Global,
+    globals: &[Value],
+    overrides: &[Override],
+) -> Result<Vec<Value>, AllocError>
+    requires { All (λ given. given.global < length globals.now) overrides.now }
+    ensures { IfOk result (λ values. values.items ≡ globals_under overrides.now globals.now) }
+{
+    let mut values = Vec::from_slice(alloc, globals)?;
+    for given in overrides {
+        values[given.global] = given.value;
+    }
+    Ok(values)
 }
 
 /// Writes, of the values in a task's first slots, those of the global variables that it stores.

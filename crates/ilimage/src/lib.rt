@@ -4,6 +4,8 @@
 //! What crosses the boundary: an [`Image`] is made of [`TaskImage`]s. [`Image::take`] gives the
 //! [`Snapshot`] that a scan of a task starts from, and [`Image::commit`] writes what the scan left:
 //! the globals that the task stores, its own variables and its block instances.
+//! [`Image::take_with`] is for an event task: by [`Override`]s its snapshot has the trigger TRUE,
+//! and the information and count of the event that activated it.
 //! Which variable stands in which slot, and which a scan writes, is `variable_in` and `written_in`
 //! (specs/Images.antt, to be read first).
 //!
@@ -16,12 +18,14 @@
 mod external;
 mod image;
 mod law;
+mod overriding;
 mod snapshot;
 mod task;
 
 pub use external::External;
 pub use image::Image;
 pub use law::variables_and_blocks_are_the_image;
+pub use overriding::Override;
 pub use snapshot::Snapshot;
 pub use task::TaskImage;
 

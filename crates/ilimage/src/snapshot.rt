@@ -40,7 +40,8 @@ impl Snapshot {
     ghost use Rattle.iltypes.specs.Values.{AreOf};
     ghost use Rattle.ilblocks.specs.Calls.{IsBlockOf};
     ghost use Rattle.ilblocks.specs.Stores.{Lasting};
-    ghost use Rattle.ilimage.specs.Snapshots.{ScanStart, start_of, first_start, MayHave};
+    ghost use Rattle.ilimage.specs.Snapshots.{ScanStart, IsLastingOf, MayHave};
+    ghost use Rattle.ilimage.specs.Snapshots.{start_of, first_start};
 
     /// The snapshot of these values, one in its type for each slot, with each block instance as it
     /// is before its first call.
@@ -101,6 +102,16 @@ impl Snapshot {
             blocks,
             moment,
         }
+    }
+
+    /// Copies of the values and of the block instances, for a scan to work on.
+    pub fn copy_lasting(&self) -> Result<(Vec<Value>, Vec<BlockState>), AllocError>
+        ensures values { IfOk result (λ copies. copies.0.items ≡ self.now.lasting.slots) }
+        ensures blocks { IfOk result (λ copies. copies.1.items ≡ self.now.lasting.blocks) }
+        ensures in_types { IfOk result (λ copies. IsLastingOf self.now.verified.code
+            (record { slots = copies.0.items; blocks = copies.1.items })) }
+    {
+        Ok((self.values.clone()?, self.blocks.clone()?))
     }
 
     /// Gives a slot another value of its type.

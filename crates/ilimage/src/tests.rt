@@ -5,7 +5,7 @@ ghost use Rattle.iltypes.specs.Values.{AreOf};
 ghost use Rattle.ilimage.specs.Images.{AreTyped, AreApart};
 ghost use Rattle.ilimage.specs.Snapshots.{MayHave};
 
-use crate::External;
+use crate::{External, Override};
 use iltypes::{IlType, Value};
 
 mod images;
@@ -100,5 +100,18 @@ fn may_have(types: &[IlType], number: usize, value: Value) -> bool
     match types.get(number) {
         Some(of) => of.holds(value),
         None => false,
+    }
+}
+
+/// Each override gives a variable a value of its type.
+fn may_override(types: &[IlType], overrides: &[Override]) -> bool
+    ensures { IsTrue result →
+        All (λ given. MayHave types.now given.global given.value) overrides.now }
+{
+    match overrides {
+        [] => true,
+        [given, overrides @ ..] => {
+            may_have(types, given.global, given.value) && may_override(types, overrides)
+        }
     }
 }

@@ -4,10 +4,10 @@ ghost use Rattle.std.specs.Prelude.{◌≡◌, IfOk};
 ghost use Rattle.ilmachine.specs.Scans.{IsScan, store_of};
 
 use crate::machine::run;
-use crate::snapshot::Snapshot;
 use crate::state::State;
 use gearcmd::Request;
 use ilblocks::BlockState;
+use ilimage::Snapshot;
 use iltypes::Value;
 use std::alloc::AllocError;
 use std::marker::Model;
@@ -63,7 +63,7 @@ impl Work {
     pub fn new(number: u64, snapshot: Snapshot) -> Result<Work, AllocError>
         ensures { IfOk result (λ work. work ≡ task_of number snapshot) }
     {
-        let state = snapshot.begun()?;
+        let state = State::begin(&snapshot)?;
         Ok(Work {
             number,
             snapshot,
@@ -75,7 +75,8 @@ impl Work {
 impl ScanResult {
     ghost use Rattle.std.specs.Prelude.{◌≡◌, ◌≤◌, length};
     ghost use Rattle.limits.specs.Limits.{most_requests};
-    ghost use Rattle.ilmachine.specs.Scans.{Scan, IsScan, store_of};
+    ghost use Rattle.ilimage.specs.Snapshots.{ScanStart, IsLastingOf};
+    ghost use Rattle.ilmachine.specs.Scans.{Scan, IsScan, store_of, next_start};
 
     /// The number of the scan.
     pub fn number(&self) -> u64
@@ -122,13 +123,27 @@ impl ScanResult {
         self.steps
     }
 
-    /// What the scan began from, and the state at the end of its run.
-    pub(crate) fn into_parts(self) -> (Snapshot, State)
+    /// What the scan began from, and the values and the block instances as the scan left them. It
+    /// takes no memory.
+    pub fn into_parts(self) -> (Snapshot, Vec<Value>, Vec<BlockState>)
         ensures snapshot { result.0 ≡ self.snapshot }
-        ensures state { result.1 ≡ self.after }
+        ensures values { result.1.items ≡ self.after.slots }
+        ensures blocks { result.2.items ≡ self.after.blocks }
+        ensures in_types { IsLastingOf self.snapshot.verified.code
+            (record { slots = result.1.items; blocks = result.2.items }) }
         ensures run { IsScan self.snapshot.verified (store_of self.snapshot) self.steps self.after }
     {
-        (self.snapshot, self.state)
+        let (values, blocks) = self.state.into_lasting();
+        (self.snapshot, values, blocks)
+    }
+
+    /// What the next scan of the code begins from, at this moment in milliseconds: the values and
+    /// the block instances as the scan left them. It takes no memory.
+    pub fn into_next(self, moment: u64) -> Snapshot
+        ensures { result ≡ next_start self moment }
+    {
+        let (snapshot, values, blocks) = self.into_parts();
+        snapshot.with(values, blocks, moment)
     }
 }
 

@@ -3,8 +3,8 @@
 ghost use Rattle.std.specs.Prelude.{◌≡◌, ◌≤◌, All, IfOk, IsTrue, Some, length, map};
 ghost use Rattle.ilimage.specs.Images.{IsLawfulTask, verified_of, layout_of};
 
-use crate::tests::{are_apart, are_of, are_own, are_typed, may_have};
-use crate::{External, Image, Snapshot, TaskImage};
+use crate::tests::{are_apart, are_of, are_own, are_typed, may_have, may_override};
+use crate::{External, Image, Override, Snapshot, TaskImage};
 use ilblocks::Kind;
 use ilcode::Code;
 use iltypes::{IlType, Range, Value};
@@ -168,6 +168,34 @@ fn a_task_takes_an_input_that_was_set(rt: HostRuntime) -> Result<(), Fail> {
     let snapshot = take(&rt, alloc, &image, 0)?;
     let taken = [Value::Int(254), Value::Bool(false), Value::Int(7)];
     assert!(rt; snapshot.values() == taken.as_slice());
+    Ok(())
+}
+
+/// Under overrides a task takes the last value of each, and the image stays: the next task takes
+/// what is there, and so does the same one without them.
+#[test]
+fn overrides_are_for_one_snapshot(rt: HostRuntime) -> Result<(), Fail> {
+    let alloc = rt.alloc();
+    let image = house(&rt, alloc)?;
+    let overriding = |global, value| Override { global, value };
+    let overrides = [
+        overriding(1, Value::Int(3)),
+        overriding(0, Value::Bool(false)),
+        overriding(1, Value::Int(5)),
+    ];
+    assert!(rt; may_override(image.types(), &overrides));
+    assert!(rt; image.tasks().len() == 2);
+    let snapshot = image.take_with(alloc, 0, 250, &overrides)?;
+    let seen = [Value::Int(5), Value::Bool(false), Value::Int(7)];
+    assert!(rt; snapshot.values() == seen.as_slice());
+    assert_eq!(rt; snapshot.blocks().len(), 1);
+    assert_eq!(rt; snapshot.moment(), 250);
+    assert!(rt; image.values() == [Value::Bool(true), Value::Int(254)].as_slice());
+    let other = take(&rt, alloc, &image, 1)?;
+    assert!(rt; other.values() == [Value::Int(254), Value::Bool(true)].as_slice());
+    let again = take(&rt, alloc, &image, 0)?;
+    let before = [Value::Int(254), Value::Bool(true), Value::Int(7)];
+    assert!(rt; again.values() == before.as_slice());
     Ok(())
 }
 

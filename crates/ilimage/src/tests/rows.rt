@@ -3,7 +3,8 @@
 ghost use Rattle.std.specs.Prelude.{◌≡◌, true, Some, None};
 ghost use Rattle.iltypes.specs.declared.value.Value.TheVariants.{Bool as truth};
 ghost use Rattle.ilimage.specs.Images.{Global, Own, layout_of, value_of, variable_in, written_in};
-ghost use Rattle.ilimage.specs.Rows.{house, whole};
+ghost use Rattle.ilimage.specs.Images.{value_under};
+ghost use Rattle.ilimage.specs.Rows.{house, lamp_twice, whole};
 
 /// What stands under a variable.
 fn values()
@@ -35,4 +36,12 @@ fn writes()
     ensures only_read { written_in (layout_of house) 1 0 ≡ None }
     ensures own_of_another { written_in (layout_of house) 1 1 ≡ Some (Own 1 0) }
     ensures no_task { written_in (layout_of house) 2 0 ≡ None }
+{}
+
+/// What stands under a variable where the lamp is overridden twice: the last value counts.
+fn overrides()
+    ensures last { value_under lamp_twice house (Global 1) ≡ Some (whole 5) }
+    ensures button { value_under lamp_twice house (Global 0) ≡ Some (truth true) }
+    ensures own { value_under lamp_twice house (Own 0 0) ≡ Some (whole 7) }
+    ensures of_another_task { value_under lamp_twice house (Own 1 0) ≡ Some (truth true) }
 {}

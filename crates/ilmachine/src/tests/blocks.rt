@@ -4,11 +4,12 @@
 ghost use Rattle.std.specs.Prelude.{◌≤◌, length};
 
 use crate::tests::are_of;
-use crate::{ScanResult, Snapshot, scan};
+use crate::{ScanResult, scan};
 use daliframe::Address;
 use gearcmd::{Command, Request};
 use ilblocks::Kind;
 use ilcode::{Code, Instruction, Operand, Variable};
+use ilimage::Snapshot;
 use iltypes::{IlType, Range, Value};
 use ilverify::{Verified, verify};
 use std::alloc::Global;
@@ -101,7 +102,7 @@ fn a_timer_runs_from_scan_to_scan(rt: HostRuntime) -> Result<(), Fail> {
         (600, 500, true),
         (9_000, 500, true),
     ] {
-        made = scan(Snapshot::after(made, moment))?;
+        made = scan(made.into_next(moment))?;
         let after = [Value::Bool(true), Value::Int(elapsed), Value::Bool(over)];
         assert_eq!(rt; made.snapshot().moment(), moment);
         assert_eq!(rt; made.steps(), 8);
@@ -173,7 +174,7 @@ fn requests_come_in_the_order_of_calls_at_rising_edges(rt: HostRuntime) -> Resul
             [] if !asks => {}
             _ => return Err("two requests or none".into()),
         }
-        made = scan(Snapshot::after(made, moment))?;
+        made = scan(made.into_next(moment))?;
     }
     Ok(())
 }
@@ -197,7 +198,7 @@ fn a_full_outbox(rt: HostRuntime) -> Result<(), Fail> {
     assert_eq!(rt; made.outbox().len(), 16);
     let request: Option<&Request> = made.outbox().first();
     assert!(rt; request.is_some());
-    let again = scan(Snapshot::after(made, 200))?;
+    let again = scan(made.into_next(200))?;
     assert_eq!(rt; again.outbox().len(), 0);
     Ok(())
 }

@@ -3,8 +3,9 @@
 ghost use Rattle.std.specs.Prelude.{◌≤◌, length};
 
 use crate::tests::are_of;
-use crate::{Snapshot, Work, scan, scan_into};
+use crate::{Work, scan, scan_into};
 use ilcode::{Code, Instruction, Operand, Variable};
+use ilimage::Snapshot;
 use iltypes::{IlType, Value};
 use ilverify::verify;
 use std::alloc::{AllocError, Global};

@@ -4,9 +4,10 @@ ghost use Rattle.std.specs.Prelude.{◌≡◌, ◌≤◌, length, IfOk};
 ghost use Rattle.ilcode.specs.Listings.{AreStarts};
 
 use crate::tests::are_of;
-use crate::{ScanResult, Snapshot, scan};
+use crate::{ScanResult, scan};
 use ilcode::{Code, Instruction, Operand, Variable};
 use iloperators::{Condition, Operator};
+use ilimage::Snapshot;
 use iltypes::{IlType, Range, Value};
 use ilverify::verify;
 use std::alloc::Global;

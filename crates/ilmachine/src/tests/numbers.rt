@@ -3,9 +3,10 @@
 ghost use Rattle.std.specs.Prelude.{◌≤◌, length};
 
 use crate::tests::are_of;
-use crate::{Snapshot, scan};
+use crate::scan;
 use ilcode::{Code, Instruction, Operand, Variable};
 use iloperators::{Function, IntegerType, Operator};
+use ilimage::Snapshot;
 use iltypes::{IlType, Range, Value};
 use ilverify::verify;
 use std::alloc::Global;

@@ -3,9 +3,10 @@
 ghost use Rattle.std.specs.Prelude.{◌<◌, ◌≤◌, length};
 ghost use Rattle.ilcode.specs.Listings.{AreStarts};
 
-use crate::{ScanResult, Snapshot, scan};
+use crate::{ScanResult, scan};
 use ilcode::{Code, Instruction, Operand, Variable};
 use iloperators::{Function, Operator};
+use ilimage::Snapshot;
 use iltypes::{IlType, Value};
 use ilverify::verify;
 use std::alloc::Global;
