@@ -121,7 +121,7 @@ impl Image {
         ensures values { IfOk result (λ snapshot. (slot : ℕ) →
             slice_get snapshot.lasting.slots slot
             ≡ option_and_then (value_under overrides.now self.now)
-                (variable_in (layout_of self.now) task slot)) }
+            (variable_in (layout_of self.now) task slot)) }
         ensures blocks { IfOk result (λ snapshot.
             blocks_of self.now task ≡ Some snapshot.lasting.blocks) }
         ensures moment { IfOk result (λ snapshot. snapshot.moment ≡ moment) }

@@ -1,4 +1,4 @@
-use Rattle.std.proofs.Common.{◌∙◌, ◌<◌, ◌≡◌, ℕ, List, Some, ap, sym, subst, length, All}
+use Rattle.std.proofs.Common.{◌∙◌, ◌<◌, List, Some, ap, sym, subst, length, All}
 use Rattle.std.specs.Prelude.{slice_get}
 use Rattle.std.specs.Option.{option_map}
 use Rattle.std.proofs.lemmas.Result.{IfOk-weaker}
