@@ -2,11 +2,11 @@
 
 ghost use Rattle.std.specs.Prelude.{◌≤◌, length};
 
-use crate::tests::are_of;
 use crate::scan;
+use crate::tests::are_of;
 use ilcode::{Code, Instruction, Operand, Variable};
-use iloperators::{Function, IntegerType, Operator};
 use ilimage::Snapshot;
+use iloperators::{Function, IntegerType, Operator};
 use iltypes::{IlType, Range, Value};
 use ilverify::verify;
 use std::alloc::Global;

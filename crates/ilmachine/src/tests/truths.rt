@@ -5,8 +5,8 @@ ghost use Rattle.ilcode.specs.Listings.{AreStarts};
 
 use crate::{ScanResult, scan};
 use ilcode::{Code, Instruction, Operand, Variable};
-use iloperators::{Function, Operator};
 use ilimage::Snapshot;
+use iloperators::{Function, Operator};
 use iltypes::{IlType, Value};
 use ilverify::verify;
 use std::alloc::Global;
