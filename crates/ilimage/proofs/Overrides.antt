@@ -73,7 +73,8 @@ global_under types (o ∷ more) globals number h g =
     let t = there (slice_get types o.global) (IsOf o.value) (All-head (Allows types) o more h) in
     let old = value_at globals types o.global t.of g t.is in
     let after = slice_set globals o.global o.value in
-    global_under types more after number (All-tail (Allows types) o more h) (set_typed globals types o.global o.value t.of g t.is t.holds)
+    let typed = set_typed globals types o.global o.value t.of g t.is t.holds in
+    global_under types more after number (All-tail (Allows types) o more h) typed
     ∙ ap (overridden more number) (one_by globals o number old.value (o.global == number) refl old.is)
 
 -- the image with the globals that overrides give
