@@ -7,13 +7,15 @@ use Rattle.std.proofs.lemmas.List.Elements.{All-nil, All-append, All-cons}
 use Rattle.iltypes.specs.declared.value.IlType.{IlType}
 use Rattle.iltypes.specs.declared.value.Value.{Value}
 use Rattle.iltypes.specs.Values.{AreOf}
+use Rattle.binding.specs.Wirings.{Wiring}
 use Rattle.gearcmd.specs.declared.requests.Request.{Request}
 use Rattle.ilblocks.specs.Stores.{Lasting, Store, store_at}
 use Rattle.ilsource.specs.Trees.{Tree}
-use Rattle.ilplan.specs.declared.instance.Slot.{Slot}
-use Rattle.ilplan.specs.Plans.{Planned, PlannedTask, KeepsLimits, initials_of, types_of}
+use Rattle.ilplan.specs.declared.slot.Slot.{Slot}
+use Rattle.ilplan.specs.Plans.{Planned, PlannedTask, KeepsLimits, first_values, types_of}
 use Rattle.ilsyms.specs.Meaning.{source_scan}
-use Rattle.ilsyms.specs.Resolved.{task_of_tree}
+use Rattle.ilsyms.specs.Resolved.{planned_task}
+use Rattle.ilsyms.specs.Tasks.{SourceTask, tasks_of}
 use Rattle.ilsyms.proofs.SameMeaning.{means_the_same}
 use Rattle.ilcode.specs.Listings.{Listing}
 use Rattle.ilcompile.specs.Meant.{IsMeant}
@@ -34,10 +36,19 @@ as_long (v ∷ values) (t ∷ types) h = let more = as_long values types h.1 in 
 as_long [] (t ∷ types) h = absurd h
 as_long (v ∷ values) [] h = absurd h
 
--- the only task of a plan
-only_task : (only t : PlannedTask) (k : ℕ) → slice_get (only ∷ []) k ≡ Some t → t ≡ only
-only_task only t zero e = cc
-only_task only t (suc k) e = absurd (cc)
+-- a task of a plan is that of a task of the source program
+record IsPlanned (tree : Tree) (sources : List SourceTask) (number : ℕ) (task : PlannedTask) : Type 0 where
+  pub source : SourceTask
+  pub is : slice_get sources number ≡ Some source
+  pub planned : task ≡ planned_task tree source
+
+planned_at : (tree : Tree) (sources : List SourceTask) (number : ℕ) (task : PlannedTask)
+    → slice_get (map (planned_task tree) sources) number ≡ Some task → IsPlanned tree sources number task
+planned_at tree [] number task e = absurd (cc)
+planned_at tree (s ∷ sources) zero task e = record { source = s; is = refl; planned = cc }
+planned_at tree (s ∷ sources) (suc k) task e =
+    let rest = planned_at tree sources k task e in
+    record { source = rest.source; is = rest.is; planned = rest.planned }
 
 abbrev AreFew : Accepted → List Taking → Type 0
 AreFew code each = All (λ taken. taken.steps ≤ code.bound) each
@@ -46,17 +57,19 @@ abbrev requests_of : List Taking → List (List Request)
 requests_of each = map (λ taken. taken.requests) each
 
 -- what some scans take and leave
-record IsLeft (tree : Tree) (buses : ℕ) (code : Accepted) (every scans : ℕ) (from : Lasting) (each : List Taking)
-    (to : Lasting) : Type 0 where
-  means : ScansMean tree buses every scans from (requests_of each) to
+record IsLeft (tree : Tree) (buses : ℕ) (task : SourceTask) (code : Accepted) (every scans : ℕ) (from : Lasting)
+    (each : List Taking) (to : Lasting) : Type 0 where
+  means : ScansMean tree buses task every scans from (requests_of each) to
   in_types : AreOf to.slots code.code.slots
   many : length each ≡ scans
   few : AreFew code each
 
-module _ (tree : Tree) (buses : ℕ) (code : Accepted) (meant : IsMeant buses (task_of_tree tree) code.code) where
-  one_scan : (from after : Store) (steps : ℕ) → IsScan code from steps after → source_scan tree buses from ≡ Some after
+module _ (tree : Tree) (buses : ℕ) (task : SourceTask) (code : Accepted)
+    (meant : IsMeant buses (planned_task tree task) code.code) where
+  one_scan : (from after : Store) (steps : ℕ) → IsScan code from steps after
+      → source_scan tree buses task from ≡ Some after
   one_scan from after steps scan =
-      sym (means_the_same tree buses from) ∙ meant.means from after steps scan.run
+      sym (means_the_same tree buses task from) ∙ meant.means from after steps scan.run
 
   few_more : (before : List Taking) (last : Taking) → AreFew code before → last.steps ≤ code.bound
       → AreFew code (before ++ last ∷ [])
@@ -73,7 +86,7 @@ module _ (tree : Tree) (buses : ℕ) (code : Accepted) (meant : IsMeant buses (t
       ∙ ap (λ (rs : List Request). requests_of before ++ rs ∷ []) is
 
   left : (every scans : ℕ) (from : Lasting) (each : List Taking) (to : Lasting) → AreOf from.slots code.code.slots
-      → ScansTo code every scans from each to → IsLeft tree buses code every scans from each to
+      → ScansTo code every scans from each to → IsLeft tree buses task code every scans from each to
   left every zero from each to fit h = record {
     means = (ap requests_of h.0, h.1);
     in_types = subst (λ (l : Lasting). AreOf l.slots code.code.slots) (sym h.1) fit;
@@ -96,34 +109,45 @@ module _ (tree : Tree) (buses : ℕ) (code : Accepted) (meant : IsMeant buses (t
       }
 
 -- a plan with its tasks' codes is the setup of the text that the plan is of
-pub setup_is : (buses : ℕ) (bytes : List ℕ) (plan : Planned) (setup : Loaded) → IsPlanOfText buses bytes plan
-    → setup.plan ≡ plan → AreCodes plan setup.codes → IsSetup buses bytes setup
-setup_is buses bytes plan setup p same codes = record {
-  plan = subst (λ (x : Planned). IsPlanOfText buses bytes x) (sym same) p;
+pub setup_is : (wiring : Wiring) (bytes : List ℕ) (plan : Planned) (setup : Loaded) → IsPlanOfText wiring bytes plan
+    → setup.plan ≡ plan → AreCodes plan setup.codes → IsSetup wiring bytes setup
+setup_is wiring bytes plan setup p same codes = record {
+  plan = subst (λ (x : Planned). IsPlanOfText wiring bytes x) (sym same) p;
   codes = subst (λ (x : Planned). AreCodes x setup.codes) (sym same) codes;
 }
 
 limits_at : (o : Option PlannedTask) (t : PlannedTask) → o ≡ Some t → IfSome o (λ t. KeepsLimits t) → KeepsLimits t
 limits_at o t is h = rw is at h
 
+typed_at : (o : Option PlannedTask) (t : PlannedTask) → o ≡ Some t
+    → IfSome o (λ t. AreOf (first_values t) (types_of t)) → AreOf (first_values t) (types_of t)
+typed_at o t is h = rw is at h
+
 code_is : (o : Option PlannedTask) (t : PlannedTask) (plan : Planned) (code : Accepted) → o ≡ Some t
     → IfSome o (λ t. IsCodeOf plan t code) → IsCodeOf plan t code
 code_is o t plan code is h = rw is at h
 
-module _ (buses : ℕ) (bytes : List ℕ) (setup : Loaded) (is : IsSetup buses bytes setup) (number scans every : ℕ)
+module _ (wiring : Wiring) (bytes : List ℕ) (setup : Loaded) (is : IsSetup wiring bytes setup) (number scans every : ℕ)
     (each : List Taking) (to : Lasting)
     (limits : IfSome (slice_get setup.plan.tasks number) (λ t. KeepsLimits t))
+    (typed : IfSome (slice_get setup.plan.tasks number) (λ t. AreOf (first_values t) (types_of t)))
     (r : AreScansOf setup number scans every each to) where
   abbrev tree : Tree
   tree = is.plan.tree
 
-  task : r.task ≡ task_of_tree tree
-  task =
+  of_tree : IsPlanned tree (tasks_of tree) number r.task
+  of_tree =
       let tasks = ap (λ (p : Planned). slice_get p.tasks number) is.plan.resolved in
-      only_task (task_of_tree tree) r.task number (sym tasks ∙ r.is)
+      planned_at tree (tasks_of tree) number r.task (sym tasks ∙ r.is)
+
+  abbrev task : SourceTask
+  task = of_tree.source
 
   kept : KeepsLimits r.task
   kept = limits_at (slice_get setup.plan.tasks number) r.task r.is limits
+
+  firsts : AreOf (first_values r.task) (types_of r.task)
+  firsts = typed_at (slice_get setup.plan.tasks number) r.task r.is typed
 
   coded : IsCodeOf setup.plan r.task r.code
   coded =
@@ -133,18 +157,18 @@ module _ (buses : ℕ) (bytes : List ℕ) (setup : Loaded) (is : IsSetup buses b
   slots : r.code.code.slots ≡ types_of r.task
   slots = ap (λ (l : Listing). l.slots) coded.laid
 
-  meant : IsMeant buses (task_of_tree tree) r.code.code
+  meant : IsMeant wiring.buses (planned_task tree task) r.code.code
   meant =
       let laid = is_meant setup.plan.buses setup.plan.text r.task kept in
       let its = subst (IsMeant setup.plan.buses r.task) (sym coded.laid) laid in
       let on = ap (λ (p : Planned). p.buses) is.plan.resolved in
-      subst (λ (t : PlannedTask). IsMeant buses t r.code.code) task
+      subst (λ (t : PlannedTask). IsMeant wiring.buses t r.code.code) of_tree.planned
       (subst (λ (n : ℕ). IsMeant n r.task r.code.code) on its)
 
-  done : IsLeft tree buses r.code every scans (lasting_at_first r.task) each to
+  done : IsLeft tree wiring.buses task r.code every scans (lasting_at_first r.task) each to
   done =
-      let fit = subst (λ (ts : List IlType). AreOf (initials_of r.task) ts) (sym slots) kept.initials in
-      left tree buses r.code meant every scans (lasting_at_first r.task) each to fit r.run
+      let fit = subst (λ (ts : List IlType). AreOf (first_values r.task) ts) (sym slots) firsts in
+      left tree wiring.buses task r.code meant every scans (lasting_at_first r.task) each to fit r.run
 
   pub has_task : HasTask (run_of setup number each to)
   has_task =
@@ -154,13 +178,16 @@ module _ (buses : ℕ) (bytes : List ℕ) (setup : Loaded) (is : IsSetup buses b
       record { task = r.task; is = r.is; valued = typed ∙ types ∙ each_typed }
 
   pub stepped : (name : List ℕ) → IsFirstCalled setup.plan name number
-      → IsStepped buses bytes name scans every (run_of setup number each to)
+      → IsStepped wiring bytes name scans every (run_of setup number each to)
   stepped name called =
-      let begun = λ (t : PlannedTask). ScansMean tree buses every scans (lasting_at_first t) (requests_of each) to in
+      let Begun = λ (t : PlannedTask).
+      ScansMean tree wiring.buses task every scans (lasting_at_first t) (requests_of each) to in
       record {
         loaded = is;
-        task = called;
-        means = subst begun task done.means;
+        called = called;
+        task = task;
+        is = of_tree.is;
+        means = subst Begun of_tree.planned done.means;
         many = done.many;
         runs = r;
         few = done.few;

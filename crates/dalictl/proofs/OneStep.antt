@@ -7,6 +7,7 @@ use Rattle.ilblocks.specs.Stores.{Lasting, Store, lasting_of, store_at}
 use Rattle.ilplan.specs.Plans.{Planned, PlannedTask}
 use Rattle.ilcode.proofs.RunPaths.{one_end}
 use Rattle.ilverify.specs.Verdicts.{Accepted}
+use Rattle.binding.specs.Wirings.{Wiring}
 use Rattle.plantload.specs.Loaded.{Loaded}
 use Rattle.plantload.specs.Loading.{IsLoadFault, IsPlanOfText, IsSetup}
 use Rattle.plantload.specs.declared.fault.LoadFault.{LoadFault}
@@ -72,15 +73,15 @@ same_task plan name j k h g =
 
 -- ---- answers
 
-module _ (buses : ℕ) (bytes : List ℕ) where
-  pub one_check : (a b : Result Loaded Stop) → IsChecked buses bytes a → IsChecked buses bytes b → a ≡ b
-  one_check (Ok a) (Ok b) h g = ap Ok (same_setup buses bytes a b h g)
-  one_check (Ok a) (Err (Load y)) h g = absurd (no_fault buses bytes a y h g)
+module _ (wiring : Wiring) (bytes : List ℕ) where
+  pub one_check : (a b : Result Loaded Stop) → IsChecked wiring bytes a → IsChecked wiring bytes b → a ≡ b
+  one_check (Ok a) (Ok b) h g = ap Ok (same_setup wiring bytes a b h g)
+  one_check (Ok a) (Err (Load y)) h g = absurd (no_fault wiring bytes a y h g)
   one_check (Ok a) (Err Memory) h g = absurd g
   one_check (Ok a) (Err (Binding y)) h g = absurd g
   one_check (Ok a) (Err (NoTask y)) h g = absurd g
-  one_check (Err (Load x)) (Ok b) h g = absurd (no_fault buses bytes b x g h)
-  one_check (Err (Load x)) (Err (Load y)) h g = ap (λ (f : LoadFault). Err (Load f)) (same_fault buses bytes x y h g)
+  one_check (Err (Load x)) (Ok b) h g = absurd (no_fault wiring bytes b x g h)
+  one_check (Err (Load x)) (Err (Load y)) h g = ap (λ (f : LoadFault). Err (Load f)) (same_fault wiring bytes x y h g)
   one_check (Err (Load x)) (Err Memory) h g = absurd g
   one_check (Err (Load x)) (Err (Binding y)) h g = absurd g
   one_check (Err (Load x)) (Err (NoTask y)) h g = absurd g
@@ -90,50 +91,50 @@ module _ (buses : ℕ) (bytes : List ℕ) where
 
   module _ (name : List ℕ) (scans every : ℕ) where
     abbrev IsRun : Run → Type 0
-    IsRun made = IsStepped buses bytes name scans every made
+    IsRun made = IsStepped wiring bytes name scans every made
 
     -- no task of the text's plan has the name
     abbrev HasNone : Type 0
-    HasNone = (plan : Planned) × IsPlanOfText buses bytes plan × NoneIsCalled plan name
+    HasNone = (plan : Planned) × IsPlanOfText wiring bytes plan × NoneIsCalled plan name
 
     same_steps : (a b : Run) → IsRun a → IsRun b → a ≡ b
     same_steps a b h g =
-        let setup : a.setup ≡ b.setup = same_setup buses bytes a.setup b.setup h.loaded g.loaded in
-        let called = subst (λ (s : Loaded). IsFirstCalled s.plan name a.task) setup h.task in
-        let task : a.task ≡ b.task = same_task b.setup.plan name a.task b.task called g.task in
+        let setup : a.setup ≡ b.setup = same_setup wiring bytes a.setup b.setup h.loaded g.loaded in
+        let called = subst (λ (s : Loaded). IsFirstCalled s.plan name a.task) setup h.called in
+        let task : a.task ≡ b.task = same_task b.setup.plan name a.task b.task called g.called in
         let mine = subst (λ (s : Loaded). AreScansOf s a.task scans every a.each a.left) setup h.runs in
         let runs = subst (λ (k : ℕ). AreScansOf b.setup k scans every a.each a.left) task mine in
         let left = same_runs b.setup b.task scans every a.each b.each a.left b.left runs g.runs in
         λ i. record { setup = setup i; task = task i; each = left.0 i; left = left.1 i }
 
-    none_called : (plan : Planned) (task : ℕ) → IsPlanOfText buses bytes plan → IsFirstCalled plan name task
+    none_called : (plan : Planned) (task : ℕ) → IsPlanOfText wiring bytes plan → IsFirstCalled plan name task
         → ¬ HasNone
     none_called plan task is called none =
-        let same : plan ≡ none.0 = same_plan buses bytes plan none.0 is none.1 in
+        let same : plan ≡ none.0 = same_plan wiring bytes plan none.0 is none.1 in
         let its : IsFirstCalled none.0 name task = subst (λ (x : Planned). IsFirstCalled x name task) same called in
         none.2 task its.within its.is
 
     -- where a plan has no task of the name, no setup of the text has one
     no_task : (a : Run) → IsRun a → ¬ HasNone
-    no_task a h none = none_called a.setup.plan a.task h.loaded.plan h.task none
+    no_task a h none = none_called a.setup.plan a.task h.loaded.plan h.called none
 
     -- nor is a fault of the text reported before that
-    no_task_or_fault : (fault : LoadFault) → IsLoadFault buses bytes fault → IsAfterName name fault → ¬ HasNone
+    no_task_or_fault : (fault : LoadFault) → IsLoadFault wiring bytes fault → IsAfterName name fault → ¬ HasNone
     no_task_or_fault load_faults.Memory f after none = f
-    no_task_or_fault (load_faults.Text x) f after none = none_against buses bytes none.0 (load_faults.Text x) none.1 f
-    no_task_or_fault (load_faults.Name x) f after none = none_against buses bytes none.0 (load_faults.Name x) none.1 f
+    no_task_or_fault (load_faults.Text x) f after none = none_against wiring bytes none.0 (load_faults.Text x) none.1 f
+    no_task_or_fault (load_faults.Name x) f after none = none_against wiring bytes none.0 (load_faults.Name x) none.1 f
     no_task_or_fault (load_faults.Code refused) f after none = none_called refused.plan after.0 f.0 after.1 none
 
-    pub one_step : (a b : Result Run Stop) → IsStep buses bytes name scans every a
-        → IsStep buses bytes name scans every b → a ≡ b
+    pub one_step : (a b : Result Run Stop) → IsStep wiring bytes name scans every a
+        → IsStep wiring bytes name scans every b → a ≡ b
     one_step (Ok a) (Ok b) h g = ap Ok (same_steps a b h g)
-    one_step (Ok a) (Err (Load y)) h g = absurd (no_fault buses bytes a.setup y h.loaded g.0)
+    one_step (Ok a) (Err (Load y)) h g = absurd (no_fault wiring bytes a.setup y h.loaded g.0)
     one_step (Ok a) (Err (NoTask y)) h g = absurd (no_task a h g.1)
     one_step (Ok a) (Err Memory) h g = absurd g
     one_step (Ok a) (Err (Binding y)) h g = absurd g
-    one_step (Err (Load x)) (Ok b) h g = absurd (no_fault buses bytes b.setup x g.loaded h.0)
+    one_step (Err (Load x)) (Ok b) h g = absurd (no_fault wiring bytes b.setup x g.loaded h.0)
     one_step (Err (Load x)) (Err (Load y)) h g =
-        ap (λ (f : LoadFault). Err (Load f)) (same_fault buses bytes x y h.0 g.0)
+        ap (λ (f : LoadFault). Err (Load f)) (same_fault wiring bytes x y h.0 g.0)
     one_step (Err (Load x)) (Err (NoTask y)) h g = absurd (no_task_or_fault x h.0 h.1 g.1)
     one_step (Err (Load x)) (Err Memory) h g = absurd g
     one_step (Err (Load x)) (Err (Binding y)) h g = absurd g

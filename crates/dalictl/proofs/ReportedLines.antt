@@ -3,18 +3,18 @@ use Rattle.std.proofs.Common.{◌≡◌, ℕ, ◌+◌, List, [], ◌∷◌, ◌+
 use Rattle.std.proofs.Common.{sym, ap, ◌∙◌, take, get_or, ◌<◌}
 use Rattle.std.proofs.lemmas.List.{append_assoc, flat_map_more, take_more}
 use Rattle.std.specs.List.{flat_map}
+use Rattle.std.specs.Option.{option_and_then}
 use Rattle.std.specs.Io.KnownBytes.{Appends}
 use Rattle.iltypes.specs.declared.value.Value.{Value}
-use Rattle.ilsource.specs.Names.{text_of}
-use Rattle.ilplan.specs.declared.instance.Slot.{Slot}
-use Rattle.ilplan.specs.Plans.{PlannedTask}
+use Rattle.ilplan.specs.declared.slot.Slot.{Slot}
+use Rattle.ilplan.specs.Plans.{Planned, PlannedTask, instance_name, variable_name}
 use Rattle.ilverify.specs.Verdicts.{Accepted}
 use Rattle.dalictl.specs.Printed.{printed_task, printed_request, printed_variable}
 use Rattle.gearcmd.specs.declared.requests.Request.{Request}
 use Rattle.gearcmd.specs.declared.requests.TaskKind.{TaskKind}
 use Rattle.dalictl.specs.Taking.{Taking}
 use Rattle.dalictl.specs.Stepping.{kind_of}
-use Rattle.dalictl.specs.Reports.{ended, first_lines, first_texts, of_both, request_lines}
+use Rattle.dalictl.specs.Reports.{ended, first_lines, first_texts, line_of, of_both, request_lines}
 
 -- a list, and then another
 pub appended : (a b c : Option (List ℕ)) (xs ys : List ℕ) → Appends a b xs → Appends b c ys → Appends a c (xs ++ ys)
@@ -68,13 +68,12 @@ task_is (Some t) (Some a) name words bound named worded bounded =
     let b : a.bound ≡ bound = cc in
     rw (n, w, b) refl
 
-pub variable_is : (text : List ℕ) (o : Option Slot) (p : Option Value) (instance variable : List ℕ) (value : Value)
-    → option_map (λ s. text_of text s.instance) o ≡ Some instance
-    → option_map (λ s. text_of text s.variable) o ≡ Some variable → p ≡ Some value
-    → of_both (λ slot v. printed_variable (text_of text slot.instance) (text_of text slot.variable) v) o p
-    ≡ printed_variable instance variable value
-variable_is text None p instance variable value is_instance is_variable is_value = absurd (cc)
-variable_is text (Some s) p instance variable value is_instance is_variable is_value =
-    let i : text_of text s.instance ≡ instance = cc in
-    let v : text_of text s.variable ≡ variable = cc in
-    rw (is_value, i, v) refl
+pub variable_is : (plan : Planned) (o : Option Slot) (p : Option Value) (instance : Option (List ℕ))
+    (variable : List ℕ) (value : Value) → option_map (λ s. instance_name plan s.variable) o ≡ Some instance
+    → option_and_then (λ s. variable_name plan s.variable) o ≡ Some variable → p ≡ Some value
+    → of_both (λ slot v. line_of plan slot.variable v) o p ≡ printed_variable instance variable value
+variable_is plan None p instance variable value is_instance is_variable is_value = absurd (cc)
+variable_is plan (Some s) p instance variable value is_instance is_variable is_value =
+    let i : instance_name plan s.variable ≡ instance = cc in
+    let v : variable_name plan s.variable ≡ Some variable = is_variable in
+    rw (is_value, v, i) refl

@@ -3,12 +3,15 @@
 use Rattle.std.specs.Prelude.{◌≡◌, ℕ, zero, suc, ◌*◌, ◌<◌, ◌≤◌, List, [], ◌∷◌, ◌++◌, length, map, All, IfSome}
 use Rattle.std.specs.Prelude.{Result, Ok, Err, Some, slice_get, ⊤}
 use Rattle.std.specs.Char.{to_ascii_lowercase}
+use Rattle.binding.specs.Wirings.{Wiring}
 use Rattle.gearcmd.specs.declared.requests.Request.{Request}
 use Rattle.ilblocks.specs.Stores.{Store, Lasting, lasting_of, store_at, blocks_at_first}
 use Rattle.ilsource.specs.Trees.{Tree}
-use Rattle.ilplan.specs.Plans.{Planned}
+use Rattle.ilplan.specs.Plans.{Planned, first_values}
 use Rattle.ilsyms.specs.Meaning.{source_scan}
-use Rattle.ilsyms.specs.Variables.{slots_of_tree, blocks_of_tree}
+use Rattle.ilsyms.specs.Resolved.{planned_task}
+use Rattle.ilsyms.specs.Tasks.{SourceTask, tasks_of}
+use Rattle.ilsyms.specs.Variables.{blocks_of}
 use Rattle.plantload.specs.Loaded.{Loaded}
 use Rattle.plantload.specs.Loading.{IsLoadFault, IsPlanOfText, IsSetup}
 use Rattle.plantload.specs.declared.fault.LoadFault.{LoadFault}
@@ -43,9 +46,9 @@ IsStopOrMemory Stops (Load fault) = Stops (Load fault)
 IsStopOrMemory Stops (NoTask asked) = Stops (NoTask asked)
 
 -- why a text isn't accepted: it isn't loaded
-abbrev pub IsCheckStop : ℕ → List ℕ → Stop → Type 0
-IsCheckStop buses bytes (Load fault) = IsLoadFault buses bytes fault
-IsCheckStop buses bytes _ = ⊥
+abbrev pub IsCheckStop : Wiring → List ℕ → Stop → Type 0
+IsCheckStop wiring bytes (Load fault) = IsLoadFault wiring bytes fault
+IsCheckStop wiring bytes _ = ⊥
 
 -- a refused code is reported where a task has the name
 abbrev pub IsAfterName : List ℕ → LoadFault → Type 0
@@ -54,38 +57,40 @@ IsAfterName name _ = ⊤
 
 -- why a task of a text isn't run: the fault of the text or its names, else that no task has the name, else the first
 -- refused code
-abbrev pub IsStepStop : ℕ → List ℕ → List ℕ → Stop → Type 0
-IsStepStop buses bytes name (Load fault) = IsLoadFault buses bytes fault × IsAfterName name fault
-IsStepStop buses bytes name (NoTask asked) =
-    (asked ≡ name) × ((plan : Planned) × IsPlanOfText buses bytes plan × NoneIsCalled plan name)
-IsStepStop buses bytes name _ = ⊥
+abbrev pub IsStepStop : Wiring → List ℕ → List ℕ → Stop → Type 0
+IsStepStop wiring bytes name (Load fault) = IsLoadFault wiring bytes fault × IsAfterName name fault
+IsStepStop wiring bytes name (NoTask asked) =
+    (asked ≡ name) × ((plan : Planned) × IsPlanOfText wiring bytes plan × NoneIsCalled plan name)
+IsStepStop wiring bytes name _ = ⊥
 
 -- ---- what scans of a text leave
 
--- this many scans of the source program, so many milliseconds apart, each from what the one before left, make these
--- requests and leave that
-abbrev pub ScansMean : Tree → ℕ → ℕ → ℕ → Lasting → List (List Request) → Lasting → Type 0
-ScansMean tree buses every zero from requests to = (requests ≡ []) × (to ≡ from)
-ScansMean tree buses every (suc scans) from requests to =
+-- this many scans of a task of the source program on so many buses, so many milliseconds apart, each from what the one
+-- before left, make these requests and leave that
+abbrev pub ScansMean : Tree → ℕ → SourceTask → ℕ → ℕ → Lasting → List (List Request) → Lasting → Type 0
+ScansMean tree buses task every zero from requests to = (requests ≡ []) × (to ≡ from)
+ScansMean tree buses task every (suc scans) from requests to =
     (before : List (List Request)) × (between : Lasting) × (after : Store)
-    × ScansMean tree buses every scans from before between
-    × (source_scan tree buses (store_at between (scans * every)) ≡ Some after)
+    × ScansMean tree buses task every scans from before between
+    × (source_scan tree buses task (store_at between (scans * every)) ≡ Some after)
     × (requests ≡ before ++ after.requests ∷ []) × (to ≡ lasting_of after)
 
--- before the first scan: the initial values of its variables, in declared order, and its block instances at their start
-abbrev pub at_first : Tree → Lasting
-at_first tree =
+-- before the first scan: the first values of the task's slots, and its block instances at their start
+abbrev pub at_first : Tree → SourceTask → Lasting
+at_first tree task =
     record {
-      slots = map (λ s. s.initial) (slots_of_tree tree);
-      blocks = blocks_at_first (map (λ b. b.kind) (blocks_of_tree tree));
+      slots = first_values (planned_task tree task);
+      blocks = blocks_at_first (map (λ b. b.kind) (blocks_of task.instances));
     }
 
 -- the variables after this many scans of the text, so many milliseconds apart, from their initial values, with the
 -- requests and the steps of each scan, which are those of the task's code and at most its bound
-pub record IsStepped (buses : ℕ) (bytes name : List ℕ) (scans every : ℕ) (made : Run) : Type 0 where
-  pub loaded : IsSetup buses bytes made.setup
-  pub task : IsFirstCalled made.setup.plan name made.task
-  pub means : ScansMean loaded.plan.tree buses every scans (at_first loaded.plan.tree)
+pub record IsStepped (wiring : Wiring) (bytes name : List ℕ) (scans every : ℕ) (made : Run) : Type 0 where
+  pub loaded : IsSetup wiring bytes made.setup
+  pub called : IsFirstCalled made.setup.plan name made.task
+  pub task : SourceTask
+  pub is : slice_get (tasks_of loaded.plan.tree) made.task ≡ Some task
+  pub means : ScansMean loaded.plan.tree wiring.buses task every scans (at_first loaded.plan.tree task)
       (map (λ taken. taken.requests) made.each) made.left
   pub many : length made.each ≡ scans
   pub runs : AreScansOf made.setup made.task scans every made.each made.left
@@ -93,10 +98,10 @@ pub record IsStepped (buses : ℕ) (bytes name : List ℕ) (scans every : ℕ) (
 
 -- ---- answers, out of memory aside
 
-abbrev pub IsChecked : ℕ → List ℕ → Result Loaded Stop → Type 0
-IsChecked buses bytes (Ok setup) = IsSetup buses bytes setup
-IsChecked buses bytes (Err stop) = IsCheckStop buses bytes stop
+abbrev pub IsChecked : Wiring → List ℕ → Result Loaded Stop → Type 0
+IsChecked wiring bytes (Ok setup) = IsSetup wiring bytes setup
+IsChecked wiring bytes (Err stop) = IsCheckStop wiring bytes stop
 
-abbrev pub IsStep : ℕ → List ℕ → List ℕ → ℕ → ℕ → Result Run Stop → Type 0
-IsStep buses bytes name scans every (Ok made) = IsStepped buses bytes name scans every made
-IsStep buses bytes name scans every (Err stop) = IsStepStop buses bytes name stop
+abbrev pub IsStep : Wiring → List ℕ → List ℕ → ℕ → ℕ → Result Run Stop → Type 0
+IsStep wiring bytes name scans every (Ok made) = IsStepped wiring bytes name scans every made
+IsStep wiring bytes name scans every (Err stop) = IsStepStop wiring bytes name stop

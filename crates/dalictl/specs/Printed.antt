@@ -1,5 +1,5 @@
 -- The lines that answers are printed as (profile).
-use Rattle.std.specs.Prelude.{ℕ, List, ◌++◌, codes}
+use Rattle.std.specs.Prelude.{ℕ, List, ◌++◌, codes, Option}
 use Rattle.std.specs.Fmt.{decimal}
 use Rattle.gearcmd.specs.declared.requests.Request.{Request}
 use Rattle.gearcmd.specs.declared.requests.TaskKind.{TaskKind}
@@ -22,6 +22,6 @@ printed_scan number steps bound =
 abbrev pub printed_request : Request → TaskKind → List ℕ
 printed_request request task = codes "request " ++ requests.printed_request request task
 
--- a variable: its name, and its value
-abbrev pub printed_variable : List ℕ → List ℕ → Value → List ℕ
+-- a variable: its name, after that of its instance where it is of one, and its value
+abbrev pub printed_variable : Option (List ℕ) → List ℕ → Value → List ℕ
 printed_variable instance variable value = printed_slot instance variable ++ codes " = " ++ values.printed value

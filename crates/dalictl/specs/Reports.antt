@@ -1,11 +1,13 @@
 -- The lines that an answer is printed as, one after another (profile).
 use Rattle.std.specs.Prelude.{◌≡◌, ℕ, zero, suc, List, [], ◌∷◌, ◌++◌, length, Option, Some, slice_get}
 use Rattle.std.specs.List.{flat_map}
+use Rattle.std.specs.Option.{option_map_or}
 use Rattle.std.specs.Io.KnownBytes.{Appends}
 use Rattle.gearcmd.specs.declared.requests.Request.{Request}
 use Rattle.gearcmd.specs.declared.requests.TaskKind.{TaskKind}
-use Rattle.ilsource.specs.Names.{text_of}
-use Rattle.ilplan.specs.Plans.{slot_at}
+use Rattle.iltypes.specs.declared.value.Value.{Value}
+use Rattle.ilplan.specs.declared.slot.Variable.{Variable}
+use Rattle.ilplan.specs.Plans.{Planned, instance_name, slot_at, variable_name}
 use Rattle.plantload.specs.Loaded.{Loaded}
 use Rattle.dalictl.specs.declared.answers.Answer.{Answer}
 use Rattle.dalictl.specs.declared.answers.Answer.TheVariants as answers
@@ -65,12 +67,15 @@ requests_of_scan made number =
 abbrev pub scan_lines : Run → ℕ → List ℕ
 scan_lines made number = ended (scan_line made number) ++ requests_of_scan made number
 
+-- the line of a variable of a plan with this value; a global variable has no instance
+abbrev pub line_of : Planned → Variable → Value → List ℕ
+line_of plan variable value =
+    option_map_or (λ name. printed_variable (instance_name plan variable) name value) (variable_name plan variable) []
+
 -- the line of the variable in the slot of this number
 abbrev pub variable_line : Run → ℕ → List ℕ
 variable_line made number =
-    of_both
-    (λ slot value. printed_variable (text_of made.setup.plan.text slot.instance)
-    (text_of made.setup.plan.text slot.variable) value)
+    of_both (λ slot value. line_of made.setup.plan slot.variable value)
     (slot_at made.setup.plan made.task number)
     (slice_get made.left.slots number)
 

@@ -11,17 +11,17 @@ use Rattle.dalictl.specs.Answered.{IsCheckStop, IsStepStop, IsStepped, IsStopOrM
 use Rattle.dalictl.specs.Connected.{IsConnected, IsBindingStop}
 
 -- what stands against an invocation on a text
-abbrev pub IsInvocationStop : ℕ → List ℕ → Invocation → Stop → Type 0
-IsInvocationStop buses bytes (Check files) stop = IsCheckStop buses bytes stop
-IsInvocationStop buses bytes (Step files task scans every) stop = IsStepStop buses bytes task.now stop
+abbrev pub IsInvocationStop : Wiring → List ℕ → Invocation → Stop → Type 0
+IsInvocationStop wiring bytes (Check files) stop = IsCheckStop wiring bytes stop
+IsInvocationStop wiring bytes (Step files task scans every) stop = IsStepStop wiring bytes task.now stop
 
 -- what was asked for of a text
-abbrev pub IsMade : ℕ → List ℕ → Invocation → Answer → Type 0
-IsMade buses bytes (Check files) (answers.Checked setup) = IsSetup buses bytes setup
-IsMade buses bytes (Step files task scans every) (answers.Stepped made) =
-    IsStepped buses bytes task.now scans every made
-IsMade buses bytes invocation (answers.Stopped stop) = IsStopOrMemory (IsInvocationStop buses bytes invocation) stop
-IsMade buses bytes invocation answer = ⊥
+abbrev pub IsMade : Wiring → List ℕ → Invocation → Answer → Type 0
+IsMade wiring bytes (Check files) (answers.Checked setup) = IsSetup wiring bytes setup
+IsMade wiring bytes (Step files task scans every) (answers.Stepped made) =
+    IsStepped wiring bytes task.now scans every made
+IsMade wiring bytes invocation (answers.Stopped stop) = IsStopOrMemory (IsInvocationStop wiring bytes invocation) stop
+IsMade wiring bytes invocation answer = ⊥
 
 -- a binding's fault is reported, and nothing else of it
 abbrev pub IsUnconnected : Option (List ℕ) → Answer → Type 0
@@ -32,4 +32,4 @@ IsUnconnected binding answer = ⊥
 abbrev pub IsAnswer : Invocation → Option (List ℕ) → List ℕ → Answer → Type 0
 IsAnswer invocation binding bytes answer =
     IsUnconnected binding answer
-    ⊎ ((wiring : Wiring) × IsConnected binding wiring × IsMade wiring.buses bytes invocation answer)
+    ⊎ ((wiring : Wiring) × IsConnected binding wiring × IsMade wiring bytes invocation answer)

@@ -6,7 +6,7 @@ use Rattle.gearcmd.specs.declared.requests.TaskKind.{TaskKind}
 use Rattle.gearcmd.specs.declared.requests.TaskKind.TheVariants.{Cyclic, Event}
 use Rattle.ilblocks.specs.Calls.{Block}
 use Rattle.ilblocks.specs.Stores.{Store, Lasting, lasting_of, store_at, blocks_at_first}
-use Rattle.ilplan.specs.Plans.{PlannedTask, initials_of, kinds_of}
+use Rattle.ilplan.specs.Plans.{PlannedTask, first_values, is_event, kinds_of}
 use Rattle.ilverify.specs.Verdicts.{Accepted}
 use Rattle.ilmachine.specs.Scans.{IsScan}
 use Rattle.plantload.specs.Loaded.{Loaded}
@@ -30,13 +30,14 @@ ScansTo code every (suc scans) from each to =
 abbrev pub lasting : List Value → List Block → Lasting
 lasting slots blocks = record { slots = slots; blocks = blocks }
 
--- before the first scan variables have their initial values, and block instances are at their start
+-- before the first scan variables have their initial values, but TRUE at an event task's trigger, and block instances
+-- are at their start
 abbrev pub lasting_at_first : PlannedTask → Lasting
-lasting_at_first task = lasting (initials_of task) (blocks_at_first (kinds_of task))
+lasting_at_first task = lasting (first_values task) (blocks_at_first (kinds_of task))
 
 -- what starts the task
 abbrev pub kind_of : PlannedTask → TaskKind
-kind_of task = if task.event then Event else Cyclic
+kind_of task = if is_event task.activation then Event else Cyclic
 
 -- scans of the task of this number by its code
 pub record AreScansOf (setup : Loaded) (number scans every : ℕ) (each : List Taking) (left : Lasting) : Type 0 where

@@ -1,8 +1,9 @@
 //! What a text is answered: its setup, or what scans of a task left, with their requests.
 
-ghost use Rattle.std.specs.Prelude.{◌≡◌, ◌<◌, length, map, slice_get, Result, IfErr, IfOk, IfSome};
+ghost use Rattle.std.specs.Prelude.{◌≡◌, ◌<◌, length, slice_get, Result, IfErr, IfOk, IfSome};
 ghost use Rattle.std.specs.Prelude.{MatchOption};
-ghost use Rattle.ilplan.specs.Plans.{KeepsLimits};
+ghost use Rattle.iltypes.specs.Values.{AreOf};
+ghost use Rattle.ilplan.specs.Plans.{KeepsLimits, first_values, types_of};
 ghost use Rattle.std.specs.Option.{option_copied};
 ghost use Rattle.plantload.specs.Loaded.{Loaded};
 ghost use Rattle.plantload.specs.Loading.{IsSetup};
@@ -19,8 +20,7 @@ use crate::scans::Scans;
 use crate::stepped::Stepped;
 use crate::stop::{AskedName, Stop};
 use binding::Binding;
-use ilplan::{Plan, Slot};
-use iltypes::Value;
+use ilplan::Plan;
 use plantload::{Setup, load, plan_of, setup_of};
 use std::alloc::{AllocError, Global};
 
@@ -44,7 +44,7 @@ pub fn respond(alloc: Global, invocation: Invocation, binding: Option<&[u8]>, te
 
 /// The answer to an invocation under a binding.
 fn respond_under(alloc: Global, binding: &Binding, invocation: Invocation, text: &[u8]) -> Answer
-    ensures { IsMade binding.now.buses text.now invocation.entry result }
+    ensures { IsMade binding.now text.now invocation.entry result }
 {
     match invocation {
         Invocation::Check { .. } => match check(alloc, binding, text) {
@@ -88,18 +88,18 @@ pub fn binding_of(alloc: Global, bytes: Option<&[u8]>) -> Result<Binding, Stop>
 ///
 /// The fault that the text isn't loaded for, or that the allocator is out of memory.
 pub fn check(alloc: Global, binding: &Binding, text: &[u8]) -> Result<Setup, Stop>
-    ensures setup { IfOk result (IsSetup binding.now.buses text.now) }
-    ensures stop { IfErr result (IsStopOrMemory (IsCheckStop binding.now.buses text.now)) }
+    ensures setup { IfOk result (IsSetup binding.now text.now) }
+    ensures stop { IfErr result (IsStopOrMemory (IsCheckStop binding.now text.now)) }
     // A text has at most one answer, but for out of memory.
-    ensures one { (a b : Result Loaded Stop) → IsChecked binding.now.buses text.now a
-        → IsChecked binding.now.buses text.now b → a ≡ b }
+    ensures one { (a b : Result Loaded Stop) → IsChecked binding.now text.now a
+        → IsChecked binding.now text.now b → a ≡ b }
 {
     Ok(load(alloc, text, binding)?)
 }
 
 /// The requests of this many scans of a task, and its variables after them: the first scan from
-/// their initial values and from block instances before their first call, `every` milliseconds
-/// apart.
+/// their initial values, but TRUE at an event task's trigger, and from block instances before their
+/// first call, `every` milliseconds apart.
 ///
 /// # Errors
 ///
@@ -113,11 +113,11 @@ pub fn step(
     scans: u32,
     every: u32,
 ) -> Result<Stepped, Stop>
-    ensures made { IfOk result (IsStepped binding.now.buses text.now task.now scans every) }
-    ensures stop { IfErr result (IsStopOrMemory (IsStepStop binding.now.buses text.now task.now)) }
+    ensures made { IfOk result (IsStepped binding.now text.now task.now scans every) }
+    ensures stop { IfErr result (IsStopOrMemory (IsStepStop binding.now text.now task.now)) }
     // A task of a text has at most one answer, but for out of memory.
-    ensures one { (a b : Result Run Stop) → IsStep binding.now.buses text.now task.now scans every a
-        → IsStep binding.now.buses text.now task.now scans every b → a ≡ b }
+    ensures one { (a b : Result Run Stop) → IsStep binding.now text.now task.now scans every a
+        → IsStep binding.now text.now task.now scans every b → a ≡ b }
 {
     let plan = plan_of(alloc, text, binding)?;
     let Some(number) = task_number(&plan, task) else {
@@ -128,8 +128,8 @@ pub fn step(
     Ok(Stepped::new(setup, number, made))
 }
 
-/// Scans of a task by its code, the first from the initial values of its variables and from block
-/// instances before their first call.
+/// Scans of a task by its code, the first from the initial values of its variables, but TRUE at an
+/// event task's trigger, and from block instances before their first call.
 fn run(
     alloc: Global,
     setup: &Setup,
@@ -141,17 +141,12 @@ fn run(
     ensures made { IfOk result (λ made. AreScansOf setup.now task scans every made.each.items
         made.left.lasting) }
     ensures limits { IfSome (slice_get setup.now.plan.tasks task) (λ t. KeepsLimits t) }
+    ensures typed { IfSome (slice_get setup.now.plan.tasks task)
+        (λ t. AreOf (first_values t) (types_of t)) }
 {
     let of_task = setup.plan().task(task);
-    let initial = initial_values(alloc, of_task.slots())?;
-    scans::make(alloc, setup.code(task), &initial, scans, every)
-}
-
-/// The value of each slot before the first scan.
-fn initial_values(alloc: Global, slots: &[Slot]) -> Result<Vec<Value>, AllocError>
-    ensures { IfOk result (λ values. values.items ≡ map (λ slot. slot.initial) slots.now) }
-{
-    slots.iter().map(|slot| slot.initial).collect(alloc)
+    let first = of_task.first_values(alloc)?;
+    scans::make(alloc, setup.code(task), &first, scans, every)
 }
 
 /// The number of the task of this name, without regard to letter case.

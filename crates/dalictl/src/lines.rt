@@ -55,8 +55,11 @@ impl fmt::Display for ScanLine {
 }
 
 impl fmt::Display for VariableLine<'_> {
-    ghost output = { λ line. Some (printed_variable line.name.instance.bytes.now
-        line.name.variable.bytes.now line.value) };
+    ghost use Rattle.std.specs.Prelude.{Some, option_map};
+
+    ghost output = { λ line. Some (printed_variable
+        (option_map (λ name. name.bytes.now) line.name.instance) line.name.variable.bytes.now
+        line.value) };
 
     fn fmt<W: fmt::Write>(&self, f: &mut fmt::Formatter<W>) -> fmt::Result {
         write!(f, "{} = {}", self.name, self.value)

@@ -43,8 +43,8 @@ impl Model for Stepped {
 
 impl Stepped {
     ghost use Rattle.std.specs.Prelude.{◌≡◌, ◌<◌, length, slice_get, Some, option_map};
-    ghost use Rattle.ilsource.specs.Names.{text_of};
-    ghost use Rattle.ilplan.specs.Plans.{slot_at};
+    ghost use Rattle.std.specs.Prelude.{option_and_then};
+    ghost use Rattle.ilplan.specs.Plans.{instance_name, slot_at, variable_name};
     ghost use Rattle.dalictl.specs.Stepping.{HasTask, Run, kind_of, run_of};
 
     /// These scans of the task of this number.
@@ -116,9 +116,10 @@ impl Stepped {
     /// value after the last scan.
     pub fn variable_line(&self, slot: usize) -> VariableLine<'_>
         requires { slot < length self.now.left.slots }
-        ensures instance { option_map (λ s. text_of self.now.setup.plan.text s.instance)
-            (slot_at self.now.setup.plan self.now.task slot) ≡ Some result.name.instance.bytes.now }
-        ensures variable { option_map (λ s. text_of self.now.setup.plan.text s.variable)
+        ensures instance { option_map (λ s. instance_name self.now.setup.plan s.variable)
+            (slot_at self.now.setup.plan self.now.task slot)
+            ≡ Some (option_map (λ name. name.bytes.now) result.name.instance) }
+        ensures variable { option_and_then (λ s. variable_name self.now.setup.plan s.variable)
             (slot_at self.now.setup.plan self.now.task slot) ≡ Some result.name.variable.bytes.now }
         ensures value { slice_get self.now.left.slots slot ≡ Some result.value }
     {

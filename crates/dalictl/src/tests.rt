@@ -3,6 +3,7 @@
 
 mod at_limits;
 mod blocks;
+mod configurations;
 mod jumping;
 mod machine;
 mod numbers;

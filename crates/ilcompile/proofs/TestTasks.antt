@@ -77,4 +77,6 @@ longest_keeps lines constants h e =
       shallow = subst (λ (ls : List (Line Place ℕ)). AreShallow ls) all (loads_shallow lines h.are);
       constants = h.all ∙ ap (λ (ls : List (Line Place ℕ)). different_constants ls) all;
       initials = (tt, (tt, tt));
+      ordered = ((tt, tt), (tt, tt));
+      interval = omega arith;
     }

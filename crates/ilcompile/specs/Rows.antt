@@ -17,8 +17,10 @@ use Rattle.iltrees.specs.Trees as trees
 use Rattle.ilsource.specs.declared.name.Name.{Name as NameInText}
 use Rattle.ilblocks.specs.declared.kind.Kind.{Kind}
 use Rattle.ilblocks.specs.declared.kind.Kind.TheVariants as kinds
+use Rattle.ilplan.specs.declared.activation.Activation.TheVariants.{Cyclic}
 use Rattle.ilplan.specs.declared.instance.FunctionBlock.{FunctionBlock}
-use Rattle.ilplan.specs.declared.instance.Slot.{Slot}
+use Rattle.ilplan.specs.declared.slot.Slot.{Slot}
+use Rattle.ilplan.specs.declared.slot.Variable.TheVariants.{Own}
 use Rattle.ilplan.specs.declared.place.Place.{Place}
 use Rattle.ilplan.specs.declared.place.Place.TheVariants as places
 use Rattle.ilplan.specs.Constants.{different_constants}
@@ -35,7 +37,7 @@ abbrev pub no_name : NameInText
 no_name = record { from = 0; to = 0 }
 
 abbrev pub slot : Slot
-slot = record { instance = no_name; variable = no_name; value_type = types.Bool; initial = values.Bool false }
+slot = record { variable = Own no_name no_name; value_type = types.Bool; initial = values.Bool false }
 
 abbrev pub block : Kind → FunctionBlock
 block kind = record { instance = no_name; name = no_name; kind = kind }
@@ -43,7 +45,7 @@ block kind = record { instance = no_name; name = no_name; kind = kind }
 -- a task with these programs, two variables, a block instance TON and one R_TRIG, and the constants
 abbrev pub task : List (List (Line Place ℕ)) → List Value → PlannedTask
 task programs constants =
-    task_of [] false (slot ∷ slot ∷ []) (block kinds.Ton ∷ block kinds.RTrig ∷ []) constants
+    task_of [] (Cyclic 100) 0 (slot ∷ slot ∷ []) (block kinds.Ton ∷ block kinds.RTrig ∷ []) constants
     (map (λ lines. record { name = no_name; lines = lines }) programs)
 
 -- on two buses they are laid out with these constants, starts, words, and a line for each of these

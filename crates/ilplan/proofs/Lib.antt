@@ -1,3 +1,6 @@
+pub mod Declared
 pub mod EachOnce
 pub mod Keys
+pub mod StoredSlots
+pub mod TestPlans
 pub mod Used

@@ -3,3 +3,4 @@ pub mod PlanMeaning
 pub mod Plans
 pub mod Printed
 pub mod Rows
+pub mod StoreSteps

@@ -1,55 +1,98 @@
 -- Plans as contracts see them, and what holds of each task (profile).
-use Rattle.std.specs.Prelude.{◌≡◌, ℕ, ◌≤◌, List, flat_map, map, length, Bool, Option, slice_get, option_and_then}
+use Rattle.std.specs.Prelude.{◌≡◌, ℕ, pos, ◌<◌, ◌≤◌, ◌==◌, List, [], ◌∷◌, flat_map, map, length, Bool, true, false, ⊤}
+use Rattle.std.specs.Prelude.{Option, None, Some, IfSome, slice_get, option_and_then, option_map, if◌then◌else◌}
+use Rattle.std.specs.Prelude.{All, AllPairs, Any, ◌≤ℤ◌}
+use Rattle.std.specs.List.{AllByRecursion, list_any}
 use Rattle.limits.specs.Limits as limits
 use Rattle.iltypes.specs.declared.value.IlType.{IlType}
+use Rattle.iltypes.specs.declared.value.IlType.TheVariants as types
 use Rattle.iltypes.specs.declared.value.Value.{Value}
-use Rattle.iltypes.specs.Values.{AreOf}
+use Rattle.iltypes.specs.declared.value.Value.TheVariants as values
+use Rattle.iltypes.specs.Values.{IsOf, AreOf}
+use Rattle.binding.specs.declared.sources.BoundSource.{BoundSource}
+use Rattle.binding.specs.Wirings.{Wiring, IsAt, IsWithinLimits}
 use Rattle.iltrees.specs.declared.instruction.Line.{Line}
+use Rattle.iltrees.specs.declared.operand.Operand.{Operand}
+use Rattle.iltrees.specs.declared.operand.Operand.TheVariants.{Name as Named}
+use Rattle.iltrees.specs.declared.uses.Purpose.{Purpose}
+use Rattle.iltrees.specs.declared.uses.Purpose.TheVariants.{Write}
+use Rattle.iltrees.specs.declared.uses.Use.{Use}
+use Rattle.iltrees.specs.Uses.{uses_in}
 use Rattle.iltrees.specs.Words.{words_of_lines, AreShallow}
 use Rattle.ilsource.specs.declared.name.Name.{Name}
+use Rattle.ilsource.specs.Names.{text_of}
 use Rattle.ilblocks.specs.declared.kind.Kind.{Kind}
 use Rattle.ilblocks.specs.Stores.{Shape}
+use Rattle.ilplan.specs.declared.activation.Activation.{Activation}
+use Rattle.ilplan.specs.declared.activation.Activation.TheVariants.{Cyclic, Event}
+use Rattle.ilplan.specs.declared.global.Global.{Global as GlobalVariable}
+use Rattle.ilplan.specs.declared.global.Location.{Location}
+use Rattle.ilplan.specs.declared.global.Location.TheVariants.{Level, GearAnswer, DeviceAnswer, Information, Count}
+use Rattle.ilplan.specs.declared.global.Location.TheVariants.{Trigger}
 use Rattle.ilplan.specs.declared.instance.FunctionBlock.{FunctionBlock}
-use Rattle.ilplan.specs.declared.instance.Slot.{Slot}
+use Rattle.ilplan.specs.declared.slot.Slot.{Slot}
+use Rattle.ilplan.specs.declared.slot.Variable.{Variable}
+use Rattle.ilplan.specs.declared.slot.Variable.TheVariants.{Global, Own}
 use Rattle.ilplan.specs.declared.place.Place.{Place}
+use Rattle.ilplan.specs.declared.place.Place.TheVariants as places
 use Rattle.ilplan.specs.Constants.{different_constants}
+
+-- an event starts the task, and not the clock
+abbrev pub is_event : Activation → Bool
+is_event (Cyclic interval) = false
+is_event (Event trigger) = true
+
+-- no program stores to what is located there: all but the levels of control gear
+abbrev pub is_input : Location → Bool
+is_input (Level bus address) = false
+is_input _ = true
 
 -- a program instance: its name, and its lines over places in a store
 pub record PlannedInstance : Type 0 where
   pub name : Name
   pub lines : List (Line Place ℕ)
 
--- a task: its name's bytes, whether an event starts it, its variables, its block instances, its constants, its program
--- instances
+-- a task: its name's bytes, what starts it, its priority (0 is the first), its variables, its block instances, its
+-- constants, its program instances
 pub record PlannedTask : Type 0 where
   pub name : List ℕ
-  pub event : Bool
+  pub activation : Activation
+  pub priority : ℕ
   pub slots : List Slot
   pub blocks : List FunctionBlock
   pub constants : List Value
   pub instances : List PlannedInstance
 
--- a plan: the text that its names and places are of, the number of buses, the global variables, the tasks
+-- a plan: the text that its names and places are of, the number of buses, the sources of events that are bound, the
+-- global variables, the tasks
 pub record Planned : Type 0 where
   pub text : List ℕ
   pub buses : ℕ
-  pub globals : List Name
+  pub sources : List BoundSource
+  pub globals : List GlobalVariable
   pub tasks : List PlannedTask
 
 -- the task, and the plan, of these parts
-abbrev pub task_of : List ℕ → Bool → List Slot → List FunctionBlock → List Value → List PlannedInstance → PlannedTask
-task_of name event slots blocks constants instances =
+abbrev pub task_of : List ℕ → Activation → ℕ → List Slot → List FunctionBlock → List Value → List PlannedInstance
+    → PlannedTask
+task_of name activation priority slots blocks constants instances =
     record {
       name = name;
-      event = event;
+      activation = activation;
+      priority = priority;
       slots = slots;
       blocks = blocks;
       constants = constants;
       instances = instances;
     }
 
-abbrev pub plan_of : List ℕ → ℕ → List Name → List PlannedTask → Planned
-plan_of text buses globals tasks = record { text = text; buses = buses; globals = globals; tasks = tasks }
+abbrev pub plan_of : List ℕ → ℕ → List BoundSource → List GlobalVariable → List PlannedTask → Planned
+plan_of text buses sources globals tasks =
+    record { text = text; buses = buses; sources = sources; globals = globals; tasks = tasks }
+
+-- what the plan's binding says
+abbrev pub wiring_of : Planned → Wiring
+wiring_of plan = record { buses = plan.buses; sources = plan.sources }
 
 -- the types of a task's slots, and their values before the first scan
 abbrev pub types_of : PlannedTask → List IlType
@@ -70,8 +113,53 @@ shape_of buses task = record { buses = buses; slots = types_of task; kinds = kin
 abbrev pub all_lines : List PlannedInstance → List (Line Place ℕ)
 all_lines instances = flat_map (λ i. i.lines) instances
 
--- what holds of each task: it has no more of anything than the limits, its constants are the different ones of its
--- lines, and each slot is at first of its type
+-- ---- what a task stores, and what scans by hand begin from
+
+-- the use writes the slot of this number
+abbrev pub is_write_to : ℕ → Purpose → Operand Place → Bool
+is_write_to slot Write (Named (places.Slot number)) = number == slot
+is_write_to slot purpose operand = false
+
+abbrev pub writes_slot : ℕ → Use Place → Bool
+writes_slot slot u = is_write_to slot u.purpose u.operand
+
+-- some line of the task, reached or not, stores to the slot of this number, sets it or resets it
+abbrev pub stores : PlannedTask → ℕ → Bool
+stores task slot = list_any (writes_slot slot) (flat_map uses_in (all_lines task.instances))
+
+-- the variable is the trigger of the event that starts the task
+abbrev pub is_trigger_of : Activation → Variable → Bool
+is_trigger_of (Event trigger) (Global number) = trigger == number
+is_trigger_of _ _ = false
+
+-- what a scan by hand begins from: the initial value of each slot, but TRUE at the trigger of an event task, whether it
+-- is one of the slots or not
+abbrev pub first_value : PlannedTask → Slot → Value
+first_value task slot = if is_trigger_of task.activation slot.variable then values.Bool true else slot.initial
+
+abbrev pub first_values : PlannedTask → List Value
+first_values task = map (first_value task) task.slots
+
+-- ---- what holds of each task
+
+-- an interval has 1 millisecond or more
+abbrev pub HasInterval : Activation → Type 0
+HasInterval (Cyclic interval) = 1 ≤ interval
+HasInterval (Event trigger) = ⊤
+
+-- a global variable stands before those of greater number, and before those of programs
+abbrev pub Precedes : Variable → Variable → Type 0
+Precedes (Global one) (Global other) = one < other
+Precedes (Own instance name) (Global other) = ⊥
+Precedes one (Own instance name) = ⊤
+
+-- each variable precedes all after it
+abbrev pub AreOrdered : List Variable → Type 0
+AreOrdered [] = ⊤
+AreOrdered (variable ∷ variables) = AllByRecursion (Precedes variable) variables × AreOrdered variables
+
+-- it has no more of anything than the limits, its constants are the different ones of its lines, each slot is at first
+-- of its type, and global variables come first, in rising order
 pub record KeepsLimits (task : PlannedTask) : Type 0 where
   pub most_instances : length task.instances ≤ limits.most_instances
   pub most_slots : length task.slots ≤ limits.most_slots
@@ -81,13 +169,103 @@ pub record KeepsLimits (task : PlannedTask) : Type 0 where
   pub shallow : AreShallow (all_lines task.instances)
   pub constants : task.constants ≡ different_constants (all_lines task.instances)
   pub initials : AreOf (initials_of task) (types_of task)
+  pub ordered : AreOrdered (map (λ s. s.variable) task.slots)
+  pub interval : HasInterval task.activation
 
--- what holds of each plan
+-- ---- where global variables are located
+
+-- the address is that of something which is connected: of a bus that is there, to 80 as a level's and to 63 as an
+-- answer's, or of a source that is bound
+abbrev pub IsAddressIn : Wiring → Location → Type 0
+IsAddressIn wiring (Level bus address) = (bus < wiring.buses) × (address ≤ 80)
+IsAddressIn wiring (GearAnswer bus short) = (bus < wiring.buses) × (short ≤ 63)
+IsAddressIn wiring (DeviceAnswer bus short) = (bus < wiring.buses) × (short ≤ 63)
+IsAddressIn wiring (Information bus source) = Any (IsAt bus source) wiring.sources
+IsAddressIn wiring (Count bus source) = Any (IsAt bus source) wiring.sources
+IsAddressIn wiring (Trigger bus source) = Any (IsAt bus source) wiring.sources
+
+-- the type has each number from 0 to the last
+abbrev pub HasUpTo : ℕ → IlType → Type 0
+HasUpTo last value_type = IsOf (values.Int (pos 0)) value_type × IsOf (values.Int (pos last)) value_type
+
+-- each value of the type is a level, 0 to 255
+abbrev pub AreLevels : IlType → Type 0
+AreLevels types.Bool = ⊥
+AreLevels (types.Int range) = (pos 0 ≤ℤ range.lo) × (range.hi ≤ℤ pos 255)
+
+-- a variable of this type may be located there: it has no other values than levels, or all that an input may have,
+-- which is an answer's byte or 256 to 258 (no answer, a damaged one, none yet), the 10 bits of an information, the 16
+-- bits of a count, or a truth value
+abbrev pub Suits : IlType → Location → Type 0
+Suits value_type (Level bus address) = AreLevels value_type
+Suits value_type (GearAnswer bus short) = HasUpTo 258 value_type
+Suits value_type (DeviceAnswer bus short) = HasUpTo 258 value_type
+Suits value_type (Information bus source) = HasUpTo 1023 value_type
+Suits value_type (Count bus source) = HasUpTo 65535 value_type
+Suits value_type (Trigger bus source) = value_type ≡ types.Bool
+
+-- where it is located, if it is, a variable of its type may be
+abbrev pub IsLocatedIn : Wiring → GlobalVariable → Type 0
+IsLocatedIn wiring global =
+    IfSome global.location (λ location. IsAddressIn wiring location × Suits global.value_type location)
+
+-- the two are not located at one address
+abbrev pub AreApart : GlobalVariable → GlobalVariable → Type 0
+AreApart one other = IfSome one.location (λ location. ¬ (other.location ≡ Some location))
+
+-- ---- what holds of each plan
+
+-- a slot of a global variable names one that is there, with its type and its initial value
+abbrev pub type_and_initial : GlobalVariable → IlType × Value
+type_and_initial global = (global.value_type, global.initial)
+
+abbrev pub IsDeclared : List GlobalVariable → Variable → IlType → Value → Type 0
+IsDeclared globals (Global number) value_type initial =
+    option_map type_and_initial (slice_get globals number) ≡ Some (value_type, initial)
+IsDeclared globals (Own instance name) value_type initial = ⊤
+
+-- a BOOL that is located at the trigger of a source
+pub record IsTrigger (global : GlobalVariable) : Type 0 where
+  pub bus : ℕ
+  pub source : ℕ
+  pub located : global.location ≡ Some (Trigger bus source)
+  pub truth : global.value_type ≡ types.Bool
+
+-- an event is that of a trigger that is there
+abbrev pub HasTrigger : List GlobalVariable → Activation → Type 0
+HasTrigger globals (Cyclic interval) = ⊤
+HasTrigger globals (Event trigger) =
+    (global : GlobalVariable) × (slice_get globals trigger ≡ Some global) × IsTrigger global
+
+abbrev pub IsTaskOf : List GlobalVariable → PlannedTask → Type 0
+IsTaskOf globals task =
+    HasTrigger globals task.activation
+    × AllByRecursion (λ s. IsDeclared globals s.variable s.value_type s.initial) task.slots
+
+-- its buses and sources are those of a binding, its global variables are located where they may be, each at an address
+-- of its own, and its tasks name what is there
 pub record IsLawful (plan : Planned) : Type 0 where
-  pub first_bus : 1 ≤ plan.buses
-  pub last_bus : plan.buses ≤ limits.most_buses
+  pub wiring : IsWithinLimits (wiring_of plan)
   pub most_tasks : length plan.tasks ≤ limits.most_tasks
+  pub located : All (IsLocatedIn (wiring_of plan)) plan.globals
+  pub apart : AllPairs AreApart plan.globals
+  pub initials : AreOf (map (λ g. g.initial) plan.globals) (map (λ g. g.value_type) plan.globals)
+  pub tasks : AllByRecursion (IsTaskOf plan.globals) plan.tasks
 
 -- a task's slot, where there is one
 abbrev pub slot_at : Planned → ℕ → ℕ → Option Slot
 slot_at plan task slot = option_and_then (λ t. slice_get t.slots slot) (slice_get plan.tasks task)
+
+-- a global variable is one of these
+abbrev pub IsThere : List GlobalVariable → Variable → Type 0
+IsThere globals (Global number) = number < length globals
+IsThere globals (Own instance name) = ⊤
+
+-- the name of a slot's program instance, where it has one, and of its variable
+abbrev pub instance_name : Planned → Variable → Option (List ℕ)
+instance_name plan (Global number) = None
+instance_name plan (Own instance name) = Some (text_of plan.text instance)
+
+abbrev pub variable_name : Planned → Variable → Option (List ℕ)
+variable_name plan (Global number) = option_map (λ g. text_of plan.text g.name) (slice_get plan.globals number)
+variable_name plan (Own instance name) = Some (text_of plan.text name)

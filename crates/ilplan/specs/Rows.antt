@@ -2,7 +2,6 @@
 -- first call, at the moment 40.
 use Rattle.std.specs.Prelude.{◌≡◌, ℕ, pos, Bool, true, false, List, [], ◌∷◌, length, option_map, Some, None}
 use Rattle.iltypes.specs.declared.value.IlType.TheVariants as types
-use Rattle.iltypes.specs.declared.value.Value.{Value}
 use Rattle.iltypes.specs.declared.value.Value.TheVariants.{Bool as truth, Int}
 use Rattle.iloperators.specs.declared.condition.Condition.TheVariants.{Always}
 use Rattle.iltrees.specs.declared.arguments.Argument.{Argument}
@@ -14,8 +13,9 @@ use Rattle.ilsource.specs.declared.name.Name as names
 use Rattle.ilblocks.specs.declared.kind.Kind.TheVariants.{RTrig, GearLevel}
 use Rattle.ilblocks.specs.Calls.{Block as BlockState, at_first}
 use Rattle.ilblocks.specs.Stores.{Store, blocks_at_first}
-use Rattle.ilplan.specs.declared.instance.FunctionBlock.{FunctionBlock}
-use Rattle.ilplan.specs.declared.instance.Slot as slots
+use Rattle.ilplan.specs.declared.activation.Activation.TheVariants.{Cyclic}
+use Rattle.ilplan.specs.declared.slot.Slot as slots
+use Rattle.ilplan.specs.declared.slot.Variable.TheVariants.{Own}
 use Rattle.ilplan.specs.declared.place.Place.{Place}
 use Rattle.ilplan.specs.declared.place.Place.TheVariants.{Slot, Port, Block}
 use Rattle.ilplan.specs.Plans.{PlannedTask, task_of}
@@ -25,7 +25,7 @@ abbrev pub word : names.Name
 word = record { from = 0; to = 1 }
 
 abbrev pub variable : slots.Slot
-variable = record { instance = word; variable = word; value_type = types.Bool; initial = truth false }
+variable = record { variable = Own word word; value_type = types.Bool; initial = truth false }
 
 abbrev pub line : Instruction Place ℕ → Line Place ℕ
 line i = record { at = 0; label = None; instruction = Some i }
@@ -46,7 +46,7 @@ call place arguments = line (instructions.Call Always place arguments)
 -- a task of these lines
 abbrev pub task : List (Line Place ℕ) → PlannedTask
 task lines =
-    task_of [] false (variable ∷ variable ∷ [])
+    task_of [] (Cyclic 100) 0 (variable ∷ variable ∷ [])
     (record { instance = word; name = word; kind = RTrig }
     ∷ record { instance = word; name = word; kind = GearLevel }
     ∷ [])

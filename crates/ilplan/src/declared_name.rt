@@ -24,20 +24,25 @@ impl fmt::Display for DeclaredName<'_> {
     }
 }
 
-/// The name `instance.variable` of a slot, as declared.
+/// The name of a slot, as declared: `instance.variable`, and of a global variable its name alone.
 #[derive(Clone, Copy, Debug)]
 pub struct SlotName<'a> {
-    pub instance: DeclaredName<'a>,
+    /// The program instance's, where it is a variable of one.
+    pub instance: Option<DeclaredName<'a>>,
     pub variable: DeclaredName<'a>,
 }
 
 impl fmt::Display for SlotName<'_> {
-    ghost use Rattle.std.specs.Prelude.{Some};
+    ghost use Rattle.std.specs.Prelude.{Some, option_map};
     ghost use Rattle.ilplan.specs.Printed.{printed_slot};
 
-    ghost output = { λ n. Some (printed_slot n.instance.bytes.now n.variable.bytes.now) };
+    ghost output = { λ n. Some (printed_slot (option_map (λ name. name.bytes.now) n.instance)
+        n.variable.bytes.now) };
 
     fn fmt<W: fmt::Write>(&self, f: &mut fmt::Formatter<W>) -> fmt::Result {
-        write!(f, "{}.{}", self.instance, self.variable)
+        match self.instance {
+            Some(instance) => write!(f, "{instance}.{}", self.variable),
+            None => write!(f, "{}", self.variable),
+        }
     }
 }

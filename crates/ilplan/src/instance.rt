@@ -1,23 +1,10 @@
-//! Instances of programs, and their variables (IEC 61131-3, 2.4.3 and 2.7.2).
+//! Instances of programs and of function blocks (IEC 61131-3, 2.5.2 and 2.7.2).
 
 use crate::place::Place;
 use ilblocks::Kind;
 use ilsource::Name;
 use iltrees::Line;
-use iltypes::{IlType, Value};
 use std::marker::Model;
-
-/// A variable of an instance.
-#[derive(Clone, Copy, PartialEq, Eq, Debug)]
-pub struct Slot {
-    /// The instance's name in the text.
-    pub instance: Name,
-    /// The variable's name in the text.
-    pub variable: Name,
-    pub value_type: IlType,
-    /// Its value before the first scan.
-    pub initial: Value,
-}
 
 /// A function block instance of a program instance.
 #[derive(Clone, Copy, PartialEq, Eq, Debug)]

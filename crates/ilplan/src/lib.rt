@@ -7,18 +7,25 @@
 //! read first.
 #![tactic(auto)]
 
+mod activation;
 mod constants;
 mod declared_name;
+mod global;
 mod instance;
 mod place;
 mod plan;
+mod slot;
+mod stored;
 mod task;
 
+pub use activation::Activation;
 pub use constants::{Constants, each_value_stands_once};
 pub use declared_name::{DeclaredName, SlotName};
-pub use instance::{FunctionBlock, Instance, Slot};
+pub use global::{Global, Location};
+pub use instance::{FunctionBlock, Instance};
 pub use place::Place;
 pub use plan::Plan;
+pub use slot::{Slot, Variable};
 pub use task::Task;
 
 #[cfg(test)]

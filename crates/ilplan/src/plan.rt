@@ -1,8 +1,10 @@
 //! Plans.
 
 use crate::declared_name::{DeclaredName, SlotName};
+use crate::global::Global;
+use crate::slot::Variable;
 use crate::task::Task;
-use ilsource::Name;
+use binding::BoundSource;
 use std::marker::Model;
 
 /// What a source program's tasks do, over slots in place of names. It has 1 to
@@ -11,7 +13,8 @@ use std::marker::Model;
 pub struct Plan {
     text: Vec<u8>,
     buses: u8,
-    globals: Vec<Name>,
+    sources: Vec<BoundSource>,
+    globals: Vec<Global>,
     tasks: Vec<Task>,
 }
 
@@ -31,25 +34,38 @@ impl Model for Plan {
       code_by (List (Piece Place)) (Prim.hlevel codes) pieces_of tree_of tree_again,
     ) };
 
-    ghost view = { λ p. plan_of p.text.items p.buses p.globals.items p.tasks.items };
+    ghost view = { λ p. plan_of p.text.items p.buses p.sources.items p.globals.items
+        p.tasks.items };
 
-    ghost invariant = { λ p.
-        IsLawful (plan_of p.text.items p.buses p.globals.items p.tasks.items) };
+    ghost invariant = { λ p. IsLawful (plan_of p.text.items p.buses p.sources.items
+        p.globals.items p.tasks.items) };
 }
 
 impl Plan {
-    ghost use Rattle.std.specs.Prelude.{◌≡◌, ◌<◌, length, slice_get, Some, IfSome, option_map};
+    ghost use Rattle.std.specs.Prelude.{◌≡◌, ◌<◌, length, slice_get, Some, IfSome};
+    ghost use Rattle.std.specs.Prelude.{option_map, option_and_then};
     ghost use Rattle.ilsource.specs.Names.{text_of};
+    ghost use Rattle.iltypes.specs.Values.{AreOf};
     ghost use Rattle.ilplan.specs.Plans.{Planned, KeepsLimits, IsLawful, plan_of, slot_at};
+    ghost use Rattle.ilplan.specs.Plans.{is_event, first_values, types_of};
+    ghost use Rattle.ilplan.specs.Plans.{IsTaskOf, IsThere, instance_name, variable_name};
 
-    /// The plan of these tasks, whose names stand in `text`.
-    pub fn new(text: Vec<u8>, buses: u8, globals: Vec<Name>, tasks: Vec<Task>) -> Plan
-        requires { IsLawful (plan_of text.items buses globals.items tasks.items) }
-        ensures { result ≡ plan_of text.items buses globals.items tasks.items }
+    /// The plan of these tasks, whose names stand in `text`, on so many buses with these sources of
+    /// events.
+    pub fn new(
+        text: Vec<u8>,
+        buses: u8,
+        sources: Vec<BoundSource>,
+        globals: Vec<Global>,
+        tasks: Vec<Task>,
+    ) -> Plan
+        requires { IsLawful (plan_of text.items buses sources.items globals.items tasks.items) }
+        ensures { result ≡ plan_of text.items buses sources.items globals.items tasks.items }
     {
         Plan {
             text,
             buses,
+            sources,
             globals,
             tasks,
         }
@@ -70,6 +86,13 @@ impl Plan {
         self.buses
     }
 
+    /// The sources of events that are bound, each at a place of a bus.
+    pub fn sources(&self) -> &[BoundSource]
+        ensures value { result.now ≡ self.now.sources }
+    {
+        &self.sources
+    }
+
     /// How many tasks there are.
     pub fn tasks(&self) -> usize
         ensures value { result ≡ length self.now.tasks }
@@ -82,6 +105,9 @@ impl Plan {
         requires { task < length self.now.tasks }
         ensures value { slice_get self.now.tasks task ≡ Some result.now }
         ensures limits { KeepsLimits result.now }
+        ensures declared { IsTaskOf self.now.globals result.now }
+        // A trigger is BOOL, so that it may be TRUE.
+        ensures typed { AreOf (first_values result.now) (types_of result.now) }
     {
         let task = &self.tasks[task];
         let _instances = task.instances();
@@ -99,28 +125,45 @@ impl Plan {
     /// Whether an event starts a task, and not the clock.
     pub fn is_event(&self, task: usize) -> bool
         requires { task < length self.now.tasks }
-        ensures value { option_map (λ t. t.event) (slice_get self.now.tasks task) ≡ Some result }
+        ensures value { option_map (λ t. is_event t.activation) (slice_get self.now.tasks task)
+            ≡ Some result }
     {
-        self.task(task).is_event()
+        self.task(task).activation().is_event()
     }
 
     /// The name of a task's slot, as declared.
     pub fn slot_name(&self, task: usize, slot: usize) -> SlotName<'_>
         requires task { task < length self.now.tasks }
         requires slot { IfSome (slice_get self.now.tasks task) (λ t. slot < length t.slots) }
-        ensures instance { option_map (λ s. text_of self.now.text s.instance)
-            (slot_at self.now task slot) ≡ Some result.instance.bytes.now }
-        ensures variable { option_map (λ s. text_of self.now.text s.variable)
+        ensures instance { option_map (λ s. instance_name self.now s.variable)
+            (slot_at self.now task slot)
+            ≡ Some (option_map (λ name. name.bytes.now) result.instance) }
+        ensures variable { option_and_then (λ s. variable_name self.now s.variable)
             (slot_at self.now task slot) ≡ Some result.variable.bytes.now }
     {
-        let slots = self.task(task).slots();
-        let slot = slots[slot];
-        SlotName {
-            instance: DeclaredName {
-                bytes: slot.instance.text(&self.text),
+        let slot = self.task(task).slots()[slot];
+        self.variable_name(slot.variable)
+    }
+
+    /// The name of a variable, as declared.
+    fn variable_name(&self, variable: Variable) -> SlotName<'_>
+        requires { IsThere self.now.globals variable }
+        ensures instance { instance_name self.now variable
+            ≡ option_map (λ name. name.bytes.now) result.instance }
+        ensures variable { variable_name self.now variable ≡ Some result.variable.bytes.now }
+    {
+        match variable {
+            Variable::Global(number) => SlotName {
+                instance: None,
+                variable: self.global_name(number),
             },
-            variable: DeclaredName {
-                bytes: slot.variable.text(&self.text),
+            Variable::Own { instance, name } => SlotName {
+                instance: Some(DeclaredName {
+                    bytes: instance.text(&self.text),
+                }),
+                variable: DeclaredName {
+                    bytes: name.text(&self.text),
+                },
             },
         }
     }
@@ -132,14 +175,22 @@ impl Plan {
         self.globals.len()
     }
 
+    /// The global variable of this number.
+    pub fn global(&self, global: usize) -> &Global
+        requires { global < length self.now.globals }
+        ensures value { slice_get self.now.globals global ≡ Some result.now }
+    {
+        &self.globals[global]
+    }
+
     /// The name of a global variable, as declared.
     pub fn global_name(&self, global: usize) -> DeclaredName<'_>
         requires { global < length self.now.globals }
-        ensures value { option_map (text_of self.now.text) (slice_get self.now.globals global)
-            ≡ Some result.bytes.now }
+        ensures value { option_map (λ g. text_of self.now.text g.name)
+            (slice_get self.now.globals global) ≡ Some result.bytes.now }
     {
         DeclaredName {
-            bytes: self.globals[global].text(&self.text),
+            bytes: self.globals[global].name.text(&self.text),
         }
     }
 }

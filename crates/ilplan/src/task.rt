@@ -1,7 +1,12 @@
 //! Tasks.
 
+use crate::activation::Activation;
 use crate::constants::Constants;
-use crate::instance::{FunctionBlock, Instance, Slot};
+use crate::instance::{FunctionBlock, Instance};
+use crate::slot::{Slot, Variable};
+use crate::stored::stored_slots;
+use iltypes::Value;
+use std::alloc::{AllocError, Global};
 use std::marker::Model;
 
 /// A task: its instances, which run in order, their variables and their constants. It keeps the
@@ -9,21 +14,25 @@ use std::marker::Model;
 #[derive(Drop)]
 pub struct Task {
     name: String,
-    event: bool,
+    activation: Activation,
+    priority: u16,
     slots: Vec<Slot>,
     blocks: Vec<FunctionBlock>,
     constants: Constants,
     instances: Vec<Instance>,
+    /// For each slot whether a line stores to it.
+    stored: Vec<bool>,
 }
 
 impl Model for Task {
-    ghost use Rattle.std.specs.Prelude.{string_bytes, List};
+    ghost use Rattle.std.specs.Prelude.{string_bytes, length, List};
     ghost use Rattle.ilplan.specs.declared.place.Place.{Place};
     ghost use Rattle.std.specs.Coded.{codes, code_by};
     ghost use Rattle.iltrees.specs.declared.nested.Piece.{Piece};
     ghost use Rattle.iltrees.specs.Trees.{pieces_of};
     ghost use Rattle.iltrees.specs.TreeSteps.{tree_of, tree_again};
     ghost use Rattle.ilplan.specs.Plans.{PlannedTask, KeepsLimits, task_of};
+    ghost use Rattle.ilplan.specs.StoreSteps.{AreStored};
 
     ghost Value = { PlannedTask };
 
@@ -32,40 +41,50 @@ impl Model for Task {
       code_by (List (Piece Place)) (Prim.hlevel codes) pieces_of tree_of tree_again,
     ) };
 
-    ghost view = { λ t. task_of (string_bytes t.name) t.event t.slots.items t.blocks.items
-        t.constants
-        t.instances.items };
+    ghost view = { λ t. task_of (string_bytes t.name) t.activation t.priority t.slots.items
+        t.blocks.items t.constants t.instances.items };
 
-    ghost invariant = { λ t. KeepsLimits (task_of (string_bytes t.name) t.event t.slots.items
-        t.blocks.items t.constants t.instances.items) };
+    ghost invariant = { λ t. KeepsLimits (task_of (string_bytes t.name) t.activation t.priority
+        t.slots.items t.blocks.items t.constants t.instances.items)
+        × AreStored t.instances.items (length t.slots.items) t.stored.items };
 }
 
 impl Task {
-    ghost use Rattle.std.specs.Prelude.{◌≡◌, string_bytes};
-    ghost use Rattle.ilplan.specs.Plans.{PlannedTask, KeepsLimits, task_of};
+    ghost use Rattle.std.specs.Prelude.{◌≡◌, ◌<◌, length, string_bytes, IfOk};
+    ghost use Rattle.ilplan.specs.Plans.{PlannedTask, KeepsLimits, task_of, stores};
+    ghost use Rattle.ilplan.specs.Plans.{first_value, first_values};
 
     /// The task of these parts, which keep the limits.
+    ///
+    /// # Errors
+    ///
+    /// The allocator is out of memory.
     pub fn new(
+        alloc: Global,
         name: String,
-        event: bool,
+        activation: Activation,
+        priority: u16,
         slots: Vec<Slot>,
         blocks: Vec<FunctionBlock>,
         constants: Constants,
         instances: Vec<Instance>,
-    ) -> Task
-        requires { KeepsLimits (task_of (string_bytes name) event slots.items blocks.items constants
-            instances.items) }
-        ensures { result ≡ task_of (string_bytes name) event slots.items blocks.items constants
-            instances.items }
+    ) -> Result<Task, AllocError>
+        requires { KeepsLimits (task_of (string_bytes name) activation priority slots.items
+            blocks.items constants instances.items) }
+        ensures { IfOk result (λ task. task ≡ task_of (string_bytes name) activation priority
+            slots.items blocks.items constants instances.items) }
     {
-        Task {
+        let stored = stored_slots(alloc, slots.len(), &instances)?;
+        Ok(Task {
             name,
-            event,
+            activation,
+            priority,
             slots,
             blocks,
             constants,
             instances,
-        }
+            stored,
+        })
     }
 
     /// The name, as declared.
@@ -75,18 +94,63 @@ impl Task {
         self.name.as_str()
     }
 
-    /// Whether an event starts the task, and not the clock.
-    pub fn is_event(&self) -> bool
-        ensures value { result ≡ self.now.event }
+    /// What starts the task.
+    pub fn activation(&self) -> Activation
+        ensures value { result ≡ self.now.activation }
     {
-        self.event
+        self.activation
     }
 
-    /// The variables of its instances, in declared order.
+    /// Its priority, of which 0 is the first.
+    pub fn priority(&self) -> u16
+        ensures value { result ≡ self.now.priority }
+    {
+        self.priority
+    }
+
+    /// Its variables: global ones in the order of their numbers, then those of its instances in
+    /// declared order.
     pub fn slots(&self) -> &[Slot]
         ensures value { result.now ≡ self.now.slots }
     {
         &self.slots
+    }
+
+    /// Whether some line of the task, reached or not, stores to the slot of this number, sets it or
+    /// resets it.
+    pub fn stores(&self, slot: usize) -> bool
+        requires { slot < length self.now.slots }
+        ensures value { result ≡ stores self.now slot }
+    {
+        self.stored[slot]
+    }
+
+    /// What a scan by hand begins from: the initial value of each slot, but TRUE at the trigger of
+    /// an event task.
+    ///
+    /// # Errors
+    ///
+    /// The allocator is out of memory.
+    pub fn first_values(&self, alloc: Global) -> Result<Vec<Value>, AllocError>
+        ensures { IfOk result (λ values. values.items ≡ first_values self.now) }
+    {
+        let mut values = Vec::new(alloc);
+        for slot in &self.slots {
+            values.push(self.first_value(slot))?;
+        }
+        Ok(values)
+    }
+
+    /// What a scan by hand begins from in a slot.
+    fn first_value(&self, slot: &Slot) -> Value
+        ensures { result ≡ first_value self.now slot.now }
+    {
+        match (self.activation, slot.variable) {
+            (Activation::Event { trigger }, Variable::Global(number)) if trigger == number => {
+                Value::Bool(true)
+            }
+            _ => slot.initial,
+        }
     }
 
     /// The block instances of its program instances, in declared order.

@@ -14,7 +14,7 @@ use Rattle.ilscope.specs.ScopeSteps.{AreAllNumbers, AreNumbersOf}
 use Rattle.ilscope.specs.Tables.{first_at, lowered}
 use Rattle.ilscope.proofs.LeastOfDeclarations.{some_of}
 use Rattle.ilscope.proofs.Numbered.{found_some, some_found}
-use Rattle.ilscope.proofs.WholeScope.{spelled_is}
+use Rattle.ilscope.proofs.FilledTables.{spelled_is}
 
 module _ (spelled : Name → List ℕ) (names : DeclaredProgram → List Name) where
   -- there is a table for each program

@@ -43,6 +43,16 @@ both_least P Q (Some g) (Some f) h k = two (comes_before f g) refl
               (is_not_before f g e) (k.least place cause y)) q;
         }
 
+-- the same of two parts with one cause
+pub either_least : (its : NameCause) (P Q : ℕ → Type 0) (a b : Option Found) →
+    IsLeastOf (OfCause its P) a → IsLeastOf (OfCause its Q) b →
+    IsLeastOf (OfCause its (λ place. P place ⊎ Q place)) (lesser_of_two a b)
+either_least its P Q a b h k =
+    best_same _ _ (lesser_of_two a b)
+    (λ place cause s. or_else (λ p. (p.0, inl p.1)) (λ q. (q.0, inr q.1)) s)
+    (λ place cause s. or_else (λ p. inl (s.0, p)) (λ q. inr (s.0, q)) s.1)
+    (both_least (OfCause its P) (OfCause its Q) a b h k)
+
 pub some_front : {X : Type 0} (P : X → Type 0) (xs : List X) (x : X) → SomeOf P xs → SomeOf P (xs ++ x ∷ [])
 some_front P [] x s = absurd s
 some_front P (y ∷ ys) x (inl p) = inl p

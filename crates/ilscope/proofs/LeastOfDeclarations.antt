@@ -1,6 +1,7 @@
 -- The least fault that a scope gathers is the least of its declarations, and is what it reports.
-use Rattle.std.proofs.Common.{◌≡◌, ℕ, List, [], ◌∷◌, map, refl, sym, subst, ◌⊎◌, inl, inr}
+use Rattle.std.proofs.Common.{◌≡◌, ℕ, List, [], ◌∷◌, refl, sym, subst, ◌⊎◌, inl, inr}
 use Rattle.std.specs.Prelude.{Option, Some, None, MatchOption}
+use Rattle.ilsource.specs.Configurations.{DeclaredGlobals}
 use Rattle.ilsource.specs.Names.{folded}
 use Rattle.ilsource.specs.Programs.{DeclaredNames}
 use Rattle.ilsource.specs.Trees.{Tree, programs_of}
@@ -8,16 +9,19 @@ use Rattle.ilsource.specs.declared.declaration.TypeDeclaration.{TypeDeclaration}
 use Rattle.ilsource.specs.declared.name.Name.{Name}
 use Rattle.ilsource.specs.declared.source.Element.{Element}
 use Rattle.ilsource.specs.declared.source.Element.TheVariants.{DerivedType, Program}
-use Rattle.ilscope.specs.DataTypes.{types_below}
-use Rattle.ilscope.specs.Declarations.{Standing, declarations_in, name_of, names_of, standing}
+use Rattle.ilscope.specs.Configured.{as_variables, declared_globals_of, types_of_text}
+use Rattle.ilscope.specs.DataTypes.{TypeNames, types_below}
+use Rattle.ilscope.specs.Declarations.{Standing, declarations_in, names_of, standing}
 use Rattle.ilscope.specs.Faults.{SomeOf, IsBadIn, IsFaultOfDeclarations, IsLeast, IsLeastOf, IsTwiceIn, IsUnknownTypeIn}
-use Rattle.ilscope.specs.Faults.{OfCause}
 use Rattle.ilscope.specs.Order.{lesser_of_two}
 use Rattle.ilscope.specs.Reports.{IsReportOf, IsReportOfOption, ReportsLeast}
-use Rattle.ilscope.specs.ScopeSteps.{IsFaultIn, IsFaultOfElement, names_in}
+use Rattle.ilscope.specs.ScopeSteps.{IsFaultIn, IsFaultInElements, IsFaultInGlobals, IsFaultInTables, IsFaultOfElement}
+use Rattle.ilscope.specs.ScopeSteps.{IsFaultOfConfiguration, names_in}
+use Rattle.ilscope.specs.Scoped.{Scoped}
 use Rattle.ilscope.specs.declared.fault.NameCause.{NameCause}
-use Rattle.ilscope.specs.declared.fault.NameCause.TheVariants.{Unknown, Twice, UnknownLabel, BackwardJump}
-use Rattle.ilscope.specs.declared.fault.NameCause.TheVariants.{WritesInput, TooMany, BadDeclaration}
+use Rattle.ilscope.specs.declared.fault.NameCause.TheVariants.{Unknown, Twice, UnknownLabel, BackwardJump, BadAddress}
+use Rattle.ilscope.specs.declared.fault.NameCause.TheVariants.{InputRangeTooSmall, WrittenTwice, WritesInput, NoTask}
+use Rattle.ilscope.specs.declared.fault.NameCause.TheVariants.{TooMany, BadDeclaration}
 use Rattle.ilscope.specs.declared.fault.NameFault.{NameFault}
 use Rattle.ilscope.specs.declared.fault.NameFault.TheVariants.{Memory, At}
 use Rattle.ilscope.specs.declared.found.Found.{Found}
@@ -93,53 +97,104 @@ module _ (spelled : Name → List ℕ) (place : ℕ) where
       or_else (λ t. inl (t.0, inr t.1)) (λ r. inr (or_else (λ u. inl (u.0, inr u.1)) (λ b. inr (b.0, inr b.1)) r))
       (by_cause cause all s)
 
-abbrev spelled_in : Tree → Name → List ℕ
-spelled_in tree = folded tree.text
+-- what global variables declare, by cause
+module _ (types : TypeNames) (place : ℕ) where
+  abbrev IsUnknownGlobal : DeclaredGlobals → Type 0
+  IsUnknownGlobal d = IsUnknownTypeIn types place (as_variables d).declared
 
-abbrev all_in : Tree → List Standing
-all_in tree = standing [] tree.elements
+  abbrev IsBadGlobal : DeclaredGlobals → Type 0
+  IsBadGlobal d = IsBadIn types place (as_variables d)
 
--- the faults of declarations are those of elements, and the names of these that are given again
-pub all_declared : (tree : Tree) (within twice : Option Found) →
-    IsLeastOf (λ place cause. SomeOf (λ one. IsFaultOfElement (folded tree.text) one place cause)
-    (standing [] tree.elements)) within →
-    IsLeastOf (OfCause Twice (IsTwiceIn (folded tree.text) (map name_of tree.elements))) twice →
-    IsLeastOf (IsFaultOfDeclarations tree) (lesser_of_two within twice)
-all_declared tree within twice h k =
-    best_same _ (IsFaultOfDeclarations tree) (lesser_of_two within twice)
-    (λ place cause q. or_else (into place cause)
-    (λ t. subst (λ (c : NameCause). IsFaultOfDeclarations tree place c) (sym t.0) (inl t.1)) q)
-    from
-    (both_least (λ place cause. SomeOf (λ one. IsFaultOfElement (spelled_in tree) one place cause) (all_in tree))
-    (OfCause Twice (IsTwiceIn (spelled_in tree) (map name_of tree.elements)))
-    within twice h k)
-  where
-    into : (place : ℕ) (cause : NameCause)
-        → SomeOf (λ one. IsFaultOfElement (spelled_in tree) one place cause) (all_in tree)
-        → IsFaultOfDeclarations tree place cause
-    into place cause s =
-        or_else
-        (λ t. subst (λ (c : NameCause). IsFaultOfDeclarations tree place c) (sym t.0)
-        (inr (to_programs (spelled_in tree) place [] tree.elements t.1)))
-        (λ r. or_else
-        (λ t. subst (λ (c : NameCause). IsFaultOfDeclarations tree place c) (sym t.0) t.1)
-        (λ t. subst (λ (c : NameCause). IsFaultOfDeclarations tree place c) (sym t.0) t.1) r)
-        (by_cause (spelled_in tree) place cause (all_in tree) s)
+  globals_by_cause : (cause : NameCause) (all : List DeclaredGlobals)
+      → SomeOf (λ d. IsFaultIn types (as_variables d) place cause) all →
+      ((cause ≡ Unknown) × SomeOf IsUnknownGlobal all) ⊎ ((cause ≡ BadDeclaration) × SomeOf IsBadGlobal all)
+  globals_by_cause cause all s =
+      or_else (λ u. inl (some_one IsUnknownGlobal all u)) (λ b. inr (some_one IsBadGlobal all b))
+      (some_either (λ d. (cause ≡ Unknown) × IsUnknownGlobal d) (λ d. (cause ≡ BadDeclaration) × IsBadGlobal d) all s)
 
-    from : (place : ℕ) (cause : NameCause) → IsFaultOfDeclarations tree place cause →
-        SomeOf (λ one. IsFaultOfElement (spelled_in tree) one place cause) (all_in tree)
-        ⊎ OfCause Twice (IsTwiceIn (spelled_in tree) (map name_of tree.elements)) place cause
-    from place Unknown s =
-        inl (some_of (λ one t. inr (some_of (λ d u. inl (refl, u)) (declarations_in one.element) t)) (all_in tree) s)
-    from place Twice (inl t) = inr (refl, t)
-    from place Twice (inr s) =
-        inl (some_of (λ one t. inl (refl, t)) (all_in tree) (from_programs (spelled_in tree) place [] tree.elements s))
-    from place UnknownLabel s = absurd s
-    from place BackwardJump s = absurd s
-    from place WritesInput s = absurd s
-    from place TooMany s = absurd s
-    from place BadDeclaration s =
-        inl (some_of (λ one t. inr (some_of (λ d b. inr (refl, b)) (declarations_in one.element) t)) (all_in tree) s)
+-- the faults of declarations are those that are found while tables are filled, and those of the configuration
+module _ (scoped : Scoped) where
+  abbrev tree : Tree
+  tree = scoped.tree
+
+  abbrev IsFault : ℕ → NameCause → Type 0
+  IsFault = IsFaultOfDeclarations scoped.tree scoped.wiring
+
+  -- a fault with this cause is one with a cause that it is equal to
+  of_its : (place : ℕ) (cause its : NameCause) → cause ≡ its → IsFault place its → IsFault place cause
+  of_its place cause its e f = subst (λ (c : NameCause). IsFault place c) (sym e) f
+
+  elements_are : (place : ℕ) (cause : NameCause) → IsFaultInElements tree place cause → IsFault place cause
+  elements_are place cause s =
+      or_else
+      (λ t. of_its place cause Twice t.0 (inr (inl (to_programs (folded tree.text) place [] tree.elements t.1))))
+      (λ r. or_else
+      (λ u. of_its place cause Unknown u.0 (inl (inl u.1)))
+      (λ b. of_its place cause BadDeclaration b.0 (inl (inl b.1))) r)
+      (by_cause (folded tree.text) place cause (standing [] tree.elements) s)
+
+  tables_are : (place : ℕ) (cause : NameCause) → IsFaultInTables tree place cause → IsFault place cause
+  tables_are place cause (inl s) = elements_are place cause s
+  tables_are place cause (inr (e, inl t)) = of_its place cause Twice e (inl t)
+  tables_are place cause (inr (e, inr (inl t))) = of_its place cause Twice e (inr (inr (inl t)))
+  tables_are place cause (inr (e, inr (inr t))) = of_its place cause Twice e (inr (inr (inr (inl t))))
+
+  globals_are : (place : ℕ) (cause : NameCause) → IsFaultInGlobals tree place cause → IsFault place cause
+  globals_are place cause s =
+      or_else
+      (λ u. of_its place cause Unknown u.0 (inl (inr u.1)))
+      (λ b. of_its place cause BadDeclaration b.0 (inl (inr b.1)))
+      (globals_by_cause (types_of_text tree) place cause (declared_globals_of tree) s)
+
+  configured_are : (place : ℕ) (cause : NameCause) → IsFaultOfConfiguration scoped place cause → IsFault place cause
+  configured_are place cause (inl (inl s)) = globals_are place cause s
+  configured_are place cause (inl (inr s)) = of_its place cause Unknown s.0 (inr s.1)
+  configured_are place cause (inr (inl (inl s))) = of_its place cause Twice s.0 (inr (inr (inr (inr s.1))))
+  configured_are place cause (inr (inl (inr s))) = of_its place cause BadDeclaration s.0 (inr s.1)
+  configured_are place cause (inr (inr (inl (inl s)))) = of_its place cause BadAddress s.0 s.1
+  configured_are place cause (inr (inr (inl (inr (inl s))))) = of_its place cause InputRangeTooSmall s.0 s.1
+  configured_are place cause (inr (inr (inl (inr (inr s))))) = of_its place cause WritesInput s.0 s.1
+  configured_are place cause (inr (inr (inr s))) = of_its place cause NoTask s.0 s.1
+
+  abbrev IsFound : ℕ → NameCause → Type 0
+  IsFound place cause = IsFaultInTables tree place cause ⊎ IsFaultOfConfiguration scoped place cause
+
+  are_found : (place : ℕ) (cause : NameCause) → IsFault place cause → IsFound place cause
+  are_found place Unknown (inl (inl s)) =
+      inl (inl (some_of (λ one t. inr (some_of (λ d u. inl (refl, u)) (declarations_in one.element) t))
+      (standing [] tree.elements) s))
+  are_found place Unknown (inl (inr s)) =
+      inr (inl (inl (some_of (λ d u. inl (refl, u)) (declared_globals_of tree) s)))
+  are_found place Unknown (inr s) = inr (inl (inr (refl, s)))
+  are_found place Twice (inl t) = inl (inr (refl, inl t))
+  are_found place Twice (inr (inl s)) =
+      inl (inl (some_of (λ one t. inl (refl, t)) (standing [] tree.elements)
+      (from_programs (folded tree.text) place [] tree.elements s)))
+  are_found place Twice (inr (inr (inl t))) = inl (inr (refl, inr (inl t)))
+  are_found place Twice (inr (inr (inr (inl t)))) = inl (inr (refl, inr (inr t)))
+  are_found place Twice (inr (inr (inr (inr t)))) = inr (inr (inl (inl (refl, t))))
+  are_found place UnknownLabel s = absurd s
+  are_found place BackwardJump s = absurd s
+  are_found place BadAddress s = inr (inr (inr (inl (inl (refl, s)))))
+  are_found place InputRangeTooSmall s = inr (inr (inr (inl (inr (inl (refl, s))))))
+  are_found place WrittenTwice s = absurd s
+  are_found place WritesInput s = inr (inr (inr (inl (inr (inr (refl, s))))))
+  are_found place NoTask s = inr (inr (inr (inr (refl, s))))
+  are_found place TooMany s = absurd s
+  are_found place BadDeclaration (inl (inl s)) =
+      inl (inl (some_of (λ one t. inr (some_of (λ d b. inr (refl, b)) (declarations_in one.element) t))
+      (standing [] tree.elements) s))
+  are_found place BadDeclaration (inl (inr s)) =
+      inr (inl (inl (some_of (λ d b. inr (refl, b)) (declared_globals_of tree) s)))
+  are_found place BadDeclaration (inr s) = inr (inr (inl (inr (refl, s))))
+
+  pub all_declared : (found configured : Option Found) → IsLeastOf (IsFaultInTables tree) found →
+      IsLeastOf (IsFaultOfConfiguration scoped) configured → IsLeastOf IsFault (lesser_of_two found configured)
+  all_declared found configured h k =
+      best_same IsFound IsFault (lesser_of_two found configured)
+      (λ place cause s. or_else (tables_are place cause) (configured_are place cause) s)
+      are_found
+      (both_least (IsFaultInTables tree) (IsFaultOfConfiguration scoped) found configured h k)
 
 pub reports_least : (text : List ℕ) (F : ℕ → NameCause → Type 0) (f : Found) (fault : NameFault)
     → IsLeast F f.at f.cause → IsReportOf text f fault →

@@ -162,26 +162,26 @@ with_any P [] q s = absurd s
 with_any P (x ∷ xs) q (inl p) = inl (p, q)
 with_any P (x ∷ xs) q (inr s) = inr (with_any P xs q s)
 
--- names that are given again, with one name more: it is known where one before it is spelled alike
-pub twice_last : (spelled : Name → List ℕ) (front : List Name) (x : Name) (Known : Type 0) (a b : Option Found)
-    → (Known → SomeOf (λ m. spelled m ≡ spelled x) front) → (SomeOf (λ m. spelled m ≡ spelled x) front → Known)
-    → IsLeastOf (OfCause Twice (IsTwiceIn spelled front)) a
-    → IsLeastOf (OfCause Twice (λ place. Known × (place ≡ x.from))) b
-    → IsLeastOf (OfCause Twice (IsTwiceIn spelled (front ++ x ∷ []))) (lesser_of_two a b)
-twice_last spelled front x Known a b to from h k =
-    best_same _ _ (lesser_of_two a b)
-    (λ place cause q.
-    or_else (λ s. (s.0, later_front (λ e m. (spelled e ≡ spelled m) × (place ≡ m.from)) front x s.1))
-    (λ s. (
-      s.0,
-      later_at (λ e m. (spelled e ≡ spelled m) × (place ≡ m.from)) front x []
-          (with_any (λ m. spelled m ≡ spelled x) front s.1.1 (to s.1.0)),
-    )) q)
-    (λ place cause s.
-    or_else (λ r. inl (s.0, r))
-    (λ r. let u = some_any (λ m. spelled m ≡ spelled x) front r in inr (s.0, (from u.0, u.1)))
-    (later_append (λ e m. (spelled e ≡ spelled m) × (place ≡ m.from)) front x s.1))
-    (both_least (OfCause Twice (IsTwiceIn spelled front)) (OfCause Twice (λ place. Known × (place ≡ x.from))) a b h k)
+-- what is given again, with one element more: it is known where one before it is the same
+module _ {X : Type 0} (Same : X → X → Type 0) (place_of : X → ℕ) where
+  abbrev Again : X → X → ℕ → Type 0
+  Again earlier later place = Same earlier later × (place ≡ place_of later)
+
+  pub twice_last : (front : List X) (x : X) (Known : Type 0) (a b : Option Found)
+      → (Known → SomeOf (λ m. Same m x) front) → (SomeOf (λ m. Same m x) front → Known)
+      → IsLeastOf (OfCause Twice (λ place. SomeLater (λ e l. Again e l place) front)) a
+      → IsLeastOf (OfCause Twice (λ place. Known × (place ≡ place_of x))) b
+      → IsLeastOf (OfCause Twice (λ place. SomeLater (λ e l. Again e l place) (front ++ x ∷ []))) (lesser_of_two a b)
+  twice_last front x Known a b to from h k =
+      best_same _ _ (lesser_of_two a b)
+      (λ place cause q.
+      or_else (λ s. (s.0, later_front (λ e l. Again e l place) front x s.1))
+      (λ s. (s.0, later_at (λ e l. Again e l place) front x [] (with_any (λ m. Same m x) front s.1.1 (to s.1.0)))) q)
+      (λ place cause s.
+      or_else (λ r. inl (s.0, r)) (λ r. let u = some_any (λ m. Same m x) front r in inr (s.0, (from u.0, u.1)))
+      (later_append (λ e l. Again e l place) front x s.1))
+      (both_least (OfCause Twice (λ place. SomeLater (λ e l. Again e l place) front))
+      (OfCause Twice (λ place. Known × (place ≡ place_of x))) a b h k)
 
 module _ (spelled : Name → List ℕ) (ns : List Name) (i : ℕ) (d : Name) (below : i < length ns) where
   -- the faults of names that are given again, with one name more
@@ -202,4 +202,5 @@ module _ (spelled : Name → List ℕ) (ns : List Name) (i : ℕ) (d : Name) (be
       in
       subst (λ (ms : List Name). IsLeastOf (OfCause Twice (IsTwiceIn spelled ms)) (lesser_of_two a b))
       (sym (take_more ns i x below (get_or_default ns i d x below)))
-      (twice_last spelled front x (IsSome (lookup (bytes_eq (spelled x)) table)) a b to from h k)
+      (twice_last (λ m n. spelled m ≡ spelled n) (λ n. n.from) front x (IsSome (lookup (bytes_eq (spelled x)) table))
+      a b to from h k)

@@ -7,7 +7,9 @@ use Rattle.ilscope.specs.Faults.{IsNotAfter, IsLeast, IsLeastOf}
 use Rattle.ilscope.specs.Reports.{ReportsLeast}
 use Rattle.ilscope.specs.declared.fault.NameCause.{NameCause}
 use Rattle.ilscope.specs.declared.fault.NameCause.TheVariants.{Unknown, Twice, UnknownLabel, BackwardJump}
-use Rattle.ilscope.specs.declared.fault.NameCause.TheVariants.{WritesInput, TooMany, BadDeclaration}
+use Rattle.ilscope.specs.declared.fault.NameCause.TheVariants.{BadAddress, InputRangeTooSmall, WrittenTwice}
+use Rattle.ilscope.specs.declared.fault.NameCause.TheVariants.{WritesInput}
+use Rattle.ilscope.specs.declared.fault.NameCause.TheVariants.{NoTask, TooMany, BadDeclaration}
 use Rattle.ilscope.specs.declared.fault.NameFault.{NameFault}
 use Rattle.ilscope.specs.declared.fault.NameFault.TheVariants.{Memory, At}
 use Rattle.ilscope.specs.declared.found.Found.{Found}
@@ -16,14 +18,20 @@ use Rattle.ilscope.specs.declared.found.Found.{Found}
 abbrev cause_of : ℕ → NameCause
 cause_of n =
     if n == 2 then Unknown else if n == 3 then Twice else if n == 4 then UnknownLabel
-    else if n == 5 then BackwardJump else if n == 9 then WritesInput else if n == 11 then TooMany else BadDeclaration
+    else if n == 5 then BackwardJump else if n == 6 then BadAddress else if n == 7 then InputRangeTooSmall
+    else if n == 8 then WrittenTwice else if n == 9 then WritesInput else if n == 10 then NoTask
+    else if n == 11 then TooMany else BadDeclaration
 
 cause_again : (c : NameCause) → cause_of (number_of c) ≡ c
 cause_again Unknown = refl
 cause_again Twice = refl
 cause_again UnknownLabel = refl
 cause_again BackwardJump = refl
+cause_again BadAddress = refl
+cause_again InputRangeTooSmall = refl
+cause_again WrittenTwice = refl
 cause_again WritesInput = refl
+cause_again NoTask = refl
 cause_again TooMany = refl
 cause_again BadDeclaration = refl
 

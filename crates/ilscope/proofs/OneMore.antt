@@ -14,12 +14,12 @@ use Rattle.ilsource.specs.declared.source.Element.{Element}
 use Rattle.ilsource.specs.declared.source.Element.TheVariants as elements
 use Rattle.ilscope.specs.DataTypes.{TypeNames, declared_type, types_below}
 use Rattle.ilscope.specs.Declarations.{DeclaredProgram, Standing, above_next, declared_program, names_of, standing}
-use Rattle.ilscope.specs.Declarations.{blocks_of, variables_of, with_declared}
+use Rattle.ilscope.specs.Declarations.{blocks_of, externals_of, variables_of, with_declared}
 use Rattle.ilscope.specs.Faults.{IsLeastOf, IsTwiceIn, OfCause, SomeOf}
 use Rattle.ilscope.specs.Kept.{Kept, types_in, with_new}
 use Rattle.ilscope.specs.Order.{lesser_of_two}
 use Rattle.ilscope.specs.ScopeSteps.{AreAllNumbers, AreNumbersOf, IsFaultIn, IsFaultOfElement, IsGathered}
-use Rattle.ilscope.specs.ScopeSteps.{above_all, block_names, variable_names}
+use Rattle.ilscope.specs.ScopeSteps.{above_all, block_names, external_names, variable_names}
 use Rattle.ilscope.specs.declared.data_type.DataType.{DataType}
 use Rattle.ilscope.specs.declared.fault.NameCause.TheVariants.{Twice}
 use Rattle.ilscope.specs.declared.found.Found.{Found}
@@ -76,14 +76,15 @@ declaration_of type =
 
 -- what is gathered, with one type more
 pub type_added : (lower : List ℕ) (front : List Element) (types new : Kept (Option DataType))
-    (programs : List DeclaredProgram) (variables blocks : List (Kept ℕ))
+    (programs : List DeclaredProgram) (variables blocks externals : List (Kept ℕ))
     (least fault : Option Found) (type : TypeDeclaration) (meaning : Option DataType) →
-    IsGathered lower front types programs variables blocks least →
+    IsGathered lower front types programs variables blocks externals least →
     IsLeastOf (IsFaultIn (types_in lower types) (declaration_of type)) fault →
     meaning ≡ declared_type (types_in lower types) type.specification type.initial →
     new ≡ with_new types (text_of lower type.name) meaning →
-    IsGathered lower (front ++ elements.DerivedType type ∷ []) new programs variables blocks (lesser_of_two least fault)
-type_added lower front types new programs variables blocks least fault type meaning h f m e =
+    IsGathered lower (front ++ elements.DerivedType type ∷ []) new programs variables blocks externals
+    (lesser_of_two least fault)
+type_added lower front types new programs variables blocks externals least fault type meaning h f m e =
     let spelled = text_of lower in
     let above : List TypeDeclaration = above_all [] front in
     let same : types_in lower types ≡ types_below spelled above = λ i name. h.meant name i in
@@ -107,6 +108,7 @@ type_added lower front types new programs variables blocks least fault type mean
           ∙ sym (programs_more spelled front (elements.DerivedType type));
       variables_numbered = h.variables_numbered;
       blocks_numbered = h.blocks_numbered;
+      externals_numbered = h.externals_numbered;
       fault =
           faults_more spelled front (elements.DerivedType type) least fault h.fault
           (best_same _ _ fault (λ place cause p. inr (inl p))
@@ -125,21 +127,23 @@ numbers_last spelled names (p ∷ ps) (n ∷ ns) program table h k =
 
 -- what is gathered, with one program more
 pub program_added : (lower : List ℕ) (front : List Element) (types : Kept (Option DataType))
-    (programs : List DeclaredProgram) (variables blocks : List (Kept ℕ))
-    (least twice fault : Option Found) (declared : DeclaredProgram) (its_variables its_blocks : Kept ℕ) →
-    IsGathered lower front types programs variables blocks least →
+    (programs : List DeclaredProgram) (variables blocks externals : List (Kept ℕ))
+    (least twice fault : Option Found) (declared : DeclaredProgram) (its_variables its_blocks its_externals : Kept ℕ) →
+    IsGathered lower front types programs variables blocks externals least →
     declared.variables ≡ variables_of (types_in lower types) declared.program →
     declared.blocks ≡ blocks_of declared.program →
+    declared.externals ≡ externals_of (types_in lower types) declared.program →
     AreNumbersOf (text_of lower) (variable_names declared) its_variables →
     AreNumbersOf (text_of lower) (block_names declared) its_blocks →
+    AreNumbersOf (text_of lower) (external_names declared) its_externals →
     IsLeastOf (OfCause Twice (IsTwiceIn (text_of lower) (names_of declared.program))) twice →
     IsLeastOf (λ place cause. SomeOf (λ d. IsFaultIn (types_in lower types) d place cause)
     declared.program.declarations) fault →
     IsGathered lower (front ++ elements.Program declared.program ∷ []) types (programs ++ declared ∷ [])
-    (variables ++ its_variables ∷ []) (blocks ++ its_blocks ∷ [])
+    (variables ++ its_variables ∷ []) (blocks ++ its_blocks ∷ []) (externals ++ its_externals ∷ [])
     (lesser_of_two least (lesser_of_two twice fault))
-program_added lower front types programs variables blocks least twice fault declared its_variables its_blocks h v b n m
-    t f =
+program_added lower front types programs variables blocks externals least twice fault declared its_variables its_blocks
+    its_externals h v b x n m o t f =
     let spelled = text_of lower in
     let above : List TypeDeclaration = above_all [] front in
     let element : Element = elements.Program declared.program in
@@ -149,6 +153,7 @@ program_added lower front types programs variables blocks least twice fault decl
       program = declared.program;
       variables = (v ∙ ap (λ (t : TypeNames). variables_of t declared.program) same) i;
       blocks = b i;
+      externals = (x ∙ ap (λ (t : TypeNames). externals_of t declared.program) same) i;
     }
     in
     record {
@@ -158,6 +163,8 @@ program_added lower front types programs variables blocks least twice fault decl
       variables_numbered =
           numbers_last spelled variable_names programs variables declared its_variables h.variables_numbered n;
       blocks_numbered = numbers_last spelled block_names programs blocks declared its_blocks h.blocks_numbered m;
+      externals_numbered =
+          numbers_last spelled external_names programs externals declared its_externals h.externals_numbered o;
       fault =
           faults_more spelled front element least (lesser_of_two twice fault) h.fault
           (both_least (OfCause Twice (IsTwiceIn spelled (names_of declared.program)))

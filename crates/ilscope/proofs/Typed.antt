@@ -3,7 +3,7 @@ use Rattle.std.proofs.Common.{◌≡◌, ℕ, zero, suc, ℤ, pos, ◌≤ℤ◌,
 use Rattle.std.proofs.Math.Dec.{T}
 use Rattle.std.proofs.lemmas.Int.{ints}
 use Rattle.std.proofs.lemmas.List.Elements.{All-append, All-map, All-nil}
-use Rattle.std.specs.Prelude.{Option, Some, None, IfSome, All, bytes_eq, int_le, ◌&&◌, filter_map, flat_map}
+use Rattle.std.specs.Prelude.{Option, Some, None, IfSome, All, bytes_eq, int_le, ◌&&◌, filter_map, flat_map, reverse}
 use Rattle.std.specs.Prelude.{option_and_then, option_map, unwrap_or, if◌then◌else◌}
 use Rattle.std.specs.Option.{option_or}
 use Rattle.std.specs.Ordering.{int_eq}
@@ -18,7 +18,9 @@ use Rattle.iloperators.specs.declared.function.IntegerType.{IntegerType}
 use Rattle.iloperators.specs.declared.function.IntegerType.TheVariants as integers
 use Rattle.ilsource.specs.Names.{folded}
 use Rattle.ilsource.specs.Programs.{DeclaredNames}
-use Rattle.ilsource.specs.Trees.{Tree}
+use Rattle.ilsource.specs.Configurations.{DeclaredGlobals}
+use Rattle.ilsource.specs.Trees.{Tree, types_of}
+use Rattle.ilsource.specs.declared.address.Address.{Address}
 use Rattle.ilsource.specs.declared.declaration.Constant.{Constant}
 use Rattle.ilsource.specs.declared.declaration.Constant.TheVariants as constants
 use Rattle.ilsource.specs.declared.declaration.Declared.{Declared}
@@ -29,11 +31,15 @@ use Rattle.ilsource.specs.declared.declaration.TypeDeclaration.{TypeDeclaration}
 use Rattle.ilsource.specs.declared.name.Name.{Name}
 use Rattle.ilsource.specs.declared.source.Element.{Element}
 use Rattle.ilsource.specs.declared.source.Element.TheVariants.{DerivedType, Program}
+use Rattle.ilscope.specs.Configured.{declared_globals_of, global, global_type, globals_in, globals_of, initial_at}
+use Rattle.ilscope.specs.Configured.{located_type}
+use Rattle.ilscope.specs.Configured.{types_of_text}
 use Rattle.ilscope.specs.DataTypes.{TypeNames, data_type, declared_type, number_in, range_if, truth_of, types_below}
 use Rattle.ilscope.specs.DataTypes.{value_in, whole_numbers, with_initial}
 use Rattle.ilscope.specs.Declarations.{DeclaredProgram, declared_program, declared_programs, standing, type_of}
 use Rattle.ilscope.specs.Declarations.{variable, variables_among, variables_in, with_declared}
 use Rattle.ilscope.specs.declared.data_type.DataType.{DataType}
+use Rattle.ilscope.specs.declared.global.DeclaredGlobal.{DeclaredGlobal}
 use Rattle.ilscope.specs.declared.variable.Variable.{Variable}
 use Rattle.ilscope.proofs.Subranges.{le_from}
 
@@ -53,7 +59,7 @@ numbers_typed low high first between = typed (int_le low high) (λ is. record { 
     typed true ordered = let h = between (ordered tt) in record { low = h.0; high = h.1 }
     typed false ordered = tt
 
-has_zero : (base : IntegerType) → (least_of base ≤ℤ pos 0) × (pos 0 ≤ℤ greatest_of base)
+pub has_zero : (base : IntegerType) → (least_of base ≤ℤ pos 0) × (pos 0 ≤ℤ greatest_of base)
 has_zero integers.Sint = (record { le = tt }, record { le = tt })
 has_zero integers.Int = (record { le = tt }, record { le = tt })
 has_zero integers.Dint = (record { le = tt }, record { le = tt })
@@ -160,6 +166,7 @@ among_typed : (above : TypeNames) → AreTyped above → (names : List Name) (de
 among_typed above h names (declared_as.Variables specification initial) =
     each (type_of above specification initial) (type_typed above h specification initial) names
 among_typed above h names (declared_as.Blocks kind) = All-nil IsTypedVariable
+among_typed above h names (declared_as.External specification) = All-nil IsTypedVariable
 
 variables_typed : (above : TypeNames) → AreTyped above → (declarations : List DeclaredNames)
     → All IsTypedVariable (flat_map (variables_in above) declarations)
@@ -188,6 +195,32 @@ programs_typed spelled above (Program p ∷ more) =
 -- each initial value is one of its variable's type
 pub declared_typed_programs : (tree : Tree) → All (λ p. All IsTypedVariable p.variables) (declared_programs tree)
 declared_typed_programs tree = programs_typed (folded tree.text) [] tree.elements
+
+-- the same of a global variable
+abbrev pub IsTypedGlobal : DeclaredGlobal → Type 0
+IsTypedGlobal global = IsOf global.initial global.value_type
+
+located_typed : (address : Option Address) (type : DataType) → IsTyped type → IsTyped (located_type address type)
+located_typed address type h = typed (with_initial (initial_at address) type) (with_typed (initial_at address) type h)
+  where
+    typed : (o : Option DataType) → IfSome o IsTyped → IsTyped (unwrap_or o type)
+    typed None k = h
+    typed (Some its) k = k
+
+globals_typed : (above : TypeNames) → AreTyped above → (declarations : List DeclaredGlobals)
+    → All IsTypedGlobal (flat_map (globals_in above) declarations)
+globals_typed above h [] = All-nil IsTypedGlobal
+globals_typed above h (d ∷ ds) =
+    All-append IsTypedGlobal (globals_in above d) (flat_map (globals_in above) ds)
+    (All-map IsTypedGlobal (global d.address (global_type above d)) d.names
+    (λ k n below. located_typed d.address (type_of above d.specification d.initial)
+    (type_typed above h d.specification d.initial)))
+    (globals_typed above h ds)
+
+pub declared_typed_globals : (tree : Tree) → All IsTypedGlobal (globals_of tree)
+declared_typed_globals tree =
+    globals_typed (types_of_text tree) (below_typed (folded tree.text) (reverse (types_of tree.elements)))
+    (declared_globals_of tree)
 
 -- so the initial values of some variables are of their types, one for each
 pub initials_are_of : (variables : List Variable) → All IsTypedVariable variables

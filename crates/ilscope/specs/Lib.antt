@@ -1,4 +1,6 @@
+pub mod AddressSteps
 pub mod Causes
+pub mod Configured
 pub mod DataTypes
 pub mod Declarations
 pub mod Faults
@@ -7,4 +9,5 @@ pub mod Order
 pub mod Printed
 pub mod Reports
 pub mod ScopeSteps
+pub mod Scoped
 pub mod Tables

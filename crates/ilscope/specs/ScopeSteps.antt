@@ -1,6 +1,7 @@
 -- What a scope keeps of a source program, and how it is gathered from its elements.
 use Rattle.std.specs.Prelude.{◌≡◌, ◌⊎◌, ℕ, List, [], ◌∷◌, bytes_eq, map, Option, filter_map, ⊤}
 use Rattle.std.specs.Map.{lookup}
+use Rattle.iltypes.specs.declared.value.IlType.{IlType}
 use Rattle.ilsource.specs.Names.{folded, text_of}
 use Rattle.ilsource.specs.Programs.{DeclaredNames}
 use Rattle.ilsource.specs.Trees.{Tree}
@@ -8,16 +9,25 @@ use Rattle.ilsource.specs.declared.declaration.TypeDeclaration.{TypeDeclaration}
 use Rattle.ilsource.specs.declared.name.Name.{Name}
 use Rattle.ilsource.specs.declared.source.Element.{Element}
 use Rattle.ilsource.specs.declared.source.Element.TheVariants.{DerivedType, Program}
+use Rattle.ilscope.specs.Configured.{addresses_of, as_variables, declared_globals_of, globals_of, instance_declarations}
+use Rattle.ilscope.specs.Configured.{task_declarations, types_of_text, value_types_of}
 use Rattle.ilscope.specs.DataTypes.{TypeNames, types_below}
 use Rattle.ilscope.specs.Declarations.{DeclaredProgram, Standing, above_next, declarations_in, declared_program}
-use Rattle.ilscope.specs.Declarations.{declared_programs, names_of, standing}
-use Rattle.ilscope.specs.Faults.{IsBadIn, IsFaultOfDeclarations, IsLeastOf, IsTwiceIn, IsUnknownTypeIn, OfCause, SomeOf}
+use Rattle.ilscope.specs.Declarations.{declared_programs, name_of, names_of, standing}
+use Rattle.ilscope.specs.Faults.{HasNoTask, IsAddressTwice, IsBadAddress, IsBadIn, IsBadTaskAt, IsBadlyLocated}
+use Rattle.ilscope.specs.Faults.{IsInputGiven}
+use Rattle.ilscope.specs.Faults.{IsInputTooSmall, IsLeastOf, IsNoTrigger, IsOtherExternal, IsTwiceIn, IsUnknownExternal}
+use Rattle.ilscope.specs.Faults.{IsUnknownProgram, IsUnknownTask, IsUnknownTrigger, IsUnknownTypeIn, OfCause, SomeOf}
 use Rattle.ilscope.specs.Kept.{Kept, types_in}
+use Rattle.ilscope.specs.Scoped.{Scoped}
 use Rattle.ilscope.specs.Tables.{first_at, lowered}
 use Rattle.ilscope.specs.declared.data_type.DataType.{DataType}
 use Rattle.ilscope.specs.declared.fault.NameCause.{NameCause}
-use Rattle.ilscope.specs.declared.fault.NameCause.TheVariants.{Unknown, Twice, BadDeclaration}
+use Rattle.ilscope.specs.declared.fault.NameCause.TheVariants.{Unknown, Twice, BadAddress, InputRangeTooSmall}
+use Rattle.ilscope.specs.declared.fault.NameCause.TheVariants.{WritesInput}
+use Rattle.ilscope.specs.declared.fault.NameCause.TheVariants.{NoTask, BadDeclaration}
 use Rattle.ilscope.specs.declared.found.Found.{Found}
+use Rattle.ilscope.specs.declared.global.DeclaredGlobal.{DeclaredGlobal}
 
 -- a fault of what one declaration says
 abbrev pub IsFaultIn : TypeNames → DeclaredNames → ℕ → NameCause → Type 0
@@ -44,6 +54,10 @@ variable_names program = map (λ v. v.name) program.variables
 abbrev pub block_names : DeclaredProgram → List Name
 block_names program = map (λ b. b.name) program.blocks
 
+-- the names of its externals
+abbrev pub external_names : DeclaredProgram → List Name
+external_names program = map (λ e. e.name) program.externals
+
 -- under each of these names the number of the first with that name is kept
 abbrev pub AreNumbersOf : (Name → List ℕ) → List Name → Kept ℕ → Type 0
 AreNumbersOf spelled names numbers =
@@ -62,23 +76,81 @@ abbrev pub above_all : List TypeDeclaration → List Element → List TypeDeclar
 above_all above [] = above
 above_all above (element ∷ more) = above_all (above_next above element) more
 
--- what is gathered from the elements up to a place: what the types mean, the programs with their variables and block
--- instances, for each program the numbers of the variables and those of the block instances, and the least fault
+-- what is gathered from the elements up to a place: what the types mean, the programs with what they declare, for each
+-- program the numbers of its variables, block instances and externals, and the least fault
 pub record IsGathered (lower : List ℕ) (front : List Element) (types : Kept (Option DataType))
-    (programs : List DeclaredProgram) (variables blocks : List (Kept ℕ)) (least : Option Found) : Type 0 where
+    (programs : List DeclaredProgram) (variables blocks externals : List (Kept ℕ)) (least : Option Found) : Type 0 where
   pub meant : (name : Name) → types_in lower types name ≡ types_below (text_of lower) (above_all [] front) name
   pub declared : programs ≡ filter_map (declared_program (text_of lower)) (standing [] front)
   pub variables_numbered : AreAllNumbers (text_of lower) variable_names programs variables
   pub blocks_numbered : AreAllNumbers (text_of lower) block_names programs blocks
+  pub externals_numbered : AreAllNumbers (text_of lower) external_names programs externals
   pub fault : IsLeastOf
       (λ place cause. SomeOf (λ one. IsFaultOfElement (text_of lower) one place cause) (standing [] front)) least
 
--- the parts of a scope: the text in lower case, the programs with their variables and block instances, for each program
--- the numbers of the variables and those of the block instances, and the least fault of declarations
-pub record IsScopeOf (tree : Tree) (lower : List ℕ) (programs : List DeclaredProgram) (variables blocks : List (Kept ℕ))
-    (least : Option Found) : Type 0 where
+-- what is kept of a text: the text in lower case, what its types mean, the programs with what they declare, for each
+-- program the numbers of its variables, block instances and externals, the global variables and their types, and the
+-- numbers of global variables, tasks and programs by their names
+pub record AreTablesOf (tree : Tree) (lower : List ℕ) (types : Kept (Option DataType)) (programs : List DeclaredProgram)
+    (variables blocks externals : List (Kept ℕ)) (globals : List DeclaredGlobal) (value_types : List (Option IlType))
+    (global_numbers task_numbers program_numbers : Kept ℕ) : Type 0 where
   pub text : lower ≡ lowered tree.text
+  pub meant : types_in lower types ≡ types_of_text tree
   pub declared : programs ≡ declared_programs tree
   pub variables_numbered : AreAllNumbers (folded tree.text) variable_names programs variables
   pub blocks_numbered : AreAllNumbers (folded tree.text) block_names programs blocks
-  pub fault : IsLeastOf (IsFaultOfDeclarations tree) least
+  pub externals_numbered : AreAllNumbers (folded tree.text) external_names programs externals
+  pub global_variables : globals ≡ globals_of tree
+  pub global_types : value_types ≡ value_types_of tree
+  pub globals_numbered : AreNumbersOf (folded tree.text) (map (λ g. g.name) (globals_of tree)) global_numbers
+  pub tasks_numbered : AreNumbersOf (folded tree.text) (map (λ t. t.name) (task_declarations tree)) task_numbers
+  pub programs_numbered :
+      AreNumbersOf (folded tree.text) (map (λ p. p.program.name) (declared_programs tree)) program_numbers
+
+-- ---- the faults of declarations, by the steps in which they are found
+
+-- those that are found while names are numbered
+abbrev pub IsTwiceNumbered : Tree → ℕ → Type 0
+IsTwiceNumbered tree place =
+    IsTwiceIn (folded tree.text) (map name_of tree.elements) place
+    ⊎ IsTwiceIn (folded tree.text) (map (λ g. g.name) (globals_of tree)) place
+    ⊎ IsTwiceIn (folded tree.text) (map (λ t. t.name) (task_declarations tree)) place
+
+abbrev pub IsFaultInElements : Tree → ℕ → NameCause → Type 0
+IsFaultInElements tree place cause =
+    SomeOf (λ one. IsFaultOfElement (folded tree.text) one place cause) (standing [] tree.elements)
+
+abbrev pub IsFaultInTables : Tree → ℕ → NameCause → Type 0
+IsFaultInTables tree place cause = IsFaultInElements tree place cause ⊎ OfCause Twice (IsTwiceNumbered tree) place cause
+
+-- the other faults of a configuration
+abbrev pub IsFaultInGlobals : Tree → ℕ → NameCause → Type 0
+IsFaultInGlobals tree place cause =
+    SomeOf (λ d. IsFaultIn (types_of_text tree) (as_variables d) place cause) (declared_globals_of tree)
+
+abbrev pub IsUnknownNamed : Tree → ℕ → Type 0
+IsUnknownNamed tree place =
+    IsUnknownExternal tree place ⊎ IsUnknownTrigger tree place ⊎ IsUnknownTask tree place ⊎ IsUnknownProgram tree place
+
+abbrev pub IsTwiceInConfiguration : Tree → ℕ → Type 0
+IsTwiceInConfiguration tree place =
+    IsTwiceIn (folded tree.text) (map (λ i. i.name) (instance_declarations tree)) place
+    ⊎ IsAddressTwice (addresses_of tree) place
+
+abbrev pub IsBadInConfiguration : Tree → ℕ → Type 0
+IsBadInConfiguration tree place =
+    IsOtherExternal tree place
+    ⊎ IsBadlyLocated tree place ⊎ SomeOf (IsBadTaskAt place) (task_declarations tree)
+
+abbrev pub IsFaultOfInput : Tree → ℕ → NameCause → Type 0
+IsFaultOfInput tree place cause =
+    OfCause InputRangeTooSmall (IsInputTooSmall tree) place cause ⊎ OfCause WritesInput (IsInputGiven tree) place cause
+
+abbrev pub IsFaultOfConfiguration : Scoped → ℕ → NameCause → Type 0
+IsFaultOfConfiguration scoped place cause =
+    (IsFaultInGlobals scoped.tree place cause ⊎ OfCause Unknown (IsUnknownNamed scoped.tree) place cause)
+    ⊎ (OfCause Twice (IsTwiceInConfiguration scoped.tree) place cause
+    ⊎ OfCause BadDeclaration (IsBadInConfiguration scoped.tree) place cause)
+    ⊎ (OfCause BadAddress (λ at. IsBadAddress scoped.tree scoped.wiring at ⊎ IsNoTrigger scoped.tree at) place cause
+    ⊎ IsFaultOfInput scoped.tree place cause)
+    ⊎ OfCause NoTask (HasNoTask scoped.tree) place cause

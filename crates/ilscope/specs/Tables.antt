@@ -3,6 +3,7 @@ use Rattle.std.specs.Prelude.{ℕ, suc, List, [], ◌∷◌, map, Option, Some, 
 use Rattle.std.specs.Char.{to_ascii_lowercase}
 use Rattle.ilsource.specs.declared.name.Name.{Name}
 use Rattle.ilscope.specs.declared.block.DeclaredBlock.{DeclaredBlock}
+use Rattle.ilscope.specs.declared.external.DeclaredExternal.{DeclaredExternal}
 use Rattle.ilscope.specs.declared.variable.Variable.{Variable}
 
 -- a text with letters in lower case
@@ -22,3 +23,8 @@ variable_number spelled variables name =
 -- the number of the first block instance with the name
 abbrev pub block_number : (Name → List ℕ) → List DeclaredBlock → Name → Option ℕ
 block_number spelled blocks name = first_at (λ block. bytes_eq (spelled name) (spelled block.name)) blocks
+
+-- the number of the first external with the name
+abbrev pub external_number : (Name → List ℕ) → List DeclaredExternal → Name → Option ℕ
+external_number spelled externals name =
+    first_at (λ external. bytes_eq (spelled name) (spelled external.name)) externals

@@ -48,10 +48,13 @@ pub(crate) fn fault_of(
             initial,
         } => fault_of_variables(lower, types, names, specification, initial),
         Declared::Blocks(_) => None,
+        Declared::External(specification) => {
+            fault_of_variables(lower, types, names, specification, None)
+        }
     }
 }
 
-/// The same of a declaration of variables, or of a type.
+/// The same of a declaration of variables, of externals, or of a type.
 fn fault_of_variables(
     lower: &[u8],
     types: &DeclaredTypes,

@@ -20,12 +20,23 @@ pub enum NameCause {
     UnknownLabel,
     /// The label of a jump that its own line or one before it has.
     BackwardJump,
-    /// A store to an output port.
+    /// An address of no bus, of no place there or of no source that is bound, or SINGLE on a
+    /// variable that is no trigger.
+    BadAddress,
+    /// The type of a variable at an input that lacks values of the input.
+    InputRangeTooSmall,
+    /// A global variable that a second task stores to.
+    WrittenTwice,
+    /// A store or an initial value for an input, or a store to an output port.
     WritesInput,
+    /// A program instance without a task.
+    NoTask,
     /// A declaration or an instruction that exceeds a limit.
     TooMany,
-    /// A subrange that is empty or has numbers outside its base, or an initial value that the type
-    /// does not have.
+    /// A subrange that is empty or has numbers outside its base, an initial value that the type
+    /// does not have, an external of another type than the global variable, a type that does not
+    /// fit the address, or a task without one way to be started, or with a priority outside 0 to
+    /// 65535.
     BadDeclaration,
 }
 
@@ -39,7 +50,11 @@ impl NameCause {
             NameCause::Twice => 3,
             NameCause::UnknownLabel => 4,
             NameCause::BackwardJump => 5,
+            NameCause::BadAddress => 6,
+            NameCause::InputRangeTooSmall => 7,
+            NameCause::WrittenTwice => 8,
             NameCause::WritesInput => 9,
+            NameCause::NoTask => 10,
             NameCause::TooMany => 11,
             NameCause::BadDeclaration => 12,
         }

@@ -1,6 +1,7 @@
 //! The least of the faults that were found.
 
-ghost use Rattle.std.specs.Prelude.{◌≡◌};
+ghost use Rattle.std.specs.Prelude.{◌≡◌, IsTrue};
+ghost use Rattle.ilscope.specs.Faults.{IsLeastOf, OfCause};
 ghost use Rattle.ilscope.specs.Order.{lesser_of_two};
 
 use crate::fault::NameCause;
@@ -33,5 +34,16 @@ pub fn lesser_of(one: Option<Found>, other: Option<Found>) -> Option<Found>
         (one, None) => one,
         (None, other) => other,
         (Some(one), Some(other)) => Some(if other.comes_before(one) { other } else { one }),
+    }
+}
+
+/// The fault with this cause at this place, where there is one.
+pub(crate) fn found_where(is_fault: bool, at: usize, cause: NameCause) -> Option<Found>
+    ensures { IsLeastOf (OfCause cause (λ place. IsTrue is_fault × (place ≡ at))) result }
+{
+    if is_fault {
+        Some(Found { at, cause })
+    } else {
+        None
     }
 }

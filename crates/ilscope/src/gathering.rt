@@ -8,6 +8,7 @@ ghost use Rattle.ilscope.specs.ScopeSteps.{IsGathered};
 
 use crate::blocks::{block_names, blocks_of};
 use crate::declarations::{fault_of, fault_of_all};
+use crate::externals::{external_names, externals_of};
 use crate::found::{Found, lesser_of};
 use crate::names::Names;
 use crate::numbers::numbers_of;
@@ -24,6 +25,7 @@ pub(crate) struct Gathering<'a> {
     pub(crate) programs: Vec<ProgramScope<'a>>,
     pub(crate) variable_numbers: Vec<Names<usize>>,
     pub(crate) block_numbers: Vec<Names<usize>>,
+    pub(crate) external_numbers: Vec<Names<usize>>,
     pub(crate) least: Option<Found>,
 }
 
@@ -35,22 +37,38 @@ impl<'a> Gathering<'a> {
         elements: &'a [Element],
     ) -> Result<Gathering<'a>, AllocError>
         ensures { IfOk result (λ g. IsGathered lower.now elements.now g.types g.programs.items
-            g.variable_numbers.items g.block_numbers.items g.least) }
+            g.variable_numbers.items g.block_numbers.items g.external_numbers.items g.least) }
     {
         let mut gathering = Gathering {
             types: Names::new(alloc),
             programs: Vec::new(alloc),
             variable_numbers: Vec::new(alloc),
             block_numbers: Vec::new(alloc),
+            external_numbers: Vec::new(alloc),
             least: None,
         };
         for element in elements {
-            match element {
-                Element::DerivedType(declared) => gathering.add_type(alloc, lower, *declared)?,
-                Element::Program(program) => gathering.add_program(alloc, lower, program)?,
-            }
+            gathering.add(alloc, lower, element)?;
         }
         Ok(gathering)
+    }
+
+    /// Adds the next element.
+    fn add(&mut self, alloc: Global, lower: &[u8], element: &'a Element) -> Result<(), AllocError>
+        ensures { OnOk result ((front : List Element)
+            → IsGathered lower.now front
+            self.old.types self.old.programs.items
+            self.old.variable_numbers.items self.old.block_numbers.items
+            self.old.external_numbers.items self.old.least
+            → IsGathered lower.now (front ++ element.now ∷ [])
+            self.new.types self.new.programs.items
+            self.new.variable_numbers.items self.new.block_numbers.items
+            self.new.external_numbers.items self.new.least) }
+    {
+        match element {
+            Element::DerivedType(declared) => self.add_type(alloc, lower, *declared),
+            Element::Program(program) => self.add_program(alloc, lower, program),
+        }
     }
 
     /// Adds a type, the next element.
@@ -63,10 +81,12 @@ impl<'a> Gathering<'a> {
         ensures { OnOk result ((front : List Element)
             → IsGathered lower.now front
             self.old.types self.old.programs.items
-            self.old.variable_numbers.items self.old.block_numbers.items self.old.least
+            self.old.variable_numbers.items self.old.block_numbers.items
+            self.old.external_numbers.items self.old.least
             → IsGathered lower.now (front ++ elements.DerivedType declared ∷ [])
             self.new.types self.new.programs.items
-            self.new.variable_numbers.items self.new.block_numbers.items self.new.least) }
+            self.new.variable_numbers.items self.new.block_numbers.items
+            self.new.external_numbers.items self.new.least) }
     {
         let TypeDeclaration {
             name,
@@ -94,10 +114,12 @@ impl<'a> Gathering<'a> {
         ensures { OnOk result ((front : List Element)
             → IsGathered lower.now front
             self.old.types self.old.programs.items
-            self.old.variable_numbers.items self.old.block_numbers.items self.old.least
+            self.old.variable_numbers.items self.old.block_numbers.items
+            self.old.external_numbers.items self.old.least
             → IsGathered lower.now (front ++ elements.Program program.now ∷ [])
             self.new.types self.new.programs.items
-            self.new.variable_numbers.items self.new.block_numbers.items self.new.least) }
+            self.new.variable_numbers.items self.new.block_numbers.items
+            self.new.external_numbers.items self.new.least) }
     {
         let variables = variables_of(alloc, lower, &self.types, program)?;
         let blocks = blocks_of(alloc, program)?;
@@ -105,13 +127,17 @@ impl<'a> Gathering<'a> {
         let (variable_numbers, _) = numbers_of(alloc, lower, &names)?;
         let names = block_names(alloc, &blocks)?;
         let (block_numbers, _) = numbers_of(alloc, lower, &names)?;
+        let externals = externals_of(alloc, lower, &self.types, program)?;
+        let names = external_names(alloc, &externals)?;
+        let (external_numbers, _) = numbers_of(alloc, lower, &names)?;
         let names = names_of(alloc, program)?;
         let (_, twice) = numbers_of(alloc, lower, &names)?;
         let fault = fault_of_all(lower, &self.types, program.declarations());
         self.programs
-            .push(ProgramScope::new(program, variables, blocks))?;
+            .push(ProgramScope::new(program, variables, blocks, externals))?;
         self.variable_numbers.push(variable_numbers)?;
         self.block_numbers.push(block_numbers)?;
+        self.external_numbers.push(external_numbers)?;
         self.least = lesser_of(self.least, lesser_of(twice, fault));
         Ok(())
     }

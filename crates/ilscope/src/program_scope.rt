@@ -1,16 +1,18 @@
-//! Programs with their variables and block instances.
+//! Programs with what they declare.
 
 use crate::block::DeclaredBlock;
+use crate::external::DeclaredExternal;
 use crate::variable::Variable;
 use ilsource::Program;
 use std::marker::Model;
 
-/// A program with its variables and block instances.
+/// A program with its variables, block instances and externals.
 #[derive(Drop)]
 pub struct ProgramScope<'a> {
     program: &'a Program,
     variables: Vec<Variable>,
     blocks: Vec<DeclaredBlock>,
+    externals: Vec<DeclaredExternal>,
 }
 
 impl<'a> Model for ProgramScope<'a> {
@@ -33,6 +35,7 @@ impl<'a> Model for ProgramScope<'a> {
       program = p.program.now;
       variables = p.variables.items;
       blocks = p.blocks.items;
+      externals = p.externals.items;
     } };
 }
 
@@ -40,20 +43,24 @@ impl<'a> ProgramScope<'a> {
     ghost use Rattle.std.specs.Prelude.{◌≡◌, All};
     ghost use Rattle.ilscope.specs.Declarations.{DeclaredProgram};
 
-    /// The program, and its variables and block instances in the order in which they are declared.
+    /// The program, and its variables, block instances and externals in the order in which they
+    /// are declared.
     pub(crate) fn new(
         program: &'a Program,
         variables: Vec<Variable>,
         blocks: Vec<DeclaredBlock>,
+        externals: Vec<DeclaredExternal>,
     ) -> ProgramScope<'a>
         ensures program { result.program ≡ program.now }
         ensures variables { result.variables ≡ variables.items }
         ensures blocks { result.blocks ≡ blocks.items }
+        ensures externals { result.externals ≡ externals.items }
     {
         ProgramScope {
             program,
             variables,
             blocks,
+            externals,
         }
     }
 
@@ -76,5 +83,12 @@ impl<'a> ProgramScope<'a> {
         ensures value { result.now ≡ self.now.blocks }
     {
         &self.blocks
+    }
+
+    /// The global variables that it names in VAR_EXTERNAL, in the order in which they are declared.
+    pub fn externals(&self) -> &[DeclaredExternal]
+        ensures value { result.now ≡ self.now.externals }
+    {
+        &self.externals
     }
 }

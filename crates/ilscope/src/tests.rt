@@ -1,5 +1,7 @@
 //! What declarations mean and which fault of them is reported, and each public call once.
 
+mod configurations;
+
 use crate::{DeclaredBlock, Found, NameCause, NameFault, Names, Scope, lesser_of, report_of};
 use binding::Binding;
 use ilblocks::Kind::{self, Ctu, Ton};
@@ -126,7 +128,7 @@ fn source(alloc: Global, types: &[Row<'_>], variables: &[Row<'_>]) -> Result<Sou
     };
     draft.add_types(types)?;
     draft.add_program(alloc, "Main", variables)?;
-    Ok(Source::new(draft.text, draft.elements))
+    Ok(Source::new(draft.text, draft.elements, None))
 }
 
 /// What is reported must be this, with the line of the name, or nothing.
@@ -138,7 +140,8 @@ fn report(
     wanted: &str,
 ) -> Result<(), Fail> {
     let source = source(alloc, types, variables)?;
-    let scope = Scope::of(alloc, &source, &Binding::one_bus(alloc))?;
+    let binding = Binding::one_bus(alloc);
+    let scope = Scope::of(alloc, &source, &binding)?;
     match scope.fault() {
         None => assert_eq!(rt; "", wanted),
         Some(fault) => assert_eq!(rt; fault.to_string(alloc)?.as_str(), wanted),
@@ -303,7 +306,8 @@ fn expect_variables(
 ) -> Result<(), Fail> {
     for (written, initial, value_type, value) in rows {
         let source = source(alloc, types, &[(&["x", "y"], *written, *initial)])?;
-        let scope = Scope::of(alloc, &source, &Binding::one_bus(alloc))?;
+        let binding = Binding::one_bus(alloc);
+        let scope = Scope::of(alloc, &source, &binding)?;
         let [program] = scope.programs() else {
             return Err("one program".into());
         };
@@ -373,7 +377,8 @@ fn names_are_looked_up(rt: HostRuntime) -> Result<(), Fail> {
         (&["c"], COUNTERS, None),
     ];
     let source = source(alloc, &[(&["b"], INT, None)], &declared)?;
-    let scope = Scope::of(alloc, &source, &Binding::one_bus(alloc))?;
+    let binding = Binding::one_bus(alloc);
+    let scope = Scope::of(alloc, &source, &binding)?;
     assert_eq!(rt; scope.source().text().len(), source.text().len());
     // The text is `b Main a B A t b T c`, with a line for each.
     let rows = [
@@ -433,6 +438,7 @@ fn the_fault_at_the_least_place_is_reported(rt: HostRuntime) -> Result<(), Fail>
     );
     assert_eq!(rt; NameCause::UnknownLabel.number(), 4);
     assert_eq!(rt; NameCause::BackwardJump.number(), 5);
+    assert_eq!(rt; NameCause::WrittenTwice.number(), 8);
     assert_eq!(rt; NameCause::WritesInput.number(), 9);
     assert_eq!(rt; NameCause::TooMany.number(), 11);
     assert_eq!(rt; NameFault::Memory.number(), 1);

@@ -1,3 +1,4 @@
+pub mod Configurations
 pub mod Names
 pub mod Places
 pub mod Programs

@@ -3,12 +3,14 @@ use Rattle.std.specs.Prelude.{ℕ, List, Option, Some, None, filter_map}
 use Rattle.ilsource.specs.declared.declaration.TypeDeclaration.{TypeDeclaration}
 use Rattle.ilsource.specs.declared.source.Element.{Element}
 use Rattle.ilsource.specs.declared.source.Element.TheVariants.{DerivedType, Program}
+use Rattle.ilsource.specs.Configurations.{Configured}
 use Rattle.ilsource.specs.Programs.{Written}
 
--- a text's types and programs in order, and the text in which their names stand
+-- a text's types and programs in order, its configuration, and the text in which their names stand
 pub record Tree : Type 0 where
   pub text : List ℕ
   pub elements : List Element
+  pub configuration : Option Configured
 
 abbrev pub program_in : Element → Option Written
 program_in (DerivedType type) = None

@@ -52,6 +52,8 @@ pub enum Declared {
     },
     /// Instances of a function block.
     Blocks(Kind),
+    /// In VAR_EXTERNAL: global variables of this type, which a configuration declares.
+    External(Specification),
 }
 
 /// `name {"," name} ":" (specification [":=" constant] | block) ";"`: names that are declared

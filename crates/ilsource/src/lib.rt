@@ -8,6 +8,8 @@
 
 #![tactic(auto)]
 
+mod address;
+mod configuration;
 mod declaration;
 mod line_counter;
 mod name;
@@ -16,6 +18,8 @@ mod program;
 mod source;
 mod symbol;
 
+pub use address::Address;
+pub use configuration::{Configuration, GlobalDeclaration, InstanceDeclaration, TaskDeclaration};
 pub use declaration::{Constant, Declaration, Declared, Specification, TypeDeclaration};
 pub use line_counter::LineCounter;
 pub use name::Name;

@@ -1,5 +1,6 @@
 //! Whole texts.
 
+use crate::configuration::Configuration;
 use crate::declaration::TypeDeclaration;
 use crate::program::Program;
 use std::marker::Model;
@@ -11,11 +12,13 @@ pub enum Element {
     Program(Program),
 }
 
-/// What a text spells: its types and programs in order, and the bytes that its names stand in.
+/// What a text spells: its types and programs in order, its configuration, and the bytes that its
+/// names stand in.
 #[derive(Drop)]
 pub struct Source {
     text: Vec<u8>,
     elements: Vec<Element>,
+    configuration: Option<Configuration>,
 }
 
 impl Model for Source {
@@ -27,19 +30,33 @@ impl Model for Source {
 
     ghost coded = { Prim.hlevel (codes, element.the_row.coded) };
 
-    ghost view = { λ s. record { text = s.text.items; elements = s.elements.items } };
+    ghost view = { λ s. record {
+      text = s.text.items;
+      elements = s.elements.items;
+      configuration = s.configuration;
+    } };
 }
 
 impl Source {
-    ghost use Rattle.std.specs.Prelude.{◌≡◌};
+    ghost use Rattle.std.specs.Prelude.{◌≡◌, option_map};
     ghost use Rattle.ilsource.specs.Trees.{Tree};
 
-    /// The source program of these types and programs, whose names stand in `text`.
-    pub fn new(text: Vec<u8>, elements: Vec<Element>) -> Source
+    /// The source program of these types and programs and this configuration, whose names stand in
+    /// `text`.
+    pub fn new(
+        text: Vec<u8>,
+        elements: Vec<Element>,
+        configuration: Option<Configuration>,
+    ) -> Source
         ensures text { result.text ≡ text.items }
         ensures elements { result.elements ≡ elements.items }
+        ensures configuration { result.configuration ≡ configuration }
     {
-        Source { text, elements }
+        Source {
+            text,
+            elements,
+            configuration,
+        }
     }
 
     /// The bytes of the text.
@@ -54,5 +71,12 @@ impl Source {
         ensures { result.now ≡ self.now.elements }
     {
         &self.elements
+    }
+
+    /// The configuration, if the text has one.
+    pub fn configuration(&self) -> Option<&Configuration>
+        ensures { option_map (λ c. c.now) result ≡ self.now.configuration }
+    {
+        self.configuration.as_ref()
     }
 }

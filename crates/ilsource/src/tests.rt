@@ -73,7 +73,7 @@ fn a_source_gives_back_its_parts(rt: HostRuntime) -> Result<(), Fail> {
     let mut elements = Vec::new(alloc);
     elements.push(Element::DerivedType(dim))?;
     elements.push(Element::Program(Program::new(Name { from: 8, to: 9 }, declarations, lines)))?;
-    let source = Source::new(TEXT.to_vec(alloc)?, elements);
+    let source = Source::new(TEXT.to_vec(alloc)?, elements, None);
     assert_eq!(rt; source.text(), TEXT);
     let [Element::DerivedType(first), Element::Program(program)] = source.elements() else {
         panic!(rt; "a type and a program");

@@ -1,19 +1,24 @@
 -- The different constants of some uses and of one use more.
-use Rattle.std.proofs.Common.{◌≡◌, ℕ, ◌+◌, ◌<◌, ◌≤◌, nat_lt, List, [], ◌∷◌, ◌++◌, length, Bool, true, false, cond, refl}
+use Rattle.std.proofs.Common.{◌≡◌, ℕ, ◌+◌, ◌<◌, ◌≤◌, nat_lt, List, [], ◌∷◌, ◌++◌, length, Bool, true, false, cond, ◌||◌}
+use Rattle.std.proofs.Common.{refl}
 use Rattle.std.proofs.Common.{sym, ap, ◌∙◌, subst, arith, ◌⊎◌, inl, inr, append_assoc, length-append}
 use Rattle.std.specs.Prelude.{Option, Some, None}
 use Rattle.std.specs.List.{list_any, cons_option}
 use Rattle.std.proofs.lemmas.Bool.Decides.{nat_tests}
+use Rattle.std.proofs.lemmas.List.Folds.{list_any-append}
 use Rattle.std.proofs.lemmas.List.{append-nil}
+use Rattle.std.proofs.lemmas.List.Elements.{filter_map-append}
 use Rattle.iltypes.specs.declared.value.Value.{Value}
 use Rattle.iltrees.specs.declared.uses.Use.{Use}
 use Rattle.ilsource.specs.declared.symbol.Symbol.{Symbol}
 use Rattle.limits.specs.Limits.{most_constants}
 use Rattle.ilplan.specs.Constants.{same_value, constant_in, constants_used, each_once, with_constant}
-use Rattle.ilplan.proofs.EachOnce.{each_once_more}
+use Rattle.ilplan.proofs.EachOnce.{any_each_once, each_once_more, is_same}
 use Rattle.ilsyms.specs.Faults.{MakesTooManyConstants}
 use Rattle.ilsyms.specs.CountingSteps.{AreCounted}
-use Rattle.ilsyms.proofs.Renamed.{used_append}
+
+pub used_append : (us vs : List (Use Symbol)) → constants_used (us ++ vs) ≡ constants_used us ++ constants_used vs
+used_append us vs = filter_map-append (λ (u : Use Symbol). constant_in u.operand) us vs
 
 -- how many different constants some uses have
 abbrev pub many : List (Use Symbol) → ℕ
@@ -69,6 +74,10 @@ not_fewer us (v ∷ vs) =
     let one = more_used us v in
     let rest = not_fewer (us ++ v ∷ []) vs in
     omega (arith, e, one.0, rest)
+
+or_true : (b : Bool) → (b || true) ≡ true
+or_true true = refl
+or_true false = refl
 
 -- where a list with one more at its end has an element
 nothing_there : {X : Type 0} (before after : List X) (last : X) → [] ≡ before ++ last ∷ after → ⊥
@@ -217,6 +226,54 @@ module _ (us : List (Use Symbol)) (known more : List Value) (excess : Option ℕ
       let m = ap (λ (vs : List Value). length vs) same in
       more_counted us known more excess u c same
       (λ l. let f = l.0 in let g = l.1 in not_last (omega (arith, n, f), omega (arith, n, m, f, g)))
+
+-- ---- uses of constants that are all known
+
+-- the constants of the uses are among those of others
+abbrev pub AreKnown : List (Use Symbol) → List (Use Symbol) → Type 0
+AreKnown us vs = (v : Value) → list_any (same_value v) (constants_used vs) ≡ true
+    → list_any (same_value v) (constants_used us) ≡ true
+
+known_already : (us : List (Use Symbol)) (u : Use Symbol) (v : Value) → constant_in u.operand ≡ Some v
+    → list_any (same_value v) (constants_used us) ≡ true
+    → each_once (constants_used (us ++ u ∷ [])) ≡ each_once (constants_used us)
+known_already us u v is there =
+    constant_used us u v is
+    ∙ ap (λ b. cond b (each_once (constants_used us)) (each_once (constants_used us) ++ v ∷ []))
+    (any_each_once v (constants_used us) ∙ there)
+
+pub known_counted : (vs us : List (Use Symbol)) (known : List Value) (excess : Option ℕ) → AreKnown us vs
+    → AreCounted us known excess → AreCounted (us ++ vs) known excess
+known_counted [] us known excess are c =
+    subst (λ (ws : List (Use Symbol)). AreCounted ws known excess) (sym (append-nil us)) c
+known_counted (u ∷ vs) us known excess are c =
+    subst (λ (ws : List (Use Symbol)). AreCounted ws known excess) (append_assoc us (u ∷ []) vs)
+    (known_counted vs (us ++ u ∷ []) known excess (λ v e. still (list_any (same_value v) (constants_used us)) v
+    (later v (constant_in u.operand) refl e)) (one (constant_in u.operand) refl))
+  where
+    later : (v : Value) (o : Option Value) → constant_in u.operand ≡ o
+        → list_any (same_value v) (constants_used vs) ≡ true → list_any (same_value v) (constants_used us) ≡ true
+    later v None is e = are v (ap (λ o. list_any (same_value v) (cons_option o (constants_used vs))) is ∙ e)
+    later v (Some w) is e =
+        are v (ap (λ o. list_any (same_value v) (cons_option o (constants_used vs))) is
+        ∙ ap (λ b. same_value v w || b) e ∙ or_true (same_value v w))
+
+    still : (b : Bool) (v : Value) → list_any (same_value v) (constants_used us) ≡ true
+        → list_any (same_value v) (constants_used (us ++ u ∷ [])) ≡ true
+    still b v e =
+        ap (list_any (same_value v)) (used_append us (u ∷ []))
+        ∙ list_any-append (same_value v) (constants_used us) (constants_used (u ∷ []))
+        ∙ ap (λ x. x || list_any (same_value v) (constants_used (u ∷ []))) e
+
+    one : (o : Option Value) → constant_in u.operand ≡ o → AreCounted (us ++ u ∷ []) known excess
+    one None is = name_counted us known excess u c is
+    one (Some v) is =
+        let there : list_any (same_value v) (constants_used us) ≡ true =
+        are v (ap (λ o. list_any (same_value v) (cons_option o (constants_used vs))) is
+        ∙ ap (λ b. b || list_any (same_value v) (constants_used vs)) (is_same v)) in
+        let same = known_already us u v is there in
+        more_counted us known known excess u c (c.different ∙ sym same)
+        (λ l. let f = l.0 in let m = l.1 in let n = ap (λ (ws : List Value). length ws) same in omega (arith, f, m, n))
 
 -- where none makes too many there are at most as many as the limit
 few_of_more : (front back : List (Use Symbol)) → ((place : ℕ) → ¬ MakesTooManyConstants (front ++ back) place)

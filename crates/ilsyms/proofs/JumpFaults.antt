@@ -14,7 +14,9 @@ use Rattle.ilscope.specs.Order.{lesser_of_two}
 use Rattle.ilscope.specs.Tables.{first_at}
 use Rattle.ilscope.specs.declared.fault.NameCause.{NameCause}
 use Rattle.ilscope.specs.declared.fault.NameCause.TheVariants.{Unknown, Twice, UnknownLabel, BackwardJump}
-use Rattle.ilscope.specs.declared.fault.NameCause.TheVariants.{WritesInput, TooMany, BadDeclaration}
+use Rattle.ilscope.specs.declared.fault.NameCause.TheVariants.{BadAddress, InputRangeTooSmall, WrittenTwice}
+use Rattle.ilscope.specs.declared.fault.NameCause.TheVariants.{WritesInput}
+use Rattle.ilscope.specs.declared.fault.NameCause.TheVariants.{NoTask, TooMany, BadDeclaration}
 use Rattle.ilscope.specs.declared.found.Found.{Found}
 use Rattle.ilscope.proofs.Gathered.{best_same, or_else}
 use Rattle.ilscope.proofs.Least.{both_least, got_at, got_below}
@@ -198,6 +200,10 @@ module _ (text : List ℕ) (kept : Kept ℕ) (lines : List (Line Symbol Name)) (
           }
       to_faults Unknown f = none_else Unknown (λ e. cc) (λ e. cc) f
       to_faults Twice f = none_else Twice (λ e. cc) (λ e. cc) f
+      to_faults BadAddress f = none_else BadAddress (λ e. cc) (λ e. cc) f
+      to_faults InputRangeTooSmall f = none_else InputRangeTooSmall (λ e. cc) (λ e. cc) f
+      to_faults WrittenTwice f = none_else WrittenTwice (λ e. cc) (λ e. cc) f
+      to_faults NoTask f = none_else NoTask (λ e. cc) (λ e. cc) f
       to_faults WritesInput f = none_else WritesInput (λ e. cc) (λ e. cc) f
       to_faults TooMany f = none_else TooMany (λ e. cc) (λ e. cc) f
       to_faults BadDeclaration f = none_else BadDeclaration (λ e. cc) (λ e. cc) f
@@ -232,6 +238,10 @@ module _ (text : List ℕ) (kept : Kept ℕ) (lines : List (Line Symbol Name)) (
           }
       from_faults Unknown s = absurd s
       from_faults Twice s = absurd s
+      from_faults BadAddress s = absurd s
+      from_faults InputRangeTooSmall s = absurd s
+      from_faults WrittenTwice s = absurd s
+      from_faults NoTask s = absurd s
       from_faults WritesInput s = absurd s
       from_faults TooMany s = absurd s
       from_faults BadDeclaration s = absurd s
@@ -298,6 +308,10 @@ labels_of_program text lines a b h k =
     into place Twice s = absurd s
     into place UnknownLabel s = s
     into place BackwardJump s = s
+    into place BadAddress s = s
+    into place InputRangeTooSmall s = s
+    into place WrittenTwice s = s
+    into place NoTask s = s
     into place WritesInput s = s
     into place TooMany s = s
     into place BadDeclaration s = s
@@ -308,6 +322,10 @@ labels_of_program text lines a b h k =
     from place Twice s = inl (refl, s)
     from place UnknownLabel s = inr s
     from place BackwardJump s = inr s
+    from place BadAddress s = inr s
+    from place InputRangeTooSmall s = inr s
+    from place WrittenTwice s = inr s
+    from place NoTask s = inr s
     from place WritesInput s = inr s
     from place TooMany s = inr s
     from place BadDeclaration s = inr s

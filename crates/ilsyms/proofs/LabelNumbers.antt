@@ -115,7 +115,8 @@ module _ (text : List ℕ) where
       (λ place cause s. inl s)
       (both_least (OfCause Twice (IsTwiceIn (folded text) front)) (OfCause Twice (IsKeptLabel text kept None)) a b h k))
   again front kept a b known (Some m) h k =
-      twice_last (folded text) front m (IsSome (lookup (bytes_eq (folded text m)) kept)) a b
+      twice_last (λ n l. folded text n ≡ folded text l) (λ n. n.from) front m
+      (IsSome (lookup (bytes_eq (folded text m)) kept)) a b
       (λ s. found_some (folded text) front (folded text m) (sym (known m) ∙ s))
       (λ s. known m ∙ some_found (folded text) front (folded text m) s)
       h k

@@ -1,18 +1,21 @@
 -- The place of what is made of one of the parts that stand one list after another: a part's own number, after those of
 -- the lists before.
-use Rattle.std.proofs.Common.{◌≡◌, ℕ, zero, suc, ◌+◌, ◌<◌, List, [], ◌∷◌, ◌++◌, map, length, Bool, true, false, refl}
+use Rattle.std.proofs.Common.{◌≡◌, ℕ, zero, suc, ◌+◌, ◌<◌, ◌≤◌, List, [], ◌∷◌, ◌++◌, map, take, drop, get_or, length}
+use Rattle.std.proofs.Common.{Bool, true, false, refl}
 use Rattle.std.proofs.Common.{ap, sym, ◌∙◌, arith, length-append}
-use Rattle.std.specs.Prelude.{Option, Some, None, IfSome, option_map, option_and_then, slice_get, flat_map, ⊤}
-use Rattle.std.specs.Prelude.{if◌then◌else◌}
+use Rattle.std.specs.Prelude.{Option, Some, None, option_map, option_and_then, slice_get, flat_map, ⊤}
 use Rattle.std.specs.Option.{option_map_or}
 use Rattle.std.specs.List.{list_any, position_or_len}
+use Rattle.std.proofs.Math.Seq.{drop-cons}
+use Rattle.std.proofs.lemmas.List.{length-take, take-append-drop, take_more}
 use Rattle.std.proofs.Math.ListN.{length-map}
 use Rattle.std.proofs.lemmas.Grind.{flat_map-append}
 use Rattle.ilscope.specs.Tables.{first_at}
+use Rattle.ilsyms.proofs.Firsts.{first_there}
 use Rattle.ilsyms.proofs.Labels.{either}
 
 -- past elements that fail
-passed_over : {X : Type 0} (test : X → Bool) (xs ys : List X) → list_any test xs ≡ false
+pub passed_over : {X : Type 0} (test : X → Bool) (xs ys : List X) → list_any test xs ≡ false
     → position_or_len test (xs ++ ys) ≡ length xs + position_or_len test ys
 passed_over test [] ys e = omega arith
 passed_over test (x ∷ xs) ys e =
@@ -20,7 +23,7 @@ passed_over test (x ∷ xs) ys e =
     (λ t. absurd (let g : true ≡ false = rw t at e in cc))
     (λ f. rw f (let more = passed_over test xs ys (rw f at e) in omega (arith, more)))
 
-none_passes : {X : Type 0} (test : X → Bool) (xs : List X) → list_any test xs ≡ false
+pub none_passes : {X : Type 0} (test : X → Bool) (xs : List X) → list_any test xs ≡ false
     → position_or_len test xs ≡ length xs
 none_passes test [] e = refl
 none_passes test (x ∷ xs) e =
@@ -36,6 +39,31 @@ any_append test (x ∷ xs) ys e g =
     (λ t. absurd (let h : true ≡ false = rw t at e in cc))
     (λ f. rw f (any_append test xs ys (rw f at e) g))
 
+-- the number of the first is not past the last
+pub within : {X : Type 0} (test : X → Bool) (xs : List X) → position_or_len test xs ≤ length xs
+within test [] = omega arith
+within test (x ∷ xs) =
+    let more = within test xs in
+    either (test x) (λ t. rw t (omega arith)) (λ f. rw f (omega (arith, more)))
+
+-- one element after another
+module _ {X : Type 0} (test : X → Bool) (xs : List X) (n : ℕ) (d : X) (below : n < length xs)
+    (before : list_any test (take n xs) ≡ false) where
+  pub none_more : test (get_or xs n d) ≡ false → list_any test (take (n + 1) xs) ≡ false
+  none_more e =
+      ap (λ ys. list_any test ys) (take_more xs n d below)
+      ∙ any_append test (take n xs) (get_or xs n d ∷ []) before (rw e refl)
+
+  pub found_at : test (get_or xs n d) ≡ true → position_or_len test xs ≡ n
+  found_at e =
+      let parts : xs ≡ take n xs ++ get_or xs n d ∷ drop (suc n) xs =
+      sym (take-append-drop n xs) ∙ ap (λ ys. take n xs ++ ys) (drop-cons xs n d below)
+      in
+      let first : position_or_len test (get_or xs n d ∷ drop (suc n) xs) ≡ 0 = rw e refl in
+      let long = length-take n xs in
+      let over = passed_over test (take n xs) (get_or xs n d ∷ drop (suc n) xs) before in
+      ap (λ ys. position_or_len test ys) parts ∙ over ∙ omega (arith, first, long, below)
+
 shifted : (first end all : ℕ) (o : Option ℕ) → first + end ≡ all
     → first + option_map_or (λ k. k) o end ≡ option_map_or (λ k. first + k) o all
 shifted first end all None e = e
@@ -43,7 +71,7 @@ shifted first end all (Some k) e = refl
 
 -- ---- what stands at a number
 
-past : {X : Type 0} (xs ys : List X) (k : ℕ) → slice_get (xs ++ ys) (length xs + k) ≡ slice_get ys k
+pub past : {X : Type 0} (xs ys : List X) (k : ℕ) → slice_get (xs ++ ys) (length xs + k) ≡ slice_get ys k
 past [] ys k = let e : 0 + k ≡ k = omega arith in ap (λ n. slice_get ys n) e
 past (x ∷ xs) ys k =
     let e : suc (length xs) + k ≡ suc (length xs + k) = omega arith in
@@ -62,36 +90,6 @@ made_at f (x ∷ xs) (suc k) = made_at f xs k
 none_at_end : {X : Type 0} (xs : List X) → slice_get xs (length xs) ≡ None
 none_at_end [] = refl
 none_at_end (x ∷ xs) = none_at_end xs
-
--- the first that passes is there
-first_there : {X : Type 0} (test : X → Bool) (xs : List X) (k : ℕ) → first_at test xs ≡ Some k
-    → (x : X) × (slice_get xs k ≡ Some x)
-first_there test [] k e = absurd cc
-first_there {X} test (y ∷ xs) k e = by (test y) (first_at test xs) (first_there test xs) e
-  where
-    by : (b : Bool) (o : Option ℕ) → ((j : ℕ) → o ≡ Some j → (x : X) × (slice_get xs j ≡ Some x))
-        → (if b then Some 0 else option_map suc o) ≡ Some k → (x : X) × (slice_get (y ∷ xs) k ≡ Some x)
-    by true o rest e = let h : 0 ≡ k = cc in (y, ap (λ n. slice_get (y ∷ xs) n) (sym h))
-    by false None rest e = absurd cc
-    by false (Some j) rest e =
-        let h : suc j ≡ k = cc in
-        let there = rest j refl in
-        (there.0, ap (λ n. slice_get (y ∷ xs) n) (sym h) ∙ there.1)
-
-below_end : {X : Type 0} (xs : List X) (k : ℕ) (x : X) → slice_get xs k ≡ Some x → k < length xs
-below_end [] k x e = absurd cc
-below_end (y ∷ xs) zero x e = omega arith
-below_end (y ∷ xs) (suc k) x e = omega (arith, below_end xs k x e)
-
--- the number of the first that passes is below how many there are
-pub first_below : {X : Type 0} (test : X → Bool) (xs : List X) (k : ℕ) → first_at test xs ≡ Some k → k < length xs
-first_below test xs k e = let there = first_there test xs k e in below_end xs k there.0 there.1
-
--- so a number after so many fits where all of them do
-pub fits : {X : Type 0} (test : X → Bool) (xs : List X) (first bound : ℕ) (own : Option ℕ) → own ≡ first_at test xs
-    → first + length xs < bound → IfSome own (λ k. first + k < bound)
-fits test xs first bound None e h = tt
-fits test xs first bound (Some k) e h = let below = first_below test xs k (sym e) in omega (arith, below, h)
 
 -- ---- parts of one list among others
 

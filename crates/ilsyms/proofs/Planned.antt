@@ -1,4 +1,4 @@
--- The instances of programs, one program after another.
+-- The instances of a task, one after another.
 use Rattle.std.proofs.Common.{◌≡◌, ℕ, suc, ◌+◌, ◌<◌, ◌≤◌, List, [], ◌∷◌, ◌++◌, map, length, take, drop, get_or}
 use Rattle.std.proofs.Common.{sym, ap, ◌∙◌, subst, add-one, arith, length-append}
 use Rattle.std.proofs.Math.ListN.{length-map}
@@ -11,21 +11,23 @@ use Rattle.iltrees.specs.Words.{AreShallow}
 use Rattle.iltrees.specs.Renaming.{by_name, rename_line}
 use Rattle.ilsource.specs.declared.name.Name.{Name}
 use Rattle.ilsource.specs.declared.symbol.Symbol.{Symbol}
-use Rattle.ilscope.specs.Declarations.{DeclaredProgram}
+use Rattle.ilsource.specs.Trees.{Tree}
 use Rattle.ilscope.specs.Kept.{Kept}
 use Rattle.ilscope.proofs.Least.{take_more}
 use Rattle.ilplan.specs.declared.instance.FunctionBlock.{FunctionBlock}
-use Rattle.ilplan.specs.declared.instance.Slot.{Slot}
+use Rattle.ilplan.specs.declared.slot.Slot.{Slot}
 use Rattle.ilplan.specs.declared.place.Place.{Place}
 use Rattle.ilplan.specs.Plans.{PlannedInstance}
+use Rattle.ilsyms.specs.InstanceSteps.{AreApart}
 use Rattle.ilsyms.specs.LabelSteps.{AreNumbered}
-use Rattle.ilsyms.specs.PlanningSteps.{Numbering, label_of, numbers}
-use Rattle.ilsyms.specs.Resolved.{new_places, label_number, instance_of}
-use Rattle.ilsyms.specs.Variables.{slot, slots_of_program, slots_of, lines_of}
-use Rattle.ilsyms.specs.Variables.{function_block, blocks_of_program, blocks_of}
-use Rattle.ilsyms.proofs.Distinct.{AreApart, others_around}
+use Rattle.ilsyms.specs.PlanningSteps.{Numbering, label_of, numbering_of, numbers}
+use Rattle.ilsyms.specs.Resolved.{new_places, label_number, planned_instance}
+use Rattle.ilsyms.specs.Tasks.{ProgramInstance}
+use Rattle.ilsyms.specs.Variables.{own_slot, slots_in, own_slots, global_slots, slots_of, lines_of}
+use Rattle.ilsyms.specs.Variables.{function_block, blocks_in, blocks_of}
+use Rattle.ilsyms.proofs.Distinct.{others_around}
+use Rattle.ilsyms.proofs.InstanceNumbers.{numbering, place_is}
 use Rattle.ilsyms.proofs.LabelNumbers.{label_is_number}
-use Rattle.ilsyms.proofs.ProgramNumbers.{numbering, place_is}
 use Rattle.ilsyms.proofs.Renamed.{shallow_append}
 
 -- a list in which an element stands
@@ -38,119 +40,120 @@ parted xs i x is below =
     ∙ take-append-drop i xs)
 
 -- the places that are given are the places in the store
-numbers_are : (text : List ℕ) (front back : List DeclaredProgram) (p : DeclaredProgram) (labels : Kept ℕ)
-    → AreApart text (front ++ p ∷ back)
-    → numbers (numbering text front back p labels)
-    ≡ new_places text (slots_of (front ++ p ∷ back)) (blocks_of (front ++ p ∷ back)) p.program.name
-numbers_are text front back p labels apart =
-    let others = others_around text front back p apart in
+numbers_are : (tree : Tree) (front back : List ProgramInstance) (p : ProgramInstance) (labels : Kept ℕ)
+    → AreApart tree.text (front ++ p ∷ back)
+    → numbers (numbering tree front back p labels)
+    ≡ new_places tree (slots_of tree (front ++ p ∷ back)) (blocks_of (front ++ p ∷ back)) p
+numbers_are tree front back p labels apart =
+    let others = others_around tree.text front back p apart in
     λ i. record {
-      operand = by_name (λ symbol. sym (place_is text front back p labels others.0 others.1 symbol) i);
-      name = λ symbol. sym (place_is text front back p labels others.0 others.1 symbol) i;
+      operand = by_name (λ symbol. sym (place_is tree front back p labels others.0 others.1 symbol) i);
+      name = λ symbol. sym (place_is tree front back p labels others.0 others.1 symbol) i;
     }
 
 -- lines with the places that are given
 abbrev pub renamed : Numbering → List (Line Symbol Name) → List (Line Place ℕ)
 renamed n lines = map (rename_line (numbers n) (label_of n)) lines
 
--- the program's instance, where its lines have these places
-instance_is : (text : List ℕ) (front back : List DeclaredProgram) (p : DeclaredProgram) (labels : Kept ℕ)
-    (lines : List (Line Place ℕ)) → AreApart text (front ++ p ∷ back) → AreNumbered text p.program.lines labels
-    → lines ≡ renamed (numbering text front back p labels) p.program.lines
-    → lines ≡ (instance_of text (slots_of (front ++ p ∷ back)) (blocks_of (front ++ p ∷ back)) p).lines
-instance_is text front back p labels lines apart numbered h =
-    let labels_are : label_of (numbering text front back p labels) ≡ label_number text p.program.lines =
-    λ i name. label_is_number text p.program.lines labels numbered name i
+-- the instance, where its lines have these places
+instance_is : (tree : Tree) (front back : List ProgramInstance) (p : ProgramInstance) (labels : Kept ℕ)
+    (lines : List (Line Place ℕ)) → AreApart tree.text (front ++ p ∷ back)
+    → AreNumbered tree.text p.program.program.lines labels
+    → lines ≡ renamed (numbering tree front back p labels) p.program.program.lines
+    → lines ≡ (planned_instance tree (slots_of tree (front ++ p ∷ back)) (blocks_of (front ++ p ∷ back)) p).lines
+instance_is tree front back p labels lines apart numbered h =
+    let labels_are : label_of (numbering tree front back p labels) ≡ label_number tree.text p.program.program.lines =
+    λ i name. label_is_number tree.text p.program.program.lines labels numbered name i
     in
-    let names_are = numbers_are text front back p labels apart in
-    h ∙ (λ i. map (rename_line (names_are i) (labels_are i)) p.program.lines)
+    let names_are = numbers_are tree front back p labels apart in
+    h ∙ (λ i. map (rename_line (names_are i) (labels_are i)) p.program.program.lines)
 
--- a numbering of these parts
-abbrev pub numbered_by : List ℕ → DeclaredProgram → ℕ → ℕ → ℕ → ℕ → Kept ℕ → Numbering
-numbered_by text p first_slot all_slots first_block all_blocks labels = record {
-  text = text;
-  program = p;
-  first_slot = first_slot;
-  all_slots = all_slots;
-  first_block = first_block;
-  all_blocks = all_blocks;
-  labels = labels;
-}
-
-module _ (text : List ℕ) (ps : List DeclaredProgram) (i : ℕ) (p : DeclaredProgram) (is : p ≡ get_or ps i p)
+module _ (tree : Tree) (ps : List ProgramInstance) (i : ℕ) (p : ProgramInstance) (is : p ≡ get_or ps i p)
     (below : i < length ps) where
-  -- with one program more
-  pub planned_more : AreApart text ps → (first_slot all_slots first_block all_blocks : ℕ)
-      → first_slot ≡ length (slots_of (take i ps)) → all_slots ≡ length (slots_of ps)
-      → first_block ≡ length (blocks_of (take i ps)) → all_blocks ≡ length (blocks_of ps)
-      → (labels : Kept ℕ) → AreNumbered text p.program.lines labels
+  -- with one instance more
+  pub planned_more : AreApart tree.text ps → (slots : List Slot) (first_slot all_blocks first_block : ℕ)
+      → slots ≡ slots_of tree ps → first_slot ≡ length (global_slots tree ps) + length (own_slots (take i ps))
+      → all_blocks ≡ length (blocks_of ps) → first_block ≡ length (blocks_of (take i ps))
+      → (labels : Kept ℕ) → AreNumbered tree.text p.program.program.lines labels
       → (lines : List (Line Place ℕ))
-      → lines ≡ renamed (numbered_by text p first_slot all_slots first_block all_blocks labels) p.program.lines
+      → lines ≡ renamed (numbering_of tree p.program slots first_slot all_blocks first_block labels)
+      p.program.program.lines
       → (instances : List PlannedInstance)
-      → instances ≡ map (instance_of text (slots_of ps) (blocks_of ps)) (take i ps)
-      → instances ++ record { name = p.program.name; lines = lines } ∷ []
-      ≡ map (instance_of text (slots_of ps) (blocks_of ps)) (take (i + 1) ps)
-  planned_more apart first_slot all_slots first_block all_blocks e g d k labels numbered lines h instances so_far =
+      → instances ≡ map (planned_instance tree (slots_of tree ps) (blocks_of ps)) (take i ps)
+      → instances ++ record { name = p.name; lines = lines } ∷ []
+      ≡ map (planned_instance tree (slots_of tree ps) (blocks_of ps)) (take (i + 1) ps)
+  planned_more apart slots first_slot all_blocks first_block s e k d labels numbered lines h instances so_far =
       let front = take i ps in
       let back = drop (i + 1) ps in
       let whole : front ++ p ∷ back ≡ ps = parted ps i p is below in
-      let g : all_slots ≡ length (slots_of (front ++ p ∷ back)) = g ∙ ap (λ qs. length (slots_of qs)) (sym whole) in
+      let s : slots ≡ slots_of tree (front ++ p ∷ back) = s ∙ ap (λ qs. slots_of tree qs) (sym whole) in
+      let e : first_slot ≡ length (global_slots tree (front ++ p ∷ back)) + length (own_slots front) =
+      e ∙ ap (λ qs. length (global_slots tree qs) + length (own_slots front)) (sym whole)
+      in
       let k : all_blocks ≡ length (blocks_of (front ++ p ∷ back)) = k ∙ ap (λ qs. length (blocks_of qs)) (sym whole) in
-      let named : lines ≡ renamed (numbering text front back p labels) p.program.lines =
-      h ∙ (λ j. renamed (numbered_by text p (e j) (g j) (d j) (k j) labels) p.program.lines)
+      let named : lines ≡ renamed (numbering tree front back p labels) p.program.program.lines =
+      h ∙ (λ j. renamed (numbering_of tree p.program (s j) (e j) (k j) (d j) labels) p.program.program.lines)
       in
-      let there = instance_is text front back p labels lines (subst (AreApart text) (sym whole) apart) numbered named in
-      let here : lines ≡ (instance_of text (slots_of ps) (blocks_of ps) p).lines =
-      there ∙ ap (λ qs. (instance_of text (slots_of qs) (blocks_of qs) p).lines) whole
+      let there = instance_is tree front back p labels lines (subst (AreApart tree.text) (sym whole) apart) numbered
+      named in
+      let here : lines ≡ (planned_instance tree (slots_of tree ps) (blocks_of ps) p).lines =
+      there ∙ ap (λ qs. (planned_instance tree (slots_of tree qs) (blocks_of qs) p).lines) whole
       in
-      (λ j. so_far j ++ record { name = p.program.name; lines = here j } ∷ [])
-      ∙ sym (map-append (instance_of text (slots_of ps) (blocks_of ps)) front (p ∷ []))
-      ∙ ap (map (instance_of text (slots_of ps) (blocks_of ps))) (sym (take_more ps i p below is))
+      (λ j. so_far j ++ record { name = p.name; lines = here j } ∷ [])
+      ∙ sym (map-append (planned_instance tree (slots_of tree ps) (blocks_of ps)) front (p ∷ []))
+      ∙ ap (map (planned_instance tree (slots_of tree ps) (blocks_of ps))) (sym (take_more ps i p below is))
 
-  lines_more : lines_of (take (i + 1) ps) ≡ lines_of (take i ps) ++ p.program.lines
+  lines_more : lines_of (take (i + 1) ps) ≡ lines_of (take i ps) ++ p.program.program.lines
   lines_more =
       ap lines_of (take_more ps i p below is)
-      ∙ flat_map-append (λ q. q.program.lines) (take i ps) (p ∷ [])
-      ∙ ap (λ ls. lines_of (take i ps) ++ ls) (append-nil p.program.lines)
+      ∙ flat_map-append (λ q. q.program.program.lines) (take i ps) (p ∷ [])
+      ∙ ap (λ ls. lines_of (take i ps) ++ ls) (append-nil p.program.program.lines)
 
   -- its slots are among all
-  pub slots_fit : length (slots_of (take i ps)) + length p.variables ≤ length (slots_of ps)
-  slots_fit =
-      let fit = length-flat_map-take slots_of_program ps i p below in
-      let own = ap (λ q. length (slots_of_program q)) (sym is) in
-      let many = length-map p.variables (slot p.program.name) in
+  own_fit : length (own_slots (take i ps)) + length p.program.variables ≤ length (own_slots ps)
+  own_fit =
+      let fit = length-flat_map-take slots_in ps i p below in
+      let own = ap (λ q. length (slots_in q)) (sym is) in
+      let many = length-map p.program.variables (own_slot p.name) in
       omega (arith, fit, own, many)
 
+  pub slots_fit : length (global_slots tree ps) + length (own_slots (take i ps)) + length p.program.variables
+      ≤ length (slots_of tree ps)
+  slots_fit =
+      let own = own_fit in
+      let all = length-append (global_slots tree ps) (own_slots ps) in
+      omega (arith, own, all)
+
   -- and so many are before the next
-  pub slots_more : length (slots_of (take i ps)) + length p.variables ≡ length (slots_of (take (i + 1) ps))
+  pub slots_more : length (own_slots (take i ps)) + length p.program.variables ≡ length (own_slots (take (i + 1) ps))
   slots_more =
-      let more = ap (λ qs. length (slots_of qs)) (take_more ps i p below is) in
-      let parts = ap (λ (ss : List Slot). length ss) (flat_map-append slots_of_program (take i ps) (p ∷ [])) in
-      let both = length-append (slots_of (take i ps)) (slots_of (p ∷ [])) in
-      let own = length-append (slots_of_program p) [] in
-      let many = length-map p.variables (slot p.program.name) in
+      let more = ap (λ qs. length (own_slots qs)) (take_more ps i p below is) in
+      let parts = ap (λ (ss : List Slot). length ss) (flat_map-append slots_in (take i ps) (p ∷ [])) in
+      let both = length-append (own_slots (take i ps)) (own_slots (p ∷ [])) in
+      let own = length-append (slots_in p) [] in
+      let many = length-map p.program.variables (own_slot p.name) in
       omega (arith, more, parts, both, own, many)
 
   -- its block instances likewise
-  pub blocks_fit : length (blocks_of (take i ps)) + length p.blocks ≤ length (blocks_of ps)
+  pub blocks_fit : length (blocks_of (take i ps)) + length p.program.blocks ≤ length (blocks_of ps)
   blocks_fit =
-      let fit = length-flat_map-take blocks_of_program ps i p below in
-      let own = ap (λ q. length (blocks_of_program q)) (sym is) in
-      let many = length-map p.blocks (function_block p.program.name) in
+      let fit = length-flat_map-take blocks_in ps i p below in
+      let own = ap (λ q. length (blocks_in q)) (sym is) in
+      let many = length-map p.program.blocks (function_block p.name) in
       omega (arith, fit, own, many)
 
-  pub blocks_more : length (blocks_of (take i ps)) + length p.blocks ≡ length (blocks_of (take (i + 1) ps))
+  pub blocks_more : length (blocks_of (take i ps)) + length p.program.blocks ≡ length (blocks_of (take (i + 1) ps))
   blocks_more =
       let more = ap (λ qs. length (blocks_of qs)) (take_more ps i p below is) in
       let parts = ap (λ (bs : List FunctionBlock). length bs)
-      (flat_map-append blocks_of_program (take i ps) (p ∷ [])) in
+      (flat_map-append blocks_in (take i ps) (p ∷ [])) in
       let both = length-append (blocks_of (take i ps)) (blocks_of (p ∷ [])) in
-      let own = length-append (blocks_of_program p) [] in
-      let many = length-map p.blocks (function_block p.program.name) in
+      let own = length-append (blocks_in p) [] in
+      let many = length-map p.program.blocks (function_block p.name) in
       omega (arith, more, parts, both, own, many)
 
   -- the lines up to the next
-  pub shallow_more : AreShallow (lines_of (take i ps)) → AreShallow p.program.lines
+  pub shallow_more : AreShallow (lines_of (take i ps)) → AreShallow p.program.program.lines
       → AreShallow (lines_of (take (i + 1) ps))
   shallow_more before own =
-      subst AreShallow (sym lines_more) (shallow_append (lines_of (take i ps)) p.program.lines before own)
+      subst AreShallow (sym lines_more) (shallow_append (lines_of (take i ps)) p.program.program.lines before own)

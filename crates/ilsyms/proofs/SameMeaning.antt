@@ -6,16 +6,15 @@ use Rattle.iltrees.specs.Meaning.{On}
 use Rattle.iltrees.specs.Passes.{passes, scan}
 use Rattle.iltrees.specs.Renaming.{IsSeen, IsRenamed}
 use Rattle.iltrees.proofs.KeptMeaning.{renamed_same, operand_same}
-use Rattle.ilsource.specs.declared.name.Name.{Name}
 use Rattle.ilsource.specs.Trees.{Tree}
 use Rattle.ilblocks.specs.Stores.{Shape, Store}
-use Rattle.ilscope.specs.Declarations.{DeclaredProgram, declared_programs}
 use Rattle.ilplan.specs.declared.instance.FunctionBlock.{FunctionBlock}
-use Rattle.ilplan.specs.declared.instance.Slot.{Slot}
+use Rattle.ilplan.specs.declared.slot.Slot.{Slot}
 use Rattle.ilplan.specs.PlanMeaning.{places_of, number_same, plan_scan}
-use Rattle.ilsyms.specs.Meaning.{same_name, place_of, names_in, programs_scan, source_scan}
-use Rattle.ilsyms.specs.Resolved.{new_places, label_number, instance_of, task_of_tree}
-use Rattle.ilsyms.specs.Variables.{slots_of_tree, blocks_of_tree, shape_of_tree}
+use Rattle.ilsyms.specs.Meaning.{same_name, place_of, names_in, instances_scan, source_scan}
+use Rattle.ilsyms.specs.Resolved.{new_places, label_number, planned_instance, planned_task}
+use Rattle.ilsyms.specs.Tasks.{ProgramInstance, SourceTask}
+use Rattle.ilsyms.specs.Variables.{slots_of, blocks_of, shape_of}
 use Rattle.ilsyms.proofs.Labels.{labels_kept}
 
 unchanged : (o : Option Store) → o ≡ option_map (λ store. store) o
@@ -31,45 +30,44 @@ then_same k l o q e g = ap (option_and_then k) g ∙ go_on q
     go_on None = refl
     go_on (Some store) = e store
 
-module _ (shape : Shape) (text : List ℕ) (slots : List Slot) (blocks : List FunctionBlock) where
-  seen : (instance : Name)
-      → IsSeen (names_in shape text slots blocks instance) (places_of shape) (new_places text slots blocks instance)
-      (λ store. store)
-  seen instance = record {
+module _ (shape : Shape) (tree : Tree) (slots : List Slot) (blocks : List FunctionBlock) where
+  seen : (i : ProgramInstance)
+      → IsSeen (names_in shape tree slots blocks i) (places_of shape) (new_places tree slots blocks i) (λ store. store)
+  seen i = record {
     read = λ s o.
-        operand_same (names_in shape text slots blocks instance) (places_of shape)
-        (place_of text slots blocks instance) (λ store. store) (λ s n. refl) s o;
+        operand_same (names_in shape tree slots blocks i) (places_of shape)
+        (place_of tree slots blocks i) (λ store. store) (λ s n. refl) s o;
     write = λ s n v. unchanged _;
     pass = λ s n v. unchanged _;
     call = λ s n. unchanged _;
   }
 
-  program_same : (p : DeclaredProgram) (store : Store)
-      → passes number_same (places_of shape) (instance_of text slots blocks p).lines On None store
-      ≡ passes (same_name text) (names_in shape text slots blocks p.program.name) p.program.lines On None store
-  program_same p store =
-      let renamed : IsRenamed (same_name text) number_same (new_places text slots blocks p.program.name)
-      p.program.lines (instance_of text slots blocks p).lines =
+  instance_same : (i : ProgramInstance) (store : Store)
+      → passes number_same (places_of shape) (planned_instance tree slots blocks i).lines On None store
+      ≡ passes (same_name tree.text) (names_in shape tree slots blocks i) i.program.program.lines On None store
+  instance_same i store =
+      let renamed : IsRenamed (same_name tree.text) number_same (new_places tree slots blocks i)
+      i.program.program.lines (planned_instance tree slots blocks i).lines =
       record {
-        label = label_number text p.program.lines;
-        kept = labels_kept text p.program.lines;
+        label = label_number tree.text i.program.program.lines;
+        kept = labels_kept tree.text i.program.program.lines;
         is = refl;
       }
       in
-      renamed_same (names_in shape text slots blocks p.program.name) (places_of shape)
-      (new_places text slots blocks p.program.name) (λ store. store) (seen p.program.name) (same_name text) number_same
-      p.program.lines (instance_of text slots blocks p).lines renamed None store
+      renamed_same (names_in shape tree slots blocks i) (places_of shape)
+      (new_places tree slots blocks i) (λ store. store) (seen i) (same_name tree.text) number_same
+      i.program.program.lines (planned_instance tree slots blocks i).lines renamed None store
       ∙ sym (unchanged _)
 
-  programs_same : (ps : List DeclaredProgram) (store : Store)
-      → scan number_same (places_of shape) (map (λ i. i.lines) (map (instance_of text slots blocks) ps)) store
-      ≡ programs_scan shape text slots blocks ps store
-  programs_same [] store = refl
-  programs_same (p ∷ ps) store =
-      then_same _ (programs_scan shape text slots blocks ps) _ _ (λ s. programs_same ps s) (program_same p store)
+  instances_same : (is : List ProgramInstance) (store : Store)
+      → scan number_same (places_of shape) (map (λ i. i.lines) (map (planned_instance tree slots blocks) is)) store
+      ≡ instances_scan shape tree slots blocks is store
+  instances_same [] store = refl
+  instances_same (i ∷ is) store =
+      then_same _ (instances_scan shape tree slots blocks is) _ _ (λ s. instances_same is s) (instance_same i store)
 
-pub means_the_same : (tree : Tree) (buses : ℕ) (store : Store)
-    → plan_scan buses (task_of_tree tree) store ≡ source_scan tree buses store
-means_the_same tree buses store =
-    programs_same (shape_of_tree tree buses) tree.text (slots_of_tree tree) (blocks_of_tree tree)
-    (declared_programs tree) store
+pub means_the_same : (tree : Tree) (buses : ℕ) (task : SourceTask) (store : Store)
+    → plan_scan buses (planned_task tree task) store ≡ source_scan tree buses task store
+means_the_same tree buses task store =
+    instances_same (shape_of tree buses task.instances) tree (slots_of tree task.instances) (blocks_of task.instances)
+    task.instances store

@@ -1,32 +1,47 @@
 -- The initial values of slots are of their types.
-use Rattle.std.proofs.Common.{suc, List, [], ◌∷◌, ◌++◌, map, arith}
+use Rattle.std.proofs.Common.{suc, List, [], ◌∷◌, ◌++◌, map, arith, subst}
 use Rattle.std.specs.Prelude.{All}
-use Rattle.iltypes.specs.Values.{AreOf}
+use Rattle.std.specs.List.{AllByRecursion}
+use Rattle.std.proofs.lemmas.Option.{get_or_from_slice_get}
+use Rattle.iltypes.specs.Values.{IsOf, AreOf}
 use Rattle.ilsource.specs.declared.name.Name.{Name}
 use Rattle.ilsource.specs.Trees.{Tree}
-use Rattle.ilscope.specs.Declarations.{DeclaredProgram, declared_programs}
+use Rattle.ilscope.specs.Configured.{globals_of}
+use Rattle.ilscope.specs.declared.global.DeclaredGlobal.{DeclaredGlobal}
 use Rattle.ilscope.specs.declared.variable.Variable.{Variable}
-use Rattle.ilscope.proofs.Typed.{IsTypedVariable, declared_typed_programs}
-use Rattle.ilplan.specs.declared.instance.Slot.{Slot}
-use Rattle.ilplan.specs.Plans.{types_of, initials_of}
-use Rattle.ilsyms.specs.Resolved.{task_of_tree}
-use Rattle.ilsyms.specs.Variables.{slot, slots_of}
+use Rattle.ilscope.proofs.Typed.{IsTypedVariable, declared_typed_globals}
+use Rattle.ilplan.specs.declared.slot.Slot.{Slot}
+use Rattle.ilsyms.specs.Tasks.{ProgramInstance}
+use Rattle.ilsyms.specs.Variables.{own_slot, own_slots, slots_of, global_slots}
+use Rattle.ilsyms.proofs.Firsts.{below_end}
+use Rattle.ilsyms.proofs.OwnSlots.{all_global}
 
 abbrev AreTypedSlots : List Slot → Type 0
 AreTypedSlots slots = AreOf (map (λ s. s.initial) slots) (map (λ s. s.value_type) slots)
 
 variables_typed : (instance : Name) (vs : List Variable) (rest : List Slot) → All IsTypedVariable vs
-    → AreTypedSlots rest → AreTypedSlots (map (slot instance) vs ++ rest)
+    → AreTypedSlots rest → AreTypedSlots (map (own_slot instance) vs ++ rest)
 variables_typed instance [] rest h r = r
 variables_typed instance (v ∷ vs) rest h r =
     (h 0 v (omega arith), variables_typed instance vs rest (λ k d below. h (suc k) d (omega arith)) r)
 
-programs_typed : (ps : List DeclaredProgram) → All (λ p. All IsTypedVariable p.variables) ps
-    → AreTypedSlots (slots_of ps)
-programs_typed [] h = tt
-programs_typed (p ∷ ps) h =
-    variables_typed p.program.name p.variables (slots_of ps) (h 0 p (omega arith))
-    (programs_typed ps (λ k d below. h (suc k) d (omega arith)))
+abbrev pub AreTypedInstances : List ProgramInstance → Type 0
+AreTypedInstances is = AllByRecursion (λ i. All IsTypedVariable i.program.variables) is
 
-pub initials_typed : (tree : Tree) → AreOf (initials_of (task_of_tree tree)) (types_of (task_of_tree tree))
-initials_typed tree = programs_typed (declared_programs tree) (declared_typed_programs tree)
+instances_typed : (is : List ProgramInstance) → AreTypedInstances is → AreTypedSlots (own_slots is)
+instances_typed [] h = tt
+instances_typed (i ∷ is) h = variables_typed i.name i.program.variables (own_slots is) h.0 (instances_typed is h.1)
+
+typed_before : (slots rest : List Slot) → AllByRecursion (λ s. IsOf s.initial s.value_type) slots → AreTypedSlots rest
+    → AreTypedSlots (slots ++ rest)
+typed_before [] rest h r = r
+typed_before (s ∷ slots) rest h r = (h.0, typed_before slots rest h.1 r)
+
+pub slots_typed : (tree : Tree) (is : List ProgramInstance) → AreTypedInstances is → AreTypedSlots (slots_of tree is)
+slots_typed tree is own =
+    typed_before (global_slots tree is) (own_slots is)
+    (all_global tree is (λ s. IsOf s.initial s.value_type)
+    (λ n g e.
+    subst (λ (h : DeclaredGlobal). IsOf h.initial h.value_type) (get_or_from_slice_get (globals_of tree) n g g e)
+    (declared_typed_globals tree n g (below_end (globals_of tree) n g e))))
+    (instances_typed is own)

@@ -1,12 +1,22 @@
 -- How the different constants of uses are counted, one use after another.
-use Rattle.std.specs.Prelude.{◌≡◌, ◌↔◌, ℕ, List, Option, Some}
+use Rattle.std.specs.Prelude.{◌≡◌, ◌↔◌, ℕ, List, Bool, true, Option, Some, slice_get}
 use Rattle.iltypes.specs.declared.value.Value.{Value}
 use Rattle.iltrees.specs.declared.uses.Use.{Use}
 use Rattle.ilsource.specs.declared.symbol.Symbol.{Symbol}
 use Rattle.ilplan.specs.Constants.{constants_used, each_once}
+use Rattle.ilsource.specs.Trees.{Tree}
+use Rattle.ilscope.specs.Declarations.{declared_programs}
+use Rattle.ilscope.specs.Faults.{SomeOf}
 use Rattle.ilsyms.specs.Faults.{MakesTooManyConstants}
+use Rattle.ilsyms.specs.Tasks.{ProgramInstance}
 
 -- the different constants of the uses, and the place of the one that makes them too many, if there is one
 pub record AreCounted (uses : List (Use Symbol)) (constants : List Value) (excess : Option ℕ) : Type 0 where
   pub different : constants ≡ each_once (constants_used uses)
   pub too_many : (place : ℕ) → (excess ≡ Some place) ↔ MakesTooManyConstants uses place
+
+-- the programs that are marked are those of some of the instances
+abbrev pub AreSeen : Tree → List ProgramInstance → List Bool → Type 0
+AreSeen tree instances marks =
+    (number : ℕ) → slice_get marks number ≡ Some true
+    → SomeOf (λ i. slice_get (declared_programs tree) number ≡ Some i.program) instances

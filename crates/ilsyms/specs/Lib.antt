@@ -1,8 +1,13 @@
 pub mod CountingSteps
 pub mod Faults
+pub mod InstanceSteps
 pub mod LabelSteps
+pub mod LimitSteps
 pub mod Meaning
 pub mod PlanningSteps
 pub mod Resolved
+pub mod SlotSteps
+pub mod TaskSetSteps
+pub mod Tasks
 pub mod UseSteps
 pub mod Variables

@@ -1,6 +1,7 @@
--- How a program's names get numbers: its variables one after another, after those of the programs before, and its block
--- instances likewise. And how its labels get the numbers of lines.
-use Rattle.std.specs.Prelude.{ℕ, ◌+◌, List, bytes_eq, length, unwrap_or}
+-- How the names of an instance get numbers: its variables one after another, after the global variables and those of
+-- the instances before, and its block instances likewise. And how its labels get the numbers of lines.
+use Rattle.std.specs.Prelude.{ℕ, ◌+◌, List, bytes_eq, length, Option, unwrap_or, Bool, true, false}
+use Rattle.std.specs.List.{position_or_len}
 use Rattle.std.specs.Map.{lookup}
 use Rattle.std.specs.Option.{option_map_or}
 use Rattle.iltrees.specs.Renaming.{NewNames, by_name}
@@ -8,38 +9,63 @@ use Rattle.ilsource.specs.declared.name.Name.{Name}
 use Rattle.ilsource.specs.declared.symbol.Symbol.{Symbol}
 use Rattle.ilsource.specs.declared.symbol.Symbol.TheVariants as symbols
 use Rattle.ilsource.specs.Names.{folded}
+use Rattle.ilsource.specs.Trees.{Tree}
 use Rattle.ilblocks.specs.Ports.{most_ports}
+use Rattle.ilscope.specs.Configured.{global_number}
 use Rattle.ilscope.specs.Declarations.{DeclaredProgram}
 use Rattle.ilscope.specs.Kept.{Kept}
 use Rattle.ilscope.specs.Tables.{block_number, variable_number}
+use Rattle.ilplan.specs.declared.slot.Slot.{Slot}
+use Rattle.ilplan.specs.declared.slot.Variable.{Variable}
+use Rattle.ilplan.specs.declared.slot.Variable.TheVariants.{Global, Own}
 use Rattle.ilplan.specs.declared.place.Place.{Place}
 use Rattle.ilplan.specs.declared.place.Place.TheVariants as places
 use Rattle.ilsyms.specs.Faults.{port_number}
+use Rattle.ilsyms.specs.Meaning.{is_global}
 
--- the text, the program, the number of its first slot and how many slots the task has, the same of block instances, and
--- the numbers that are kept under labels
+-- the text's tree, the program, the task's slots and the number of the first of the instance's own, the number of its
+-- first block instance and how many of these the task has, and the numbers that are kept under labels
 pub record Numbering : Type 0 where
-  pub text : List ℕ
+  pub tree : Tree
   pub program : DeclaredProgram
+  pub slots : List Slot
   pub first_slot : ℕ
-  pub all_slots : ℕ
   pub first_block : ℕ
   pub all_blocks : ℕ
   pub labels : Kept ℕ
 
--- the number of a variable's slot; past the last where there is none
+abbrev pub numbering_of : Tree → DeclaredProgram → List Slot → ℕ → ℕ → ℕ → Kept ℕ → Numbering
+numbering_of tree program slots first_slot all_blocks first_block labels =
+    record {
+      tree = tree;
+      program = program;
+      slots = slots;
+      first_slot = first_slot;
+      first_block = first_block;
+      all_blocks = all_blocks;
+      labels = labels;
+    }
+
+-- the number of the slot of a global variable; past the last where there is none
+abbrev pub number_of_global : List Slot → Option ℕ → ℕ
+number_of_global slots global = position_or_len (λ s. is_global global s.variable) slots
+
+-- the number of the slot of what a name means: a variable of the instance, else a global variable
 abbrev pub slot_number : Numbering → Name → ℕ
 slot_number n name =
-    option_map_or (λ k. n.first_slot + k) (variable_number (folded n.text) n.program.variables name) n.all_slots
+    option_map_or
+    (λ k. n.first_slot + k)
+    (variable_number (folded n.tree.text) n.program.variables name)
+    (number_of_global n.slots (global_number n.tree name))
 
--- the number of a block instance, likewise
+-- the number of a block instance; past the last where there is none
 abbrev pub number_of_block : Numbering → Name → ℕ
 number_of_block n name =
-    option_map_or (λ k. n.first_block + k) (block_number (folded n.text) n.program.blocks name) n.all_blocks
+    option_map_or (λ k. n.first_block + k) (block_number (folded n.tree.text) n.program.blocks name) n.all_blocks
 
 -- the number of a port of a block instance; past the last port where there is none
 abbrev pub number_of_port : Numbering → Name → Name → ℕ
-number_of_port n block port = option_map_or (λ found. found.1) (port_number n.text n.program block port) most_ports
+number_of_port n block port = option_map_or (λ found. found.1) (port_number n.tree.text n.program block port) most_ports
 
 -- the place of what a line names
 abbrev pub place_by_number : Numbering → Symbol → Place
@@ -52,4 +78,9 @@ numbers n = record { operand = by_name (place_by_number n); name = place_by_numb
 
 -- the number of the first line with a label; past the last where there is none
 abbrev pub label_of : Numbering → Name → ℕ
-label_of n label = unwrap_or (lookup (bytes_eq (folded n.text label)) n.labels) (length n.program.program.lines)
+label_of n label = unwrap_or (lookup (bytes_eq (folded n.tree.text label)) n.labels) (length n.program.program.lines)
+
+-- the variable is one of an instance
+abbrev pub is_of_instance : Variable → Bool
+is_of_instance (Own instance name) = true
+is_of_instance (Global number) = false

@@ -1,52 +1,77 @@
--- The plan of a source program: without a configuration one cyclic task `main`, with an instance of each program in
--- order (profile), whose lines are the program's with names replaced by places in a store, and labels by the numbers of
--- lines.
-use Rattle.std.specs.Prelude.{ℕ, List, [], ◌∷◌, map, false, codes}
+-- The plan of a source program: the tasks of the text with their names replaced by places in a store, and labels by the
+-- numbers of lines; its global variables, and the sources of events that are bound (profile).
+use Rattle.std.specs.Prelude.{ℕ, ◌-◌, List, map, option_map, nat_lt, if◌then◌else◌}
 use Rattle.std.specs.List.{position_or_len}
+use Rattle.binding.specs.Wirings.{Wiring}
 use Rattle.iltrees.specs.declared.instruction.Line.{Line}
 use Rattle.iltrees.specs.Passes.{has_label}
 use Rattle.iltrees.specs.Renaming.{NewNames, by_name, rename_line}
+use Rattle.iltokens.specs.declared.lexed.AddressKind.{AddressKind}
+use Rattle.iltokens.specs.declared.lexed.AddressKind.TheVariants as address_kinds
 use Rattle.ilsource.specs.declared.name.Name.{Name}
-use Rattle.ilsource.specs.Trees.{Tree}
-use Rattle.ilscope.specs.Declarations.{DeclaredProgram, declared_programs}
 use Rattle.ilsource.specs.declared.symbol.Symbol.{Symbol}
+use Rattle.ilsource.specs.Trees.{Tree}
+use Rattle.ilscope.specs.Configured.{globals_of}
+use Rattle.ilscope.specs.declared.global.DeclaredGlobal.{DeclaredGlobal}
+use Rattle.ilplan.specs.declared.global.Global.{Global}
+use Rattle.ilplan.specs.declared.global.Location.{Location}
+use Rattle.ilplan.specs.declared.global.Location.TheVariants.{Level, GearAnswer, DeviceAnswer, Information, Count}
+use Rattle.ilplan.specs.declared.global.Location.TheVariants.{Trigger}
 use Rattle.ilplan.specs.declared.instance.FunctionBlock.{FunctionBlock}
-use Rattle.ilplan.specs.declared.instance.Slot.{Slot}
 use Rattle.ilplan.specs.declared.place.Place.{Place}
+use Rattle.ilplan.specs.declared.slot.Slot.{Slot}
 use Rattle.ilplan.specs.Constants.{different_constants}
 use Rattle.ilplan.specs.Plans.{PlannedInstance, PlannedTask, Planned, task_of, plan_of}
 use Rattle.ilsyms.specs.Meaning.{same_name, place_of}
-use Rattle.ilsyms.specs.Variables.{slots_of_tree, blocks_of_tree, lines_of}
+use Rattle.ilsyms.specs.Tasks.{ProgramInstance, SourceTask, tasks_of}
+use Rattle.ilsyms.specs.Variables.{slots_of, blocks_of, lines_of}
+
+-- where an address of a place that is there lies
+abbrev pub location : AddressKind → ℕ → ℕ → Location
+location address_kinds.OutputByte bus place = Level bus place
+location address_kinds.InputWord bus place =
+    if nat_lt place 64 then GearAnswer bus place
+    else if nat_lt place 128 then DeviceAnswer bus (place - 64)
+    else if nat_lt place 192 then Information bus (place - 128) else Count bus (place - 192)
+location address_kinds.InputBit bus place = Trigger bus place
+
+abbrev pub planned_global : DeclaredGlobal → Global
+planned_global g =
+    record {
+      name = g.name;
+      location = option_map (λ a. location a.kind a.bus a.place) g.address;
+      value_type = g.value_type;
+      initial = g.initial;
+    }
 
 -- each name in an instance's lines as its place; constants stay
-abbrev pub new_places : List ℕ → List Slot → List FunctionBlock → Name → NewNames Symbol Place
-new_places text slots blocks instance =
-    record {
-      operand = by_name (place_of text slots blocks instance);
-      name = place_of text slots blocks instance;
-    }
+abbrev pub new_places : Tree → List Slot → List FunctionBlock → ProgramInstance → NewNames Symbol Place
+new_places tree slots blocks instance =
+    let place = place_of tree slots blocks instance in record { operand = by_name place; name = place }
 
 -- a label as the number of the first line that has it
 abbrev pub label_number : List ℕ → List (Line Symbol Name) → Name → ℕ
 label_number text lines label = position_or_len (λ line. has_label (same_name text) label line.label) lines
 
--- the instance of a program
-abbrev pub instance_of : List ℕ → List Slot → List FunctionBlock → DeclaredProgram → PlannedInstance
-instance_of text slots blocks p =
+abbrev pub planned_instance : Tree → List Slot → List FunctionBlock → ProgramInstance → PlannedInstance
+planned_instance tree slots blocks i =
+    let lines = i.program.program.lines in
     record {
-      name = p.program.name;
-      lines = map
-          (rename_line (new_places text slots blocks p.program.name) (label_number text p.program.lines))
-          p.program.lines;
+      name = i.name;
+      lines = map (rename_line (new_places tree slots blocks i) (label_number tree.text lines)) lines;
     }
 
--- the task
-abbrev pub task_of_tree : Tree → PlannedTask
-task_of_tree tree =
-    task_of (codes "main") false (slots_of_tree tree) (blocks_of_tree tree)
-    (different_constants (lines_of (declared_programs tree)))
-    (map (instance_of tree.text (slots_of_tree tree) (blocks_of_tree tree)) (declared_programs tree))
+abbrev pub planned_instances : Tree → List ProgramInstance → List PlannedInstance
+planned_instances tree instances =
+    map (planned_instance tree (slots_of tree instances) (blocks_of instances)) instances
 
--- the plan, on this many buses
-abbrev pub plan_of_tree : Tree → ℕ → Planned
-plan_of_tree tree buses = plan_of tree.text buses [] (task_of_tree tree ∷ [])
+abbrev pub planned_task : Tree → SourceTask → PlannedTask
+planned_task tree task =
+    task_of task.name task.activation task.priority (slots_of tree task.instances) (blocks_of task.instances)
+    (different_constants (lines_of task.instances)) (planned_instances tree task.instances)
+
+-- the plan of the text and the binding
+abbrev pub plan_of_tree : Tree → Wiring → Planned
+plan_of_tree tree wiring =
+    plan_of tree.text wiring.buses wiring.sources (map planned_global (globals_of tree))
+    (map (planned_task tree) (tasks_of tree))

@@ -1,60 +1,88 @@
--- The variables and block instances of a source program's task, its lines and what they use, in the order of the text.
--- Without a configuration a text has one task with one instance of each program, under the program's name (profile).
-use Rattle.std.specs.Prelude.{ℕ, List, flat_map, map}
+-- The variables and block instances of program instances, their lines and what these use (IEC 61131-3, 2.4.3, 2.5.2 and
+-- 2.7.2): first the global variables that the programs name in VAR_EXTERNAL, in declared order, then the variables of
+-- each instance.
+use Rattle.std.specs.Prelude.{ℕ, List, ◌++◌, flat_map, map, filter_map, Option, Some, None, Bool, false, if◌then◌else◌}
+use Rattle.std.specs.Prelude.{◌==◌}
+use Rattle.std.specs.Option.{option_map_or}
+use Rattle.std.specs.List.{list_any, enumerate_from}
 use Rattle.iltrees.specs.declared.instruction.Line.{Line}
 use Rattle.iltrees.specs.declared.uses.Use.{Use}
 use Rattle.iltrees.specs.Uses.{uses_in}
-use Rattle.ilsource.specs.declared.name.Name.{Name}
 use Rattle.ilblocks.specs.Stores.{Shape}
-use Rattle.ilsource.specs.declared.symbol.Symbol.{Symbol}
 use Rattle.ilsource.specs.Trees.{Tree}
-use Rattle.ilscope.specs.declared.variable.Variable.{Variable}
-use Rattle.ilscope.specs.Declarations.{DeclaredProgram, declared_programs}
+use Rattle.ilsource.specs.declared.name.Name.{Name}
+use Rattle.ilsource.specs.declared.symbol.Symbol.{Symbol}
+use Rattle.ilscope.specs.Configured.{globals_of, global_number}
 use Rattle.ilscope.specs.declared.block.DeclaredBlock.{DeclaredBlock}
+use Rattle.ilscope.specs.declared.external.DeclaredExternal.{DeclaredExternal}
+use Rattle.ilscope.specs.declared.global.DeclaredGlobal.{DeclaredGlobal}
+use Rattle.ilscope.specs.declared.variable.Variable.{Variable}
 use Rattle.ilplan.specs.declared.instance.FunctionBlock.{FunctionBlock}
-use Rattle.ilplan.specs.declared.instance.Slot.{Slot}
+use Rattle.ilplan.specs.declared.slot.Slot.{Slot}
+use Rattle.ilplan.specs.declared.slot.Variable.TheVariants as variables
+use Rattle.ilsyms.specs.Tasks.{ProgramInstance}
 
--- the slot of a variable of an instance
-abbrev pub slot : Name → Variable → Slot
-slot instance v =
-    record { instance = instance; variable = v.name; value_type = v.value_type; initial = v.initial }
+-- ---- variables
 
--- the slots of a program's instance
-abbrev pub slots_of_program : DeclaredProgram → List Slot
-slots_of_program p = map (slot p.program.name) p.variables
+-- some external has the name of the global variable of this number
+abbrev pub is_among : Tree → ℕ → List DeclaredExternal → Bool
+is_among tree number externals =
+    list_any (λ e. option_map_or (λ its. its == number) (global_number tree e.name) false) externals
 
--- the slots of programs' instances: the variables of the first, in declared order, then those of the next
-abbrev pub slots_of : List DeclaredProgram → List Slot
-slots_of programs = flat_map slots_of_program programs
+-- the programs of the instances name it in VAR_EXTERNAL
+abbrev pub is_named : Tree → List ProgramInstance → ℕ → Bool
+is_named tree instances number = list_any (λ i. is_among tree number i.program.externals) instances
 
-abbrev pub slots_of_tree : Tree → List Slot
-slots_of_tree tree = slots_of (declared_programs tree)
+-- the slot of a global variable, and that of a variable of an instance
+abbrev pub global_slot : ℕ → DeclaredGlobal → Slot
+global_slot number g = record { variable = variables.Global number; value_type = g.value_type; initial = g.initial }
 
--- the block instances of a program's instance, and of all, in the same order
+abbrev pub own_slot : Name → Variable → Slot
+own_slot instance v =
+    record { variable = variables.Own instance v.name; value_type = v.value_type; initial = v.initial }
+
+-- the global variables that the instances' programs name, in declared order
+abbrev pub named_slot : Tree → List ProgramInstance → ℕ × DeclaredGlobal → Option Slot
+named_slot tree instances numbered =
+    if is_named tree instances numbered.0 then Some (global_slot numbered.0 numbered.1) else None
+
+abbrev pub global_slots : Tree → List ProgramInstance → List Slot
+global_slots tree instances = filter_map (named_slot tree instances) (enumerate_from 0 (globals_of tree))
+
+-- the variables of instances: those of the first, in declared order, then those of the next
+abbrev pub slots_in : ProgramInstance → List Slot
+slots_in i = map (own_slot i.name) i.program.variables
+
+abbrev pub own_slots : List ProgramInstance → List Slot
+own_slots instances = flat_map slots_in instances
+
+abbrev pub slots_of : Tree → List ProgramInstance → List Slot
+slots_of tree instances = global_slots tree instances ++ own_slots instances
+
+-- the block instances, in the same order
 abbrev pub function_block : Name → DeclaredBlock → FunctionBlock
 function_block instance b = record { instance = instance; name = b.name; kind = b.kind }
 
-abbrev pub blocks_of_program : DeclaredProgram → List FunctionBlock
-blocks_of_program p = map (function_block p.program.name) p.blocks
+abbrev pub blocks_in : ProgramInstance → List FunctionBlock
+blocks_in i = map (function_block i.name) i.program.blocks
 
-abbrev pub blocks_of : List DeclaredProgram → List FunctionBlock
-blocks_of programs = flat_map blocks_of_program programs
-
-abbrev pub blocks_of_tree : Tree → List FunctionBlock
-blocks_of_tree tree = blocks_of (declared_programs tree)
+abbrev pub blocks_of : List ProgramInstance → List FunctionBlock
+blocks_of instances = flat_map blocks_in instances
 
 -- on so many buses they are stores of this shape
-abbrev pub shape_of_tree : Tree → ℕ → Shape
-shape_of_tree tree buses =
+abbrev pub shape_of : Tree → ℕ → List ProgramInstance → Shape
+shape_of tree buses instances =
     record {
       buses = buses;
-      slots = map (λ s. s.value_type) (slots_of_tree tree);
-      kinds = map (λ b. b.kind) (blocks_of_tree tree);
+      slots = map (λ s. s.value_type) (slots_of tree instances);
+      kinds = map (λ b. b.kind) (blocks_of instances);
     }
 
--- the lines of the programs, one program after another
-abbrev pub lines_of : List DeclaredProgram → List (Line Symbol Name)
-lines_of programs = flat_map (λ p. p.program.lines) programs
+-- ---- lines
+
+-- the lines of instances, one instance after another
+abbrev pub lines_of : List ProgramInstance → List (Line Symbol Name)
+lines_of instances = flat_map (λ i. i.program.program.lines) instances
 
 -- what they use
 abbrev pub uses_of : List (Line Symbol Name) → List (Use Symbol)

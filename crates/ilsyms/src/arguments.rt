@@ -20,7 +20,7 @@ pub(crate) fn given_twice(
     lines: &[Line<Symbol, Name>],
 ) -> Result<Option<Found>, AllocError>
     ensures { IfOk result (λ found.
-        IsLeastOf (OfCause Twice (IsGivenTwiceIn scope.now.text lines.now)) found) }
+        IsLeastOf (OfCause Twice (IsGivenTwiceIn scope.now.tree.text lines.now)) found) }
 {
     let mut least = None;
     for line in lines {
@@ -37,7 +37,7 @@ fn given_twice_in(
     line: &Line<Symbol, Name>,
 ) -> Result<Option<Found>, AllocError>
     ensures { IfOk result (λ found. IsLeastOf
-        (OfCause Twice (IsTwiceIn (folded scope.now.text) (ports_given line.now.instruction)))
+        (OfCause Twice (IsTwiceIn (folded scope.now.tree.text) (ports_given line.now.instruction)))
         found) }
 {
     match &line.instruction {
@@ -53,7 +53,8 @@ fn given_twice_by(
     instruction: &Instruction<Symbol, Name>,
 ) -> Result<Option<Found>, AllocError>
     ensures { IfOk result (λ found. IsLeastOf
-        (OfCause Twice (IsTwiceIn (folded scope.now.text) (ports_given (Some instruction.now))))
+        (OfCause Twice (IsTwiceIn (folded scope.now.tree.text)
+        (ports_given (Some instruction.now))))
         found) }
 {
     match instruction {
@@ -71,7 +72,7 @@ fn given_twice_among(
     arguments: &[Argument<Symbol>],
 ) -> Result<Option<Found>, AllocError>
     ensures { IfOk result (λ found. IsLeastOf (OfCause Twice
-        (IsTwiceIn (folded scope.now.text) (filter_map (λ x. port_in x.port) arguments.now)))
+        (IsTwiceIn (folded scope.now.tree.text) (filter_map (λ x. port_in x.port) arguments.now)))
         found) }
 {
     let mut given = Names::new(alloc);

@@ -1,8 +1,9 @@
 //! The different constants of a task.
 
+use crate::tasks::{TaskInstance, program_of};
 use crate::uses::uses_of;
 use ilplan::Constants;
-use ilscope::ProgramScope;
+use ilscope::Scope;
 use ilsource::Symbol;
 use iltrees::{Operand, Use};
 use limits::MOST_CONSTANTS;
@@ -20,20 +21,33 @@ impl Counted {
     ghost use Rattle.iltrees.specs.declared.uses.Use.{Use};
     ghost use Rattle.ilsource.specs.declared.symbol.Symbol.{Symbol};
     ghost use Rattle.ilsyms.specs.CountingSteps.{AreCounted};
+    ghost use Rattle.ilsyms.specs.InstanceSteps.{AreThere, instances_of};
     ghost use Rattle.ilsyms.specs.Variables.{lines_of, uses_of};
 
-    /// Those of the programs' lines.
-    pub(crate) fn of(alloc: Global, programs: &[ProgramScope<'_>]) -> Result<Counted, AllocError>
-        ensures { IfOk result (λ c.
-            AreCounted (uses_of (lines_of programs.now)) c.constants c.excess) }
+    /// Those of the lines of the instances' programs. The lines of a program are read once, however
+    /// many of the instances are its own: it has no constant that was not counted.
+    pub(crate) fn of(
+        alloc: Global,
+        scope: &Scope<'_>,
+        instances: &[TaskInstance],
+    ) -> Result<Counted, AllocError>
+        requires { AreThere scope.now.tree instances.now }
+        ensures { IfOk result (λ c. AreCounted
+            (uses_of (lines_of (instances_of scope.now.tree instances.now)))
+            c.constants c.excess) }
     {
         let mut counted = Counted {
             constants: Constants::new(alloc),
             excess: None,
         };
-        for program in programs {
-            let uses = uses_of(alloc, program.program())?;
-            counted.add_uses(&uses)?;
+        let mut seen = vec![in alloc; false; scope.programs().len()]?;
+        for instance in instances {
+            if !seen[instance.program] {
+                seen[instance.program] = true;
+                let program = program_of(scope, instance.program);
+                let uses = uses_of(alloc, program.program())?;
+                counted.add_uses(&uses)?;
+            }
         }
         Ok(counted)
     }

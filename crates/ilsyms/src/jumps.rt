@@ -16,8 +16,8 @@ pub(crate) fn fault_of_jumps(
     labels: &Names<usize>,
     lines: &[Line<Symbol, Name>],
 ) -> Option<Found>
-    requires { AreNumbered scope.now.text lines.now labels.now }
-    ensures { IsLeastOf (IsFaultOfJumps scope.now.text lines.now) result }
+    requires { AreNumbered scope.now.tree.text lines.now labels.now }
+    ensures { IsLeastOf (IsFaultOfJumps scope.now.tree.text lines.now) result }
 {
     let mut least = None;
     for (number, line) in lines.iter().enumerate() {
@@ -34,7 +34,7 @@ fn fault_of_jump(
     line: &Line<Symbol, Name>,
 ) -> Option<Found>
     ensures { IsLeastOf
-        (IsFaultOfJump scope.now.text labels.now number line.now.instruction) result }
+        (IsFaultOfJump scope.now.tree.text labels.now number line.now.instruction) result }
 {
     let Some(Instruction::Jump(_, label)) = &line.instruction else {
         return None;

@@ -19,9 +19,10 @@ pub(crate) fn number_labels(
     scope: &Scope<'_>,
     lines: &[Line<Symbol, Name>],
 ) -> Result<(Names<usize>, Option<Found>), AllocError>
-    ensures numbers { IfOk result (λ r. AreNumbered scope.now.text lines.now r.0) }
+    ensures numbers { IfOk result (λ r. AreNumbered scope.now.tree.text lines.now r.0) }
     ensures twice { IfOk result (λ r.
-        IsLeastOf (OfCause Twice (IsTwiceIn (folded scope.now.text) (labels_of lines.now))) r.1) }
+        IsLeastOf (OfCause Twice
+        (IsTwiceIn (folded scope.now.tree.text) (labels_of lines.now))) r.1) }
 {
     let mut numbers = Names::new(alloc);
     let mut least = None;
@@ -41,9 +42,9 @@ pub(crate) fn add_name(
     number: usize,
 ) -> Result<Option<Found>, AllocError>
     ensures numbers { OnOk result
-        (numbers.new ≡ with_label scope.now.text numbers.old name number) }
+        (numbers.new ≡ with_label scope.now.tree.text numbers.old name number) }
     ensures twice { IfOk result (λ again. IsLeastOf
-        (OfCause Twice (IsKeptLabel scope.now.text numbers.old name)) again) }
+        (OfCause Twice (IsKeptLabel scope.now.tree.text numbers.old name)) again) }
 {
     let Some(name) = name else {
         return Ok(None);

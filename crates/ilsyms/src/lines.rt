@@ -17,8 +17,8 @@ use std::alloc::{AllocError, Global};
 /// given again.
 pub(crate) fn fault_of_lines(alloc: Global, scope: &Scope<'_>) -> Result<Option<Found>, AllocError>
     ensures { IfOk result (λ found. IsLeastOf
-        (λ place cause. SomeOf (λ p. IsFaultOfLines scope.now.text p.program.lines place cause)
-        (declared_programs scope.now)) found) }
+        (λ place cause. SomeOf (λ p. IsFaultOfLines scope.now.tree.text p.program.lines place cause)
+        (declared_programs scope.now.tree)) found) }
 {
     let mut least = None;
     for program in scope.programs() {
@@ -34,7 +34,8 @@ fn fault_in_lines(
     scope: &Scope<'_>,
     lines: &[Line<Symbol, Name>],
 ) -> Result<Option<Found>, AllocError>
-    ensures { IfOk result (λ found. IsLeastOf (IsFaultOfLines scope.now.text lines.now) found) }
+    ensures { IfOk result (λ found.
+        IsLeastOf (IsFaultOfLines scope.now.tree.text lines.now) found) }
 {
     let labels = fault_of_labels(alloc, scope, lines)?;
     let ports = given_twice(alloc, scope, lines)?;
@@ -47,7 +48,8 @@ fn fault_of_labels(
     scope: &Scope<'_>,
     lines: &[Line<Symbol, Name>],
 ) -> Result<Option<Found>, AllocError>
-    ensures { IfOk result (λ found. IsLeastOf (IsFaultOfLabels scope.now.text lines.now) found) }
+    ensures { IfOk result (λ found.
+        IsLeastOf (IsFaultOfLabels scope.now.tree.text lines.now) found) }
 {
     let (labels, twice) = number_labels(alloc, scope, lines)?;
     Ok(lesser_of(twice, fault_of_jumps(scope, &labels, lines)))

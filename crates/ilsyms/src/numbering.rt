@@ -1,59 +1,40 @@
 //! Lines with places in a store in place of names, and with numbers of lines in place of labels.
 
+ghost use Rattle.std.specs.Prelude.{◌≡◌};
+ghost use Rattle.ilsyms.specs.Meaning.{is_global};
+ghost use Rattle.ilsyms.specs.PlanningSteps.{number_of_global};
+
 use crate::ports::port_of;
 use ilblocks::MOST_PORTS;
-use ilplan::Place;
+use ilplan::{Place, Slot, Variable};
 use ilscope::{Names, ProgramScope, Scope};
 use ilsource::{Name, Symbol};
 use iltrees::{Action, Argument, Arguments, Instruction, Line, Nested, Operand, Piece};
 use std::alloc::{AllocError, Global};
 use std::marker::Model;
 
-/// The numbers of what one program declares, which stand one after another in its task.
-#[derive(Clone, Copy)]
-pub(crate) struct Numbers {
-    /// The first number.
-    pub(crate) first: usize,
-    /// How many the task has.
-    pub(crate) all: usize,
-}
-
-impl Numbers {
-    ghost use Rattle.std.specs.Prelude.{◌≡◌, ◌+◌, ◌<◌, ◌^◌, IfSome};
-    ghost use Rattle.std.specs.Option.{option_map_or};
-
-    /// The number in the task of what has this one in the program; past the last where it has none.
-    fn number(self, own: Option<usize>) -> u16
-        requires own { IfSome own (λ k. self.first + k < 2 ^ 16) }
-        requires all { self.all < 2 ^ 16 }
-        ensures { result ≡ option_map_or (λ k. self.first + k) own self.all }
-    {
-        match own {
-            Some(own) => (self.first + own) as u16,
-            None => self.all as u16,
-        }
-    }
-}
-
-/// The places of what one program declares, and the numbers of the lines with its labels.
+/// The places of what an instance's lines name, and the numbers of the lines with its labels.
 #[derive(Drop)]
-pub(crate) struct Numbering<'a, 's> {
+pub(crate) struct Numbering<'a, 's, 't> {
     scope: &'a Scope<'s>,
     number: usize,
     program: &'a ProgramScope<'s>,
-    slots: Numbers,
-    blocks: Numbers,
+    slots: &'t [Slot],
+    first_slot: usize,
+    blocks: usize,
+    first_block: usize,
     /// Under each label the number of the first line that has it.
     labels: Names<usize>,
 }
 
-impl<'a, 's> Model for Numbering<'a, 's> {
+impl<'a, 's, 't> Model for Numbering<'a, 's, 't> {
     ghost use Rattle.std.specs.Prelude.{◌≡◌, ◌+◌, ◌≤◌, ◌^◌, ◌<◌, length, slice_get, Some};
     ghost use Rattle.std.specs.Prelude.{List};
     ghost use Rattle.std.specs.Coded.{codes, code_by};
     ghost use Rattle.iltrees.specs.declared.nested.Piece.{Piece};
     ghost use Rattle.iltrees.specs.Trees.{pieces_of};
     ghost use Rattle.iltrees.specs.TreeSteps.{tree_of, tree_again};
+    ghost use Rattle.ilsource.specs.contracts.source.Element as element;
     ghost use Rattle.ilsource.specs.declared.symbol.Symbol.{Symbol};
     ghost use Rattle.ilscope.specs.Declarations.{declared_programs};
     ghost use Rattle.ilsyms.specs.PlanningSteps.{Numbering};
@@ -62,87 +43,98 @@ impl<'a, 's> Model for Numbering<'a, 's> {
 
     ghost coded = { Prim.hlevel (
       codes,
+      element.the_row.coded,
       code_by (List (Piece Symbol)) (Prim.hlevel codes) pieces_of tree_of tree_again,
     ) };
 
     ghost view = { λ n. record {
-      text = n.scope.now.text;
+      tree = n.scope.now.tree;
       program = n.program.now;
-      first_slot = n.slots.first;
-      all_slots = n.slots.all;
-      first_block = n.blocks.first;
-      all_blocks = n.blocks.all;
+      slots = n.slots.now;
+      first_slot = n.first_slot;
+      first_block = n.first_block;
+      all_blocks = n.blocks;
       labels = n.labels;
     } };
 
     ghost invariant = { λ n.
-        (slice_get (declared_programs n.scope.now) n.number ≡ Some n.program.now)
-        × (n.slots.first + length n.program.now.variables < 2 ^ 16)
-        × (n.blocks.first + length n.program.now.blocks < 2 ^ 16)
-        × (n.slots.all < 2 ^ 16) × (n.blocks.all < 2 ^ 16) };
+        (slice_get (declared_programs n.scope.now.tree) n.number ≡ Some n.program.now)
+        × (n.first_slot + length n.program.now.variables < 2 ^ 16)
+        × (n.first_block + length n.program.now.blocks < 2 ^ 16)
+        × (length n.slots.now < 2 ^ 16) × (n.blocks < 2 ^ 16) };
 }
 
-impl<'a, 's> Numbering<'a, 's> {
+impl<'a, 's, 't> Numbering<'a, 's, 't> {
     ghost use Rattle.std.specs.Prelude.{◌≡◌, ◌+◌, ◌<◌, ◌^◌, IfOk, length, map, option_map};
     ghost use Rattle.std.specs.Prelude.{slice_get, Some};
     ghost use Rattle.iltrees.specs.Renaming.{rename_action, rename_tree, rename, rename_line};
     ghost use Rattle.iltrees.specs.Renaming.{rename_argument};
+    ghost use Rattle.ilscope.specs.Configured.{global_number};
     ghost use Rattle.ilscope.specs.Declarations.{declared_programs};
     ghost use Rattle.ilsyms.specs.PlanningSteps.{Numbering, label_of, numbers, place_by_number};
-    ghost use Rattle.ilsyms.specs.PlanningSteps.{number_of_block, number_of_port, slot_number};
+    ghost use Rattle.ilsyms.specs.PlanningSteps.{number_of_block, number_of_global};
+    ghost use Rattle.ilsyms.specs.PlanningSteps.{number_of_port, numbering_of, slot_number};
 
-    /// The numbering of the program with this number, with the numbers of its slots, its block
-    /// instances and its labels.
+    /// The numbering of an instance of the program with this number. `slots` are its task's, and
+    /// `blocks` the number of its task's block instances.
     pub(crate) fn new(
         scope: &'a Scope<'s>,
         number: usize,
         program: &'a ProgramScope<'s>,
-        slots: Numbers,
-        blocks: Numbers,
+        slots: &'t [Slot],
+        first_slot: usize,
+        blocks: usize,
+        first_block: usize,
         labels: Names<usize>,
-    ) -> Numbering<'a, 's>
-        requires program { slice_get (declared_programs scope.now) number ≡ Some program.now }
-        requires slots { slots.first + length program.now.variables < 2 ^ 16 }
-        requires blocks { blocks.first + length program.now.blocks < 2 ^ 16 }
-        requires all_slots { slots.all < 2 ^ 16 }
-        requires all_blocks { blocks.all < 2 ^ 16 }
-        ensures { result ≡ record {
-          text = scope.now.text;
-          program = program.now;
-          first_slot = slots.first;
-          all_slots = slots.all;
-          first_block = blocks.first;
-          all_blocks = blocks.all;
-          labels = labels;
-        } }
+    ) -> Numbering<'a, 's, 't>
+        requires program { slice_get (declared_programs scope.now.tree) number
+            ≡ Some program.now }
+        requires first_slot { first_slot + length program.now.variables < 2 ^ 16 }
+        requires first_block { first_block + length program.now.blocks < 2 ^ 16 }
+        requires slots { length slots.now < 2 ^ 16 }
+        requires blocks { blocks < 2 ^ 16 }
+        ensures { result ≡ numbering_of scope.now.tree program.now slots.now first_slot blocks
+            first_block labels }
     {
         Numbering {
             scope,
             number,
             program,
             slots,
+            first_slot,
             blocks,
+            first_block,
             labels,
         }
     }
 
-    /// The number of a variable's slot; past the last where there is none.
+    /// The number of the slot of what a name means: a variable of the instance, else a global
+    /// variable; past the last where there is neither.
     fn slot(&self, name: Name) -> u16
         ensures { result ≡ slot_number self.now name }
     {
-        self.slots
-            .number(self.scope.variable_number(self.number, name))
+        match self.scope.variable_number(self.number, name) {
+            Some(own) => (self.first_slot + own) as u16,
+            None => self.global(name) as u16,
+        }
+    }
+
+    /// The number of the slot of the global variable of this name; past the last where there is
+    /// none.
+    fn global(&self, name: Name) -> usize
+        ensures { result ≡ number_of_global self.now.slots (global_number self.now.tree name) }
+    {
+        number_of_global(self.slots, self.scope.global_number(name))
     }
 
     /// The number of a block instance; past the last where there is none.
     fn block(&self, name: Name) -> u16
         ensures { result ≡ number_of_block self.now name }
     {
-        let own = match self.scope.block(self.number, name) {
-            Some((own, _)) => Some(own),
-            None => None,
-        };
-        self.blocks.number(own)
+        match self.scope.block(self.number, name) {
+            Some((own, _)) => (self.first_block + own) as u16,
+            None => self.blocks as u16,
+        }
     }
 
     /// The number of a port; past the last where its block has none of this name.
@@ -330,5 +322,27 @@ impl<'a, 's> Numbering<'a, 's> {
             renamed.push(self.line(alloc, line)?)?;
         }
         Ok(renamed)
+    }
+}
+
+/// The number of the slot of a global variable; past the last where there is none.
+fn number_of_global(slots: &[Slot], global: Option<usize>) -> usize
+    ensures { result ≡ number_of_global slots.now global }
+{
+    for (number, slot) in slots.iter().enumerate() {
+        if is_global(global, slot.variable) {
+            return number;
+        }
+    }
+    slots.len()
+}
+
+/// Whether a variable is the global one of this number, if there is such a number.
+fn is_global(wanted: Option<usize>, variable: Variable) -> bool
+    ensures { result ≡ is_global wanted variable }
+{
+    match (wanted, variable) {
+        (Some(wanted), Variable::Global(number)) => wanted == number,
+        _ => false,
     }
 }

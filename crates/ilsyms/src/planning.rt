@@ -1,52 +1,83 @@
 //! The instances of a task.
 
-ghost use Rattle.std.specs.Prelude.{◌≡◌, IfOk, OnOk, length, map};
+ghost use Rattle.std.specs.Prelude.{◌≡◌, ◌≤◌, IfOk, OnOk, length};
+ghost use Rattle.std.specs.List.{position_or_len};
 ghost use Rattle.iltrees.specs.Words.{AreShallow};
-ghost use Rattle.ilscope.specs.Declarations.{declared_programs};
-ghost use Rattle.ilsyms.specs.Faults.{IsWellNamed};
-ghost use Rattle.ilsyms.specs.Resolved.{instance_of};
-ghost use Rattle.ilsyms.specs.Variables.{blocks_of_tree, lines_of, slots_of_tree};
+ghost use Rattle.limits.specs.Limits.{most_blocks, most_slots};
+ghost use Rattle.ilsyms.specs.InstanceSteps.{AreApart, AreThere, instances_of};
+ghost use Rattle.ilsyms.specs.PlanningSteps.{is_of_instance};
+ghost use Rattle.ilsyms.specs.Resolved.{planned_instances};
+ghost use Rattle.ilsyms.specs.Variables.{blocks_of, lines_of, slots_of};
 
 use crate::labelling::number_labels;
-use crate::numbering::{Numbering, Numbers};
-use ilplan::Instance;
+use crate::numbering::Numbering;
+use crate::tasks::{TaskInstance, program_of};
+use ilplan::{FunctionBlock, Instance, Slot, Variable};
 use ilscope::Scope;
 use std::alloc::{AllocError, Global};
 
-/// The instances of a source program that has no fault, one of each program. There are so many
+/// The program instances of a task, each with a name of its own, over the places of the task's
 /// slots and block instances.
 pub(crate) fn plan_instances(
     alloc: Global,
     scope: &Scope<'_>,
-    all_slots: usize,
-    all_blocks: usize,
+    instances: &[TaskInstance],
+    slots: &[Slot],
+    blocks: &[FunctionBlock],
 ) -> Result<Vec<Instance>, AllocError>
-    requires named { IsWellNamed scope.now }
-    requires slots { all_slots ≡ length (slots_of_tree scope.now) }
-    requires blocks { all_blocks ≡ length (blocks_of_tree scope.now) }
-    ensures instances { IfOk result (λ v. v.items ≡ map
-        (instance_of scope.now.text (slots_of_tree scope.now) (blocks_of_tree scope.now))
-        (declared_programs scope.now)) }
-    ensures shallow { OnOk result (AreShallow (lines_of (declared_programs scope.now))) }
+    requires there { AreThere scope.now.tree instances.now }
+    requires apart { AreApart scope.now.tree.text (instances_of scope.now.tree instances.now) }
+    requires slots { slots.now ≡ slots_of scope.now.tree
+        (instances_of scope.now.tree instances.now) }
+    requires few_slots { length slots.now ≤ most_slots }
+    requires blocks { blocks.now ≡ blocks_of (instances_of scope.now.tree instances.now) }
+    requires few_blocks { length blocks.now ≤ most_blocks }
+    ensures instances { IfOk result (λ v. v.items ≡ planned_instances scope.now.tree
+        (instances_of scope.now.tree instances.now)) }
+    ensures shallow { OnOk result
+        (AreShallow (lines_of (instances_of scope.now.tree instances.now))) }
 {
-    let mut instances = Vec::new(alloc);
-    let mut slots = Numbers {
-        first: 0,
-        all: all_slots,
-    };
-    let mut blocks = Numbers {
-        first: 0,
-        all: all_blocks,
-    };
-    for (number, program) in scope.programs().iter().enumerate() {
-        let written = program.program();
-        let lines = written.lines();
+    let mut planned = Vec::new(alloc);
+    let mut first_slot = first_own(slots);
+    let mut first_block = 0;
+    for instance in instances {
+        let program = program_of(scope, instance.program);
+        let lines = program.program().lines();
         let (labels, _) = number_labels(alloc, scope, lines)?;
-        let numbering = Numbering::new(scope, number, program, slots, blocks, labels);
+        let numbering = Numbering::new(
+            scope,
+            instance.program,
+            program,
+            slots,
+            first_slot,
+            blocks.len(),
+            first_block,
+            labels,
+        );
         let lines = numbering.lines(alloc, lines)?;
-        instances.push(Instance::new(written.name(), lines))?;
-        slots.first += program.variables().len();
-        blocks.first += program.blocks().len();
+        planned.push(Instance::new(instance.name, lines))?;
+        first_slot += program.variables().len();
+        first_block += program.blocks().len();
     }
-    Ok(instances)
+    Ok(planned)
+}
+
+/// The number of the first slot of a variable of an instance, which is how many slots are of global
+/// variables.
+fn first_own(slots: &[Slot]) -> usize
+    ensures { result ≡ position_or_len (λ s. is_of_instance s.variable) slots.now }
+{
+    for (number, slot) in slots.iter().enumerate() {
+        if is_of_instance(slot.variable) {
+            return number;
+        }
+    }
+    slots.len()
+}
+
+/// Whether a variable is one of an instance.
+fn is_of_instance(variable: Variable) -> bool
+    ensures { result ≡ is_of_instance variable }
+{
+    matches!(variable, Variable::Own { .. })
 }

@@ -19,9 +19,9 @@ pub(crate) fn port_of(
     block: Name,
     port: Name,
 ) -> Option<(Kind, usize)>
-    requires { number < length (declared_programs scope.now) }
-    ensures { (p : DeclaredProgram) → slice_get (declared_programs scope.now) number ≡ Some p
-        → result ≡ port_number scope.now.text p block port }
+    requires { number < length (declared_programs scope.now.tree) }
+    ensures { (p : DeclaredProgram) → slice_get (declared_programs scope.now.tree) number ≡ Some p
+        → result ≡ port_number scope.now.tree.text p block port }
 {
     let (_, kind) = scope.block(number, block)?;
     let port = kind.port_named(port.text(scope.source().text()))?;
@@ -40,10 +40,10 @@ pub(crate) fn place_of_port(purpose: Purpose, block: Name, port: Name) -> usize
 
 /// The fault of a use that stores to an output, in the program with this number.
 pub(crate) fn output_written(scope: &Scope<'_>, number: usize, used: Use<Symbol>) -> Option<Found>
-    requires { number < length (declared_programs scope.now) }
-    ensures { (p : DeclaredProgram) → slice_get (declared_programs scope.now) number ≡ Some p
+    requires { number < length (declared_programs scope.now.tree) }
+    ensures { (p : DeclaredProgram) → slice_get (declared_programs scope.now.tree) number ≡ Some p
         → IsLeastOf
-        (OfCause WritesInput (λ place. WritesOutput scope.now.text p place used)) result }
+        (OfCause WritesInput (λ place. WritesOutput scope.now.tree.text p place used)) result }
 {
     let Operand::Name(Symbol::Port { block, port }) = used.operand else {
         return None;

@@ -3,6 +3,7 @@
 use crate::{NameCause, NameFault, resolve};
 use binding::Binding;
 use iloperators::Operator;
+use ilplan::Activation;
 use ilsource::{
     Constant, Declaration, Declared, Element, Name, Program, Source, Specification, Symbol,
 };
@@ -12,6 +13,7 @@ use std::alloc::{AllocError, Global};
 use std::test::Fail;
 
 mod blocks;
+mod configurations;
 mod labels;
 mod largest;
 mod places;
@@ -73,7 +75,7 @@ fn source(alloc: Global, named: Name) -> Result<Source, AllocError> {
     let mut elements = Vec::new(alloc);
     let program = Program::new(Name { from: 8, to: 11 }, declarations, lines);
     elements.push(Element::Program(program))?;
-    Ok(Source::new(Vec::from_slice(alloc, TEXT)?, elements))
+    Ok(Source::new(Vec::from_slice(alloc, TEXT)?, elements, None))
 }
 
 #[test]
@@ -86,6 +88,8 @@ fn names_come_back_as_declared(rt: HostRuntime) -> Result<(), Fail> {
         assert_eq!(rt; plan.task_name(0), "main");
         assert!(rt; !plan.is_event(0));
         let task = plan.task(0);
+        assert_eq!(rt; task.activation(), Activation::Cyclic { interval: 100 });
+        assert_eq!(rt; task.priority(), 0);
         assert_eq!(rt; task.slots().len(), 2);
         assert_eq!(rt; task.instances().len(), 1);
         assert_eq!(rt; task.constants().len(), 0);

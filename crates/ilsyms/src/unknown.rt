@@ -1,21 +1,22 @@
 //! Names that their program does not declare.
 
-ghost use Rattle.std.specs.Prelude.{◌≡◌, ◌<◌, Some, length, slice_get};
+ghost use Rattle.std.specs.Prelude.{◌≡◌, ◌<◌, ◌↔◌, IsTrue, Some, length, slice_get};
 ghost use Rattle.ilscope.specs.Declarations.{DeclaredProgram, declared_programs};
 ghost use Rattle.ilscope.specs.Faults.{IsLeastOf, OfCause};
 ghost use Rattle.ilscope.specs.declared.fault.NameCause.TheVariants.{Unknown};
-ghost use Rattle.ilsyms.specs.Faults.{IsUnknownSymbol, IsUnknownUse};
+ghost use Rattle.ilsyms.specs.Faults.{IsNoVariable, IsUnknownSymbol, IsUnknownUse};
 
 use crate::ports::{place_of_port, port_of};
 use ilscope::{Found, NameCause, Scope};
-use ilsource::Symbol;
+use ilsource::{Name, Symbol};
 use iltrees::{Operand, Purpose, Use};
 
 /// The fault of a use of what the program with this number does not declare.
 pub(crate) fn unknown_use(scope: &Scope<'_>, number: usize, used: Use<Symbol>) -> Option<Found>
-    requires { number < length (declared_programs scope.now) }
-    ensures { (p : DeclaredProgram) → slice_get (declared_programs scope.now) number ≡ Some p
-        → IsLeastOf (OfCause Unknown (λ place. IsUnknownUse scope.now.text p place used)) result }
+    requires { number < length (declared_programs scope.now.tree) }
+    ensures { (p : DeclaredProgram) → slice_get (declared_programs scope.now.tree) number ≡ Some p
+        → IsLeastOf
+        (OfCause Unknown (λ place. IsUnknownUse scope.now.tree.text p place used)) result }
 {
     let Operand::Name(symbol) = used.operand else {
         return None;
@@ -30,13 +31,14 @@ fn unknown_symbol(
     purpose: Purpose,
     symbol: Symbol,
 ) -> Option<Found>
-    requires { number < length (declared_programs scope.now) }
-    ensures { (p : DeclaredProgram) → slice_get (declared_programs scope.now) number ≡ Some p
+    requires { number < length (declared_programs scope.now.tree) }
+    ensures { (p : DeclaredProgram) → slice_get (declared_programs scope.now.tree) number ≡ Some p
         → IsLeastOf
-        (OfCause Unknown (λ place. IsUnknownSymbol scope.now.text p place purpose symbol)) result }
+        (OfCause Unknown
+        (λ place. IsUnknownSymbol scope.now.tree.text p place purpose symbol)) result }
 {
     let (is_declared, at) = match symbol {
-        Symbol::Variable(name) => (scope.variable_number(number, name).is_some(), name.from),
+        Symbol::Variable(name) => (is_variable(scope, number, name), name.from),
         Symbol::Port { block, port } => (
             port_of(scope, number, block, port).is_some(),
             place_of_port(purpose, block, port),
@@ -50,4 +52,13 @@ fn unknown_symbol(
         at,
         cause: NameCause::Unknown,
     })
+}
+
+/// Whether the program with this number has a variable or an external of this name.
+fn is_variable(scope: &Scope<'_>, number: usize, name: Name) -> bool
+    requires { number < length (declared_programs scope.now.tree) }
+    ensures { (p : DeclaredProgram) → slice_get (declared_programs scope.now.tree) number ≡ Some p
+        → IsTrue result ↔ ¬ IsNoVariable scope.now.tree.text p name }
+{
+    scope.variable_number(number, name).is_some() || scope.external_number(number, name).is_some()
 }

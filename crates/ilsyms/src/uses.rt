@@ -3,10 +3,11 @@
 ghost use Rattle.std.specs.Prelude.{◌≡◌, ◌<◌, IfOk, Some, length, slice_get};
 ghost use Rattle.ilscope.specs.Declarations.{DeclaredProgram, declared_programs};
 ghost use Rattle.ilscope.specs.Faults.{IsLeastOf, SomeOf};
-ghost use Rattle.ilsyms.specs.UseSteps.{IsFaultOfUse, IsFaultOfUses};
+ghost use Rattle.ilsyms.specs.UseSteps.{IsFaultAtUse, IsFaultAtUses};
 ghost use Rattle.ilsyms.specs.Variables.{uses_of};
 
 use crate::ports::output_written;
+use crate::stored::input_written;
 use crate::unknown::unknown_use;
 use ilscope::{Found, Scope, lesser_of};
 use ilsource::{Program, Symbol};
@@ -24,12 +25,13 @@ pub(crate) fn uses_of(alloc: Global, program: &Program) -> Result<Vec<Use<Symbol
     Ok(uses)
 }
 
-/// The least fault of a use: of what its program does not declare, or of a store to an output.
-pub(crate) fn fault_of_uses(alloc: Global, scope: &Scope<'_>) -> Result<Option<Found>, AllocError>
+/// The least fault of a use: of what its program does not declare, or of a store to an output port
+/// or to an input.
+pub(crate) fn fault_at_uses(alloc: Global, scope: &Scope<'_>) -> Result<Option<Found>, AllocError>
     ensures { IfOk result (λ found. IsLeastOf
         (λ place cause. SomeOf
-        (λ p. IsFaultOfUses scope.now.text p (uses_of p.program.lines) place cause)
-        (declared_programs scope.now)) found) }
+        (λ p. IsFaultAtUses scope.now.tree p (uses_of p.program.lines) place cause)
+        (declared_programs scope.now.tree)) found) }
 {
     let mut least = None;
     for (number, program) in scope.programs().iter().enumerate() {
@@ -41,9 +43,9 @@ pub(crate) fn fault_of_uses(alloc: Global, scope: &Scope<'_>) -> Result<Option<F
 
 /// The least such fault among uses in the program with this number.
 fn fault_in_uses(scope: &Scope<'_>, number: usize, uses: &[Use<Symbol>]) -> Option<Found>
-    requires { number < length (declared_programs scope.now) }
-    ensures { (p : DeclaredProgram) → slice_get (declared_programs scope.now) number ≡ Some p
-        → IsLeastOf (IsFaultOfUses scope.now.text p uses.now) result }
+    requires { number < length (declared_programs scope.now.tree) }
+    ensures { (p : DeclaredProgram) → slice_get (declared_programs scope.now.tree) number ≡ Some p
+        → IsLeastOf (IsFaultAtUses scope.now.tree p uses.now) result }
 {
     let mut least = None;
     for used in uses {
@@ -54,12 +56,13 @@ fn fault_in_uses(scope: &Scope<'_>, number: usize, uses: &[Use<Symbol>]) -> Opti
 
 /// The least fault of one use.
 fn fault_of_use(scope: &Scope<'_>, number: usize, used: Use<Symbol>) -> Option<Found>
-    requires { number < length (declared_programs scope.now) }
-    ensures { (p : DeclaredProgram) → slice_get (declared_programs scope.now) number ≡ Some p
-        → IsLeastOf (IsFaultOfUse scope.now.text p used) result }
+    requires { number < length (declared_programs scope.now.tree) }
+    ensures { (p : DeclaredProgram) → slice_get (declared_programs scope.now.tree) number ≡ Some p
+        → IsLeastOf (IsFaultAtUse scope.now.tree p used) result }
 {
-    lesser_of(
-        unknown_use(scope, number, used),
+    let written = lesser_of(
         output_written(scope, number, used),
-    )
+        input_written(scope, number, used),
+    );
+    lesser_of(unknown_use(scope, number, used), written)
 }

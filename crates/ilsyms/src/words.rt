@@ -1,37 +1,83 @@
 //! The words of a task.
 
-ghost use Rattle.std.specs.Prelude.{◌≡◌, ◌++◌, IfOk, OnOk, flat_map, slice_get};
-ghost use Rattle.iltrees.specs.Words.{places_in};
+ghost use Rattle.std.specs.Prelude.{◌≡◌, ◌<◌, All, IfOk, flat_map, length, map, slice_get};
 ghost use Rattle.limits.specs.Limits.{most_words};
-ghost use Rattle.ilsyms.specs.Variables.{lines_of};
+ghost use Rattle.ilscope.specs.Declarations.{declared_programs};
+ghost use Rattle.ilsyms.specs.LimitSteps.{places_at, places_of_program};
 
-use ilscope::ProgramScope;
+use crate::tasks::TaskInstance;
+use ilscope::Scope;
 use ilsource::Program;
 use limits::MOST_WORDS;
 use std::alloc::{AllocError, Global};
+use std::marker::Model;
 
-/// The place of the instruction with the word that exceeds the greatest number.
-pub(crate) fn word_past(
-    alloc: Global,
-    programs: &[ProgramScope<'_>],
-) -> Result<Option<usize>, AllocError>
-    ensures { IfOk result (λ place.
-        place ≡ slice_get (flat_map places_in (lines_of programs.now)) most_words) }
-{
-    let mut places = Vec::new(alloc);
-    for program in programs {
-        push_places(&mut places, program.program())?;
-    }
-    Ok(places.get(MOST_WORDS).copied())
+/// The place of each word of a program, in order.
+#[derive(Drop)]
+pub(crate) struct WordPlaces {
+    places: Vec<usize>,
 }
 
-/// Adds the place of each word of a program's lines.
-fn push_places(places: &mut Vec<usize>, program: &Program) -> Result<(), AllocError>
-    ensures { OnOk result
-        (places.new.items ≡ places.old.items ++ flat_map places_in program.now.lines) }
-{
-    for line in program.lines() {
-        line.push_places(places)?;
+impl Model for WordPlaces {
+    ghost use Rattle.std.specs.Prelude.{ℕ, List};
+
+    ghost Value = { List ℕ };
+
+    ghost view = { λ w. w.places.items };
+}
+
+impl WordPlaces {
+    ghost use Rattle.std.specs.Prelude.{◌≡◌, IfOk, flat_map};
+    ghost use Rattle.iltrees.specs.Words.{places_in};
+
+    /// Those of a program's lines.
+    fn of(alloc: Global, program: &Program) -> Result<WordPlaces, AllocError>
+        ensures { IfOk result (λ w. w ≡ flat_map places_in program.now.lines) }
+    {
+        let mut places = Vec::new(alloc);
+        for line in program.lines() {
+            line.push_places(&mut places)?;
+        }
+        Ok(WordPlaces { places })
     }
-    Ok(())
+
+    /// The places, in order.
+    fn as_slice(&self) -> &[usize]
+        ensures value { result.now ≡ self.now }
+    {
+        &self.places
+    }
+}
+
+/// The words of each program.
+pub(crate) fn words_of_programs(
+    alloc: Global,
+    scope: &Scope<'_>,
+) -> Result<Vec<WordPlaces>, AllocError>
+    ensures { IfOk result (λ v.
+        v.items ≡ map places_of_program (declared_programs scope.now.tree)) }
+{
+    let mut words = Vec::new(alloc);
+    for program in scope.programs() {
+        words.push(WordPlaces::of(alloc, program.program())?)?;
+    }
+    Ok(words)
+}
+
+/// The place of the instruction with the word that exceeds the greatest number, among the words of
+/// the instances' programs, one instance after another. No instance after that one is looked at.
+pub(crate) fn word_past(words: &[WordPlaces], instances: &[TaskInstance]) -> Option<usize>
+    requires { All (λ i. i.program < length words.now) instances.now }
+    ensures { result
+        ≡ slice_get (flat_map (λ i. places_at words.now i.program) instances.now) most_words }
+{
+    let mut left = MOST_WORDS;
+    for instance in instances {
+        let places = words[instance.program].as_slice();
+        if let Some(place) = places.get(left) {
+            return Some(*place);
+        }
+        left -= places.len();
+    }
+    None
 }

@@ -5,9 +5,9 @@ use Rattle.iloperators.specs.declared.function.IntegerType.TheVariants as intege
 use Rattle.ilblocks.specs.declared.kind.Kind.{Kind as BlockKind}
 use Rattle.ilblocks.specs.declared.kind.Kind.TheVariants as blocks
 use Rattle.ilgrammar.specs.Items.{lead, is_in}
-use Rattle.ilgrammar.proofs.Laws.{Lawful}
+use Rattle.ilgrammar.proofs.Laws.{Lawful, Lawful-map}
 use Rattle.ilgrammar.proofs.Firm.{Firm, Firm-one, Firm-map, Firm-seq, Firm-seq_open, Firm-lead, Firm-alt, Firm-fewer}
-use Rattle.ilgrammar.proofs.Firm.{from_opt, from_many}
+use Rattle.ilgrammar.proofs.Firm.{Firm-select, from_opt, from_many}
 use Rattle.ilsource.specs.declared.name.Name.{Name}
 use Rattle.ilsource.specs.declared.declaration.Constant.{Constant}
 use Rattle.ilsource.specs.declared.declaration.Specification.{Specification}
@@ -27,7 +27,8 @@ use Rattle.iltext.specs.Roles.{lookup}
 use Rattle.iltext.specs.Terminals.{word, delimiter, name, spaced}
 use Rattle.iltext.specs.Declarations.{integer_word, integer, simple_word, simple, interval, range, specification}
 use Rattle.iltext.specs.Declarations.{initial, typing, type_declaration, block, instances, declared}
-use Rattle.iltext.specs.Declarations.{next_name, more_names, names, declaration, declarations, vars}
+use Rattle.iltext.specs.Declarations.{next_name, more_names, names_after, names, declaration, declarations, vars}
+use Rattle.iltext.specs.Declarations.{external, externals, var_external, variables}
 use Rattle.iltext.proofs.Delimiters.{Anything, token_of, Firm-word, Firm-delimiter, apart_word, apart_delimiter}
 use Rattle.iltext.proofs.Ends.{NoEnd, NoComma, NoOpen, Firm-name, Firm-number, Firm-constant, Firm-spaced}
 use Rattle.iltext.proofs.Ends.{word_no_end, delimiter_no_end, name_no_end, number_no_end, constant_no_end}
@@ -81,7 +82,7 @@ unfolding specification
 Firm-specification = Firm-fewer (λ t. NoEnd t × NoOpen t) (λ t e. (e.0, e))
     (Firm-alt (Firm-spaced Firm-simple) (λ t e. range_apart t.kind t.from t.to e) Firm-range)
 
-specification_no_end : (k : Kind) (f g : ℕ) → specification.starts (token_of k f g) ≡ true → NoEnd (token_of k f g)
+pub specification_no_end : (k : Kind) (f g : ℕ) → specification.starts (token_of k f g) ≡ true → NoEnd (token_of k f g)
 unfolding specification range integer simple delimiter
 specification_no_end (kinds.Good (whats.Delimiter m)) f g e = absurd cc
 specification_no_end _ f g e = refl
@@ -107,12 +108,12 @@ begins_value (kinds.Good (whats.Delimiter delimiters.LineEnd)) f g e = absurd cc
 begins_value (kinds.Good (whats.Delimiter delimiters.Open)) f g e = absurd cc
 begins_value _ f g e = (refl, refl)
 
-Firm-typing : Firm Token (Specification × Option Constant) typing NoEnd
+pub Firm-typing : Firm Token (Specification × Option Constant) typing NoEnd
 unfolding typing
 Firm-typing = Firm-map _ (Firm-seq Firm-specification (λ t e. begins_value t.kind t.from t.to e)
     (Firm-lead Lawful-initial (λ t e. semicolon_apart t e) (Firm-spaced (Firm-delimiter delimiters.Semicolon))))
 
-colon_apart : (t : Token) → (delimiter delimiters.Colon).starts t ≡ true → NoEnd t × NoComma t
+pub colon_apart : (t : Token) → (delimiter delimiters.Colon).starts t ≡ true → NoEnd t × NoComma t
 unfolding delimiter
 colon_apart t e = (
   delimiter_no_end delimiters.Colon refl t e,
@@ -137,11 +138,14 @@ Lawful-more_names : Lawful Token (List Name) more_names (λ t. NoEnd t × NoComm
 unfolding more_names next_name
 Lawful-more_names = from_many (λ t e. delimiter_no_end delimiters.Comma refl t e) Firm-next_name
 
+pub Lawful-names_after : (first : Name) → Lawful Token (List Name) (names_after first) (λ t. NoEnd t × NoComma t)
+unfolding names_after more_names next_name
+Lawful-names_after first = Lawful-map _ _ _ _ _ _ Lawful-more_names
+
 Firm-names : Firm Token (List Name) names (λ t. NoEnd t × NoComma t)
-unfolding names more_names next_name
+unfolding names names_after more_names next_name
 Firm-names = Firm-fewer (λ t. NoEnd t × NoComma t) (λ t e. (e.0, e))
-    (Firm-map _ (Firm-seq_open (Firm-spaced Firm-name)
-    (λ t e. delimiter_no_end delimiters.Comma refl t e) Lawful-more_names))
+    (Firm-select (Firm-spaced Firm-name) (λ first t e. delimiter_no_end delimiters.Comma refl t e) Lawful-names_after)
 
 Firm-block : Firm Token BlockKind block Anything
 unfolding block
@@ -200,7 +204,47 @@ unfolding declarations declaration names name word delimiter
 inside_no_end (kinds.Good (whats.Delimiter m)) f g e = absurd cc
 inside_no_end _ f g e = refl
 
-pub Firm-vars : Firm Token (List DeclaredNames) vars NoEnd
+Firm-vars : Firm Token (List DeclaredNames) vars NoEnd
 unfolding vars
 Firm-vars = Firm-map _ (Firm-seq (Firm-spaced (Firm-word words.Var)) (λ t e. inside_no_end t.kind t.from t.to e)
     (Firm-lead Lawful-declarations (λ t e. last_apart words.EndVar t e) (Firm-spaced (Firm-word words.EndVar))))
+
+-- ---- externals
+
+close_apart : (t : Token) → (delimiter delimiters.Semicolon).starts t ≡ true → NoEnd t × NoOpen t
+unfolding delimiter
+close_apart t e = (
+  delimiter_no_end delimiters.Semicolon refl t e,
+  apart_delimiter delimiters.Semicolon (delimiter delimiters.Open).starts (λ f g. refl) t.kind t.from t.to e,
+)
+
+pub Firm-external : Firm Token DeclaredNames external NoEnd
+unfolding external
+Firm-external = Firm-map _ (Firm-seq (Firm-spaced Firm-name) (λ t e. delimiter_no_end delimiters.Colon refl t e)
+    (Firm-seq (Firm-spaced (Firm-delimiter delimiters.Colon)) (λ t e. specification_no_end t.kind t.from t.to e)
+    (Firm-seq Firm-specification (λ t e. close_apart t e) (Firm-spaced (Firm-delimiter delimiters.Semicolon)))))
+
+Lawful-externals : Lawful Token (List DeclaredNames) externals (λ t. NoEnd t × NoName t)
+unfolding externals external
+Lawful-externals = from_many (λ t e. name_no_end t.kind t.from t.to e) Firm-external
+
+external_no_end : (k : Kind) (f g : ℕ) → (lead externals (spaced (word words.EndVar))).starts (token_of k f g) ≡ true
+    → NoEnd (token_of k f g)
+unfolding externals external name word delimiter
+external_no_end (kinds.Good (whats.Delimiter m)) f g e = absurd cc
+external_no_end _ f g e = refl
+
+Firm-var_external : Firm Token (List DeclaredNames) var_external NoEnd
+unfolding var_external
+Firm-var_external = Firm-map _ (Firm-seq (Firm-spaced (Firm-word words.VarExternal))
+    (λ t e. external_no_end t.kind t.from t.to e)
+    (Firm-lead Lawful-externals (λ t e. last_apart words.EndVar t e) (Firm-spaced (Firm-word words.EndVar))))
+
+external_apart : (t : Token) → (word words.VarExternal).starts t ≡ true → (word words.Var).starts t ≡ false
+unfolding word
+external_apart t e = apart_word words.VarExternal (word words.Var).starts (λ f g. refl) t.kind t.from t.to e
+
+pub Firm-variables : Firm Token (List DeclaredNames) variables NoEnd
+unfolding variables vars var_external
+Firm-variables = Firm-fewer NoEnd (λ t e. (e, e))
+    (Firm-alt Firm-vars (λ t e. external_apart t e) Firm-var_external)

@@ -1,8 +1,9 @@
 -- Programs, TYPE blocks and texts are lawful.
-use Rattle.std.proofs.Common.{◌≡◌, ℕ, true, false, List, refl}
-use Rattle.ilgrammar.specs.Items.{lead}
+use Rattle.std.proofs.Common.{◌≡◌, ℕ, true, false, List, Option, refl}
+use Rattle.ilgrammar.specs.Items.{lead, opt}
 use Rattle.ilgrammar.proofs.Laws.{Lawful, Lawful-map, Lawful-lead_open}
-use Rattle.ilgrammar.proofs.Firm.{Firm, Firm-map, Firm-seq, Firm-lead, Firm-alt, Firm-fewer, from_many}
+use Rattle.ilgrammar.proofs.Firm.{Firm, Firm-map, Firm-seq, Firm-lead, Firm-alt, Firm-fewer, from_opt, from_many}
+use Rattle.ilsource.specs.Configurations.{Configured}
 use Rattle.ilsource.specs.Programs.{DeclaredNames, Written}
 use Rattle.ilsource.specs.declared.source.Element.{Element}
 use Rattle.iltokens.specs.declared.keyword.Keyword.{Keyword}
@@ -14,18 +15,20 @@ use Rattle.iltext.specs.declared.token.Kind.TheVariants as kinds
 use Rattle.iltext.specs.declared.token.Token.{Token}
 use Rattle.iltext.specs.Roles.{role_of_word}
 use Rattle.iltext.specs.Terminals.{Seen, word, delimiter, name, spaced}
-use Rattle.iltext.specs.Declarations.{type_declaration, vars}
+use Rattle.iltext.specs.Configurations.{configuration}
+use Rattle.iltext.specs.Declarations.{type_declaration, vars, var_external, variables}
 use Rattle.iltext.specs.Instructions.{TextLine, instruction, label, with_label, line, lines}
 use Rattle.iltext.specs.Texts.{blocks, program, derived_type, derived_types, types, unit, units, text}
+use Rattle.iltext.proofs.ConfigurationLaws.{Firm-configuration}
 use Rattle.iltext.proofs.Delimiters.{token_of, Firm-word, apart_word}
 use Rattle.iltext.proofs.Ends.{NoEnd, Firm-name, Firm-spaced, Lawful-line_ends, word_no_end, name_no_end}
-use Rattle.iltext.proofs.DeclarationLaws.{NoName, Firm-type_declaration, last_apart, Firm-vars}
+use Rattle.iltext.proofs.DeclarationLaws.{NoName, Firm-type_declaration, last_apart, Firm-variables}
 use Rattle.iltext.proofs.InstructionLaws.{NoLine, Lawful-lines}
 
 -- ---- programs
 
 abbrev NoVar : Token → Type 0
-NoVar t = (word words.Var).starts t ≡ false
+NoVar t = variables.starts t ≡ false
 
 end_program_apart : (t : Token) → (word words.EndProgram).starts t ≡ true → NoEnd t × NoLine t
 unfolding line with_label label name instruction role_of_word
@@ -38,20 +41,26 @@ Firm-body : Firm Token (List TextLine × Seen) (lead lines (spaced (word words.E
 unfolding lines
 Firm-body = Firm-lead Lawful-lines (λ t e. end_program_apart t e) (Firm-spaced (Firm-word words.EndProgram))
 
+variables_no_end : (k : Kind) (f g : ℕ) → variables.starts (token_of k f g) ≡ true → NoEnd (token_of k f g)
+unfolding variables vars var_external word delimiter
+variables_no_end (kinds.Good (whats.Delimiter m)) f g e = absurd cc
+variables_no_end _ f g e = refl
+
 Lawful-blocks : Lawful Token (List DeclaredNames) blocks (λ t. NoEnd t × NoVar t)
-unfolding blocks vars
-Lawful-blocks = Lawful-map _ _ _ _ _ _ (from_many (λ t e. word_no_end words.Var t e) Firm-vars)
+unfolding blocks
+Lawful-blocks = Lawful-map _ _ _ _ _ _ (from_many (λ t e. variables_no_end t.kind t.from t.to e) Firm-variables)
 
 body_word_apart : (w : Keyword) (f g : ℕ)
     → (lead lines (spaced (word words.EndProgram))).starts (token_of (kinds.Good (whats.Keyword w)) f g) ≡ true
     → NoVar (token_of (kinds.Good (whats.Keyword w)) f g)
-unfolding lines line with_label label name instruction role_of_word word
+unfolding variables vars var_external lines line with_label label name instruction role_of_word word
 body_word_apart words.Var f g e = absurd cc
+body_word_apart words.VarExternal f g e = absurd cc
 body_word_apart _ f g e = refl
 
 body_apart : (k : Kind) (f g : ℕ) → (lead lines (spaced (word words.EndProgram))).starts (token_of k f g) ≡ true
     → NoEnd (token_of k f g) × NoVar (token_of k f g)
-unfolding lines line with_label label name instruction word delimiter
+unfolding variables vars var_external lines line with_label label name instruction word delimiter
 body_apart (kinds.Good (whats.Keyword w)) f g e = (refl, body_word_apart w f g e)
 body_apart (kinds.Good (whats.Delimiter delimiters.LineEnd)) f g e = absurd cc
 body_apart _ f g e = (refl, refl)
@@ -65,7 +74,7 @@ Firm-inside = Firm-lead {b = lead lines (spaced (word words.EndProgram))} Lawful
 inside_apart : (k : Kind) (f g : ℕ)
     → (lead blocks (lead lines (spaced (word words.EndProgram)))).starts (token_of k f g) ≡ true
     → NoEnd (token_of k f g)
-unfolding blocks vars lines line with_label label name instruction word delimiter
+unfolding blocks variables vars var_external lines line with_label label name instruction word delimiter
 inside_apart (kinds.Good (whats.Delimiter delimiters.LineEnd)) f g e = absurd cc
 inside_apart _ f g e = refl
 
@@ -119,7 +128,36 @@ Lawful-units : Lawful Token (List Element) units (λ t. NoEnd t × NoUnit t)
 unfolding units
 Lawful-units = Lawful-map _ _ _ _ _ _ (from_many (λ t e. unit_no_end t.kind t.from t.to e) Firm-unit)
 
-pub Lawful-text : Lawful Token (List Element) text (λ t. NoEnd t × (NoEnd t × NoUnit t))
-unfolding text units
-Lawful-text = Lawful-map _ _ _ _ _ _ (Lawful-lead_open _ _ _ _ _ _ _ Lawful-line_ends Lawful-units
-    (λ t e. unit_no_end t.kind t.from t.to e))
+configuration_word_apart : (w : Keyword) (f g : ℕ)
+    → configuration.starts (token_of (kinds.Good (whats.Keyword w)) f g) ≡ true
+    → NoUnit (token_of (kinds.Good (whats.Keyword w)) f g)
+unfolding configuration unit types program word
+configuration_word_apart words.Type f g e = absurd cc
+configuration_word_apart words.Program f g e = absurd cc
+configuration_word_apart _ f g e = refl
+
+configuration_apart : (k : Kind) (f g : ℕ) → configuration.starts (token_of k f g) ≡ true
+    → NoEnd (token_of k f g) × NoUnit (token_of k f g)
+unfolding configuration unit types program word delimiter
+configuration_apart (kinds.Good (whats.Keyword w)) f g e = (refl, configuration_word_apart w f g e)
+configuration_apart _ f g e = absurd cc
+
+-- what may not follow types, programs and a configuration
+abbrev NoPart : Token → Type 0
+NoPart t = (NoEnd t × NoUnit t) × (NoEnd t × (configuration.starts t ≡ false))
+
+Lawful-parts : Lawful Token (List Element × Option Configured) (lead units (opt configuration)) NoPart
+unfolding units
+Lawful-parts = Lawful-lead_open _ _ _ _ _ _ _ Lawful-units (from_opt Firm-configuration)
+    (λ t e. configuration_apart t.kind t.from t.to e)
+
+part_no_end : (k : Kind) (f g : ℕ) → (lead units (opt configuration)).starts (token_of k f g) ≡ true
+    → NoEnd (token_of k f g)
+unfolding units unit types program configuration word delimiter
+part_no_end (kinds.Good (whats.Delimiter m)) f g e = absurd cc
+part_no_end _ f g e = refl
+
+pub Lawful-text : Lawful Token (List Element × Option Configured) text (λ t. NoEnd t × NoPart t)
+unfolding text
+Lawful-text = Lawful-map _ _ _ _ _ _ (Lawful-lead_open _ _ _ _ _ _ _ Lawful-line_ends Lawful-parts
+    (λ t e. part_no_end t.kind t.from t.to e))

@@ -1,9 +1,11 @@
 pub mod CallLaws
+pub mod ConfigurationLaws
 pub mod Contents
 pub mod Cut
 pub mod DeclarationLaws
 pub mod Ends
 pub mod Extends
+pub mod GlobalLaws
 pub mod InstructionLaws
 pub mod Laws
 pub mod LineEnds
@@ -11,3 +13,4 @@ pub mod Delimiters
 pub mod OperandLaws
 pub mod Shallow
 pub mod Sources
+pub mod TaskLaws

@@ -1,6 +1,6 @@
 -- What the tokens of a text are read as is what the text spells, or its first fault.
 use Rattle.std.proofs.Common.{◌≡◌, ℕ, suc, ◌-◌, ◌≤◌, List, [], ◌∷◌, ◌++◌, length, take, Result, Ok, Err, IfOk, All}
-use Rattle.std.proofs.Common.{inl, inr, sym, ap, subst, ◌∙◌, arith}
+use Rattle.std.proofs.Common.{Option, inl, inr, sym, ap, subst, ◌∙◌, arith}
 use Rattle.std.proofs.lemmas.List.{length-append, take_at}
 use Rattle.std.proofs.Math.Decide.{dec_le}
 use Rattle.std.proofs.Math.Nat.{lt_of_not-le}
@@ -8,6 +8,7 @@ use Rattle.std.specs.Prelude.{◌<◌, ◌↔◌, Bool, false, IsTrue, IfErr}
 use Rattle.ilgrammar.specs.Stops.{StopsBefore, whole_read}
 use Rattle.ilgrammar.proofs.Exact.{whole_found, whole_only, whole_fault, stopped_split, one_fault, no_fault}
 use Rattle.limits.specs.Limits.{most_bytes}
+use Rattle.ilsource.specs.Configurations.{Configured}
 use Rattle.ilsource.specs.declared.source.Element.{Element}
 use Rattle.ilsource.specs.Trees.{Tree}
 use Rattle.iltext.specs.declared.fault.TextFault.{TextFault}
@@ -29,6 +30,13 @@ short_of is_long most count known isnt =
       | no long ↦ let so = known.1 (lt_of_not-le long) in absurd cc
     ]
 
+-- what the tokens of a source program spell
+abbrev Parts : Type 0
+Parts = List Element × Option Configured
+
+abbrev parts_of : Tree → Parts
+parts_of tree = (tree.elements, tree.configuration)
+
 pub is_found : (bytes : List ℕ) (ts : List Token) (r : Result Tree TextFault) → length bytes ≤ most_bytes
     → Cuts bytes 0 ts → IsParsed bytes ts r
     → IfOk r (λ tree. IsText bytes tree)
@@ -38,36 +46,40 @@ is_found bytes ts (Ok tree) short cut p =
       same = p.0;
       tokens = ts;
       cut = cut;
-      whole = whole_found _ _ _ _ Lawful-text ts tree.elements
+      whole = whole_found _ _ _ _ Lawful-text ts (parts_of tree)
           p.1;
     }
 is_found bytes ts (Err e) short cut p = tt
 
 reads : (bytes : List ℕ) (ts : List Token) (tree : Tree) → Cuts bytes 0 ts → IsText bytes tree
-    → whole_read text ts ≡ Ok tree.elements
+    → whole_read text ts ≡ Ok (parts_of tree)
 reads bytes ts tree cut t =
     let same : t.tokens ≡ ts = one_cut bytes 0 (omega arith) t.tokens ts t.cut cut in
-    whole_only _ _ _ _ Lawful-text ts tree.elements
-    (subst (λ (z : List Token). text.whole z tree.elements) same t.whole)
+    whole_only _ _ _ _ Lawful-text ts (parts_of tree)
+    (subst (λ (z : List Token). text.whole z (parts_of tree)) same t.whole)
 
-abbrev done : List Element → Result (List Element) (List Token)
-done ps = Ok ps
+abbrev done : Parts → Result Parts (List Token)
+done parts = Ok parts
 
-abbrev made : List ℕ → List Element → Tree
-made t p = record { text = t; elements = p }
+abbrev made : List ℕ → List Element → Option Configured → Tree
+made t p c = record { text = t; elements = p; configuration = c }
 
-same_tree : (a b : Tree) → a.text ≡ b.text → a.elements ≡ b.elements → a ≡ b
-same_tree a b t p = let e : made a.text a.elements ≡ made b.text b.elements = cc in e
+same_tree : (a b : Tree) → a.text ≡ b.text → parts_of a ≡ parts_of b → a ≡ b
+same_tree a b t p =
+    let elements : a.elements ≡ b.elements = ap (λ (z : Parts). z.0) p in
+    let configuration : a.configuration ≡ b.configuration = ap (λ (z : Parts). z.1) p in
+    let e : made a.text a.elements a.configuration ≡ made b.text b.elements b.configuration = cc in
+    e
 
-same_elements : (ps qs : List Element) → done ps ≡ done qs → ps ≡ qs
-same_elements ps qs e = cc
+same_parts : (p q : Parts) → done p ≡ done q → p ≡ q
+same_parts p q e = cc
 
 pub is_only : (bytes : List ℕ) (ts : List Token) (r : Result Tree TextFault) → Cuts bytes 0 ts → IsParsed bytes ts r
     → (tree : Tree)
     → IsText bytes tree → IsReadAs tree r
 is_only bytes ts (Ok source) cut p tree t =
     same_tree source tree (p.0 ∙ sym t.same)
-    (same_elements source.elements tree.elements (sym p.1 ∙ reads bytes ts tree cut t))
+    (same_parts (parts_of source) (parts_of tree) (sym p.1 ∙ reads bytes ts tree cut t))
 is_only bytes ts (Err faults.Memory) cut p tree t = tt
 is_only bytes ts (Err (faults.At line col cause)) cut p tree t = let bad = sym p.1 ∙ reads bytes ts tree cut t in cc
 
@@ -100,7 +112,7 @@ pub is_one : (bytes : List ℕ) (a b : Tree) → IsText bytes a → IsText bytes
 is_one bytes a b s t =
     let one = reads bytes t.tokens a t.cut s in
     let two = reads bytes t.tokens b t.cut t in
-    same_tree a b (s.same ∙ sym t.same) (same_elements a.elements b.elements (sym one ∙ two))
+    same_tree a b (s.same ∙ sym t.same) (same_parts (parts_of a) (parts_of b) (sym one ∙ two))
 
 first_one : (bytes : List ℕ) (a b : TextFault) → IsFirstFault bytes a → IsFirstFault bytes b → a ≡ b
 first_one bytes a b f g =
@@ -129,8 +141,8 @@ pub is_no_fault : (bytes : List ℕ) (tree : Tree) (fault : TextFault) → IsTex
 is_no_fault bytes tree fault t (inl f) = omega (arith, f.0, t.short)
 is_no_fault bytes tree fault t (inr f) =
     let same : t.tokens ≡ f.tokens = one_cut bytes 0 (omega arith) t.tokens f.tokens t.cut f.cut in
-    no_fault _ _ _ _ Lawful-text f.tokens f.rest tree.elements (f.before, f.stops)
-    (subst (λ (z : List Token). text.whole z tree.elements) same t.whole)
+    no_fault _ _ _ _ Lawful-text f.tokens f.rest (parts_of tree) (f.before, f.stops)
+    (subst (λ (z : List Token). text.whole z (parts_of tree)) same t.whole)
 
 abbrev Within : ℕ → Token → Type 0
 Within len t = t.from ≤ len

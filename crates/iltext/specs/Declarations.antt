@@ -1,10 +1,10 @@
 -- Declarations of types and of variables (IEC 61131-3, 2.3.3.1 and 2.4.3, with this project's profile), as items over
 -- tokens.
-use Rattle.std.specs.Prelude.{ℤ, List, ◌∷◌, Option, Some, None}
+use Rattle.std.specs.Prelude.{ℤ, List, [], ◌∷◌, Option, Some, None}
 use Rattle.iloperators.specs.declared.function.IntegerType.{IntegerType}
 use Rattle.iloperators.specs.declared.function.IntegerType.TheVariants as integers
 use Rattle.ilblocks.specs.declared.kind.Kind.{Kind as BlockKind}
-use Rattle.ilgrammar.specs.Items.{Item, one, map, seq, lead, opt, alt, many}
+use Rattle.ilgrammar.specs.Items.{Item, one, map, seq, lead, select, opt, alt, many}
 use Rattle.ilsource.specs.declared.name.Name.{Name}
 use Rattle.ilsource.specs.declared.declaration.Constant.{Constant}
 use Rattle.ilsource.specs.declared.declaration.Specification.{Specification}
@@ -96,9 +96,13 @@ next_name = map (λ x. x.1) (seq (spaced (delimiter delimiters.Comma)) (spaced n
 unfoldable pub more_names : Item Token (List Name)
 more_names = many next_name
 
+-- {"," name}, after a first name
+unfoldable pub names_after : Name → Item Token (List Name)
+names_after first = map (λ names. first ∷ names) more_names
+
 -- name {"," name}
 unfoldable pub names : Item Token (List Name)
-names = map (λ x. x.0 ∷ x.1) (seq (spaced name) more_names)
+names = select (spaced name) names_after
 
 abbrev pub block_at : Kind → Option BlockKind
 block_at (kinds.Good (whats.Keyword w)) = lookup BLOCKS w
@@ -127,3 +131,22 @@ declarations = many declaration
 -- VAR {declaration} END_VAR
 unfoldable pub vars : Item Token (List DeclaredNames)
 vars = map (λ x. x.1.0) (seq (spaced (word words.Var)) (lead declarations (spaced (word words.EndVar))))
+
+-- ---- externals
+
+-- name ":" specification ";"
+unfoldable pub external : Item Token DeclaredNames
+external = map (λ x. record { names = x.0 ∷ []; declared = declareds.External x.1.1.0 })
+    (seq (spaced name) (seq (spaced (delimiter delimiters.Colon))
+    (seq specification (spaced (delimiter delimiters.Semicolon)))))
+
+unfoldable pub externals : Item Token (List DeclaredNames)
+externals = many external
+
+-- VAR_EXTERNAL {external} END_VAR
+unfoldable pub var_external : Item Token (List DeclaredNames)
+var_external = map (λ x. x.1.0) (seq (spaced (word words.VarExternal)) (lead externals (spaced (word words.EndVar))))
+
+-- a VAR or VAR_EXTERNAL block
+unfoldable pub variables : Item Token (List DeclaredNames)
+variables = alt vars var_external

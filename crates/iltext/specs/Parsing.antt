@@ -11,13 +11,13 @@ use Rattle.iltext.specs.Cutting.{Cuts}
 use Rattle.iltext.specs.Faults.{Reports}
 use Rattle.iltext.specs.Texts.{text}
 
--- the bytes spell the source program: their tokens are those of its types and programs
+-- the bytes spell the source program: their tokens are those of its types and programs and of its configuration
 pub record IsText (bytes : List ℕ) (tree : Tree) : Type 0 where
   pub short : length bytes ≤ most_bytes
   pub same : tree.text ≡ bytes
   pub tokens : List Token
   pub cut : Cuts bytes 0 tokens
-  pub whole : text.whole tokens tree.elements
+  pub whole : text.whole tokens (tree.elements, tree.configuration)
 
 -- the source program is answered, or memory ran out
 abbrev pub IsReadAs : Tree → Result Tree TextFault → Type 0

@@ -1,6 +1,6 @@
 -- Single tokens as items of the grammar, and the line ends after them. Line ends matter only between instructions, so
 -- elsewhere each word, name or delimiter takes those that follow it.
-use Rattle.std.specs.Prelude.{ℕ, ℤ, Option, Some, None, Bool, true, false, if◌then◌else◌}
+use Rattle.std.specs.Prelude.{ℕ, ℤ, List, flat_map, Option, Some, None, Bool, true, false, if◌then◌else◌}
 use denote.Enum.Bare.{sameb}
 use Rattle.iltokens.specs.contracts.keyword.Keyword.{the_type as all_words}
 use Rattle.iltokens.specs.contracts.lexed.Delimiter.{the_type as all_delimiters}
@@ -16,6 +16,10 @@ use Rattle.iltext.specs.declared.token.Kind.{Kind}
 use Rattle.iltokens.specs.declared.lexed.What.TheVariants as whats
 use Rattle.iltext.specs.declared.token.Kind.TheVariants as kinds
 use Rattle.iltext.specs.declared.token.Token.{Token}
+
+-- one list after the other
+abbrev pub flat : {A : Type 0} → List (List A) → List A
+flat = flat_map (λ xs. xs)
 
 -- the value of what has none
 abbrev pub Seen : Type 0

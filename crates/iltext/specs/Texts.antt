@@ -1,25 +1,23 @@
--- The grammar of texts (IEC 61131-3, 2.3.3.1, 2.4.3 and 3.2, with this project's profile), as items over tokens. Lines
--- with neither a label nor an instruction are left out, and each line needs its end of line.
-use Rattle.std.specs.Prelude.{List, [], ◌∷◌, flat_map}
-use Rattle.ilgrammar.specs.Items.{Item, map, seq, lead, alt, many}
+-- The grammar of texts (IEC 61131-3, 2.3.3.1, 2.4.3, 2.7.1 and 3.2, with this project's profile), as items over tokens.
+-- Lines with neither a label nor an instruction are left out, and each line needs its end of line.
+use Rattle.std.specs.Prelude.{List, [], ◌∷◌, Option}
+use Rattle.ilgrammar.specs.Items.{Item, map, seq, lead, opt, alt, many}
+use Rattle.ilsource.specs.Configurations.{Configured}
 use Rattle.ilsource.specs.Programs.{DeclaredNames, Written}
 use Rattle.ilsource.specs.declared.source.Element.{Element}
 use Rattle.ilsource.specs.declared.source.Element.TheVariants as elements
 use Rattle.iltokens.specs.declared.keyword.Keyword.TheVariants as words
 use Rattle.iltext.specs.declared.token.Token.{Token}
-use Rattle.iltext.specs.Terminals.{word, name, line_ends, spaced}
-use Rattle.iltext.specs.Declarations.{type_declaration, vars}
+use Rattle.iltext.specs.Terminals.{word, name, line_ends, spaced, flat}
+use Rattle.iltext.specs.Configurations.{configuration}
+use Rattle.iltext.specs.Declarations.{type_declaration, variables}
 use Rattle.iltext.specs.Instructions.{lines}
 
--- one list after the other
-abbrev pub flat : {A : Type 0} → List (List A) → List A
-flat = flat_map (λ xs. xs)
-
--- the declarations of all VAR blocks in order
+-- the declarations of all VAR and VAR_EXTERNAL blocks in order
 unfoldable pub blocks : Item Token (List DeclaredNames)
-blocks = map flat (many vars)
+blocks = map flat (many variables)
 
--- PROGRAM name {vars} {line} END_PROGRAM
+-- PROGRAM name {variables} {line} END_PROGRAM
 unfoldable pub program : Item Token Written
 program = map (λ x. record { name = x.1.0; declarations = x.1.1.0; lines = x.1.1.1.0 })
     (seq (spaced (word words.Program)) (seq (spaced name) (lead blocks (lead lines (spaced (word words.EndProgram))))))
@@ -40,6 +38,6 @@ unit = alt types (map (λ p. elements.Program p ∷ []) program)
 unfoldable pub units : Item Token (List Element)
 units = map flat (many unit)
 
--- any number of TYPE blocks and programs, in any order
-unfoldable pub text : Item Token (List Element)
-text = map (λ x. x.1) (lead line_ends units)
+-- any number of TYPE blocks and programs, in any order, and at the end a configuration, if there is one
+unfoldable pub text : Item Token (List Element × Option Configured)
+text = map (λ x. x.1) (lead line_ends (lead units (opt configuration)))

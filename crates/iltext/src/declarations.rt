@@ -5,14 +5,18 @@ ghost use Rattle.ilgrammar.specs.Items.{begins};
 ghost use Rattle.ilgrammar.specs.Results.{Gives};
 ghost use Rattle.iltext.specs.Declarations.{integer, simple, interval, range, specification};
 ghost use Rattle.iltext.specs.Declarations.{initial, typing, type_declaration, instances, declared};
-ghost use Rattle.iltext.specs.Declarations.{next_name, names, declaration, declarations, vars};
+ghost use Rattle.iltext.specs.Declarations.{next_name, names_after, names};
+ghost use Rattle.iltext.specs.Declarations.{declaration, declarations, vars};
+ghost use Rattle.iltext.specs.Declarations.{external, externals, var_external, variables};
+ghost use Rattle.iltext.specs.Globals.{global};
 ghost use Rattle.iltext.specs.Instructions.{with_label};
 ghost use Rattle.iltext.specs.Terminals.{spaced};
 ghost use Rattle.iltext.specs.Texts.{derived_type};
 
 use crate::block_kinds::{begins_instances, block};
 use crate::reading::{
-    line_ends, spaced_constant, spaced_delimiter, spaced_name, spaced_number, spaced_word,
+    begins_word, line_ends, spaced_constant, spaced_delimiter, spaced_name, spaced_number,
+    spaced_word,
 };
 use crate::token::{Kind, Token};
 use ilblocks::Kind as BlockKind;
@@ -155,7 +159,7 @@ fn initial<'a>(ts: &'a [Token]) -> Result<(Option<Constant>, &'a [Token]), ReadE
 
 /// `specification [":=" constant] ";"`
 #[tactic(auto, unfolding(crate::specs::Declarations::typing))]
-fn typing<'a>(
+pub fn typing<'a>(
     ts: &'a [Token],
 ) -> Result<((Specification, Option<Constant>), &'a [Token]), ReadError<'a, Token>>
     ensures { Gives (λ x. (x.0, x.1.now)) result (typing.read ts.now) }
@@ -209,6 +213,26 @@ fn next_name<'a>(ts: &'a [Token]) -> Result<(Name, &'a [Token]), ReadError<'a, T
     spaced_name(rest)
 }
 
+/// `{"," name}`, after a first name.
+#[tactic(auto, unfolding(crate::specs::Declarations::names_after))]
+pub fn names_after<'a>(
+    alloc: Global,
+    first: Name,
+    ts: &'a [Token],
+) -> Result<(Vec<Name>, &'a [Token]), ReadError<'a, Token>>
+    ensures { Gives (λ x. (x.0.items, x.1.now)) result ((names_after first).read ts.now) }
+{
+    let mut names = Vec::new(alloc);
+    names.push(first)?;
+    let mut rest = ts;
+    'more: while begins_next_name(rest) {
+        let (next, after) = next_name(rest)?;
+        names.push(next)?;
+        rest = after;
+    }
+    Ok((names, rest))
+}
+
 /// `name {"," name}`
 #[tactic(auto, unfolding(crate::specs::Declarations::names))]
 fn names<'a>(
@@ -218,21 +242,15 @@ fn names<'a>(
     ensures { Gives (λ x. (x.0.items, x.1.now)) result (names.read ts.now) }
 {
     let (first, rest) = spaced_name(ts)?;
-    let mut names = Vec::new(alloc);
-    names.push(first)?;
-    let mut rest = rest;
-    'more: while begins_next_name(rest) {
-        let (next, after) = next_name(rest)?;
-        names.push(next)?;
-        rest = after;
-    }
-    Ok((names, rest))
+    names_after(alloc, first, rest)
 }
 
 /// Whether a name stands first, with which declarations and labels begin.
-#[tactic(auto, unfolding(crate::specs::Declarations::declaration, crate::specs::Declarations::names, crate::specs::Declarations::type_declaration, crate::specs::Texts::derived_type, crate::specs::Instructions::with_label, crate::specs::Instructions::label, crate::specs::Terminals::name))]
+#[tactic(auto, unfolding(crate::specs::Declarations::declaration, crate::specs::Declarations::names, crate::specs::Declarations::external, crate::specs::Globals::global, crate::specs::Declarations::type_declaration, crate::specs::Texts::derived_type, crate::specs::Instructions::with_label, crate::specs::Instructions::label, crate::specs::Terminals::name))]
 pub fn begins_name(ts: &[Token]) -> bool
     ensures variables { result ≡ begins declaration ts.now }
+    ensures externals { result ≡ begins external ts.now }
+    ensures globals { result ≡ begins global ts.now }
     ensures types { result ≡ begins derived_type ts.now }
     ensures labels { result ≡ begins with_label ts.now }
 {
@@ -310,7 +328,7 @@ fn declarations<'a>(
 
 /// `VAR {declaration} END_VAR`
 #[tactic(auto, unfolding(crate::specs::Declarations::vars))]
-pub fn vars<'a>(
+fn vars<'a>(
     alloc: Global,
     ts: &'a [Token],
 ) -> Result<(Vec<Declaration>, &'a [Token]), ReadError<'a, Token>>
@@ -320,4 +338,85 @@ pub fn vars<'a>(
     let (all, rest) = declarations(alloc, rest)?;
     let rest = spaced_word(rest, Keyword::EndVar)?;
     Ok((all, rest))
+}
+
+/// `name ":" specification ";"`
+#[tactic(auto, unfolding(crate::specs::Declarations::external))]
+fn external<'a>(
+    alloc: Global,
+    ts: &'a [Token],
+) -> Result<(Declaration, &'a [Token]), ReadError<'a, Token>>
+    ensures { Gives (λ x. (x.0, x.1.now)) result (external.read ts.now) }
+{
+    let (name, rest) = spaced_name(ts)?;
+    let rest = spaced_delimiter(rest, Delimiter::Colon)?;
+    let (specification, rest) = specification(rest)?;
+    let rest = spaced_delimiter(rest, Delimiter::Semicolon)?;
+    let mut names = Vec::new(alloc);
+    names.push(name)?;
+    Ok((
+        Declaration::new(names, Declared::External(specification)),
+        rest,
+    ))
+}
+
+/// `{external}`
+fn externals<'a>(
+    alloc: Global,
+    ts: &'a [Token],
+) -> Result<(Vec<Declaration>, &'a [Token]), ReadError<'a, Token>>
+    ensures { Gives (λ x. (x.0.items, x.1.now)) result (externals.read ts.now) }
+{
+    let mut all = Vec::new(alloc);
+    let mut rest = ts;
+    'all: while begins_name(rest) {
+        let (one, after) = external(alloc, rest)?;
+        all.push(one)?;
+        rest = after;
+    }
+    Ok((all, rest))
+}
+
+/// `VAR_EXTERNAL {external} END_VAR`
+#[tactic(auto, unfolding(crate::specs::Declarations::var_external))]
+fn var_external<'a>(
+    alloc: Global,
+    ts: &'a [Token],
+) -> Result<(Vec<Declaration>, &'a [Token]), ReadError<'a, Token>>
+    ensures { Gives (λ x. (x.0.items, x.1.now)) result (var_external.read ts.now) }
+{
+    let rest = spaced_word(ts, Keyword::VarExternal)?;
+    let (all, rest) = externals(alloc, rest)?;
+    let rest = spaced_word(rest, Keyword::EndVar)?;
+    Ok((all, rest))
+}
+
+#[tactic(auto, unfolding(crate::specs::Declarations::vars, crate::specs::Terminals::word))]
+fn begins_vars(ts: &[Token]) -> bool
+    ensures { result ≡ begins vars ts.now }
+{
+    begins_word(ts, Keyword::Var)
+}
+
+/// A VAR or VAR_EXTERNAL block.
+#[tactic(auto, unfolding(crate::specs::Declarations::variables))]
+pub fn variables<'a>(
+    alloc: Global,
+    ts: &'a [Token],
+) -> Result<(Vec<Declaration>, &'a [Token]), ReadError<'a, Token>>
+    ensures { Gives (λ x. (x.0.items, x.1.now)) result (variables.read ts.now) }
+{
+    if begins_vars(ts) {
+        vars(alloc, ts)
+    } else {
+        var_external(alloc, ts)
+    }
+}
+
+/// Whether a VAR or VAR_EXTERNAL block stands first.
+#[tactic(auto, unfolding(crate::specs::Declarations::variables, crate::specs::Declarations::vars, crate::specs::Declarations::var_external, crate::specs::Terminals::word))]
+pub fn begins_variables(ts: &[Token]) -> bool
+    ensures { result ≡ begins variables ts.now }
+{
+    begins_word(ts, Keyword::Var) || begins_word(ts, Keyword::VarExternal)
 }

@@ -11,7 +11,7 @@ use crate::fault::{TextCause, TextFault, fault_at};
 use crate::programs::whole_text;
 use crate::token::Token;
 use ilgrammar::ReadError;
-use ilsource::{Element, Source};
+use ilsource::{Configuration, Element, Source};
 use limits::is_too_long;
 use std::alloc::Global;
 
@@ -54,7 +54,7 @@ fn parse_tokens(alloc: Global, text: &[u8], ts: &[Token]) -> Result<Source, Text
     ensures { IsParsed text.now ts.now result }
 {
     match whole_text(alloc, ts) {
-        Ok(elements) => with_text(alloc, text, elements),
+        Ok((elements, configuration)) => with_text(alloc, text, elements, configuration),
         Err(ReadError::Memory) => Err(TextFault::Memory),
         Err(ReadError::Fault(rest)) => {
             let (before, _) = ts.split_at(ts.len() - rest.len());
@@ -63,12 +63,17 @@ fn parse_tokens(alloc: Global, text: &[u8], ts: &[Token]) -> Result<Source, Text
     }
 }
 
-/// The source program of these types and programs.
-fn with_text(alloc: Global, text: &[u8], elements: Vec<Element>) -> Result<Source, TextFault>
-    ensures { IsSourceOf text.now elements.items result }
+/// The source program of these types and programs and this configuration.
+fn with_text(
+    alloc: Global,
+    text: &[u8],
+    elements: Vec<Element>,
+    configuration: Option<Configuration>,
+) -> Result<Source, TextFault>
+    ensures { IsSourceOf text.now elements.items configuration result }
 {
     match Vec::from_slice(alloc, text) {
-        Ok(bytes) => Ok(Source::new(bytes, elements)),
+        Ok(bytes) => Ok(Source::new(bytes, elements, configuration)),
         Err(_) => Err(TextFault::Memory),
     }
 }

@@ -4,36 +4,21 @@ ghost use Rattle.std.specs.Prelude.{◌≡◌, List, length};
 ghost use Rattle.ilgrammar.specs.Items.{begins};
 ghost use Rattle.ilgrammar.specs.Stops.{whole_read};
 ghost use Rattle.ilgrammar.specs.Results.{Gives};
-ghost use Rattle.iltext.specs.Declarations.{vars};
+ghost use Rattle.iltext.specs.Declarations.{variables};
 ghost use Rattle.iltext.specs.Texts.{blocks, program, derived_type, derived_types};
 ghost use Rattle.iltext.specs.Texts.{types, unit, units, text};
 
-use crate::declarations::{begins_name, type_declaration, vars};
+use crate::configurations::optional_configuration;
+use crate::declarations::{begins_name, begins_variables, type_declaration, variables};
 use crate::instructions::lines;
 use crate::reading::{line_ends, spaced_name, spaced_word};
 use crate::token::{Kind, Token};
 use ilgrammar::ReadError;
-use ilsource::{Declaration, Element, Program};
+use ilsource::{Configuration, Declaration, Element, Program};
 use iltokens::{Keyword, What};
 use std::alloc::Global;
 
-#[tactic(auto, unfolding(crate::specs::Declarations::vars, crate::specs::Terminals::word))]
-fn begins_vars(ts: &[Token]) -> bool
-    ensures { result ≡ begins vars ts.now }
-{
-    matches!(
-        ts,
-        [
-            Token {
-                kind: Kind::Good(What::Keyword(Keyword::Var)),
-                ..
-            },
-            ..
-        ]
-    )
-}
-
-/// `{vars}`, as one list.
+/// `{variables}`, as one list.
 fn blocks<'a>(
     alloc: Global,
     ts: &'a [Token],
@@ -42,8 +27,8 @@ fn blocks<'a>(
 {
     let mut all = Vec::new(alloc);
     let mut rest = ts;
-    'all: while begins_vars(rest) {
-        let (one, after) = vars(alloc, rest)?;
+    'all: while begins_variables(rest) {
+        let (one, after) = variables(alloc, rest)?;
         let mut one = one;
         all.append(&mut one)?;
         rest = after;
@@ -51,7 +36,7 @@ fn blocks<'a>(
     Ok((all, rest))
 }
 
-/// `PROGRAM name {vars} {line} END_PROGRAM`
+/// `PROGRAM name {variables} {line} END_PROGRAM`
 #[tactic(auto, unfolding(crate::specs::Texts::program))]
 fn program<'a>(
     alloc: Global,
@@ -175,15 +160,19 @@ fn units<'a>(
     Ok((all, rest))
 }
 
-/// The types and programs that the tokens spell.
+/// What a text spells: its types and programs, and its configuration.
+type TextParts = (Vec<Element>, Option<Configuration>);
+
+/// The types and programs that the tokens spell, and the configuration.
 #[tactic(auto, unfolding(crate::specs::Texts::text))]
-pub fn whole_text<'a>(alloc: Global, ts: &'a [Token]) -> Result<Vec<Element>, ReadError<'a, Token>>
-    ensures { Gives (λ v. v.items) result (whole_read text ts.now) }
+pub fn whole_text<'a>(alloc: Global, ts: &'a [Token]) -> Result<TextParts, ReadError<'a, Token>>
+    ensures { Gives (λ x. (x.0.items, x.1)) result (whole_read text ts.now) }
 {
     let rest = line_ends(ts);
     let (elements, rest) = units(alloc, rest)?;
+    let (configuration, rest) = optional_configuration(alloc, rest)?;
     match rest {
-        [] => Ok(elements),
+        [] => Ok((elements, configuration)),
         [_, ..] => Err(ReadError::Fault(rest)),
     }
 }

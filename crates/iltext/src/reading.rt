@@ -34,6 +34,23 @@ pub fn word<'a>(ts: &'a [Token], wanted: Keyword) -> Result<&'a [Token], ReadErr
     }
 }
 
+/// Whether this reserved word stands first.
+#[tactic(auto, unfolding(crate::specs::Terminals::word))]
+pub fn begins_word(ts: &[Token], wanted: Keyword) -> bool
+    ensures { result ≡ begins (word wanted) ts.now }
+{
+    match ts {
+        [
+            Token {
+                kind: Kind::Good(What::Keyword(found)),
+                ..
+            },
+            ..
+        ] => *found == wanted,
+        _ => false,
+    }
+}
+
 /// This delimiter.
 #[tactic(auto, unfolding(crate::specs::Terminals::delimiter))]
 pub fn delimiter<'a>(

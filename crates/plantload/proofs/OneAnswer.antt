@@ -3,6 +3,7 @@ use Rattle.std.proofs.Common.{◌≡◌, ℕ, List, [], ◌∷◌, Result, Ok, E
 use Rattle.std.proofs.Common.{inl, inr}
 use Rattle.std.specs.List.{AllZip}
 use Rattle.std.proofs.lemmas.Bool.{cases_lt}
+use Rattle.binding.specs.Wirings.{Wiring}
 use Rattle.ilsource.specs.Trees.{Tree}
 use Rattle.iltext.proofs.Sources.{is_one, is_one_fault, is_no_fault}
 use Rattle.ilscope.specs.declared.fault.NameFault.TheVariants as name_faults
@@ -82,13 +83,13 @@ same_refused plan j k r q f g =
 
 -- ---- texts
 
-module _ (buses : ℕ) (bytes : List ℕ) where
-  pub same_plan : (a b : Planned) → IsPlanOfText buses bytes a → IsPlanOfText buses bytes b → a ≡ b
+module _ (wiring : Wiring) (bytes : List ℕ) where
+  pub same_plan : (a b : Planned) → IsPlanOfText wiring bytes a → IsPlanOfText wiring bytes b → a ≡ b
   same_plan a b h g =
       let tree : h.tree ≡ g.tree = is_one bytes h.tree g.tree h.spelled g.spelled in
-      h.resolved ∙ ap (λ (t : Tree). plan_of_tree t buses) tree ∙ sym g.resolved
+      h.resolved ∙ ap (λ (t : Tree). plan_of_tree t wiring) tree ∙ sym g.resolved
 
-  pub same_setup : (a b : Loaded) → IsSetup buses bytes a → IsSetup buses bytes b → a ≡ b
+  pub same_setup : (a b : Loaded) → IsSetup wiring bytes a → IsSetup wiring bytes b → a ≡ b
   same_setup a b h g =
       let plan : a.plan ≡ b.plan = same_plan a.plan b.plan h.plan g.plan in
       let mine = subst (λ (p : Planned). AreCodes p a.codes) plan h.codes in
@@ -96,16 +97,17 @@ module _ (buses : ℕ) (bytes : List ℕ) where
       λ i. record { plan = plan i; codes = codes i }
 
   -- bytes with a plan have no fault of texts and names
-  pub none_against : (plan : Planned) (fault : LoadFault) → IsPlanOfText buses bytes plan → IsPlanFault bytes fault → ⊥
+  pub none_against : (plan : Planned) (fault : LoadFault) → IsPlanOfText wiring bytes plan
+      → IsPlanFault wiring bytes fault → ⊥
   none_against plan Memory h f = f
   none_against plan (Text fault) h f = is_no_fault bytes h.tree fault h.spelled f
   none_against plan (Name name_faults.Memory) h f = f.2
   none_against plan (Name (name_faults.At line col cause)) h f =
       let tree : f.0 ≡ h.tree = is_one bytes f.0 h.tree f.1 h.spelled in
-      h.named f.2.0 cause (subst (λ (t : Tree). IsFault t f.2.0 cause) tree f.2.1.is)
+      h.named f.2.0 cause (subst (λ (t : Tree). IsFault t wiring f.2.0 cause) tree f.2.1.is)
   none_against plan (Code refused) h f = f
 
-  pub same_plan_fault : (a b : LoadFault) → IsPlanFault bytes a → IsPlanFault bytes b → a ≡ b
+  pub same_plan_fault : (a b : LoadFault) → IsPlanFault wiring bytes a → IsPlanFault wiring bytes b → a ≡ b
   same_plan_fault Memory b h g = absurd h
   same_plan_fault (Code refused) b h g = absurd h
   same_plan_fault (Text x) Memory h g = absurd g
@@ -117,11 +119,11 @@ module _ (buses : ℕ) (bytes : List ℕ) where
   same_plan_fault (Name x) (Text y) h g = absurd (is_no_fault bytes h.0 y h.1 g)
   same_plan_fault (Name x) (Name y) h g =
       let tree : h.0 ≡ g.0 = is_one bytes h.0 g.0 h.1 g.1 in
-      let mine = subst (λ (t : Tree). ReportsLeast t.text (IsFault t) x) tree h.2 in
-      ap Name (one_report g.0.text (IsFault g.0) x y mine g.2)
+      let mine = subst (λ (t : Tree). ReportsLeast t.text (IsFault t wiring) x) tree h.2 in
+      ap Name (one_report g.0.text (IsFault g.0 wiring) x y mine g.2)
 
   -- bytes with a setup have no fault
-  pub no_fault : (setup : Loaded) (fault : LoadFault) → IsSetup buses bytes setup → IsLoadFault buses bytes fault → ⊥
+  pub no_fault : (setup : Loaded) (fault : LoadFault) → IsSetup wiring bytes setup → IsLoadFault wiring bytes fault → ⊥
   no_fault setup Memory h f = f
   no_fault setup (Text fault) h f = none_against setup.plan (Text fault) h.plan f
   no_fault setup (Name fault) h f = none_against setup.plan (Name fault) h.plan f
@@ -131,8 +133,8 @@ module _ (buses : ℕ) (bytes : List ℕ) where
       (subst (λ (p : Planned). AreCodes p setup.codes) plan h.codes) f.1
 
   -- bytes have one first task that is refused
-  pub same_refused_task : (a b : Refused) → IsPlanOfText buses bytes a.plan → IsFirstRefused a.plan a.task a.refusal
-      → IsPlanOfText buses bytes b.plan → IsFirstRefused b.plan b.task b.refusal → a ≡ b
+  pub same_refused_task : (a b : Refused) → IsPlanOfText wiring bytes a.plan → IsFirstRefused a.plan a.task a.refusal
+      → IsPlanOfText wiring bytes b.plan → IsFirstRefused b.plan b.task b.refusal → a ≡ b
   same_refused_task a b p f q g =
       let plan : a.plan ≡ b.plan = same_plan a.plan b.plan p q in
       let mine = subst (λ (x : Planned). IsFirstRefused x a.task a.refusal) plan f in
@@ -140,7 +142,7 @@ module _ (buses : ℕ) (bytes : List ℕ) where
       same_refused b.plan a.task b.task a.refusal b.refusal mine g in
       λ i. record { plan = plan i; task = rest.0 i; refusal = rest.1 i }
 
-  pub same_fault : (a b : LoadFault) → IsLoadFault buses bytes a → IsLoadFault buses bytes b → a ≡ b
+  pub same_fault : (a b : LoadFault) → IsLoadFault wiring bytes a → IsLoadFault wiring bytes b → a ≡ b
   same_fault Memory b h g = absurd h
   same_fault (Text x) Memory h g = absurd g
   same_fault (Text x) (Text y) h g = same_plan_fault (Text x) (Text y) h g
@@ -155,7 +157,7 @@ module _ (buses : ℕ) (bytes : List ℕ) where
   same_fault (Code a) (Name y) h g = absurd (none_against a.plan (Name y) h.0 g)
   same_fault (Code a) (Code b) h g = ap Code (same_refused_task a b h.0 h.1 g.0 g.1)
 
-  pub one_answer : (a b : Result Loaded LoadFault) → IsLoaded buses bytes a → IsLoaded buses bytes b → a ≡ b
+  pub one_answer : (a b : Result Loaded LoadFault) → IsLoaded wiring bytes a → IsLoaded wiring bytes b → a ≡ b
   one_answer (Ok a) (Ok b) h g = ap Ok (same_setup a b h g)
   one_answer (Ok a) (Err b) h g = absurd (no_fault a b h g)
   one_answer (Err a) (Ok b) h g = absurd (no_fault b a g h)

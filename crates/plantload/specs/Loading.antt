@@ -1,6 +1,7 @@
 -- What a text is loaded as: its plan with its tasks' codes, or the first of what stands against that (IEC 61131-3,
 -- 2.7.2 and 3.2, and profile).
 use Rattle.std.specs.Prelude.{◌≡◌, ℕ, ◌<◌, List, Result, Ok, Err, Some, slice_get, ⊤}
+use Rattle.binding.specs.Wirings.{Wiring}
 use Rattle.ilsource.specs.Trees.{Tree}
 use Rattle.iltext.specs.Parsing.{IsText, IsTextFault}
 use Rattle.ilscope.specs.Reports.{ReportsLeast}
@@ -14,15 +15,15 @@ use Rattle.plantload.specs.declared.fault.LoadFault.{LoadFault}
 use Rattle.plantload.specs.declared.fault.LoadFault.TheVariants.{Memory, Text, Name, Code}
 
 -- the bytes spell a source program without a fault of names, whose plan this is
-pub record IsPlanOfText (buses : ℕ) (bytes : List ℕ) (plan : Planned) : Type 0 where
+pub record IsPlanOfText (wiring : Wiring) (bytes : List ℕ) (plan : Planned) : Type 0 where
   pub tree : Tree
   pub spelled : IsText bytes tree
-  pub named : IsWellNamed tree
-  pub resolved : plan ≡ plan_of_tree tree buses
+  pub named : IsWellNamed tree wiring
+  pub resolved : plan ≡ plan_of_tree tree wiring
 
 -- the bytes' plan, with the code of each of its tasks
-pub record IsSetup (buses : ℕ) (bytes : List ℕ) (setup : Loaded) : Type 0 where
-  pub plan : IsPlanOfText buses bytes setup.plan
+pub record IsSetup (wiring : Wiring) (bytes : List ℕ) (setup : Loaded) : Type 0 where
+  pub plan : IsPlanOfText wiring bytes setup.plan
   pub codes : AreCodes setup.plan setup.codes
 
 -- the task of this number is the first whose code has no certificate, and this is its refusal
@@ -34,10 +35,11 @@ pub record IsFirstRefused (plan : Planned) (number : ℕ) (refusal : Refusal) : 
   pub refused : IsRefusal (listing_for plan task) refusal
 
 -- why the bytes have no plan: the text's first fault, else the least fault of its names
-abbrev pub IsPlanFault : List ℕ → LoadFault → Type 0
-IsPlanFault bytes (Text fault) = IsTextFault bytes fault
-IsPlanFault bytes (Name fault) = (tree : Tree) × IsText bytes tree × ReportsLeast tree.text (IsFault tree) fault
-IsPlanFault bytes _ = ⊥
+abbrev pub IsPlanFault : Wiring → List ℕ → LoadFault → Type 0
+IsPlanFault wiring bytes (Text fault) = IsTextFault bytes fault
+IsPlanFault wiring bytes (Name fault) =
+    (tree : Tree) × IsText bytes tree × ReportsLeast tree.text (IsFault tree wiring) fault
+IsPlanFault wiring bytes _ = ⊥
 
 -- why a plan has no codes: the first task that is refused
 abbrev pub IsCodeFault : Planned → LoadFault → Type 0
@@ -45,17 +47,17 @@ IsCodeFault plan (Code refused) = (refused.plan ≡ plan) × IsFirstRefused plan
 IsCodeFault plan _ = ⊥
 
 -- why the bytes aren't loaded
-abbrev pub IsLoadFault : ℕ → List ℕ → LoadFault → Type 0
-IsLoadFault buses bytes (Code refused) =
-    IsPlanOfText buses bytes refused.plan × IsFirstRefused refused.plan refused.task refused.refusal
-IsLoadFault buses bytes (Text fault) = IsPlanFault bytes (Text fault)
-IsLoadFault buses bytes (Name fault) = IsPlanFault bytes (Name fault)
-IsLoadFault buses bytes Memory = ⊥
+abbrev pub IsLoadFault : Wiring → List ℕ → LoadFault → Type 0
+IsLoadFault wiring bytes (Code refused) =
+    IsPlanOfText wiring bytes refused.plan × IsFirstRefused refused.plan refused.task refused.refusal
+IsLoadFault wiring bytes (Text fault) = IsPlanFault wiring bytes (Text fault)
+IsLoadFault wiring bytes (Name fault) = IsPlanFault wiring bytes (Name fault)
+IsLoadFault wiring bytes Memory = ⊥
 
 -- what the bytes are loaded as
-abbrev pub IsLoaded : ℕ → List ℕ → Result Loaded LoadFault → Type 0
-IsLoaded buses bytes (Ok setup) = IsSetup buses bytes setup
-IsLoaded buses bytes (Err fault) = IsLoadFault buses bytes fault
+abbrev pub IsLoaded : Wiring → List ℕ → Result Loaded LoadFault → Type 0
+IsLoaded wiring bytes (Ok setup) = IsSetup wiring bytes setup
+IsLoaded wiring bytes (Err fault) = IsLoadFault wiring bytes fault
 
 -- the allocator is out of memory, which may be at any time, or it is such a fault
 abbrev pub IsLoadFaultOrMemory : (LoadFault → Type 0) → LoadFault → Type 0

@@ -28,11 +28,11 @@ use std::sync::Arc;
 ///
 /// That fault, or that the allocator is out of memory.
 pub fn load(alloc: Global, text: &[u8], binding: &Binding) -> Result<Setup, LoadFault>
-    ensures setup { IfOk result (IsSetup binding.now.buses text.now) }
-    ensures fault { IfErr result (IsLoadFaultOrMemory (IsLoadFault binding.now.buses text.now)) }
+    ensures setup { IfOk result (IsSetup binding.now text.now) }
+    ensures fault { IfErr result (IsLoadFaultOrMemory (IsLoadFault binding.now text.now)) }
     // A text has at most one answer, but for out of memory.
-    ensures one { (a b : Result Loaded LoadFault) → IsLoaded binding.now.buses text.now a
-        → IsLoaded binding.now.buses text.now b → a ≡ b }
+    ensures one { (a b : Result Loaded LoadFault) → IsLoaded binding.now text.now a
+        → IsLoaded binding.now text.now b → a ≡ b }
 {
     let plan = plan_of(alloc, text, binding)?;
     setup_of(alloc, plan)
@@ -44,8 +44,8 @@ pub fn load(alloc: Global, text: &[u8], binding: &Binding) -> Result<Setup, Load
 ///
 /// That fault, or that the allocator is out of memory.
 pub fn plan_of(alloc: Global, text: &[u8], binding: &Binding) -> Result<Plan, LoadFault>
-    ensures plan { IfOk result (IsPlanOfText binding.now.buses text.now) }
-    ensures fault { IfErr result (IsLoadFaultOrMemory (IsPlanFault text.now)) }
+    ensures plan { IfOk result (IsPlanOfText binding.now text.now) }
+    ensures fault { IfErr result (IsLoadFaultOrMemory (IsPlanFault binding.now text.now)) }
 {
     let source = parse(alloc, text)?;
     let plan = resolve(alloc, &source, binding)?;

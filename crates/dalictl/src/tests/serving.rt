@@ -27,6 +27,7 @@ impl Shelf {
     fn at(self, path: &str) -> Option<&'static str> {
         match path {
             "t.il" => Some(self.text),
+            "house" => Some("buses 1\nsource 0.3 device-instance 5 2\n"),
             "two" => Some("# a house\nbuses 2\n"),
             "seventeen" => Some("# a town\nbuses 17\n"),
             "buttons" => Some("buses 2\nsource 1.0 device 5 1\nsource 0.7 instance 1 3\n"),

@@ -10,7 +10,10 @@ use crate::compile;
 use ilblocks::Kind;
 use ilcode::{Instruction as Word, Operand as WordOperand, Variable};
 use iloperators::{Condition, Operator};
-use ilplan::{Constants, FunctionBlock, Instance, Place, Plan, Slot, Task};
+use ilplan::{
+    Activation, Constants, FunctionBlock, Instance, Place, Plan, Slot, Task,
+    Variable as SlotVariable,
+};
 use ilsource::Name;
 use iltrees::{Argument, Arguments, Instruction, Line, Nested, Operand};
 use iltypes::{IlType, Value};
@@ -177,8 +180,10 @@ fn plan_of(
 {
     let name = Name { from: 0, to: 0 };
     let slot = Slot {
-        instance: name,
-        variable: name,
+        variable: SlotVariable::Own {
+            instance: name,
+            name,
+        },
         value_type: IlType::Bool,
         initial: Value::Bool(false),
     };
@@ -193,9 +198,13 @@ fn plan_of(
     instances.push(Instance::new(name, lines))?;
     let mut tasks = Vec::new(alloc);
     let name = String::from_str(alloc, "main")?;
-    tasks.push(Task::new(name, false, slots, blocks, constants, instances))?;
+    let activation = Activation::Cyclic { interval: 100 };
+    let task = Task::new(
+        alloc, name, activation, 0, slots, blocks, constants, instances,
+    )?;
+    tasks.push(task)?;
     let text = vec![in alloc; b'\n'; 20]?;
-    Ok(Plan::new(text, 3, Vec::new(alloc), tasks))
+    Ok(Plan::new(text, 3, Vec::new(alloc), Vec::new(alloc), tasks))
 }
 
 #[test]

@@ -39,7 +39,7 @@ pub(crate) fn different_names(
 
 /// `a plan`, or the fault that is printed.
 pub(crate) fn answer(alloc: Global, text: Vec<u8>, elements: Vec<Element>) -> Result<String, Fail> {
-    let source = Source::new(text, elements);
+    let source = Source::new(text, elements, None);
     match resolve(alloc, &source, &Binding::one_bus(alloc)) {
         Ok(_) => Ok(String::from_str(alloc, "a plan")?),
         Err(fault) => Ok(fault.to_string(alloc)?),

@@ -81,7 +81,7 @@ fn names_are_places_in_the_task(rt: HostRuntime) -> Result<(), Fail> {
     let mut elements = Vec::new(alloc);
     elements.push(Element::Program(first(alloc)?))?;
     elements.push(Element::Program(second(alloc)?))?;
-    let source = Source::new(TEXT.to_vec(alloc)?, elements);
+    let source = Source::new(TEXT.to_vec(alloc)?, elements, None);
     let plan = resolve(alloc, &source, &Binding::one_bus(alloc))?;
     assert_eq!(rt; plan.tasks(), 1);
     let task = plan.task(0);

@@ -151,7 +151,7 @@ fn faults_in_parentheses(rt: HostRuntime) -> Result<(), Fail> {
     Ok(())
 }
 
-/// An address stands nowhere in a text so far.
+/// An address stands nowhere in a line.
 #[test]
 fn faults_at_addresses(rt: HostRuntime) -> Result<(), Fail> {
     let lines: [(&[u8], (u8, usize, usize)); 17] = [

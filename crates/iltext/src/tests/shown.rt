@@ -3,8 +3,10 @@
 use ilblocks::Kind;
 use iloperators::{Condition, Function, IntegerType, Operator};
 use ilsource::{
-    Constant, Declared, Element, Name, Program, Source, Specification, Symbol, TypeDeclaration,
+    Address, Configuration, Constant, Declared, Element, GlobalDeclaration, InstanceDeclaration,
+    Name, Program, Source, Specification, Symbol, TaskDeclaration, TypeDeclaration,
 };
+use iltokens::AddressKind;
 use iltrees::{Action, Argument, Instruction, Line, Operand};
 use iltypes::Value;
 use std::alloc::{AllocError, Global};
@@ -243,16 +245,26 @@ impl Page<'_> {
         }
     }
 
-    /// A program, with a VAR block for each declaration.
+    /// Names with commas between them.
+    fn add_names(&mut self, names: &[Name]) -> Result<(), AllocError> {
+        for (number, name) in names.iter().enumerate() {
+            self.add(if number == 0 { b"" } else { b", " })?;
+            self.add_name(*name)?;
+        }
+        Ok(())
+    }
+
+    /// A program, with a block for each declaration.
     fn add_program(&mut self, alloc: Global, program: &Program) -> Result<(), AllocError> {
         self.add(b"PROGRAM ")?;
         self.add_name(program.name())?;
         for declaration in program.declarations() {
-            self.add(b" VAR ")?;
-            for (number, name) in declaration.names().iter().enumerate() {
-                self.add(if number == 0 { b"" } else { b", " })?;
-                self.add_name(*name)?;
-            }
+            let block: &[u8] = match declaration.declared() {
+                Declared::External(_) => b" VAR_EXTERNAL ",
+                _ => b" VAR ",
+            };
+            self.add(block)?;
+            self.add_names(declaration.names())?;
             match declaration.declared() {
                 Declared::Variables {
                     specification,
@@ -262,6 +274,9 @@ impl Page<'_> {
                     self.add(b" : ")?;
                     self.add(kind_name(kind))?;
                     self.add(b";")?;
+                }
+                Declared::External(specification) => {
+                    self.add_typing(alloc, specification, None)?
                 }
             }
             self.add(b" END_VAR")?;
@@ -279,6 +294,89 @@ impl Page<'_> {
         self.add_name(declared.name)?;
         self.add_typing(alloc, declared.specification, declared.initial)?;
         self.add(b" END_TYPE\n")
+    }
+
+    /// AT and an address; nothing where there is none.
+    fn add_address(&mut self, alloc: Global, address: Option<Address>) -> Result<(), AllocError> {
+        let Some(
+            Address {
+                kind,
+                bus,
+                place,
+                ..
+            },
+        ) = address
+        else {
+            return Ok(());
+        };
+        self.add(match kind {
+            AddressKind::OutputByte => b" AT %QB",
+            AddressKind::InputWord => b" AT %IW",
+            AddressKind::InputBit => b" AT %IX",
+        })?;
+        let numbers = format!(in alloc; "{bus}.{place}")?;
+        self.add(numbers.as_bytes())
+    }
+
+    /// A declaration of global variables, with a VAR_GLOBAL block of its own.
+    fn add_global(&mut self, alloc: Global, global: &GlobalDeclaration) -> Result<(), AllocError> {
+        self.add(b"VAR_GLOBAL ")?;
+        self.add_names(global.names())?;
+        self.add_address(alloc, global.address())?;
+        self.add_typing(alloc, global.specification(), global.initial())?;
+        self.add(b" END_VAR\n")
+    }
+
+    /// The declaration of a task.
+    fn add_task(&mut self, alloc: Global, task: &TaskDeclaration) -> Result<(), AllocError> {
+        self.add(b"TASK ")?;
+        self.add_name(task.name)?;
+        self.add(b" (")?;
+        if let Some(name) = task.single {
+            self.add(b"SINGLE := ")?;
+            self.add_name(name)?;
+            self.add(b", ")?;
+        }
+        if let Some(milliseconds) = task.interval {
+            self.add(b"INTERVAL := ")?;
+            self.add_constant(alloc, Constant::Time(milliseconds))?;
+            self.add(b", ")?;
+        }
+        self.add(b"PRIORITY := ")?;
+        self.add_number(alloc, task.priority)?;
+        self.add(b");\n")
+    }
+
+    /// The declaration of a program instance.
+    fn add_program_instance(&mut self, instance: &InstanceDeclaration) -> Result<(), AllocError> {
+        self.add(b"PROGRAM ")?;
+        self.add_name(instance.name)?;
+        if let Some(task) = instance.task {
+            self.add(b" WITH ")?;
+            self.add_name(task)?;
+        }
+        self.add(b" : ")?;
+        self.add_name(instance.program)?;
+        self.add(b";\n")
+    }
+
+    /// A configuration, which is called c.
+    fn add_configuration(
+        &mut self,
+        alloc: Global,
+        configuration: &Configuration,
+    ) -> Result<(), AllocError> {
+        self.add(b"CONFIGURATION c\n")?;
+        for global in configuration.globals() {
+            self.add_global(alloc, global)?;
+        }
+        for task in configuration.tasks() {
+            self.add_task(alloc, task)?;
+        }
+        for instance in configuration.instances() {
+            self.add_program_instance(instance)?;
+        }
+        self.add(b"END_CONFIGURATION\n")
     }
 }
 
@@ -396,6 +494,9 @@ pub fn shown(alloc: Global, source: &Source) -> Result<Vec<u8>, AllocError> {
             Element::DerivedType(declared) => page.add_type(alloc, declared)?,
             Element::Program(program) => page.add_program(alloc, program)?,
         }
+    }
+    if let Some(configuration) = source.configuration() {
+        page.add_configuration(alloc, configuration)?;
     }
     Ok(page.out)
 }

@@ -12,7 +12,7 @@ use Rattle.ilsyms.proofs.arguments.given_twice.Goals as goal
 
 pub loop-line-preserved : goal.loop-line-preserved
 loop-line-preserved c =
-    let text = c.args.scope.now.text in
+    let text = c.args.scope.now.tree.text in
     rw c.lesser_of-least.ensures
     (least_of_more (λ (line : Line Symbol Name). OfCause Twice (IsTwiceIn (folded text) (ports_given line.instruction)))
     c.args.lines.now c.loop-line.line-index c.line-item.result c.loop-line.least c.in_ok-again.again
@@ -20,7 +20,7 @@ loop-line-preserved c =
 
 pub returns : goal.returns
 returns c =
-    let text = c.args.scope.now.text in
+    let text = c.args.scope.now.tree.text in
     of_one_cause Twice
     (λ (line : Line Symbol Name) place. IsTwiceIn (folded text) (ports_given line.instruction) place) c.args.lines.now
     c.loop-line.least

@@ -9,6 +9,6 @@ abbrev pub invariant-loop-line : goal.invariant-loop-line
 invariant-loop-line l =
     IsLeastOf
     (λ place cause.
-    SomeOf (λ line. OfCause Twice (IsTwiceIn (folded l.scope.text) (ports_given line.instruction)) place cause)
+    SomeOf (λ line. OfCause Twice (IsTwiceIn (folded l.scope.tree.text) (ports_given line.instruction)) place cause)
     (take l.line-index l.lines))
     l.least

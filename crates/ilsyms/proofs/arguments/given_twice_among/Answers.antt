@@ -10,7 +10,7 @@ use Rattle.ilsyms.proofs.arguments.given_twice_among.Goals as goal
 
 pub loop-number-preserved : goal.loop-number-preserved
 loop-number-preserved c =
-    let text = c.args.scope.now.text in
+    let text = c.args.scope.now.tree.text in
     record {
       known =
           given_more text c.args.arguments.now c.loop-number.number _ c.loop-number-test.true
@@ -26,5 +26,5 @@ loop-number-preserved c =
 pub returns : goal.returns
 returns c =
     subst (λ (xs : List (Argument Symbol)). IsLeastOf
-    (OfCause Twice (IsTwiceIn (folded c.args.scope.now.text) (given xs))) c.loop-number.least)
+    (OfCause Twice (IsTwiceIn (folded c.args.scope.now.tree.text) (given xs))) c.loop-number.least)
     (take_all c.loop-number.number c.args.arguments.now c.loop-number-test.false) c.loop-number.invariant.twice

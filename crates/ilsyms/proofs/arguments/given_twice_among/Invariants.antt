@@ -7,6 +7,7 @@ use Rattle.ilsyms.proofs.arguments.given_twice_among.Given as goal
 
 abbrev pub invariant-loop-number : goal.invariant-loop-number
 invariant-loop-number l = record {
-  known : AreKnown l.fn.scope.text (given (take l.number l.fn.arguments)) l.given;
-  twice : IsLeastOf (OfCause Twice (IsTwiceIn (folded l.fn.scope.text) (given (take l.number l.fn.arguments)))) l.least;
+  known : AreKnown l.fn.scope.tree.text (given (take l.number l.fn.arguments)) l.given;
+  twice : IsLeastOf
+      (OfCause Twice (IsTwiceIn (folded l.fn.scope.tree.text) (given (take l.number l.fn.arguments)))) l.least;
 }

@@ -13,5 +13,5 @@ returns-in-Call c =
     subst
     (λ (ports : List Name).
     IfOk c.given_twice_among.result (λ found.
-    IsLeastOf (OfCause Twice (IsTwiceIn (folded c.args.scope.now.text) ports)) found))
+    IsLeastOf (OfCause Twice (IsTwiceIn (folded c.args.scope.now.tree.text) ports)) found))
     (ap given c.as_slice.ensures ∙ sym (ap (λ i. ports_given (Some i)) c.in-Call.is)) c.given_twice_among.ensures

@@ -12,5 +12,5 @@ returns-in-Some c =
     subst
     (λ (ports : List Name).
     IfOk c.given_twice_by.result (λ found.
-    IsLeastOf (OfCause Twice (IsTwiceIn (folded c.args.scope.now.text) ports)) found))
+    IsLeastOf (OfCause Twice (IsTwiceIn (folded c.args.scope.now.tree.text) ports)) found))
     (sym (ap ports_given c.in-Some.is)) c.given_twice_by.ensures

@@ -1,6 +1,10 @@
-use Rattle.std.proofs.Common.{◌≡◌, take}
+use Rattle.std.proofs.Common.{◌≡◌, ◌+◌, take}
+use Rattle.limits.specs.Limits.{most_blocks}
+use Rattle.ilsyms.specs.InstanceSteps.{instances_of}
 use Rattle.ilsyms.specs.Variables.{blocks_of}
 use Rattle.ilsyms.proofs.blocks.blocks_of.Given as goal
 
-abbrev pub invariant-loop-program : goal.invariant-loop-program
-invariant-loop-program l = l.blocks.items ≡ blocks_of (take l.program-index l.programs)
+abbrev pub invariant-loop-instance : goal.invariant-loop-instance
+invariant-loop-instance l =
+    l.blocks.items
+    ≡ take (most_blocks + 1) (blocks_of (take l.instance-index (instances_of l.fn.scope.tree l.fn.instances)))

@@ -3,4 +3,4 @@ use Rattle.ilsyms.specs.LabelSteps.{IsFaultBefore}
 use Rattle.ilsyms.proofs.jumps.fault_of_jumps.Given as goal
 
 abbrev pub invariant-loop-number : goal.invariant-loop-number
-invariant-loop-number l = IsLeastOf (IsFaultBefore l.scope.text l.labels l.lines l.number) l.least
+invariant-loop-number l = IsLeastOf (IsFaultBefore l.scope.tree.text l.labels l.lines l.number) l.least

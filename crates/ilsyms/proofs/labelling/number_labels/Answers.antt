@@ -13,7 +13,7 @@ use Rattle.ilsyms.proofs.labelling.number_labels.Goals as goal
 
 pub loop-number-preserved : goal.loop-number-preserved
 loop-number-preserved c =
-    let text = c.args.scope.now.text in
+    let text = c.args.scope.now.tree.text in
     record {
       numbers =
           numbered_more text c.args.lines.now c.loop-number.number c.index-lines-number.result c.loop-number-test.true
@@ -30,11 +30,11 @@ loop-number-preserved c =
 
 pub returns-clause-numbers : goal.returns-clause-numbers
 returns-clause-numbers c =
-    subst (λ (ls : List (Line Symbol Name)). AreNumbered c.args.scope.now.text ls c.loop-number.numbers)
+    subst (λ (ls : List (Line Symbol Name)). AreNumbered c.args.scope.now.tree.text ls c.loop-number.numbers)
     (take_all c.loop-number.number c.args.lines.now c.loop-number-test.false) c.loop-number.invariant.numbers
 
 pub returns-clause-twice : goal.returns-clause-twice
 returns-clause-twice c =
     subst (λ (ls : List (Line Symbol Name)). IsLeastOf
-    (OfCause Twice (IsTwiceIn (folded c.args.scope.now.text) (labels_of ls))) c.loop-number.least)
+    (OfCause Twice (IsTwiceIn (folded c.args.scope.now.tree.text) (labels_of ls))) c.loop-number.least)
     (take_all c.loop-number.number c.args.lines.now c.loop-number-test.false) c.loop-number.invariant.twice

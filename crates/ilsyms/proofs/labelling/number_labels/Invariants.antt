@@ -8,6 +8,7 @@ use Rattle.ilsyms.proofs.labelling.number_labels.Given as goal
 
 abbrev pub invariant-loop-number : goal.invariant-loop-number
 invariant-loop-number l = record {
-  numbers : AreNumbered l.fn.scope.text (take l.number l.fn.lines) l.numbers;
-  twice : IsLeastOf (OfCause Twice (IsTwiceIn (folded l.fn.scope.text) (labels_of (take l.number l.fn.lines)))) l.least;
+  numbers : AreNumbered l.fn.scope.tree.text (take l.number l.fn.lines) l.numbers;
+  twice : IsLeastOf
+      (OfCause Twice (IsTwiceIn (folded l.fn.scope.tree.text) (labels_of (take l.number l.fn.lines)))) l.least;
 }

@@ -7,6 +7,6 @@ use Rattle.ilsyms.proofs.lines.fault_of_lines.Given as goal
 abbrev pub invariant-loop-program : goal.invariant-loop-program
 invariant-loop-program l =
     IsLeastOf
-    (λ place cause. SomeOf (λ p. IsFaultOfLines l.scope.text p.program.lines place cause)
-    (take l.program-index (declared_programs l.scope)))
+    (λ place cause. SomeOf (λ p. IsFaultOfLines l.scope.tree.text p.program.lines place cause)
+    (take l.program-index (declared_programs l.scope.tree)))
     l.least

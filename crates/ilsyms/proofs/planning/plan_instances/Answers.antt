@@ -1,102 +1,123 @@
-use Rattle.std.proofs.Common.{◌≡◌, ◌<◌, ◌∙◌, ap, get_or, length, List, [], ◌∷◌, ◌++◌, arith, subst, inl}
+use Rattle.std.proofs.Common.{◌≡◌, ◌∙◌, ap, length, List, [], ◌∷◌, ◌++◌, arith, subst, map}
+use Rattle.std.specs.List.{position_or_len}
+use Rattle.std.proofs.lemmas.List.{take_all}
 use Rattle.iltrees.specs.declared.instruction.Line.{Line}
 use Rattle.iltrees.specs.Words.{AreShallow}
 use Rattle.ilsource.specs.Programs.{Written}
 use Rattle.ilsource.specs.declared.name.Name.{Name}
 use Rattle.ilsource.specs.declared.symbol.Symbol.{Symbol}
 use Rattle.ilplan.specs.Plans.{PlannedInstance}
+use Rattle.ilplan.specs.declared.slot.Slot.{Slot}
+use Rattle.ilplan.specs.declared.instance.FunctionBlock.{FunctionBlock}
+use Rattle.ilsyms.specs.declared.tasks.TaskInstance.{TaskInstance}
+use Rattle.ilsyms.specs.InstanceSteps.{instances_of}
 use Rattle.ilsyms.specs.LabelSteps.{AreNumbered}
-use Rattle.ilscope.specs.Declarations.{DeclaredProgram, declared_programs}
-use Rattle.ilscope.specs.declared.fault.NameCause.TheVariants.{Twice}
-use Rattle.ilsyms.proofs.Distinct.{programs_apart}
-use Rattle.ilsyms.proofs.Limits.{few_slots, few_blocks}
+use Rattle.ilsyms.specs.PlanningSteps.{is_of_instance}
+use Rattle.ilsyms.specs.Resolved.{planned_instance}
+use Rattle.ilsyms.specs.Tasks.{ProgramInstance}
+use Rattle.ilsyms.specs.Variables.{slots_of, blocks_of, lines_of}
+use Rattle.ilsyms.proofs.OwnSlots.{first_own}
 use Rattle.ilsyms.proofs.Planned.{planned_more, slots_fit, slots_more, blocks_fit, blocks_more, shallow_more, renamed}
+use Rattle.ilsyms.proofs.There.{number_there, stands, among, as_many}
 use Rattle.ilsyms.proofs.planning.plan_instances.Goals as goal
 
-pub new-numbering-requires-clause-slots : goal.new-numbering-requires-clause-slots
-new-numbering-requires-clause-slots c =
-    let items = c.programs-program-items.ensures.value in
-    let all = declared_programs c.args.scope.now in
-    let is : c.program-item.result ≡ get_or all c.loop-number.number c.program-item.result =
-    c.program-item.is ∙ ap (λ (qs : List DeclaredProgram). get_or qs c.loop-number.number c.program-item.result) items
-    in
-    let below : c.loop-number.number < length all = rw (← items) c.loop-number-test.true in
-    let fit = slots_fit c.args.scope.now.text all c.loop-number.number c.program-item.result is below in
-    let few = few_slots c.args.scope.now c.requires.named in
-    let first = c.loop-number.invariant.first_slot in
-    omega (arith, fit, few, first)
+no_instance : TaskInstance
+no_instance = record { name = record { from = 0; to = 0 }; program = 0 }
 
-pub new-numbering-requires-clause-blocks : goal.new-numbering-requires-clause-blocks
-new-numbering-requires-clause-blocks c =
-    let items = c.programs-program-items.ensures.value in
-    let all = declared_programs c.args.scope.now in
-    let is : c.program-item.result ≡ get_or all c.loop-number.number c.program-item.result =
-    c.program-item.is ∙ ap (λ (qs : List DeclaredProgram). get_or qs c.loop-number.number c.program-item.result) items
-    in
-    let below : c.loop-number.number < length all = rw (← items) c.loop-number-test.true in
-    let fit = blocks_fit c.args.scope.now.text all c.loop-number.number c.program-item.result is below in
-    let few = few_blocks c.args.scope.now c.requires.named in
-    let first = c.loop-number.invariant.first_block in
-    omega (arith, fit, few, first)
+pub program_of-program-requires : goal.program_of-program-requires
+program_of-program-requires c =
+    number_there c.args.scope.now.tree c.args.instances.now c.requires.there c.loop-instance.instance-index _
+    c.loop-instance-test.true
 
-pub new-numbering-requires-clause-all_slots : goal.new-numbering-requires-clause-all_slots
-new-numbering-requires-clause-all_slots c =
-    let few = few_slots c.args.scope.now c.requires.named in
-    omega (arith, few, c.loop-number.invariant.all_slots, c.requires.slots)
+pub new-numbering-requires : goal.new-numbering-requires
+new-numbering-requires c =
+    let tree = c.args.scope.now.tree in
+    let given = c.args.instances.now in
+    let all = instances_of tree given in
+    let k = c.loop-instance.instance-index in
+    let below = c.loop-instance-test.true in
+    let is = stands tree given c.requires.there k _ below c.program_of-program.result.now
+    c.program_of-program.ensures in
+    let within = among tree given c.requires.there k no_instance below in
+    let slots = slots_fit tree all k _ is within in
+    let blocks = blocks_fit tree all k _ is within in
+    let first_slot = c.loop-instance.invariant.first_slot in
+    let first_block = c.loop-instance.invariant.first_block in
+    let as_slots = ap (λ (ss : List Slot). length ss) c.requires.slots in
+    let as_blocks = ap (λ (bs : List FunctionBlock). length bs) c.requires.blocks in
+    record {
+      program = c.program_of-program.ensures;
+      first_slot = omega (arith, slots, first_slot, as_slots, c.requires.few_slots);
+      first_block = omega (arith, blocks, first_block, as_blocks, c.requires.few_blocks);
+      slots = omega (arith, c.requires.few_slots);
+      blocks = omega (arith, c.requires.few_blocks);
+    }
 
-pub new-numbering-requires-clause-all_blocks : goal.new-numbering-requires-clause-all_blocks
-new-numbering-requires-clause-all_blocks c =
-    let few = few_blocks c.args.scope.now c.requires.named in
-    omega (arith, few, c.loop-number.invariant.all_blocks, c.requires.blocks)
+pub loop-instance-init : goal.loop-instance-init
+loop-instance-init c =
+    let tree = c.args.scope.now.tree in
+    let all = instances_of tree c.args.instances.now in
+    let first = first_own tree all in
+    let here = c.first_own-first_slot.ensures
+    ∙ ap (λ (ss : List Slot). position_or_len (λ s. is_of_instance s.variable) ss) c.requires.slots in
+    record {
+      instances = c.new-planned.ensures.items;
+      first_slot = omega (arith, first, here);
+      first_block = omega arith;
+      shallow = tt;
+    }
 
-pub loop-number-preserved : goal.loop-number-preserved
-loop-number-preserved c =
-    let text = c.args.scope.now.text in
-    let items = c.programs-program-items.ensures.value in
-    let all = declared_programs c.args.scope.now in
-    let p = c.program-item.result in
-    let so_far = c.loop-number.invariant in
-    let is : p ≡ get_or all c.loop-number.number p =
-    c.program-item.is ∙ ap (λ (qs : List DeclaredProgram). get_or qs c.loop-number.number p) items in
-    let below : c.loop-number.number < length all = rw (← items) c.loop-number-test.true in
-    let apart = programs_apart c.args.scope.now (λ place s. c.requires.named place Twice (inl s)) in
-    let written = c.program-written.ensures.value in
-    let lines : c.program-written.result.now.lines ≡ p.program.lines = ap (λ (w : Written). w.lines) written in
+pub loop-instance-preserved : goal.loop-instance-preserved
+loop-instance-preserved c =
+    let tree = c.args.scope.now.tree in
+    let given = c.args.instances.now in
+    let all = instances_of tree given in
+    let k = c.loop-instance.instance-index in
+    let below = c.loop-instance-test.true in
+    let program = c.program_of-program.result.now in
+    let is = stands tree given c.requires.there k _ below program c.program_of-program.ensures in
+    let within = among tree given c.requires.there k no_instance below in
+    let so_far = c.loop-instance.invariant in
+    let lines : c.program.result.now.lines ≡ program.program.lines =
+    ap (λ (w : Written). w.lines) c.program.ensures.value in
     let read = c.lines-lines.ensures.value ∙ lines in
     let named = c.in_ok-lines.ensures ∙ (λ i. renamed (c.new-numbering.ensures i) (read i)) in
-    let numbered : AreNumbered text p.program.lines c.in_ok-labels.labels =
-    subst (λ (ls : List (Line Symbol Name)). AreNumbered text ls c.in_ok-labels.labels) read
+    let numbered : AreNumbered tree.text program.program.lines c.in_ok-labels.labels =
+    subst (λ (ls : List (Line Symbol Name)). AreNumbered tree.text ls c.in_ok-labels.labels) read
     c.in_ok-labels.ensures.numbers
-    in
-    let one : c.new.result ≡ record { name = p.program.name; lines = c.in_ok-lines.lines.items } =
-    c.new.ensures
-    ∙ (λ i. record {
-      name = (c.name.ensures ∙ ap (λ (w : Written). w.name) written) i;
-      lines = c.in_ok-lines.lines.items;
-    })
     in
     record {
       instances =
           c.in_ok-push.ensures.items
-          ∙ ap (λ (one : PlannedInstance). c.loop-number.instances.items ++ one ∷ []) one
-          ∙ planned_more text all c.loop-number.number p is below apart
-          c.loop-number.slots.first c.loop-number.slots.all c.loop-number.blocks.first c.loop-number.blocks.all
-          so_far.first_slot (so_far.all_slots ∙ c.requires.slots) so_far.first_block
-          (so_far.all_blocks ∙ c.requires.blocks) c.in_ok-labels.labels numbered
-          c.in_ok-lines.lines.items named c.loop-number.instances.items so_far.instances;
+          ∙ ap (λ (one : PlannedInstance). c.loop-instance.planned.items ++ one ∷ []) c.new.ensures
+          ∙ planned_more tree all k _ is within c.requires.apart c.args.slots.now c.loop-instance.first_slot
+          (length c.args.blocks.now) c.loop-instance.first_block c.requires.slots so_far.first_slot
+          (ap (λ (bs : List FunctionBlock). length bs) c.requires.blocks) so_far.first_block
+          c.in_ok-labels.labels numbered c.in_ok-lines.lines.items named c.loop-instance.planned.items so_far.instances;
       first_slot =
-          let more = slots_more text all c.loop-number.number p is below in
+          let more = slots_more tree all k _ is within in
           let own = ap length c.variables.ensures.value in
           let first = so_far.first_slot in
           omega (arith, more, own, first);
-      all_slots = so_far.all_slots;
       first_block =
-          let more = blocks_more text all c.loop-number.number p is below in
-          let own = ap length c.blocks-in-loop-number.ensures.value in
+          let more = blocks_more tree all k _ is within in
+          let own = ap length c.blocks-in-loop-instance.ensures.value in
           let first = so_far.first_block in
           omega (arith, more, own, first);
-      all_blocks = so_far.all_blocks;
       shallow =
-          shallow_more text all c.loop-number.number p is below so_far.shallow
-          (subst AreShallow lines c.lines-lines.ensures.shallow);
+          shallow_more tree all k _ is within so_far.shallow (subst AreShallow lines c.lines-lines.ensures.shallow);
+    }
+
+pub returns : goal.returns
+returns c =
+    let tree = c.args.scope.now.tree in
+    let all = instances_of tree c.args.instances.now in
+    let many = as_many tree c.args.instances.now c.requires.there in
+    let whole = take_all c.loop-instance.instance-index all (omega (arith, many, c.loop-instance-test.false)) in
+    record {
+      instances =
+          c.loop-instance.invariant.instances
+          ∙ ap (λ (is : List ProgramInstance). map (planned_instance tree (slots_of tree all) (blocks_of all)) is)
+          whole;
+      shallow = subst (λ (is : List ProgramInstance). AreShallow (lines_of is)) whole c.loop-instance.invariant.shallow;
     }

@@ -8,7 +8,7 @@ use Rattle.ilsyms.proofs.ports.port_of.Goals as goal
 
 pub returns-in_err-kind : goal.returns-in_err-kind
 returns-in_err-kind c p at =
-    let text = c.args.scope.now.text in
+    let text = c.args.scope.now.tree.text in
     c.from_residual.ensures
     ∙ sym (port_by_found text c.args.port p c.args.block c.block.result (c.block.ensures.number p at)
     (c.block.ensures.kind p at)
@@ -16,7 +16,7 @@ returns-in_err-kind c p at =
 
 pub returns-in_err-port : goal.returns-in_err-port
 returns-in_err-port c p at =
-    let text = c.args.scope.now.text in
+    let text = c.args.scope.now.tree.text in
     let kind = c.in_ok-kind.kind in
     let spelled : text_of text c.args.port ≡ c.text-2.result.now =
     sym (c.text-2.ensures
@@ -32,7 +32,7 @@ returns-in_err-port c p at =
 
 pub returns : goal.returns
 returns c p at =
-    let text = c.args.scope.now.text in
+    let text = c.args.scope.now.tree.text in
     let kind = c.in_ok-kind.kind in
     let spelled : text_of text c.args.port ≡ c.text-2.result.now =
     sym (c.text-2.ensures

@@ -2,10 +2,10 @@ use Rattle.std.proofs.Common.{◌≡◌, take}
 use Rattle.std.specs.Prelude.{Some, slice_get}
 use Rattle.ilscope.specs.Declarations.{DeclaredProgram, declared_programs}
 use Rattle.ilscope.specs.Faults.{IsLeastOf}
-use Rattle.ilsyms.specs.UseSteps.{IsFaultOfUses}
+use Rattle.ilsyms.specs.UseSteps.{IsFaultAtUses}
 use Rattle.ilsyms.proofs.uses.fault_in_uses.Given as goal
 
 abbrev pub invariant-loop-used : goal.invariant-loop-used
 invariant-loop-used l =
-    (p : DeclaredProgram) → slice_get (declared_programs l.scope) l.number ≡ Some p
-    → IsLeastOf (IsFaultOfUses l.scope.text p (take l.used-index l.uses)) l.least
+    (p : DeclaredProgram) → slice_get (declared_programs l.scope.tree) l.number ≡ Some p
+    → IsLeastOf (IsFaultAtUses l.scope.tree p (take l.used-index l.uses)) l.least

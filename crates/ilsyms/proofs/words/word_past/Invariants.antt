@@ -1,7 +1,8 @@
-use Rattle.std.proofs.Common.{◌≡◌, flat_map, take}
-use Rattle.iltrees.specs.Words.{places_in}
-use Rattle.ilsyms.specs.Variables.{lines_of}
+use Rattle.std.proofs.Common.{◌≡◌, ◌+◌, flat_map, length, take}
+use Rattle.limits.specs.Limits.{most_words}
+use Rattle.ilsyms.specs.LimitSteps.{places_at}
 use Rattle.ilsyms.proofs.words.word_past.Given as goal
 
-abbrev pub invariant-loop-program : goal.invariant-loop-program
-invariant-loop-program l = l.places.items ≡ flat_map places_in (lines_of (take l.program-index l.programs))
+abbrev pub invariant-loop-instance : goal.invariant-loop-instance
+invariant-loop-instance l =
+    length (flat_map (λ i. places_at l.words i.program) (take l.instance-index l.instances)) + l.left ≡ most_words

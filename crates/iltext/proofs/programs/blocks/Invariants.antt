@@ -1,12 +1,13 @@
 use Rattle.std.proofs.Common.{◌≡◌, length}
 use Rattle.ilgrammar.specs.Items.{many}
 use Rattle.ilgrammar.specs.Results.{extend}
-use Rattle.iltext.specs.Texts.{flat, blocks}
-use Rattle.iltext.specs.Declarations.{vars}
+use Rattle.iltext.specs.Declarations.{variables}
+use Rattle.iltext.specs.Terminals.{flat}
+use Rattle.iltext.specs.Texts.{blocks}
 use Rattle.iltext.proofs.programs.blocks.Given as goal
 
 abbrev pub invariant-all : goal.invariant-all
-invariant-all l = extend flat l.all.items ((many vars).read l.rest) ≡ blocks.read l.fn.ts
+invariant-all l = extend flat l.all.items ((many variables).read l.rest) ≡ blocks.read l.fn.ts
 
 abbrev pub decreases-all : goal.decreases-all
 decreases-all l = length l.rest

@@ -2,7 +2,7 @@ use Rattle.plantload.proofs.OneAnswer.{one_answer}
 use Rattle.plantload.proofs.loading.load.Goals as goal
 
 pub returns-in_err-plan-clause-one : goal.returns-in_err-plan-clause-one
-returns-in_err-plan-clause-one c = one_answer c.args.binding.now.buses c.args.text.now
+returns-in_err-plan-clause-one c = one_answer c.args.binding.now c.args.text.now
 
 pub returns-clause-one : goal.returns-clause-one
-returns-clause-one c = one_answer c.args.binding.now.buses c.args.text.now
+returns-clause-one c = one_answer c.args.binding.now c.args.text.now

@@ -1,8 +1,16 @@
-use Rattle.std.proofs.Common.{take}
-use Rattle.ilsyms.specs.CountingSteps.{AreCounted}
+use Rattle.std.proofs.Common.{◌≡◌, length, take}
+use Rattle.ilscope.specs.Declarations.{declared_programs}
+use Rattle.ilsyms.specs.CountingSteps.{AreCounted, AreSeen}
+use Rattle.ilsyms.specs.InstanceSteps.{instances_of}
 use Rattle.ilsyms.specs.Variables.{lines_of, uses_of}
 use Rattle.ilsyms.proofs.counting.Counted.of.Given as goal
 
-abbrev pub invariant-loop-program : goal.invariant-loop-program
-invariant-loop-program l =
-    AreCounted (uses_of (lines_of (take l.program-index l.programs))) l.counted.constants l.counted.excess
+abbrev pub invariant-loop-instance : goal.invariant-loop-instance
+invariant-loop-instance l =
+    let tree = l.scope.tree in
+    let front = take l.instance-index (instances_of tree l.instances) in
+    record {
+      counted : AreCounted (uses_of (lines_of front)) l.counted.constants l.counted.excess;
+      count : length l.seen.items ≡ length (declared_programs tree);
+      seen : AreSeen tree front l.seen.items;
+    }

@@ -1,23 +1,28 @@
-use Rattle.std.proofs.Common.{◌≡◌, ℕ, ap, sym, ◌∙◌}
-use Rattle.std.specs.Prelude.{Option, option_map, bytes_eq}
-use Rattle.ilblocks.specs.declared.kind.Kind.{Kind}
+use Rattle.std.proofs.Common.{ap, arith, sym, ◌∙◌}
+use Rattle.std.specs.Prelude.{bytes_eq, option_map}
 use Rattle.ilsource.specs.Names.{folded}
 use Rattle.ilscope.specs.declared.block.DeclaredBlock.{DeclaredBlock}
-use Rattle.ilsyms.proofs.Numbers.{fits}
+use Rattle.ilsyms.proofs.Firsts.{first_below}
 use Rattle.ilsyms.proofs.numbering.Numbering.block.Goals as goal
-use Rattle.ilsyms.proofs.numbering.Numbering.block.Goals.{in-Some, in-None}
 
-pub number-requires-clause-own : goal.number-requires-clause-own
-number-requires-clause-own c =
+pub overflow_add-result : goal.overflow_add-result
+overflow_add-result c =
     let inside = c.self.inside in
-    let spelled = folded inside.scope.now.text in
-    let number = λ (found : Option (ℕ × Kind)). option_map (λ (b : ℕ × Kind). b.0) found in
-    let own : c.match-block.own ≡ number c.block.result =
-    elim c.match-block.branch [
-      | in-Some w ↦ w.own-is ∙ sym (ap number w.in-Some.is)
-      | in-None w ↦ w.own-is ∙ sym (ap number w.in-None.is)
-    ]
+    let spelled = folded inside.scope.now.tree.text in
+    let below = first_below (λ (x : DeclaredBlock). bytes_eq (spelled c.args.name) (spelled x.name))
+    inside.program.now.blocks
+    c.in-Some.own
+    (sym (c.block.ensures.number inside.program.now c.self.invariant.0) ∙ ap (option_map (λ b. b.0)) c.in-Some.is)
     in
-    fits (λ (b : DeclaredBlock). bytes_eq (spelled c.args.name) (spelled b.name)) inside.program.now.blocks
-    inside.blocks.first _ c.match-block.own (own ∙ c.block.ensures.number inside.program.now c.self.invariant.0)
-    c.self.invariant.2
+    omega (arith, below, c.self.invariant.2)
+
+pub overflow_cast-result : goal.overflow_cast-result
+overflow_cast-result c =
+    let inside = c.self.inside in
+    let spelled = folded inside.scope.now.tree.text in
+    let below = first_below (λ (x : DeclaredBlock). bytes_eq (spelled c.args.name) (spelled x.name))
+    inside.program.now.blocks
+    c.in-Some.own
+    (sym (c.block.ensures.number inside.program.now c.self.invariant.0) ∙ ap (option_map (λ b. b.0)) c.in-Some.is)
+    in
+    omega (arith, below, c.self.invariant.2)

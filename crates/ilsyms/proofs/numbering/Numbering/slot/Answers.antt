@@ -1,13 +1,42 @@
+use Rattle.std.proofs.Common.{◌<◌, ◌^◌, arith, sym, ◌∙◌, length, subst}
 use Rattle.std.specs.Prelude.{bytes_eq}
 use Rattle.ilsource.specs.Names.{folded}
 use Rattle.ilscope.specs.declared.variable.Variable.{Variable}
-use Rattle.ilsyms.proofs.Numbers.{fits}
+use Rattle.ilplan.specs.declared.slot.Slot.{Slot}
+use Rattle.ilscope.specs.Configured.{global_number}
+use Rattle.ilsyms.specs.Meaning.{is_global}
+use Rattle.ilsyms.specs.PlanningSteps.{Numbering}
+use Rattle.ilsyms.proofs.Numbers.{within}
+use Rattle.ilsyms.proofs.Firsts.{first_below}
 use Rattle.ilsyms.proofs.numbering.Numbering.slot.Goals as goal
 
-pub number-requires-clause-own : goal.number-requires-clause-own
-number-requires-clause-own c =
+pub overflow_add-result : goal.overflow_add-result
+overflow_add-result c =
     let inside = c.self.inside in
-    let spelled = folded inside.scope.now.text in
-    fits (λ (v : Variable). bytes_eq (spelled c.args.name) (spelled v.name)) inside.program.now.variables
-    inside.slots.first _ c.variable_number.result
-    (c.variable_number.ensures.value inside.program.now c.self.invariant.0) c.self.invariant.1
+    let spelled = folded inside.scope.now.tree.text in
+    let below = first_below (λ (x : Variable). bytes_eq (spelled c.args.name) (spelled x.name))
+    inside.program.now.variables
+    c.in-Some.own
+    (sym (c.variable_number.ensures.value inside.program.now c.self.invariant.0) ∙ c.in-Some.is)
+    in
+    omega (arith, below, c.self.invariant.1)
+
+pub overflow_cast-result : goal.overflow_cast-result
+overflow_cast-result c =
+    let inside = c.self.inside in
+    let spelled = folded inside.scope.now.tree.text in
+    let below = first_below (λ (x : Variable). bytes_eq (spelled c.args.name) (spelled x.name))
+    inside.program.now.variables
+    c.in-Some.own
+    (sym (c.variable_number.ensures.value inside.program.now c.self.invariant.0) ∙ c.in-Some.is)
+    in
+    omega (arith, below, c.self.invariant.1)
+
+pub overflow_cast-result-in-None : goal.overflow_cast-result-in-None
+overflow_cast-result-in-None c =
+    let now = c.args.self.now in
+    let last = within (λ (s : Slot). is_global (global_number now.tree c.args.name) s.variable) now.slots in
+    let few : length now.slots < 2 ^ 16 =
+    subst (λ (n : Numbering). length n.slots < 2 ^ 16) c.self.view_is c.self.invariant.3
+    in
+    omega (arith, last, c.global.ensures, few)

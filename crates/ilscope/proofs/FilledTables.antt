@@ -1,0 +1,151 @@
+-- What is gathered from all elements of a text, with its configuration, fills its tables.
+use mathlib.Core.List.{reverse_aux}
+use Rattle.std.proofs.Common.{◌≡◌, ◌∙◌, ℕ, List, [], ◌∷◌, ap, map, refl, subst}
+use Rattle.std.specs.Prelude.{Option, filter_map, flat_map}
+use Rattle.iltypes.specs.declared.value.IlType.{IlType}
+use Rattle.ilsource.specs.Names.{folded, text_of}
+use Rattle.ilsource.specs.Trees.{Tree, types_of}
+use Rattle.ilsource.specs.declared.declaration.TypeDeclaration.{TypeDeclaration}
+use Rattle.ilsource.specs.declared.name.Name.{Name}
+use Rattle.ilsource.specs.declared.source.Element.{Element}
+use Rattle.ilsource.specs.declared.source.Element.TheVariants.{DerivedType, Program}
+use Rattle.ilscope.specs.Configured.{declared_globals_of, globals_in, globals_of, task_declarations, types_of_text}
+use Rattle.ilscope.specs.Configured.{value_types_in}
+use Rattle.ilscope.specs.DataTypes.{TypeNames, types_below}
+use Rattle.ilscope.specs.Declarations.{DeclaredProgram, declared_program, declared_programs, name_of, standing}
+use Rattle.ilscope.specs.Faults.{IsLeastOf, IsTwiceIn, OfCause, SomeOf}
+use Rattle.ilscope.specs.Kept.{Kept, types_in}
+use Rattle.ilscope.specs.Order.{lesser_of_two}
+use Rattle.ilscope.specs.ScopeSteps.{AreAllNumbers, AreNumbersOf, AreTablesOf, IsFaultInElements, IsFaultInTables}
+use Rattle.ilscope.specs.ScopeSteps.{IsFaultOfElement, IsGathered, IsTwiceNumbered, above_all, block_names}
+use Rattle.ilscope.specs.ScopeSteps.{external_names, variable_names}
+use Rattle.ilscope.specs.Tables.{lowered}
+use Rattle.ilscope.specs.declared.data_type.DataType.{DataType}
+use Rattle.ilscope.specs.declared.fault.NameCause.TheVariants.{Twice}
+use Rattle.ilscope.specs.declared.found.Found.{Found}
+use Rattle.ilscope.specs.declared.global.DeclaredGlobal.{DeclaredGlobal}
+use Rattle.ilscope.proofs.Least.{both_least, either_least}
+use Rattle.ilscope.proofs.Spelling.{key_is}
+
+pub spelled_is : (lower text : List ℕ) → lower ≡ lowered text → text_of lower ≡ folded text
+spelled_is lower text e = λ i name. (ap (λ (w : List ℕ). text_of w name) e ∙ key_is text name) i
+
+-- the types above what stands below all elements, the nearest first
+above_all_is : (above : List TypeDeclaration) (all : List Element)
+    → above_all above all ≡ reverse_aux (types_of all) above
+above_all_is above [] = refl
+above_all_is above (DerivedType type ∷ more) = above_all_is (type ∷ above) more
+above_all_is above (Program program ∷ more) = above_all_is above more
+
+-- what is gathered from all elements of a text, and what is kept of its configuration
+module _ (tree : Tree) (lower : List ℕ) (types : Kept (Option DataType)) (programs : List DeclaredProgram)
+    (variables blocks externals : List (Kept ℕ)) (least : Option Found) (lower_is : lower ≡ lowered tree.text)
+    (gathered : IsGathered lower tree.elements types programs variables blocks externals least) where
+  same : text_of lower ≡ folded tree.text
+  same = spelled_is lower tree.text lower_is
+
+  pub programs_are : programs ≡ declared_programs tree
+  programs_are =
+      gathered.declared
+      ∙ ap (λ (s : Name → List ℕ). filter_map (declared_program s) (standing [] tree.elements)) same
+
+  pub types_are : types_in lower types ≡ types_of_text tree
+  types_are =
+      (λ i name. gathered.meant name i)
+      ∙ ap (λ (s : Name → List ℕ). types_below s (above_all [] tree.elements)) same
+      ∙ ap (λ (above : List TypeDeclaration). types_below (folded tree.text) above) (above_all_is [] tree.elements)
+
+  numbered : (names : List Name) (numbers : Kept ℕ) → AreNumbersOf (text_of lower) names numbers
+      → AreNumbersOf (folded tree.text) names numbers
+  numbered names numbers h = subst (λ (s : Name → List ℕ). AreNumbersOf s names numbers) same h
+
+  pub filled : (globals : List DeclaredGlobal) (value_types : List (Option IlType))
+      (global_numbers task_numbers program_numbers : Kept ℕ) →
+      globals ≡ flat_map (globals_in (types_in lower types)) (declared_globals_of tree) →
+      value_types ≡ flat_map (value_types_in (types_in lower types)) (declared_globals_of tree) →
+      AreNumbersOf (text_of lower) (map (λ g. g.name) globals) global_numbers →
+      AreNumbersOf (text_of lower) (map (λ t. t.name) (task_declarations tree)) task_numbers →
+      AreNumbersOf (text_of lower) (map (λ p. p.program.name) programs) program_numbers →
+      AreTablesOf tree lower types programs variables blocks externals globals value_types global_numbers task_numbers
+      program_numbers
+  filled globals value_types global_numbers task_numbers program_numbers g v n t p =
+      let globals_are : globals ≡ globals_of tree =
+      g ∙ ap (λ (names : TypeNames). flat_map (globals_in names) (declared_globals_of tree)) types_are
+      in
+      record {
+        text = lower_is;
+        meant = types_are;
+        declared = programs_are;
+        variables_numbered =
+            subst (λ (s : Name → List ℕ). AreAllNumbers s variable_names programs variables) same
+            gathered.variables_numbered;
+        blocks_numbered =
+            subst (λ (s : Name → List ℕ). AreAllNumbers s block_names programs blocks) same gathered.blocks_numbered;
+        externals_numbered =
+            subst (λ (s : Name → List ℕ). AreAllNumbers s external_names programs externals) same
+            gathered.externals_numbered;
+        global_variables = globals_are;
+        global_types =
+            v ∙ ap (λ (names : TypeNames). flat_map (value_types_in names) (declared_globals_of tree)) types_are;
+        globals_numbered =
+            subst (λ (gs : List DeclaredGlobal). AreNumbersOf (folded tree.text) (map (λ g. g.name) gs) global_numbers)
+            globals_are (numbered (map (λ g. g.name) globals) global_numbers n);
+        tasks_numbered = numbered (map (λ t. t.name) (task_declarations tree)) task_numbers t;
+        programs_numbered =
+            subst (λ (ps : List DeclaredProgram). AreNumbersOf (folded tree.text) (map (λ p. p.program.name) ps)
+            program_numbers) programs_are (numbered (map (λ p. p.program.name) programs) program_numbers p);
+      }
+
+  again : (names : List Name) (found : Option Found) → IsLeastOf (OfCause Twice (IsTwiceIn (text_of lower) names)) found
+      → IsLeastOf (OfCause Twice (IsTwiceIn (folded tree.text) names)) found
+  again names found h =
+      subst (λ (s : Name → List ℕ). IsLeastOf (OfCause Twice (IsTwiceIn s names)) found) same h
+
+  pub found_in_tables : (globals : List DeclaredGlobal) (one two three : Option Found) →
+      globals ≡ flat_map (globals_in (types_in lower types)) (declared_globals_of tree) →
+      IsLeastOf (OfCause Twice (IsTwiceIn (text_of lower) (map name_of tree.elements))) one →
+      IsLeastOf (OfCause Twice (IsTwiceIn (text_of lower) (map (λ g. g.name) globals))) two →
+      IsLeastOf (OfCause Twice (IsTwiceIn (text_of lower) (map (λ t. t.name) (task_declarations tree)))) three →
+      IsLeastOf (IsFaultInTables tree) (lesser_of_two least (lesser_of_two one (lesser_of_two two three)))
+  found_in_tables globals one two three g a b c =
+      let spelled = folded tree.text in
+      let globals_are : globals ≡ globals_of tree =
+      g ∙ ap (λ (names : TypeNames). flat_map (globals_in names) (declared_globals_of tree)) types_are
+      in
+      let of_globals : IsLeastOf (OfCause Twice (IsTwiceIn spelled (map (λ g. g.name) (globals_of tree)))) two =
+      subst (λ (gs : List DeclaredGlobal). IsLeastOf (OfCause Twice (IsTwiceIn spelled (map (λ g. g.name) gs))) two)
+      globals_are (again (map (λ g. g.name) globals) two b)
+      in
+      let tasks = map (λ t. t.name) (task_declarations tree) in
+      both_least (IsFaultInElements tree) (OfCause Twice (IsTwiceNumbered tree)) least
+      (lesser_of_two one (lesser_of_two two three))
+      (subst (λ (s : Name → List ℕ). IsLeastOf
+      (λ place cause. SomeOf (λ one. IsFaultOfElement s one place cause) (standing [] tree.elements)) least) same
+      gathered.fault)
+      (either_least Twice (IsTwiceIn spelled (map name_of tree.elements)) _ one (lesser_of_two two three)
+      (again (map name_of tree.elements) one a)
+      (either_least Twice (IsTwiceIn spelled (map (λ g. g.name) (globals_of tree))) (IsTwiceIn spelled tasks) two three
+      of_globals (again tasks three c)))
+
+-- numbers and faults of names, in a text and of a list that are equal to those
+pub moved_numbers : (lower l : List ℕ) (names ns : List Name) (numbers : Kept ℕ) → lower ≡ l → names ≡ ns →
+    AreNumbersOf (text_of lower) names numbers → AreNumbersOf (text_of l) ns numbers
+moved_numbers lower l names ns numbers e f h =
+    subst (λ (w : List ℕ). AreNumbersOf (text_of w) ns numbers) e
+    (subst (λ (ms : List Name). AreNumbersOf (text_of lower) ms numbers) f h)
+
+pub moved_twice : (lower l : List ℕ) (names ns : List Name) (found : Option Found) → lower ≡ l → names ≡ ns →
+    IsLeastOf (OfCause Twice (IsTwiceIn (text_of lower) names)) found →
+    IsLeastOf (OfCause Twice (IsTwiceIn (text_of l) ns)) found
+moved_twice lower l names ns found e f h =
+    subst (λ (w : List ℕ). IsLeastOf (OfCause Twice (IsTwiceIn (text_of w) ns)) found) e
+    (subst (λ (ms : List Name). IsLeastOf (OfCause Twice (IsTwiceIn (text_of lower) ms)) found) f h)
+
+-- and what is gathered
+pub moved_gathered : (lower l : List ℕ) (front elements : List Element) (types : Kept (Option DataType))
+    (programs : List DeclaredProgram) (variables blocks externals : List (Kept ℕ)) (least : Option Found) →
+    lower ≡ l → front ≡ elements → IsGathered lower front types programs variables blocks externals least →
+    IsGathered l elements types programs variables blocks externals least
+moved_gathered lower l front elements types programs variables blocks externals least e f h =
+    subst (λ (w : List ℕ). IsGathered w elements types programs variables blocks externals least) e
+    (subst (λ (es : List Element). IsGathered lower es types programs variables blocks externals least) f h)

@@ -1,0 +1,13 @@
+use Rattle.std.proofs.Common.{take}
+use Rattle.ilscope.specs.Faults.{IsLeastOf, OfCause, SomeOf}
+use Rattle.ilscope.specs.declared.fault.NameCause.TheVariants.{BadDeclaration}
+use Rattle.ilscope.specs.Kept.{kept_under}
+use Rattle.std.specs.Prelude.{None, option_and_then, slice_get, unwrap_or}
+use Rattle.ilscope.specs.Faults.{IsOtherExternalIn}
+use Rattle.ilscope.proofs.other_types.other_externals.Given as goal
+
+abbrev pub invariant-loop-program : goal.invariant-loop-program
+invariant-loop-program l =
+    IsLeastOf (OfCause BadDeclaration (λ place. SomeOf (IsOtherExternalIn
+    (λ name. option_and_then (λ number. unwrap_or (slice_get l.globals number) None)
+    (kept_under l.lower l.numbers name)) place) (take l.program-index l.programs))) l.least

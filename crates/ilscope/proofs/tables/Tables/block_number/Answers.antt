@@ -1,0 +1,36 @@
+use Rattle.std.proofs.Common.{◌≡◌, ◌∙◌, ap, length, List, ℕ, arith}
+use Rattle.std.specs.Prelude.{bytes_eq, slice_get, Some}
+use Rattle.std.specs.Map.{lookup}
+use Rattle.ilsource.specs.Names.{folded}
+use Rattle.ilsource.specs.Trees.{Tree}
+use Rattle.ilscope.specs.Declarations.{DeclaredProgram, declared_programs}
+use Rattle.ilscope.specs.ScopeSteps.{block_names}
+use Rattle.ilscope.specs.Tables.{block_number}
+use Rattle.ilscope.proofs.Declared.{as_many, number_at}
+use Rattle.ilscope.proofs.tables.Tables.block_number.Goals as goal
+
+pub index-requires : goal.index-requires
+index-requires c =
+    let inside = c.self.inside in
+    let many = as_many (folded inside.source.now.text) block_names inside.programs.items inside.block_numbers.items
+    c.self.invariant.blocks_numbered in
+    let programs = ap (λ (ps : List DeclaredProgram). length ps) c.self.invariant.declared in
+    let here = ap (λ (t : Tree). length (declared_programs t)) c.self.view_is in
+    let below = c.requires in
+    omega (arith, many, programs, here, below)
+
+pub returns : goal.returns
+returns c p e =
+    let inside = c.self.inside in
+    let tree : Tree = inside.source.now in
+    let at : slice_get inside.programs.items c.args.program ≡ Some p =
+    ap (λ (ps : List DeclaredProgram). slice_get ps c.args.program) c.self.invariant.declared
+    ∙ ap (λ (t : Tree). slice_get (declared_programs t) c.args.program) c.self.view_is
+    ∙ e
+    in
+    c.get.ensures
+    ∙ ap (λ (key : List ℕ). lookup (bytes_eq key) c.index.result.now) c.text.ensures
+    ∙ number_at (λ (q : DeclaredProgram). q.blocks) (λ x. x.name) tree.text c.deref.result.now inside.programs.items
+    inside.block_numbers.items c.index.result.now c.args.program p c.args.name
+    (c.deref.ensures.value ∙ c.self.invariant.text) c.self.invariant.blocks_numbered at c.index.ensures
+    ∙ ap (λ (t : Tree). block_number (folded t.text) p.blocks c.args.name) c.self.view_is

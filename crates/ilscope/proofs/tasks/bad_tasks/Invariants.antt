@@ -1,0 +1,9 @@
+use Rattle.std.proofs.Common.{take}
+use Rattle.ilscope.specs.Faults.{IsLeastOf, OfCause, SomeOf}
+use Rattle.ilscope.specs.declared.fault.NameCause.TheVariants.{BadDeclaration}
+use Rattle.ilscope.specs.Faults.{IsBadTaskAt}
+use Rattle.ilscope.proofs.tasks.bad_tasks.Given as goal
+
+abbrev pub invariant-loop-task : goal.invariant-loop-task
+invariant-loop-task l =
+    IsLeastOf (OfCause BadDeclaration (λ place. SomeOf (IsBadTaskAt place) (take l.task-index l.tasks))) l.least

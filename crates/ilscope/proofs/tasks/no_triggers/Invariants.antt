@@ -1,0 +1,13 @@
+use Rattle.std.proofs.Common.{take}
+use Rattle.ilscope.specs.Faults.{IsLeastOf, OfCause, SomeOf}
+use Rattle.ilscope.specs.declared.fault.NameCause.TheVariants.{BadAddress}
+use Rattle.ilscope.specs.Kept.{kept_under}
+use Rattle.std.specs.Prelude.{option_and_then, slice_get}
+use Rattle.ilscope.specs.Faults.{IsNoTriggerOf}
+use Rattle.ilscope.proofs.tasks.no_triggers.Given as goal
+
+abbrev pub invariant-loop-task : goal.invariant-loop-task
+invariant-loop-task l =
+    IsLeastOf (OfCause BadAddress (λ place. SomeOf (IsNoTriggerOf
+    (λ name. option_and_then (slice_get l.globals) (kept_under l.lower l.numbers name)) place)
+    (take l.task-index l.tasks))) l.least

@@ -1,0 +1,11 @@
+use Rattle.std.proofs.Common.{take}
+use Rattle.ilscope.specs.Faults.{IsLeastOf, OfCause, SomeOf}
+use Rattle.ilscope.specs.declared.fault.NameCause.TheVariants.{Unknown}
+use Rattle.ilscope.specs.Kept.{kept_under}
+use Rattle.ilscope.specs.Faults.{IsUnknownExternalIn}
+use Rattle.ilscope.proofs.unknown.unknown_externals.Given as goal
+
+abbrev pub invariant-loop-program : goal.invariant-loop-program
+invariant-loop-program l =
+    IsLeastOf (OfCause Unknown (λ place. SomeOf (IsUnknownExternalIn (kept_under l.lower l.globals) place)
+    (take l.program-index l.programs))) l.least

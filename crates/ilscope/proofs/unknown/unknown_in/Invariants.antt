@@ -1,0 +1,11 @@
+use Rattle.std.proofs.Common.{take}
+use Rattle.ilscope.specs.Faults.{IsLeastOf, OfCause, SomeOf}
+use Rattle.ilscope.specs.declared.fault.NameCause.TheVariants.{Unknown}
+use Rattle.ilscope.specs.Kept.{kept_under}
+use Rattle.ilscope.specs.Faults.{IsUnknownName}
+use Rattle.ilscope.proofs.unknown.unknown_in.Given as goal
+
+abbrev pub invariant-loop-external : goal.invariant-loop-external
+invariant-loop-external l =
+    IsLeastOf (OfCause Unknown (λ place. SomeOf (λ e. IsUnknownName (kept_under l.lower l.globals) place e.name)
+    (take l.external-index l.externals))) l.least

@@ -1,0 +1,11 @@
+use Rattle.std.proofs.Common.{take}
+use Rattle.ilscope.specs.Faults.{IsLeastOf, OfCause, SomeOf}
+use Rattle.ilscope.specs.declared.fault.NameCause.TheVariants.{Unknown}
+use Rattle.ilscope.specs.Kept.{kept_under}
+use Rattle.ilscope.specs.Faults.{IsUnknownName}
+use Rattle.ilscope.proofs.unknown.unknown_programs.Given as goal
+
+abbrev pub invariant-loop-instance : goal.invariant-loop-instance
+invariant-loop-instance l =
+    IsLeastOf (OfCause Unknown (λ place. SomeOf (λ i. IsUnknownName (kept_under l.lower l.programs) place i.program)
+    (take l.instance-index l.instances))) l.least

@@ -1,0 +1,11 @@
+use Rattle.std.proofs.Common.{take}
+use Rattle.ilscope.specs.Faults.{IsLeastOf, OfCause, SomeOf}
+use Rattle.ilscope.specs.declared.fault.NameCause.TheVariants.{Unknown}
+use Rattle.ilscope.specs.Kept.{kept_under}
+use Rattle.ilscope.specs.Faults.{IsUnknownTriggerOf}
+use Rattle.ilscope.proofs.unknown.unknown_triggers.Given as goal
+
+abbrev pub invariant-loop-task : goal.invariant-loop-task
+invariant-loop-task l =
+    IsLeastOf (OfCause Unknown (λ place. SomeOf (IsUnknownTriggerOf (kept_under l.lower l.globals) place)
+    (take l.task-index l.tasks))) l.least

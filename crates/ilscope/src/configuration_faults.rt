@@ -1,0 +1,125 @@
+//! The faults of a configuration, and of what names it.
+
+ghost use Rattle.std.specs.Prelude.{◌≡◌};
+
+use crate::addresses::twice_addresses;
+use crate::configuration::{declared_globals, instance_names, instances_of, tasks_of};
+use crate::found::{Found, lesser_of};
+use crate::globals::{addresses_of, fault_of_globals};
+use crate::located::{bad_addresses, badly_located, inputs_given, inputs_too_small};
+use crate::numbers::numbers_of;
+use crate::other_types::other_externals;
+use crate::tables::Tables;
+use crate::tasks::{bad_tasks, no_triggers, without_task};
+use crate::unknown::{unknown_externals, unknown_programs, unknown_tasks, unknown_triggers};
+use binding::Binding;
+use ilsource::Address;
+use std::alloc::{AllocError, Global};
+
+impl<'a> Tables<'a> {
+    ghost use Rattle.std.specs.Prelude.{◌≡◌, ◌⊎◌, IfOk};
+    ghost use Rattle.ilscope.specs.Configured.{addresses_of};
+    ghost use Rattle.ilscope.specs.Faults.{IsBadAddress, IsLeastOf, IsNoTrigger, OfCause};
+    ghost use Rattle.ilscope.specs.ScopeSteps.{IsBadInConfiguration, IsFaultInGlobals};
+    ghost use Rattle.ilscope.specs.ScopeSteps.{IsFaultOfConfiguration, IsFaultOfInput};
+    ghost use Rattle.ilscope.specs.ScopeSteps.{IsTwiceInConfiguration, IsUnknownNamed};
+    ghost use Rattle.ilscope.specs.declared.fault.NameCause.TheVariants.{BadAddress, Unknown};
+    ghost use Rattle.ilscope.specs.declared.fault.NameCause.TheVariants.{BadDeclaration, Twice};
+
+    /// The least fault of the configuration, with located variables looked up in `binding`.
+    pub(crate) fn fault_of_configuration(
+        &self,
+        alloc: Global,
+        binding: &Binding,
+    ) -> Result<Option<Found>, AllocError>
+        ensures { IfOk result (λ least. IsLeastOf
+            (IsFaultOfConfiguration (record { tree = self.now; wiring = binding.now })) least) }
+    {
+        let declared = lesser_of(self.fault_in_globals(), self.unknown_name());
+        let stated = lesser_of(self.given_twice(alloc)?, self.bad_declaration());
+        let located = lesser_of(self.bad_address(alloc, binding)?, self.fault_of_input());
+        let lacking = without_task(instances_of(self.source));
+        let rest = lesser_of(stated, lesser_of(located, lacking));
+        Ok(lesser_of(declared, rest))
+    }
+
+    /// The least fault of what global variables are declared as.
+    fn fault_in_globals(&self) -> Option<Found>
+        ensures { IsLeastOf (IsFaultInGlobals self.now) result }
+    {
+        fault_of_globals(&self.lower, &self.types, declared_globals(self.source))
+    }
+
+    /// The first name of a global variable, a task or a program that there is not.
+    fn unknown_name(&self) -> Option<Found>
+        ensures { IsLeastOf (OfCause Unknown (IsUnknownNamed self.now)) result }
+    {
+        let lower = self.lower.as_slice();
+        let instances = instances_of(self.source);
+        let external = unknown_externals(lower, &self.global_numbers, self.programs.as_slice());
+        let trigger = unknown_triggers(lower, &self.global_numbers, tasks_of(self.source));
+        let task = unknown_tasks(lower, &self.task_numbers, instances);
+        let program = unknown_programs(lower, &self.program_numbers, instances);
+        lesser_of(external, lesser_of(trigger, lesser_of(task, program)))
+    }
+
+    /// The first program instance or address that is given again.
+    fn given_twice(&self, alloc: Global) -> Result<Option<Found>, AllocError>
+        ensures { IfOk result (λ least.
+            IsLeastOf (OfCause Twice (IsTwiceInConfiguration self.now)) least) }
+    {
+        let names = instance_names(alloc, instances_of(self.source))?;
+        let (_, instance) = numbers_of(alloc, self.lower.as_slice(), names.as_slice())?;
+        let addresses = self.addresses(alloc)?;
+        let address = twice_addresses(alloc, addresses.as_slice())?;
+        Ok(lesser_of(instance, address))
+    }
+
+    /// Where global variables are located, in declared order.
+    fn addresses(&self, alloc: Global) -> Result<Vec<Address>, AllocError>
+        ensures { IfOk result (λ v. v.items ≡ addresses_of self.now) }
+    {
+        addresses_of(alloc, self.globals.as_slice())
+    }
+
+    /// The first external of another type, variable that does not fit its address, or bad task.
+    fn bad_declaration(&self) -> Option<Found>
+        ensures { IsLeastOf (OfCause BadDeclaration (IsBadInConfiguration self.now)) result }
+    {
+        let lower = self.lower.as_slice();
+        let external = other_externals(
+            lower,
+            &self.global_numbers,
+            self.value_types.as_slice(),
+            self.programs.as_slice(),
+        );
+        let located = badly_located(lower, &self.types, declared_globals(self.source));
+        let task = bad_tasks(tasks_of(self.source));
+        lesser_of(external, lesser_of(located, task))
+    }
+
+    /// The first address that is not there, or SINGLE on a variable that is no trigger.
+    fn bad_address(&self, alloc: Global, binding: &Binding) -> Result<Option<Found>, AllocError>
+        ensures { IfOk result (λ least. IsLeastOf (OfCause BadAddress
+            (λ at. IsBadAddress self.now binding.now at ⊎ IsNoTrigger self.now at)) least) }
+    {
+        let addresses = self.addresses(alloc)?;
+        let address = bad_addresses(binding, addresses.as_slice());
+        let trigger = no_triggers(
+            self.lower.as_slice(),
+            &self.global_numbers,
+            self.globals.as_slice(),
+            tasks_of(self.source),
+        );
+        Ok(lesser_of(address, trigger))
+    }
+
+    /// The first input whose variable lacks values of it or is given an initial value.
+    fn fault_of_input(&self) -> Option<Found>
+        ensures { IsLeastOf (IsFaultOfInput self.now) result }
+    {
+        let globals = declared_globals(self.source);
+        let small = inputs_too_small(self.lower.as_slice(), &self.types, globals);
+        lesser_of(small, inputs_given(globals))
+    }
+}

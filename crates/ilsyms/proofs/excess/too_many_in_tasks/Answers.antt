@@ -1,0 +1,59 @@
+use Rattle.std.proofs.Common.{◌≡◌, List, sym, ap, ◌∙◌, subst, arith}
+use Rattle.std.proofs.lemmas.List.{take_all}
+use Rattle.std.proofs.lemmas.Option.{get_or_from_slice_get}
+use Rattle.std.specs.Prelude.{Some, slice_get}
+use Rattle.ilscope.specs.Faults.{IsLeastOf, OfCause, SomeOf}
+use Rattle.ilscope.specs.declared.fault.NameCause.TheVariants.{TooMany}
+use Rattle.ilscope.proofs.Least.{got_at, got_below, least_of_more, of_one_cause}
+use Rattle.ilsyms.specs.Faults.{IsTooManyIn}
+use Rattle.ilsyms.specs.InstanceSteps.{AreThere, instances_of}
+use Rattle.ilsyms.specs.Tasks.{ProgramInstance, SourceTask, tasks_of}
+use Rattle.ilsyms.specs.declared.tasks.TaskInstance.{TaskInstance}
+use Rattle.ilsyms.proofs.TaskPrograms.{task_of_given, tasks_as_many}
+use Rattle.ilsyms.proofs.There.{instances_are, there}
+use Rattle.ilsyms.proofs.excess.too_many_in_tasks.Goals as goal
+
+pub too_many_in-requires : goal.too_many_in-requires
+too_many_in-requires c =
+    let tree = c.args.scope.now.tree in
+    let tasks = c.args.tasks.now in
+    let i = c.loop-instances.instances-index in
+    let given = c.instances-item.result in
+    let here : slice_get tasks i ≡ Some given = got_at tasks i given c.loop-instances-test.true c.instances-item.is in
+    let found = task_of_given tree tasks c.requires i given here in
+    record {
+      there =
+          subst (λ (is : List TaskInstance). AreThere tree is) (sym c.as_slice.ensures.value)
+          (there tree given found.0.instances found.2);
+      words = c.deref.ensures.value ∙ c.in_ok-words.ensures;
+    }
+
+pub loop-instances-preserved : goal.loop-instances-preserved
+loop-instances-preserved c =
+    let tree = c.args.scope.now.tree in
+    let tasks = c.args.tasks.now in
+    let i = c.loop-instances.instances-index in
+    let given = c.instances-item.result in
+    let here : slice_get tasks i ≡ Some given = got_at tasks i given c.loop-instances-test.true c.instances-item.is in
+    let found = task_of_given tree tasks c.requires i given here in
+    let task = found.0 in
+    let same : instances_of tree c.as_slice.result.now ≡ task.instances =
+    ap (λ (is : List TaskInstance). instances_of tree is) c.as_slice.ensures.value
+    ∙ instances_are tree given task.instances found.2 in
+    rw c.lesser_of-least.ensures
+    (least_of_more (λ (t : SourceTask). OfCause TooMany (λ at. IsTooManyIn tree at t.instances)) (tasks_of tree) i task
+    c.loop-instances.least c.in_ok-fault.fault (got_below (tasks_of tree) i task found.1)
+    (sym (get_or_from_slice_get (tasks_of tree) i task task found.1)) c.loop-instances.invariant
+    (subst (λ (is : List ProgramInstance).
+    IsLeastOf (OfCause TooMany (λ at. IsTooManyIn tree at is)) c.in_ok-fault.fault) same c.in_ok-fault.ensures))
+
+pub returns : goal.returns
+returns c =
+    let tree = c.args.scope.now.tree in
+    let many = tasks_as_many tree c.args.tasks.now c.requires in
+    let last = c.loop-instances-test.false in
+    of_one_cause TooMany (λ (t : SourceTask) place. IsTooManyIn tree place t.instances) (tasks_of tree)
+    c.loop-instances.least
+    (subst (λ (ts : List SourceTask). IsLeastOf (λ place cause. SomeOf
+    (λ t. OfCause TooMany (λ at. IsTooManyIn tree at t.instances) place cause) ts) c.loop-instances.least)
+    (take_all c.loop-instances.instances-index (tasks_of tree) (omega (arith, many, last))) c.loop-instances.invariant)

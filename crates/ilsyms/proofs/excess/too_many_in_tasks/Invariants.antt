@@ -1,0 +1,14 @@
+use Rattle.std.proofs.Common.{take}
+use Rattle.ilscope.specs.Faults.{IsLeastOf, OfCause, SomeOf}
+use Rattle.ilscope.specs.declared.fault.NameCause.TheVariants.{TooMany}
+use Rattle.ilsyms.specs.Faults.{IsTooManyIn}
+use Rattle.ilsyms.specs.Tasks.{tasks_of}
+use Rattle.ilsyms.proofs.excess.too_many_in_tasks.Given as goal
+
+abbrev pub invariant-loop-instances : goal.invariant-loop-instances
+invariant-loop-instances l =
+    IsLeastOf
+    (λ place cause.
+    SomeOf (λ t. OfCause TooMany (λ at. IsTooManyIn l.fn.scope.tree at t.instances) place cause)
+    (take l.instances-index (tasks_of l.fn.scope.tree)))
+    l.least

@@ -1,0 +1,28 @@
+use Rattle.std.proofs.Common.{◌≡◌, ◌∙◌, ap, sym, subst}
+use Rattle.binding.specs.Wirings.{Wiring, IsWithinLimits}
+use Rattle.ilsource.specs.Trees.{Tree}
+use Rattle.ilplan.specs.Plans.{Planned, IsLawful, plan_of}
+use Rattle.ilsyms.specs.Resolved.{plan_of_tree}
+use Rattle.ilsyms.proofs.Lawful.{lawful}
+use Rattle.ilsyms.proofs.plans.plan_of.Goals as goal
+
+-- the parts are those of the plan
+parts : (c : goal.In_ok-sources)
+    → plan_of c.in_ok-text.text.items c.buses-buses.result c.in_ok-sources.sources.items c.in_ok-globals.globals.items
+    c.in_ok-tasks.tasks.items
+    ≡ plan_of_tree c.args.scope.now.tree c.args.scope.now.wiring
+parts c =
+    let text = c.in_ok-text.ensures.items ∙ c.text.ensures ∙ ap (λ (t : Tree). t.text) c.source.ensures.value in
+    let buses = c.buses-buses.ensures.buses ∙ ap (λ (w : Wiring). w.buses) c.requires.wiring in
+    let sources = c.in_ok-sources.ensures.items ∙ c.sources.ensures.value
+    ∙ ap (λ (w : Wiring). w.sources) c.requires.wiring in
+    λ i. plan_of (text i) (buses i) (sources i) (c.in_ok-globals.ensures i) (c.in_ok-tasks.ensures i)
+
+pub new-requires : goal.new-requires
+new-requires c =
+    let limits = subst (λ (w : Wiring). IsWithinLimits w) c.requires.wiring c.buses-buses.ensures.limits in
+    subst (λ (p : Planned). IsLawful p) (sym (parts c))
+    (lawful c.args.scope.now.tree c.args.scope.now.wiring limits c.requires.named)
+
+pub returns : goal.returns
+returns c = c.new.ensures ∙ parts c.before

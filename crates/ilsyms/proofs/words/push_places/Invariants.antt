@@ -1,7 +1,0 @@
-use Rattle.std.proofs.Common.{◌≡◌, ◌++◌, flat_map, take}
-use Rattle.iltrees.specs.Words.{places_in}
-use Rattle.ilsyms.proofs.words.push_places.Given as goal
-
-abbrev pub invariant-loop-line : goal.invariant-loop-line
-invariant-loop-line l =
-    l.places.items ≡ l.initial.places.items ++ flat_map places_in (take l.line-index l.line-items)

@@ -1,0 +1,44 @@
+//! The least fault of a source program.
+
+ghost use Rattle.std.specs.Prelude.{IfOk};
+ghost use Rattle.ilscope.specs.Faults.{IsLeastOf};
+ghost use Rattle.ilsyms.specs.Faults.{IsFault, IsFaultOfUse};
+ghost use Rattle.ilsyms.specs.InstanceSteps.{AreInstancesOfTasks};
+
+use crate::excess::too_many;
+use crate::lines::fault_of_lines;
+use crate::tasks::TaskInstances;
+use crate::uses::fault_at_uses;
+use crate::written_twice::written_twice;
+use ilscope::{Found, Scope, lesser_of};
+use std::alloc::{AllocError, Global};
+
+/// The least fault: of declarations, in a line, at a global variable that two tasks store to, or at
+/// what exceeds a limit. `tasks` are the instances of each task.
+pub(crate) fn least_of(
+    alloc: Global,
+    scope: &Scope<'_>,
+    tasks: &[TaskInstances],
+) -> Result<Option<Found>, AllocError>
+    requires { AreInstancesOfTasks scope.now.tree tasks.now }
+    ensures { IfOk result (λ found. IsLeastOf (IsFault scope.now.tree scope.now.wiring) found) }
+{
+    let used = fault_of_uses(alloc, scope, tasks)?;
+    Ok(lesser_of(scope.least(), used))
+}
+
+/// The least one of those that are not in declarations.
+fn fault_of_uses(
+    alloc: Global,
+    scope: &Scope<'_>,
+    tasks: &[TaskInstances],
+) -> Result<Option<Found>, AllocError>
+    requires { AreInstancesOfTasks scope.now.tree tasks.now }
+    ensures { IfOk result (λ found. IsLeastOf (IsFaultOfUse scope.now.tree) found) }
+{
+    let used = fault_at_uses(alloc, scope)?;
+    let lines = fault_of_lines(alloc, scope)?;
+    let written = written_twice(alloc, scope, tasks)?;
+    let many = too_many(alloc, scope, tasks)?;
+    Ok(lesser_of(lesser_of(used, lines), lesser_of(written, many)))
+}

@@ -1,0 +1,10 @@
+use Rattle.std.proofs.Common.{◌≡◌, length}
+use Rattle.iltext.specs.Declarations.{externals}
+use Rattle.ilgrammar.proofs.Loops.{with_front}
+use Rattle.iltext.proofs.declarations.externals.Given as goal
+
+abbrev pub invariant-all : goal.invariant-all
+invariant-all l = with_front l.all.items (externals.read l.rest) ≡ externals.read l.fn.ts
+
+abbrev pub decreases-all : goal.decreases-all
+decreases-all l = length l.rest

@@ -1,0 +1,29 @@
+use Rattle.std.proofs.Common.{◌≡◌, true, false}
+use Rattle.std.proofs.lemmas.Result.{err_from_is_err_and}
+use Rattle.ilgrammar.specs.Items.{begins}
+use Rattle.ilgrammar.proofs.Loops.{goes_on, fails, is_done, shrinks}
+use Rattle.iltext.specs.Declarations.{more_names, next_name}
+use Rattle.iltext.proofs.DeclarationLaws.{Firm-next_name}
+use Rattle.iltext.proofs.declarations.names_after.Goals as goal
+
+pub returns-in_err-next : goal.returns-in_err-next
+unfolding more_names
+returns-in_err-next c =
+    let p = err_from_is_err_and c.from_residual-in_err-next.result c.from_residual-in_err-next.ensures.1 in
+    let is : begins next_name c.more.rest.now ≡ true = cc in
+    rw (p.1, p.2) (fails _ _ _ _ Firm-next_name _ _ _ _ is c.in_err-next.ensures c.more.invariant)
+
+pub more-smaller : goal.more-smaller
+more-smaller c = shrinks _ _ _ _ Firm-next_name _ _ _ c.in_ok-next.ensures
+
+pub more-preserved : goal.more-preserved
+unfolding more_names
+more-preserved c =
+    let is : begins next_name c.more.rest.now ≡ true = cc in
+    rw c.in_ok-push-2.ensures.items (goes_on _ _ _ _ Firm-next_name _ _ _ _ _ is c.in_ok-next.ensures c.more.invariant)
+
+pub returns : goal.returns
+unfolding more_names
+returns c =
+    let is : begins next_name c.more.rest.now ≡ false = cc in
+    is_done _ _ _ _ Firm-next_name _ _ _ is c.more.invariant
