@@ -1,0 +1,17 @@
+pub mod Acceptances
+pub mod Arrivals
+pub mod Choices
+pub mod Fronts
+pub mod Histories
+pub mod Legal
+pub mod LegalRows
+pub mod Members
+pub mod Messages
+pub mod Parts
+pub mod Plants
+pub mod Readiness
+pub mod Rows
+pub mod Slots
+pub mod Variables
+pub mod Waiting
+pub mod Writes

@@ -1,0 +1,23 @@
+//! What activates tasks.
+
+use dalievent::Source;
+
+/// What activates a task (IEC 61131-3, 2.7.2).
+#[derive(Clone, Copy, PartialEq, Eq, Debug)]
+pub enum Activator {
+    /// The clock, every so many milliseconds, 1 or more.
+    Interval { milliseconds: u32 },
+    /// The event messages of a source that are heard on a bus.
+    Messages { bus: u8, source: Source },
+}
+
+/// An event message that activated a task, which has not been taken for it yet.
+#[derive(Clone, Copy, PartialEq, Eq, Debug)]
+pub struct PendingEvent {
+    /// The place of the event in the history.
+    pub place: u64,
+    /// The information of the message, 0 to 1023.
+    pub information: u16,
+    /// The number of messages of its source up to this one, modulo 65,536.
+    pub count: u16,
+}

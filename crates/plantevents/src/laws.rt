@@ -1,0 +1,154 @@
+//! What the questions mean, asked of a whole history.
+
+ghost use Rattle.std.specs.Prelude.{◌≡◌, ◌↔◌, ◌⊎◌, ℕ, ◌≤◌, true, List, [], Option, Some};
+ghost use Rattle.std.specs.Prelude.{map, drop, length, slice_get, ◌+◌};
+ghost use Rattle.iltypes.specs.declared.value.Value.{Value};
+ghost use Rattle.dalievent.specs.declared.messages.EventMessage.{EventMessage};
+ghost use Rattle.dalievent.specs.declared.messages.Source.{Source};
+ghost use Rattle.dalievent.specs.EventSchemes.{Solves, IsFrom};
+ghost use Rattle.binding.specs.Wirings.{HasPartsInRange};
+ghost use Rattle.ilimage.specs.Snapshots.{ScanStart};
+ghost use Rattle.ilimage.specs.Images.{Layout, TaskLayout, Variable};
+ghost use Rattle.ilverify.specs.Verdicts.{Accepted};
+ghost use Rattle.ilplan.specs.Plans.{PlannedTask, AreOrdered};
+ghost use Rattle.ilplan.specs.declared.slot.Slot.{Slot};
+ghost use Rattle.ilplan.specs.declared.global.Location.TheVariants.{Trigger};
+ghost use Rattle.plantevents.specs.declared.activator.PendingEvent.{PendingEvent};
+ghost use Rattle.plantevents.specs.declared.activator.Activator.{Activator};
+ghost use Rattle.plantevents.specs.declared.activator.Activator.TheVariants.{Messages};
+ghost use Rattle.plantevents.specs.declared.event.Event.{Event};
+ghost use Rattle.plantevents.specs.declared.role.Role.{Role};
+ghost use Rattle.plantevents.specs.declared.role.Role.TheVariants.{Worker, Bus, Clock};
+ghost use Rattle.plantevents.specs.Plants.{Plant, task_at, source_at, trigger_of, activator};
+ghost use Rattle.plantevents.specs.Slots.{IsSlotOf};
+ghost use Rattle.plantevents.specs.Histories.{moment, scans, scan, is_scanned, hand, is_down};
+ghost use Rattle.plantevents.specs.Readiness.{ready, since, pending, lost, most_pending};
+ghost use Rattle.plantevents.specs.Arrivals.{arrivals};
+ghost use Rattle.plantevents.specs.Waiting.{OwedLevel, Handout, waiting, dropped};
+ghost use Rattle.plantevents.specs.Waiting.{owed, handouts, classes};
+ghost use Rattle.plantevents.specs.Fronts.{IsSince, IsScanned};
+ghost use Rattle.plantevents.specs.Acceptances.{accepted_requests, handed_count, asked_count};
+ghost use Rattle.plantevents.specs.Writes.{IsWrittenFrom, IsKept, HasLast, HasFirst};
+ghost use Rattle.plantevents.specs.Messages.{is_message, information};
+ghost use Rattle.plantevents.specs.Members.{Has, IsPendingEvent, IsOwed, IsFirstOwed};
+ghost use Rattle.plantevents.specs.Members.{HasNothing, IsNextHandout, IsInPart};
+ghost use Rattle.plantevents.specs.Legal.{AreLegal, IsTake};
+ghost use Rattle.plantevents.specs.Parts.{Placed, part};
+ghost use Rattle.plantevents.specs.Parts.{shown_moment, shown_scan, shown_hand, shown_down};
+
+/// `since` is the least length from which on a task that is ready was ready without a break.
+pub fn since_is_least()
+    ensures { (a : Option Activator) (t : ℕ) (h : List Event)
+        → ready a t h ≡ true → IsSince a t h (since a t h) }
+{}
+
+/// A task is marked as scanned exactly where a worker has a scan of it open.
+pub fn what_is_scanned()
+    ensures { (p : Plant) (t : ℕ) (h : List Event)
+        → AreLegal p h → (is_scanned t h ≡ true) ↔ IsScanned t h }
+{}
+
+/// What waits for a class of a bus is what was accepted for it, in order, without as many first
+/// ones as were handed out from there.
+pub fn what_waits()
+    ensures { (p : Plant) (b c : ℕ) (h : List Event)
+        → AreLegal p h → waiting p b c h ≡ drop (handed_count b c h) (accepted_requests p b c h) }
+{}
+
+/// What a part shows by itself is so in the whole history: the moment, the scan that a worker has
+/// open, the transaction that a bus has open, and whether a bus is down.
+pub fn what_a_part_shows()
+    ensures clock { (h : List Event) → moment h ≡ shown_moment (part Clock h) }
+    ensures worker { (w : ℕ) (h : List Event) → scan w h ≡ shown_scan (part (Worker w) h) }
+    ensures hand { (b : ℕ) (h : List Event) → hand b h ≡ shown_hand (part (Bus b) h) }
+    ensures down { (b : ℕ) (h : List Event) → is_down b h ≡ shown_down (part (Bus b) h) }
+{}
+
+/// What a scan writes to a variable is the value of the slot from which the process image says that
+/// it is written.
+pub fn what_a_scan_writes()
+    ensures { (layout : Layout) (t : ℕ) (task : TaskLayout) (v : Variable) (slots : List Value)
+        → slice_get layout.tasks t ≡ Some task → length task.externals ≤ length slots
+        → IsWrittenFrom layout t task v slots ⊎ IsKept layout t task v slots }
+{}
+
+/// The value of a variable is what was written to it last, or its initial value where nothing was.
+pub fn the_last_write_counts()
+    ensures { (p : Plant) (v : Variable) (h : List Event) → HasLast p v h ⊎ HasFirst p v h }
+{}
+
+/// The frames of a source are those that solve the equation of its scheme with its parts, and their
+/// information is the equation's.
+pub fn messages_solve_their_equation()
+    ensures some { (s : Source) (f : ℕ) → HasPartsInRange s → is_message s f ≡ true
+        → (e : EventMessage) × Solves e f × IsFrom s e }
+    ensures all { (s : Source) (e : EventMessage) (f : ℕ)
+        → Solves e f → IsFrom s e → is_message s f ≡ true }
+    ensures information { (s : Source) (e : EventMessage) (f : ℕ)
+        → Solves e f → IsFrom s e → information s f ≡ e.info }
+{}
+
+/// A pending event of an event task is a message of its trigger's source, and has the information
+/// and the count as they are just after it.
+pub fn what_is_pending()
+    ensures each { (p : Plant) (t bus number : ℕ) (source : Source) (h : List Event)
+        (a : PendingEvent)
+        → trigger_of p t ≡ Some (Trigger bus number) → source_at p bus number ≡ Some source
+        → Has (pending (activator p t) t h) a → IsPendingEvent p bus number source h a }
+
+    // They are all that arrived, in order, without as many first ones as were given up or taken.
+    ensures order { (p : Plant) (bus : ℕ) (source : Source) (t : ℕ) (h : List Event)
+        → activator p t ≡ Some (Messages bus source) → AreLegal p h
+        → pending (Some (Messages bus source)) t h
+        ≡ drop (lost (Some (Messages bus source)) t h + scans t h)
+        (arrivals (Some (Messages bus source)) h) }
+    ensures few { (a : Option Activator) (t : ℕ) (h : List Event)
+        → length (pending a t h) ≤ most_pending }
+{}
+
+/// Each request is accepted or dropped.
+pub fn requests_are_accepted_or_dropped()
+    ensures { (p : Plant) (b c : ℕ) (h : List Event)
+        → length (accepted_requests p b c h) + dropped p b c h ≡ asked_count p b c h }
+{}
+
+/// The owed levels of a class are those whose value differs from the level that was handed out
+/// last.
+pub fn what_is_owed()
+    ensures each { (p : Plant) (b c : ℕ) (h : List Event) (o : OwedLevel)
+        → Has (owed p b c h) o ↔ IsOwed p b c h o }
+    ensures first { (p : Plant) (b c : ℕ) (h : List Event) (o : OwedLevel)
+        → (slice_get (owed p b c h) 0 ≡ Some o) ↔ IsFirstOwed p b c h o }
+{}
+
+/// What is handed to a bus first is of the least class that has anything: the oldest request, or
+/// where none waits the owed level of the least address. There is nothing to be handed out where
+/// no class has anything.
+pub fn what_is_handed_out()
+    ensures first { (p : Plant) (b : ℕ) (h : List Event) (x : Handout)
+        → (slice_get (handouts p b h) 0 ≡ Some x) ↔ IsNextHandout p b h x }
+    ensures nothing { (p : Plant) (b : ℕ) (h : List Event)
+        → (handouts p b h ≡ []) ↔ ((c : ℕ) → Has classes c → HasNothing p b h c) }
+{}
+
+/// An event is in the part of the role that it comes from, at its place, and in no other.
+pub fn each_event_is_in_one_part()
+    ensures { (role : Role) (h : List Event) (x : Placed)
+        → Has (part role h) x ↔ IsInPart role h x }
+{}
+
+/// Which task a worker takes, and with which snapshot, is determined.
+pub fn one_take_is_legal()
+    ensures { (p : Plant) (h : List Event) (w t u : ℕ) (s r : ScanStart)
+        → IsTake p h w t s → IsTake p h w u r → (t ≡ u) × (s ≡ r) }
+{}
+
+/// Each slot of a task of the plan is that of its variable in the process image: the global one, or
+/// one of the task's own, which has the slot's initial value at first.
+pub fn slots_are_those_of_the_plan()
+    ensures { (p : Plant) (t : ℕ) (task : PlannedTask) (code : Accepted) (number : ℕ) (s : Slot)
+        → task_at p t ≡ Some task → slice_get p.codes t ≡ Some code
+        → AreOrdered (map (λ slot. slot.variable) task.slots)
+        → slice_get task.slots number ≡ Some s
+        → IsSlotOf p t task number s.initial s.variable }
+{}

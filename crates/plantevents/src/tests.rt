@@ -1,0 +1,3 @@
+//! The questions on worked histories, and each call once.
+
+mod rows;

@@ -1,0 +1,21 @@
+use Rattle.std.proofs.Common.{◌<◌, length, refl, sym, ◌∙◌, subst, arith}
+use Rattle.std.proofs.lemmas.List.{get_or_default}
+use Rattle.plantevents.specs.declared.event.Event.TheVariants.{Commit}
+use Rattle.taskset.specs.TaskSets.{TaskSet, Follows, TaskFollows, setup_of, no_task}
+use Rattle.taskset.proofs.Following.{one_kept, others_at_commit}
+use Rattle.taskset.proofs.tasks.Tasks.ended.Goals as goal
+
+pub returns : goal.returns
+returns c = record {
+  follows = λ p w n result running h kept is of.
+      let was = subst (Follows p h) (sym c.self.view_is) kept in
+      let t = c.args.task in
+      let tasks = c.self.inside.states.items in
+      let known : t < length tasks =
+      subst (λ (set : TaskSet). t < length set.tasks) (sym c.self.view_is) c.requires.known in
+      let at_t = get_or_default tasks t no_task _ (omega arith) ∙ sym c.index_mut.ensures.value in
+      let here = subst (TaskFollows (setup_of p t) t h) at_t (was.each t (let n = was.count in omega arith)) in
+      one_kept p h _ t tasks (Commit w n result) _ was refl
+      (c.ended.ensures (setup_of p t) t w n result running h here is of)
+      (λ setup u r ne f. others_at_commit h w n t result running setup u r is of ne f);
+}

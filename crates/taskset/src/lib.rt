@@ -1,0 +1,20 @@
+//! The tasks of a plant: which are ready, what is pending for them, and which goes next.
+//!
+//! What crosses the boundary: each call of [`Tasks`] notes one event of the plant's history, which
+//! nobody keeps here: [`Tasks::tick`], [`Tasks::heard`], [`Tasks::took`] and [`Tasks::ended`].
+//! [`Tasks::next`] is the task that is to be taken. `Follows` in specs/TaskSets.antt is the
+//! definition to read first: the states are what the definitions of `plantevents` say of a history.
+#![tactic(auto)]
+
+mod activation;
+mod choice;
+mod laws;
+mod setup;
+mod task_state;
+mod tasks;
+#[cfg(test)]
+mod tests;
+
+pub use laws::other_events_leave_tasks;
+pub use setup::TaskSetup;
+pub use tasks::Tasks;

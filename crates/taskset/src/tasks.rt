@@ -1,0 +1,185 @@
+//! The tasks of a plant.
+ghost use Rattle.std.specs.Prelude.{◌≡◌, ℕ, ◌+◌, ◌<◌, ◌≤◌, ◌^◌, [], ◌∷◌, List, length, slice_get};
+ghost use Rattle.std.specs.Prelude.{IfOk, All};
+ghost use Rattle.ilimage.specs.Snapshots.{ScanStart};
+ghost use Rattle.ilmachine.specs.Scans.{Scan};
+ghost use Rattle.plantevents.specs.declared.event.Event.{Event};
+ghost use Rattle.plantevents.specs.declared.event.Event.TheVariants.{Tick, Heard, Take, Commit};
+ghost use Rattle.plantevents.specs.Plants.{Plant, activator};
+ghost use Rattle.plantevents.specs.Histories.{OpenScan, moment, scan};
+ghost use Rattle.plantevents.specs.Readiness.{ready, pending, lost};
+ghost use Rattle.plantevents.specs.Choices.{Chooses, is_free, rank};
+ghost use Rattle.taskset.specs.declared.setup.TaskSetup.{TaskSetup as Setup};
+ghost use Rattle.taskset.specs.TaskSets.{HasInterval, TaskFollows, AreSetups};
+ghost use Rattle.taskset.specs.TaskSets.{Follows, task_at};
+ghost use Rattle.taskset.specs.TaskSetSteps.{setup_at};
+
+use crate::choice::choose;
+use crate::setup::TaskSetup;
+use crate::task_state::TaskState;
+use daliframe::Frame24;
+use plantevents::PendingEvent;
+use std::alloc::{AllocError, Global};
+use std::marker::Model;
+
+/// The tasks of a plant: for each what is pending, when it was taken, and since when it is ready.
+/// After `new` no call takes memory.
+///
+/// A place is the number of events before an event. It has 64 bits, and so has the number of events
+/// after it: the caller knows that there are fewer than 2^64.
+#[derive(Drop)]
+pub struct Tasks {
+    moment: u64,
+    states: Vec<TaskState>,
+}
+
+impl Model for Tasks {
+    ghost use Rattle.taskset.specs.TaskSets.{TaskSet};
+
+    ghost Value = { TaskSet };
+
+    ghost view = { λ t. record { moment = t.moment; tasks = t.states.items } };
+}
+
+impl Tasks {
+    /// The tasks of a plant to which nothing has happened, in declared order, with the memory of
+    /// all that may be pending. An interval has 1 millisecond or more.
+    pub fn new(alloc: Global, setups: &[TaskSetup]) -> Result<Tasks, AllocError>
+        requires intervals { All (λ s. HasInterval s.activator) setups.now }
+        ensures follows { IfOk result (λ tasks. (p : Plant)
+            → AreSetups p setups.now → Follows p [] tasks) }
+    {
+        let states = fresh_states(alloc, setups)?;
+        Ok(Tasks { moment: 0, states })
+    }
+
+    /// How many there are.
+    pub fn len(&self) -> usize
+        ensures value { result ≡ length self.now.tasks }
+    {
+        self.states.len()
+    }
+
+    /// Notes that it is this moment, in milliseconds: a tick at this place of the history.
+    pub fn tick(&mut self, place: u64, moment: u64)
+        requires small { place + 1 < 2 ^ 64 }
+        ensures follows { (p : Plant) (h : List Event)
+            → Follows p h self.old → place ≡ length h → Follows p (Tick moment ∷ h) self.new }
+    {
+        tick_all(&mut self.states, place, self.moment);
+        self.moment = moment;
+    }
+
+    /// Notes a frame that was heard on a bus, at this place of the history: it activates each task
+    /// whose source it is a message of. At most 32 events are pending for a task; one more gives up
+    /// the oldest.
+    pub fn heard(&mut self, place: u64, bus: u8, frame: Frame24)
+        requires small { place + 1 < 2 ^ 64 }
+        ensures follows { (p : Plant) (h : List Event)
+            → Follows p h self.old → place ≡ length h → Follows p (Heard bus frame ∷ h) self.new }
+    {
+        heard_all(&mut self.states, place, self.moment, bus, frame);
+    }
+
+    /// Whether a task is ready.
+    pub fn ready(&self, task: usize) -> bool
+        requires known { task < length self.now.tasks }
+        ensures value { (p : Plant) (h : List Event)
+            → Follows p h self.now → result ≡ ready (activator p task) task h }
+    {
+        self.states[task].is_ready(self.moment)
+    }
+
+    /// The task that is to be taken: of those that are ready, and of which no scan is open, the one
+    /// with the least priority number; of these the one that has been ready longest; of these the
+    /// first that was declared.
+    pub fn next(&self) -> Option<usize>
+        ensures next { (p : Plant) (h : List Event) → Follows p h self.now
+            → Chooses (is_free p h) (rank p h) (length p.plan.tasks) result }
+    {
+        choose(&self.states, self.moment)
+    }
+
+    /// The oldest event that is pending for a task.
+    pub fn first_pending(&self, task: usize) -> Option<PendingEvent>
+        requires known { task < length self.now.tasks }
+        ensures value { (p : Plant) (h : List Event) → Follows p h self.now
+            → result ≡ slice_get (pending (activator p task) task h) 0 }
+    {
+        self.states[task].first_pending()
+    }
+
+    /// Notes that a worker took a task, at this place of the history. The answer is the oldest
+    /// event that was pending for it, which this uses up.
+    pub fn took(&mut self, place: u64, task: usize) -> Option<PendingEvent>
+        requires small { place + 1 < 2 ^ 64 }
+        requires known { task < length self.old.tasks }
+        ensures first { (p : Plant) (h : List Event) → Follows p h self.old
+            → result ≡ slice_get (pending (activator p task) task h) 0 }
+        ensures follows { (p : Plant) (w : ℕ) (s : ScanStart) (h : List Event)
+            → Follows p h self.old → place ≡ length h → Follows p (Take w task s ∷ h) self.new }
+    {
+        self.states[task].took(place, self.moment)
+    }
+
+    /// Notes that a worker wrote what its scan of a task came to.
+    pub fn ended(&mut self, task: usize)
+        requires known { task < length self.old.tasks }
+        ensures follows { (p : Plant) (w n : ℕ) (result : Scan) (running : OpenScan)
+            (h : List Event) → Follows p h self.old → scan w h ≡ Some running
+            → running.task ≡ task → Follows p (Commit w n result ∷ h) self.new }
+    {
+        self.states[task].ended();
+    }
+
+    /// How many events were given up, since 32 later ones came before the task was taken.
+    pub fn lost(&self, task: usize) -> u64
+        requires known { task < length self.now.tasks }
+        ensures value { (p : Plant) (h : List Event)
+            → Follows p h self.now → result ≡ lost (activator p task) task h }
+    {
+        self.states[task].lost()
+    }
+}
+
+/// A state for each task, to which nothing has happened.
+fn fresh_states(alloc: Global, setups: &[TaskSetup]) -> Result<Vec<TaskState>, AllocError>
+    requires intervals { All (λ s. HasInterval s.activator) setups.now }
+    ensures count { IfOk result (λ s. length s.items ≡ length setups.now) }
+    ensures follows { IfOk result (λ s. (t : ℕ) → t < length setups.now
+        → TaskFollows (setup_at setups.now t) t [] (task_at s.items t)) }
+{
+    let mut states = Vec::new(alloc);
+    for setup in setups {
+        states.push(TaskState::new(alloc, *setup)?)?;
+    }
+    Ok(states)
+}
+
+/// Notes a tick for each task, at this place of the history, before which the moment was `now`.
+fn tick_all(states: &mut Vec<TaskState>, place: u64, now: u64)
+    requires small { place + 1 < 2 ^ 64 }
+    ensures count { length states.new.items ≡ length states.old.items }
+    ensures follows { (t : ℕ) → t < length states.old.items
+        → (setup : Setup) (m : ℕ) (h : List Event)
+        → TaskFollows setup t h (task_at states.old.items t) → now ≡ moment h → place ≡ length h
+        → TaskFollows setup t (Tick m ∷ h) (task_at states.new.items t) }
+{
+    for i in 0..states.len() {
+        states[i].tick(place, now);
+    }
+}
+
+/// Notes a frame that was heard on a bus for each task.
+fn heard_all(states: &mut Vec<TaskState>, place: u64, now: u64, bus: u8, frame: Frame24)
+    requires small { place + 1 < 2 ^ 64 }
+    ensures count { length states.new.items ≡ length states.old.items }
+    ensures follows { (t : ℕ) → t < length states.old.items
+        → (setup : Setup) (h : List Event)
+        → TaskFollows setup t h (task_at states.old.items t) → now ≡ moment h → place ≡ length h
+        → TaskFollows setup t (Heard bus frame ∷ h) (task_at states.new.items t) }
+{
+    for i in 0..states.len() {
+        states[i].heard(place, now, bus, frame);
+    }
+}
