@@ -3,6 +3,7 @@ pub mod CountedUses
 pub mod Distinct
 pub mod Firsts
 pub mod GivenPorts
+pub mod GlobalNumbers
 pub mod GlobalSlots
 pub mod InstanceNumbers
 pub mod InstancesOfTasks

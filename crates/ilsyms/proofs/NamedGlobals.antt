@@ -90,7 +90,7 @@ added_to_none test count named h =
     }
 
 -- what is written back of a list that keeps its length
-pub written_back : (len : ℕ) (new old : List Bool) → length new ≡ length old → length old ≡ len
+pub written_back : {X : Type 0} (len : ℕ) (new old : List X) → length new ≡ length old → length old ≡ len
     → take len (new ++ drop (length new) old) ≡ new
 written_back len new old e g =
     ap (λ xs. take len (new ++ xs)) (drop_all (length new) old (omega (arith, e)))

@@ -1,6 +1,7 @@
 -- How the names of an instance get numbers: its variables one after another, after the global variables and those of
 -- the instances before, and its block instances likewise. And how its labels get the numbers of lines.
-use Rattle.std.specs.Prelude.{ℕ, ◌+◌, List, bytes_eq, length, Option, unwrap_or, Bool, true, false}
+use Rattle.std.specs.Prelude.{◌≡◌, ℕ, ◌+◌, ◌<◌, List, bytes_eq, get_or, length, Option, Some, unwrap_or}
+use Rattle.std.specs.Prelude.{Bool, true, false, if◌then◌else◌}
 use Rattle.std.specs.List.{position_or_len}
 use Rattle.std.specs.Map.{lookup}
 use Rattle.std.specs.Option.{option_map_or}
@@ -49,6 +50,17 @@ numbering_of tree program slots first_slot all_blocks first_block labels =
 -- the number of the slot of a global variable; past the last where there is none
 abbrev pub number_of_global : List Slot → Option ℕ → ℕ
 number_of_global slots global = position_or_len (λ s. is_global global s.variable) slots
+
+-- for each of so many global variables the number of its slot; past the last where it has none
+pub record AreGlobalSlots (slots : List Slot) (count : ℕ) (numbers : List ℕ) : Type 0 where
+  pub many : length numbers ≡ count
+  pub each : (global : ℕ) → global < count → get_or numbers global 0 ≡ number_of_global slots (Some global)
+
+-- the entries with numbers that pass are set to a value, and the others stay
+pub record SetsWhere (test : ℕ → Bool) (value : ℕ) (before after : List ℕ) : Type 0 where
+  pub many : length after ≡ length before
+  pub each : (number : ℕ) → number < length before
+      → get_or after number 0 ≡ (if test number then value else get_or before number 0)
 
 -- the number of the slot of what a name means: a variable of the instance, else a global variable
 abbrev pub slot_number : Numbering → Name → ℕ

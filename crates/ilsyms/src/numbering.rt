@@ -1,12 +1,8 @@
 //! Lines with places in a store in place of names, and with numbers of lines in place of labels.
 
-ghost use Rattle.std.specs.Prelude.{◌≡◌};
-ghost use Rattle.ilsyms.specs.Meaning.{is_global};
-ghost use Rattle.ilsyms.specs.PlanningSteps.{number_of_global};
-
 use crate::ports::port_of;
 use ilblocks::MOST_PORTS;
-use ilplan::{Place, Slot, Variable};
+use ilplan::{Place, Slot};
 use ilscope::{Names, ProgramScope, Scope};
 use ilsource::{Name, Symbol};
 use iltrees::{Action, Argument, Arguments, Instruction, Line, Nested, Operand, Piece};
@@ -20,6 +16,8 @@ pub(crate) struct Numbering<'a, 's, 't> {
     number: usize,
     program: &'a ProgramScope<'s>,
     slots: &'t [Slot],
+    /// For each global variable the number of its slot.
+    global_slots: &'t [usize],
     first_slot: usize,
     blocks: usize,
     first_block: usize,
@@ -36,8 +34,9 @@ impl<'a, 's, 't> Model for Numbering<'a, 's, 't> {
     ghost use Rattle.iltrees.specs.TreeSteps.{tree_of, tree_again};
     ghost use Rattle.ilsource.specs.contracts.source.Element as element;
     ghost use Rattle.ilsource.specs.declared.symbol.Symbol.{Symbol};
+    ghost use Rattle.ilscope.specs.Configured.{globals_of};
     ghost use Rattle.ilscope.specs.Declarations.{declared_programs};
-    ghost use Rattle.ilsyms.specs.PlanningSteps.{Numbering};
+    ghost use Rattle.ilsyms.specs.PlanningSteps.{AreGlobalSlots, Numbering};
 
     ghost Value = { Numbering };
 
@@ -61,7 +60,9 @@ impl<'a, 's, 't> Model for Numbering<'a, 's, 't> {
         (slice_get (declared_programs n.scope.now.tree) n.number ≡ Some n.program.now)
         × (n.first_slot + length n.program.now.variables < 2 ^ 16)
         × (n.first_block + length n.program.now.blocks < 2 ^ 16)
-        × (length n.slots.now < 2 ^ 16) × (n.blocks < 2 ^ 16) };
+        × (length n.slots.now < 2 ^ 16) × (n.blocks < 2 ^ 16)
+        × AreGlobalSlots n.slots.now (length (globals_of n.scope.now.tree))
+        n.global_slots.now };
 }
 
 impl<'a, 's, 't> Numbering<'a, 's, 't> {
@@ -69,19 +70,22 @@ impl<'a, 's, 't> Numbering<'a, 's, 't> {
     ghost use Rattle.std.specs.Prelude.{slice_get, Some};
     ghost use Rattle.iltrees.specs.Renaming.{rename_action, rename_tree, rename, rename_line};
     ghost use Rattle.iltrees.specs.Renaming.{rename_argument};
-    ghost use Rattle.ilscope.specs.Configured.{global_number};
+    ghost use Rattle.ilscope.specs.Configured.{global_number, globals_of};
     ghost use Rattle.ilscope.specs.Declarations.{declared_programs};
-    ghost use Rattle.ilsyms.specs.PlanningSteps.{Numbering, label_of, numbers, place_by_number};
+    ghost use Rattle.ilsyms.specs.PlanningSteps.{AreGlobalSlots, Numbering, label_of, numbers};
     ghost use Rattle.ilsyms.specs.PlanningSteps.{number_of_block, number_of_global};
-    ghost use Rattle.ilsyms.specs.PlanningSteps.{number_of_port, numbering_of, slot_number};
+    ghost use Rattle.ilsyms.specs.PlanningSteps.{number_of_port, numbering_of, place_by_number};
+    ghost use Rattle.ilsyms.specs.PlanningSteps.{slot_number};
 
-    /// The numbering of an instance of the program with this number. `slots` are its task's, and
-    /// `blocks` the number of its task's block instances.
+    /// The numbering of an instance of the program with this number. `slots` are its task's,
+    /// `global_slots` their numbers by global variable, and `blocks` the number of its task's block
+    /// instances.
     pub(crate) fn new(
         scope: &'a Scope<'s>,
         number: usize,
         program: &'a ProgramScope<'s>,
         slots: &'t [Slot],
+        global_slots: &'t [usize],
         first_slot: usize,
         blocks: usize,
         first_block: usize,
@@ -92,6 +96,8 @@ impl<'a, 's, 't> Numbering<'a, 's, 't> {
         requires first_slot { first_slot + length program.now.variables < 2 ^ 16 }
         requires first_block { first_block + length program.now.blocks < 2 ^ 16 }
         requires slots { length slots.now < 2 ^ 16 }
+        requires global_slots { AreGlobalSlots slots.now (length (globals_of scope.now.tree))
+            global_slots.now }
         requires blocks { blocks < 2 ^ 16 }
         ensures { result ≡ numbering_of scope.now.tree program.now slots.now first_slot blocks
             first_block labels }
@@ -101,6 +107,7 @@ impl<'a, 's, 't> Numbering<'a, 's, 't> {
             number,
             program,
             slots,
+            global_slots,
             first_slot,
             blocks,
             first_block,
@@ -124,7 +131,10 @@ impl<'a, 's, 't> Numbering<'a, 's, 't> {
     fn global(&self, name: Name) -> usize
         ensures { result ≡ number_of_global self.now.slots (global_number self.now.tree name) }
     {
-        number_of_global(self.slots, self.scope.global_number(name))
+        match self.scope.global_number(name) {
+            Some(number) => self.global_slots[number],
+            None => self.slots.len(),
+        }
     }
 
     /// The number of a block instance; past the last where there is none.
@@ -322,27 +332,5 @@ impl<'a, 's, 't> Numbering<'a, 's, 't> {
             renamed.push(self.line(alloc, line)?)?;
         }
         Ok(renamed)
-    }
-}
-
-/// The number of the slot of a global variable; past the last where there is none.
-fn number_of_global(slots: &[Slot], global: Option<usize>) -> usize
-    ensures { result ≡ number_of_global slots.now global }
-{
-    for (number, slot) in slots.iter().enumerate() {
-        if is_global(global, slot.variable) {
-            return number;
-        }
-    }
-    slots.len()
-}
-
-/// Whether a variable is the global one of this number, if there is such a number.
-fn is_global(wanted: Option<usize>, variable: Variable) -> bool
-    ensures { result ≡ is_global wanted variable }
-{
-    match (wanted, variable) {
-        (Some(wanted), Variable::Global(number)) => wanted == number,
-        _ => false,
     }
 }

@@ -1,11 +1,12 @@
 //! The instances of a task.
 
-ghost use Rattle.std.specs.Prelude.{◌≡◌, ◌≤◌, IfOk, OnOk, length};
+ghost use Rattle.std.specs.Prelude.{◌≡◌, ◌≤◌, IfOk, OnOk, Some, length};
 ghost use Rattle.std.specs.List.{position_or_len};
 ghost use Rattle.iltrees.specs.Words.{AreShallow};
 ghost use Rattle.limits.specs.Limits.{most_blocks, most_slots};
 ghost use Rattle.ilsyms.specs.InstanceSteps.{AreApart, AreThere, instances_of};
-ghost use Rattle.ilsyms.specs.PlanningSteps.{is_of_instance};
+ghost use Rattle.ilsyms.specs.Meaning.{is_global};
+ghost use Rattle.ilsyms.specs.PlanningSteps.{AreGlobalSlots, SetsWhere, is_of_instance};
 ghost use Rattle.ilsyms.specs.Resolved.{planned_instances};
 ghost use Rattle.ilsyms.specs.Variables.{blocks_of, lines_of, slots_of};
 
@@ -38,6 +39,7 @@ pub(crate) fn plan_instances(
         (AreShallow (lines_of (instances_of scope.now.tree instances.now))) }
 {
     let mut planned = Vec::new(alloc);
+    let global_slots = global_slots(alloc, slots, scope.globals().len())?;
     let mut first_slot = first_own(slots);
     let mut first_block = 0;
     for instance in instances {
@@ -49,6 +51,7 @@ pub(crate) fn plan_instances(
             instance.program,
             program,
             slots,
+            &global_slots,
             first_slot,
             blocks.len(),
             first_block,
@@ -60,6 +63,30 @@ pub(crate) fn plan_instances(
         first_block += program.blocks().len();
     }
     Ok(planned)
+}
+
+/// For each of so many global variables the number of its slot; past the last where it has none.
+fn global_slots(alloc: Global, slots: &[Slot], globals: usize) -> Result<Vec<usize>, AllocError>
+    ensures { IfOk result (λ v. AreGlobalSlots slots.now globals v.items) }
+{
+    let mut numbers = vec![in alloc; slots.len(); globals]?;
+    // Backwards, so that the first of several slots of one variable stays.
+    for number in (0..slots.len()).rev() {
+        set_number(&mut numbers, slots[number].variable, number);
+    }
+    Ok(numbers)
+}
+
+/// Sets the number of the slot of a variable, where it is a global one with an entry.
+fn set_number(numbers: &mut [usize], variable: Variable, number: usize)
+    ensures { SetsWhere (λ global. is_global (Some global) variable) number
+        numbers.old numbers.new }
+{
+    if let Variable::Global(global) = variable
+        && global < numbers.len()
+    {
+        numbers[global] = number;
+    }
 }
 
 /// The number of the first slot of a variable of an instance, which is how many slots are of global

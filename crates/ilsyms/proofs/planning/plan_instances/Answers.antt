@@ -1,4 +1,4 @@
-use Rattle.std.proofs.Common.{◌≡◌, ◌∙◌, ap, length, List, [], ◌∷◌, ◌++◌, arith, subst, map}
+use Rattle.std.proofs.Common.{◌≡◌, ℕ, ◌∙◌, ap, sym, length, List, [], ◌∷◌, ◌++◌, arith, subst, map}
 use Rattle.std.specs.List.{position_or_len}
 use Rattle.std.proofs.lemmas.List.{take_all}
 use Rattle.iltrees.specs.declared.instruction.Line.{Line}
@@ -6,13 +6,14 @@ use Rattle.iltrees.specs.Words.{AreShallow}
 use Rattle.ilsource.specs.Programs.{Written}
 use Rattle.ilsource.specs.declared.name.Name.{Name}
 use Rattle.ilsource.specs.declared.symbol.Symbol.{Symbol}
+use Rattle.ilscope.specs.declared.global.DeclaredGlobal.{DeclaredGlobal}
 use Rattle.ilplan.specs.Plans.{PlannedInstance}
 use Rattle.ilplan.specs.declared.slot.Slot.{Slot}
 use Rattle.ilplan.specs.declared.instance.FunctionBlock.{FunctionBlock}
 use Rattle.ilsyms.specs.declared.tasks.TaskInstance.{TaskInstance}
 use Rattle.ilsyms.specs.InstanceSteps.{instances_of}
 use Rattle.ilsyms.specs.LabelSteps.{AreNumbered}
-use Rattle.ilsyms.specs.PlanningSteps.{is_of_instance}
+use Rattle.ilsyms.specs.PlanningSteps.{AreGlobalSlots, is_of_instance}
 use Rattle.ilsyms.specs.Resolved.{planned_instance}
 use Rattle.ilsyms.specs.Tasks.{ProgramInstance}
 use Rattle.ilsyms.specs.Variables.{slots_of, blocks_of, lines_of}
@@ -50,6 +51,11 @@ new-numbering-requires c =
       first_slot = omega (arith, slots, first_slot, as_slots, c.requires.few_slots);
       first_block = omega (arith, blocks, first_block, as_blocks, c.requires.few_blocks);
       slots = omega (arith, c.requires.few_slots);
+      global_slots =
+          subst (λ (n : ℕ). AreGlobalSlots c.args.slots.now n c.deref.result.now)
+          (ap (λ (gs : List DeclaredGlobal). length gs) c.globals.ensures.value)
+          (subst (λ (ns : List ℕ). AreGlobalSlots c.args.slots.now (length c.globals.result.now) ns)
+          (sym c.deref.ensures.value) c.in_ok-global_slots.ensures);
       blocks = omega (arith, c.requires.few_blocks);
     }
 
