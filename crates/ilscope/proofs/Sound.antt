@@ -148,7 +148,7 @@ module _ (spelled : Name → List ℕ) where
   IsUnknownFrom above elements place =
       SomeOf
       (λ one.
-          SomeOf (λ d. IsUnknownTypeIn (types_below spelled one.above) place d.declared) (declarations_in one.element))
+      SomeOf (λ d. IsUnknownTypeIn (types_below spelled one.above) place d.declared) (declarations_in one.element))
       (standing above elements)
 
   abbrev IsBadFrom : List TypeDeclaration → List Element → ℕ → Type 0
@@ -217,9 +217,10 @@ module _ (above : TypeNames) (sound : IsSound above) where
       located_values (Some a) (type_of above specification initial)
       ∙ ap (λ (o : Option DataType). (unwrap_or o truth_values).value_type) its.declared
       in
-      subst (λ (t : IlType). Suits t a) (sym same)
-      ((λ other. h.2 n.from (there (values_of above specification) its.values (IsOtherArea a.kind) other, refl)),
-      (λ lacks. h.3 a.at (there (values_of above specification) its.values (LacksInput a) lacks, refl)))
+      subst (λ (t : IlType). Suits t a) (sym same) (
+        (λ other. h.2 n.from (there (values_of above specification) its.values (IsOtherArea a.kind) other, refl)),
+        (λ lacks. h.3 a.at (there (values_of above specification) its.values (LacksInput a) lacks, refl)),
+      )
     where
       there : {t : IlType} (o : Option IlType) → o ≡ Some t → (P : IlType → Type 0) → P t → IsSomeAnd o P
       there o e P p = subst (λ (x : Option IlType). IsSomeAnd x P) (sym e) p
