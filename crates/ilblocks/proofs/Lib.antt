@@ -1,4 +1,5 @@
 pub mod Blocks
+pub mod Equality
 pub mod Inputs
 pub mod Parts
 pub mod Ports

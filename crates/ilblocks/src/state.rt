@@ -9,7 +9,7 @@ use iltypes::Value;
 use std::marker::Model;
 
 /// The ports of a block instance, and what it remembers of its last call.
-#[derive(Clone, Drop)]
+#[derive(Clone, Drop, PartialEq, Eq)]
 pub struct BlockState {
     ports: ArrayVec<Value, MOST_PORTS>,
     before: bool,
@@ -22,10 +22,16 @@ impl Model for BlockState {
     ghost Value = { Block };
 
     ghost view = { λ s. record { ports = s.ports.items; before = s.before; start = s.start } };
+
+    ghost inverse = { λ s. record {
+      ports = record { items = s.ports };
+      before = s.before;
+      start = s.start;
+    } };
 }
 
 impl BlockState {
-    ghost use Rattle.std.specs.Prelude.{◌≡◌, ℕ, ◌<◌, ◌^◌, slice_set};
+    ghost use Rattle.std.specs.Prelude.{◌≡◌, ◌↔◌, ℕ, ◌<◌, ◌^◌, IsTrue, slice_set};
     ghost use Rattle.ilblocks.specs.Calls.{IsBlockOf, at_first, truth, number, natural, rises};
 
     /// An instance before its first call.
@@ -42,6 +48,13 @@ impl BlockState {
             before: false,
             start: 0,
         }
+    }
+
+    /// Whether both instances keep the same.
+    pub fn is_same(&self, other: &BlockState) -> bool
+        ensures { IsTrue result ↔ (self.now ≡ other.now) }
+    {
+        self == other
     }
 
     /// The value of each port.

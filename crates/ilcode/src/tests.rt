@@ -44,6 +44,29 @@ fn a_code_gives_back_its_parts(rt: HostRuntime) -> Result<(), Fail> {
     Ok(())
 }
 
+/// A code of this word, on this line.
+fn code_of_word(alloc: Global, word: Instruction, line: usize) -> Result<Code, AllocError> {
+    Ok(Code::new(
+        1,
+        Vec::new(alloc),
+        Vec::new(alloc),
+        vec![in alloc; Kind::Ton]?,
+        vec![in alloc; 0usize]?,
+        vec![in alloc; word]?,
+        vec![in alloc; line]?,
+    ))
+}
+
+#[test]
+fn a_code_is_the_same_as_its_like_alone(rt: HostRuntime) -> Result<(), Fail> {
+    let alloc = rt.alloc();
+    let code = code_of_word(alloc, LOAD, 3)?;
+    assert!(rt; code.is_same(&code_of_word(alloc, LOAD, 3)?));
+    assert!(rt; !code.is_same(&code_of_word(alloc, STORE, 3)?));
+    assert!(rt; !code.is_same(&code_of_word(alloc, LOAD, 4)?));
+    Ok(())
+}
+
 #[test]
 fn targets_lie_ahead(rt: HostRuntime) -> Result<(), Fail> {
     let alloc = rt.alloc();

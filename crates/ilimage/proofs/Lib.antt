@@ -2,3 +2,4 @@ pub mod Commits
 pub mod Equality
 pub mod Places
 pub mod Overrides
+pub mod SameStarts

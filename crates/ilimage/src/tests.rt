@@ -1,15 +1,20 @@
 //! Worked rows, and images at run time.
 
-ghost use Rattle.std.specs.Prelude.{◌≡◌, ◌≢◌, All, IsTrue, Some, drop, length, slice_get};
+ghost use Rattle.std.specs.Prelude.{◌≡◌, ◌≢◌, ◌≤◌, All, IsTrue, Some, drop, length, map, slice_get};
+ghost use Rattle.std.specs.List.{AllZip};
 ghost use Rattle.iltypes.specs.Values.{AreOf};
+ghost use Rattle.ilblocks.specs.Calls.{IsBlockOf};
+ghost use Rattle.ilblocks.specs.Ports.{type_of};
 ghost use Rattle.ilimage.specs.Images.{AreTyped, AreApart};
 ghost use Rattle.ilimage.specs.Snapshots.{MayHave};
 
 use crate::{External, Override};
+use ilblocks::{BlockState, Kind, Port};
 use iltypes::{IlType, Value};
 
 mod images;
 mod rows;
+mod snapshots;
 
 // What follows is checked at run time, for values that a test has made.
 
@@ -90,6 +95,35 @@ fn are_apart(externals: &[External]) -> bool
         [external, externals @ ..] => {
             are_others(external.global, externals) && are_apart(externals)
         }
+    }
+}
+
+/// The values stand in the types of these ports, on so many buses.
+fn are_of_ports(buses: u8, values: &[Value], ports: &[Port]) -> bool
+    requires { 1 ≤ buses }
+    ensures { IsTrue result
+        → AreOf values.now (map (λ port. type_of buses port.values) ports.now) }
+{
+    match (values, ports) {
+        ([], []) => true,
+        ([value, values @ ..], [port, ports @ ..]) => {
+            port.values.il_type(buses).holds(*value) && are_of_ports(buses, values, ports)
+        }
+        _ => false,
+    }
+}
+
+/// The block instances are of these kinds, on so many buses.
+fn are_of_kinds(buses: u8, blocks: &[BlockState], kinds: &[Kind]) -> bool
+    requires { 1 ≤ buses }
+    ensures { IsTrue result → AllZip (IsBlockOf buses) blocks.now kinds.now }
+{
+    match (blocks, kinds) {
+        ([], []) => true,
+        ([block, blocks @ ..], [kind, kinds @ ..]) => {
+            are_of_ports(buses, block.ports(), kind.ports()) && are_of_kinds(buses, blocks, kinds)
+        }
+        _ => false,
     }
 }
 

@@ -15,6 +15,7 @@
 //! ```
 #![tactic(auto)]
 
+mod flat;
 mod machine;
 mod outbox;
 mod scans;

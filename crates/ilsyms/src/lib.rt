@@ -1,10 +1,10 @@
 //! Names of a source program: what each name in a line means, and the plan of its task.
 //!
 //! What crosses the boundary: [`resolve`], which takes an [`ilsource::Source`] and a binding to its
-//! one [`Plan`], where each name is the number of a slot, or reports the least [`NameFault`]. A task
-//! of a source program (specs/Tasks.antt) means `source_scan` (specs/Meaning.antt, to be read
-//! first), over names. The plan is `plan_of_tree` (specs/Resolved.antt), whose scans leave the same,
-//! and what stands against it is `IsFault` (specs/Faults.antt).
+//! one [`Plan`], where each name is the number of a slot, or reports the least [`NameFault`]. A
+//! task of a source program (specs/Tasks.antt) means `source_scan` (specs/Meaning.antt, to be read
+//! first), over names. The plan is `plan_of_tree` (specs/Resolved.antt), whose scans leave the
+//! same, and what stands against it is `IsFault` (specs/Faults.antt).
 #![tactic(auto)]
 
 mod arguments;

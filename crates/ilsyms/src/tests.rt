@@ -1,5 +1,9 @@
 //! Printed names and faults, and source programs at the limits.
 
+ghost use Rattle.std.specs.Prelude.{◌≡◌, ◌+◌, ◌++◌, ◌∷◌, [], IfOk, OnOk, length};
+ghost use Rattle.ilsource.specs.declared.declaration.Declared.TheVariants.{Variables};
+ghost use Rattle.ilsource.specs.declared.declaration.Specification.TheVariants as specifications;
+
 use crate::{NameCause, NameFault, resolve};
 use binding::Binding;
 use iloperators::Operator;
@@ -10,6 +14,7 @@ use ilsource::{
 use iltrees::{Instruction, Line, Nested, Operand};
 use iltypes::Value;
 use std::alloc::{AllocError, Global};
+use std::process::Abort;
 use std::test::Fail;
 
 mod blocks;
@@ -29,7 +34,9 @@ fn one(alloc: Global, name: Name) -> Result<Vec<Name>, AllocError> {
 }
 
 /// Variables of BOOL, with the initial value that is written.
-pub(crate) fn truth(initial: Option<Constant>) -> Declared {
+pub(crate) fn truth(initial: Option<Constant>) -> Declared
+    ensures { result ≡ Variables specifications.Bool initial }
+{
     Declared::Variables {
         specification: Specification::Bool,
         initial,
@@ -37,12 +44,30 @@ pub(crate) fn truth(initial: Option<Constant>) -> Declared {
 }
 
 /// Adds a word to a text, a line of its own.
-pub(crate) fn add_word(text: &mut Vec<u8>, word: &str) -> Result<Name, AllocError> {
+pub(crate) fn add_word(text: &mut Vec<u8>, word: &str) -> Result<Name, AllocError>
+    ensures added { OnOk result (text.new.items ≡ text.old.items ++ word.now ++ 10 ∷ []) }
+    ensures name { IfOk result (λ name. (name.from ≡ length text.old.items)
+        × (name.to ≡ length text.old.items + length word.now)) }
+{
     let from = text.len();
     text.extend_from_slice(word.as_bytes())?;
     let to = text.len();
     text.push(b'\n')?;
     Ok(Name { from, to })
+}
+
+/// What is answered to a source program must be this: `a plan`, or the fault that is printed.
+pub(crate) fn expect_answer(
+    rt: &impl Abort,
+    alloc: Global,
+    source: &Source,
+    wanted: &str,
+) -> Result<(), Fail> {
+    match resolve(alloc, source, &Binding::one_bus(alloc)) {
+        Ok(_) => assert_eq!(rt; "a plan", wanted),
+        Err(fault) => assert_eq!(rt; fault.to_string(alloc)?.as_str(), wanted),
+    }
+    Ok(())
 }
 
 /// The program of [`TEXT`], where the name in parentheses is the one at `named`.

@@ -6,3 +6,4 @@ mod faults;
 mod long;
 mod rows;
 mod shown;
+mod words;

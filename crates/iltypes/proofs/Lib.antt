@@ -1,4 +1,5 @@
 pub mod Corners
+pub mod Equality
 pub mod Fitting
 pub mod Limits
 pub mod Magnitudes

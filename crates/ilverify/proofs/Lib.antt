@@ -1,4 +1,5 @@
 pub mod Bounds
+pub mod FlatLists
 mod Forward
 mod Growth
 mod Lists

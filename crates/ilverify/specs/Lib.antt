@@ -1,5 +1,6 @@
 pub mod BoundSteps
 pub mod Certificates
+pub mod FlatWords
 pub mod PassSteps
 pub mod Printed
 pub mod RequestSteps

@@ -5,7 +5,8 @@
 //! run ends and makes few requests, and the bound is the greatest number of words on a path
 //! (`IsVerified`, specs/Verdicts.antt, to be read first). The verdict is defined by certificates
 //! (specs/Certificates.antt): an entry for each word, consistent by the rules of `ilranges`; and by
-//! the calls of request blocks on each path (specs/Requests.antt).
+//! the calls of request blocks on each path (specs/Requests.antt). A `Verified` has its words in the
+//! form in which the machine runs them, too ([`Flat`], specs/FlatWords.antt).
 //!
 //! ```text
 //! let verified = verify(alloc, code)?;
@@ -13,12 +14,14 @@
 #![tactic(auto)]
 
 mod bound;
+mod flat;
 mod pass;
 mod refusal;
 mod requests;
 mod verified;
 mod verifier;
 
+pub use flat::Flat;
 pub use refusal::{Refusal, VerifyError};
 pub use verified::Verified;
 pub use verifier::verify;

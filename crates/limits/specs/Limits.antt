@@ -39,3 +39,22 @@ most_nesting = 32
 -- requests of a scan
 abbrev pub most_requests : ℕ
 most_requests = 16
+
+-- requests of one class that wait for a bus
+abbrev pub most_waiting : ℕ
+most_waiting = 64
+
+-- events that are pending for a task
+abbrev pub most_pending : ℕ
+most_pending = 32
+
+-- scan workers of a plant
+abbrev pub most_workers : ℕ
+most_workers = 16
+
+-- what the events of a plant's history may be limited to: at least, and at most
+abbrev pub least_events : ℕ
+least_events = 100
+
+abbrev pub most_events : ℕ
+most_events = 1000000

@@ -42,6 +42,21 @@ pub const MOST_NESTING: usize = 32;
 /// The greatest number of requests of a scan.
 pub const MOST_REQUESTS: usize = 16;
 
+/// The greatest number of requests of one class that wait for a bus.
+pub const MOST_WAITING: usize = 64;
+
+/// The greatest number of events that are pending for a task.
+pub const MOST_PENDING: usize = 32;
+
+/// The greatest number of scan workers of a plant.
+pub const MOST_WORKERS: usize = 16;
+
+/// The least number of events that the history of a plant may be limited to.
+pub const LEAST_EVENTS: u64 = 100;
+
+/// The greatest number of events that the history of a plant may be limited to.
+pub const MOST_EVENTS: u64 = 1_000_000;
+
 /// Whether a file has more bytes than the limit.
 pub fn is_too_long(bytes: &[u8]) -> bool
     ensures { IsTrue result ↔ (most_bytes < length bytes.now) }

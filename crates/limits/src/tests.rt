@@ -16,6 +16,11 @@ fn each_limit(rt: HostRuntime) {
     assert_eq!(rt; crate::MOST_WORDS, 65_536);
     assert_eq!(rt; crate::MOST_NESTING, 32);
     assert_eq!(rt; crate::MOST_REQUESTS, 16);
+    assert_eq!(rt; crate::MOST_WAITING, 64);
+    assert_eq!(rt; crate::MOST_PENDING, 32);
+    assert_eq!(rt; crate::MOST_WORKERS, 16);
+    assert_eq!(rt; crate::LEAST_EVENTS, 100);
+    assert_eq!(rt; crate::MOST_EVENTS, 1_000_000);
 }
 
 #[test]

@@ -5,6 +5,24 @@ use crate::{BlockState, Kind};
 use iltypes::Value::{Bool, Int};
 use std::test::Fail;
 
+/// By the ports of both blocks, and by what one of them remembers of its last call.
+#[test]
+fn a_block_is_the_same_as_its_like_alone(rt: HostRuntime) -> Result<(), Fail> {
+    let block = BlockState::at_first(Kind::RTrig);
+    assert!(rt; block.is_same(&BlockState::at_first(Kind::RTrig)));
+    assert!(rt; !block.is_same(&BlockState::at_first(Kind::Ton)));
+    let mut called = BlockState::at_first(Kind::RTrig);
+    asks(Kind::RTrig, &mut called, &[Bool(true)], 0)?;
+    let mut stored = BlockState::at_first(Kind::RTrig);
+    assert_eq!(rt; stored.ports().len(), 2);
+    stored.set_port(0, Bool(true));
+    assert_eq!(rt; stored.ports().len(), 2);
+    stored.set_port(1, Bool(true));
+    assert!(rt; stored.ports() == called.ports());
+    assert!(rt; !stored.is_same(&called));
+    Ok(())
+}
+
 #[test]
 fn r_trig_is_true_at_rising_edges(rt: HostRuntime) -> Result<(), Fail> {
     let mut block = BlockState::at_first(Kind::RTrig);

@@ -3,11 +3,10 @@
 ghost use Rattle.std.specs.Prelude.{IfOk, Some};
 ghost use Rattle.iltrees.specs.Words.{AreShallow, IsShallow};
 
-use super::largest::answer;
-use super::{add_word, truth};
+use super::{add_word, expect_answer, truth};
 use ilblocks::Kind;
 use iloperators::{Condition, Operator};
-use ilsource::{Declaration, Declared, Element, Name, Program, Symbol};
+use ilsource::{Declaration, Declared, Element, Name, Program, Source, Symbol};
 use iltrees::{Argument, Arguments, Instruction, Line, Nested, Operand};
 use iltypes::Value;
 use std::alloc::{AllocError, Global};
@@ -141,9 +140,9 @@ fn call(alloc: Global, names: &[Name]) -> Result<Instruction<Symbol, Name>, Allo
     })
 }
 
-/// The answer to a program `P` with the variables `v` and `q`, the timer `t` and the trigger `u`.
-/// The words of its lines stand from line 6 of the text on.
-fn answer_to(alloc: Global, words: &str) -> Result<String, Fail> {
+/// A program `P` with the variables `v` and `q`, the timer `t` and the trigger `u`. The words of its
+/// lines stand from line 6 of the text on.
+fn source_of(alloc: Global, words: &str) -> Result<Source, AllocError> {
     let mut draft = Draft {
         text: Vec::new(alloc),
     };
@@ -155,7 +154,7 @@ fn answer_to(alloc: Global, words: &str) -> Result<String, Fail> {
     let lines = draft.lines(alloc, words)?;
     let mut elements = Vec::new(alloc);
     elements.push(Element::Program(Program::new(name, declarations, lines)))?;
-    answer(alloc, draft.text, elements)
+    Ok(Source::new(draft.text, elements, None))
 }
 
 #[test]
@@ -172,8 +171,7 @@ fn names_that_are_declared(rt: HostRuntime) -> Result<(), Fail> {
         "CAL t PT IN,CAL u CLK",
     ];
     for words in rows {
-        let given = answer_to(rt.alloc(), words)?;
-        assert_eq!(rt; given.as_str(), "a plan");
+        expect_answer(&rt, rt.alloc(), &source_of(rt.alloc(), words)?, "a plan")?;
     }
     Ok(())
 }
@@ -214,8 +212,7 @@ fn names_at_fault(rt: HostRuntime) -> Result<(), Fail> {
         ("CAL t IN IN,CAL w", "name fault 3 at 9:1"),
     ];
     for (words, wanted) in rows {
-        let given = answer_to(rt.alloc(), words)?;
-        assert_eq!(rt; given.as_str(), wanted);
+        expect_answer(&rt, rt.alloc(), &source_of(rt.alloc(), words)?, wanted)?;
     }
     Ok(())
 }

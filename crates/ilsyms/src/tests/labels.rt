@@ -3,10 +3,10 @@
 ghost use Rattle.std.specs.Prelude.{IfOk};
 ghost use Rattle.iltrees.specs.Words.{AreShallow, IsShallow};
 
-use super::largest::{answer, different_names};
-use super::{add_word, truth};
+use super::largest::different_names;
+use super::{add_word, expect_answer, truth};
 use iloperators::Condition;
-use ilsource::{Declaration, Element, Name, Program, Symbol};
+use ilsource::{Declaration, Element, Name, Program, Source, Symbol};
 use iltrees::{Instruction, Line};
 use std::alloc::{AllocError, Global};
 use std::test::Fail;
@@ -113,8 +113,8 @@ fn faults_of_one_program(rt: HostRuntime) -> Result<(), Fail> {
             elements: Vec::new(alloc),
         };
         draft.add_program(alloc, "P", rows)?;
-        let given = answer(alloc, draft.text, draft.elements)?;
-        assert_eq!(rt; given.as_str(), wanted);
+        let source = Source::new(draft.text, draft.elements, None);
+        expect_answer(&rt, alloc, &source, wanted)?;
     }
     Ok(())
 }
@@ -135,8 +135,8 @@ fn labels_are_those_of_their_program(rt: HostRuntime) -> Result<(), Fail> {
         };
         draft.add_program(alloc, "P", first)?;
         draft.add_program(alloc, "Q", second)?;
-        let given = answer(alloc, draft.text, draft.elements)?;
-        assert_eq!(rt; given.as_str(), wanted);
+        let source = Source::new(draft.text, draft.elements, None);
+        expect_answer(&rt, alloc, &source, wanted)?;
     }
     Ok(())
 }
@@ -164,6 +164,5 @@ fn many_labels(rt: HostRuntime) -> Result<(), Fail> {
     let program = Program::new(Name { from: 0, to: 1 }, Vec::new(alloc), lines);
     let mut elements = Vec::new(alloc);
     elements.push(Element::Program(program))?;
-    assert_eq!(rt; answer(alloc, text, elements)?.as_str(), "a plan");
-    Ok(())
+    expect_answer(&rt, alloc, &Source::new(text, elements, None), "a plan")
 }

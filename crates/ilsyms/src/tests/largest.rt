@@ -1,14 +1,13 @@
 //! Source programs at the limits, and one past each: a body that gives up above some size would
 //! answer out of memory.
 
-ghost use Rattle.std.specs.Prelude.{◌≤◌};
+ghost use Rattle.std.specs.Prelude.{◌≡◌, ◌*◌, ◌≤◌, IfOk, vec_len};
 
-use super::truth;
-use crate::resolve;
-use binding::Binding;
+use super::{expect_answer, truth};
 use ilblocks::Kind;
 use ilsource::{Declaration, Declared, Element, Name, Program, Source};
 use std::alloc::{AllocError, Global};
+use std::process::Abort;
 use std::test::Fail;
 
 /// A letter for a number.
@@ -22,6 +21,7 @@ pub(crate) fn different_names(
     count: usize,
 ) -> Result<(Vec<u8>, Vec<Name>), AllocError>
     requires { count ≤ 17576 }
+    ensures { IfOk result (λ made. (vec_len made.0 ≡ 3 * count) × (vec_len made.1 ≡ count)) }
 {
     let mut text = Vec::new(alloc);
     let mut names = Vec::new(alloc);
@@ -37,15 +37,6 @@ pub(crate) fn different_names(
     Ok((text, names))
 }
 
-/// `a plan`, or the fault that is printed.
-pub(crate) fn answer(alloc: Global, text: Vec<u8>, elements: Vec<Element>) -> Result<String, Fail> {
-    let source = Source::new(text, elements, None);
-    match resolve(alloc, &source, &Binding::one_bus(alloc)) {
-        Ok(_) => Ok(String::from_str(alloc, "a plan")?),
-        Err(fault) => Ok(fault.to_string(alloc)?),
-    }
-}
-
 #[test]
 fn programs(rt: HostRuntime) -> Result<(), Fail> {
     let alloc = rt.alloc();
@@ -56,13 +47,19 @@ fn programs(rt: HostRuntime) -> Result<(), Fail> {
             let program = Program::new(*name, Vec::new(alloc), Vec::new(alloc));
             elements.push(Element::Program(program))?;
         }
-        assert_eq!(rt; answer(alloc, text, elements)?.as_str(), wanted);
+        expect_answer(&rt, alloc, &Source::new(text, elements, None), wanted)?;
     }
     Ok(())
 }
 
-/// The answer to one program whose declared names are so many.
-fn answer_to_names(alloc: Global, count: usize, declared: Declared) -> Result<String, Fail>
+/// What is answered to one program whose declared names are so many must be this.
+fn expect_answer_to_names(
+    rt: &impl Abort,
+    alloc: Global,
+    count: usize,
+    declared: Declared,
+    wanted: &str,
+) -> Result<(), Fail>
     requires { count ≤ 17576 }
 {
     let (text, names) = different_names(alloc, count)?;
@@ -72,14 +69,13 @@ fn answer_to_names(alloc: Global, count: usize, declared: Declared) -> Result<St
     let name = Name { from: 0, to: 1 };
     let program = Program::new(name, declarations, Vec::new(alloc));
     elements.push(Element::Program(program))?;
-    answer(alloc, text, elements)
+    expect_answer(rt, alloc, &Source::new(text, elements, None), wanted)
 }
 
 #[test]
 fn variables(rt: HostRuntime) -> Result<(), Fail> {
     for (count, wanted) in [(4096, "a plan"), (4097, "name fault 11 at 1:12289")] {
-        let given = answer_to_names(rt.alloc(), count, truth(None))?;
-        assert_eq!(rt; given.as_str(), wanted);
+        expect_answer_to_names(&rt, rt.alloc(), count, truth(None), wanted)?;
     }
     Ok(())
 }
@@ -87,8 +83,8 @@ fn variables(rt: HostRuntime) -> Result<(), Fail> {
 #[test]
 fn block_instances(rt: HostRuntime) -> Result<(), Fail> {
     for (count, wanted) in [(256, "a plan"), (257, "name fault 11 at 1:769")] {
-        let given = answer_to_names(rt.alloc(), count, Declared::Blocks(Kind::Ton))?;
-        assert_eq!(rt; given.as_str(), wanted);
+        let declared = Declared::Blocks(Kind::Ton);
+        expect_answer_to_names(&rt, rt.alloc(), count, declared, wanted)?;
     }
     Ok(())
 }

@@ -1,9 +1,9 @@
 //! Block instances that are declared and called, and their ports.
 
 use crate::parse;
-use crate::tests::faults::{fault_in_program, fault_of};
-use crate::tests::rows::again;
-use crate::tests::shown::shown;
+use crate::tests::faults::{Report, expect_fault, expect_fault_in_program};
+use crate::tests::rows::expect_again;
+use crate::tests::shown::expect_shown;
 use ilsource::Element;
 use std::test::Fail;
 
@@ -19,7 +19,7 @@ fn calls_and_ports_come_back(rt: HostRuntime) -> Result<(), Fail> {
         b"q: CAL q(q := q.q)\nLD q\nJMP q\n",
     ];
     for text in lines {
-        assert_eq!(rt; again(rt.alloc(), text)?.as_slice(), text);
+        expect_again(&rt, rt.alloc(), text, text)?;
     }
     Ok(())
 }
@@ -47,7 +47,7 @@ fn other_spellings_of_calls(rt: HostRuntime) -> Result<(), Fail> {
         (b"LD t.Q (* *)\nq: RET\n", b"LD t.Q\nq: RET\n"),
     ];
     for (text, printed) in rows {
-        assert_eq!(rt; again(rt.alloc(), text)?.as_slice(), printed);
+        expect_again(&rt, rt.alloc(), text, printed)?;
     }
     Ok(())
 }
@@ -65,12 +65,12 @@ END_PROGRAM\n",
     ];
     for text in texts {
         let source = parse(rt.alloc(), text)?;
-        assert_eq!(rt; shown(rt.alloc(), &source)?.as_slice(), text);
+        expect_shown(&rt, rt.alloc(), &source, text)?;
     }
     let text = b"program p var\nt\n,\nu\n:\nTon\n;\nend_var\nend_program";
     let source = parse(rt.alloc(), text)?;
     let printed: &[u8] = b"PROGRAM p VAR t, u : TON; END_VAR\nEND_PROGRAM\n";
-    assert_eq!(rt; shown(rt.alloc(), &source)?.as_slice(), printed);
+    expect_shown(&rt, rt.alloc(), &source, printed)?;
     Ok(())
 }
 
@@ -93,7 +93,7 @@ fn places_of_calls(rt: HostRuntime) -> Result<(), Fail> {
 
 #[test]
 fn faults_of_calls(rt: HostRuntime) -> Result<(), Fail> {
-    let lines: [(&[u8], (u8, usize, usize)); 35] = [
+    let lines: [(&[u8], Report); 35] = [
         (b"CAL\nt\n", (4, 1, 4)),
         (b"CAL 5\n", (4, 1, 5)),
         (b"CAL t.Q\n", (4, 1, 6)),
@@ -133,14 +133,14 @@ fn faults_of_calls(rt: HostRuntime) -> Result<(), Fail> {
         (b"AND( b\n)\nCAL t(IN := CAL)\n", (4, 3, 13)),
     ];
     for (lines, fault) in lines {
-        assert_eq!(rt; fault_in_program(rt.alloc(), lines)?, fault, "{lines:?}");
+        expect_fault_in_program(&rt, rt.alloc(), lines, fault)?;
     }
     Ok(())
 }
 
 #[test]
 fn faults_of_ports(rt: HostRuntime) -> Result<(), Fail> {
-    let lines: [(&[u8], (u8, usize, usize)); 14] = [
+    let lines: [(&[u8], Report); 14] = [
         (b"LD t.LD\n", (4, 1, 6)),
         (b"LD t.5\n", (4, 1, 6)),
         (b"LD t.\nQ\n", (4, 1, 6)),
@@ -157,14 +157,14 @@ fn faults_of_ports(rt: HostRuntime) -> Result<(), Fail> {
         (b"AND( t.R\nR t.R\n)\n", (7, 2, 1)),
     ];
     for (lines, fault) in lines {
-        assert_eq!(rt; fault_in_program(rt.alloc(), lines)?, fault, "{lines:?}");
+        expect_fault_in_program(&rt, rt.alloc(), lines, fault)?;
     }
     Ok(())
 }
 
 #[test]
 fn faults_of_block_instances(rt: HostRuntime) {
-    let texts: [(&[u8], (u8, usize, usize)); 7] = [
+    let texts: [(&[u8], Report); 7] = [
         (b"PROGRAM p\nVAR a : TON := 1; END_VAR\n", (4, 2, 13)),
         (b"PROGRAM p\nVAR a : TON (0..5); END_VAR\n", (4, 2, 13)),
         (b"PROGRAM p\nVAR a : TON, CTU; END_VAR\n", (4, 2, 12)),
@@ -174,6 +174,6 @@ fn faults_of_block_instances(rt: HostRuntime) {
         (b"TYPE a : TON; END_TYPE", (4, 1, 10)),
     ];
     for (text, fault) in texts {
-        assert_eq!(rt; fault_of(rt.alloc(), text), fault, "{text:?}");
+        expect_fault(&rt, rt.alloc(), text, fault);
     }
 }

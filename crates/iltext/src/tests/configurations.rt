@@ -1,8 +1,8 @@
 //! Configurations and external variables: what comes back when they are printed, and faults.
 
 use crate::parse;
-use crate::tests::faults::fault_of;
-use crate::tests::shown::shown;
+use crate::tests::faults::{Report, expect_fault};
+use crate::tests::shown::expect_shown;
 use std::test::Fail;
 
 /// The example of a house, where an event turns a light on and off.
@@ -99,7 +99,7 @@ fn configurations_come_back(rt: HostRuntime) -> Result<(), Fail> {
     ];
     for (text, printed) in texts {
         let source = parse(rt.alloc(), text)?;
-        assert_eq!(rt; shown(rt.alloc(), &source)?.as_slice(), printed);
+        expect_shown(&rt, rt.alloc(), &source, printed)?;
     }
     Ok(())
 }
@@ -123,7 +123,7 @@ fn places_of_addresses(rt: HostRuntime) -> Result<(), Fail> {
 
 #[test]
 fn faults_of_global_variables(rt: HostRuntime) -> Result<(), Fail> {
-    let lines: [(&[u8], (u8, usize, usize)); 10] = [
+    let lines: [(&[u8], Report); 10] = [
         (b"a AT %QB0.1 %QB0.2 : USINT;", (4, 2, 13)),
         (b"a AT %QB0.1, b : USINT;", (4, 2, 12)),
         (b"a, b AT %QB0.1 : USINT;", (4, 2, 6)),
@@ -141,14 +141,14 @@ fn faults_of_global_variables(rt: HostRuntime) -> Result<(), Fail> {
     for (declarations, fault) in lines {
         let mut text = b"CONFIGURATION c VAR_GLOBAL\n".to_vec(rt.alloc())?;
         text.extend_from_slice(declarations)?;
-        assert_eq!(rt; fault_of(rt.alloc(), &text), fault, "{declarations:?}");
+        expect_fault(&rt, rt.alloc(), &text, fault);
     }
     Ok(())
 }
 
 #[test]
 fn faults_of_configurations(rt: HostRuntime) {
-    let texts: [(&[u8], (u8, usize, usize)); 26] = [
+    let texts: [(&[u8], Report); 26] = [
         (b"CONFIGURATION\nVAR_GLOBAL", (4, 2, 1)),
         (b"CONFIGURATION c\n", (4, 2, 1)),
         (b"CONFIGURATION c\nTASK t (SINGLE := a);", (4, 2, 20)),
@@ -205,6 +205,6 @@ fn faults_of_configurations(rt: HostRuntime) {
         (b"PROGRAM p\nLD a\nVAR_EXTERNAL", (4, 3, 1)),
     ];
     for (text, fault) in texts {
-        assert_eq!(rt; fault_of(rt.alloc(), text), fault, "{text:?}");
+        expect_fault(&rt, rt.alloc(), text, fault);
     }
 }

@@ -2,20 +2,25 @@
 
 use crate::{TextFault, parse};
 use std::alloc::{AllocError, Global};
+use std::process::Abort;
 use std::test::Fail;
 
 /// The number, line and column of a text's fault; zeros where it has none.
-pub fn fault_of(alloc: Global, text: &[u8]) -> (u8, usize, usize) {
-    match parse(alloc, text) {
+pub type Report = (u8, usize, usize);
+
+/// What is reported of a text must be this.
+pub fn expect_fault(rt: &impl Abort, alloc: Global, text: &[u8], wanted: Report) {
+    let report = match parse(alloc, text) {
         Ok(_) => (0, 0, 0),
         Err(TextFault::At { line, col, cause }) => (cause.number(), line, col),
         Err(TextFault::Memory) => (1, 0, 0),
-    }
+    };
+    assert_eq!(rt; report, wanted, "{text:?}");
 }
 
 #[test]
 fn texts_and_their_first_faults(rt: HostRuntime) {
-    let texts: [(&[u8], (u8, usize, usize)); 22] = [
+    let texts: [(&[u8], Report); 22] = [
         (b"", (0, 0, 0)),
         (b" (* (* *)\r\n", (0, 0, 0)),
         (b"program p ldn Ldx\r\nend_PROGRAM", (0, 0, 0)),
@@ -49,21 +54,27 @@ fn texts_and_their_first_faults(rt: HostRuntime) {
         ),
     ];
     for (text, fault) in texts {
-        assert_eq!(rt; fault_of(rt.alloc(), text), fault, "{text:?}");
+        expect_fault(&rt, rt.alloc(), text, fault);
     }
 }
 
-/// The fault of a program of these lines, of which the first is line 1.
-pub fn fault_in_program(alloc: Global, lines: &[u8]) -> Result<(u8, usize, usize), AllocError> {
+/// What is reported of a program of these lines must be this. The first of them is line 1.
+pub fn expect_fault_in_program(
+    rt: &impl Abort,
+    alloc: Global,
+    lines: &[u8],
+    wanted: Report,
+) -> Result<(), AllocError> {
     let mut text = b"PROGRAM p\n".to_vec(alloc)?;
     text.extend_from_slice(lines)?;
-    let (number, line, col) = fault_of(alloc, &text);
-    Ok((number, line.saturating_sub(1), col))
+    let (number, line, col) = wanted;
+    expect_fault(rt, alloc, &text, (number, line.saturating_add(1), col));
+    Ok(())
 }
 
 #[test]
 fn faults_of_instructions(rt: HostRuntime) -> Result<(), Fail> {
-    let lines: [(&[u8], (u8, usize, usize)); 13] = [
+    let lines: [(&[u8], Report); 13] = [
         (b"LD a LD b\n", (4, 1, 6)),
         (b"LD a END_PROGRAM", (4, 1, 6)),
         (b"LD T#1s\nLD 9223372036854775808\n", (5, 2, 4)),
@@ -79,14 +90,14 @@ fn faults_of_instructions(rt: HostRuntime) -> Result<(), Fail> {
         (b"INT_TO_INT\n", (4, 1, 11)),
     ];
     for (lines, fault) in lines {
-        assert_eq!(rt; fault_in_program(rt.alloc(), lines)?, fault, "{lines:?}");
+        expect_fault_in_program(&rt, rt.alloc(), lines, fault)?;
     }
     Ok(())
 }
 
 #[test]
 fn faults_of_labels_and_jumps(rt: HostRuntime) -> Result<(), Fail> {
-    let lines: [(&[u8], (u8, usize, usize)); 25] = [
+    let lines: [(&[u8], Report); 25] = [
         (b"x LD a\n", (4, 1, 3)),
         (b"x\n: LD a\n", (4, 1, 2)),
         (b"x: y: LD a\n", (4, 1, 4)),
@@ -114,14 +125,14 @@ fn faults_of_labels_and_jumps(rt: HostRuntime) -> Result<(), Fail> {
         (b"JMP x\nEND_VAR\n", (4, 2, 1)),
     ];
     for (lines, fault) in lines {
-        assert_eq!(rt; fault_in_program(rt.alloc(), lines)?, fault, "{lines:?}");
+        expect_fault_in_program(&rt, rt.alloc(), lines, fault)?;
     }
     Ok(())
 }
 
 #[test]
 fn faults_in_parentheses(rt: HostRuntime) -> Result<(), Fail> {
-    let lines: [(&[u8], (u8, usize, usize)); 22] = [
+    let lines: [(&[u8], Report); 22] = [
         (b"LD a\n)\n", (4, 2, 1)),
         (b"AND( b )\n", (4, 1, 8)),
         (b"AND( b\n) LD c\n", (4, 2, 3)),
@@ -146,7 +157,7 @@ fn faults_in_parentheses(rt: HostRuntime) -> Result<(), Fail> {
         (b"AND( b\n", (4, 2, 1)),
     ];
     for (lines, fault) in lines {
-        assert_eq!(rt; fault_in_program(rt.alloc(), lines)?, fault, "{lines:?}");
+        expect_fault_in_program(&rt, rt.alloc(), lines, fault)?;
     }
     Ok(())
 }
@@ -154,7 +165,7 @@ fn faults_in_parentheses(rt: HostRuntime) -> Result<(), Fail> {
 /// An address stands nowhere in a line.
 #[test]
 fn faults_at_addresses(rt: HostRuntime) -> Result<(), Fail> {
-    let lines: [(&[u8], (u8, usize, usize)); 17] = [
+    let lines: [(&[u8], Report); 17] = [
         (b"LD %QB0.5\n", (4, 1, 4)),
         (b"ST %IX0.3\n", (4, 1, 4)),
         (b"%QB0.1: LD a\n", (4, 1, 1)),
@@ -176,14 +187,14 @@ fn faults_at_addresses(rt: HostRuntime) -> Result<(), Fail> {
         (b"AND( %QB0.\n)\n", (3, 1, 6)),
     ];
     for (lines, fault) in lines {
-        assert_eq!(rt; fault_in_program(rt.alloc(), lines)?, fault, "{lines:?}");
+        expect_fault_in_program(&rt, rt.alloc(), lines, fault)?;
     }
     Ok(())
 }
 
 #[test]
 fn addresses_outside_lines(rt: HostRuntime) {
-    let texts: [(&[u8], (u8, usize, usize)); 6] = [
+    let texts: [(&[u8], Report); 6] = [
         (b"%IX0.0", (4, 1, 1)),
         (b"PROGRAM %IW0.0\n", (4, 1, 9)),
         (b"PROGRAM p VAR %QB0.1 : USINT; END_VAR\n", (4, 1, 15)),
@@ -195,7 +206,7 @@ fn addresses_outside_lines(rt: HostRuntime) {
         ),
     ];
     for (text, fault) in texts {
-        assert_eq!(rt; fault_of(rt.alloc(), text), fault, "{text:?}");
+        expect_fault(&rt, rt.alloc(), text, fault);
     }
 }
 
@@ -216,7 +227,7 @@ fn nested(alloc: Global, open: usize, last: &[u8]) -> Result<Vec<u8>, AllocError
 
 #[test]
 fn at_most_32_parentheses_are_open(rt: HostRuntime) -> Result<(), Fail> {
-    let rows: [(usize, &[u8], (u8, usize, usize)); 8] = [
+    let rows: [(usize, &[u8], Report); 8] = [
         (32, b"", (0, 0, 0)),
         (33, b"", (6, 35, 4)),
         (32, b"SUB( 2\n", (6, 35, 4)),
@@ -228,7 +239,7 @@ fn at_most_32_parentheses_are_open(rt: HostRuntime) -> Result<(), Fail> {
     ];
     for (open, last, fault) in rows {
         let text = nested(rt.alloc(), open, last)?;
-        assert_eq!(rt; fault_of(rt.alloc(), &text), fault, "{open} and {last:?}");
+        expect_fault(&rt, rt.alloc(), &text, fault);
     }
     Ok(())
 }
@@ -237,9 +248,9 @@ fn at_most_32_parentheses_are_open(rt: HostRuntime) -> Result<(), Fail> {
 fn a_text_that_is_too_long(rt: HostRuntime) -> Result<(), Fail> {
     let mut text = Vec::new(rt.alloc());
     text.resize(1_048_576, b' ')?;
-    assert_eq!(rt; fault_of(rt.alloc(), &text), (0, 0, 0));
+    expect_fault(&rt, rt.alloc(), &text, (0, 0, 0));
     text.push(b' ')?;
-    assert_eq!(rt; fault_of(rt.alloc(), &text), (9, 1, 1));
+    expect_fault(&rt, rt.alloc(), &text, (9, 1, 1));
     Ok(())
 }
 

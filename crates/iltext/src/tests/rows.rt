@@ -1,13 +1,19 @@
 //! Texts, and the source programs that they spell.
 
 use crate::parse;
-use crate::tests::shown::{shown, shown_lines};
+use crate::tests::shown::{expect_shown, expect_shown_lines};
 use ilsource::Element;
 use std::alloc::Global;
+use std::process::Abort;
 use std::test::Fail;
 
-/// What the lines of a program are printed as again.
-pub fn again(alloc: Global, lines: &[u8]) -> Result<Vec<u8>, Fail> {
+/// What the lines of a program are printed as again must be this.
+pub fn expect_again(
+    rt: &impl Abort,
+    alloc: Global,
+    lines: &[u8],
+    printed: &[u8],
+) -> Result<(), Fail> {
     let mut text = b"PROGRAM p\n".to_vec(alloc)?;
     text.extend_from_slice(lines)?;
     text.extend_from_slice(b"END_PROGRAM\n")?;
@@ -15,7 +21,8 @@ pub fn again(alloc: Global, lines: &[u8]) -> Result<Vec<u8>, Fail> {
     let [Element::Program(program)] = source.elements() else {
         return Err("one program".into());
     };
-    Ok(shown_lines(alloc, source.text(), program.lines())?)
+    expect_shown_lines(rt, alloc, source.text(), program.lines(), printed)?;
+    Ok(())
 }
 
 #[test]
@@ -29,12 +36,13 @@ fn each_operator_comes_back(rt: HostRuntime) -> Result<(), Fail> {
         b"ADD 1\nSUB a\nMUL -9223372036854775808\nDIV 7\nMOD 9223372036854775807\n",
         b"GT 1\nGE 2\nEQ 3\nNE 4\nLE 5\nLT 6\n",
         b"NOT\nABS\nMIN 254\nMAX a\nLIMIT 0, b\n",
-        b"AND(\nLD a\n)\nANDN(\nLD a\n)\nOR(\nLD a\n)\nORN(\nLD a\n)\nXOR(\nLD a\n)\nXORN(\nLDN a\n)\n",
+        b"AND(\nLD a\n)\nANDN(\nLD a\n)\nOR(\nLD a\n)\nORN(\nLD a\n)\nXOR(\nLD a\n)\n\
+XORN(\nLDN a\n)\n",
         b"ADD(\nLD 1\n)\nSUB(\nLD 1\n)\nMUL(\nLD 1\n)\nDIV(\nLD 1\n)\nMOD(\nLD 1\n)\n",
         b"GT(\nLD 1\n)\nGE(\nLD 1\n)\nEQ(\nLD 1\n)\nNE(\nLD 1\n)\nLE(\nLD 1\n)\nLT(\nLD 1\n)\n",
     ];
     for text in lines {
-        assert_eq!(rt; again(rt.alloc(), text)?.as_slice(), text);
+        expect_again(&rt, rt.alloc(), text, text)?;
     }
     Ok(())
 }
@@ -69,7 +77,7 @@ fn other_spellings(rt: HostRuntime) -> Result<(), Fail> {
         (b"GT( T#2s\n)\nST a\n", b"GT(\nLD 2000\n)\nST a\n"),
     ];
     for (text, printed) in rows {
-        assert_eq!(rt; again(rt.alloc(), text)?.as_slice(), printed);
+        expect_again(&rt, rt.alloc(), text, printed)?;
     }
     Ok(())
 }
@@ -87,7 +95,7 @@ fn each_conversion_is_to_its_second_type(rt: HostRuntime) -> Result<(), Fail> {
             printed.extend_from_slice(to)?;
             printed.extend_from_slice(b"\n")?;
             if from != to {
-                assert_eq!(rt; again(rt.alloc(), &text)?.as_slice(), printed.as_slice());
+                expect_again(&rt, rt.alloc(), &text, &printed)?;
             }
         }
     }
@@ -98,15 +106,17 @@ fn each_conversion_is_to_its_second_type(rt: HostRuntime) -> Result<(), Fail> {
 fn declarations_come_back(rt: HostRuntime) -> Result<(), Fail> {
     let texts: [&[u8]; 6] = [
         b"PROGRAM p\na: RET\nEND_PROGRAM\n",
-        b"PROGRAM End_1 VAR a : BOOL; END_VAR VAR b2, _, LDX : BOOL := TRUE; END_VAR\nEND_PROGRAM\n",
+        b"PROGRAM End_1 VAR a : BOOL; END_VAR VAR b2, _, LDX : BOOL := TRUE; END_VAR\n\
+END_PROGRAM\n",
         b"PROGRAM p VAR a : TIME := T#1000ms; END_VAR VAR b : dim := -3; END_VAR\nEND_PROGRAM\n",
-        b"PROGRAM p VAR a : SINT; END_VAR VAR b : INT; END_VAR VAR c : DINT; END_VAR\nEND_PROGRAM\n",
+        b"PROGRAM p VAR a : SINT; END_VAR VAR b : INT; END_VAR VAR c : DINT; END_VAR\n\
+END_PROGRAM\n",
         b"PROGRAM p VAR a : USINT(0..254); END_VAR VAR b : UINT(5..1) := 2; END_VAR\nEND_PROGRAM\n",
         b"PROGRAM p\nEND_PROGRAM\nTYPE t : UDINT(-1..1) := FALSE; END_TYPE\nTYPE u : t; END_TYPE\n",
     ];
     for text in texts {
         let source = parse(rt.alloc(), text)?;
-        assert_eq!(rt; shown(rt.alloc(), &source)?.as_slice(), text);
+        expect_shown(&rt, rt.alloc(), &source, text)?;
     }
     Ok(())
 }
@@ -144,8 +154,7 @@ fn labels_stand_on_the_first_line(rt: HostRuntime) -> Result<(), Fail> {
         let [Element::Program(program)] = source.elements() else {
             return Err("one program".into());
         };
-        let lines = shown_lines(rt.alloc(), source.text(), program.lines())?;
-        assert_eq!(rt; lines.as_slice(), printed);
+        expect_shown_lines(&rt, rt.alloc(), source.text(), program.lines(), printed)?;
     }
     Ok(())
 }

@@ -1,7 +1,9 @@
 //! Source programs printed as texts, one instruction a line.
 
-use ilblocks::Kind;
-use iloperators::{Condition, Function, IntegerType, Operator};
+use crate::tests::words::{
+    call_name, jump_name, kind_name, load_name, operator_name, return_name, type_name,
+};
+use iloperators::Function;
 use ilsource::{
     Address, Configuration, Constant, Declared, Element, GlobalDeclaration, InstanceDeclaration,
     Name, Program, Source, Specification, Symbol, TaskDeclaration, TypeDeclaration,
@@ -10,6 +12,7 @@ use iltokens::AddressKind;
 use iltrees::{Action, Argument, Instruction, Line, Operand};
 use iltypes::Value;
 use std::alloc::{AllocError, Global};
+use std::process::Abort;
 
 /// A text that grows.
 #[derive(Drop)]
@@ -380,99 +383,14 @@ impl Page<'_> {
     }
 }
 
-/// The word for a type of integers.
-fn type_name(base: IntegerType) -> &'static [u8] {
-    match base {
-        IntegerType::Sint => b"SINT",
-        IntegerType::Int => b"INT",
-        IntegerType::Dint => b"DINT",
-        IntegerType::Usint => b"USINT",
-        IntegerType::Uint => b"UINT",
-        IntegerType::Udint => b"UDINT",
-    }
-}
-
-/// The operator that loads.
-fn load_name(negated: bool) -> &'static [u8] {
-    if negated { b"LDN" } else { b"LD" }
-}
-
-/// The operator of a jump.
-fn jump_name(condition: Condition) -> &'static [u8] {
-    match condition {
-        Condition::Always => b"JMP",
-        Condition::IfTrue => b"JMPC",
-        Condition::IfFalse => b"JMPCN",
-    }
-}
-
-/// The operator of a return, with the end of its line.
-fn return_name(condition: Condition) -> &'static [u8] {
-    match condition {
-        Condition::Always => b"RET\n",
-        Condition::IfTrue => b"RETC\n",
-        Condition::IfFalse => b"RETCN\n",
-    }
-}
-
-/// The operator of a call.
-fn call_name(condition: Condition) -> &'static [u8] {
-    match condition {
-        Condition::Always => b"CAL",
-        Condition::IfTrue => b"CALC",
-        Condition::IfFalse => b"CALCN",
-    }
-}
-
-/// The word for a kind of block.
-fn kind_name(kind: Kind) -> &'static [u8] {
-    match kind {
-        Kind::RTrig => b"R_TRIG",
-        Kind::Ctu => b"CTU",
-        Kind::Ton => b"TON",
-        Kind::GearLevel => b"GEAR_LEVEL",
-        Kind::GearDo => b"GEAR_DO",
-        Kind::GearSet => b"GEAR_SET",
-        Kind::GearPair => b"GEAR_PAIR",
-        Kind::GearAsk => b"GEAR_ASK",
-        Kind::GearRead => b"GEAR_READ",
-        Kind::DevDo => b"DEV_DO",
-        Kind::DevScheme => b"DEV_SCHEME",
-        Kind::DevAsk => b"DEV_ASK",
-    }
-}
-
-/// The operator, with its modifier.
-fn operator_name(operator: Operator) -> &'static [u8] {
-    match operator {
-        Operator::And { negated: false } => b"AND",
-        Operator::And { negated: true } => b"ANDN",
-        Operator::Or { negated: false } => b"OR",
-        Operator::Or { negated: true } => b"ORN",
-        Operator::Xor { negated: false } => b"XOR",
-        Operator::Xor { negated: true } => b"XORN",
-        Operator::Add => b"ADD",
-        Operator::Sub => b"SUB",
-        Operator::Mul => b"MUL",
-        Operator::Div => b"DIV",
-        Operator::Mod => b"MOD",
-        Operator::Gt => b"GT",
-        Operator::Ge => b"GE",
-        Operator::Eq => b"EQ",
-        Operator::Ne => b"NE",
-        Operator::Le => b"LE",
-        Operator::Lt => b"LT",
-        Operator::Min => b"MIN",
-        Operator::Max => b"MAX",
-    }
-}
-
-/// The lines of a program, without the program around them.
-pub fn shown_lines(
+/// The lines of a program, without the program around them, must be printed as this.
+pub fn expect_shown_lines(
+    rt: &impl Abort,
     alloc: Global,
     text: &[u8],
     lines: &[Line<Symbol, Name>],
-) -> Result<Vec<u8>, AllocError> {
+    printed: &[u8],
+) -> Result<(), AllocError> {
     let mut page = Page {
         text,
         out: Vec::new(alloc),
@@ -480,11 +398,18 @@ pub fn shown_lines(
     for line in lines {
         page.add_line(alloc, line)?;
     }
-    Ok(page.out)
+    assert_eq!(rt; page.out.as_slice(), printed);
+    Ok(())
 }
 
-/// The text of a source program: a block for each declaration, and `OP(` alone on its line.
-pub fn shown(alloc: Global, source: &Source) -> Result<Vec<u8>, AllocError> {
+/// A source program must be printed as this text: a block for each declaration, and `OP(` alone on
+/// its line.
+pub fn expect_shown(
+    rt: &impl Abort,
+    alloc: Global,
+    source: &Source,
+    printed: &[u8],
+) -> Result<(), AllocError> {
     let mut page = Page {
         text: source.text(),
         out: Vec::new(alloc),
@@ -498,5 +423,6 @@ pub fn shown(alloc: Global, source: &Source) -> Result<Vec<u8>, AllocError> {
     if let Some(configuration) = source.configuration() {
         page.add_configuration(alloc, configuration)?;
     }
-    Ok(page.out)
+    assert_eq!(rt; page.out.as_slice(), printed);
+    Ok(())
 }
