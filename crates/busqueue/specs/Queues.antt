@@ -1,6 +1,7 @@
 -- The requests that wait for one bus, by class (IEC 62386-101, clause 9, for priorities; profile).
 use Rattle.std.specs.Prelude.{◌≡◌, ◌≢◌, ◌<◌, ◌==◌, ◌+◌, ℕ, nat_lt, Bool, if◌then◌else◌, Option, Some, None}
 use Rattle.std.specs.Prelude.{List, [], ◌∷◌, ◌++◌, length, drop, slice_get}
+use Rattle.limits.specs.Limits.{most_waiting}
 use Rattle.gearcmd.specs.declared.requests.Request.{Request}
 use Rattle.busqueue.specs.declared.class.Class.{Class}
 use Rattle.busqueue.specs.declared.class.Class.TheVariants.{UserAction, Configuration, AutomaticAction, Query}
@@ -14,10 +15,6 @@ class_number Query = 5
 
 abbrev pub is_class : Class → Class → Bool
 is_class c d = class_number c == class_number d
-
--- the most requests of one class that wait for a bus
-abbrev pub most_waiting : ℕ
-most_waiting = 64
 
 -- the requests of one class that wait, the oldest first, and how many were dropped
 pub record Queue : Type 0 where

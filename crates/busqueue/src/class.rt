@@ -1,5 +1,7 @@
 //! Classes of requests.
 ghost use Rattle.std.specs.Prelude.{◌≡◌};
+ghost use Rattle.gearcmd.specs.declared.requests.Command.{Command as AnyCommand};
+ghost use Rattle.gearcmd.specs.declared.requests.TaskKind.{TaskKind as Kind};
 ghost use Rattle.gearcmd.specs.Requests.{class_of, task_class};
 ghost use Rattle.busqueue.specs.Queues.{class_number};
 
@@ -51,6 +53,21 @@ impl Class {
             Class::Configuration => 3,
             Class::AutomaticAction => 4,
             Class::Query => 5,
+        }
+    }
+
+    /// A kind of task whose requests may be of this class: what is of it from a task of any kind is
+    /// so from one of this kind.
+    pub fn task(self) -> TaskKind
+        ensures request { (command : AnyCommand) (kind : Kind)
+            → class_of command kind ≡ class_number self
+            → class_of command result ≡ class_number self }
+        ensures level { (kind : Kind) → task_class kind ≡ class_number self
+            → task_class result ≡ class_number self }
+    {
+        match self {
+            Class::UserAction => TaskKind::Event,
+            Class::Configuration | Class::AutomaticAction | Class::Query => TaskKind::Cyclic,
         }
     }
 }

@@ -2,15 +2,14 @@
 ghost use Rattle.std.specs.Prelude.{◌≡◌, ◌<◌, ◌+◌, ◌^◌, ◌↔◌, [], ◌∷◌, ◌++◌, length};
 ghost use Rattle.std.specs.Prelude.{IfOk, IsTrue, slice_get, if◌then◌else◌};
 ghost use Rattle.circular_buffer.specs.Buffer.{buffer};
-ghost use Rattle.busqueue.specs.Queues.{most_waiting, queue, after_offer, after_next};
+ghost use Rattle.limits.specs.Limits.{most_waiting};
+ghost use Rattle.busqueue.specs.Queues.{queue, after_offer, after_next};
 
 use circular_buffer::HeapCircularBuffer;
 use gearcmd::Request;
+use limits::MOST_WAITING;
 use std::alloc::{AllocError, Global};
 use std::marker::Model;
-
-/// The most requests of one class that wait.
-const MOST_WAITING: usize = 64;
 
 /// The requests of one class that wait for a bus, and how many were dropped.
 #[derive(Drop)]
@@ -21,7 +20,8 @@ pub(crate) struct ClassQueue {
 
 impl Model for ClassQueue {
     ghost use Rattle.std.specs.Prelude.{◌≡◌};
-    ghost use Rattle.busqueue.specs.Queues.{Queue, most_waiting, queue};
+    ghost use Rattle.limits.specs.Limits.{most_waiting};
+    ghost use Rattle.busqueue.specs.Queues.{Queue, queue};
 
     ghost Value = { Queue };
 
@@ -66,6 +66,16 @@ impl ClassQueue {
             self.dropped += 1;
         }
         accepted
+    }
+
+    /// The oldest request.
+    pub(crate) fn first(&self) -> Option<Request>
+        ensures oldest { result ≡ slice_get self.now.waiting 0 }
+    {
+        match self.requests.front() {
+            Some(request) => Some(*request),
+            None => None,
+        }
     }
 
     /// Hands out the oldest request.

@@ -2,7 +2,8 @@
 ghost use Rattle.std.specs.Prelude.{◌≡◌, ◌<◌, ◌+◌, ◌^◌, ◌↔◌, [], length};
 ghost use Rattle.std.specs.Prelude.{IfOk, IsTrue, slice_get, if◌then◌else◌};
 ghost use Rattle.busqueue.specs.declared.class.Class.{Class as RequestClass};
-ghost use Rattle.busqueue.specs.Queues.{most_waiting, queue, queue_of, is_class, after_offer};
+ghost use Rattle.limits.specs.Limits.{most_waiting};
+ghost use Rattle.busqueue.specs.Queues.{queue, queue_of, is_class, after_offer};
 ghost use Rattle.busqueue.specs.Queues.{after_next, IsLeastClass, IsNext, left_of};
 
 use crate::class::Class;
@@ -92,8 +93,35 @@ impl Queues {
             queue_of self.new c ≡ left_of result c (queue_of self.old c) }
     {
         let class = self.least_class()?;
-        let request = self.oldest(class)?;
+        let request = self.take(class)?;
         Some((class, request))
+    }
+
+    /// The oldest request of a class.
+    pub fn first(&self, class: Class) -> Option<Request>
+        ensures oldest { result ≡ slice_get (queue_of self.now class).waiting 0 }
+    {
+        match class {
+            Class::UserAction => self.user_action.first(),
+            Class::Configuration => self.configuration.first(),
+            Class::AutomaticAction => self.automatic_action.first(),
+            Class::Query => self.query.first(),
+        }
+    }
+
+    /// Hands out the oldest request of a class. It takes no memory.
+    pub fn take(&mut self, class: Class) -> Option<Request>
+        ensures oldest { result ≡ slice_get (queue_of self.old class).waiting 0 }
+        ensures queues { (c : RequestClass) → queue_of self.new c
+            ≡ (if is_class c class then after_next (queue_of self.old c)
+            else queue_of self.old c) }
+    {
+        match class {
+            Class::UserAction => self.user_action.next(),
+            Class::Configuration => self.configuration.next(),
+            Class::AutomaticAction => self.automatic_action.next(),
+            Class::Query => self.query.next(),
+        }
     }
 
     /// How many requests of a class were dropped.
@@ -105,21 +133,6 @@ impl Queues {
             Class::Configuration => self.configuration.dropped(),
             Class::AutomaticAction => self.automatic_action.dropped(),
             Class::Query => self.query.dropped(),
-        }
-    }
-
-    /// Hands out the oldest request of this class.
-    fn oldest(&mut self, class: Class) -> Option<Request>
-        ensures oldest { result ≡ slice_get (queue_of self.old class).waiting 0 }
-        ensures queues { (c : RequestClass) → queue_of self.new c
-            ≡ (if is_class c class then after_next (queue_of self.old c)
-            else queue_of self.old c) }
-    {
-        match class {
-            Class::UserAction => self.user_action.next(),
-            Class::Configuration => self.configuration.next(),
-            Class::AutomaticAction => self.automatic_action.next(),
-            Class::Query => self.query.next(),
         }
     }
 }

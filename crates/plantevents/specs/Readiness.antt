@@ -2,6 +2,7 @@
 use Rattle.std.specs.Prelude.{ℕ, ◌+◌, ◌/◌, ◌==◌, ◌&&◌, Bool, true, false, not, List, [], ◌∷◌, ◌++◌, length, drop}
 use Rattle.std.specs.Prelude.{Option, Some, None, if◌then◌else◌, nat_lt}
 use Rattle.circular_buffer.specs.Buffer.{keep_last}
+pub use Rattle.limits.specs.Limits.{most_pending}
 use Rattle.plantevents.specs.declared.activator.PendingEvent.{PendingEvent}
 use Rattle.plantevents.specs.declared.activator.Activator.{Activator}
 use Rattle.plantevents.specs.declared.activator.Activator.TheVariants.{Interval, Messages}
@@ -9,10 +10,6 @@ use Rattle.plantevents.specs.declared.event.Event.{Event}
 use Rattle.plantevents.specs.declared.event.Event.TheVariants.{Heard, Take}
 use Rattle.plantevents.specs.Messages.{is_message, information}
 use Rattle.plantevents.specs.Histories.{moment, message_count}
-
--- at most so many events are pending for a task
-abbrev pub most_pending : ℕ
-most_pending = 32
 
 abbrev pub is_take : ℕ → Event → Bool
 is_take t (Take w u s) = u == t

@@ -8,6 +8,7 @@ use Rattle.iltypes.specs.declared.value.Value.TheVariants as values
 use Rattle.daliframe.specs.declared.forward.Frame.{Frame}
 use Rattle.daliframe.specs.declared.forward.Frame.TheVariants.{Forward16}
 use Rattle.daliframe.specs.Frames.{level_frame}
+pub use Rattle.limits.specs.Limits.{most_waiting}
 use Rattle.gearcmd.specs.declared.requests.Request.{Request}
 use Rattle.gearcmd.specs.declared.requests.TaskKind.{TaskKind}
 use Rattle.gearcmd.specs.declared.requests.TaskKind.TheVariants.{Cyclic}
@@ -24,10 +25,6 @@ use Rattle.plantevents.specs.Histories.{OpenScan, scan}
 use Rattle.plantevents.specs.Variables.{value}
 
 -- ---- requests
-
--- at most so many requests of one class wait for a bus
-abbrev pub most_waiting : ℕ
-most_waiting = 64
 
 -- what a request came from: the task whose scan a worker has open
 abbrev pub kind_scanned : Plant → Option OpenScan → TaskKind

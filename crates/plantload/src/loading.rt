@@ -1,7 +1,13 @@
 //! Loading, step by step.
 
-ghost use Rattle.std.specs.Prelude.{◌≡◌, ◌<◌, length, Result, IfErr, IfOk, IfSome, slice_get};
+ghost use Rattle.std.specs.Prelude.{◌≡◌, ℕ, ◌<◌, length, Result, IfErr, IfOk, IfSome, slice_get};
 ghost use Rattle.std.specs.Arc.{arc_value};
+ghost use Rattle.ilblocks.specs.Stores.{Store};
+ghost use Rattle.ilsource.specs.Trees.{Tree};
+ghost use Rattle.ilplan.specs.PlanMeaning.{plan_scan};
+ghost use Rattle.ilsyms.specs.Meaning.{source_scan};
+ghost use Rattle.ilsyms.specs.Resolved.{planned_task};
+ghost use Rattle.ilsyms.specs.Tasks.{SourceTask};
 ghost use Rattle.ilcode.specs.Paths.{IsBound};
 ghost use Rattle.ilverify.specs.Certificates.{IsError};
 ghost use Rattle.plantload.specs.Loaded.{AreCodes, IsCodeOf, Loaded, listing_for};
@@ -30,6 +36,9 @@ use std::sync::Arc;
 pub fn load(alloc: Global, text: &[u8], binding: &Binding) -> Result<Setup, LoadFault>
     ensures setup { IfOk result (IsSetup binding.now text.now) }
     ensures fault { IfErr result (IsLoadFaultOrMemory (IsLoadFault binding.now text.now)) }
+    // A scan of a task of the plan leaves what a scan over the source program's names leaves.
+    ensures same_meaning { (tree : Tree) (buses : ℕ) (task : SourceTask) (store : Store)
+        → plan_scan buses (planned_task tree task) store ≡ source_scan tree buses task store }
     // A text has at most one answer, but for out of memory.
     ensures one { (a b : Result Loaded LoadFault) → IsLoaded binding.now text.now a
         → IsLoaded binding.now text.now b → a ≡ b }

@@ -15,12 +15,10 @@ use crate::activation::activation_by;
 use crate::setup::TaskSetup;
 use circular_buffer::HeapCircularBuffer;
 use daliframe::Frame24;
+use limits::MOST_PENDING;
 use plantevents::{Activator, PendingEvent};
 use std::alloc::{AllocError, Global};
 use std::marker::Model;
-
-/// The most events that are pending for a task.
-const MOST_PENDING: usize = 32;
 
 /// What is kept of one task.
 #[derive(Drop)]
@@ -41,7 +39,7 @@ pub(crate) struct TaskState {
 
 impl Model for TaskState {
     ghost use Rattle.std.specs.Prelude.{◌≡◌};
-    ghost use Rattle.plantevents.specs.Readiness.{most_pending};
+    ghost use Rattle.limits.specs.Limits.{most_pending};
     ghost use Rattle.taskset.specs.TaskSets.{KeptTask, HasInterval};
 
     ghost Value = { KeptTask };
