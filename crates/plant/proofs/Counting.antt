@@ -1,0 +1,38 @@
+-- How many places are kept after an event.
+use Rattle.std.proofs.Common.{◌≡◌, ◌≢◌, ℕ, zero, suc, ◌+◌, ◌<◌, Bool, true, false, List, [], ◌∷◌, length}
+use Rattle.std.proofs.Common.{refl, ap, ◌∙◌, arith, ⊎_elim, eqb}
+use Rattle.std.specs.Prelude.{if◌then◌else◌, slice_set, slice_index_or}
+use Rattle.std.proofs.lemmas.Bool.Decides.{eqb_tells}
+use Rattle.plant.specs.Shown.{count_below, count_true}
+
+abbrev one_if : Bool → ℕ
+one_if b = if b then 1 else 0
+
+-- tests that agree below n count the same
+pub count_same : (f g : ℕ → Bool) (n : ℕ) → ((i : ℕ) → i < n → g i ≡ f i) → count_below g n ≡ count_below f n
+count_same f g zero same = refl
+count_same f g (suc n) same =
+    let rest = count_same f g n (λ i lt. same i (omega arith)) in
+    let here : one_if (g n) ≡ one_if (f n) = ap one_if (same n (omega arith)) in omega arith
+
+-- one number passes no more
+pub count_less : (f g : ℕ → Bool) (n c : ℕ) → c < n → f c ≡ true → g c ≡ false
+    → ((i : ℕ) → i ≢ c → g i ≡ f i) → count_below g n + 1 ≡ count_below f n
+count_less f g zero c lt was is other = absurd (omega arith)
+count_less f g (suc n) c lt was is other =
+    ⊎_elim
+    (λ (k : (eqb n c ≡ true) × (n ≡ c)).
+    let rest = count_same f g n (λ i below. other i (omega (arith, k.1))) in
+    let before : one_if (f n) ≡ 1 = ap (λ m. one_if (f m)) k.1 ∙ ap one_if was in
+    let after : one_if (g n) ≡ 0 = ap (λ m. one_if (g m)) k.1 ∙ ap one_if is in omega arith)
+    (λ (k : (eqb n c ≡ false) × (n ≢ c)).
+    let rest = count_less f g n c (omega (arith, k.1)) was is other in
+    let here : one_if (g n) ≡ one_if (f n) = ap one_if (other n k.1) in omega arith)
+    (eqb_tells n c)
+
+-- a place of a list is set
+pub count_after_set : (bs : List Bool) (i : ℕ) (b : Bool) → i < length bs
+    → count_true (slice_set bs i b) + one_if (slice_index_or bs i false) ≡ count_true bs + one_if b
+count_after_set [] i b lt = absurd (omega arith)
+count_after_set (x ∷ bs) zero b lt = omega arith
+count_after_set (x ∷ bs) (suc i) b lt = let rest = count_after_set bs i b (omega arith) in omega arith

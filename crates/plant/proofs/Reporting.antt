@@ -1,0 +1,120 @@
+-- What is kept once a transaction was reported.
+use Rattle.std.proofs.Common.{◌≡◌, ◌≢◌, ⊎_elim, ℕ, eqb, ◌+◌, ◌-◌, ◌<◌, ◌≤◌, Bool, true, false, List, [], ◌∷◌}
+use Rattle.std.proofs.Common.{length, Option, Some, None, refl, sym, ap, ◌∙◌, subst, arith}
+use Rattle.std.proofs.lemmas.Bool.{ne_eqb}
+use Rattle.std.proofs.lemmas.Bool.Decides.{eqb_tells}
+use Rattle.std.specs.Prelude.{if◌then◌else◌}
+use Rattle.gearcmd.specs.FrameLists.{FrameList}
+use Rattle.transact.specs.Attempts.{ReportParts, IsReportParts}
+use Rattle.ilimage.specs.Images.{ProcessImage}
+use Rattle.plantevents.specs.declared.event.Event.{Event}
+use Rattle.plantevents.specs.declared.event.Event.TheVariants.{Tick, Heard, Take, Commit, Hand, Done, Down}
+use Rattle.plantevents.specs.Histories.{OpenHand, hand}
+use Rattle.plantevents.specs.Legal.{IsDone}
+use Rattle.taskset.specs.TaskSets.{Follows}
+use Rattle.plant.specs.Shown.{Shown, grown, kept, is_unreported, count_below}
+use Rattle.plant.specs.Matches.{IsOpenTransaction}
+use Rattle.plant.specs.KeptSteps.{KeptPlant, KeptBus, bus_at, BusesFollow, ImageFollows, Says}
+use Rattle.plant.proofs.Counting.{count_less}
+use Rattle.plant.proofs.Reports.{hand_short, report_short, frames_few}
+
+same_eqb : (b : ℕ) → eqb b b ≡ true
+same_eqb b = ⊎_elim (λ (k : (eqb b b ≡ true) × (b ≡ b)). k.0) (λ (k : (eqb b b ≡ false) × (b ≢ b)). absurd (k.1 refl))
+    (eqb_tells b b)
+
+-- ---- what is open was not reported
+
+handed_now : (same before : Bool) (here x : OpenHand) (o : Option OpenHand) → (o ≡ Some x → before ≡ true)
+    → (if same then Some here else o) ≡ Some x → (if same then true else before) ≡ true
+handed_now true before here x o earlier is = refl
+handed_now false before here x o earlier is = earlier is
+
+reported_now : (same before : Bool) (x : OpenHand) (o : Option OpenHand) → (o ≡ Some x → before ≡ true)
+    → (if same then None else o) ≡ Some x → (if same then false else before) ≡ true
+reported_now true before x o earlier is = absurd (cc)
+reported_now false before x o earlier is = earlier is
+
+closed_now : (same before : Bool) (x : OpenHand) (o : Option OpenHand) → (o ≡ Some x → before ≡ true)
+    → (if same then None else o) ≡ Some x → before ≡ true
+closed_now true before x o earlier is = absurd (cc)
+closed_now false before x o earlier is = earlier is
+
+open_unreported : (b : ℕ) (h : List Event) (x : OpenHand) → hand b h ≡ Some x → is_unreported b h ≡ true
+open_unreported b [] x is = absurd (cc)
+open_unreported b (Tick m ∷ h) x is = open_unreported b h x is
+open_unreported b (Heard c f ∷ h) x is = open_unreported b h x is
+open_unreported b (Take w t s ∷ h) x is = open_unreported b h x is
+open_unreported b (Commit w n r ∷ h) x is = open_unreported b h x is
+open_unreported b (Hand c s t ∷ h) x is =
+    handed_now (eqb c b) (is_unreported b h) (record { place = length h; origin = s; transaction = t }) x (hand b h)
+    (open_unreported b h x) is
+open_unreported b (Done c n r ∷ h) x is =
+    reported_now (eqb c b) (is_unreported b h) x (hand b h) (open_unreported b h x) is
+open_unreported b (Down c ∷ h) x is = closed_now (eqb c b) (is_unreported b h) x (hand b h) (open_unreported b h x) is
+
+-- one bus fewer waits for a report
+one_report_less : (p : Shown) (b n : ℕ) (r : ReportParts) → IsDone p.plant p.history b n r
+    → count_below (λ c. is_unreported c (Done b n r ∷ p.history)) p.plant.plan.buses + 1
+    ≡ count_below (λ c. is_unreported c p.history) p.plant.plan.buses
+one_report_less p b n r done =
+    count_less (λ c. is_unreported c p.history) (λ c. is_unreported c (Done b n r ∷ p.history)) p.plant.plan.buses b
+    done.known (open_unreported b p.history done.handed done.is_open)
+    (ap (λ (s : Bool). if s then false else is_unreported b p.history) (same_eqb b))
+    (λ c ne. ap (λ (s : Bool). if s then false else is_unreported c p.history) (ne_eqb b c (λ e. ne (sym e))))
+
+some_kept : (p : Shown) (b n : ℕ) (r : ReportParts) → IsDone p.plant p.history b n r → 1 ≤ kept p
+some_kept p b n r done = let l = one_report_less p b n r done in omega arith
+
+pub place_left : (p : Shown) (k : KeptPlant) (b n : ℕ) (r : ReportParts) → Says p k → IsDone p.plant p.history b n r
+    → 1 ≤ k.kept
+place_left p k b n r says done = let s = some_kept p b n r done in let e = says.places in omega arith
+
+-- the count of frames has room for those of the report
+pub frames_room : (p : Shown) (k : KeptPlant) (b n : ℕ) (r : ReportParts) → Says p k → IsDone p.plant p.history b n r
+    → (bus_at k.buses b).frames + length r.attempts < 18446744073709551616
+frames_room p k b n r says done =
+    let few = frames_few p.plant b p.history says.legal in
+    let e = (says.each_bus.1 b done.known).framed in
+    let short = report_short r done.report (subst (λ (t : FrameList). length t.frames ≤ 3) (sym done.transaction)
+    (hand_short p.plant b p.history done.handed says.legal done.is_open)) in
+    let w = says.within in let l = says.place in let m = says.most in omega arith
+
+-- ---- the report is one of the transaction that is open
+
+pub done_now : (p q : Shown) (b n : ℕ) (t : FrameList) (r : ReportParts) → p ≡ q → t ≡ r.transaction
+    → IsOpenTransaction q b n t → IsReportParts r → IsDone p.plant p.history b n r
+done_now p q b n t r same is open_there report =
+    let open_here : IsOpenTransaction p b n t =
+    subst (λ (s : Shown). IsOpenTransaction s b n t) (sym same) open_there in
+    record {
+      known = open_here.known;
+      handed = open_here.handed;
+      is_open = open_here.is_open;
+      place = sym open_here.number;
+      transaction = sym is ∙ open_here.same;
+      report = report;
+    }
+
+-- ---- all that is kept
+
+pub done_says : (p : Shown) (k : KeptPlant) (b n : ℕ) (r : ReportParts) (image : ProcessImage) (buses : List KeptBus)
+    → Says p k → IsDone p.plant p.history b n r → Follows p.plant (Done b n r ∷ p.history) k.tasks
+    → ImageFollows p.plant (Done b n r ∷ p.history) image → BusesFollow p.plant (Done b n r ∷ p.history) buses
+    → Says (grown p (Done b n r))
+    (record k { image = image; buses = buses; length = k.length + 1; kept = k.kept - 1 })
+done_says p k b n r image buses says done follows imaged run = record {
+  most = says.most;
+  legal = (done, says.legal);
+  each_task = follows;
+  each_variable = imaged;
+  each_source = (says.each_source.0, λ i lt. record { counted = (says.each_source.1 i lt).counted });
+  each_take = says.each_take;
+  each_worker = says.each_worker;
+  each_output = says.each_output;
+  each_bus = run;
+  each_place = says.each_place;
+  clock = says.clock;
+  place = let e = says.place in omega arith;
+  places = let e = says.places in let l = one_report_less p b n r done in omega arith;
+  within = let w = says.within in let e = says.places in let s = some_kept p b n r done in omega arith;
+}

@@ -1,0 +1,132 @@
+-- What is kept of a plant to which nothing has happened.
+use Rattle.std.proofs.Common.{◌≡◌, ℕ, zero, suc, ◌+◌, ◌<◌, ◌≤◌, Bool, true, false, List, [], ◌∷◌, ◌++◌, length}
+use Rattle.std.proofs.Common.{replicate, Option, None, refl, sym, ◌∙◌, subst, arith, below_more}
+use Rattle.std.proofs.Common.{length-append}
+use Rattle.std.proofs.lemmas.List.{get_or_append_left, get_or-replicate, length-replicate}
+use Rattle.std.proofs.Math.Seq.{get_or-append_seam}
+use Rattle.std.specs.Prelude.{slice_index_or}
+use Rattle.plantload.specs.Loaded.{Loaded}
+use Rattle.ilimage.specs.Images.{ProcessImage}
+use Rattle.plantevents.specs.declared.event.Event.{Event}
+use Rattle.plantevents.specs.Plants.{Plant, opening}
+use Rattle.plantevents.specs.Histories.{OpenScan}
+use Rattle.taskset.specs.TaskSets.{TaskSet, Follows}
+use Rattle.plant.specs.Shown.{opened, plant_of, kept, count_below, count_true, IsWorkerCount, IsLimit}
+use Rattle.plant.specs.declared.outputs.LevelOutput.{LevelOutput}
+use Rattle.plant.specs.OpeningSteps.{as_planned}
+use Rattle.plant.specs.OutputSteps.{planned, OutputsFollow}
+use Rattle.plant.specs.KeptSteps.{KeptBus, BusFollows, bus_at, no_bus, AreFresh, AreIdle, Says}
+
+-- one bus more
+pub fresh_more : (buses : List KeptBus) (n : ℕ) (bus : KeptBus) → AreFresh n buses
+    → ((p : Plant) (b : ℕ) → BusFollows p b [] bus) → AreFresh (n + 1) (buses ++ bus ∷ [])
+fresh_more buses n bus before new = (
+  (let e = before.0 in omega (arith, length-append buses (bus ∷ []))),
+  λ p. below_more (λ b. BusFollows p b [] (bus_at (buses ++ bus ∷ []) b)) n
+      (λ b lt. let inside : b < length buses = let e = before.0 in omega arith in
+      subst (BusFollows p b []) (sym (get_or_append_left buses (bus ∷ []) no_bus b inside)) (before.1 p b lt))
+      (subst (λ (m : ℕ). BusFollows p m [] (bus_at (buses ++ bus ∷ []) m)) before.0
+      (subst (BusFollows p (length buses) []) (sym (get_or-append_seam buses bus [] no_bus)) (new p (length buses)))),
+)
+
+-- one worker more
+pub idle_more : (scans : List (Option OpenScan)) (n : ℕ) → AreIdle n scans → AreIdle (n + 1) (scans ++ None ∷ [])
+idle_more scans n before = (
+  (let e = before.0 in omega (arith, length-append scans (None ∷ []))),
+  below_more (λ w. slice_index_or (scans ++ None ∷ []) w None ≡ None) n
+      (λ w lt. let inside : w < length scans = let e = before.0 in omega arith in
+      get_or_append_left scans (None ∷ []) None w inside ∙ before.1 w lt)
+      (subst (λ (m : ℕ). slice_index_or (scans ++ None ∷ []) m None ≡ None) before.0
+      (get_or-append_seam scans None [] None)),
+)
+
+-- ---- how many places are kept
+
+none_count : (n : ℕ) → count_below (λ i. false) n ≡ 0
+none_count zero = refl
+none_count (suc n) = let e = none_count n in omega arith
+
+all_count : (n : ℕ) → count_below (λ i. true) n ≡ n
+all_count zero = refl
+all_count (suc n) = let e = all_count n in omega arith
+
+none_true : (n : ℕ) → count_true (replicate n false) ≡ 0
+none_true zero = refl
+none_true (suc n) = let e = none_true n in omega arith
+
+kept_at_first : (setup : Loaded) (workers limit : ℕ) → setup.plan.buses ≡ kept (opened setup workers limit)
+kept_at_first setup workers limit =
+    let n = setup.plan.buses in let a = none_count workers in let b = none_count n in let c = all_count n in
+    let d = none_true n in omega arith
+
+-- ---- all that is kept
+
+pub opened_says : (setup : Loaded) (workers limit : ℕ) (tasks : TaskSet) (scans : List (Option OpenScan))
+    (buses : List KeptBus) (outputs : List (List (Option LevelOutput))) → IsWorkerCount workers → IsLimit limit → setup.plan.buses ≤ 16
+    → Follows (plant_of setup workers) [] tasks → AreIdle workers scans → AreFresh setup.plan.buses buses
+    → OutputsFollow (planned setup.plan) outputs
+    → Says (opened setup workers limit) (record {
+      tasks = tasks;
+      image = opening (plant_of setup workers);
+      counts = replicate (length setup.plan.sources) 0;
+      takes = replicate (length setup.plan.tasks) 0;
+      scans = scans;
+      buses = buses;
+      outputs = outputs;
+      moment = 0;
+      length = 0;
+      kept = setup.plan.buses;
+    })
+opened_says setup workers limit tasks scans buses outputs some within few follows idle fresh located = record {
+  most = within.1;
+  legal = tt;
+  each_task = follows;
+  each_variable = record { laid = refl; values = λ v. refl; instances = λ t. refl };
+  each_source = (
+    length-replicate (length setup.plan.sources) 0,
+    λ i lt. record { counted = get_or-replicate (length setup.plan.sources) i 0 0 lt },
+  );
+  each_take = (
+    length-replicate (length setup.plan.tasks) 0,
+    λ t lt. get_or-replicate (length setup.plan.tasks) t 0 0 lt,
+  );
+  each_worker = idle;
+  each_bus = (fresh.0, λ b lt. fresh.1 (plant_of setup workers) b lt);
+  each_output = located;
+  each_place = length-replicate setup.plan.buses false;
+  clock = refl;
+  place = refl;
+  places = kept_at_first setup workers limit;
+  within = let l = within.0 in omega arith;
+}
+
+-- as the code makes them
+pub kept_says : (setup : Loaded) (workers limit : ℕ) (history : List Event) (places : List Bool) (tasks : TaskSet)
+    (image : ProcessImage) (counts takes : List ℕ) (scans : List (Option OpenScan)) (buses : List KeptBus)
+    (outputs : List (List (Option LevelOutput))) (places_kept : ℕ)
+    → IsWorkerCount workers → IsLimit limit → setup.plan.buses ≤ 16 → history ≡ [] → places ≡ replicate
+    setup.plan.buses false
+    → Follows (plant_of setup workers) [] tasks → image ≡ opening (as_planned setup)
+    → counts ≡ replicate (length setup.plan.sources) 0 → takes ≡ replicate (length setup.plan.tasks) 0
+    → AreIdle workers scans → AreFresh setup.plan.buses buses → OutputsFollow (planned setup.plan) outputs → places_kept ≡ setup.plan.buses
+    → Says (record {
+      plant = plant_of setup workers;
+      limit = limit;
+      history = history;
+      reserved = record { clock = false; buses = places };
+    }) (record {
+      tasks = tasks;
+      image = image;
+      counts = counts;
+      takes = takes;
+      scans = scans;
+      buses = buses;
+      outputs = outputs;
+      moment = 0;
+      length = 0;
+      kept = places_kept;
+    })
+kept_says setup workers limit history places tasks image counts takes scans buses outputs places_kept some within few none
+    back follows first zeros untaken idle fresh located up =
+    rw (none, back, first, zeros, untaken, up) (opened_says setup workers limit tasks scans buses outputs some within few
+    follows idle fresh located)

@@ -1,0 +1,6 @@
+use Rattle.plant.specs.AnswerSteps.{answer_at}
+use Rattle.plant.proofs.GivenInputs.{AreGiven}
+use Rattle.plant.proofs.answers.write_answer.Given as goal
+
+abbrev pub invariant-loop-global : goal.invariant-loop-global
+invariant-loop-global l = AreGiven (answer_at l.plan l.bus l.origin l.outcome) l.fn.image l.image l.global

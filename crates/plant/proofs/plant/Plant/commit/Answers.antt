@@ -1,0 +1,44 @@
+use Rattle.std.proofs.Common.{List, sym, ap, ◌∙◌, subst}
+use Rattle.gearcmd.specs.declared.requests.Request.{Request}
+use Rattle.gearcmd.specs.declared.requests.TaskKind.{TaskKind}
+use Rattle.plantevents.specs.Plants.{kind_of}
+use Rattle.plant.specs.Shown.{Shown, plant_of}
+use Rattle.plant.specs.CommitSteps.{IsScanOfTask}
+use Rattle.plant.proofs.Committing.{scan_kept, commit_says}
+use Rattle.plant.proofs.Offered.{AreOffered, drop_room, buses_offered}
+use Rattle.plant.proofs.plant.Plant.commit.Goals as goal
+
+pub offer_all-requires-clause-countable : goal.offer_all-requires-clause-countable
+offer_all-requires-clause-countable c = λ b k lt.
+    drop_room _ _ b k c.outbox.result.now c.self.invariant lt c.outbox.ensures.few
+
+pub overflow_sub-self : goal.overflow_sub-self
+overflow_sub-self c =
+    let w = c.args.worker in let scan = c.args.scan in
+    let may = subst (λ (p : Shown). IsScanOfTask p w scan c.in-Some.task) (sym c.self.view_is)
+    c.in-Some.ensures.allowed in
+    scan_kept _ _ w scan.number scan c.self.invariant may.allowed
+
+pub invariant_of-self : goal.invariant_of-self
+invariant_of-self c =
+    let p = c.self.inside in let says = c.self.invariant in let plant = plant_of p.setup p.workers in
+    let h = p.history.items in let w = c.args.worker in let scan = c.args.scan in let t = c.in-Some.task in
+    let may = subst (λ (p : Shown). IsScanOfTask p w scan t) (sym c.self.view_is) c.in-Some.ensures.allowed in
+    let running = may.allowed.running in let is_open = may.allowed.is_open in
+    let before = p.buses.items in let after = c.offer_all.new.buses.items in
+    let kind = c.kind_of-kind.ensures.value plant (sym c.plan.ensures.value)
+    ∙ ap (kind_of plant) (sym may.task) in
+    let made : AreOffered c.kind_of-kind.result c.outbox.result.now before after = record {
+      count = c.offer_all.ensures.count;
+      waits = c.offer_all.ensures.waits;
+      drops = c.offer_all.ensures.drops;
+      same = c.offer_all.ensures.same;
+    } in
+    let offered = subst (λ (k : TaskKind). AreOffered k scan.after.requests before after) kind
+    (subst (λ (rs : List Request). AreOffered c.kind_of-kind.result rs before after) c.outbox.ensures.value made) in
+    rw (c.push.ensures, c.of-noted.ensures, c.number-number.ensures.value)
+    (commit_says _ _ w scan.number scan _ _ _ _ says may.allowed
+    (c.ended.ensures.follows plant w scan.number scan running h says.each_task is_open may.task)
+    (c.write_scan.ensures plant w scan.number running h says.each_variable is_open may.task)
+    (c.note_end.ensures plant scan.number scan h says.each_worker)
+    (buses_offered plant w scan.number running scan h before after is_open says.each_bus offered))

@@ -1,0 +1,45 @@
+use Rattle.std.proofs.Common.{◌≡◌, Some, refl, sym, subst, ap, ◌∙◌}
+use Rattle.transact.specs.declared.marks.Outcome.{Outcome}
+use Rattle.ilplan.specs.Plans.{Planned}
+use Rattle.ilimage.specs.Images.{value_of}
+use Rattle.plantevents.specs.Histories.{OpenHand, hand}
+use Rattle.plantevents.specs.Variables.{newest}
+use Rattle.plant.specs.Shown.{Shown, plant_of}
+use Rattle.plant.specs.AnswerSteps.{answer_at}
+use Rattle.plant.proofs.Answering.{image_done}
+use Rattle.plant.proofs.Reporting.{done_now, done_says, frames_room, place_left}
+use Rattle.plant.proofs.plant.Plant.done.Goals as goal
+
+pub note_report-requires-clause-few : goal.note_report-requires-clause-few
+note_report-requires-clause-few c =
+    let may = done_now _ _ c.args.bus c.args.number _ c.args.report c.self.view_is c.transaction.ensures.value
+    (c.in-Some.ensures.open.0 refl) c.transaction.ensures.legal in
+    frames_room _ _ c.args.bus c.args.number c.args.report c.self.invariant may
+
+pub overflow_sub-self : goal.overflow_sub-self
+overflow_sub-self c =
+    let may = done_now _ _ c.args.bus c.args.number _ c.args.report c.self.view_is c.transaction.ensures.value
+    (c.in-Some.ensures.open.0 refl) c.transaction.ensures.legal in
+    place_left _ _ c.args.bus c.args.number c.args.report c.self.invariant may
+
+pub invariant_of-self : goal.invariant_of-self
+invariant_of-self c =
+    let p = c.self.inside in let says = c.self.invariant in let b = c.args.bus in let n = c.args.number in
+    let report = c.args.report in let plant = plant_of p.setup p.workers in let h = p.history.items in
+    let may = done_now _ _ b n _ report c.self.view_is c.transaction.ensures.value (c.in-Some.ensures.open.0 refl)
+    c.transaction.ensures.legal in
+    let handed : OpenHand = record {
+      place = n;
+      origin = c.in-Some.origin;
+      transaction = c.transaction.result.now;
+    } in
+    let is = subst (λ (s : Shown). hand b s.history ≡ Some handed) (sym c.self.view_is) c.in-Some.ensures.origin in
+    let imaged = image_done plant b n report h handed p.image c.write_answer.new.image says.each_variable is
+    c.write_answer.ensures.layout
+    (λ v. c.write_answer.ensures.values v ∙ ap (λ o. newest o (value_of p.image v))
+    (ap (λ (x : Planned). answer_at x b handed.origin c.outcome.result v) c.plan.ensures.value
+    ∙ ap (λ (o : Outcome). answer_at plant.plan b handed.origin o v) c.outcome.ensures.value))
+    c.write_answer.ensures.blocks in
+    rw c.push.ensures (done_says _ _ b n report _ _ says may
+    (c.other_events_leave_tasks.ensures.done plant b n report h p.tasks says.each_task) imaged
+    (c.note_report.ensures plant n h says.each_bus))

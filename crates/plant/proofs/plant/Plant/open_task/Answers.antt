@@ -1,0 +1,14 @@
+use Rattle.std.proofs.Common.{ℕ, ◌<◌, refl, sym, subst, arith}
+use Rattle.plant.specs.Shown.{Shown}
+use Rattle.plant.specs.CommitSteps.{IsOpenScanOf}
+use Rattle.plant.proofs.Committing.{open_is}
+use Rattle.plant.proofs.plant.Plant.open_task.Goals as goal
+
+pub returns-then-came_to-clause-open : goal.returns-then-came_to-clause-open
+returns-then-came_to-clause-open c =
+    let w = c.args.worker in let scan = c.args.scan.now in let running = c.in-Some.running in
+    let known : w < c.self.inside.workers = omega arith in
+    let is = open_is _ _ w running c.index.result.now scan c.self.invariant known c.index.ensures c.in-Some.is
+    (c.if-came_to.ensures.0 refl) in
+    subst (λ (t : ℕ). IsOpenScanOf c.args.self.now w scan t) (sym c.task.ensures.value)
+    (subst (λ (p : Shown). IsOpenScanOf p w scan running.task) c.self.view_is is)

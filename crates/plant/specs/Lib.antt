@@ -1,0 +1,13 @@
+pub mod AnswerSteps
+pub mod CommitSteps
+pub mod HandingSteps
+pub mod InputSteps
+pub mod KeptSteps
+pub mod Matches
+pub mod OfferSteps
+pub mod OpeningSteps
+pub mod OutputSteps
+pub mod Refusals
+pub mod Rows
+pub mod Shown
+pub mod TakingSteps

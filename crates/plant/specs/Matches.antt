@@ -1,0 +1,23 @@
+-- What is open at a worker and at a bus, and so what may end there (profile).
+use Rattle.std.specs.Prelude.{◌≡◌, ℕ, ◌<◌, Some}
+use Rattle.gearcmd.specs.FrameLists.{FrameList}
+use Rattle.ilmachine.specs.Scans.{Scan}
+use Rattle.plantevents.specs.Histories as histories
+use Rattle.plantevents.specs.Histories.{OpenScan, OpenHand}
+use Rattle.plant.specs.Shown.{Shown}
+
+-- the worker has this scan open: it has the number of the scan that the worker took, and the same snapshot
+pub record IsOpenScan (p : Shown) (w : ℕ) (scan : Scan) : Type 0 where
+  pub known : w < p.plant.workers
+  pub running : OpenScan
+  pub is_open : histories.scan w p.history ≡ Some running
+  pub number : scan.number ≡ running.place
+  pub snapshot : scan.snapshot ≡ running.snapshot
+
+-- the bus has this transaction open, which was handed out under this number
+pub record IsOpenTransaction (p : Shown) (b n : ℕ) (transaction : FrameList) : Type 0 where
+  pub known : b < p.plant.plan.buses
+  pub handed : OpenHand
+  pub is_open : histories.hand b p.history ≡ Some handed
+  pub number : n ≡ handed.place
+  pub same : transaction ≡ handed.transaction

@@ -1,0 +1,18 @@
+-- Worked plants: what is refused at the end of a history, and that the clock does not go back.
+use Rattle.std.specs.Prelude.{ℕ, zero, suc, [], ◌+◌}
+use Rattle.ilplan.specs.Plans.{plan_of}
+use Rattle.plantload.specs.Loaded.{Loaded, loaded_of}
+use Rattle.plantevents.specs.declared.event.Event.TheVariants.{Tick}
+use Rattle.plant.specs.Shown.{Shown, opened, grown}
+
+-- one bus, no task
+abbrev pub idle_house : Loaded
+idle_house = loaded_of (plan_of [] 1 [] [] []) []
+
+abbrev pub quiet : Shown
+quiet = opened idle_house 1 100
+
+-- with ticks at 1 to n
+abbrev pub ticked : ℕ → Shown
+ticked zero = quiet
+ticked (suc n) = grown (ticked n) (Tick (n + 1))

@@ -1,0 +1,101 @@
+//! What events write to the process image.
+
+ghost use Rattle.std.specs.Prelude.{◌≡◌, ◌≢◌, ℕ, ◌+◌, ◌<◌, List, length, map, Some, None};
+ghost use Rattle.std.specs.Prelude.{IfSome};
+ghost use Rattle.std.specs.List.{position};
+ghost use Rattle.iltypes.specs.declared.value.IlType.{IlType};
+ghost use Rattle.ilimage.specs.Images.{Variable, layout_of, value_of, blocks_of};
+ghost use Rattle.ilimage.specs.Images.{Global as GlobalVariable};
+ghost use Rattle.ilimage.specs.Snapshots.{MayHave};
+ghost use Rattle.plantevents.specs.Variables.{newest};
+ghost use Rattle.plant.specs.InputSteps.{is_bound_at, written_by, input_at, IsWrittenAs};
+
+use crate::messages::information_from;
+use binding::BoundSource;
+use daliframe::Frame24;
+use ilimage::Image;
+use ilplan::{Location, Plan};
+use iltypes::Value;
+
+/// The number of the source that is bound at this place of a bus.
+fn source_number(sources: &[BoundSource], bus: u8, number: u8) -> Option<usize>
+    ensures value { result ≡ position (is_bound_at bus number) sources.now }
+{
+    sources
+        .iter()
+        .position(|bound| bound.bus == bus && bound.number == number)
+}
+
+/// What a frame that was heard on a bus writes to a variable that is located there, where `counts`
+/// has counted it.
+#[tactic(auto, using(crate::proofs::Fitting::within_up_to))]
+fn message_value(
+    sources: &[BoundSource],
+    counts: &[u16],
+    location: Location,
+    bus: u8,
+    frame: Frame24,
+) -> Option<Value>
+    requires { length counts.now ≡ length sources.now }
+    ensures value { result ≡ written_by sources.now counts.now bus frame location }
+    ensures in_type { (value_type : IlType) → IfSome result (IsWrittenAs value_type location) }
+{
+    let (own, number) = match location {
+        Location::Information { bus: own, source } | Location::Count { bus: own, source } => {
+            (own, source)
+        }
+        _ => return None,
+    };
+    let i = source_number(sources, own, number)?;
+    if own != bus {
+        return None;
+    }
+    let information = information_from(sources[i].source, frame)?;
+    match location {
+        Location::Count { .. } => Some(Value::Int(i64::from(counts[i]))),
+        _ => Some(Value::Int(i64::from(information))),
+    }
+}
+
+/// Gives a global variable this value, if there is one. It takes no memory.
+pub(crate) fn give(image: &mut Image, global: usize, value: Option<Value>)
+    requires { IfSome value (λ value. MayHave image.old.types global value) }
+    ensures layout { layout_of image.new ≡ layout_of image.old }
+    ensures written { value_of image.new (GlobalVariable global)
+        ≡ newest value (value_of image.old (GlobalVariable global)) }
+    ensures kept { (variable : Variable) → variable ≢ GlobalVariable global
+        → value_of image.new variable ≡ value_of image.old variable }
+    ensures blocks { (task : ℕ) → blocks_of image.new task ≡ blocks_of image.old task }
+{
+    if let Some(value) = value {
+        image.set_input(global, value);
+    }
+}
+
+/// What a frame that was heard on a bus writes to a global variable.
+fn message_to(plan: &Plan, counts: &[u16], global: usize, bus: u8, frame: Frame24) -> Option<Value>
+    requires known { global < length plan.now.globals }
+    requires each { length counts.now ≡ length plan.now.sources }
+    ensures value { result ≡ input_at plan.now counts.now bus frame (GlobalVariable global) }
+    ensures in_type { IfSome result (MayHave (map (λ g. g.value_type) plan.now.globals) global) }
+{
+    let _lawful = plan.buses();
+    let location = plan.global(global).location?;
+    message_value(plan.sources(), counts, location, bus, frame)
+}
+
+/// Writes the information and the count of each source that a frame, which was heard on a bus, is
+/// a message of. It takes no memory.
+pub(crate) fn write_message(plan: &Plan, counts: &[u16], image: &mut Image, bus: u8, frame: Frame24)
+    requires each { length counts.now ≡ length plan.now.sources }
+    requires types { image.old.types ≡ map (λ g. g.value_type) plan.now.globals }
+    ensures layout { layout_of image.new ≡ layout_of image.old }
+    ensures values { (v : Variable) → value_of image.new v
+        ≡ newest (input_at plan.now counts.now bus frame v) (value_of image.old v) }
+    ensures blocks { (task : ℕ) → blocks_of image.new task ≡ blocks_of image.old task }
+{
+    for global in 0..plan.globals() {
+        let value = message_to(plan, counts, global, bus, frame);
+        give(image, global, value);
+    }
+}

@@ -1,0 +1,298 @@
+//! The plant.
+
+ghost use Rattle.std.specs.Prelude.{◌≡◌, ◌+◌, ◌<◌, ◌≤◌, false, length, not, nat_lt, ◌&&◌};
+ghost use Rattle.std.specs.Prelude.{OnOk, OnErr, IfOk, IfErr};
+ghost use Rattle.plantevents.specs.declared.event.Event.TheVariants as event;
+ghost use Rattle.plantevents.specs.declared.role.Role.TheVariants as roles;
+ghost use Rattle.plantevents.specs.Histories.{moment as last_moment, is_down};
+ghost use Rattle.plantevents.specs.Legal.{AreLegal, IsUp};
+ghost use Rattle.plant.specs.Shown.{Shown, grown, reserving, is_full, opened};
+ghost use Rattle.plant.specs.Shown.{IsWorkerCount, IsLimit, IsOpenFault};
+ghost use Rattle.plant.specs.Refusals.{GivesFirst, tick_cases, may_tick_cases, heard_cases};
+ghost use Rattle.plant.specs.Refusals.{down_cases, is_full_for};
+
+mod committing;
+mod handing;
+mod owing;
+mod readers;
+mod reporting;
+mod taking;
+
+use crate::bus::{BusState, fresh_buses, note_down, note_heard};
+use crate::inputs::write_message;
+use crate::messages::count_message;
+use crate::open_fault::OpenFault;
+use crate::opening::first_image;
+use crate::outputs::{BusOutputs, outputs_of};
+use crate::place::{keep_place, keep_place_of, use_place, use_place_of};
+use crate::refusal::Refusal;
+use crate::running::{RunningScan, idle_workers};
+use crate::setups::task_setups;
+use daliframe::Frame24;
+pub use handing::Handed;
+use ilimage::Image;
+pub use limits::{LEAST_EVENTS as LEAST_LIMIT, MOST_EVENTS as MOST_LIMIT, MOST_WORKERS};
+use plantevents::Event;
+use plantload::Setup;
+use std::alloc::{AllocError, Global};
+use std::marker::Model;
+pub use taking::Order;
+use taskset::{Tasks, other_events_leave_tasks};
+use trace::Trace;
+
+/// A plan with its verified codes, scan workers and buses, as it runs. Its history has no bytes.
+#[derive(Drop)]
+pub struct Plant {
+    setup: Setup,
+    workers: usize,
+    limit: u64,
+    history: Trace<Event>,
+    tasks: Tasks,
+    image: Image,
+    /// How many messages of each source were heard, modulo 65,536.
+    counts: Vec<u16>,
+    /// How often each task was taken.
+    takes: Vec<u64>,
+    scans: Vec<Option<RunningScan>>,
+    buses: Vec<BusState>,
+    /// What is located at the levels of each bus.
+    outputs: Vec<BusOutputs>,
+    /// Whether a place is kept back for a tick, and for a frame of each bus.
+    clock_place: bool,
+    bus_places: Vec<bool>,
+    moment: u64,
+    /// How many events there were, and how many places are kept for events to come.
+    length: u64,
+    kept: u64,
+}
+
+impl Model for Plant {
+    ghost use Rattle.std.specs.Prelude.{List};
+    ghost use Rattle.std.specs.Coded.{codes, code_by};
+    ghost use Rattle.ilplan.specs.declared.place.Place.{Place};
+    ghost use Rattle.iltrees.specs.declared.nested.Piece.{Piece};
+    ghost use Rattle.iltrees.specs.Trees.{pieces_of};
+    ghost use Rattle.iltrees.specs.TreeSteps.{tree_of, tree_again};
+    ghost use Rattle.plant.specs.Shown.{Shown, plant_of};
+    ghost use Rattle.plant.specs.KeptSteps.{KeptPlant, Says};
+
+    ghost Value = { Shown };
+
+    ghost coded = { Prim.hlevel (
+      codes,
+      code_by (List (Piece Place)) (Prim.hlevel codes) pieces_of tree_of tree_again,
+    ) };
+
+    ghost view = { λ p. record {
+      plant = plant_of p.setup p.workers;
+      limit = p.limit;
+      history = p.history.items;
+      reserved = record { clock = p.clock_place; buses = p.bus_places.items };
+    } };
+
+    ghost invariant = { λ p. Says (record {
+      plant = plant_of p.setup p.workers;
+      limit = p.limit;
+      history = p.history.items;
+      reserved = record { clock = p.clock_place; buses = p.bus_places.items };
+    }) (record {
+      tasks = p.tasks;
+      image = p.image;
+      counts = p.counts.items;
+      takes = p.takes.items;
+      scans = p.scans.items;
+      buses = p.buses.items;
+      outputs = p.outputs.items;
+      moment = p.moment;
+      length = p.length;
+      kept = p.kept;
+    }) };
+}
+
+impl Plant {
+    /// A plant to which nothing has happened, with the memory of all that may wait and be pending.
+    ///
+    /// # Errors
+    ///
+    /// There are not 1 to 16 scan workers; else the limit is not 100 to 1,000,000; else the
+    /// allocator may be out of memory.
+    pub fn open(alloc: Global, setup: Setup, workers: usize, limit: u64) -> Result<Plant, OpenFault>
+        ensures opened { IfOk result (λ plant. plant ≡ opened setup workers limit) }
+        ensures workers { OnOk result (IsWorkerCount workers) }
+        ensures limit { OnOk result (IsLimit limit) }
+        ensures fault { IfErr result (IsOpenFault workers limit) }
+    {
+        if workers < 1 || workers > MOST_WORKERS {
+            return Err(OpenFault::BadCount);
+        }
+        if limit < LEAST_LIMIT || limit > MOST_LIMIT {
+            return Err(OpenFault::Limit);
+        }
+        Plant::fresh(alloc, setup, workers, limit).map_err(|_| OpenFault::Memory)
+    }
+
+    /// A plant to which nothing has happened.
+    fn fresh(alloc: Global, setup: Setup, workers: usize, limit: u64) -> Result<Plant, AllocError>
+        requires workers { IsWorkerCount workers }
+        requires limit { IsLimit limit }
+        ensures { IfOk result (λ plant. plant ≡ opened setup workers limit) }
+    {
+        let setups = task_setups(alloc, setup.plan())?;
+        let tasks = Tasks::new(alloc, &setups)?;
+        let image = first_image(alloc, &setup)?;
+        let buses = setup.plan().buses();
+        let counts = vec![in alloc; 0u16; setup.plan().sources().len()]?;
+        let takes = vec![in alloc; 0u64; setup.plan().tasks()]?;
+        let scans = idle_workers(alloc, workers)?;
+        let states = fresh_buses(alloc, buses)?;
+        let outputs = outputs_of(alloc, setup.plan())?;
+        let bus_places = vec![in alloc; false; usize::from(buses)]?;
+        Ok(Plant {
+            setup,
+            workers,
+            limit,
+            history: Trace::new(),
+            tasks,
+            image,
+            counts,
+            takes,
+            scans,
+            buses: states,
+            outputs,
+            clock_place: false,
+            bus_places,
+            moment: 0,
+            length: 0,
+            kept: u64::from(buses),
+        })
+    }
+
+    /// Raises the limit.
+    pub fn raise(&mut self, limit: u64)
+        requires above { self.old.limit ≤ limit }
+        requires most { limit ≤ 1000000 }
+        ensures { self.new ≡ record self.old { limit = limit } }
+    {
+        self.limit = limit;
+    }
+
+    /// Whether no place is left for an event and the one that it keeps.
+    fn is_full(&self) -> bool
+        ensures value { result ≡ is_full self.now }
+    {
+        self.limit < self.length + self.kept + 2
+    }
+
+    /// Keeps a place of the history back for a tick, until it is used.
+    pub fn may_tick(&mut self) -> Result<(), Refusal>
+        ensures refused { GivesFirst (may_tick_cases self.old) result }
+        ensures ok { OnOk result (self.new ≡ reserving roles.Clock self.old) }
+        ensures err { OnErr result (self.new ≡ self.old) }
+    {
+        if !self.clock_place && self.is_full() {
+            return Err(Refusal::Full);
+        }
+        keep_place(&mut self.clock_place, &mut self.kept);
+        Ok(())
+    }
+
+    /// Whether a tick to this moment is possible.
+    fn allows_tick(&self, moment: u64) -> Result<(), Refusal>
+        ensures refused { GivesFirst (tick_cases self.now moment) result }
+        ensures allowed { OnOk result ((last_moment self.now.history ≤ moment)
+            × (is_full_for roles.Clock self.now ≡ false)) }
+    {
+        if moment < self.moment {
+            return Err(Refusal::ClockBack);
+        }
+        if !self.clock_place && self.is_full() {
+            return Err(Refusal::Full);
+        }
+        Ok(())
+    }
+
+    /// Notes that it is this moment, in milliseconds.
+    pub fn tick(&mut self, moment: u64) -> Result<(), Refusal>
+        ensures refused { GivesFirst (tick_cases self.old moment) result }
+        ensures ok { OnOk result (self.new ≡ grown self.old (event.Tick moment)) }
+        ensures err { OnErr result (self.new ≡ self.old) }
+    {
+        self.allows_tick(moment)?;
+        self.tasks.tick(self.length, moment);
+        self.history.push(&Event::Tick { moment });
+        self.moment = moment;
+        use_place(&mut self.clock_place, &mut self.kept);
+        self.length += 1;
+        Ok(())
+    }
+
+    /// Whether there is such a bus that is not down.
+    fn is_up(&self, bus: u8) -> Result<(), Refusal>
+        ensures refused { GivesFirst (down_cases self.now bus) result }
+        ensures allowed { OnOk result (IsUp self.now.plant self.now.history bus) }
+    {
+        if bus >= self.setup.plan().buses() {
+            return Err(Refusal::Stranger);
+        }
+        if self.buses[usize::from(bus)].is_down {
+            return Err(Refusal::BusDown);
+        }
+        Ok(())
+    }
+
+    /// Closes a bus, and its transaction if one is open.
+    pub fn down(&mut self, bus: u8) -> Result<(), Refusal>
+        ensures refused { GivesFirst (down_cases self.old bus) result }
+        ensures ok { OnOk result (self.new ≡ grown self.old (event.Down bus)) }
+        ensures err { OnErr result (self.new ≡ self.old) }
+    {
+        self.is_up(bus)?;
+        other_events_leave_tasks();
+        note_down(&mut self.buses, bus);
+        self.history.push(&Event::Down { bus });
+        self.length += 1;
+        self.kept -= 1;
+        Ok(())
+    }
+
+    /// Keeps a place of the history back for a frame of a bus, until it is used.
+    pub fn may_hear(&mut self, bus: u8) -> Result<(), Refusal>
+        ensures refused { GivesFirst (heard_cases self.old bus) result }
+        ensures ok { OnOk result (self.new ≡ reserving (roles.Bus bus) self.old) }
+        ensures err { OnErr result (self.new ≡ self.old) }
+    {
+        self.allows_frame(bus)?;
+        keep_place_of(&mut self.bus_places, bus, &mut self.kept);
+        Ok(())
+    }
+
+    /// Whether a frame of a bus may be heard.
+    fn allows_frame(&self, bus: u8) -> Result<(), Refusal>
+        ensures refused { GivesFirst (heard_cases self.now bus) result }
+        ensures up { OnOk result (IsUp self.now.plant self.now.history bus) }
+        ensures room { OnOk result (is_full_for (roles.Bus bus) self.now ≡ false) }
+    {
+        self.is_up(bus)?;
+        if !self.bus_places[usize::from(bus)] && self.is_full() {
+            return Err(Refusal::Full);
+        }
+        Ok(())
+    }
+
+    /// Notes a frame that was heard on a bus.
+    pub fn heard(&mut self, bus: u8, frame: Frame24) -> Result<(), Refusal>
+        ensures refused { GivesFirst (heard_cases self.old bus) result }
+        ensures ok { OnOk result (self.new ≡ grown self.old (event.Heard bus frame)) }
+        ensures err { OnErr result (self.new ≡ self.old) }
+    {
+        self.allows_frame(bus)?;
+        self.tasks.heard(self.length, bus, frame);
+        count_message(self.setup.plan().sources(), &mut self.counts, bus, frame);
+        write_message(self.setup.plan(), &self.counts, &mut self.image, bus, frame);
+        note_heard(&mut self.buses, bus);
+        use_place_of(&mut self.bus_places, bus, &mut self.kept);
+        self.history.push(&Event::Heard { bus, frame });
+        self.length += 1;
+        Ok(())
+    }
+}

@@ -1,0 +1,100 @@
+//! What is read of a plant.
+
+ghost use Rattle.std.specs.Prelude.{◌≡◌, ◌≤◌, ◌<◌, length, Some};
+ghost use Rattle.ilimage.specs.Images.{Global as GlobalVariable};
+ghost use Rattle.busqueue.specs.Queues.{class_number};
+ghost use Rattle.plantevents.specs.Plants.{activator};
+ghost use Rattle.plantevents.specs.Histories.{frames, heards, scans};
+ghost use Rattle.plantevents.specs.Readiness.{lost};
+ghost use Rattle.plantevents.specs.Variables.{value};
+ghost use Rattle.plantevents.specs.Waiting.{dropped};
+ghost use Rattle.plantevents.specs.Legal.{AreLegal};
+
+use super::Plant;
+use busqueue::Class;
+use iltypes::Value;
+use plantload::Setup;
+
+impl Plant {
+    /// The plan with its verified codes.
+    pub fn setup(&self) -> &Setup
+        ensures plan { result.now.plan ≡ self.now.plant.plan }
+        ensures codes { result.now.codes ≡ self.now.plant.codes }
+    {
+        &self.setup
+    }
+
+    /// How many scan workers there are.
+    pub fn workers(&self) -> usize
+        ensures value { result ≡ self.now.plant.workers }
+    {
+        self.workers
+    }
+
+    /// The most events and places that are kept for events to come.
+    pub fn limit(&self) -> u64
+        ensures value { result ≡ self.now.limit }
+        ensures most { self.now.limit ≤ 1000000 }
+    {
+        self.limit
+    }
+
+    /// How many events there were.
+    pub fn len(&self) -> u64
+        ensures value { result ≡ length self.now.history }
+        ensures legal { AreLegal self.now.plant self.now.history }
+    {
+        self.length
+    }
+
+    /// The value of a global variable: what was written to it last, else its initial value.
+    pub fn value(&self, global: usize) -> Value
+        requires { global < length self.now.plant.plan.globals }
+        ensures value { value self.now.plant (GlobalVariable global) self.now.history
+            ≡ Some result }
+    {
+        let _values = self.image.values();
+        self.image.value(global)
+    }
+
+    /// How many requests of a class were dropped at a bus.
+    pub fn dropped(&self, bus: u8, class: Class) -> u64
+        requires { bus < self.now.plant.plan.buses }
+        ensures value { result
+            ≡ dropped self.now.plant bus (class_number class) self.now.history }
+    {
+        self.buses[usize::from(bus)].queues.dropped(class)
+    }
+
+    /// How many events were given up for a task, since 32 later ones came before it was taken.
+    pub fn lost(&self, task: usize) -> u64
+        requires { task < length self.now.plant.plan.tasks }
+        ensures value { result ≡ lost (activator self.now.plant task) task self.now.history }
+    {
+        self.tasks.lost(task)
+    }
+
+    /// How many frames are in the reports of a bus.
+    pub fn frames(&self, bus: u8) -> u64
+        requires { bus < self.now.plant.plan.buses }
+        ensures value { result ≡ frames bus self.now.history }
+    {
+        self.buses[usize::from(bus)].frames
+    }
+
+    /// How many frames were heard on a bus.
+    pub fn heards(&self, bus: u8) -> u64
+        requires { bus < self.now.plant.plan.buses }
+        ensures value { result ≡ heards bus self.now.history }
+    {
+        self.buses[usize::from(bus)].heards
+    }
+
+    /// How often a task was taken.
+    pub fn scans(&self, task: usize) -> u64
+        requires { task < length self.now.plant.plan.tasks }
+        ensures value { result ≡ scans task self.now.history }
+    {
+        self.takes[task]
+    }
+}

@@ -1,0 +1,51 @@
+//! Why calls are refused.
+
+use std::alloc::AllocError;
+
+/// Why a call of the plant was refused. A refused call changes nothing.
+#[derive(Clone, Copy, PartialEq, Eq, Debug)]
+pub enum Refusal {
+    /// 2: the moment is below the last one.
+    ClockBack,
+    /// 3: no task is ready without an open scan, or nothing is to be sent on the bus.
+    NothingReady,
+    /// 4: there is no such worker or bus, or what was given back is not what is open there.
+    Stranger,
+    /// 5: the worker has a scan open, or the bus a transaction.
+    Busy,
+    /// 6: the bus is down.
+    BusDown,
+    /// 7: the history has no place left beside those that are kept back.
+    Full,
+}
+
+/// Why no task was taken. The plant is unchanged.
+#[derive(Clone, Copy, PartialEq, Eq, Debug)]
+pub enum TakeError {
+    /// 1: the allocator is out of memory.
+    Memory,
+    /// The call was refused.
+    Refused(Refusal),
+}
+
+impl From<Refusal> for TakeError {
+    ghost use Rattle.std.specs.Prelude.{◌≡◌};
+    ghost use Rattle.plant.specs.declared.refusal.TakeError.TheVariants.{Refused};
+
+    ghost from_gives = { λ refusal error. error ≡ Refused refusal };
+
+    fn from(refusal: Refusal) -> Self {
+        TakeError::Refused(refusal)
+    }
+}
+
+impl From<AllocError> for TakeError {
+    ghost use Rattle.std.specs.Prelude.{◌≡◌};
+    ghost use Rattle.plant.specs.declared.refusal.TakeError.TheVariants.{Memory};
+
+    ghost from_gives = { λ _ error. error ≡ Memory };
+
+    fn from(_refused: AllocError) -> Self {
+        TakeError::Memory
+    }
+}

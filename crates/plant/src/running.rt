@@ -1,0 +1,95 @@
+//! Scans that are open.
+
+ghost use Rattle.std.specs.Prelude.{◌≡◌, ℕ, ◌+◌, ◌<◌, ◌^◌, ◌∷◌, List, IfOk, length, slice_index_or};
+ghost use Rattle.std.specs.Prelude.{◌↔◌, IsTrue};
+ghost use Rattle.ilimage.specs.Snapshots.{ScanStart};
+ghost use Rattle.ilmachine.specs.Scans.{Scan};
+ghost use Rattle.plantevents.specs.declared.event.Event.{Event};
+ghost use Rattle.plantevents.specs.declared.event.Event.TheVariants.{Take, Commit};
+ghost use Rattle.plantevents.specs.Plants.{Plant as Made};
+ghost use Rattle.plant.specs.CommitSteps.{IsOutcomeOf};
+ghost use Rattle.plant.specs.KeptSteps.{AreIdle, ScansFollow, TakesFollow};
+
+use ilimage::Snapshot;
+use ilmachine::ScanResult;
+use std::alloc::{AllocError, Global};
+use std::marker::Model;
+
+/// A scan that a worker has open.
+#[derive(Drop)]
+pub(crate) struct RunningScan {
+    /// The place of its Take in the history.
+    pub place: u64,
+    /// The number of its task.
+    pub task: usize,
+    /// What it began from.
+    pub snapshot: Snapshot,
+}
+
+impl Model for RunningScan {
+    ghost use Rattle.plantevents.specs.Histories.{OpenScan};
+
+    ghost Value = { OpenScan };
+
+    ghost view = { λ s. record { place = s.place; task = s.task; snapshot = s.snapshot } };
+}
+
+impl RunningScan {
+    /// Whether the scan that is open came to this one: it has its number and its snapshot.
+    pub fn came_to(&self, scan: &ScanResult) -> bool
+        ensures { IsTrue result ↔ IsOutcomeOf self.now scan.now }
+    {
+        self.place == scan.number() && scan.snapshot().is_same(&self.snapshot)
+    }
+
+    /// The number of its task.
+    pub fn task(&self) -> usize
+        ensures value { result ≡ self.now.task }
+    {
+        self.task
+    }
+}
+
+/// So many scan workers without a scan.
+pub(crate) fn idle_workers(
+    alloc: Global,
+    workers: usize,
+) -> Result<Vec<Option<RunningScan>>, AllocError>
+    ensures { IfOk result (λ scans. AreIdle workers scans.items) }
+{
+    let mut scans = Vec::new(alloc);
+    for _ in 0..workers {
+        scans.push(None)?;
+    }
+    Ok(scans)
+}
+
+/// Notes that a worker has a scan open.
+pub(crate) fn note_scan(scans: &mut Vec<Option<RunningScan>>, worker: usize, running: RunningScan)
+    requires { worker < length scans.old.items }
+    ensures { (p : Made) (h : List Event) → ScansFollow p h scans.old.items
+        → running.place ≡ length h
+        → ScansFollow p (Take worker running.task running.snapshot ∷ h) scans.new.items }
+{
+    scans[worker] = Some(running);
+}
+
+/// Notes that a worker has no scan open any more.
+pub(crate) fn note_end(scans: &mut Vec<Option<RunningScan>>, worker: usize)
+    requires { worker < length scans.old.items }
+    ensures { (p : Made) (n : ℕ) (result : Scan) (h : List Event)
+        → ScansFollow p h scans.old.items
+        → ScansFollow p (Commit worker n result ∷ h) scans.new.items }
+{
+    scans[worker] = None;
+}
+
+/// Notes that a task was taken.
+pub(crate) fn note_take(takes: &mut Vec<u64>, task: usize)
+    requires known { task < length takes.old.items }
+    requires few { slice_index_or takes.old.items task 0 + 1 < 2 ^ 64 }
+    ensures { (p : Made) (w : ℕ) (s : ScanStart) (h : List Event)
+        → TakesFollow p h takes.old.items → TakesFollow p (Take w task s ∷ h) takes.new.items }
+{
+    takes[task] += 1;
+}
