@@ -1,0 +1,7 @@
+mod Accepting
+mod Desks
+mod Empty
+mod Histories
+mod Meaning
+mod Runs
+mod Serving

@@ -1,0 +1,4 @@
+pub mod DeskSteps
+pub mod Runs
+pub mod Sending
+pub mod Texts
