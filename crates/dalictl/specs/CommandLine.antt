@@ -1,5 +1,5 @@
--- The command line (profile): `check FILE [--bind FILE]` and `step FILE TASK [--bind FILE] [--scans N] [--every MS]`,
--- with the reading of words that `clap` has.
+-- The command line (profile): `check FILE [--bind FILE]`, `step FILE TASK [--bind FILE] [--scans N] [--every MS]` and
+-- `play TEXT BIND SCENARIO [--limit N]`, with the reading of words that `clap` has.
 use Rattle.std.specs.Prelude.{◌≡◌, ℕ, ◌^◌, ◌<◌, List, [], Option, Some, None, true, pos, codes, option_map, unwrap_or}
 use Rattle.std.specs.Borrow.{Bor}
 use Rattle.std.specs.Str.Parse.{IsNumeral, digits_value, without_leading_plus}
@@ -9,8 +9,11 @@ use Rattle.clap.specs.Simple.{on_top}
 use Rattle.clap.specs.declared.builder.action.ArgAction.TheVariants.{Set}
 use Rattle.clap.specs.declared.builder.value_parser.ValueParser.TheVariants as parsers
 use Rattle.dalictl.specs.declared.options.Files.{Files}
+use Rattle.dalictl.specs.declared.options.Inquiry.{Inquiry}
+use Rattle.dalictl.specs.declared.options.Inquiry.TheVariants.{Check, Step}
 use Rattle.dalictl.specs.declared.options.Invocation.{Invocation}
-use Rattle.dalictl.specs.declared.options.Invocation.TheVariants.{Check, Step}
+use Rattle.dalictl.specs.declared.options.Invocation.TheVariants.{Ask, Play}
+use Rattle.dalictl.specs.declared.options.PlayFiles.{PlayFiles}
 
 -- ---- the words that are taken
 
@@ -39,11 +42,22 @@ step_command =
     with_rule (with_rule step_files (number_option (codes "scans") 1 1000000))
     (number_option (codes "every") 0 4294967295)
 
+abbrev pub play_files : App
+play_files =
+    with_rule (with_rule (with_rule (new_app (codes "play")) (wanted (codes "TEXT"))) (wanted (codes "BIND")))
+    (wanted (codes "SCENARIO"))
+
+abbrev pub play_command : App
+play_command = with_rule play_files (number_option (codes "limit") 100 1000000)
+
 abbrev pub program : App
 program = on_top (λ top. record top { subcommand_required = true }) (new_app (codes "dalictl"))
 
+abbrev pub inquiry_line : App
+inquiry_line = with_subcommand (with_subcommand program check_command.top) step_command.top
+
 abbrev pub command_line : App
-command_line = with_subcommand (with_subcommand program check_command.top) step_command.top
+command_line = with_subcommand inquiry_line play_command.top
 
 -- ---- what they say
 
@@ -71,11 +85,24 @@ pub record AreScans (found : List Row) (task : Bor Text) (scans every : ℕ) : T
   pub many : IsNumber 1 (one_of (codes "scans") found) scans
   pub apart : IsNumber 100 (one_of (codes "every") found) every
 
--- what was found under a command's name is the invocation
-abbrev pub IsOfCommand : Text → List Row → Invocation → Type 0
-IsOfCommand name found (Check files) = (name ≡ codes "check") × AreFiles found files
-IsOfCommand name found (Step files task scans every) =
+-- what was found under a command's name is the inquiry
+abbrev pub IsOfInquiry : Text → List Row → Inquiry → Type 0
+IsOfInquiry name found (Check files) = (name ≡ codes "check") × AreFiles found files
+IsOfInquiry name found (Step files task scans every) =
     ¬ (name ≡ codes "check") × AreFiles found files × AreScans found task scans every
+
+-- the files that are named for a played scenario
+pub record ArePlayFiles (found : List Row) (files : PlayFiles) : Type 0 where
+  pub text : files.text.now ≡ given (first_of (codes "TEXT") found)
+  pub binding : files.binding.now ≡ given (first_of (codes "BIND") found)
+  pub scenario : files.scenario.now ≡ given (first_of (codes "SCENARIO") found)
+
+-- what was found under a command's name is the invocation; a played history has 100,000 events at most where nothing
+-- else is said
+abbrev pub IsOfCommand : Text → List Row → Invocation → Type 0
+IsOfCommand name found (Play files limit) =
+    (name ≡ codes "play") × ArePlayFiles found files × IsNumber 100000 (one_of (codes "limit") found) limit
+IsOfCommand name found (Ask inquiry) = ¬ (name ≡ codes "play") × IsOfInquiry name found inquiry
 
 -- the words spell the invocation
 abbrev pub IsInvocation : List Text → Invocation → Type 0

@@ -2,7 +2,7 @@ pub mod Answered
 pub mod CommandLine
 pub mod Connected
 pub mod ExitStatuses
-pub mod Invocations
+pub mod Inquiries
 pub mod Printed
 pub mod Reports
 pub mod Responses

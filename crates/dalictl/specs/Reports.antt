@@ -11,7 +11,7 @@ use Rattle.ilplan.specs.Plans.{Planned, instance_name, slot_at, variable_name}
 use Rattle.plantload.specs.Loaded.{Loaded}
 use Rattle.dalictl.specs.declared.answers.Answer.{Answer}
 use Rattle.dalictl.specs.declared.answers.Answer.TheVariants as answers
-use Rattle.dalictl.specs.declared.options.Invocation.{Invocation}
+use Rattle.dalictl.specs.declared.options.Inquiry.{Inquiry}
 use Rattle.dalictl.specs.declared.exit_status.ExitStatus.{ExitStatus}
 use Rattle.dalictl.specs.declared.exit_status.ExitStatus.TheVariants.{Accepted}
 use Rattle.dalictl.specs.ExitStatuses.{status_of_stop}
@@ -92,10 +92,10 @@ abbrev pub status_of : Answer → ExitStatus
 status_of (answers.Stopped stop) = status_of_stop stop
 status_of answer = Accepted
 
--- what a writer held, and what it holds after: the lines of an answer to the invocation are new, and the program ends
+-- what a writer held, and what it holds after: the lines of an answer to the inquiry are new, and the program ends
 -- as after that answer
-abbrev pub IsReport : Invocation → Option (List ℕ) → List ℕ → Option (List ℕ) → Option (List ℕ) → ExitStatus
+abbrev pub IsReport : Inquiry → Option (List ℕ) → List ℕ → Option (List ℕ) → Option (List ℕ) → ExitStatus
     → Type 0
-IsReport invocation binding bytes before after status =
-    (answer : Answer) × IsAnswer invocation binding bytes answer × Appends before after (printed_answer answer)
+IsReport inquiry binding bytes before after status =
+    (answer : Answer) × IsAnswer inquiry binding bytes answer × Appends before after (printed_answer answer)
     × (status ≡ status_of answer)

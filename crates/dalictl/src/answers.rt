@@ -14,7 +14,7 @@ ghost use Rattle.dalictl.specs.Responses.{IsAnswer, IsMade};
 ghost use Rattle.dalictl.specs.Stepping.{AreScansOf, Run};
 ghost use Rattle.dalictl.specs.declared.stop.Stop.{Stop};
 
-use crate::options::Invocation;
+use crate::options::Inquiry;
 use crate::scans;
 use crate::scans::Scans;
 use crate::stepped::Stepped;
@@ -24,7 +24,7 @@ use ilplan::Plan;
 use plantload::{Setup, load, plan_of, setup_of};
 use std::alloc::{AllocError, Global};
 
-/// What an invocation is answered.
+/// What an inquiry is answered.
 #[derive(Drop)]
 pub enum Answer {
     Checked(Setup),
@@ -32,26 +32,26 @@ pub enum Answer {
     Stopped(Stop),
 }
 
-/// The answer to an invocation, of the bytes of a binding's file, if one is named, and of a text's.
-pub fn respond(alloc: Global, invocation: Invocation, binding: Option<&[u8]>, text: &[u8]) -> Answer
-    ensures { IsAnswer invocation.entry (option_copied binding.entry) text.now result }
+/// The answer to an inquiry, of the bytes of a binding's file, if one is named, and of a text's.
+pub fn respond(alloc: Global, inquiry: Inquiry, binding: Option<&[u8]>, text: &[u8]) -> Answer
+    ensures { IsAnswer inquiry.entry (option_copied binding.entry) text.now result }
 {
     match binding_of(alloc, binding) {
-        Ok(binding) => respond_under(alloc, &binding, invocation, text),
+        Ok(binding) => respond_under(alloc, &binding, inquiry, text),
         Err(stop) => Answer::Stopped(stop),
     }
 }
 
-/// The answer to an invocation under a binding.
-fn respond_under(alloc: Global, binding: &Binding, invocation: Invocation, text: &[u8]) -> Answer
-    ensures { IsMade binding.now text.now invocation.entry result }
+/// The answer to an inquiry under a binding.
+fn respond_under(alloc: Global, binding: &Binding, inquiry: Inquiry, text: &[u8]) -> Answer
+    ensures { IsMade binding.now text.now inquiry.entry result }
 {
-    match invocation {
-        Invocation::Check { .. } => match check(alloc, binding, text) {
+    match inquiry {
+        Inquiry::Check { .. } => match check(alloc, binding, text) {
             Ok(setup) => Answer::Checked(setup),
             Err(stop) => Answer::Stopped(stop),
         },
-        Invocation::Step {
+        Inquiry::Step {
             task,
             scans,
             every,

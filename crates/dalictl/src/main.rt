@@ -1,4 +1,5 @@
-//! The program `dalictl`: checks Instruction List texts and runs scans of their tasks.
+//! The program `dalictl`: checks Instruction List texts, runs scans of their tasks, and plays
+//! scenarios on simulated buses.
 //!
 //! A thin shell round proved calls: `options` reads the command line with `clap`
 //! (specs/CommandLine.antt), `serve` reads the files that it names, asks `answers`
@@ -13,6 +14,8 @@ mod exit_status;
 mod files;
 mod lines;
 mod options;
+mod play_stop;
+mod playing;
 mod report;
 mod scans;
 mod serve;

@@ -4,10 +4,11 @@ ghost use Rattle.std.specs.Prelude.{◌≡◌, IfOk, codes, false, map, string_b
 ghost use Rattle.clap.specs.Words.{FailsBy, app_of, fault_of, first_of, found_of, one_of, rows_of};
 ghost use Rattle.clap.specs.Words.{rule_of, shape_of};
 ghost use Rattle.clap.specs.declared.builder.command.Command.TheViews.{out-Command};
-ghost use Rattle.dalictl.specs.CommandLine.{AreFiles, IsNumber, IsOfCommand, IsInvocation};
-ghost use Rattle.dalictl.specs.CommandLine.{check_command, command_line, given};
-ghost use Rattle.dalictl.specs.CommandLine.{number_option, option, step_command, step_files};
-ghost use Rattle.dalictl.specs.CommandLine.{wanted};
+ghost use Rattle.dalictl.specs.CommandLine.{AreFiles, ArePlayFiles, IsNumber, IsInvocation};
+ghost use Rattle.dalictl.specs.CommandLine.{IsOfCommand, IsOfInquiry};
+ghost use Rattle.dalictl.specs.CommandLine.{check_command, command_line, given, inquiry_line};
+ghost use Rattle.dalictl.specs.CommandLine.{number_option, option, play_command, play_files};
+ghost use Rattle.dalictl.specs.CommandLine.{step_command, step_files, wanted};
 
 use clap::{Arg, ArgAction, ArgMatches, Command, Error};
 use std::alloc::{AllocError, Global};
@@ -15,6 +16,15 @@ use std::alloc::{AllocError, Global};
 /// What the user asks for.
 #[derive(Clone, Copy, PartialEq, Eq, Debug)]
 pub enum Invocation<'a> {
+    /// An answer to a text.
+    Ask(Inquiry<'a>),
+    /// `play TEXT BIND SCENARIO [--limit N]`
+    Play { files: PlayFiles<'a>, limit: u32 },
+}
+
+/// What the user asks of a text.
+#[derive(Clone, Copy, PartialEq, Eq, Debug)]
+pub enum Inquiry<'a> {
     /// `check FILE [--bind FILE]`
     Check {
         files: Files<'a>,
@@ -28,16 +38,16 @@ pub enum Invocation<'a> {
     },
 }
 
-impl<'a> Invocation<'a> {
+impl<'a> Inquiry<'a> {
     ghost use Rattle.std.specs.Prelude.{◌≡◌};
-    ghost use Rattle.dalictl.specs.Invocations.{files_of};
+    ghost use Rattle.dalictl.specs.Inquiries.{files_of};
 
     /// The files that the command reads.
     pub fn files(self) -> Files<'a>
         ensures { result ≡ files_of self.entry }
     {
         match self {
-            Invocation::Check { files } | Invocation::Step { files, .. } => files,
+            Inquiry::Check { files } | Inquiry::Step { files, .. } => files,
         }
     }
 }
@@ -49,6 +59,17 @@ pub struct Files<'a> {
     pub text: &'a str,
     /// The path of the binding; without it there is one bus.
     pub binding: Option<&'a str>,
+}
+
+/// The files that a played scenario reads.
+#[derive(Clone, Copy, PartialEq, Eq, Debug)]
+pub struct PlayFiles<'a> {
+    /// The path of the text.
+    pub text: &'a str,
+    /// The path of the binding.
+    pub binding: &'a str,
+    /// The path of the scenario.
+    pub scenario: &'a str,
 }
 
 /// The invocation that the words spell, of which the first is the program's name.
@@ -75,11 +96,24 @@ pub fn read<'a>(alloc: Global, words: &'a [String]) -> Result<Invocation<'a>, Er
 fn invocation_of<'a>(name: &str, found: &ArgMatches<'a>) -> Invocation<'a>
     ensures { IsOfCommand name.now (rows_of (found_of found.now)) result }
 {
+    if name == "play" {
+        return Invocation::Play {
+            files: play_files_in(found),
+            limit: number_in(found, "limit", 100_000),
+        };
+    }
+    Invocation::Ask(inquiry_of(name, found))
+}
+
+/// What is asked of a text, by what was found under the name of another command.
+fn inquiry_of<'a>(name: &str, found: &ArgMatches<'a>) -> Inquiry<'a>
+    ensures { IsOfInquiry name.now (rows_of (found_of found.now)) result }
+{
     let files = files_in(found);
     if name == "check" {
-        return Invocation::Check { files };
+        return Inquiry::Check { files };
     }
-    Invocation::Step {
+    Inquiry::Step {
         files,
         task: text_in(found, "TASK"),
         scans: number_in(found, "scans", 1),
@@ -94,6 +128,17 @@ fn files_in<'a>(found: &ArgMatches<'a>) -> Files<'a>
     Files {
         text: text_in(found, "FILE"),
         binding: found.get_str("bind"),
+    }
+}
+
+/// The files that are named for a played scenario.
+fn play_files_in<'a>(found: &ArgMatches<'a>) -> PlayFiles<'a>
+    ensures { ArePlayFiles (rows_of (found_of found.now)) result }
+{
+    PlayFiles {
+        text: text_in(found, "TEXT"),
+        binding: text_in(found, "BIND"),
+        scenario: text_in(found, "SCENARIO"),
     }
 }
 
@@ -120,8 +165,15 @@ fn number_in(found: &ArgMatches, id: &str, default: u32) -> u32
 fn command<'a>(alloc: Global) -> Result<Command<'a>, AllocError>
     ensures { IfOk result (λ c. app_of c ≡ command_line) }
 {
+    inquiries(alloc)?.subcommand(play(alloc)?)
+}
+
+fn inquiries<'a>(alloc: Global) -> Result<Command<'a>, AllocError>
+    ensures shape { IfOk result (λ c. app_of c ≡ inquiry_line) }
+    ensures local { IfOk result (λ c. (out-Command c).has_globals ≡ false) }
+{
     Command::new(alloc, "dalictl")
-        .about("Checks Instruction List programs for DALI-2 lighting buses, and runs their scans")
+        .about("Checks and runs Instruction List programs for DALI-2 lighting buses")
         .subcommand_required(true)
         .subcommand(check(alloc)?)?
         .subcommand(step(alloc)?)
@@ -155,6 +207,24 @@ fn step_files<'a>(alloc: Global) -> Result<Command<'a>, AllocError>
         .arg(binding(alloc))
 }
 
+fn play<'a>(alloc: Global) -> Result<Command<'a>, AllocError>
+    ensures shape { IfOk result (λ c. app_of c ≡ play_command) }
+    ensures local { IfOk result (λ c. (out-Command c).has_globals ≡ false) }
+{
+    play_files(alloc)?.arg(limit(alloc))
+}
+
+fn play_files<'a>(alloc: Global) -> Result<Command<'a>, AllocError>
+    ensures shape { IfOk result (λ c. app_of c ≡ play_files) }
+    ensures local { IfOk result (λ c. (out-Command c).has_globals ≡ false) }
+{
+    Command::new(alloc, "play")
+        .about("Plays a scenario on simulated buses and prints what happens")
+        .arg(played_text(alloc))?
+        .arg(played_binding(alloc))?
+        .arg(played_scenario(alloc))
+}
+
 fn text<'a>(alloc: Global) -> Arg<'a>
     ensures rule { rule_of result ≡ wanted (codes "FILE") }
     ensures local { result.global ≡ false }
@@ -184,6 +254,48 @@ fn binding<'a>(alloc: Global) -> Arg<'a>
         .value_name("FILE")
         .action(ArgAction::Set)
         .help("The binding of buses [default: one bus]")
+}
+
+fn played_text<'a>(alloc: Global) -> Arg<'a>
+    ensures rule { rule_of result ≡ wanted (codes "TEXT") }
+    ensures local { result.global ≡ false }
+{
+    Arg::new(alloc, "TEXT")
+        .required(true)
+        .action(ArgAction::Set)
+        .help("The text of the programs")
+}
+
+fn played_binding<'a>(alloc: Global) -> Arg<'a>
+    ensures rule { rule_of result ≡ wanted (codes "BIND") }
+    ensures local { result.global ≡ false }
+{
+    Arg::new(alloc, "BIND")
+        .required(true)
+        .action(ArgAction::Set)
+        .help("The binding of buses")
+}
+
+fn played_scenario<'a>(alloc: Global) -> Arg<'a>
+    ensures rule { rule_of result ≡ wanted (codes "SCENARIO") }
+    ensures local { result.global ≡ false }
+{
+    Arg::new(alloc, "SCENARIO")
+        .required(true)
+        .action(ArgAction::Set)
+        .help("What is on the buses and what happens there")
+}
+
+fn limit<'a>(alloc: Global) -> Arg<'a>
+    ensures rule { rule_of result ≡ number_option (codes "limit") 100 1000000 }
+    ensures local { result.global ≡ false }
+{
+    Arg::new(alloc, "limit")
+        .long("limit")
+        .value_name("N")
+        .action(ArgAction::Set)
+        .value_parser(clap::value_parser!(u32).range(100..=1_000_000))
+        .help("The most events of the history, 100 to 1000000 [default: 100000]")
 }
 
 fn scans<'a>(alloc: Global) -> Arg<'a>

@@ -1,4 +1,4 @@
-//! Serving an invocation: its files are read, and its answer is printed.
+//! Serving an inquiry: its files are read, and its answer is printed.
 
 ghost use Rattle.std.specs.Prelude.{IfErr, IfOk, IsSomeAnd, option_map};
 ghost use Rattle.std.specs.Option.{option_copied};
@@ -7,13 +7,13 @@ ghost use Rattle.dalictl.specs.Served.{IsGiven, IsNotRead, IsServed, IsUnserved}
 use crate::answers::respond;
 use crate::exit_status::ExitStatus;
 use crate::files::{Disk, Unread};
-use crate::options::Invocation;
+use crate::options::Inquiry;
 use crate::report;
 use std::alloc::Global;
 use std::io;
 use std::io::Write;
 
-/// Why an invocation isn't served.
+/// Why an inquiry isn't served.
 #[derive(Debug, Drop)]
 pub enum Unserved<'a> {
     /// A file wasn't read.
@@ -33,7 +33,7 @@ impl From<io::Error> for Unserved<'_> {
     }
 }
 
-/// Reads the files that the invocation names, the binding before the text, and prints the answer;
+/// Reads the files that the inquiry names, the binding before the text, and prints the answer;
 /// the writer, which then has every line, and how the program ends.
 ///
 /// # Errors
@@ -43,17 +43,17 @@ pub fn serve<'a, D: Disk, W: Write + Drop>(
     alloc: Global,
     disk: &D,
     to: W,
-    invocation: Invocation<'a>,
+    inquiry: Inquiry<'a>,
 ) -> Result<(W, ExitStatus), Unserved<'a>>
-    ensures served { IfOk result (λ done. IsServed (D.gives disk.now) invocation.entry
+    ensures served { IfOk result (λ done. IsServed (D.gives disk.now) inquiry.entry
         (W.contents to) (W.contents done.0) done.1) }
     ensures unserved { IfErr result
-        (IsUnserved (D.gives disk.now) (D.fails disk.now) invocation.entry) }
+        (IsUnserved (D.gives disk.now) (D.fails disk.now) inquiry.entry) }
 {
-    let files = invocation.files();
+    let files = inquiry.files();
     let binding = binding_at(alloc, disk, files.binding)?;
     let text = bytes_at(alloc, disk, files.text)?;
-    let answer = respond(alloc, invocation, binding.as_deref(), &text);
+    let answer = respond(alloc, inquiry, binding.as_deref(), &text);
     Ok(report::print(alloc, to, &answer)?)
 }
 
@@ -75,7 +75,11 @@ fn binding_at<'a, D: Disk>(
 }
 
 /// The bytes that the disk gives for a path.
-fn bytes_at<'a, D: Disk>(alloc: Global, disk: &D, path: &'a str) -> Result<Vec<u8>, Unserved<'a>>
+pub fn bytes_at<'a, D: Disk>(
+    alloc: Global,
+    disk: &D,
+    path: &'a str,
+) -> Result<Vec<u8>, Unserved<'a>>
     ensures given { IfOk result (λ bytes. D.gives disk.now path.now bytes.items) }
     ensures not_read { IfErr result (IsNotRead (D.fails disk.now) path.now) }
 {

@@ -2,9 +2,10 @@
 
 use crate::exit_status::ExitStatus;
 use crate::files::{HostDisk, Unread};
+use crate::options;
 use crate::options::Invocation;
-use crate::serve::Unserved;
-use crate::{options, serve};
+use crate::playing::serve_play;
+use crate::serve::{Unserved, serve};
 use std::rt::{Env, Files};
 use std::{env, io};
 
@@ -49,7 +50,14 @@ fn run_invocation<R: Files + Print + Eprint + AllocGlobal>(
     rt: &R,
     invocation: Invocation,
 ) -> ExitStatus {
-    match serve::serve(rt.alloc(), &HostDisk { rt }, io::writer(rt), invocation) {
+    let alloc = rt.alloc();
+    let disk = HostDisk { rt };
+    let out = io::writer(rt);
+    let served = match invocation {
+        Invocation::Ask(inquiry) => serve(alloc, &disk, out, inquiry),
+        Invocation::Play { files, limit } => serve_play(alloc, &disk, out, files, limit),
+    };
+    match served {
         Ok((_, status)) => status,
         Err(Unserved::NotRead { path, why }) => not_read(rt, path, why),
         Err(Unserved::NotPrinted(error)) => printed(rt, Err(error), ExitStatus::Failed),

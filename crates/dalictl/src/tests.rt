@@ -7,12 +7,18 @@ mod configurations;
 mod jumping;
 mod machine;
 mod numbers;
+mod playing;
 mod reading;
 mod running;
 mod serving;
+mod stairs;
 
+use crate::exit_status::ExitStatus;
+use crate::files::Disk;
 use crate::options;
-use crate::serve::serve;
+use crate::options::Invocation;
+use crate::playing::serve_play;
+use crate::serve::{Unserved, serve};
 use serving::Shelf;
 use std::alloc::{AllocError, Global};
 use std::test::Fail;
@@ -24,6 +30,20 @@ fn words(alloc: Global, line: &str) -> Result<Vec<String>, AllocError> {
         words.push(String::from_str(alloc, word)?)?;
     }
     Ok(words)
+}
+
+/// Serves an invocation; its lines, and how the program ends.
+fn serve_all<'a, D: Disk>(
+    alloc: Global,
+    disk: &D,
+    invocation: Invocation<'a>,
+) -> Result<(Vec<u8>, ExitStatus), Unserved<'a>> {
+    match invocation {
+        Invocation::Ask(inquiry) => serve(alloc, disk, Vec::new(alloc), inquiry),
+        Invocation::Play { files, limit } => {
+            serve_play(alloc, disk, Vec::new(alloc), files, limit)
+        }
+    }
 }
 
 /// A text, a command line without the program's name, the exit status and what is printed.
@@ -43,7 +63,7 @@ fn answers(alloc: Global, row: &Row) -> Result<bool, Fail> {
         return Err("it is an invocation".into());
     };
     let shelf = Shelf { text: row.text };
-    match serve(alloc, &shelf, Vec::new(alloc), invocation) {
+    match serve_all(alloc, &shelf, invocation) {
         Ok((lines, exit)) => {
             Ok(lines.as_slice() == row.printed.as_bytes() && exit.number() == row.status)
         }

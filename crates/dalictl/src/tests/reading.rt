@@ -1,7 +1,7 @@
 //! The command line: what words spell, with the defaults of options.
 
 use super::words;
-use crate::options::{Files, Invocation, read};
+use crate::options::{Files, Inquiry, Invocation, PlayFiles, read};
 use std::test::Fail;
 
 #[test]
@@ -15,28 +15,57 @@ fn options_have_their_defaults(rt: HostRuntime) -> Result<(), Fail> {
         text: "t.il",
         binding: Some("b"),
     };
+    let played = PlayFiles {
+        text: "t.il",
+        binding: "b",
+        scenario: "s",
+    };
     let table = [
-        ("dalictl check t.il", Invocation::Check { files }),
+        (
+            "dalictl check t.il",
+            Invocation::Ask(Inquiry::Check { files }),
+        ),
         (
             "dalictl check --bind b t.il",
-            Invocation::Check { files: bound },
+            Invocation::Ask(Inquiry::Check { files: bound }),
         ),
         (
             "dalictl step t.il main",
-            Invocation::Step {
+            Invocation::Ask(Inquiry::Step {
                 files,
                 task: "main",
                 scans: 1,
                 every: 100,
-            },
+            }),
         ),
         (
             "dalictl step t.il --every=0 main --scans 1000000 --bind b",
-            Invocation::Step {
+            Invocation::Ask(Inquiry::Step {
                 files: bound,
                 task: "main",
                 scans: 1_000_000,
                 every: 0,
+            }),
+        ),
+        (
+            "dalictl play t.il b s",
+            Invocation::Play {
+                files: played,
+                limit: 100_000,
+            },
+        ),
+        (
+            "dalictl play --limit 1000000 t.il b s",
+            Invocation::Play {
+                files: played,
+                limit: 1_000_000,
+            },
+        ),
+        (
+            "dalictl play t.il b --limit=100 s",
+            Invocation::Play {
+                files: played,
+                limit: 100,
             },
         ),
     ];
@@ -52,6 +81,12 @@ fn options_have_their_defaults(rt: HostRuntime) -> Result<(), Fail> {
         "dalictl step t.il main --scans 1000001",
         "dalictl step t.il",
         "dalictl run t.il",
+        "dalictl play t.il b",
+        "dalictl play t.il b s t",
+        "dalictl play t.il b s --limit 99",
+        "dalictl play t.il b s --limit 1000001",
+        "dalictl play t.il b s --limit x",
+        "dalictl play t.il b s --bind b",
     ] {
         let words = words(alloc, line)?;
         assert!(rt; read(alloc, &words).is_err(), "{line}");

@@ -1,9 +1,9 @@
 //! What is read, and in which order: the text and the binding on a disk that is held in memory.
 
-use super::{Row, answers, words};
+use super::{Row, answers, serve_all, words};
 use crate::files::{Disk, Unread};
 use crate::options;
-use crate::serve::{Unserved, serve};
+use crate::serve::Unserved;
 use std::alloc::Global;
 use std::test::Fail;
 
@@ -178,7 +178,7 @@ fn the_first_file_that_is_missing_is_reported(rt: HostRuntime) -> Result<(), Fai
         let Ok(invocation) = options::read(alloc, &words) else {
             return Err("it is an invocation".into());
         };
-        match serve(alloc, &shelf, Vec::new(alloc), invocation) {
+        match serve_all(alloc, &shelf, invocation) {
             Err(Unserved::NotRead { path, why }) => {
                 assert!(rt; path == missing && why == Unread::Failed, "{line}");
             }

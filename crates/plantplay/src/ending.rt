@@ -1,0 +1,62 @@
+//! What is left at the end of a play.
+
+ghost use Rattle.std.specs.Prelude.{◌<◌};
+
+use busqueue::Class;
+use plant::Plant;
+use std::io;
+use std::io::Write;
+
+/// The classes of requests, by their numbers.
+const CLASSES: [Class; 4] = [
+    Class::UserAction,
+    Class::Configuration,
+    Class::AutomaticAction,
+    Class::Query,
+];
+
+/// Writes the values of all global variables, then how many requests were dropped at each bus, and
+/// how many events were given up for each task, where there were any.
+pub(crate) fn write_end<W: Write>(out: &mut W, plant: &Plant) -> io::Result<()> {
+    write_globals(out, plant)?;
+    for bus in 0..plant.setup().plan().buses() {
+        write_dropped(out, plant, bus)?;
+    }
+    write_lost(out, plant)
+}
+
+/// A line for each global variable, with its value.
+fn write_globals<W: Write>(out: &mut W, plant: &Plant) -> io::Result<()> {
+    let plan = plant.setup().plan();
+    for global in 0..plan.globals() {
+        let name = plan.global_name(global);
+        let value = plant.value(global);
+        writeln!(out, "{name} = {value}")?;
+    }
+    Ok(())
+}
+
+/// A line for each class of which requests were dropped at a bus, with their number.
+fn write_dropped<W: Write>(out: &mut W, plant: &Plant, bus: u8) -> io::Result<()>
+    requires { bus < plant.now.plant.plan.buses }
+{
+    for class in CLASSES {
+        let dropped = plant.dropped(bus, class);
+        if dropped > 0 {
+            writeln!(out, "dropped {bus} {} {dropped}", class.number())?;
+        }
+    }
+    Ok(())
+}
+
+/// A line for each task for which events were given up, with their number.
+fn write_lost<W: Write>(out: &mut W, plant: &Plant) -> io::Result<()> {
+    let plan = plant.setup().plan();
+    for task in 0..plan.tasks() {
+        let lost = plant.lost(task);
+        if lost > 0 {
+            writeln!(out, "lost {} {lost}", plan.task_name(task))?;
+        }
+    }
+    Ok(())
+}

@@ -1,0 +1,74 @@
+//! Installations of simulated buses.
+
+use crate::Installation;
+use crate::connection::Connection;
+use daliframe::BusNumber;
+use plant::{OpenFault, Plant};
+use plantload::Setup;
+use simbus::{BusSetup, Scenario, SimBus};
+use std::alloc::{AllocError, Global};
+use std::fmt;
+
+/// One scan worker plays.
+const WORKERS: usize = 1;
+
+/// Why an installation can't start.
+#[derive(Clone, Copy, PartialEq, Eq, Debug)]
+pub enum StartFault {
+    /// The allocator had no memory for the simulated buses.
+    Memory,
+    /// The plant wasn't opened.
+    Plant(OpenFault),
+}
+
+impl fmt::Display for StartFault {
+    fn fmt<W: fmt::Write>(&self, f: &mut fmt::Formatter<W>) -> fmt::Result {
+        match self {
+            StartFault::Memory => write!(f, "no memory"),
+            StartFault::Plant(OpenFault::Memory) => write!(f, "cannot start 1"),
+            StartFault::Plant(OpenFault::BadCount) => write!(f, "cannot start 2"),
+            StartFault::Plant(OpenFault::Limit) => write!(f, "cannot start 7"),
+        }
+    }
+}
+
+impl From<AllocError> for StartFault {
+    fn from(_refused: AllocError) -> Self {
+        StartFault::Memory
+    }
+}
+
+/// A plant of this setup and limit to which nothing has happened, with one scan worker, on the
+/// simulated buses of a scenario.
+///
+/// # Errors
+///
+/// The allocator is out of memory, or the limit is not 100 to 1,000,000.
+pub fn open(
+    alloc: Global,
+    setup: Setup,
+    scenario: &Scenario,
+    limit: u64,
+) -> Result<Installation<SimBus>, StartFault> {
+    let connections = connections_of(alloc, setup.plan().buses(), scenario)?;
+    match Plant::open(alloc, setup, WORKERS, limit) {
+        Ok(plant) => Ok(Installation { plant, connections }),
+        Err(fault) => Err(StartFault::Plant(fault)),
+    }
+}
+
+/// The simulated buses of a scenario, of which there are so many.
+fn connections_of(
+    alloc: Global,
+    buses: u8,
+    scenario: &Scenario,
+) -> Result<Vec<Connection<SimBus>>, AllocError> {
+    let mut connections = Vec::new(alloc);
+    for bus in 0..buses {
+        if let Some(number) = BusNumber::new(bus) {
+            let setup = BusSetup::of(alloc, scenario, number)?;
+            connections.push(Connection::new(bus, SimBus::new(alloc, setup)?))?;
+        }
+    }
+    Ok(connections)
+}

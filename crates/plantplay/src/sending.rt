@@ -1,0 +1,64 @@
+//! Transactions on a bus.
+
+use crate::connection::Connection;
+use crate::halt::Halt;
+use crate::lines::{OutcomeLine, TransactionLine};
+use buslink::Bus;
+use plant::{Plant, Refusal};
+use plantdrive::{SendError, send_next};
+use std::io::Write;
+use transact::{Outcome, Report};
+
+impl<B: Bus> Connection<B> {
+    /// Is handed what waits and sends that, until nothing waits. Whether anything did.
+    pub(crate) fn send_all<W: Write>(
+        &mut self,
+        plant: &mut Plant,
+        out: &mut W,
+    ) -> Result<bool, Halt> {
+        let mut any = false;
+        for _ in 0..plant.limit() {
+            if !self.send_next(plant, out)? {
+                return Ok(any);
+            }
+            any = true;
+        }
+        Ok(any)
+    }
+
+    /// Is handed the next transaction, and sends it. Whether there was one.
+    fn send_next<W: Write>(&mut self, plant: &mut Plant, out: &mut W) -> Result<bool, Halt> {
+        match send_next(plant, self.bus, &mut self.interface) {
+            Ok(performed) => {
+                self.follow(plant, out, &performed.report)?;
+                Ok(true)
+            }
+            Err(SendError::Memory) => Err(Halt::Memory),
+            Err(SendError::Refused(Refusal::Full)) => Err(Halt::Limit),
+            Err(SendError::Refused(_)) => Ok(false),
+        }
+    }
+
+    /// Writes a transaction and what became of it. Where the interface failed, the bus goes down.
+    fn follow<W: Write>(
+        &mut self,
+        plant: &mut Plant,
+        out: &mut W,
+        report: &Report,
+    ) -> Result<(), Halt> {
+        let handed = TransactionLine {
+            bus: self.bus,
+            transaction: report.transaction(),
+        };
+        let done = OutcomeLine {
+            bus: self.bus,
+            outcome: report.outcome(),
+        };
+        writeln!(out, "hand {handed}")?;
+        writeln!(out, "done {done}")?;
+        if report.outcome() == Outcome::Failed {
+            self.put_down(plant, out)?;
+        }
+        Ok(())
+    }
+}
