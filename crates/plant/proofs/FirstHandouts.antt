@@ -22,7 +22,8 @@ use Rattle.plantevents.specs.declared.event.Origin.TheVariants.{Queued, Output}
 use Rattle.plantevents.specs.Plants.{Plant}
 use Rattle.plantevents.specs.Histories.{scan}
 use Rattle.plantevents.specs.Waiting.{OwedLevel, Handout, is_for, is_queued, after_offer, after_offers, kind_scanned}
-use Rattle.plantevents.specs.Waiting.{most_waiting, waiting, owed, owed_at, numbers_below, request_handout, level_handout}
+use Rattle.plantevents.specs.Waiting.{most_waiting, waiting, owed, owed_at, numbers_below, request_handout}
+use Rattle.plantevents.specs.Waiting.{level_handout}
 use Rattle.plantevents.specs.Waiting.{class_handouts}
 use Rattle.plantevents.proofs.Handing.{first_given}
 use Rattle.plant.specs.declared.next.Next.{Next}
@@ -148,9 +149,11 @@ none_owed p b c h none = ap (λ l. slice_get (map (level_handout c) l) 0) (none_
 
 -- ---- the request, else the level
 
-pub first_chosen : (p : Plant) (b : ℕ) (class : Class) (h : List Event) (request : Option Request) (level next : Option Next)
+pub first_chosen : (p : Plant) (b : ℕ) (class : Class) (h : List Event) (request : Option Request)
+    (level next : Option Next)
     → request ≡ slice_get (waiting p b (class_number class) h) 0
-    → slice_get (map (level_handout (class_number class)) (owed p b (class_number class) h)) 0 ≡ option_map handout_of level
+    → slice_get (map (level_handout (class_number class)) (owed p b (class_number class) h)) 0
+    ≡ option_map handout_of level
     → next ≡ first_by class request level
     → slice_get (class_handouts p b h (class_number class)) 0 ≡ option_map handout_of next
 first_chosen p b class h None level next waits owes is =
@@ -165,7 +168,8 @@ fits : (class : Class) (next : Option Next) (o : Option Next) → o ≡ next
     → IfSome next (λ x. IsOfClass x.class x.origin) → IfSome o (λ x. IsOfClass x.class x.origin)
 fits class next o same is = subst (λ (x : Option Next). IfSome x (λ y. IsOfClass y.class y.origin)) (sym same) is
 
-pub class_chosen : (p : Plant) (b : ℕ) (class : Class) (h : List Event) (request : Option Request) (level next : Option Next)
+pub class_chosen : (p : Plant) (b : ℕ) (class : Class) (h : List Event) (request : Option Request)
+    (level next : Option Next)
     → request ≡ slice_get (waiting p b (class_number class) h) 0
     → IfSome level (λ x. IsOfClass x.class x.origin) → next ≡ first_by class request level
     → IfSome next (λ x. IsOfClass x.class x.origin)

@@ -62,7 +62,8 @@ kept_at_first setup workers limit =
 -- ---- all that is kept
 
 pub opened_says : (setup : Loaded) (workers limit : ℕ) (tasks : TaskSet) (scans : List (Option OpenScan))
-    (buses : List KeptBus) (outputs : List (List (Option LevelOutput))) → IsWorkerCount workers → IsLimit limit → setup.plan.buses ≤ 16
+    (buses : List KeptBus) (outputs : List (List (Option LevelOutput))) → IsWorkerCount workers → IsLimit limit
+    → setup.plan.buses ≤ 16
     → Follows (plant_of setup workers) [] tasks → AreIdle workers scans → AreFresh setup.plan.buses buses
     → OutputsFollow (planned setup.plan) outputs
     → Says (opened setup workers limit) (record {
@@ -108,7 +109,8 @@ pub kept_says : (setup : Loaded) (workers limit : ℕ) (history : List Event) (p
     setup.plan.buses false
     → Follows (plant_of setup workers) [] tasks → image ≡ opening (as_planned setup)
     → counts ≡ replicate (length setup.plan.sources) 0 → takes ≡ replicate (length setup.plan.tasks) 0
-    → AreIdle workers scans → AreFresh setup.plan.buses buses → OutputsFollow (planned setup.plan) outputs → places_kept ≡ setup.plan.buses
+    → AreIdle workers scans → AreFresh setup.plan.buses buses → OutputsFollow (planned setup.plan) outputs
+    → places_kept ≡ setup.plan.buses
     → Says (record {
       plant = plant_of setup workers;
       limit = limit;
