@@ -11,7 +11,7 @@ all_words rows = flat_map (λ row. row) rows
 
 -- the table of the reserved words, each after its spelling
 unfoldable pub reserved_words : List (List ℕ × Keyword)
-reserved_words = all_words (map (λ row. map (λ k. (k.0.now, k.1)) row.now) RESERVED_WORDS)
+reserved_words = all_words (map (λ row. map (λ k. (k.0.now, k.1)) row.now) RESERVED_WORDS.now)
 
 -- the text is the word's spelling, in any letter case
 pub record IsSpelled (text : List ℕ) (word : Keyword) : Type 0 where

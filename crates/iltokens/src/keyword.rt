@@ -126,7 +126,7 @@ pub enum Keyword {
 }
 
 /// How each reserved word is spelled: a row for each first letter, from A to Z.
-pub const RESERVED_WORDS: [&[(&[u8], Keyword)]; 26] = [
+pub const RESERVED_WORDS: &[&[(&[u8], Keyword)]; 26] = &[
     &[
         (b"AND", Keyword::And),
         (b"ANDN", Keyword::Andn),
@@ -312,7 +312,7 @@ fn lookup_by_letter(rows: &[&[(&[u8], Keyword)]], text: &[u8]) -> Option<Keyword
 fn word_of(text: &[u8]) -> Option<Keyword>
     ensures { result ≡ keyword text.now }
 {
-    lookup_by_letter(&RESERVED_WORDS, text)
+    lookup_by_letter(RESERVED_WORDS, text)
 }
 
 /// The reserved word that a text is, in any letter case.
