@@ -15,8 +15,12 @@ pub(crate) struct Connection<B> {
 }
 
 impl<B> Connection<B> {
+    ghost use Rattle.std.specs.Prelude.{◌≡◌, false};
+
     /// The bus of this number with its interface, to which nothing has happened.
-    pub(crate) fn new(bus: u8, interface: B) -> Self {
+    pub(crate) fn new(bus: u8, interface: B) -> Self
+        ensures { result ≡ record { bus = bus; interface = interface; is_down = false } }
+    {
         Connection {
             bus,
             interface,

@@ -16,8 +16,12 @@ pub struct Installation<B> {
 }
 
 impl<B: Bus> Installation<B> {
+    ghost use Rattle.std.specs.Prelude.{◌≡◌};
+
     /// The plant.
-    pub fn plant(&self) -> &Plant {
+    pub fn plant(&self) -> &Plant
+        ensures value { result.now ≡ self.now.plant }
+    {
         &self.plant
     }
 

@@ -4,8 +4,8 @@
 //! as a line.
 //!
 //! What crosses the boundary: [`Installation`], a plant with a bus interface for each of its buses;
-//! [`open`] makes one of simulated buses, and [`play`] plays a scenario on it and says how that
-//! ended.
+//! [`open`] makes one of simulated buses (`specs/Installations.antt`, the definition to read
+//! first), and [`play`] plays a scenario on it and says how that ended.
 //!
 //! ```text
 //! let mut installation = open(alloc, setup, &scenario, limit)?;

@@ -1,5 +1,10 @@
 //! Installations of simulated buses.
 
+ghost use Rattle.std.specs.Prelude.{◌≡◌, ◌≤◌, IfErr, IfOk};
+ghost use Rattle.limits.specs.Limits.{most_buses};
+ghost use Rattle.plantplay.specs.Installations.{IsInstallation, IsStartFault};
+ghost use Rattle.plantplay.specs.Installations.{connection_of, connections_of};
+
 use crate::Installation;
 use crate::connection::Connection;
 use daliframe::BusNumber;
@@ -33,6 +38,11 @@ impl fmt::Display for StartFault {
 }
 
 impl From<AllocError> for StartFault {
+    ghost use Rattle.std.specs.Prelude.{◌≡◌};
+    ghost use Rattle.plantplay.specs.declared.opening.StartFault.TheVariants.{Memory};
+
+    ghost from_gives = { λ _ fault. fault ≡ Memory };
+
     fn from(_refused: AllocError) -> Self {
         StartFault::Memory
     }
@@ -49,7 +59,10 @@ pub fn open(
     setup: Setup,
     scenario: &Scenario,
     limit: u64,
-) -> Result<Installation<SimBus>, StartFault> {
+) -> Result<Installation<SimBus>, StartFault>
+    ensures installation { IfOk result (IsInstallation setup scenario.now limit) }
+    ensures fault { IfErr result (IsStartFault limit) }
+{
     let connections = connections_of(alloc, setup.plan().buses(), scenario)?;
     match Plant::open(alloc, setup, WORKERS, limit) {
         Ok(plant) => Ok(Installation { plant, connections }),
@@ -57,18 +70,32 @@ pub fn open(
     }
 }
 
-/// The simulated buses of a scenario, of which there are so many.
+/// The first simulated buses of a scenario, so many.
 fn connections_of(
     alloc: Global,
     buses: u8,
     scenario: &Scenario,
-) -> Result<Vec<Connection<SimBus>>, AllocError> {
+) -> Result<Vec<Connection<SimBus>>, AllocError>
+    requires { buses ≤ most_buses }
+    ensures { IfOk result (λ made. made.items ≡ connections_of scenario.now buses) }
+{
     let mut connections = Vec::new(alloc);
     for bus in 0..buses {
         if let Some(number) = BusNumber::new(bus) {
-            let setup = BusSetup::of(alloc, scenario, number)?;
-            connections.push(Connection::new(bus, SimBus::new(alloc, setup)?))?;
+            connections.push(connection_of(alloc, scenario, number)?)?;
         }
     }
     Ok(connections)
+}
+
+/// The simulated bus of a scenario with this number, on which nothing happened.
+fn connection_of(
+    alloc: Global,
+    scenario: &Scenario,
+    bus: BusNumber,
+) -> Result<Connection<SimBus>, AllocError>
+    ensures { IfOk result (λ made. made ≡ connection_of scenario.now bus) }
+{
+    let setup = BusSetup::of(alloc, scenario, bus)?;
+    Ok(Connection::new(bus.number(), SimBus::new(alloc, setup)?))
 }
