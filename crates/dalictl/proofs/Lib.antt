@@ -6,4 +6,5 @@ mod MeantScans
 mod OneStep
 mod Parsed
 mod ReportedLines
+mod ScenarioFaults
 mod TaskNames

@@ -2,8 +2,11 @@
 use Rattle.std.specs.Prelude.{ℕ}
 use Rattle.clap.specs.declared.error.ErrorKind.{ErrorKind}
 use Rattle.clap.specs.declared.error.ErrorKind.TheVariants as kinds
+use Rattle.scenario.specs.declared.fault.ScenarioFault.TheVariants as scenario_faults
 use Rattle.dalictl.specs.declared.exit_status.ExitStatus.{ExitStatus}
 use Rattle.dalictl.specs.declared.exit_status.ExitStatus.TheVariants.{Accepted, Refused, Misused, Failed}
+use Rattle.dalictl.specs.declared.play_stop.PlayStop.{PlayStop}
+use Rattle.dalictl.specs.declared.play_stop.PlayStop.TheVariants as play_stops
 use Rattle.dalictl.specs.declared.stop.Stop.{Stop}
 use Rattle.dalictl.specs.declared.stop.Stop.TheVariants as stops
 
@@ -25,3 +28,11 @@ status_of_words _ = Misused
 abbrev pub status_of_stop : Stop → ExitStatus
 status_of_stop stops.Memory = Failed
 status_of_stop _ = Refused
+
+-- of what stands against playing a scenario: what stands against the text, as above; the scenario is out of memory, or
+-- a line of it is at fault; the installation does not start
+abbrev pub status_of_play_stop : PlayStop → ExitStatus
+status_of_play_stop (play_stops.Text stop) = status_of_stop stop
+status_of_play_stop (play_stops.Scenario scenario_faults.Memory) = Failed
+status_of_play_stop (play_stops.Scenario (scenario_faults.At line cause)) = Refused
+status_of_play_stop (play_stops.Start fault) = Failed

@@ -3,6 +3,7 @@ pub mod CommandLine
 pub mod Connected
 pub mod ExitStatuses
 pub mod Inquiries
+pub mod Plays
 pub mod Printed
 pub mod Reports
 pub mod Responses

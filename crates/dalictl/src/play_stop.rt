@@ -18,8 +18,13 @@ pub enum PlayStop {
 }
 
 impl PlayStop {
+    ghost use Rattle.std.specs.Prelude.{◌≡◌};
+    ghost use Rattle.dalictl.specs.ExitStatuses.{status_of_play_stop};
+
     /// How the program ends.
-    pub fn status(&self) -> ExitStatus {
+    pub fn status(&self) -> ExitStatus
+        ensures { result ≡ status_of_play_stop self.now }
+    {
         match self {
             PlayStop::Text(stop) => ExitStatus::of_stop(stop),
             PlayStop::Scenario(ScenarioFault::At { .. }) => ExitStatus::Refused,
@@ -39,18 +44,33 @@ impl fmt::Display for PlayStop {
 }
 
 impl From<Stop> for PlayStop {
+    ghost use Rattle.std.specs.Prelude.{◌≡◌};
+    ghost use Rattle.dalictl.specs.declared.play_stop.PlayStop.TheVariants.{Text};
+
+    ghost from_gives = { λ stop play_stop. play_stop ≡ Text stop };
+
     fn from(stop: Stop) -> Self {
         PlayStop::Text(stop)
     }
 }
 
 impl From<ScenarioFault> for PlayStop {
+    ghost use Rattle.std.specs.Prelude.{◌≡◌};
+    ghost use Rattle.dalictl.specs.declared.play_stop.PlayStop.TheVariants.{Scenario};
+
+    ghost from_gives = { λ fault play_stop. play_stop ≡ Scenario fault };
+
     fn from(fault: ScenarioFault) -> Self {
         PlayStop::Scenario(fault)
     }
 }
 
 impl From<StartFault> for PlayStop {
+    ghost use Rattle.std.specs.Prelude.{◌≡◌};
+    ghost use Rattle.dalictl.specs.declared.play_stop.PlayStop.TheVariants.{Start};
+
+    ghost from_gives = { λ fault play_stop. play_stop ≡ Start fault };
+
     fn from(fault: StartFault) -> Self {
         PlayStop::Start(fault)
     }

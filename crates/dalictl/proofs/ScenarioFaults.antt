@@ -1,0 +1,19 @@
+-- What bytes come to as a scenario, as one fact.
+use Rattle.std.proofs.Common.{◌≡◌, ◌↔◌, Result, Ok, Err, ℕ, List, refl}
+use Rattle.std.specs.Str.Lines.{lines}
+use Rattle.scenario.specs.declared.statements.Statement.{Statement}
+use Rattle.scenario.specs.declared.fault.ScenarioCause.TheVariants.{BadLine, TooLong}
+use Rattle.scenario.specs.declared.fault.ScenarioFault.{ScenarioFault}
+use Rattle.scenario.specs.declared.fault.ScenarioFault.TheVariants.{Memory, At}
+use Rattle.scenario.specs.Scenarios.{IsScenario, IsBadScenario, IsTooLong, AddsSome, IsJudged}
+
+pub judged : (bytes : List ℕ) (r : Result (List Statement) ScenarioFault)
+    → ((statements : List Statement) → r ≡ Ok statements → IsScenario bytes statements)
+    → ((line : ℕ) → r ≡ Err (At line BadLine) → IsBadScenario bytes line)
+    → ((line : ℕ) → (r ≡ Err (At line TooLong)) ↔ IsTooLong bytes line)
+    → (r ≡ Err Memory → AddsSome (lines bytes))
+    → IsJudged bytes r
+judged bytes (Ok statements) good bad long memory = good statements refl
+judged bytes (Err Memory) good bad long memory = memory refl
+judged bytes (Err (At line BadLine)) good bad long memory = bad line refl
+judged bytes (Err (At line TooLong)) good bad long memory = (long line).0 refl
