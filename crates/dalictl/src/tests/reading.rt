@@ -2,80 +2,92 @@
 
 use super::words;
 use crate::options::{Files, Inquiry, Invocation, PlayFiles, read};
+use std::alloc::Global;
 use std::test::Fail;
 
+const FILES: Files<'static> = Files {
+    text: "t.il",
+    binding: None,
+};
+
+const BOUND_FILES: Files<'static> = Files {
+    text: "t.il",
+    binding: Some("b"),
+};
+
+const PLAY_FILES: PlayFiles<'static> = PlayFiles {
+    text: "t.il",
+    binding: "b",
+    scenario: "s",
+};
+
+/// The invocation that a line spells.
+fn invocation<'a>(alloc: Global, words: &'a [String]) -> Result<Invocation<'a>, Fail> {
+    match read(alloc, words) {
+        Ok(invocation) => Ok(invocation),
+        Err(_) => Err("it is an invocation".into()),
+    }
+}
+
 #[test]
-fn options_have_their_defaults(rt: HostRuntime) -> Result<(), Fail> {
+fn inquiries_have_their_defaults(rt: HostRuntime) -> Result<(), Fail> {
     let alloc = rt.alloc();
-    let files = Files {
-        text: "t.il",
-        binding: None,
-    };
-    let bound = Files {
-        text: "t.il",
-        binding: Some("b"),
-    };
-    let played = PlayFiles {
-        text: "t.il",
-        binding: "b",
-        scenario: "s",
-    };
     let table = [
-        (
-            "dalictl check t.il",
-            Invocation::Ask(Inquiry::Check { files }),
-        ),
+        ("dalictl check t.il", Inquiry::Check { files: FILES }),
         (
             "dalictl check --bind b t.il",
-            Invocation::Ask(Inquiry::Check { files: bound }),
+            Inquiry::Check { files: BOUND_FILES },
         ),
         (
             "dalictl step t.il main",
-            Invocation::Ask(Inquiry::Step {
-                files,
+            Inquiry::Step {
+                files: FILES,
                 task: "main",
                 scans: 1,
                 every: 100,
-            }),
+            },
         ),
         (
             "dalictl step t.il --every=0 main --scans 1000000 --bind b",
-            Invocation::Ask(Inquiry::Step {
-                files: bound,
+            Inquiry::Step {
+                files: BOUND_FILES,
                 task: "main",
                 scans: 1_000_000,
                 every: 0,
-            }),
-        ),
-        (
-            "dalictl play t.il b s",
-            Invocation::Play {
-                files: played,
-                limit: 100_000,
-            },
-        ),
-        (
-            "dalictl play --limit 1000000 t.il b s",
-            Invocation::Play {
-                files: played,
-                limit: 1_000_000,
-            },
-        ),
-        (
-            "dalictl play t.il b --limit=100 s",
-            Invocation::Play {
-                files: played,
-                limit: 100,
             },
         ),
     ];
     for (line, wanted) in table {
         let words = words(alloc, line)?;
-        match read(alloc, &words) {
-            Ok(invocation) => assert!(rt; invocation == wanted, "{line}"),
-            Err(_) => return Err("it is an invocation".into()),
-        }
+        assert!(rt;
+            invocation(alloc, &words)? == Invocation::Ask(wanted),
+            "{line}"
+        );
     }
+    Ok(())
+}
+
+#[test]
+fn plays_have_their_default(rt: HostRuntime) -> Result<(), Fail> {
+    let alloc = rt.alloc();
+    for (line, limit) in [
+        ("dalictl play t.il b s", 100_000),
+        ("dalictl play --limit 1000000 t.il b s", 1_000_000),
+        ("dalictl play t.il b --limit=100 s", 100),
+    ] {
+        let words = words(alloc, line)?;
+        let wanted = Invocation::Play {
+            files: PLAY_FILES,
+            limit,
+        };
+        assert!(rt; invocation(alloc, &words)? == wanted, "{line}");
+    }
+    Ok(())
+}
+
+#[test]
+fn other_words_are_no_invocation(rt: HostRuntime) -> Result<(), Fail> {
+    let alloc = rt.alloc();
     for line in [
         "dalictl step t.il main --scans 0",
         "dalictl step t.il main --scans 1000001",
