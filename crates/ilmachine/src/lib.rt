@@ -16,10 +16,13 @@
 #![tactic(auto)]
 
 mod flat;
+mod left;
+mod loaded;
 mod machine;
 mod outbox;
 mod scans;
 mod state;
+mod waiting;
 mod word;
 
 pub use scans::{ScanResult, Work, scan, scan_into};

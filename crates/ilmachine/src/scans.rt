@@ -3,6 +3,7 @@
 ghost use Rattle.std.specs.Prelude.{◌≡◌, IfOk};
 ghost use Rattle.ilmachine.specs.Scans.{IsScan, store_of};
 
+use crate::left::Left;
 use crate::machine::run;
 use crate::state::State;
 use gearcmd::Request;
@@ -37,7 +38,7 @@ pub struct ScanResult {
     number: u64,
     snapshot: Snapshot,
     steps: u32,
-    state: State,
+    left: Left,
 }
 
 impl Model for ScanResult {
@@ -49,10 +50,10 @@ impl Model for ScanResult {
       number = r.number;
       snapshot = r.snapshot;
       steps = r.steps;
-      after = r.state;
+      after = r.left;
     } };
 
-    ghost invariant = { λ r. IsScan r.snapshot.verified (store_of r.snapshot) r.steps r.state };
+    ghost invariant = { λ r. IsScan r.snapshot.verified (store_of r.snapshot) r.steps r.left };
 }
 
 impl Work {
@@ -98,14 +99,14 @@ impl ScanResult {
         ensures run { IsScan self.now.snapshot.verified (store_of self.now.snapshot)
             self.now.steps self.now.after }
     {
-        self.state.values()
+        self.left.values()
     }
 
     /// What each block instance keeps at the end of the run.
     pub fn blocks(&self) -> &[BlockState]
         ensures value { result.now ≡ self.now.after.blocks }
     {
-        self.state.blocks()
+        self.left.blocks()
     }
 
     /// The requests of the scan, in the order of their calls.
@@ -113,7 +114,7 @@ impl ScanResult {
         ensures value { result.now ≡ self.now.after.requests }
         ensures few { length result.now ≤ most_requests }
     {
-        self.state.requests()
+        self.left.requests()
     }
 
     /// The number of steps of the run, one a word: no more than the bound of its code.
@@ -133,7 +134,7 @@ impl ScanResult {
             (record { slots = result.1.items; blocks = result.2.items }) }
         ensures run { IsScan self.snapshot.verified (store_of self.snapshot) self.steps self.after }
     {
-        let (values, blocks) = self.state.into_lasting();
+        let (values, blocks) = self.left.into_lasting();
         (self.snapshot, values, blocks)
     }
 
@@ -163,7 +164,7 @@ pub fn scan_into(work: Work) -> ScanResult
         number,
         snapshot,
         steps,
-        state,
+        left: state.end(),
     }
 }
 

@@ -5,8 +5,9 @@
 //! run ends and makes few requests, and the bound is the greatest number of words on a path
 //! (`IsVerified`, specs/Verdicts.antt, to be read first). The verdict is defined by certificates
 //! (specs/Certificates.antt): an entry for each word, consistent by the rules of `ilranges`; and by
-//! the calls of request blocks on each path (specs/Requests.antt). A `Verified` has its words in the
-//! form in which the machine runs them, too ([`Flat`], specs/FlatWords.antt).
+//! the calls of request blocks on each path (specs/Requests.antt). A `Verified` has its words and
+//! its constants in the form in which the machine runs them, too ([`Flat`], specs/FlatWords.antt, and
+//! `ilcells::Cell`).
 //!
 //! ```text
 //! let verified = verify(alloc, code)?;
