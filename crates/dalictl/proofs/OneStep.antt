@@ -1,7 +1,6 @@
 -- Scans of a task of a text have one answer at most.
-use Rattle.std.proofs.Common.{◌≡◌, ℕ, zero, suc, ◌+◌, ◌*◌, ◌<◌, List, [], ◌∷◌, ◌++◌, length, Option, Some, None}
-use Rattle.std.proofs.Common.{Result, Ok, Err, refl, sym, ap, ◌∙◌, subst, arith, inl, inr}
-use Rattle.std.specs.Prelude.{slice_get}
+use Rattle.std.proofs.Common.{◌≡◌, ℕ, zero, suc, ◌*◌, List, [], ◌∷◌, ◌++◌}
+use Rattle.std.proofs.Common.{Result, Ok, Err, sym, ap, ◌∙◌, subst, arith, inl, inr}
 use Rattle.std.proofs.lemmas.Bool.{cases_lt}
 use Rattle.ilblocks.specs.Stores.{Lasting, Store, lasting_of, store_at}
 use Rattle.ilplan.specs.Plans.{Planned, PlannedTask}
@@ -9,14 +8,14 @@ use Rattle.ilcode.proofs.RunPaths.{one_end}
 use Rattle.ilverify.specs.Verdicts.{Accepted}
 use Rattle.binding.specs.Wirings.{Wiring}
 use Rattle.plantload.specs.Loaded.{Loaded}
-use Rattle.plantload.specs.Loading.{IsLoadFault, IsPlanOfText, IsSetup}
+use Rattle.plantload.specs.Loading.{IsLoadFault, IsPlanOfText}
 use Rattle.plantload.specs.declared.fault.LoadFault.{LoadFault}
 use Rattle.plantload.specs.declared.fault.LoadFault.TheVariants as load_faults
 use Rattle.plantload.proofs.OneAnswer.{no_fault, same_fault, same_plan, same_setup, none_against}
 use Rattle.dalictl.specs.Taking.{Taking}
 use Rattle.dalictl.specs.declared.stop.Stop.{Stop}
 use Rattle.dalictl.specs.declared.stop.Stop.TheVariants.{Memory, Binding, Load, NoTask}
-use Rattle.dalictl.specs.Answered.{IsAfterName, IsChecked, IsFirstCalled, IsStep, IsStepStop, IsStepped, NoneIsCalled}
+use Rattle.dalictl.specs.Answered.{IsAfterName, IsChecked, IsFirstCalled, IsStep, IsStepped, NoneIsCalled}
 use Rattle.dalictl.specs.Stepping.{AreScansOf, IsScanAt, Run, ScansTo, lasting_at_first}
 
 -- ---- scans

@@ -1,8 +1,7 @@
 -- One text more, one line more.
-use Rattle.std.proofs.Common.{◌≡◌, ℕ, ◌+◌, List, [], ◌∷◌, ◌++◌, length, Option, Some, None, option_map, refl, add-one}
-use Rattle.std.proofs.Common.{sym, ap, ◌∙◌, take, get_or, ◌<◌}
+use Rattle.std.proofs.Common.{◌≡◌, ℕ, ◌+◌, List, [], ◌++◌, length, Option, Some, None, option_map, refl, add-one}
+use Rattle.std.proofs.Common.{sym, ap, take, get_or, ◌<◌}
 use Rattle.std.proofs.lemmas.List.{append_assoc, flat_map_more, take_more}
-use Rattle.std.specs.List.{flat_map}
 use Rattle.std.specs.Option.{option_and_then}
 use Rattle.std.specs.Io.KnownBytes.{Appends}
 use Rattle.iltypes.specs.declared.value.Value.{Value}
