@@ -18,6 +18,3 @@ mod sources;
 pub use binding::Binding;
 pub use fault::{BindCause, BindFault};
 pub use sources::BoundSource;
-
-#[cfg(test)]
-mod tests;

@@ -6,7 +6,7 @@ ghost use Rattle.binding.specs.Wirings.{IsAt};
 use dalievent::Source;
 
 /// A source of events that is bound at a place of a bus.
-#[derive(Clone, Copy, Debug, PartialEq, Eq)]
+#[derive(Clone, Copy, PartialEq, Eq)]
 pub struct BoundSource {
     /// The bus, counted from 0, below the number of buses of its binding.
     pub bus: u8,

@@ -1,5 +1,5 @@
 //! Faults of a bus interface.
 
 /// The bus interface failed.
-#[derive(Clone, Copy, Debug, PartialEq, Eq)]
+#[derive(Clone, Copy, PartialEq, Eq)]
 pub struct Fault;

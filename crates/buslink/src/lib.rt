@@ -10,8 +10,6 @@ mod buses;
 mod clocks;
 mod faults;
 mod performing;
-#[cfg(test)]
-mod tests;
 
 pub use buses::Bus;
 pub use clocks::Clock;

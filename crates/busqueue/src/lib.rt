@@ -13,8 +13,6 @@
 mod class;
 mod class_queue;
 mod queues;
-#[cfg(test)]
-mod tests;
 
 pub use class::Class;
 pub use queues::Queues;

@@ -5,7 +5,5 @@
 #![tactic(auto)]
 
 mod messages;
-#[cfg(test)]
-mod tests;
 
 pub use messages::{EventMessage, Heard, Source, decode, matches};

@@ -13,8 +13,6 @@ mod kinds;
 mod numbers;
 mod opcodes;
 mod schemes;
-#[cfg(test)]
-mod tests;
 
 pub use addressing::{Address, AddressClass};
 pub use forward::Frame;

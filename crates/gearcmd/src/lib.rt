@@ -12,8 +12,6 @@ mod lines;
 mod requests;
 mod spelling;
 mod statuses;
-#[cfg(test)]
-mod tests;
 
 pub use blocks::{DevAsk, DevDo, GearAsk, GearDo, GearPair, GearSet};
 pub use commands::{

@@ -7,7 +7,7 @@ use crate::port::{
 use iltypes::IlType;
 
 /// A kind of function block.
-#[derive(Clone, Copy, PartialEq, Eq, Debug)]
+#[derive(Clone, Copy, PartialEq, Eq)]
 pub enum Kind {
     /// R_TRIG: a rising edge (IEC 61131-3, table 35).
     RTrig,

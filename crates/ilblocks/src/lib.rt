@@ -21,6 +21,3 @@ pub use call::step;
 pub use kind::Kind;
 pub use port::{Direction, MOST_PORTS, Port, PortName, PortValues};
 pub use state::BlockState;
-
-#[cfg(test)]
-mod tests;

@@ -6,7 +6,7 @@ use iltypes::{IlType, Range, Value};
 pub const MOST_PORTS: usize = 5;
 
 /// The name of a port.
-#[derive(Clone, Copy, PartialEq, Eq, Debug)]
+#[derive(Clone, Copy, PartialEq, Eq)]
 pub enum PortName {
     Clk,
     Q,
@@ -30,14 +30,14 @@ pub enum PortName {
 }
 
 /// Whether programs store to a port, or the block does.
-#[derive(Clone, Copy, PartialEq, Eq, Debug)]
+#[derive(Clone, Copy, PartialEq, Eq)]
 pub enum Direction {
     Input,
     Output,
 }
 
 /// What a port may be.
-#[derive(Clone, Copy, PartialEq, Eq, Debug)]
+#[derive(Clone, Copy, PartialEq, Eq)]
 pub enum PortValues {
     /// BOOL.
     Truth,
@@ -50,7 +50,7 @@ pub enum PortValues {
 }
 
 /// A port of a block.
-#[derive(Clone, Copy, PartialEq, Eq, Debug)]
+#[derive(Clone, Copy, PartialEq, Eq)]
 pub struct Port {
     pub name: PortName,
     pub direction: Direction,

@@ -10,7 +10,7 @@ use std::marker::Model;
 
 /// The code of one task: its programs' instructions one after another, with what they name. No
 /// list is longer than its limit (crate `limits`), and each instruction has its line.
-#[derive(Debug, Drop)]
+#[derive(Drop)]
 pub struct Code {
     buses: u8,
     constants: Vec<Value>,

@@ -9,12 +9,12 @@
 #![tactic(auto)]
 
 mod code;
+mod computed_block_rows;
+mod computed_rows;
 mod instruction;
+mod laws;
 mod nesting;
 
 pub use code::Code;
 pub use instruction::{Instruction, Operand, Variable};
 pub use nesting::Opened;
-
-#[cfg(test)]
-mod tests;

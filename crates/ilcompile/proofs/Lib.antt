@@ -10,5 +10,4 @@ pub mod Sizes
 pub mod Stands
 pub mod Starts
 pub mod TwoPasses
-pub mod TestTasks
 pub mod TreeRuns

@@ -8,11 +8,9 @@
 #![tactic(auto)]
 
 mod compiler;
+mod computed_rows;
 mod lines;
 mod targets;
 mod words;
 
 pub use compiler::compile;
-
-#[cfg(test)]
-mod tests;

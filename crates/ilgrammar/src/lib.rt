@@ -14,7 +14,7 @@ ghost use Rattle.ilgrammar.specs.declared.ReadError.TheVariants.{Memory};
 use std::alloc::{AllocError, AllocFailed};
 
 /// Why an item was not read.
-#[derive(Debug, Drop)]
+#[derive(Drop)]
 pub enum ReadError<'a, T> {
     /// Out of memory.
     Memory,

@@ -15,6 +15,7 @@
 //! ```
 #![tactic(auto)]
 
+mod computed_rows;
 mod external;
 mod image;
 mod law;
@@ -28,6 +29,3 @@ pub use law::variables_and_blocks_are_the_image;
 pub use overriding::Override;
 pub use snapshot::Snapshot;
 pub use task::TaskImage;
-
-#[cfg(test)]
-mod tests;

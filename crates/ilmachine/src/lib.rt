@@ -26,6 +26,3 @@ mod waiting;
 mod word;
 
 pub use scans::{ScanResult, Work, scan, scan_into};
-
-#[cfg(test)]
-mod tests;

@@ -35,6 +35,10 @@ above x y = by (int_le x y) refl
 opposed : (b c outcome : Bool) → c ≡ opposite b → truth b ≡ truth outcome → truth c ≡ truth (opposite outcome)
 opposed b c outcome e h = let k : b ≡ outcome = cc in ap (λ t. truth t) e ∙ ap (λ t. truth (opposite t)) k
 
+-- what doesn't compare is no comparison
+false_is_not_true : ◌≡◌ {A = Bool} false true → ⊥
+false_is_not_true e = cc
+
 pub has_outcome : (operator : Operator) → HasOutcome operator
 has_outcome Gt left right h = (int_lt right left, refl)
 has_outcome Ge left right h = (int_le right left, refl)
@@ -42,7 +46,7 @@ has_outcome Eq left right h = (int_eq left right, refl)
 has_outcome Ne left right h = (not (int_eq left right), refl)
 has_outcome Le left right h = (int_le left right, refl)
 has_outcome Lt left right h = (int_lt left right, refl)
-has_outcome _ left right h = absurd (cc)
+has_outcome _ left right h = absurd (false_is_not_true h)
 
 pub has_opposite_outcome : (operator : Operator) → HasOppositeOutcome operator
 has_opposite_outcome Gt left right outcome h e =
@@ -57,7 +61,7 @@ has_opposite_outcome Le left right outcome h e =
     opposed (int_le left right) (int_lt right left) outcome (above left right) e
 has_opposite_outcome Lt left right outcome h e =
     opposed (int_lt left right) (int_le right left) outcome (at_most right left) e
-has_opposite_outcome _ left right outcome h e = absurd (cc)
+has_opposite_outcome _ left right outcome h e = absurd (false_is_not_true h)
 
 pub compares_turned : (operator : Operator) → ComparesTurned operator
 compares_turned Gt = refl

@@ -6,7 +6,7 @@ ghost use Rattle.iloperators.specs.Conditions.{holds};
 use iltypes::Value;
 
 /// When a jump, a return or a call is carried out: the modifiers C and CN (IEC 61131-3, 3.2.2).
-#[derive(Clone, Copy, PartialEq, Eq, Debug)]
+#[derive(Clone, Copy, PartialEq, Eq)]
 pub enum Condition {
     /// JMP, RET, CAL.
     Always,

@@ -17,6 +17,3 @@ pub use comparison::turning_takes_the_opposite;
 pub use condition::Condition;
 pub use function::{Function, IntegerType, modify};
 pub use operator::Operator;
-
-#[cfg(test)]
-mod tests;

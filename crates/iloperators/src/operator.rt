@@ -8,7 +8,7 @@ use iltypes::{Value, opposite_if};
 /// An operator, which makes `result OP operand` of the current result (IEC 61131-3, 3.2.2, and the
 /// functions MIN and MAX of 2.5.1.5). `negated` is the modifier N: the operator takes the operand's
 /// opposite.
-#[derive(Clone, Copy, PartialEq, Eq, Debug)]
+#[derive(Clone, Copy, PartialEq, Eq)]
 pub enum Operator {
     /// AND and `&`, ANDN and `&N`.
     And { negated: bool },

@@ -1,7 +1,7 @@
 //! What starts a task.
 
 /// What starts a task (IEC 61131-3, 2.7.2).
-#[derive(Clone, Copy, PartialEq, Eq, Debug)]
+#[derive(Clone, Copy, PartialEq, Eq)]
 pub enum Activation {
     /// The clock, every so many milliseconds, 1 or more.
     Cyclic { interval: u32 },

@@ -3,7 +3,7 @@
 use std::fmt;
 
 /// A name, as declared.
-#[derive(Clone, Copy, Debug)]
+#[derive(Clone, Copy)]
 pub struct DeclaredName<'a> {
     /// Its bytes in the text.
     pub bytes: &'a [u8],
@@ -25,7 +25,7 @@ impl fmt::Display for DeclaredName<'_> {
 }
 
 /// The name of a slot, as declared: `instance.variable`, and of a global variable its name alone.
-#[derive(Clone, Copy, Debug)]
+#[derive(Clone, Copy)]
 pub struct SlotName<'a> {
     /// The program instance's, where it is a variable of one.
     pub instance: Option<DeclaredName<'a>>,

@@ -8,6 +8,7 @@
 #![tactic(auto)]
 
 mod activation;
+mod computed_rows;
 mod constants;
 mod declared_name;
 mod global;
@@ -27,6 +28,3 @@ pub use place::Place;
 pub use plan::Plan;
 pub use slot::{Slot, Variable};
 pub use task::Task;
-
-#[cfg(test)]
-mod tests;

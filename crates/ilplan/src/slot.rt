@@ -4,7 +4,7 @@ use ilsource::Name;
 use iltypes::{IlType, Value};
 
 /// A variable that a task's programs name.
-#[derive(Clone, Copy, PartialEq, Eq, Debug)]
+#[derive(Clone, Copy, PartialEq, Eq)]
 pub enum Variable {
     /// The global variable of this number.
     Global(usize),
@@ -13,7 +13,7 @@ pub enum Variable {
 }
 
 /// A place for the value of a variable.
-#[derive(Clone, Copy, PartialEq, Eq, Debug)]
+#[derive(Clone, Copy, PartialEq, Eq)]
 pub struct Slot {
     pub variable: Variable,
     pub value_type: IlType,

@@ -10,7 +10,7 @@ use crate::nesting::KnownOpened;
 use std::alloc::AllocError;
 
 /// What a word changes on one way from it.
-#[derive(Clone, Copy, Debug)]
+#[derive(Clone, Copy)]
 pub enum Change {
     /// There is a current result, known so, with this mark.
     Give(Known, Option<Mark>),
@@ -30,7 +30,7 @@ pub enum Change {
 
 /// What a word changes on the way to the next place and on that to a jump's target; `None` where no
 /// value goes that way.
-#[derive(Clone, Copy, Debug)]
+#[derive(Clone, Copy)]
 pub struct Changes {
     pub next: Option<Change>,
     pub target: Option<Change>,

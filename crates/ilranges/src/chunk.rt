@@ -11,7 +11,7 @@ use std::marker::Model;
 use std::rc::Rc;
 
 /// What is known of some slots in a row.
-#[derive(Debug, Drop)]
+#[derive(Drop)]
 pub(crate) struct Chunk {
     items: Rc<Vec<Known>>,
 }

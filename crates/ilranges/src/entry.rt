@@ -12,7 +12,7 @@ use ilcode::Code;
 use std::alloc::{AllocError, Global};
 
 /// What is known before a word that is reached.
-#[derive(Debug, Drop)]
+#[derive(Drop)]
 pub struct Entry {
     /// What is known of each slot.
     pub slots: Slots,

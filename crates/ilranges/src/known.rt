@@ -7,7 +7,7 @@ use iloperators::{Function, IntegerType, Operator};
 use iltypes::{IlType, Range, Value};
 
 /// What is known of a value before the program runs.
-#[derive(Clone, Copy, PartialEq, Eq, Debug)]
+#[derive(Clone, Copy, PartialEq, Eq)]
 pub enum Known {
     /// It is a truth value.
     Bool,

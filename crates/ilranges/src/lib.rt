@@ -43,6 +43,3 @@ pub use mark::Mark;
 pub use nesting::{KnownOpened, Nesting};
 pub use slots::Slots;
 pub use word::after_word;
-
-#[cfg(test)]
-mod tests;

@@ -3,7 +3,7 @@
 use iloperators::Operator;
 
 /// What the current result says of the number in a slot (profile).
-#[derive(Clone, Copy, PartialEq, Eq, Debug)]
+#[derive(Clone, Copy, PartialEq, Eq)]
 pub enum Mark {
     /// It is the number in the slot.
     Copy(usize),

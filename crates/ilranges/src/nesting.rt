@@ -9,14 +9,14 @@ use std::marker::Model;
 
 /// An open parenthesis (IEC 61131-3, 3.2.2): the operator before it, and what is known of the
 /// result that the operator waits with.
-#[derive(Clone, Copy, PartialEq, Eq, Debug)]
+#[derive(Clone, Copy, PartialEq, Eq)]
 pub struct KnownOpened {
     pub operator: Operator,
     pub saved: Known,
 }
 
 /// The parentheses that are open, the innermost first.
-#[derive(Debug, Drop)]
+#[derive(Drop)]
 pub struct Nesting {
     items: Vec<KnownOpened>,
 }

@@ -13,7 +13,7 @@ use std::marker::Model;
 /// What is known of each variable of a task, by the number of its slot. Thousands of these are
 /// kept at a time, and most of them differ from another in a few slots: so they stand in parts of
 /// 64, and what has no change is shared.
-#[derive(Debug, Drop)]
+#[derive(Drop)]
 pub struct Slots {
     alloc: Global,
     chunks: Vec<Chunk>,

@@ -4,7 +4,7 @@ use ilblocks::Kind;
 use ilsource::Name;
 
 /// A function block instance of a program (IEC 61131-3, 2.5.2.2).
-#[derive(Clone, Copy, PartialEq, Eq, Debug)]
+#[derive(Clone, Copy, PartialEq, Eq)]
 pub struct DeclaredBlock {
     /// The name in its declaration.
     pub name: Name,

@@ -7,7 +7,7 @@ ghost use Rattle.ilscope.specs.Order.{lesser_of_two};
 use crate::fault::NameCause;
 
 /// A fault that stands at a byte of the text.
-#[derive(Clone, Copy, Debug)]
+#[derive(Clone, Copy)]
 pub struct Found {
     pub at: usize,
     pub cause: NameCause,

@@ -4,7 +4,7 @@ use ilsource::{Address, Name};
 use iltypes::{IlType, Value};
 
 /// A global variable of a configuration, as it is declared (IEC 61131-3, 2.4.3).
-#[derive(Clone, Copy, PartialEq, Eq, Debug)]
+#[derive(Clone, Copy, PartialEq, Eq)]
 pub struct DeclaredGlobal {
     pub name: Name,
     /// Where it is located, if it is.

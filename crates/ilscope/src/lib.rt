@@ -51,6 +51,3 @@ pub use names::Names;
 pub use program_scope::ProgramScope;
 pub use scope::{Scope, report_of};
 pub use variable::Variable;
-
-#[cfg(test)]
-mod tests;

@@ -3,15 +3,22 @@
 ghost use Rattle.std.specs.Prelude.{◌≡◌, ℕ, List, IfOk, OnOk, IsSome, bytes_eq, map};
 ghost use Rattle.std.specs.Map.{lookup};
 ghost use Rattle.ilsource.specs.Names.{text_of};
+ghost use Rattle.ilscope.specs.Configured.{task_declarations};
+ghost use Rattle.ilscope.specs.Declarations.{name_of};
 ghost use Rattle.ilscope.specs.Faults.{IsLeastOf, IsTwiceIn, OfCause};
 ghost use Rattle.ilscope.specs.Kept.{with_new};
 ghost use Rattle.ilscope.specs.Tables.{first_at};
 ghost use Rattle.ilscope.specs.declared.fault.NameCause.TheVariants.{Twice};
 
+use crate::configuration::{program_names, task_names, tasks_of};
 use crate::fault::NameCause;
 use crate::found::{Found, lesser_of};
+use crate::gathering::element_names;
+use crate::global::DeclaredGlobal;
+use crate::globals::global_names;
 use crate::names::Names;
-use ilsource::Name;
+use crate::program_scope::ProgramScope;
+use ilsource::{Element, Name, Source};
 use std::alloc::{AllocError, Global};
 
 /// Under each name the number of the first that is spelled alike, and the least fault of a name
@@ -56,4 +63,65 @@ fn add_name(
         at: name.from,
         cause: NameCause::Twice,
     }))
+}
+
+/// The least fault of a name of a type or program that is given again.
+pub(crate) fn element_given_twice(
+    alloc: Global,
+    lower: &[u8],
+    elements: &[Element],
+) -> Result<Option<Found>, AllocError>
+    ensures { IfOk result
+        (IsLeastOf (OfCause Twice (IsTwiceIn (text_of lower.now) (map name_of elements.now)))) }
+{
+    let names = element_names(alloc, elements)?;
+    let (_, twice) = numbers_of(alloc, lower, &names)?;
+    Ok(twice)
+}
+
+/// The numbers of global variables under their names, and the least fault of one that is given
+/// again.
+pub(crate) fn numbers_of_globals(
+    alloc: Global,
+    lower: &[u8],
+    globals: &[DeclaredGlobal],
+) -> Result<(Names<usize>, Option<Found>), AllocError>
+    ensures numbers { IfOk result (λ r. (key : List ℕ) → lookup (bytes_eq key) r.0
+        ≡ first_at (bytes_eq key) (map (text_of lower.now) (map (λ g. g.name) globals.now))) }
+    ensures twice { IfOk result (λ r. IsLeastOf
+        (OfCause Twice (IsTwiceIn (text_of lower.now) (map (λ g. g.name) globals.now))) r.1) }
+{
+    let names = global_names(alloc, globals)?;
+    numbers_of(alloc, lower, &names)
+}
+
+/// The numbers of tasks under their names, and the least fault of one that is given again.
+pub(crate) fn numbers_of_tasks(
+    alloc: Global,
+    lower: &[u8],
+    source: &Source,
+) -> Result<(Names<usize>, Option<Found>), AllocError>
+    ensures numbers { IfOk result (λ r. (key : List ℕ) → lookup (bytes_eq key) r.0
+        ≡ first_at (bytes_eq key)
+        (map (text_of lower.now) (map (λ t. t.name) (task_declarations source.now)))) }
+    ensures twice { IfOk result (λ r. IsLeastOf (OfCause Twice
+        (IsTwiceIn (text_of lower.now) (map (λ t. t.name) (task_declarations source.now)))) r.1) }
+{
+    let names = task_names(alloc, tasks_of(source))?;
+    numbers_of(alloc, lower, &names)
+}
+
+/// The numbers of programs under their names.
+pub(crate) fn numbers_of_programs(
+    alloc: Global,
+    lower: &[u8],
+    programs: &[ProgramScope<'_>],
+) -> Result<Names<usize>, AllocError>
+    ensures { IfOk result (λ numbers. (key : List ℕ) → lookup (bytes_eq key) numbers
+        ≡ first_at (bytes_eq key)
+        (map (text_of lower.now) (map (λ p. p.program.name) programs.now))) }
+{
+    let names = program_names(alloc, programs)?;
+    let (numbers, _) = numbers_of(alloc, lower, &names)?;
+    Ok(numbers)
 }

@@ -3,13 +3,15 @@
 ghost use Rattle.std.specs.Prelude.{◌≡◌, IfOk};
 ghost use Rattle.ilscope.specs.Tables.{lowered};
 
-use crate::configuration::{declared_globals, program_names, task_names, tasks_of};
+use crate::configuration::declared_globals;
 use crate::found::{Found, lesser_of};
-use crate::gathering::{Gathering, element_names};
+use crate::gathering::Gathering;
 use crate::global::DeclaredGlobal;
-use crate::globals::{global_names, globals_of, value_types_of};
+use crate::globals::{globals_of, value_types_of};
 use crate::names::Names;
-use crate::numbers::numbers_of;
+use crate::numbers::{
+    element_given_twice, numbers_of_globals, numbers_of_programs, numbers_of_tasks,
+};
 use crate::program_scope::ProgramScope;
 use crate::types::DeclaredTypes;
 use ilblocks::Kind;
@@ -74,6 +76,14 @@ impl<'a> Tables<'a> {
         ensures least { IfOk result (λ r. IsLeastOf (IsFaultInTables source.now) r.1) }
     {
         let lower = lower_case(alloc, source.text())?;
+        let gathering = Gathering::of(alloc, &lower, source.elements())?;
+        let elements_twice = element_given_twice(alloc, &lower, source.elements())?;
+        let declared = declared_globals(source);
+        let globals = globals_of(alloc, &lower, &gathering.types, declared)?;
+        let value_types = value_types_of(alloc, &lower, &gathering.types, declared)?;
+        let (global_numbers, globals_twice) = numbers_of_globals(alloc, &lower, &globals)?;
+        let (task_numbers, tasks_twice) = numbers_of_tasks(alloc, &lower, source)?;
+        let program_numbers = numbers_of_programs(alloc, &lower, &gathering.programs)?;
         let Gathering {
             types,
             programs,
@@ -81,18 +91,7 @@ impl<'a> Tables<'a> {
             block_numbers,
             external_numbers,
             least,
-        } = Gathering::of(alloc, &lower, source.elements())?;
-        let names = element_names(alloc, source.elements())?;
-        let (_, elements_twice) = numbers_of(alloc, &lower, &names)?;
-        let declared = declared_globals(source);
-        let globals = globals_of(alloc, &lower, &types, declared)?;
-        let value_types = value_types_of(alloc, &lower, &types, declared)?;
-        let names = global_names(alloc, &globals)?;
-        let (global_numbers, globals_twice) = numbers_of(alloc, &lower, &names)?;
-        let names = task_names(alloc, tasks_of(source))?;
-        let (task_numbers, tasks_twice) = numbers_of(alloc, &lower, &names)?;
-        let names = program_names(alloc, &programs)?;
-        let (program_numbers, _) = numbers_of(alloc, &lower, &names)?;
+        } = gathering;
         let twice = lesser_of(elements_twice, lesser_of(globals_twice, tasks_twice));
         let tables = Tables {
             source,

@@ -46,13 +46,20 @@ fn add_variables(
         (variables.new.items ≡ variables.old.items ++ map (variable declared) names.now) }
 {
     for name in names {
-        variables.push(Variable {
-            name: *name,
-            value_type: declared.value_type,
-            initial: declared.initial,
-        })?;
+        variables.push(variable_of(*name, declared))?;
     }
     Ok(())
+}
+
+/// The variable of this name, with what its declaration says.
+fn variable_of(name: Name, declared: DataType) -> Variable
+    ensures { result ≡ variable declared name }
+{
+    Variable {
+        name,
+        value_type: declared.value_type,
+        initial: declared.initial,
+    }
 }
 
 /// The names of some variables.

@@ -27,6 +27,3 @@ pub use place::Place;
 pub use program::Program;
 pub use source::{Element, Source};
 pub use symbol::Symbol;
-
-#[cfg(test)]
-mod tests;

@@ -1,7 +1,7 @@
 //! Names as words of a text.
 
 /// A word of a text: its bytes `from..to`, counted from 0.
-#[derive(Clone, Copy, PartialEq, Eq, Debug)]
+#[derive(Clone, Copy, PartialEq, Eq)]
 pub struct Name {
     /// The place of the first byte.
     pub from: usize,

@@ -3,7 +3,7 @@
 ghost use Rattle.std.specs.Prelude.{◌≡◌, ◌==◌, count_by, length, not, reverse, take_while};
 
 /// Where something stands in a text, for a reader: both numbers count from 1.
-#[derive(Clone, Copy, PartialEq, Eq, Debug)]
+#[derive(Clone, Copy, PartialEq, Eq)]
 pub struct Place {
     /// One more than the line feeds before it.
     pub line: usize,

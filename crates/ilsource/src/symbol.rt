@@ -3,7 +3,7 @@
 use crate::name::Name;
 
 /// What an instruction names (IEC 61131-3, 2.4.1.1), by words of the text.
-#[derive(Clone, Copy, PartialEq, Eq, Debug)]
+#[derive(Clone, Copy, PartialEq, Eq)]
 pub enum Symbol {
     /// A variable: an operand, or what is stored to.
     Variable(Name),

@@ -33,6 +33,3 @@ mod written_twice;
 pub use ilplan::{Instance, Plan, Slot, Task, Variable};
 pub use ilscope::{NameCause, NameFault, Scope};
 pub use resolving::resolve;
-
-#[cfg(test)]
-mod tests;

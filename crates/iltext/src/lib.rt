@@ -29,6 +29,3 @@ mod token;
 pub use fault::{TextCause, TextFault};
 pub use ilsource::Source;
 pub use parser::parse;
-
-#[cfg(test)]
-mod tests;

@@ -3,7 +3,7 @@
 use iltokens::{LexicalCause, What};
 
 /// What stands at a place of a text.
-#[derive(Clone, Copy, PartialEq, Eq, Debug)]
+#[derive(Clone, Copy, PartialEq, Eq)]
 pub enum Kind {
     Good(What),
     /// What begins no token, and why.
@@ -11,7 +11,7 @@ pub enum Kind {
 }
 
 /// A token and its bytes `from..to` in the text.
-#[derive(Clone, Copy, PartialEq, Eq, Debug)]
+#[derive(Clone, Copy, PartialEq, Eq)]
 pub struct Token {
     pub kind: Kind,
     pub from: usize,

@@ -7,7 +7,7 @@ ghost use Rattle.iltokens.specs.Keywords.{all_words, IsSpelled};
 ghost use Rattle.iltokens.specs.KeywordSteps.{lookup, keyword, row_view, AreByLetter};
 
 /// A reserved word, in any letter case. None is a name.
-#[derive(Clone, Copy, PartialEq, Eq, Debug)]
+#[derive(Clone, Copy, PartialEq, Eq)]
 pub enum Keyword {
     // Operators with their modifiers (3.2.2).
     Ld,

@@ -6,7 +6,7 @@ ghost use Rattle.iltokens.specs.Faults.{number_of};
 use crate::keyword::Keyword;
 
 /// The location and size prefix of a direct address (IEC 61131-3, 2.4.1.1).
-#[derive(Clone, Copy, PartialEq, Eq, Debug)]
+#[derive(Clone, Copy, PartialEq, Eq)]
 pub enum AddressKind {
     /// `%QB`
     OutputByte,
@@ -17,7 +17,7 @@ pub enum AddressKind {
 }
 
 /// A delimiter (IEC 61131-3, annex C), an operator of special characters, or the end of a line.
-#[derive(Clone, Copy, PartialEq, Eq, Debug)]
+#[derive(Clone, Copy, PartialEq, Eq)]
 pub enum Delimiter {
     Comma,
     Colon,
@@ -39,7 +39,7 @@ pub enum Delimiter {
 }
 
 /// What a token is.
-#[derive(Clone, Copy, PartialEq, Eq, Debug)]
+#[derive(Clone, Copy, PartialEq, Eq)]
 pub enum What {
     Keyword(Keyword),
     /// A word that is not reserved: a letter or underscore, then letters, digits and underscores.
@@ -58,7 +58,7 @@ pub enum What {
 }
 
 /// Why no token stands somewhere.
-#[derive(Clone, Copy, PartialEq, Eq, Debug)]
+#[derive(Clone, Copy, PartialEq, Eq)]
 pub enum LexicalCause {
     /// A byte of 80 hex or more outside comments.
     NotAscii,
@@ -85,7 +85,7 @@ impl LexicalCause {
 }
 
 /// What stands next in a text; places count its bytes from 0.
-#[derive(Clone, Copy, PartialEq, Eq, Debug)]
+#[derive(Clone, Copy, PartialEq, Eq)]
 pub enum Lexed {
     /// A token of the bytes `from..to`.
     Token { what: What, from: usize, to: usize },

@@ -22,6 +22,3 @@ mod time;
 pub use keyword::{Keyword, reserved};
 pub use lexed::{AddressKind, Delimiter, Lexed, LexicalCause, What};
 pub use lexer::token;
-
-#[cfg(test)]
-mod tests;

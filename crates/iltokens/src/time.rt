@@ -10,7 +10,7 @@ use crate::digits::digits;
 use crate::spelling::after_word;
 
 /// The units, each of which stands at most once, in falling order.
-#[derive(Clone, Copy, PartialEq, Eq, Debug)]
+#[derive(Clone, Copy, PartialEq, Eq)]
 pub enum Unit {
     Day,
     Hour,

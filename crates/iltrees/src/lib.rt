@@ -8,6 +8,7 @@
 #![tactic(auto)]
 
 mod arguments;
+mod computed_rows;
 mod instruction;
 mod nested;
 mod operand;
@@ -20,6 +21,3 @@ pub use nested::{Action, Nested, Piece};
 pub use operand::Operand;
 pub use renaming::renaming_keeps_the_meaning;
 pub use uses::{Purpose, Use};
-
-#[cfg(test)]
-mod tests;

@@ -18,6 +18,3 @@ mod wide;
 pub use modifier::opposite_if;
 pub use range::Range;
 pub use value::{IlType, Value};
-
-#[cfg(test)]
-mod tests;

@@ -26,6 +26,3 @@ pub use flat::Flat;
 pub use refusal::{Refusal, VerifyError};
 pub use verified::Verified;
 pub use verifier::verify;
-
-#[cfg(test)]
-mod tests;

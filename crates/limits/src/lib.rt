@@ -63,6 +63,3 @@ pub fn is_too_long(bytes: &[u8]) -> bool
 {
     bytes.len() > MOST_BYTES
 }
-
-#[cfg(test)]
-mod tests;

@@ -14,9 +14,6 @@ ghost use base.Fml.{ftrue};
 
 use std::marker::{Model, PhantomData};
 
-#[cfg(test)]
-mod tests;
-
 /// A `T` as contracts see it. It has no bytes.
 pub struct Memo<T> {
     marker: PhantomData<T>,

@@ -21,7 +21,7 @@ use Rattle.ilverify.specs.Verdicts.{Accepted}
 use Rattle.ilimage.specs.declared.external.External.{External}
 use Rattle.ilimage.specs.Images.{IsImage, image_of}
 use Rattle.ilimage.specs.Images.{AreTyped, AreApart, IsLawfulTask, TaskImage, first_task}
-use Rattle.plantload.specs.Loaded.{Loaded, IsCodeOf}
+use Rattle.ilsetup.specs.Loaded.{Loaded, IsCodeOf}
 use Rattle.plantevents.specs.Plants.{external_in, externals_from, externals_of, own_by, own_initials, first_tasks}
 use Rattle.plant.specs.OpeningSteps.{global_types, IsFirstImage, AreLawfulTasks}
 

@@ -5,7 +5,7 @@ use Rattle.std.proofs.Common.{length-append}
 use Rattle.std.proofs.lemmas.List.{get_or_append_left, get_or-replicate, length-replicate}
 use Rattle.std.proofs.Math.Seq.{get_or-append_seam}
 use Rattle.std.specs.Prelude.{slice_index_or}
-use Rattle.plantload.specs.Loaded.{Loaded}
+use Rattle.ilsetup.specs.Loaded.{Loaded}
 use Rattle.ilimage.specs.Images.{ProcessImage}
 use Rattle.plantevents.specs.declared.event.Event.{Event}
 use Rattle.plantevents.specs.Plants.{Plant, opening}

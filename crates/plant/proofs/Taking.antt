@@ -28,7 +28,7 @@ use Rattle.plantevents.specs.Legal.{IsTake}
 use Rattle.taskset.specs.TaskSets.{TaskSet, Follows}
 use Rattle.std.proofs.lemmas.List.{length-map}
 use Rattle.std.proofs.lemmas.Slice.Zip.{AllZip-long}
-use Rattle.plantload.specs.Loaded.{AreCodes, IsCodeOf}
+use Rattle.ilsetup.specs.Loaded.{AreCodes, IsCodeOf}
 use Rattle.plant.specs.Shown.{Shown, grown, kept, is_full, count_below}
 use Rattle.plant.specs.KeptSteps.{KeptPlant, ImageFollows, ScansFollow, TakesFollow, Says}
 use Rattle.plant.specs.TakingSteps.{taken_at, trigger_place}

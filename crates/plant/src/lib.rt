@@ -22,6 +22,3 @@ mod writes;
 pub use open_fault::OpenFault;
 pub use plant::{Handed, LEAST_LIMIT, MOST_LIMIT, MOST_WORKERS, Order, Plant};
 pub use refusal::{Refusal, TakeError};
-
-#[cfg(test)]
-mod tests;

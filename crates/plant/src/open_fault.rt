@@ -2,7 +2,7 @@
 
 /// Why a plant is not opened: the first of these, in this order, but that the allocator may be out
 /// of memory where no other stands against it.
-#[derive(Clone, Copy, PartialEq, Eq, Debug)]
+#[derive(Clone, Copy, PartialEq, Eq)]
 pub enum OpenFault {
     /// 1: the allocator is out of memory.
     Memory,

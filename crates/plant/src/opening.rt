@@ -6,7 +6,7 @@ ghost use Rattle.iltypes.specs.declared.value.IlType.{IlType as TypeOf};
 ghost use Rattle.std.specs.Prelude.{IfSome};
 ghost use Rattle.std.specs.Arc.{arc_value};
 ghost use Rattle.ilplan.specs.Plans.{PlannedTask, KeepsLimits, IsTaskOf};
-ghost use Rattle.plantload.specs.Loaded.{IsCodeOf};
+ghost use Rattle.ilsetup.specs.Loaded.{IsCodeOf};
 ghost use Rattle.ilverify.specs.Verdicts.{Accepted};
 ghost use Rattle.ilimage.specs.Images.{first_task, IsLawfulTask};
 ghost use Rattle.plantevents.specs.Plants.{externals_of, external_in, own_by, own_initials};
@@ -15,9 +15,9 @@ ghost use Rattle.plant.specs.OpeningSteps.{IsFirstImage, AreLawfulTasks, global_
 
 use ilimage::{External, Image, TaskImage};
 use ilplan::{Plan, Slot, Task, Variable};
+use ilsetup::Setup;
 use iltypes::{IlType, Value};
 use ilverify::Verified;
-use plantload::Setup;
 use std::alloc::{AllocError, Global};
 use std::sync::Arc;
 

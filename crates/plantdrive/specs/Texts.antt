@@ -10,7 +10,7 @@ use Rattle.plantevents.specs.declared.event.Event.TheVariants.{Commit}
 use Rattle.plantevents.specs.Histories.{OpenScan, scan}
 use Rattle.plantevents.specs.Legal.{AreLegal}
 use Rattle.plant.specs.Shown.{Shown, opened, IsOpenFault}
-use Rattle.plantload.specs.Loaded.{Loaded}
+use Rattle.ilsetup.specs.Loaded.{Loaded}
 use Rattle.plantload.specs.Loading.{IsLoadFault, IsLoadFaultOrMemory, IsSetup}
 use Rattle.plantdrive.specs.declared.step.Step.{Step}
 use Rattle.plantdrive.specs.declared.step.StepReply.{StepReply}

@@ -13,8 +13,8 @@ use crate::places::{
 use crate::step::{Step, StepReply};
 use daliframe::Frame24;
 use ilmachine::{Work, scan_into};
+use ilsetup::Setup;
 use plant::{OpenFault, Plant, Refusal};
-use plantload::Setup;
 use std::alloc::Global;
 use std::marker::Model;
 use transact::{Mark, Report};

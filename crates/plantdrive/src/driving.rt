@@ -7,8 +7,8 @@ ghost use Rattle.plantdrive.specs.Runs.{IsHistoryOf, Run};
 
 use crate::desk::Desk;
 use crate::step::{Step, StepReply};
+use ilsetup::Setup;
 use plant::{OpenFault, Plant};
-use plantload::Setup;
 use std::alloc::Global;
 
 /// A plant that was driven, with the reply to each step.

@@ -15,6 +15,3 @@ pub use driving::{Driven, drive};
 pub use sending::{Performed, SendError, send_next};
 pub use step::{Step, StepReply};
 pub use text::{DriveFault, drive_text};
-
-#[cfg(test)]
-mod tests;

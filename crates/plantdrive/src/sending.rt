@@ -13,7 +13,7 @@ use std::alloc::AllocError;
 use transact::{MOST_SENT, Report};
 
 /// A transaction that was handed out, sent and reported.
-#[derive(Debug, Drop)]
+#[derive(Drop)]
 pub struct Performed {
     /// The place of its Hand in the history.
     pub number: u64,
@@ -24,7 +24,7 @@ pub struct Performed {
 }
 
 /// Why nothing was sent on a bus.
-#[derive(Clone, Copy, PartialEq, Eq, Debug)]
+#[derive(Clone, Copy, PartialEq, Eq)]
 pub enum SendError {
     /// 1: the allocator is out of memory.
     Memory,

@@ -6,7 +6,7 @@ use plantevents::Origin;
 use transact::{Mark, Transaction};
 
 /// What is asked of a plant.
-#[derive(Debug, Drop)]
+#[derive(Drop)]
 pub enum Step {
     /// It is this moment, in milliseconds.
     Tick {
@@ -42,7 +42,7 @@ pub enum Step {
 }
 
 /// What a step is answered.
-#[derive(Debug, Drop)]
+#[derive(Drop)]
 pub enum StepReply {
     /// Its event was noted.
     Noted,

@@ -11,7 +11,7 @@ use plantload::{LoadFault, load};
 use std::alloc::Global;
 
 /// Why a text was not driven: the first of these, in this order.
-#[derive(Debug, Drop)]
+#[derive(Drop)]
 pub enum DriveFault {
     /// It is not loaded.
     Load(LoadFault),

@@ -6,7 +6,7 @@ use gearcmd::Request;
 use transact::{Report, Transaction};
 
 /// What a transaction was made of.
-#[derive(Clone, Copy, PartialEq, Eq, Debug)]
+#[derive(Clone, Copy, PartialEq, Eq)]
 pub enum Origin {
     /// A request that waited.
     Queued(Request),

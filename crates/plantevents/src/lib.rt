@@ -8,6 +8,7 @@
 #![tactic(auto)]
 
 mod activator;
+mod computed_rows;
 mod event;
 mod laws;
 mod noted;
@@ -23,6 +24,3 @@ pub use laws::{
 };
 pub use noted::{NotedResult, NotedSnapshot};
 pub use role::Role;
-
-#[cfg(test)]
-mod tests;

@@ -1,4 +1,4 @@
--- The codes of a plan's tasks: as many as tasks, each at its task's number, and one task more.
+-- The codes of a plan's first tasks: one task more, and the first task whose code is refused.
 use Rattle.std.proofs.Common.{◌≡◌, ℕ, zero, suc, ◌+◌, ◌<◌, List, [], ◌∷◌, ◌++◌, length, get_or, Option, Some, None}
 use Rattle.std.proofs.Common.{Result, Ok, Err}
 use Rattle.std.proofs.Common.{refl, sym, ap, ◌∙◌, subst, add-one, take, arith}
@@ -17,35 +17,13 @@ use Rattle.ilverify.specs.declared.refusal.VerifyError.{VerifyError}
 use Rattle.ilverify.specs.declared.refusal.VerifyError.TheVariants as verify_errors
 use Rattle.ilverify.specs.Certificates.{IsAccepted, IsError, IsRefusal}
 use Rattle.ilverify.specs.Verdicts.{Accepted}
-use Rattle.plantload.specs.Loaded.{AreCodes, IsCodeOf, accepted_of, listing_for}
+use Rattle.ilsetup.specs.Loaded.{AreCodes, IsCodeOf, accepted_of, listing_for}
+use Rattle.ilsetup.proofs.CodeLemmas.{zipped_with}
 use Rattle.plantload.specs.Loading.{IsCodeFault, IsLoadFaultOrMemory}
 use Rattle.plantload.specs.PrintedFaults.{of_error}
 use Rattle.plantload.specs.declared.fault.LoadFault.{LoadFault}
 
--- ---- lists side by side
-
--- the item beside one of the second list
-beside : {A B : Type 0} (R : A → B → Type 0) (o : Option A) (y : B) → IsSomeAnd o (λ x. R x y) → IfSome o (λ x. R x y)
-beside R None y h = absurd h
-beside R (Some x) y h = h
-
-pub zipped_at : {A B : Type 0} (R : A → B → Type 0) (xs : List A) (ys : List B) (k : ℕ) (y : B) → AllZip R xs ys
-    → slice_get ys k ≡ Some y → IfSome (slice_get xs k) (λ x. R x y)
-zipped_at {A} {B} R xs ys k y h e =
-    beside R (slice_get xs k) y
-    (subst (λ (o : Option B). MatchOption o ⊤ (λ z. IsSomeAnd (slice_get xs k) (λ x. R x z))) e
-    (AllZip-right R xs ys h k))
-
--- something stands beside each item of the first list
-partner : {A B : Type 0} (R : A → B → Type 0) (x : A) (o : Option B) → IsSomeAnd o (R x) → (y : B) × R x y
-partner R x None h = absurd h
-partner R x (Some y) h = (y, h)
-
-pub zipped_with : {A B : Type 0} (R : A → B → Type 0) (xs : List A) (ys : List B) (k : ℕ) (x : A) → AllZip R xs ys
-    → slice_get xs k ≡ Some x → (y : B) × R x y
-zipped_with {A} {B} R xs ys k x h e =
-    partner R x (slice_get ys k)
-    (subst (λ (o : Option A). MatchOption o ⊤ (λ z. IsSomeAnd (slice_get ys k) (R z))) e (AllZip-left R xs ys h k))
+-- ---- fronts of lists
 
 -- a longer front has one element more
 longer_front : {X : Type 0} (P : X → Type 0) (xs : List X) (k : ℕ) → k < length xs → IfSome (slice_get xs k) P
@@ -69,31 +47,6 @@ in_front (y ∷ xs) (suc n) zero x lt e = e
 in_front (y ∷ xs) (suc n) (suc k) x lt e = in_front xs n k x (omega arith) e
 
 -- ---- codes
-
--- there are as many shared codes as tasks
-pub as_many_shared : (plan : Planned) (codes : List (Arc Accepted Global)) → AreCodes plan (accepted_of codes)
-    → length codes ≡ length plan.tasks
-as_many_shared plan codes h =
-    sym (length-map codes (λ (c : Arc Accepted Global). arc_value c))
-    ∙ AllZip-long (IsCodeOf plan) plan.tasks (accepted_of codes) h
-
--- the shared code at a number
-pub shared_at : (codes : List (Arc Accepted Global)) (k : ℕ) (code : Arc Accepted Global) → k < length codes
-    → code ≡ get_or codes k code → slice_get (accepted_of codes) k ≡ Some (arc_value code)
-shared_at codes k code below is =
-    slice_get-map (λ (c : Arc Accepted Global). arc_value c) codes k
-    ∙ ap (option_map (λ (c : Arc Accepted Global). arc_value c))
-    (slice_get-get_or codes k code below ∙ ap (λ (c : Arc Accepted Global). Some c) (sym is))
-
--- the code at a number is that of the task there
-pub code_at : (plan : Planned) (codes : List Accepted) (k : ℕ) (code : Accepted) → AreCodes plan codes
-    → slice_get codes k ≡ Some code → IfSome (slice_get plan.tasks k) (λ t. IsCodeOf plan t code)
-code_at plan codes k code h e = zipped_at (IsCodeOf plan) plan.tasks codes k code h e
-
--- a task whose plan has codes has a certificate
-pub certified_at : (plan : Planned) (codes : List Accepted) (k : ℕ) (t : PlannedTask) → AreCodes plan codes
-    → slice_get plan.tasks k ≡ Some t → IsAccepted (listing_for plan t)
-certified_at plan codes k t h e = (zipped_with (IsCodeOf plan) plan.tasks codes k t h e).1.certified
 
 -- the first tasks have these shared codes
 abbrev pub AreFirst : Planned → ℕ → List (Arc Accepted Global) → Type 0

@@ -19,11 +19,12 @@ use Rattle.ilverify.specs.declared.refusal.Refusal.{Refusal}
 use Rattle.ilverify.specs.Certificates.{IsRefusal}
 use Rattle.ilverify.specs.Verdicts.{Accepted}
 use Rattle.ilverify.proofs.Verdict.{accepted_apart, same_refusal}
-use Rattle.plantload.specs.Loaded.{AreCodes, IsCodeOf, Loaded, Refused, listing_for}
+use Rattle.ilsetup.specs.Loaded.{AreCodes, IsCodeOf, Loaded, listing_for}
+use Rattle.plantload.specs.RefusedTasks.{Refused}
 use Rattle.plantload.specs.Loading.{IsFirstRefused, IsLoadFault, IsLoaded, IsPlanFault, IsPlanOfText, IsSetup}
 use Rattle.plantload.specs.declared.fault.LoadFault.{LoadFault}
 use Rattle.plantload.specs.declared.fault.LoadFault.TheVariants.{Memory, Text, Name, Code}
-use Rattle.plantload.proofs.CodeLemmas.{certified_at}
+use Rattle.ilsetup.proofs.CodeLemmas.{certified_at}
 
 -- ---- codes
 

@@ -1,4 +1,4 @@
-pub mod Loaded
 pub mod Loading
 pub mod Printed
 pub mod PrintedFaults
+pub mod RefusedTasks

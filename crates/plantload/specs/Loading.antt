@@ -10,7 +10,7 @@ use Rattle.ilsyms.specs.Faults.{IsFault, IsWellNamed}
 use Rattle.ilsyms.specs.Resolved.{plan_of_tree}
 use Rattle.ilverify.specs.declared.refusal.Refusal.{Refusal}
 use Rattle.ilverify.specs.Certificates.{IsAccepted, IsRefusal}
-use Rattle.plantload.specs.Loaded.{AreCodes, Loaded, listing_for}
+use Rattle.ilsetup.specs.Loaded.{AreCodes, Loaded, listing_for}
 use Rattle.plantload.specs.declared.fault.LoadFault.{LoadFault}
 use Rattle.plantload.specs.declared.fault.LoadFault.TheVariants.{Memory, Text, Name, Code}
 

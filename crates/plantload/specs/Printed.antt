@@ -2,7 +2,7 @@
 use Rattle.std.specs.Prelude.{ℕ, List, [], ◌++◌, Option, Some, None, codes, slice_get}
 use Rattle.ilplan.specs.Plans.{PlannedTask}
 use Rattle.ilverify.specs.Printed.{printed}
-use Rattle.plantload.specs.Loaded.{Refused}
+use Rattle.plantload.specs.RefusedTasks.{Refused}
 
 -- the name of a task, as declared
 abbrev pub name_of : Option PlannedTask → List ℕ

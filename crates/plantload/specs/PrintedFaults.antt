@@ -9,7 +9,7 @@ use Rattle.ilscope.specs.Printed.{printed_name_fault}
 use Rattle.ilplan.specs.Plans.{Planned}
 use Rattle.ilverify.specs.declared.refusal.VerifyError.{VerifyError}
 use Rattle.ilverify.specs.declared.refusal.VerifyError.TheVariants as verify_errors
-use Rattle.plantload.specs.Loaded.{refused_of}
+use Rattle.plantload.specs.RefusedTasks.{refused_of}
 use Rattle.plantload.specs.Printed.{printed_refused}
 use Rattle.plantload.specs.declared.fault.LoadFault.{LoadFault}
 use Rattle.plantload.specs.declared.fault.LoadFault.TheVariants.{Memory, Text, Name, Code}

@@ -24,7 +24,7 @@ impl Model for RefusedTask {
     ghost use Rattle.iltrees.specs.declared.nested.Piece.{Piece};
     ghost use Rattle.iltrees.specs.Trees.{pieces_of};
     ghost use Rattle.iltrees.specs.TreeSteps.{tree_of, tree_again};
-    ghost use Rattle.plantload.specs.Loaded.{Refused, refused_of};
+    ghost use Rattle.plantload.specs.RefusedTasks.{Refused, refused_of};
 
     ghost Value = { Refused };
 
@@ -40,7 +40,7 @@ impl Model for RefusedTask {
 
 impl RefusedTask {
     ghost use Rattle.std.specs.Prelude.{◌≡◌, ◌<◌, length, slice_get, Some, option_map};
-    ghost use Rattle.plantload.specs.Loaded.{Refused, refused_of};
+    ghost use Rattle.plantload.specs.RefusedTasks.{Refused, refused_of};
 
     /// The task of this number, refused for this reason.
     pub(crate) fn new(plan: Plan, task: usize, refusal: Refusal) -> RefusedTask

@@ -4,7 +4,7 @@ use std::alloc::AllocError;
 use std::io;
 
 /// Why a play halts before the end of its scenario.
-#[derive(Debug, Drop)]
+#[derive(Drop)]
 pub(crate) enum Halt {
     /// The history has no place left beside those that are kept back.
     Limit,

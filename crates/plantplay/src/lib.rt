@@ -27,6 +27,3 @@ mod sending;
 pub use installation::Installation;
 pub use opening::{StartFault, open};
 pub use playing::{Ending, play};
-
-#[cfg(test)]
-mod tests;

@@ -5,7 +5,7 @@ use transact::{Outcome, Transaction};
 
 /// A transaction that was handed out: its bus, its class, and its frames in upper hexadecimal
 /// digits, with one blank between.
-#[derive(Clone, Copy, Debug)]
+#[derive(Clone, Copy)]
 pub(crate) struct TransactionLine<'a> {
     pub bus: u8,
     pub transaction: &'a Transaction,
@@ -22,7 +22,7 @@ impl fmt::Display for TransactionLine<'_> {
 }
 
 /// What became of a transaction: its bus, and how it ended.
-#[derive(Clone, Copy, Debug)]
+#[derive(Clone, Copy)]
 pub(crate) struct OutcomeLine {
     pub bus: u8,
     pub outcome: Outcome,

@@ -8,8 +8,8 @@ ghost use Rattle.plantplay.specs.Installations.{connection_of, connections_of};
 use crate::Installation;
 use crate::connection::Connection;
 use daliframe::BusNumber;
+use ilsetup::Setup;
 use plant::{OpenFault, Plant};
-use plantload::Setup;
 use simbus::{BusSetup, Scenario, SimBus};
 use std::alloc::{AllocError, Global};
 use std::fmt;
@@ -18,7 +18,7 @@ use std::fmt;
 const WORKERS: usize = 1;
 
 /// Why an installation can't start.
-#[derive(Clone, Copy, PartialEq, Eq, Debug)]
+#[derive(Clone, Copy, PartialEq, Eq)]
 pub enum StartFault {
     /// The allocator had no memory for the simulated buses.
     Memory,

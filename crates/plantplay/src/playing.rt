@@ -12,7 +12,7 @@ use std::io;
 use std::io::Write;
 
 /// How a play ended.
-#[derive(Clone, Copy, PartialEq, Eq, Debug)]
+#[derive(Clone, Copy, PartialEq, Eq)]
 pub enum Ending {
     /// No bus went down.
     Up,

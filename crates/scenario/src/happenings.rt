@@ -8,7 +8,7 @@ use daliframe::{BusNumber, Frame24};
 use std::marker::Model;
 
 /// What happens by a line of a scenario.
-#[derive(Clone, Copy, Debug, PartialEq, Eq)]
+#[derive(Clone, Copy, PartialEq, Eq)]
 pub enum Happening {
     /// The clock comes to this moment, in milliseconds.
     Tick { moment: u64 },

@@ -18,6 +18,3 @@ pub use fault::{ScenarioCause, ScenarioFault};
 pub use happenings::{Happening, Happenings};
 pub use scenario::{Scenario, parse};
 pub use statements::{FrameFate, Statement};
-
-#[cfg(test)]
-mod tests;

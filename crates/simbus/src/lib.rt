@@ -16,13 +16,7 @@ mod equipment;
 mod gears;
 mod instances;
 mod scripts;
-#[cfg(test)]
-mod setup_tests;
 mod setups;
-#[cfg(test)]
-mod size_tests;
-#[cfg(test)]
-mod tests;
 
 pub use buses::SimBus;
 pub use clocks::ScriptedClock;

@@ -12,8 +12,6 @@ mod laws;
 mod setup;
 mod task_state;
 mod tasks;
-#[cfg(test)]
-mod tests;
 
 pub use laws::other_events_leave_tasks;
 pub use setup::TaskSetup;

@@ -14,9 +14,6 @@ ghost use base.Fml.{ftrue};
 
 use std::marker::{Model, PhantomData};
 
-#[cfg(test)]
-mod tests;
-
 /// A list of `T`s as contracts see them, the newest first. It has no bytes.
 pub struct Trace<T> {
     marker: PhantomData<T>,

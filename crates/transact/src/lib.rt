@@ -6,11 +6,7 @@
 #![tactic(auto)]
 
 mod marks;
-#[cfg(test)]
-mod plain_tests;
 mod reports;
-#[cfg(test)]
-mod tests;
 mod transactions;
 
 pub use marks::{Mark, Outcome, Reply, Sent};

@@ -13,6 +13,3 @@ pub use cuts::parts_around_dot;
 pub use lines::{first_line, is_skipped};
 pub use numerals::{hex_of, number_of};
 pub use words::Words;
-
-#[cfg(test)]
-mod tests;

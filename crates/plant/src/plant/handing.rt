@@ -22,7 +22,7 @@ use taskset::other_events_leave_tasks;
 use transact::Transaction;
 
 /// A transaction that was handed to a bus.
-#[derive(Debug, Drop)]
+#[derive(Drop)]
 pub struct Handed {
     /// The place of the Hand in the history.
     pub number: u64,

@@ -12,8 +12,8 @@ ghost use Rattle.plantevents.specs.Legal.{AreLegal};
 
 use super::Plant;
 use busqueue::Class;
+use ilsetup::Setup;
 use iltypes::Value;
-use plantload::Setup;
 
 impl Plant {
     /// The plan with its verified codes.

@@ -1,0 +1,52 @@
+-- What `clap` finds in the words of the command line.
+use Rattle.std.proofs.Common.{◌≡◌, ◌∙◌, ap, ap₂, subst, List, Option, Some, None, true, Result, refl, sym}
+use Rattle.std.specs.Prelude.{option_map, unwrap_or}
+use Rattle.clap.specs.Words.{App, FailsBy, HasMatchesOf, Row, Text, fault_of, is_simple, subcommand_name_of}
+use Rattle.clap.specs.Words.{subcommand_of, subcommand_rows_of}
+use Rattle.clap.specs.Faults.{is_simple_and_free}
+use Rattle.clap.specs.declared.error.Error.{Error}
+use Rattle.clap.specs.declared.parser.matches.ArgMatches.{ArgMatches}
+use Rattle.clap.specs.declared.parser.matches.ArgMatches.TheViews.{out-ArgMatches}
+use Rattle.commands.specs.CommandLine.{command_line}
+
+is_free : is_simple_and_free command_line ≡ true
+is_free = refl
+
+is_plain : is_simple command_line ≡ true
+is_plain = refl
+
+-- the name and the rows of a subcommand, each by itself, together
+paired : (both : Option (Text × List Row)) (name : Text) (found : List Row)
+    → Some name ≡ option_map (λ p. p.0) both → Some found ≡ option_map (λ p. p.1) both → both ≡ Some (name, found)
+paired None name found is_name is_found = cc
+paired (Some p) name found is_name is_found =
+    let first : name ≡ p.0 = ap (λ (o : Option Text). unwrap_or o name) is_name in
+    let second : found ≡ p.1 = ap (λ (o : Option (List Row)). unwrap_or o found) is_found in
+    sym (ap₂ (λ (n : Text) (f : List Row). Some (n, f)) first second)
+
+option_map_twice : {A B C : Type 0} (f : B → C) (g : A → B) (o : Option A)
+    → option_map (λ x. f (g x)) o ≡ option_map f (option_map g o)
+option_map_twice f g None = refl
+option_map_twice f g (Some x) = refl
+
+name_in_rows : (m : ArgMatches) → subcommand_name_of m ≡ option_map (λ p. p.0) (subcommand_rows_of m)
+name_in_rows m = option_map_twice (λ (p : Text × List Row). p.0) _ (out-ArgMatches m).subcommand
+
+module _ (words : List Text) (app : App) (is : app ≡ command_line) where
+  pub taken : {T : Type 0} (parsed : Result T Error)
+      → (is_simple_and_free app ≡ true → FailsBy (fault_of app words) parsed)
+      → FailsBy (fault_of command_line words) parsed
+  taken parsed fails =
+      subst (λ (a : App). FailsBy (fault_of a words) parsed) is (fails (ap is_simple_and_free is ∙ is_free))
+
+  pub entered : (m : ArgMatches) → HasMatchesOf app words m → subcommand_rows_of m ≡ subcommand_of command_line words
+  entered m matches = (matches (ap is_simple is ∙ is_plain)).1 ∙ ap (λ (a : App). subcommand_of a words) is
+
+  pub named : (m : ArgMatches) (name : Text) (found : List Row) → HasMatchesOf app words m
+      → Some name ≡ subcommand_name_of m → Some found ≡ option_map (λ p. p.1) (subcommand_rows_of m)
+      → subcommand_of command_line words ≡ Some (name, found)
+  named m name found matches is_name is_found =
+      let both = entered m matches in
+      let first = is_name ∙ name_in_rows m ∙ ap (option_map (λ (p : Text × List Row). p.0)) both in
+      let second = is_found ∙ ap (option_map (λ (p : Text × List Row). p.1)) both in
+      paired _ name found first second

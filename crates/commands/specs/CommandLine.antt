@@ -1,0 +1,111 @@
+-- The command line (profile): `check FILE [--bind FILE]`, `step FILE TASK [--bind FILE] [--scans N] [--every MS]` and
+-- `play TEXT BIND SCENARIO [--limit N]`, with the reading of words that `clap` has.
+use Rattle.std.specs.Prelude.{◌≡◌, ℕ, ◌^◌, ◌<◌, List, [], Option, Some, None, true, pos, codes, option_map, unwrap_or}
+use Rattle.std.specs.Borrow.{Bor}
+use Rattle.std.specs.Str.Parse.{IsNumeral, digits_value, without_leading_plus}
+use Rattle.clap.specs.Words.{App, Row, Rule, Text, first_of, new_app, new_rule, one_of, subcommand_of, with_rule}
+use Rattle.clap.specs.Words.{with_subcommand}
+use Rattle.clap.specs.Simple.{on_top}
+use Rattle.clap.specs.declared.builder.action.ArgAction.TheVariants.{Set}
+use Rattle.clap.specs.declared.builder.value_parser.ValueParser.TheVariants as parsers
+use Rattle.commands.specs.declared.options.Files.{Files}
+use Rattle.commands.specs.declared.options.Inquiry.{Inquiry}
+use Rattle.commands.specs.declared.options.Inquiry.TheVariants.{Check, Step}
+use Rattle.commands.specs.declared.options.Invocation.{Invocation}
+use Rattle.commands.specs.declared.options.Invocation.TheVariants.{Ask, Play}
+use Rattle.commands.specs.declared.options.PlayFiles.{PlayFiles}
+
+-- ---- the words that are taken
+
+-- a word that must be given
+abbrev pub wanted : Text → Rule
+wanted id = record (new_rule id) { required = true; action = Some Set }
+
+-- an option with one value
+abbrev pub option : Text → Rule
+option id = record (new_rule id) { long = Some id; value_names = 1; action = Some Set }
+
+-- an option with a whole number in this range
+abbrev pub number_option : Text → ℕ → ℕ → Rule
+number_option id least most = record (option id) { parser = Some (parsers.Signed (pos least) (pos most)) }
+
+abbrev pub check_command : App
+check_command = with_rule (with_rule (new_app (codes "check")) (wanted (codes "FILE"))) (option (codes "bind"))
+
+abbrev pub step_files : App
+step_files =
+    with_rule (with_rule (with_rule (new_app (codes "step")) (wanted (codes "FILE"))) (wanted (codes "TASK")))
+    (option (codes "bind"))
+
+abbrev pub step_command : App
+step_command =
+    with_rule (with_rule step_files (number_option (codes "scans") 1 1000000))
+    (number_option (codes "every") 0 4294967295)
+
+abbrev pub play_files : App
+play_files =
+    with_rule (with_rule (with_rule (new_app (codes "play")) (wanted (codes "TEXT"))) (wanted (codes "BIND")))
+    (wanted (codes "SCENARIO"))
+
+abbrev pub play_command : App
+play_command = with_rule play_files (number_option (codes "limit") 100 1000000)
+
+abbrev pub program : App
+program = on_top (λ top. record top { subcommand_required = true }) (new_app (codes "dalictl"))
+
+abbrev pub inquiry_line : App
+inquiry_line = with_subcommand (with_subcommand program check_command.top) step_command.top
+
+abbrev pub command_line : App
+command_line = with_subcommand inquiry_line play_command.top
+
+-- ---- what they say
+
+-- the text that was given, or none
+abbrev pub given : Option Text → Text
+given text = unwrap_or text []
+
+-- digits, or a plus and digits, write the number, where it has at most 32 bits
+abbrev pub IsWritten : List ℕ → ℕ → Type 0
+IsWritten digits number = IsNumeral 10 digits → digits_value 10 digits < 2 ^ 32 → number ≡ digits_value 10 digits
+
+-- the number that was given, or without one the default
+abbrev pub IsNumber : ℕ → Option Text → ℕ → Type 0
+IsNumber default None number = number ≡ default
+IsNumber default (Some text) number = IsWritten (without_leading_plus text) number
+
+-- the files that are named
+pub record AreFiles (found : List Row) (files : Files) : Type 0 where
+  pub text : files.text.now ≡ given (first_of (codes "FILE") found)
+  pub binding : option_map (λ path. path.now) files.binding ≡ first_of (codes "bind") found
+
+-- the scans that are asked for: one, and 100 milliseconds from scan to scan, where nothing else is said
+pub record AreScans (found : List Row) (task : Bor Text) (scans every : ℕ) : Type 0 where
+  pub of_task : task.now ≡ given (first_of (codes "TASK") found)
+  pub many : IsNumber 1 (one_of (codes "scans") found) scans
+  pub apart : IsNumber 100 (one_of (codes "every") found) every
+
+-- what was found under a command's name is the inquiry
+abbrev pub IsOfInquiry : Text → List Row → Inquiry → Type 0
+IsOfInquiry name found (Check files) = (name ≡ codes "check") × AreFiles found files
+IsOfInquiry name found (Step files task scans every) =
+    ¬ (name ≡ codes "check") × AreFiles found files × AreScans found task scans every
+
+-- the files that are named for a played scenario
+pub record ArePlayFiles (found : List Row) (files : PlayFiles) : Type 0 where
+  pub text : files.text.now ≡ given (first_of (codes "TEXT") found)
+  pub binding : files.binding.now ≡ given (first_of (codes "BIND") found)
+  pub scenario : files.scenario.now ≡ given (first_of (codes "SCENARIO") found)
+
+-- what was found under a command's name is the invocation; a played history has 100,000 events at most where nothing
+-- else is said
+abbrev pub IsOfCommand : Text → List Row → Invocation → Type 0
+IsOfCommand name found (Play files limit) =
+    (name ≡ codes "play") × ArePlayFiles found files × IsNumber 100000 (one_of (codes "limit") found) limit
+IsOfCommand name found (Ask inquiry) = ¬ (name ≡ codes "play") × IsOfInquiry name found inquiry
+
+-- the words spell the invocation
+abbrev pub IsInvocation : List Text → Invocation → Type 0
+IsInvocation words invocation =
+    (name : Text) × (found : List Row) × (subcommand_of command_line words ≡ Some (name, found))
+    × IsOfCommand name found invocation

@@ -1,0 +1,103 @@
+-- What a scenario is played from, or what stands against that: the fault of the binding, else of the text, else of the
+-- scenario, else why the installation does not start (profile).
+use Rattle.std.specs.Prelude.{◌≡◌, ℕ, ◌⊎◌, List, Some, Err, ⊤}
+use Rattle.binding.specs.Wirings.{Wiring}
+use Rattle.ilsetup.specs.Loaded.{Loaded}
+use Rattle.plantload.specs.Loading.{IsSetup}
+use Rattle.scenario.specs.declared.statements.Statement.{Statement}
+use Rattle.scenario.specs.Scenarios.{IsScenario, IsJudged}
+use Rattle.simbus.specs.Simulated.{Simulated}
+use Rattle.plantplay.specs.Installations.{IsInstallation, IsStartFault}
+use Rattle.plantplay.specs.declared.installation.Installation.{Installation}
+use Rattle.commands.specs.declared.exit_status.ExitStatus.{ExitStatus}
+use Rattle.commands.specs.declared.exit_status.ExitStatus.TheVariants.{Accepted, Failed}
+use Rattle.commands.specs.declared.options.PlayFiles.{PlayFiles}
+use Rattle.commands.specs.declared.play_stop.PlayStop.{PlayStop}
+use Rattle.commands.specs.declared.play_stop.PlayStop.TheVariants.{Text, Scenario, Start}
+use Rattle.commands.specs.declared.stop.Stop.{Stop}
+use Rattle.commands.specs.declared.reading.Unread.{Unread}
+use Rattle.commands.specs.declared.serving.Unserved.{Unserved}
+use Rattle.commands.specs.declared.serving.Unserved.TheVariants.{NotRead, NotPrinted}
+use Rattle.commands.specs.Answered.{IsCheckStop, IsStopOrMemory}
+use Rattle.commands.specs.Connected.{IsConnected, IsBindingStop}
+use Rattle.commands.specs.ExitStatuses.{status_of_play_stop}
+
+-- the bytes of the three files
+pub record PlayBytes : Type 0 where
+  pub binding : List ℕ
+  pub text : List ℕ
+  pub scenario : List ℕ
+
+-- ---- what is played
+
+-- the text under the binding has this setup
+abbrev pub IsSetupOf : PlayBytes → Loaded → Type 0
+IsSetupOf bytes setup = (wiring : Wiring) × IsConnected (Some bytes.binding) wiring × IsSetup wiring bytes.text setup
+
+-- the installation of the text's setup on the buses of the scenario, to which nothing has happened
+pub record IsStarted (bytes : PlayBytes) (limit : ℕ) (installation : Installation Simulated)
+    (statements : List Statement) : Type 0 where
+  pub setup : Loaded
+  pub loaded : IsSetupOf bytes setup
+  pub scenario : IsScenario bytes.scenario statements
+  pub opened : IsInstallation setup statements limit installation
+
+-- ---- what stands against it
+
+-- the binding's fault; or, under the binding, what stands against the text
+abbrev pub IsTextStop : PlayBytes → Stop → Type 0
+IsTextStop bytes stop =
+    IsBindingStop (Some bytes.binding) stop
+    ⊎ ((wiring : Wiring) × IsConnected (Some bytes.binding) wiring
+    × IsStopOrMemory (IsCheckStop wiring bytes.text) stop)
+
+abbrev pub HasSetup : PlayBytes → Type 0
+HasSetup bytes = (setup : Loaded) × IsSetupOf bytes setup
+
+abbrev pub HasScenario : PlayBytes → Type 0
+HasScenario bytes = (statements : List Statement) × IsScenario bytes.scenario statements
+
+-- the fault of the binding or the text, else of the scenario, else why the installation does not start
+abbrev pub IsPlayStop : PlayBytes → ℕ → PlayStop → Type 0
+IsPlayStop bytes limit (Text stop) = IsTextStop bytes stop
+IsPlayStop bytes limit (Scenario fault) = HasSetup bytes × IsJudged bytes.scenario (Err fault)
+IsPlayStop bytes limit (Start fault) = HasSetup bytes × HasScenario bytes × IsStartFault limit fault
+
+-- ---- how the program ends
+
+abbrev pub CanStart : PlayBytes → ℕ → Type 0
+CanStart bytes limit =
+    (installation : Installation Simulated) × (statements : List Statement)
+    × IsStarted bytes limit installation statements
+
+-- by what stands against it; or, where it started, done or failed: of that nothing more is said
+abbrev pub IsPlayEnd : PlayBytes → ℕ → ExitStatus → Type 0
+IsPlayEnd bytes limit status =
+    ((stop : PlayStop) × IsPlayStop bytes limit stop × (status ≡ status_of_play_stop stop))
+    ⊎ (CanStart bytes limit × ((status ≡ Accepted) ⊎ (status ≡ Failed)))
+
+-- the program ends so by what the disk gave for the three files; of what is printed nothing is said
+pub record IsPlayed (gives : List ℕ → List ℕ → Type 0) (files : PlayFiles) (limit : ℕ) (status : ExitStatus) : Type 0
+  where
+    pub bytes : PlayBytes
+    pub binding_given : gives files.binding.now bytes.binding
+    pub text_given : gives files.text.now bytes.text
+    pub scenario_given : gives files.scenario.now bytes.scenario
+    pub end : IsPlayEnd bytes limit status
+
+-- ---- files that are not read
+
+-- the binding at this path isn't read; or it is, and the text at this path isn't; or both are, and the scenario at this
+-- path isn't
+abbrev pub IsFirstFileUnread : (List ℕ → List ℕ → Type 0) → (List ℕ → Unread → Type 0) → PlayFiles → List ℕ → Unread
+    → Type 0
+IsFirstFileUnread gives fails files path why =
+    ((path ≡ files.binding.now) × fails path why)
+    ⊎ (((binding : List ℕ) × gives files.binding.now binding)
+    × (((path ≡ files.text.now) × fails path why)
+    ⊎ (((text : List ℕ) × gives files.text.now text) × (path ≡ files.scenario.now) × fails path why)))
+
+-- the first of the named files that isn't read is reported; of a failure of the writer nothing is said
+abbrev pub IsUnplayed : (List ℕ → List ℕ → Type 0) → (List ℕ → Unread → Type 0) → PlayFiles → Unserved → Type 0
+IsUnplayed gives fails files (NotRead path why) = IsFirstFileUnread gives fails files path.now why
+IsUnplayed gives fails files (NotPrinted error) = ⊤

@@ -1,0 +1,164 @@
+//! What a text is answered: its setup, or what scans of a task left, with their requests.
+
+ghost use Rattle.std.specs.Prelude.{◌≡◌, ◌<◌, length, slice_get, Result, IfErr, IfOk, IfSome};
+ghost use Rattle.std.specs.Prelude.{MatchOption};
+ghost use Rattle.iltypes.specs.Values.{AreOf};
+ghost use Rattle.ilplan.specs.Plans.{KeepsLimits, first_values, types_of};
+ghost use Rattle.std.specs.Option.{option_copied};
+ghost use Rattle.ilsetup.specs.Loaded.{Loaded};
+ghost use Rattle.plantload.specs.Loading.{IsSetup};
+ghost use Rattle.commands.specs.Answered.{IsCheckStop, IsChecked, IsFirstCalled, IsStep, IsStepStop};
+ghost use Rattle.commands.specs.Answered.{IsStepped, NoneIsCalled, IsStopOrMemory};
+ghost use Rattle.commands.specs.Connected.{IsConnected, IsBindingStop};
+ghost use Rattle.commands.specs.Responses.{IsAnswer, IsMade};
+ghost use Rattle.commands.specs.Stepping.{AreScansOf, Run};
+ghost use Rattle.commands.specs.declared.stop.Stop.{Stop};
+
+use crate::options::Inquiry;
+use crate::scans;
+use crate::scans::Scans;
+use crate::stepped::Stepped;
+use crate::stop::{AskedName, Stop};
+use binding::Binding;
+use ilplan::Plan;
+use ilsetup::Setup;
+use plantload::{load, plan_of, setup_of};
+use std::alloc::{AllocError, Global};
+
+/// What an inquiry is answered.
+#[derive(Drop)]
+pub enum Answer {
+    Checked(Setup),
+    Stepped(Stepped),
+    Stopped(Stop),
+}
+
+/// The answer to an inquiry, of the bytes of a binding's file, if one is named, and of a text's.
+pub fn respond(alloc: Global, inquiry: Inquiry, binding: Option<&[u8]>, text: &[u8]) -> Answer
+    ensures { IsAnswer inquiry.entry (option_copied binding.entry) text.now result }
+{
+    match binding_of(alloc, binding) {
+        Ok(binding) => respond_under(alloc, &binding, inquiry, text),
+        Err(stop) => Answer::Stopped(stop),
+    }
+}
+
+/// The answer to an inquiry under a binding.
+fn respond_under(alloc: Global, binding: &Binding, inquiry: Inquiry, text: &[u8]) -> Answer
+    ensures { IsMade binding.now text.now inquiry.entry result }
+{
+    match inquiry {
+        Inquiry::Check { .. } => match check(alloc, binding, text) {
+            Ok(setup) => Answer::Checked(setup),
+            Err(stop) => Answer::Stopped(stop),
+        },
+        Inquiry::Step {
+            task,
+            scans,
+            every,
+            ..
+        } => match step(alloc, binding, text, task, scans, every) {
+            Ok(made) => Answer::Stepped(made),
+            Err(stop) => Answer::Stopped(stop),
+        },
+    }
+}
+
+/// The binding that a file's bytes spell; without a file there is one bus.
+///
+/// # Errors
+///
+/// The file's first bad line, or that it is too long; or, where it binds a source of events, that
+/// the allocator is out of memory.
+pub fn binding_of(alloc: Global, bytes: Option<&[u8]>) -> Result<Binding, Stop>
+    ensures binding { IfOk result (IsConnected (option_copied bytes.entry)) }
+    ensures stop { IfErr result (IsBindingStop (option_copied bytes.entry)) }
+{
+    match bytes {
+        None => Ok(Binding::one_bus(alloc)),
+        Some(bytes) => match Binding::parse(alloc, bytes) {
+            Ok(binding) => Ok(binding),
+            Err(fault) => Err(Stop::from(fault)),
+        },
+    }
+}
+
+/// The setup of a text, or what stands against it.
+///
+/// # Errors
+///
+/// The fault that the text isn't loaded for, or that the allocator is out of memory.
+pub fn check(alloc: Global, binding: &Binding, text: &[u8]) -> Result<Setup, Stop>
+    ensures setup { IfOk result (IsSetup binding.now text.now) }
+    ensures stop { IfErr result (IsStopOrMemory (IsCheckStop binding.now text.now)) }
+    // A text has at most one answer, but for out of memory.
+    ensures one { (a b : Result Loaded Stop) → IsChecked binding.now text.now a
+        → IsChecked binding.now text.now b → a ≡ b }
+{
+    Ok(load(alloc, text, binding)?)
+}
+
+/// The requests of this many scans of a task, and its variables after them: the first scan from
+/// their initial values, but TRUE at an event task's trigger, and from block instances before their
+/// first call, `every` milliseconds apart.
+///
+/// # Errors
+///
+/// The text's first fault, else the least fault of its names, else that no task has the name, else
+/// the first task whose code is refused; or that the allocator is out of memory.
+pub fn step(
+    alloc: Global,
+    binding: &Binding,
+    text: &[u8],
+    task: &str,
+    scans: u32,
+    every: u32,
+) -> Result<Stepped, Stop>
+    ensures made { IfOk result (IsStepped binding.now text.now task.now scans every) }
+    ensures stop { IfErr result (IsStopOrMemory (IsStepStop binding.now text.now task.now)) }
+    // A task of a text has at most one answer, but for out of memory.
+    ensures one { (a b : Result Run Stop) → IsStep binding.now text.now task.now scans every a
+        → IsStep binding.now text.now task.now scans every b → a ≡ b }
+{
+    let plan = plan_of(alloc, text, binding)?;
+    let Some(number) = task_number(&plan, task) else {
+        return Err(Stop::NoTask(AskedName::of(alloc, task)?));
+    };
+    let setup = setup_of(alloc, plan)?;
+    let made = run(alloc, &setup, number, scans, every)?;
+    Ok(Stepped::new(setup, number, made))
+}
+
+/// Scans of a task by its code, the first from the initial values of its variables, but TRUE at an
+/// event task's trigger, and from block instances before their first call.
+fn run(
+    alloc: Global,
+    setup: &Setup,
+    task: usize,
+    scans: u32,
+    every: u32,
+) -> Result<Scans, AllocError>
+    requires { task < length setup.now.plan.tasks }
+    ensures made { IfOk result (λ made. AreScansOf setup.now task scans every made.each.items
+        made.left.lasting) }
+    ensures limits { IfSome (slice_get setup.now.plan.tasks task) (λ t. KeepsLimits t) }
+    ensures typed { IfSome (slice_get setup.now.plan.tasks task)
+        (λ t. AreOf (first_values t) (types_of t)) }
+{
+    let of_task = setup.plan().task(task);
+    let first = of_task.first_values(alloc)?;
+    scans::make(alloc, setup.code(task), &first, scans, every)
+}
+
+/// The number of the task of this name, without regard to letter case.
+fn task_number(plan: &Plan, name: &str) -> Option<usize>
+    ensures { MatchOption result (NoneIsCalled plan.now name.now)
+        (IsFirstCalled plan.now name.now) }
+{
+    for task in 0..plan.tasks() {
+        if plan.task_name(task).eq_ignore_ascii_case(name) {
+            return Some(task);
+        }
+    }
+    None
+}

@@ -1,0 +1,32 @@
+//! The command line: checks Instruction List texts, runs scans of their tasks, and plays scenarios
+//! on simulated buses.
+//!
+//! What crosses the boundary: the words of a command line, the bytes of files on a [`Disk`], lines
+//! on a writer, and an [`ExitStatus`]. [`read`] reads the words with `clap`
+//! (specs/CommandLine.antt), [`serve`] reads the files that they name, asks what the text answers
+//! (specs/Responses.antt) and prints it, [`serve_play`] plays. The definition to read first is
+//! `IsStepped` (specs/Answered.antt), what `step` answers; the outermost one is `IsServed`
+//! (specs/Served.antt). No contract can say which bytes the machine's disk gives, or what becomes
+//! of those that its terminal takes. `run(&rt)` does all of it over a runtime.
+#![tactic(auto)]
+
+mod answers;
+mod exit_status;
+mod lines;
+mod options;
+mod play_stop;
+mod playing;
+mod reading;
+mod report;
+mod scans;
+mod serving;
+mod shell;
+mod stepped;
+mod stop;
+
+pub use exit_status::ExitStatus;
+pub use options::{Files, Inquiry, Invocation, PlayFiles, read};
+pub use playing::serve_play;
+pub use reading::{Disk, HostDisk, Unread};
+pub use serving::{Unserved, serve};
+pub use shell::run;

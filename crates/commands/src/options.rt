@@ -1,0 +1,323 @@
+//! The command line, read with `clap`.
+
+ghost use Rattle.std.specs.Prelude.{◌≡◌, IfOk, codes, false, map, string_bytes};
+ghost use Rattle.clap.specs.Words.{FailsBy, app_of, fault_of, first_of, found_of, one_of, rows_of};
+ghost use Rattle.clap.specs.Words.{rule_of, shape_of};
+ghost use Rattle.clap.specs.declared.builder.command.Command.TheViews.{out-Command};
+ghost use Rattle.commands.specs.CommandLine.{AreFiles, ArePlayFiles, IsNumber, IsInvocation};
+ghost use Rattle.commands.specs.CommandLine.{IsOfCommand, IsOfInquiry};
+ghost use Rattle.commands.specs.CommandLine.{check_command, command_line, given, inquiry_line};
+ghost use Rattle.commands.specs.CommandLine.{number_option, option, play_command, play_files};
+ghost use Rattle.commands.specs.CommandLine.{step_command, step_files, wanted};
+
+use clap::{Arg, ArgAction, ArgMatches, Command, Error};
+use std::alloc::{AllocError, Global};
+
+/// What the user asks for.
+#[derive(Clone, Copy, PartialEq, Eq)]
+pub enum Invocation<'a> {
+    /// An answer to a text.
+    Ask(Inquiry<'a>),
+    /// `play TEXT BIND SCENARIO [--limit N]`
+    Play { files: PlayFiles<'a>, limit: u32 },
+}
+
+/// What the user asks of a text.
+#[derive(Clone, Copy, PartialEq, Eq)]
+pub enum Inquiry<'a> {
+    /// `check FILE [--bind FILE]`
+    Check {
+        files: Files<'a>,
+    },
+    /// `step FILE TASK [--bind FILE] [--scans N] [--every MS]`
+    Step {
+        files: Files<'a>,
+        task: &'a str,
+        scans: u32,
+        every: u32,
+    },
+}
+
+impl<'a> Inquiry<'a> {
+    ghost use Rattle.std.specs.Prelude.{◌≡◌};
+    ghost use Rattle.commands.specs.Inquiries.{files_of};
+
+    /// The files that the command reads.
+    pub fn files(self) -> Files<'a>
+        ensures { result ≡ files_of self.entry }
+    {
+        match self {
+            Inquiry::Check { files } | Inquiry::Step { files, .. } => files,
+        }
+    }
+}
+
+/// The files that a command reads.
+#[derive(Clone, Copy, PartialEq, Eq)]
+pub struct Files<'a> {
+    /// The path of the text.
+    pub text: &'a str,
+    /// The path of the binding; without it there is one bus.
+    pub binding: Option<&'a str>,
+}
+
+/// The files that a played scenario reads.
+#[derive(Clone, Copy, PartialEq, Eq)]
+pub struct PlayFiles<'a> {
+    /// The path of the text.
+    pub text: &'a str,
+    /// The path of the binding.
+    pub binding: &'a str,
+    /// The path of the scenario.
+    pub scenario: &'a str,
+}
+
+/// The invocation that the words spell, of which the first is the program's name.
+///
+/// # Errors
+///
+/// What `clap` says of words that spell none, and the help where it is asked for.
+pub fn read<'a>(alloc: Global, words: &'a [String]) -> Result<Invocation<'a>, Error>
+    // Exactly the words that the command line takes are taken, unless memory is refused,
+    ensures taken { FailsBy
+        (fault_of command_line (map (λ word. string_bytes word) words.entry.now)) result }
+    // and the invocation is the one that they spell.
+    ensures invocation { IfOk result
+        (IsInvocation (map (λ word. string_bytes word) words.entry.now)) }
+{
+    let mut matches = command(alloc)?.try_get_matches_from(words)?;
+    match matches.remove_subcommand() {
+        Some((name, found)) => Ok(invocation_of(name, &found)),
+        None => unreachable!(),
+    }
+}
+
+/// The invocation of what was found under a command's name.
+fn invocation_of<'a>(name: &str, found: &ArgMatches<'a>) -> Invocation<'a>
+    ensures { IsOfCommand name.now (rows_of (found_of found.now)) result }
+{
+    if name == "play" {
+        return Invocation::Play {
+            files: play_files_in(found),
+            limit: number_in(found, "limit", 100_000),
+        };
+    }
+    Invocation::Ask(inquiry_of(name, found))
+}
+
+/// What is asked of a text, by what was found under the name of another command.
+fn inquiry_of<'a>(name: &str, found: &ArgMatches<'a>) -> Inquiry<'a>
+    ensures { IsOfInquiry name.now (rows_of (found_of found.now)) result }
+{
+    let files = files_in(found);
+    if name == "check" {
+        return Inquiry::Check { files };
+    }
+    Inquiry::Step {
+        files,
+        task: text_in(found, "TASK"),
+        scans: number_in(found, "scans", 1),
+        every: number_in(found, "every", 100),
+    }
+}
+
+/// The files that are named.
+fn files_in<'a>(found: &ArgMatches<'a>) -> Files<'a>
+    ensures { AreFiles (rows_of (found_of found.now)) result }
+{
+    Files {
+        text: text_in(found, "FILE"),
+        binding: found.get_str("bind"),
+    }
+}
+
+/// The files that are named for a played scenario.
+fn play_files_in<'a>(found: &ArgMatches<'a>) -> PlayFiles<'a>
+    ensures { ArePlayFiles (rows_of (found_of found.now)) result }
+{
+    PlayFiles {
+        text: text_in(found, "TEXT"),
+        binding: text_in(found, "BIND"),
+        scenario: text_in(found, "SCENARIO"),
+    }
+}
+
+/// The text that was given, or none.
+fn text_in<'a>(found: &ArgMatches<'a>, id: &str) -> &'a str
+    ensures { result.now ≡ given (first_of id.now (rows_of (found_of found.now))) }
+{
+    match found.get_str(id) {
+        Some(text) => text,
+        None => "",
+    }
+}
+
+/// The number that was given, or without one the default.
+fn number_in(found: &ArgMatches, id: &str, default: u32) -> u32
+    ensures { IsNumber default (one_of id.now (rows_of (found_of found.now))) result }
+{
+    match found.get_one::<u32>(id) {
+        Some(number) => number,
+        None => default,
+    }
+}
+
+fn command<'a>(alloc: Global) -> Result<Command<'a>, AllocError>
+    ensures { IfOk result (λ c. app_of c ≡ command_line) }
+{
+    inquiries(alloc)?.subcommand(play(alloc)?)
+}
+
+fn inquiries<'a>(alloc: Global) -> Result<Command<'a>, AllocError>
+    ensures shape { IfOk result (λ c. app_of c ≡ inquiry_line) }
+    ensures local { IfOk result (λ c. (out-Command c).has_globals ≡ false) }
+{
+    Command::new(alloc, "dalictl")
+        .about("Checks and runs Instruction List programs for DALI-2 lighting buses")
+        .subcommand_required(true)
+        .subcommand(check(alloc)?)?
+        .subcommand(step(alloc)?)
+}
+
+fn check<'a>(alloc: Global) -> Result<Command<'a>, AllocError>
+    ensures shape { IfOk result (λ c. app_of c ≡ check_command) }
+    ensures local { IfOk result (λ c. (out-Command c).has_globals ≡ false) }
+{
+    Command::new(alloc, "check")
+        .about("Prints for each task its words and the bound of a scan, or the first fault")
+        .arg(text(alloc))?
+        .arg(binding(alloc))
+}
+
+fn step<'a>(alloc: Global) -> Result<Command<'a>, AllocError>
+    ensures shape { IfOk result (λ c. app_of c ≡ step_command) }
+    ensures local { IfOk result (λ c. (out-Command c).has_globals ≡ false) }
+{
+    step_files(alloc)?.arg(scans(alloc))?.arg(every(alloc))
+}
+
+fn step_files<'a>(alloc: Global) -> Result<Command<'a>, AllocError>
+    ensures shape { IfOk result (λ c. app_of c ≡ step_files) }
+    ensures local { IfOk result (λ c. (out-Command c).has_globals ≡ false) }
+{
+    Command::new(alloc, "step")
+        .about("Runs scans of one task and prints its variables")
+        .arg(text(alloc))?
+        .arg(task(alloc))?
+        .arg(binding(alloc))
+}
+
+fn play<'a>(alloc: Global) -> Result<Command<'a>, AllocError>
+    ensures shape { IfOk result (λ c. app_of c ≡ play_command) }
+    ensures local { IfOk result (λ c. (out-Command c).has_globals ≡ false) }
+{
+    play_files(alloc)?.arg(limit(alloc))
+}
+
+fn play_files<'a>(alloc: Global) -> Result<Command<'a>, AllocError>
+    ensures shape { IfOk result (λ c. app_of c ≡ play_files) }
+    ensures local { IfOk result (λ c. (out-Command c).has_globals ≡ false) }
+{
+    Command::new(alloc, "play")
+        .about("Plays a scenario on simulated buses and prints what happens")
+        .arg(played_text(alloc))?
+        .arg(played_binding(alloc))?
+        .arg(played_scenario(alloc))
+}
+
+fn text<'a>(alloc: Global) -> Arg<'a>
+    ensures rule { rule_of result ≡ wanted (codes "FILE") }
+    ensures local { result.global ≡ false }
+{
+    Arg::new(alloc, "FILE")
+        .required(true)
+        .action(ArgAction::Set)
+        .help("The text of the programs")
+}
+
+fn task<'a>(alloc: Global) -> Arg<'a>
+    ensures rule { rule_of result ≡ wanted (codes "TASK") }
+    ensures local { result.global ≡ false }
+{
+    Arg::new(alloc, "TASK")
+        .required(true)
+        .action(ArgAction::Set)
+        .help("The task's name, in any letter case")
+}
+
+fn binding<'a>(alloc: Global) -> Arg<'a>
+    ensures rule { rule_of result ≡ option (codes "bind") }
+    ensures local { result.global ≡ false }
+{
+    Arg::new(alloc, "bind")
+        .long("bind")
+        .value_name("FILE")
+        .action(ArgAction::Set)
+        .help("The binding of buses [default: one bus]")
+}
+
+fn played_text<'a>(alloc: Global) -> Arg<'a>
+    ensures rule { rule_of result ≡ wanted (codes "TEXT") }
+    ensures local { result.global ≡ false }
+{
+    Arg::new(alloc, "TEXT")
+        .required(true)
+        .action(ArgAction::Set)
+        .help("The text of the programs")
+}
+
+fn played_binding<'a>(alloc: Global) -> Arg<'a>
+    ensures rule { rule_of result ≡ wanted (codes "BIND") }
+    ensures local { result.global ≡ false }
+{
+    Arg::new(alloc, "BIND")
+        .required(true)
+        .action(ArgAction::Set)
+        .help("The binding of buses")
+}
+
+fn played_scenario<'a>(alloc: Global) -> Arg<'a>
+    ensures rule { rule_of result ≡ wanted (codes "SCENARIO") }
+    ensures local { result.global ≡ false }
+{
+    Arg::new(alloc, "SCENARIO")
+        .required(true)
+        .action(ArgAction::Set)
+        .help("What is on the buses and what happens there")
+}
+
+fn limit<'a>(alloc: Global) -> Arg<'a>
+    ensures rule { rule_of result ≡ number_option (codes "limit") 100 1000000 }
+    ensures local { result.global ≡ false }
+{
+    Arg::new(alloc, "limit")
+        .long("limit")
+        .value_name("N")
+        .action(ArgAction::Set)
+        .value_parser(clap::value_parser!(u32).range(100..=1_000_000))
+        .help("The most events of the history, 100 to 1000000 [default: 100000]")
+}
+
+fn scans<'a>(alloc: Global) -> Arg<'a>
+    ensures rule { rule_of result ≡ number_option (codes "scans") 1 1000000 }
+    ensures local { result.global ≡ false }
+{
+    Arg::new(alloc, "scans")
+        .long("scans")
+        .value_name("N")
+        .action(ArgAction::Set)
+        .value_parser(clap::value_parser!(u32).range(1..=1_000_000))
+        .help("How many scans, 1 to 1000000 [default: 1]")
+}
+
+fn every<'a>(alloc: Global) -> Arg<'a>
+    ensures rule { rule_of result ≡ number_option (codes "every") 0 4294967295 }
+    ensures local { result.global ≡ false }
+{
+    Arg::new(alloc, "every")
+        .long("every")
+        .value_name("MS")
+        .action(ArgAction::Set)
+        .value_parser(clap::value_parser!(u32))
+        .help("Milliseconds from scan to scan, 0 to 4294967295 [default: 100]")
+}

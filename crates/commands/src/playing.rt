@@ -1,0 +1,144 @@
+//! Playing a scenario: its files are read, and what happens is printed.
+
+ghost use Rattle.std.specs.Prelude.{IfErr, IfOk};
+ghost use Rattle.scenario.specs.Scenarios.{IsJudged};
+ghost use Rattle.commands.specs.Plays.{IsPlayEnd, IsPlayStop, IsPlayed, IsSetupOf, IsStarted};
+ghost use Rattle.commands.specs.Plays.{IsTextStop, IsUnplayed};
+
+use crate::answers::{binding_of, check};
+use crate::exit_status::ExitStatus;
+use crate::options::PlayFiles;
+use crate::play_stop::PlayStop;
+use crate::reading::Disk;
+use crate::serving::{Unserved, bytes_at};
+use crate::stop::Stop;
+use ilsetup::Setup;
+use plantplay::{Ending, Installation, open, play};
+use simbus::{Scenario, ScenarioFault, SimBus, parse};
+use std::alloc::Global;
+use std::io;
+use std::io::{BufWriter, Write};
+use std::marker::Model;
+
+/// What the files of a played scenario hold.
+#[derive(Drop)]
+struct Pages {
+    binding: Vec<u8>,
+    text: Vec<u8>,
+    scenario: Vec<u8>,
+}
+
+impl Model for Pages {
+    ghost use Rattle.commands.specs.Plays.{PlayBytes};
+
+    ghost Value = { PlayBytes };
+
+    ghost view = { λ pages. record {
+      binding = pages.binding.items;
+      text = pages.text.items;
+      scenario = pages.scenario.items;
+    } };
+}
+
+/// Reads the files that are named, the binding before the text and that before the scenario, plays
+/// the scenario and prints what happens; the writer, which then has every line, and how the program
+/// ends.
+///
+/// # Errors
+///
+/// The first file that isn't read, or the writer's error.
+pub fn serve_play<'a, D: Disk, W: Write + Drop>(
+    alloc: Global,
+    disk: &D,
+    to: W,
+    files: PlayFiles<'a>,
+    limit: u32,
+) -> Result<(W, ExitStatus), Unserved<'a>>
+    ensures played { IfOk result (λ done. IsPlayed (D.gives disk.now) files.entry limit done.1) }
+    ensures unplayed { IfErr result
+        (IsUnplayed (D.gives disk.now) (D.fails disk.now) files.entry) }
+{
+    let pages = Pages {
+        binding: bytes_at(alloc, disk, files.binding)?,
+        text: bytes_at(alloc, disk, files.text)?,
+        scenario: bytes_at(alloc, disk, files.scenario)?,
+    };
+    Ok(print(alloc, to, &pages, limit)?)
+}
+
+/// Prints what happens through a buffer, of which nothing is left behind.
+fn print<W: Write + Drop>(
+    alloc: Global,
+    to: W,
+    pages: &Pages,
+    limit: u32,
+) -> io::Result<(W, ExitStatus)>
+    ensures { IfOk result (λ done. IsPlayEnd pages.now limit done.1) }
+{
+    let mut out = BufWriter::new(alloc, to)?;
+    let status = report(alloc, &mut out, pages, limit)?;
+    Ok((out.into_inner()?, status))
+}
+
+/// Writes what happens, or what stands against playing the scenario; how the program ends.
+fn report<W: Write>(alloc: Global, out: &mut W, pages: &Pages, limit: u32) -> io::Result<ExitStatus>
+    ensures { IfOk result (IsPlayEnd pages.now limit) }
+{
+    match start(alloc, pages, limit) {
+        Ok((mut installation, scenario)) => {
+            match play(alloc, out, &mut installation, &scenario)? {
+                Ending::Up => Ok(ExitStatus::Accepted),
+                Ending::Down | Ending::NoMemory => Ok(ExitStatus::Failed),
+            }
+        }
+        Err(stop) => {
+            writeln!(out, "{stop}")?;
+            Ok(stop.status())
+        }
+    }
+}
+
+/// The plant of the text on the simulated buses of the scenario, and the scenario.
+///
+/// # Errors
+///
+/// The binding's fault, else what stands against the text, else the scenario's fault, else why the
+/// plant isn't opened.
+fn start(
+    alloc: Global,
+    pages: &Pages,
+    limit: u32,
+) -> Result<(Installation<SimBus>, Scenario), PlayStop>
+    ensures started { IfOk result (λ made. IsStarted pages.now limit made.0 made.1) }
+    ensures stop { IfErr result (IsPlayStop pages.now limit) }
+{
+    let setup = setup_in(alloc, pages)?;
+    let scenario = scenario_of(alloc, &pages.scenario)?;
+    let installation = open(alloc, setup, &scenario, u64::from(limit))?;
+    Ok((installation, scenario))
+}
+
+/// The setup of the text under the binding.
+///
+/// # Errors
+///
+/// The binding's fault, else what stands against the text.
+fn setup_in(alloc: Global, pages: &Pages) -> Result<Setup, Stop>
+    ensures setup { IfOk result (IsSetupOf pages.now) }
+    ensures stop { IfErr result (IsTextStop pages.now) }
+{
+    let binding = binding_of(alloc, Some(&pages.binding))?;
+    check(alloc, &binding, &pages.text)
+}
+
+/// The scenario that bytes spell.
+///
+/// # Errors
+///
+/// The first bad line, that there are too many bytes, or, where a statement is to be kept, that the
+/// allocator is out of memory.
+fn scenario_of(alloc: Global, bytes: &[u8]) -> Result<Scenario, ScenarioFault>
+    ensures { IsJudged bytes.now result }
+{
+    parse(alloc, bytes)
+}

@@ -1,0 +1,105 @@
+//! What is printed of an answer.
+
+ghost use Rattle.std.specs.Prelude.{◌≡◌, ◌<◌, length, IfOk, OnOk};
+ghost use Rattle.std.specs.Io.KnownBytes.{Appends};
+ghost use Rattle.commands.specs.Reports.{first_lines, first_texts, requests_of_scan, status_of};
+ghost use Rattle.commands.specs.Reports.{printed_answer, scan_lines, task_line, variable_line};
+
+use crate::answers::Answer;
+use crate::exit_status::ExitStatus;
+use crate::stepped::{Stepped, task_line};
+use gearcmd::RequestLine;
+use ilsetup::Setup;
+use std::alloc::Global;
+use std::io;
+use std::io::{BufWriter, Write};
+
+/// Prints the answer through a buffer, of which nothing is left behind; the writer, which then has
+/// every line, and how the program ends.
+///
+/// # Errors
+///
+/// The writer's, or that the allocator is out of memory.
+pub fn print<W: Write + Drop>(alloc: Global, to: W, answer: &Answer) -> io::Result<(W, ExitStatus)>
+    ensures text { IfOk result
+        (λ done. Appends (W.contents to) (W.contents done.0) (printed_answer answer.now)) }
+    ensures status { IfOk result (λ done. done.1 ≡ status_of answer.now) }
+{
+    let mut out = BufWriter::new(alloc, to)?;
+    let status = report(&mut out, answer)?;
+    Ok((out.into_inner()?, status))
+}
+
+/// Writes the answer's lines; how the program ends.
+fn report<W: Write>(out: &mut W, answer: &Answer) -> io::Result<ExitStatus>
+    ensures text { OnOk result
+        (Appends (W.contents out.old) (W.contents out.new) (printed_answer answer.now)) }
+    ensures status { IfOk result (λ status. status ≡ status_of answer.now) }
+{
+    match answer {
+        Answer::Checked(setup) => {
+            tasks(out, setup)?;
+            Ok(ExitStatus::Accepted)
+        }
+        Answer::Stepped(made) => {
+            scans(out, made)?;
+            variables(out, made)?;
+            Ok(ExitStatus::Accepted)
+        }
+        Answer::Stopped(stop) => {
+            writeln!(out, "{stop}")?;
+            Ok(ExitStatus::of_stop(stop))
+        }
+    }
+}
+
+/// A line for each task.
+fn tasks<W: Write>(out: &mut W, setup: &Setup) -> io::Result<()>
+    ensures { OnOk result (Appends (W.contents out.old) (W.contents out.new)
+        (first_lines (task_line setup.now) (length setup.now.plan.tasks))) }
+{
+    for task in 0..setup.plan().tasks() {
+        writeln!(out, "{}", task_line(setup, task))?;
+    }
+    Ok(())
+}
+
+/// A line for each scan, and behind it one for each of its requests.
+fn scans<W: Write>(out: &mut W, made: &Stepped) -> io::Result<()>
+    ensures { OnOk result (Appends (W.contents out.old) (W.contents out.new)
+        (first_texts (scan_lines made.now) (length made.now.each))) }
+{
+    for number in 0..made.scans() {
+        writeln!(out, "{}", made.scan_line(number))?;
+        requests(out, made, number)?;
+    }
+    Ok(())
+}
+
+/// A line for each request of the scan of this number.
+fn requests<W: Write>(out: &mut W, made: &Stepped, number: usize) -> io::Result<()>
+    requires { number < length made.now.each }
+    ensures { OnOk result (Appends (W.contents out.old) (W.contents out.new)
+        (requests_of_scan made.now number)) }
+{
+    let task = made.task_kind();
+    for request in made.requests(number) {
+        let line = RequestLine {
+            request: *request,
+            task,
+        };
+        writeln!(out, "request {line}")?;
+    }
+    Ok(())
+}
+
+/// A line for each variable.
+fn variables<W: Write>(out: &mut W, made: &Stepped) -> io::Result<()>
+    ensures { OnOk result (Appends (W.contents out.old) (W.contents out.new)
+        (first_lines (variable_line made.now) (length made.now.left.slots))) }
+{
+    for slot in 0..made.variables() {
+        writeln!(out, "{}", made.variable_line(slot))?;
+    }
+    Ok(())
+}

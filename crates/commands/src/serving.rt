@@ -1,0 +1,90 @@
+//! Serving an inquiry: its files are read, and its answer is printed.
+
+ghost use Rattle.std.specs.Prelude.{IfErr, IfOk, IsSomeAnd, option_map};
+ghost use Rattle.std.specs.Option.{option_copied};
+ghost use Rattle.commands.specs.Served.{IsGiven, IsNotRead, IsServed, IsUnserved};
+
+use crate::answers::respond;
+use crate::exit_status::ExitStatus;
+use crate::options::Inquiry;
+use crate::reading::{Disk, Unread};
+use crate::report;
+use std::alloc::Global;
+use std::io;
+use std::io::Write;
+
+/// Why an inquiry isn't served.
+#[derive(Drop)]
+pub enum Unserved<'a> {
+    /// A file wasn't read.
+    NotRead { path: &'a str, why: Unread },
+    /// The answer wasn't printed.
+    NotPrinted(io::Error),
+}
+
+impl From<io::Error> for Unserved<'_> {
+    ghost use Rattle.std.specs.Prelude.{◌≡◌};
+    ghost use Rattle.commands.specs.declared.serving.Unserved.TheVariants.{NotPrinted};
+
+    ghost from_gives = { λ error unserved. unserved ≡ NotPrinted error };
+
+    fn from(error: io::Error) -> Self {
+        Unserved::NotPrinted(error)
+    }
+}
+
+/// Reads the files that the inquiry names, the binding before the text, and prints the answer;
+/// the writer, which then has every line, and how the program ends.
+///
+/// # Errors
+///
+/// The first file that isn't read, or the writer's error.
+pub fn serve<'a, D: Disk, W: Write + Drop>(
+    alloc: Global,
+    disk: &D,
+    to: W,
+    inquiry: Inquiry<'a>,
+) -> Result<(W, ExitStatus), Unserved<'a>>
+    ensures served { IfOk result (λ done. IsServed (D.gives disk.now) inquiry.entry
+        (W.contents to) (W.contents done.0) done.1) }
+    ensures unserved { IfErr result
+        (IsUnserved (D.gives disk.now) (D.fails disk.now) inquiry.entry) }
+{
+    let files = inquiry.files();
+    let binding = binding_at(alloc, disk, files.binding)?;
+    let text = bytes_at(alloc, disk, files.text)?;
+    let answer = respond(alloc, inquiry, binding.as_deref(), &text);
+    Ok(report::print(alloc, to, &answer)?)
+}
+
+/// The bytes that the disk gives for the binding's path, where one is named.
+fn binding_at<'a, D: Disk>(
+    alloc: Global,
+    disk: &D,
+    path: Option<&'a str>,
+) -> Result<Option<Vec<u8>>, Unserved<'a>>
+    ensures given { IfOk result (λ read. IsGiven (D.gives disk.now) (option_copied path.entry)
+        (option_map (λ bytes. bytes.items) read)) }
+    ensures not_read { IfErr result (λ unserved. IsSomeAnd (option_copied path.entry)
+        (λ path. IsNotRead (D.fails disk.now) path unserved)) }
+{
+    match path {
+        Some(path) => Ok(Some(bytes_at(alloc, disk, path)?)),
+        None => Ok(None),
+    }
+}
+
+/// The bytes that the disk gives for a path.
+pub fn bytes_at<'a, D: Disk>(
+    alloc: Global,
+    disk: &D,
+    path: &'a str,
+) -> Result<Vec<u8>, Unserved<'a>>
+    ensures given { IfOk result (λ bytes. D.gives disk.now path.now bytes.items) }
+    ensures not_read { IfErr result (IsNotRead (D.fails disk.now) path.now) }
+{
+    match disk.read(alloc, path) {
+        Ok(bytes) => Ok(bytes),
+        Err(why) => Err(Unserved::NotRead { path, why }),
+    }
+}

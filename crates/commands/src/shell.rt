@@ -1,0 +1,100 @@
+//! The program over a runtime: its words, its files and its terminal.
+
+use crate::exit_status::ExitStatus;
+use crate::options;
+use crate::options::Invocation;
+use crate::playing::serve_play;
+use crate::reading::{HostDisk, Unread};
+use crate::serving::{Unserved, serve};
+use std::rt::{Env, Files};
+use std::{env, io};
+
+/// Reads the command line and does what it asks for.
+pub fn run<R: Files + Env + Print + Eprint + AllocGlobal>(rt: &R) -> ExitStatus {
+    match words(rt) {
+        Ok(words) => run_words(rt, words.as_slice()),
+        Err(error) => match error.kind() {
+            io::ErrorKind::OutOfMemory => no_memory(rt),
+            io::ErrorKind::InvalidData => not_text(rt),
+            _ => ExitStatus::Failed,
+        },
+    }
+}
+
+/// The words of the command line, the program's name first.
+///
+/// # Errors
+///
+/// One of them isn't UTF-8 (`InvalidData`), the allocator is out of memory, or they can't be read.
+fn words<R: Env + AllocGlobal>(rt: &R) -> io::Result<Vec<String>> {
+    let mut words = Vec::new(rt.alloc());
+    for word in env::args(rt)? {
+        words.push(word)?;
+    }
+    Ok(words)
+}
+
+/// Does what these words ask for.
+fn run_words<R: Files + Print + Eprint + AllocGlobal>(rt: &R, words: &[String]) -> ExitStatus {
+    match options::read(rt.alloc(), words) {
+        Ok(invocation) => run_invocation(rt, invocation),
+        Err(error) => match ExitStatus::of_words(error.kind()) {
+            ExitStatus::Failed => no_memory(rt),
+            status => printed(rt, error.print(rt), status),
+        },
+    }
+}
+
+/// Serves an invocation from the machine's files.
+fn run_invocation<R: Files + Print + Eprint + AllocGlobal>(
+    rt: &R,
+    invocation: Invocation,
+) -> ExitStatus {
+    let alloc = rt.alloc();
+    let disk = HostDisk { rt };
+    let out = io::writer(rt);
+    let served = match invocation {
+        Invocation::Ask(inquiry) => serve(alloc, &disk, out, inquiry),
+        Invocation::Play { files, limit } => serve_play(alloc, &disk, out, files, limit),
+    };
+    match served {
+        Ok((_, status)) => status,
+        Err(Unserved::NotRead { path, why }) => not_read(rt, path, why),
+        Err(Unserved::NotPrinted(error)) => printed(rt, Err(error), ExitStatus::Failed),
+    }
+}
+
+/// Reports that a file wasn't read.
+fn not_read<R: Print + Eprint>(rt: &R, path: &str, why: Unread) -> ExitStatus {
+    match why {
+        Unread::Memory => no_memory(rt),
+        Unread::Failed => printed(rt, eprintln!(rt; "cannot read {path}"), ExitStatus::Failed),
+    }
+}
+
+/// Reports that a word of the command line isn't text.
+fn not_text<R: Print + Eprint>(rt: &R) -> ExitStatus {
+    printed(
+        rt,
+        eprintln!(rt; "error: an argument is not UTF-8"),
+        ExitStatus::Misused,
+    )
+}
+
+/// Reports that the allocator is out of memory.
+fn no_memory<R: Print>(rt: &R) -> ExitStatus {
+    let _ = println!(rt; "no memory");
+    ExitStatus::Failed
+}
+
+/// The exit status, where what it goes with was printed. Wrong usage is wrong usage also where the
+/// message of it can't be printed.
+fn printed<R: Print>(rt: &R, done: io::Result<()>, status: ExitStatus) -> ExitStatus {
+    match (done, status) {
+        (Ok(()), _) | (Err(_), ExitStatus::Misused) => status,
+        (Err(error), _) => match error.kind() {
+            io::ErrorKind::OutOfMemory => no_memory(rt),
+            _ => ExitStatus::Failed,
+        },
+    }
+}

@@ -1,7 +1,0 @@
-use Rattle.std.specs.Io.KnownBytes.{Appends}
-use Rattle.dalictl.specs.Reports.{first_texts, scan_lines}
-use Rattle.dalictl.proofs.report.scans.Given as goal
-
-abbrev pub invariant-loop-number : goal.invariant-loop-number
-invariant-loop-number g l =
-    Appends (g.W.Write.contents l.fn.out) (g.W.Write.contents l.out) (first_texts (scan_lines l.made) l.number)

@@ -1,9 +1,0 @@
-use Rattle.ilcode.proofs.Runs.{run_within, closed_at_end}
-use Rattle.ilcode.proofs.tests.laws.runs_go_forward.Goals as goal
-
-pub returns : goal.returns
-returns c = record {
-  place = λ code from steps d run. (run_within code from steps d run.is).few;
-  within = λ code from steps d run. (run_within code from steps d run.is).inside;
-  closed = λ code from steps d run end. closed_at_end code from steps d run.is end;
-}

@@ -1,8 +1,0 @@
-use Rattle.ilcode.proofs.RunPaths.{safe_ends, one_end}
-use Rattle.ilcode.proofs.tests.laws.safe_runs_end_once.Goals as goal
-
-pub returns : goal.returns
-returns c = record {
-  ends = λ code from safe a. let h = safe_ends code safe from a in (h.steps, h.to, h.ends);
-  once = one_end;
-}

@@ -1,0 +1,606 @@
+//! Codes that no text compiles to, with their verdicts: numbers of slots, constants, ports and
+//! instances that are not there, parentheses that are not opened or not closed, and jumps that are
+//! not lawful. And that thousands of entries share their slots, which no clause can say.
+
+use ilblocks::Kind;
+use ilcode::{Code, Instruction, Operand, Variable};
+use iloperators::{Condition, Operator};
+use ilranges::{Known, Slots};
+use iltypes::{IlType, Range, Value};
+use ilverify::{VerifyError, verify};
+use std::alloc::{AllocError, Global};
+use std::test::Fail;
+
+/// The slots: x from 0 to 254, b of BOOL, and n from 0 to 5.
+const LEVEL: IlType = IlType::Int(Range { lo: 0, hi: 254 });
+
+const FEW: IlType = IlType::Int(Range { lo: 0, hi: 5 });
+
+const X: Operand = Operand::Slot(0);
+
+const B: Operand = Operand::Slot(1);
+
+const N: Operand = Operand::Slot(2);
+
+const NO_SLOT: Operand = Operand::Slot(3);
+
+/// The constants 10, TRUE, 0 and -1.
+const TEN: Operand = Operand::Constant(0);
+
+const TRUE: Operand = Operand::Constant(1);
+
+const ZERO: Operand = Operand::Constant(2);
+
+const MINUS_ONE: Operand = Operand::Constant(3);
+
+const NO_CONSTANT: Operand = Operand::Constant(4);
+
+/// The instances: a TON, and a GEAR_DO.
+const TIMER: u16 = 0;
+
+const GEAR: u16 = 1;
+
+const NO_INSTANCE: u16 = 2;
+
+/// The ports of the TON; it has no port of the last number.
+const IN: u8 = 0;
+
+const PT: u8 = 1;
+
+const Q: u8 = 2;
+
+const ET: u8 = 3;
+
+const NO_PORT: u8 = 4;
+
+const LD_X: Instruction = Instruction::Load {
+    negated: false,
+    operand: X,
+};
+
+const LD_B: Instruction = Instruction::Load {
+    negated: false,
+    operand: B,
+};
+
+const LD_N: Instruction = Instruction::Load {
+    negated: false,
+    operand: N,
+};
+
+const LD_TEN: Instruction = Instruction::Load {
+    negated: false,
+    operand: TEN,
+};
+
+const LD_TRUE: Instruction = Instruction::Load {
+    negated: false,
+    operand: TRUE,
+};
+
+const LD_MINUS_ONE: Instruction = Instruction::Load {
+    negated: false,
+    operand: MINUS_ONE,
+};
+
+const LD_NO_SLOT: Instruction = Instruction::Load {
+    negated: false,
+    operand: NO_SLOT,
+};
+
+const LD_NO_CONSTANT: Instruction = Instruction::Load {
+    negated: false,
+    operand: NO_CONSTANT,
+};
+
+const LD_NO_PORT: Instruction = Instruction::Load {
+    negated: false,
+    operand: Operand::Port {
+        port: NO_PORT,
+        block: TIMER,
+    },
+};
+
+const LD_NO_INSTANCE: Instruction = Instruction::Load {
+    negated: false,
+    operand: Operand::Port {
+        port: IN,
+        block: NO_INSTANCE,
+    },
+};
+
+const ST_X: Instruction = Instruction::Store {
+    negated: false,
+    variable: Variable::Slot(0),
+};
+
+const ST_B: Instruction = Instruction::Store {
+    negated: false,
+    variable: Variable::Slot(1),
+};
+
+const ST_NO_SLOT: Instruction = Instruction::Store {
+    negated: false,
+    variable: Variable::Slot(3),
+};
+
+const STN_NO_SLOT: Instruction = Instruction::Store {
+    negated: true,
+    variable: Variable::Slot(3),
+};
+
+const S_NO_SLOT: Instruction = Instruction::Set(Variable::Slot(3));
+
+const ST_Q: Instruction = Instruction::Store {
+    negated: false,
+    variable: Variable::Port {
+        port: Q,
+        block: TIMER,
+    },
+};
+
+const ST_ET: Instruction = Instruction::Store {
+    negated: false,
+    variable: Variable::Port {
+        port: ET,
+        block: TIMER,
+    },
+};
+
+const ST_NO_PORT: Instruction = Instruction::Store {
+    negated: false,
+    variable: Variable::Port {
+        port: NO_PORT,
+        block: TIMER,
+    },
+};
+
+const S_Q: Instruction = Instruction::Set(Variable::Port {
+    port: Q,
+    block: TIMER,
+});
+
+const S_NO_PORT: Instruction = Instruction::Set(Variable::Port {
+    port: NO_PORT,
+    block: TIMER,
+});
+
+/// PT := 10.
+const PASS_PT: Instruction = Instruction::Pass {
+    port: PT,
+    block: TIMER,
+    operand: TEN,
+};
+
+/// Q := TRUE, and Q := 10.
+const PASS_Q: Instruction = Instruction::Pass {
+    port: Q,
+    block: TIMER,
+    operand: TRUE,
+};
+
+const PASS_Q_TEN: Instruction = Instruction::Pass {
+    port: Q,
+    block: TIMER,
+    operand: TEN,
+};
+
+const PASS_NO_PORT: Instruction = Instruction::Pass {
+    port: NO_PORT,
+    block: TIMER,
+    operand: TRUE,
+};
+
+const PASS_NO_INSTANCE: Instruction = Instruction::Pass {
+    port: IN,
+    block: NO_INSTANCE,
+    operand: TRUE,
+};
+
+const PASS_NO_CONSTANT: Instruction = Instruction::Pass {
+    port: IN,
+    block: TIMER,
+    operand: NO_CONSTANT,
+};
+
+const CALL_TIMER: Instruction = Instruction::Call(TIMER);
+
+/// A call that makes a request.
+const ASK: Instruction = Instruction::Call(GEAR);
+
+const CALL_NOTHING: Instruction = Instruction::Call(NO_INSTANCE);
+
+const ADD_NO_SLOT: Instruction = Instruction::Apply(Operator::Add, NO_SLOT);
+
+const AND_TEN: Instruction = Instruction::Apply(Operator::And { negated: false }, TEN);
+
+const DIV_ZERO: Instruction = Instruction::Apply(Operator::Div, ZERO);
+
+const DIV_N: Instruction = Instruction::Apply(Operator::Div, N);
+
+const EQ_ZERO: Instruction = Instruction::Apply(Operator::Eq, ZERO);
+
+const OPEN: Instruction = Instruction::Open(Operator::Add);
+
+const OPEN_EQ: Instruction = Instruction::Open(Operator::Eq);
+
+const CLOSE: Instruction = Instruction::Close;
+
+/// JMP to the place 0, and so on.
+const JMP_0: Instruction = Instruction::Jump {
+    condition: Condition::Always,
+    target: 0,
+};
+
+const JMP_1: Instruction = Instruction::Jump {
+    condition: Condition::Always,
+    target: 1,
+};
+
+const JMP_2: Instruction = Instruction::Jump {
+    condition: Condition::Always,
+    target: 2,
+};
+
+const JMP_3: Instruction = Instruction::Jump {
+    condition: Condition::Always,
+    target: 3,
+};
+
+const JMP_4: Instruction = Instruction::Jump {
+    condition: Condition::Always,
+    target: 4,
+};
+
+const JMP_5: Instruction = Instruction::Jump {
+    condition: Condition::Always,
+    target: 5,
+};
+
+const JMPC_0: Instruction = Instruction::Jump {
+    condition: Condition::IfTrue,
+    target: 0,
+};
+
+const JMPC_1: Instruction = Instruction::Jump {
+    condition: Condition::IfTrue,
+    target: 1,
+};
+
+const JMPC_3: Instruction = Instruction::Jump {
+    condition: Condition::IfTrue,
+    target: 3,
+};
+
+const JMPC_4: Instruction = Instruction::Jump {
+    condition: Condition::IfTrue,
+    target: 4,
+};
+
+const JMPC_5: Instruction = Instruction::Jump {
+    condition: Condition::IfTrue,
+    target: 5,
+};
+
+const JMPC_6: Instruction = Instruction::Jump {
+    condition: Condition::IfTrue,
+    target: 6,
+};
+
+const JMPCN_0: Instruction = Instruction::Jump {
+    condition: Condition::IfFalse,
+    target: 0,
+};
+
+/// A code of two programs: its name, the place where the second begins, its words, and the number
+/// of the cause and the word, or 0 and the bound where it is accepted.
+type Row = (&'static str, usize, &'static [Instruction], (u8, usize));
+
+/// Numbers that a table does not have, stores to outputs, and arguments apart from a call.
+const NUMBERS: [Row; 33] = [
+    ("S no slot, no result", 1, &[S_NO_SLOT], (3, 0)),
+    ("S no slot", 2, &[LD_B, S_NO_SLOT], (11, 1)),
+    ("LD no constant", 1, &[LD_NO_CONSTANT], (11, 0)),
+    ("LD no slot", 1, &[LD_NO_SLOT], (11, 0)),
+    ("STN of a number", 2, &[LD_TEN, STN_NO_SLOT], (2, 1)),
+    ("ST no slot", 2, &[LD_TEN, ST_NO_SLOT], (11, 1)),
+    ("ADD no slot", 2, &[LD_TEN, ADD_NO_SLOT], (11, 1)),
+    ("ADD to TRUE", 2, &[LD_TRUE, ADD_NO_SLOT], (2, 1)),
+    ("ADD, no result", 1, &[ADD_NO_SLOT], (3, 0)),
+    ("ST Q of a number", 2, &[LD_TEN, ST_Q], (2, 1)),
+    ("ST Q", 2, &[LD_TRUE, ST_Q], (11, 1)),
+    ("ST ET", 2, &[LD_TEN, ST_ET], (11, 1)),
+    ("ST ET of -1", 2, &[LD_MINUS_ONE, ST_ET], (7, 1)),
+    ("ST no port", 2, &[LD_MINUS_ONE, ST_NO_PORT], (11, 1)),
+    ("S Q", 2, &[LD_TRUE, S_Q], (11, 1)),
+    ("S no port", 2, &[LD_TRUE, S_NO_PORT], (11, 1)),
+    ("ST Q, no result", 1, &[ST_Q], (3, 0)),
+    ("S Q, no result", 1, &[S_Q], (3, 0)),
+    ("LD no port", 1, &[LD_NO_PORT], (11, 0)),
+    ("LD of no instance", 1, &[LD_NO_INSTANCE], (11, 0)),
+    ("Q := TRUE", 1, &[PASS_Q], (11, 0)),
+    ("Q := 10", 1, &[PASS_Q_TEN], (2, 0)),
+    ("no port := TRUE", 1, &[PASS_NO_PORT], (11, 0)),
+    ("no instance's := TRUE", 1, &[PASS_NO_INSTANCE], (11, 0)),
+    ("IN := no constant", 1, &[PASS_NO_CONSTANT], (11, 0)),
+    ("CAL no instance", 1, &[CALL_NOTHING], (11, 0)),
+    ("the result stays", 3, &[LD_X, PASS_PT, ST_X], (0, 3)),
+    ("a number stays", 3, &[LD_X, PASS_PT, ST_B], (2, 2)),
+    ("none stays none", 2, &[PASS_PT, ST_X], (3, 1)),
+    (
+        "an argument removes a mark",
+        6,
+        &[LD_N, EQ_ZERO, PASS_PT, JMPC_6, LD_TEN, DIV_N],
+        (6, 5),
+    ),
+    (
+        "no instance makes no request",
+        18,
+        &[
+            ASK,
+            ASK,
+            ASK,
+            ASK,
+            ASK,
+            ASK,
+            ASK,
+            ASK,
+            ASK,
+            ASK,
+            ASK,
+            ASK,
+            ASK,
+            ASK,
+            ASK,
+            ASK,
+            CALL_NOTHING,
+            ASK,
+        ],
+        (11, 16),
+    ),
+    ("not reached", 3, &[JMP_2, LD_NO_SLOT, LD_X], (0, 2)),
+    ("reached", 3, &[JMP_1, LD_NO_SLOT, LD_X], (11, 1)),
+];
+
+/// Parentheses that are not opened, or not closed where nothing may be open; and jumps.
+const SHAPES: [Row; 47] = [
+    (") without (", 3, &[LD_X, CLOSE, ST_X], (4, 1)),
+    (") without a result", 1, &[CLOSE], (3, 0)),
+    ("open at the end", 3, &[LD_X, OPEN, LD_X], (5, 2)),
+    ("( at the end", 2, &[LD_X, OPEN], (5, 1)),
+    ("ST after (", 3, &[LD_X, OPEN, ST_X], (3, 2)),
+    (") after (", 3, &[LD_X, OPEN, CLOSE], (3, 2)),
+    ("( at a start", 2, &[LD_X, OPEN, LD_X], (5, 1)),
+    ("open at a start", 3, &[LD_X, OPEN, LD_X, LD_X], (5, 2)),
+    ("a start has no result", 2, &[LD_X, ST_X, ST_X], (3, 2)),
+    ("5 before 6", 4, &[LD_X, OPEN, LD_X, DIV_ZERO], (5, 3)),
+    (
+        "5 before 6, a start",
+        4,
+        &[LD_X, OPEN, LD_X, DIV_ZERO, LD_X],
+        (5, 3),
+    ),
+    ("2 before 5", 4, &[LD_X, OPEN, LD_X, AND_TEN], (2, 3)),
+    (
+        "2 before 5, a start",
+        4,
+        &[LD_X, OPEN, LD_X, AND_TEN, LD_X],
+        (2, 3),
+    ),
+    ("closed at the end", 4, &[LD_X, OPEN, LD_X, CLOSE], (0, 4)),
+    (
+        "closed at a start",
+        4,
+        &[LD_X, OPEN, LD_X, CLOSE, LD_X],
+        (0, 5),
+    ),
+    (
+        "CAL after (, at the end",
+        3,
+        &[LD_TEN, OPEN, CALL_TIMER],
+        (5, 2),
+    ),
+    (
+        "CAL after (",
+        5,
+        &[LD_TEN, OPEN, CALL_TIMER, LD_TEN, CLOSE],
+        (0, 5),
+    ),
+    ("JMP in ( )", 5, &[LD_N, OPEN, LD_N, JMP_4, CLOSE], (5, 3)),
+    (
+        "JMPC in ( )",
+        5,
+        &[LD_B, OPEN_EQ, LD_B, JMPC_4, CLOSE],
+        (5, 3),
+    ),
+    (
+        "JMPC back in ( )",
+        5,
+        &[LD_B, OPEN_EQ, LD_B, JMPC_0, CLOSE],
+        (5, 3),
+    ),
+    (
+        "into ( )",
+        6,
+        &[LD_B, JMPC_4, LD_N, OPEN, LD_N, CLOSE],
+        (5, 3),
+    ),
+    (
+        "over ( )",
+        6,
+        &[LD_B, JMPC_6, LD_N, OPEN, LD_N, CLOSE, LD_N],
+        (0, 7),
+    ),
+    (
+        "( not reached",
+        5,
+        &[JMP_3, LD_N, OPEN, LD_N, CLOSE],
+        (4, 4),
+    ),
+    (
+        "the 17th request comes before )",
+        18,
+        &[
+            ASK, ASK, ASK, ASK, ASK, ASK, ASK, ASK, ASK, ASK, ASK, ASK, ASK, ASK, ASK, ASK, ASK,
+            CLOSE,
+        ],
+        (10, 16),
+    ),
+    (
+        "the 17th request leaves ( open",
+        19,
+        &[
+            ASK, ASK, ASK, ASK, ASK, ASK, ASK, ASK, ASK, ASK, ASK, ASK, ASK, ASK, ASK, ASK, LD_N,
+            OPEN, ASK,
+        ],
+        (5, 18),
+    ),
+    ("0 to 0", 2, &[JMP_0, LD_X, LD_X, LD_X], (9, 0)),
+    ("0 to 1", 2, &[JMP_1, LD_X, LD_X, LD_X], (0, 4)),
+    ("0 to 2", 2, &[JMP_2, LD_X, LD_X, LD_X], (0, 3)),
+    (
+        "0 to 3, past a start",
+        2,
+        &[JMP_3, LD_X, LD_X, LD_X],
+        (9, 0),
+    ),
+    (
+        "0 to 4, past a start",
+        2,
+        &[JMP_4, LD_X, LD_X, LD_X],
+        (9, 0),
+    ),
+    ("1 to 0", 2, &[LD_X, JMP_0, LD_X, LD_X], (9, 1)),
+    ("1 to 1", 2, &[LD_X, JMP_1, LD_X, LD_X], (9, 1)),
+    ("1 to 2", 2, &[LD_X, JMP_2, LD_X, LD_X], (0, 4)),
+    (
+        "1 to 3, past a start",
+        2,
+        &[LD_X, JMP_3, LD_X, LD_X],
+        (9, 1),
+    ),
+    ("2 to 3", 2, &[LD_X, LD_X, JMP_3, LD_X], (0, 4)),
+    ("2 to the end", 2, &[LD_X, LD_X, JMP_4, LD_X], (0, 3)),
+    ("2 past the end", 2, &[LD_X, LD_X, JMP_5, LD_X], (9, 2)),
+    ("3 to the end", 2, &[LD_X, LD_X, LD_X, JMP_4], (0, 4)),
+    ("back, if", 4, &[LD_B, JMPC_0, LD_X, ST_X], (9, 1)),
+    ("to itself, if", 4, &[LD_B, JMPC_1, LD_X, ST_X], (9, 1)),
+    ("past the end, if", 4, &[LD_B, JMPC_5, LD_X, ST_X], (9, 1)),
+    ("past a start, if", 2, &[LD_B, JMPC_3, LD_X, ST_X], (9, 1)),
+    ("back, if not", 4, &[LD_B, JMPCN_0, LD_X, ST_X], (9, 1)),
+    ("back, of a number", 2, &[LD_X, JMPC_0], (2, 1)),
+    ("back, of no result", 1, &[JMPC_0], (3, 0)),
+    ("back, if not, of a number", 2, &[LD_X, JMPCN_0], (2, 1)),
+    ("back, if not, of no result", 1, &[JMPCN_0], (3, 0)),
+];
+
+/// The code of the words, of which the second program begins at a place; all stand on line 1.
+fn code(alloc: Global, start: usize, words: &[Instruction]) -> Result<Option<Code>, AllocError> {
+    if start > words.len() || words.len() > 65_536 {
+        return Ok(None);
+    }
+    let constants = vec![in alloc;
+        Value::Int(10),
+        Value::Bool(true),
+        Value::Int(0),
+        Value::Int(-1),
+    ]?;
+    let slots = vec![in alloc; LEVEL, IlType::Bool, FEW]?;
+    let kinds = vec![in alloc; Kind::Ton, Kind::GearDo]?;
+    let starts = vec![in alloc; 0usize, start]?;
+    let lines = vec![in alloc; 1usize; words.len()]?;
+    let words = Vec::from_slice(alloc, words)?;
+    Ok(Some(Code::new(1, constants, slots, kinds, starts, words, lines)))
+}
+
+/// The number of the cause and the word; 0 and the bound, where the code is accepted.
+fn verdict(alloc: Global, start: usize, words: &[Instruction]) -> Result<(u8, usize), Fail> {
+    let Some(code) = code(alloc, start, words)? else {
+        return Err("it is no code".into());
+    };
+    match verify(alloc, code) {
+        Ok(verified) => Ok((0, verified.bound() as usize)),
+        Err(VerifyError::Refused(refusal)) => Ok((refusal.cause.number(), refusal.word)),
+        Err(error) => Err(error.into()),
+    }
+}
+
+#[test]
+fn numbers_that_no_table_has(rt: HostRuntime) -> Result<(), Fail> {
+    for (name, start, words, wanted) in NUMBERS {
+        let found = verdict(rt.alloc(), start, words)?;
+        assert_eq!(rt; found, wanted, "{name}");
+    }
+    Ok(())
+}
+
+#[test]
+fn parentheses_and_jumps_that_no_text_has(rt: HostRuntime) -> Result<(), Fail> {
+    for (name, start, words, wanted) in SHAPES {
+        let found = verdict(rt.alloc(), start, words)?;
+        assert_eq!(rt; found, wanted, "{name}");
+    }
+    Ok(())
+}
+
+/// `LD 10`, then `ADD( 10` so many times, and then `)` as often.
+fn nested(alloc: Global, depth: usize) -> Result<Vec<Instruction>, AllocError> {
+    let mut words = vec![in alloc; LD_TEN]?;
+    for _ in 0..depth {
+        words.push(OPEN)?;
+        words.push(LD_TEN)?;
+    }
+    for _ in 0..depth {
+        words.push(CLOSE)?;
+    }
+    Ok(words)
+}
+
+#[test]
+fn the_33rd_parenthesis_is_refused(rt: HostRuntime) -> Result<(), Fail> {
+    for (depth, wanted) in [(32, (0, 97)), (33, (5, 65))] {
+        let words = nested(rt.alloc(), depth)?;
+        let found = verdict(rt.alloc(), words.len(), &words)?;
+        assert_eq!(rt; found, wanted, "{depth}");
+    }
+    // A code of 65,536 words is to have half a megabyte.
+    assert_eq!(rt; size_of::<Instruction>(), 8);
+    Ok(())
+}
+
+/// A slot of what was kept, and the greatest number that it may have there; the least is this one
+/// too, where it is 7.
+const KEPT: [(usize, usize, i64); 5] = [
+    (0, 0, 100),
+    (64, 63, 7),
+    (64, 64, 100),
+    (4095, 4095, 100),
+    (29_999, 4095, 7),
+];
+
+/// What is known of a slot from 0 to 100, or once it is known as 7.
+fn known_up_to(most: i64) -> Known {
+    if most == 7 {
+        Known::Int(Range { lo: 7, hi: 7 })
+    } else {
+        Known::Int(Range { lo: 0, hi: 100 })
+    }
+}
+
+/// Copies of these would take 2 gigabytes.
+#[test]
+fn thousands_share_their_slots(rt: HostRuntime) -> Result<(), Fail> {
+    let alloc = rt.alloc();
+    let types = vec![in alloc; IlType::Int(Range { lo: 0, hi: 100 }); 4096]?;
+    let mut slots = Slots::new(alloc, &types)?;
+    let mut kept = Vec::new(alloc);
+    for n in 0..30_000usize {
+        kept.push(slots.share()?)?;
+        slots.set(n % 4096, known_up_to(7))?;
+    }
+    for (n, slot, most) in KEPT {
+        let found = kept.get(n).and_then(|slots| slots.get(slot));
+        assert!(rt; found == Some(known_up_to(most)), "{n}");
+    }
+    Ok(())
+}

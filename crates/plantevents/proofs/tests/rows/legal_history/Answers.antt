@@ -1,5 +1,0 @@
-use Rattle.plantevents.proofs.LegalRows.{one_of_each_is_legal}
-use Rattle.plantevents.proofs.tests.rows.legal_history.Goals as goal
-
-pub returns : goal.returns
-returns c = one_of_each_is_legal

@@ -1,3 +1,0 @@
-//! The questions on worked histories, and each call once.
-
-mod rows;

@@ -1,0 +1,137 @@
+//! The body of a part of a row: lines, some of them repeated.
+
+use std::alloc::{AllocError, Global};
+
+/// The bytes that the lines of a part spell so far.
+#[derive(Drop)]
+pub struct Body {
+    bytes: Vec<u8>,
+    /// How many empty lines came last: they count only where another line follows.
+    blanks: usize,
+}
+
+impl Body {
+    /// The body of no line.
+    pub fn new(alloc: Global) -> Self {
+        Body {
+            bytes: Vec::new(alloc),
+            blanks: 0,
+        }
+    }
+
+    pub fn is_empty(&self) -> bool {
+        self.bytes.is_empty()
+    }
+
+    /// Adds a line with its end.
+    pub fn add_line(&mut self, line: &str) -> Result<(), AllocError> {
+        if line.is_empty() {
+            self.blanks = self.blanks.saturating_add(1);
+            return Ok(());
+        }
+        self.keep_blanks()?;
+        self.bytes.extend_from_slice(line.as_bytes())?;
+        self.bytes.push(b'\n')?;
+        Ok(())
+    }
+
+    /// Leaves out the empty lines that came last.
+    pub fn drop_blanks(&mut self) {
+        self.blanks = 0;
+    }
+
+    /// Adds the empty lines that came last.
+    fn keep_blanks(&mut self) -> Result<(), AllocError> {
+        for _ in 0..self.blanks {
+            self.bytes.push(b'\n')?;
+        }
+        self.blanks = 0;
+        Ok(())
+    }
+
+    /// Adds so many lines of a pattern.
+    pub fn add_times(&mut self, many: u32, pattern: &str) -> Result<(), AllocError> {
+        self.keep_blanks()?;
+        for number in 0..many {
+            self.add_numbered(pattern, number)?;
+            self.bytes.push(b'\n')?;
+        }
+        Ok(())
+    }
+
+    /// Adds a pattern, with its number for `{}`, the next one for `{1}` and a line's end for `{/}`.
+    fn add_numbered(&mut self, pattern: &str, number: u32) -> Result<(), AllocError> {
+        let mut is_first = true;
+        for piece in pattern.split('{') {
+            if is_first {
+                self.bytes.extend_from_slice(piece.as_bytes())?;
+                is_first = false;
+            } else {
+                self.add_piece(piece, number)?;
+            }
+        }
+        Ok(())
+    }
+
+    /// Adds what stands behind a `{`.
+    fn add_piece(&mut self, piece: &str, number: u32) -> Result<(), AllocError> {
+        if let Some(after) = piece.strip_prefix("}") {
+            self.add_number(number)?;
+            return self.bytes.extend_from_slice(after.as_bytes());
+        }
+        if let Some(after) = piece.strip_prefix("1}") {
+            self.add_number(number.saturating_add(1))?;
+            return self.bytes.extend_from_slice(after.as_bytes());
+        }
+        if let Some(after) = piece.strip_prefix("/}") {
+            self.bytes.push(b'\n')?;
+            return self.bytes.extend_from_slice(after.as_bytes());
+        }
+        self.bytes.push(b'{')?;
+        self.bytes.extend_from_slice(piece.as_bytes())
+    }
+
+    fn add_number(&mut self, number: u32) -> Result<(), AllocError> {
+        let alloc = *self.bytes.allocator();
+        let digits = format!(in alloc; "{number}")?;
+        self.bytes.extend_from_slice(digits.as_bytes())
+    }
+
+    /// The bytes.
+    pub fn into_bytes(self) -> Vec<u8> {
+        let Body { bytes, blanks: _ } = self;
+        bytes
+    }
+}
+
+/// The bytes that hex digits spell, where they spell some; blanks and line ends are skipped.
+pub fn bytes_of_hex(alloc: Global, digits: &[u8]) -> Result<Option<Vec<u8>>, AllocError> {
+    let mut bytes = Vec::new(alloc);
+    let mut high = None;
+    for digit in digits {
+        if *digit == b' ' || *digit == b'\n' {
+            continue;
+        }
+        let Some(value) = value_of_hex(*digit) else {
+            return Ok(None);
+        };
+        match high {
+            None => high = Some(value),
+            Some(first) => {
+                bytes.push((first << 4) | value)?;
+                high = None;
+            }
+        }
+    }
+    Ok(if high.is_none() { Some(bytes) } else { None })
+}
+
+/// The value of a hex digit.
+fn value_of_hex(digit: u8) -> Option<u8> {
+    match digit {
+        b'0'..=b'9' => Some(digit - b'0'),
+        b'a'..=b'f' => Some(digit - b'a' + 10),
+        b'A'..=b'F' => Some(digit - b'A' + 10),
+        _ => None,
+    }
+}

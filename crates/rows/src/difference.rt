@@ -1,0 +1,64 @@
+//! Why not all rows hold.
+
+use std::alloc::AllocError;
+use std::{fmt, io};
+
+/// What a row's command did that it shouldn't, or why its line isn't one of a row.
+#[derive(Debug, Drop)]
+pub enum Difference {
+    /// The line is none of a row.
+    Line,
+    /// It ended with another status.
+    Status(u8),
+    /// It printed something else: this.
+    Printed(String),
+    /// It complained of something else: this.
+    Complained(String),
+}
+
+impl fmt::Display for Difference {
+    fn fmt<W: fmt::Write>(&self, f: &mut fmt::Formatter<W>) -> fmt::Result {
+        match self {
+            Difference::Line => write!(f, "is no line of a row"),
+            Difference::Status(status) => write!(f, "ended with status {status}"),
+            Difference::Printed(text) => write!(f, "printed\n{text}"),
+            Difference::Complained(text) => write!(f, "complained\n{text}"),
+        }
+    }
+}
+
+/// Why the rows aren't judged to their end.
+#[derive(Debug, Drop)]
+pub enum Stop {
+    Memory,
+    /// A file of rows isn't read.
+    File(io::Error),
+    /// The first row that doesn't hold, the line of it where that shows, and why.
+    Row {
+        row: String,
+        line: String,
+        why: Difference,
+    },
+}
+
+impl From<AllocError> for Stop {
+    fn from(_: AllocError) -> Self {
+        Stop::Memory
+    }
+}
+
+impl From<io::Error> for Stop {
+    fn from(error: io::Error) -> Self {
+        Stop::File(error)
+    }
+}
+
+impl fmt::Display for Stop {
+    fn fmt<W: fmt::Write>(&self, f: &mut fmt::Formatter<W>) -> fmt::Result {
+        match self {
+            Stop::Memory => write!(f, "no memory"),
+            Stop::File(error) => write!(f, "a file of rows isn't read: {error}"),
+            Stop::Row { row, line, why } => write!(f, "row '{row}', at '{line}': {why}"),
+        }
+    }
+}

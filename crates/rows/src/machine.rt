@@ -1,0 +1,282 @@
+//! A machine that is held in memory: the command line's words, files, and what it prints.
+
+ghost use Rattle.std.specs.Io.{WritesAtMost};
+
+use std::alloc::{Allocator, Global};
+use std::cell::RefCell;
+use std::env::FillError;
+use std::fmt::Display;
+use std::fs::{Metadata, OpenFile, OpenOptions};
+use std::io;
+use std::io::{Read, Seek, SeekFrom, Write};
+use std::rt::{Env, Files};
+
+/// A file on the machine's disk.
+#[derive(Drop)]
+pub struct StoredFile {
+    pub path: String,
+    pub bytes: Vec<u8>,
+}
+
+/// Why the outputs take nothing, where they don't.
+#[derive(Clone, Copy)]
+pub struct Terminal {
+    pub output_fails: Option<io::ErrorKind>,
+    pub error_fails: Option<io::ErrorKind>,
+}
+
+impl Terminal {
+    /// A terminal that takes all.
+    pub const WHOLE: Terminal = Terminal {
+        output_fails: None,
+        error_fails: None,
+    };
+}
+
+/// A machine with a command line, files and a terminal. Its file `torn` can't be read to its end,
+/// and its file `starved` isn't read for lack of memory.
+#[derive(Drop)]
+pub struct Machine<'a> {
+    pub alloc: Global,
+    /// The words of the command line, without the program's name.
+    pub words: &'a [Vec<u8>],
+    pub files: &'a [StoredFile],
+    pub terminal: Terminal,
+    /// What was printed.
+    pub printed: RefCell<Vec<u8>>,
+    /// What was printed on standard error.
+    pub complained: RefCell<Vec<u8>>,
+}
+
+/// A file that is read: the bytes that are left, and how it ends.
+#[derive(Drop)]
+pub struct Page<'a> {
+    left: &'a [u8],
+    end: Option<io::ErrorKind>,
+}
+
+impl<'a> Machine<'a> {
+    /// A machine whose terminal is empty.
+    pub fn new(
+        alloc: Global,
+        words: &'a [Vec<u8>],
+        files: &'a [StoredFile],
+        terminal: Terminal,
+    ) -> Machine<'a> {
+        Machine {
+            alloc,
+            words,
+            files,
+            terminal,
+            printed: RefCell::new(Vec::new(alloc)),
+            complained: RefCell::new(Vec::new(alloc)),
+        }
+    }
+
+    /// Prints bytes on standard output, unless it fails.
+    fn print_bytes(&self, bytes: &[u8]) -> io::Result<()> {
+        add(&self.printed, self.terminal.output_fails, bytes)
+    }
+
+    /// Prints bytes on standard error, unless it fails.
+    fn complain(&self, bytes: &[u8]) -> io::Result<()> {
+        add(&self.complained, self.terminal.error_fails, bytes)
+    }
+}
+
+impl Page<'_> {
+    /// A file that ends with an error after its first line.
+    fn broken(end: io::ErrorKind) -> Self {
+        Page {
+            left: b"PROGRAM p\n",
+            end: Some(end),
+        }
+    }
+}
+
+/// Adds bytes to what an output has shown, unless it fails.
+fn add(on: &RefCell<Vec<u8>>, fails: Option<io::ErrorKind>, bytes: &[u8]) -> io::Result<()> {
+    if let Some(kind) = fails {
+        return Err(io::Error::from(kind));
+    }
+    match on.try_borrow_mut() {
+        Ok(mut shown) => {
+            shown.extend_from_slice(bytes)?;
+            Ok(())
+        }
+        Err(_) => Err(io::Error::from(io::ErrorKind::Other)),
+    }
+}
+
+impl Alloc for Machine<'_> {
+    type A = Global;
+
+    fn alloc(&self) -> Global {
+        self.alloc
+    }
+}
+
+impl Env for Machine<'_> {
+    fn arg(&self, i: usize, buf: &mut [u8]) -> Result<usize, FillError> {
+        let word = match i {
+            0 => "dalictl".as_bytes(),
+            _ => match self.words.get(i - 1) {
+                None => return Err(FillError::NotPresent),
+                Some(word) => word.as_slice(),
+            },
+        };
+        if word.len() > buf.len() {
+            return Err(FillError::TooLong);
+        }
+        buf[..word.len()].copy_from_slice(word);
+        Ok(word.len())
+    }
+
+    fn var(&self, _name: &str, _buf: &mut [u8]) -> Result<usize, FillError> {
+        Err(FillError::NotPresent)
+    }
+
+    fn var_at(&self, _i: usize, _buf: &mut [u8]) -> Result<usize, FillError> {
+        Err(FillError::NotPresent)
+    }
+}
+
+impl Print for Machine<'_> {
+    fn print<D: Display + Drop>(&self, value: D) -> io::Result<()> {
+        let text = format!(in self.alloc; "{value}")?;
+        self.print_bytes(text.as_bytes())
+    }
+
+    fn println<D: Display + Drop>(&self, value: D) -> io::Result<()> {
+        let text = format!(in self.alloc; "{value}\n")?;
+        self.print_bytes(text.as_bytes())
+    }
+
+    fn write_all(&self, bytes: &[u8]) -> io::Result<()> {
+        self.print_bytes(bytes)
+    }
+}
+
+impl Eprint for Machine<'_> {
+    fn eprint<D: Display + Drop>(&self, value: D) -> io::Result<()> {
+        let text = format!(in self.alloc; "{value}")?;
+        self.complain(text.as_bytes())
+    }
+
+    fn eprintln<D: Display + Drop>(&self, value: D) -> io::Result<()> {
+        let text = format!(in self.alloc; "{value}\n")?;
+        self.complain(text.as_bytes())
+    }
+}
+
+/// What this machine doesn't do.
+fn unsupported<T>() -> io::Result<T> {
+    Err(io::Error::from(io::ErrorKind::Unsupported))
+}
+
+impl<'a> Files for Machine<'a> {
+    type File = Page<'a>;
+
+    type Dir = Page<'a>;
+
+    fn open_file(&self, _how: &OpenOptions, path: &str) -> io::Result<Page<'a>> {
+        match path {
+            "torn" => return Ok(Page::broken(io::ErrorKind::Other)),
+            "starved" => return Ok(Page::broken(io::ErrorKind::OutOfMemory)),
+            _ => {}
+        }
+        match self.files.iter().find(|file| file.path.as_str() == path) {
+            Some(file) => Ok(Page {
+                left: file.bytes.as_slice(),
+                end: None,
+            }),
+            None => Err(io::Error::from(io::ErrorKind::NotFound)),
+        }
+    }
+
+    fn open_dir(&self, _path: &str) -> io::Result<Page<'a>> {
+        unsupported()
+    }
+
+    fn metadata(&self, _path: &str) -> io::Result<Metadata> {
+        unsupported()
+    }
+
+    fn symlink_metadata(&self, _path: &str) -> io::Result<Metadata> {
+        unsupported()
+    }
+
+    fn copy(&self, _from: &str, _to: &str) -> io::Result<u64> {
+        unsupported()
+    }
+
+    fn rename(&self, _from: &str, _to: &str) -> io::Result<()> {
+        unsupported()
+    }
+
+    fn remove_file(&self, _path: &str) -> io::Result<()> {
+        unsupported()
+    }
+
+    fn create_dir(&self, _path: &str) -> io::Result<()> {
+        unsupported()
+    }
+
+    fn remove_dir(&self, _path: &str) -> io::Result<()> {
+        unsupported()
+    }
+
+    fn remove_dir_all<B: Allocator>(&self, _alloc: B, _path: &str) -> io::Result<()> {
+        unsupported()
+    }
+}
+
+impl Read for Page<'_> {
+    fn read(&mut self, buf: &mut [u8]) -> io::Result<usize> {
+        if self.left.is_empty() {
+            return match self.end {
+                None => Ok(0),
+                Some(kind) => Err(io::Error::from(kind)),
+            };
+        }
+        let many = self.left.len().min(buf.len());
+        let (now, later) = self.left.split_at(many);
+        buf[..many].copy_from_slice(now);
+        self.left = later;
+        Ok(many)
+    }
+}
+
+impl Write for Page<'_> {
+    fn write(&mut self, _bytes: &[u8]) -> io::Result<usize> {
+        Err(io::Error::from(io::ErrorKind::Unsupported))
+    }
+
+    fn flush(&mut self) -> io::Result<()> {
+        unsupported()
+    }
+}
+
+impl Seek for Page<'_> {
+    fn seek(&mut self, _to: SeekFrom) -> io::Result<u64> {
+        unsupported()
+    }
+}
+
+impl OpenFile for Page<'_> {
+    fn metadata(&self) -> io::Result<Metadata> {
+        unsupported()
+    }
+
+    fn set_len(&self, _size: u64) -> io::Result<()> {
+        unsupported()
+    }
+
+    fn sync_all(&self) -> io::Result<()> {
+        unsupported()
+    }
+
+    fn sync_data(&self) -> io::Result<()> {
+        unsupported()
+    }
+}
