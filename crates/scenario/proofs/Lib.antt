@@ -1,3 +1,4 @@
+pub mod Declarations
 pub mod Judgement
 pub mod KnownStatements
 pub mod Orders

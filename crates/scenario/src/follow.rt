@@ -5,11 +5,12 @@ ghost use Rattle.std.specs.List.{list_any};
 ghost use Rattle.scenario.specs.Following.{is_gear_at, is_device_at, is_instance_at, is_reply_to};
 ghost use Rattle.scenario.specs.Following.{IsKnown, IsInTime, Follows, clock};
 
+use crate::known::{Declaration, Known};
 use crate::statements::Statement;
 use daliframe::{BusNumber, InstanceNumber, ShortAddress};
 
 /// Whether a statement may stand after those before it, at which the clock came to `now`.
-pub(crate) fn may_follow(before: &[Statement], now: Option<u64>, statement: &Statement) -> bool
+pub(crate) fn may_follow(before: &Known, now: Option<u64>, statement: &Statement) -> bool
     requires { now ≡ clock before.now }
     ensures { IsTrue result ↔ Follows before.now statement.now }
 {
@@ -53,7 +54,7 @@ fn is_nowhere(now: Option<u64>) -> bool
 }
 
 /// Whether what a statement names is declared before it, and what it declares is not.
-fn is_known(before: &[Statement], statement: &Statement) -> bool
+fn is_known(before: &Known, statement: &Statement) -> bool
     ensures { IsTrue result ↔ IsKnown before.now statement.now }
 {
     match *statement {
@@ -73,42 +74,42 @@ fn is_known(before: &[Statement], statement: &Statement) -> bool
 }
 
 /// Whether a control gear is declared.
-fn has_gear(before: &[Statement], bus: BusNumber, short: ShortAddress) -> bool
+fn has_gear(before: &Known, bus: BusNumber, short: ShortAddress) -> bool
     ensures { result ≡ list_any (is_gear_at bus short) before.now }
 {
-    before
-        .iter()
-        .any(|statement| statement.is_gear_at(bus, short))
+    before.has(Declaration::Gear {
+        bus: bus.number(),
+        short: short.number(),
+    })
 }
 
 /// Whether a control device is declared.
-fn has_device(before: &[Statement], bus: BusNumber, short: ShortAddress) -> bool
+fn has_device(before: &Known, bus: BusNumber, short: ShortAddress) -> bool
     ensures { result ≡ list_any (is_device_at bus short) before.now }
 {
-    before
-        .iter()
-        .any(|statement| statement.is_device_at(bus, short))
+    before.has(Declaration::Device {
+        bus: bus.number(),
+        short: short.number(),
+    })
 }
 
 /// Whether an instance is declared.
-fn has_instance(
-    before: &[Statement],
-    bus: BusNumber,
-    short: ShortAddress,
-    number: InstanceNumber,
-) -> bool
+fn has_instance(before: &Known, bus: BusNumber, short: ShortAddress, number: InstanceNumber) -> bool
     ensures { result ≡ list_any (is_instance_at bus short number) before.now }
 {
-    before
-        .iter()
-        .any(|statement| statement.is_instance_at(bus, short, number))
+    before.has(Declaration::Instance {
+        bus: bus.number(),
+        short: short.number(),
+        number: number.number(),
+    })
 }
 
 /// Whether a line says what becomes of a frame.
-fn has_reply(before: &[Statement], bus: BusNumber, place: u64) -> bool
+fn has_reply(before: &Known, bus: BusNumber, place: u64) -> bool
     ensures { result ≡ list_any (is_reply_to bus place) before.now }
 {
-    before
-        .iter()
-        .any(|statement| statement.is_reply_to(bus, place))
+    before.has(Declaration::Reply {
+        bus: bus.number(),
+        place,
+    })
 }

@@ -13,6 +13,7 @@ ghost use Rattle.scenario.specs.Scenarios.{IsBadScenario, IsJudged, IsScenario, 
 use crate::fault::{ScenarioCause, ScenarioFault};
 use crate::follow::may_follow;
 use crate::happenings::Happenings;
+use crate::known::Known;
 use crate::lines::statement_of;
 use crate::statements::Statement;
 use std::alloc::Global;
@@ -92,30 +93,32 @@ fn statements_of(alloc: Global, bytes: &[u8]) -> Result<Scenario, ScenarioFault>
     requires { length bytes.now ≤ most_bytes }
     ensures { IsJudged bytes.now result }
 {
-    let mut statements = Vec::new(alloc);
+    let mut known = Known::new(alloc);
     let mut clock = None;
     let mut rest = bytes;
     let mut line = 1;
     'lines: while !rest.is_empty() {
         let (content, after) = first_line(rest);
         if !is_skipped(content) {
-            let Some(statement) = next_statement(statements.as_slice(), clock, content) else {
+            let Some(statement) = next_statement(&known, clock, content) else {
                 return Err(ScenarioFault::At {
                     line,
                     cause: ScenarioCause::BadLine,
                 });
             };
             clock = statement.clock_after(clock);
-            statements.push(statement)?;
+            known = known.with(statement)?;
         }
         rest = after;
         line += 1;
     }
-    Ok(Scenario { statements })
+    Ok(Scenario {
+        statements: known.into_statements(),
+    })
 }
 
 /// The statement that a line adds to those before it, at which the clock came to `now`.
-fn next_statement(before: &[Statement], now: Option<u64>, line: &[u8]) -> Option<Statement>
+fn next_statement(before: &Known, now: Option<u64>, line: &[u8]) -> Option<Statement>
     requires read { ¬ (IsSkipped line.now) }
     requires clock { now ≡ clock before.now }
     ensures { MatchOption result

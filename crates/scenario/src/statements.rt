@@ -74,69 +74,8 @@ pub enum Statement {
 }
 
 impl Statement {
-    ghost use Rattle.std.specs.Prelude.{◌≡◌, IsTrue};
-    ghost use Rattle.scenario.specs.Following.{is_gear_at, is_device_at, is_instance_at};
-    ghost use Rattle.scenario.specs.Following.{is_reply_to, clock_after};
-
-    /// Whether it declares this control gear.
-    pub(crate) fn is_gear_at(&self, bus: BusNumber, short: ShortAddress) -> bool
-        ensures { result ≡ is_gear_at bus short self.now }
-    {
-        match *self {
-            Statement::Gear { bus: on, short: at } => on.number() == bus.number()
-                && at.number() == short.number(),
-            _ => false,
-        }
-    }
-
-    /// Whether it declares this control device.
-    pub(crate) fn is_device_at(&self, bus: BusNumber, short: ShortAddress) -> bool
-        ensures { result ≡ is_device_at bus short self.now }
-    {
-        match *self {
-            Statement::Device { bus: on, short: at } => on.number() == bus.number()
-                && at.number() == short.number(),
-            _ => false,
-        }
-    }
-
-    /// Whether it declares this instance of a control device.
-    pub(crate) fn is_instance_at(
-        &self,
-        bus: BusNumber,
-        short: ShortAddress,
-        number: InstanceNumber,
-    ) -> bool
-        ensures { result ≡ is_instance_at bus short number self.now }
-    {
-        match *self {
-            Statement::InputInstance {
-                bus: on,
-                short: at,
-                number: its,
-                ..
-            } => {
-                on.number() == bus.number()
-                    && at.number() == short.number()
-                    && its.number() == number.number()
-            }
-            _ => false,
-        }
-    }
-
-    /// Whether it says what becomes of this frame.
-    pub(crate) fn is_reply_to(&self, bus: BusNumber, place: u64) -> bool
-        ensures { result ≡ is_reply_to bus place self.now }
-    {
-        match *self {
-            Statement::Reply {
-                bus: on,
-                place: at,
-                ..
-            } => on.number() == bus.number() && at == place,
-            _ => false,
-        }
-    }
+    ghost use Rattle.std.specs.Prelude.{◌≡◌};
+    ghost use Rattle.scenario.specs.Following.{clock_after};
 
     /// The moment to which the clock comes, where it came to `now`.
     pub(crate) fn clock_after(&self, now: Option<u64>) -> Option<u64>

@@ -1,28 +1,25 @@
-use Rattle.std.proofs.Common.{◌≡◌, ◌++◌, [], ◌∷◌, List, true, ap, sym, subst, ◌∙◌, Option, ℕ, arith}
+use Rattle.std.proofs.Common.{◌≡◌, ◌++◌, [], ◌∷◌, true, ap, sym, subst, ◌∙◌, Option, ℕ, arith}
 use Rattle.scenario.specs.Following.{clock, clock_after, FollowOneAnother}
 use Rattle.wordlines.specs.LineRules.{Adds}
 use Rattle.scenario.specs.Scenarios.{scenario_rules}
-use Rattle.scenario.specs.declared.statements.Statement.{Statement}
 use Rattle.scenario.proofs.Orders.{follow-push, clock-push}
 use Rattle.scenario.proofs.ScenarioReading.{skipped_read, statement_read}
 use Rattle.scenario.proofs.scenario.statements_of.Goals as goal
-use Rattle.scenario.proofs.scenario.statements_of.Goals.{then-not-is_skipped+in-Some+in_ok-push, else-not-is_skipped}
+use Rattle.scenario.proofs.scenario.statements_of.Goals.{then-not-is_skipped+in-Some+in_ok-known, else-not-is_skipped}
 
 pub lines-preserved : goal.lines-preserved
 lines-preserved c =
     let known = c.lines.invariant in
     let line = c.first_line.result.0.now in
     let after = c.first_line.result.1.now in
-    let before = c.lines.statements.items in
-    let next = c.if-not-is_skipped.statements.items in
+    let before = c.lines.known in
+    let next = c.if-not-is_skipped.known in
     let first = c.first_line.ensures.line in
     elim c.if-not-is_skipped.branch [
-      | then-not-is_skipped+in-Some+in_ok-push w ↦
+      | then-not-is_skipped+in-Some+in_ok-known w ↦
           let statement = w.in-Some.statement in
-          let items : next ≡ before ++ statement ∷ [] = cc (w.in_ok-push.ensures.items) in
-          let slice : w.as_slice.result.now ≡ before = cc in
-          let adds : Adds scenario_rules before line statement = subst
-          (λ (es : List Statement). Adds scenario_rules es line statement) slice w.in-Some.ensures in
+          let items : next ≡ before ++ statement ∷ [] = cc (w.in_ok-known.ensures.more) in
+          let adds : Adds scenario_rules before line statement = w.in-Some.ensures in
           let now : c.if-not-is_skipped.clock ≡ clock_after c.lines.clock statement = cc in
           record {
             room = omega arith;

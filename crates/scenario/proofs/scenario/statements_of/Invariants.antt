@@ -7,9 +7,9 @@ abbrev pub invariant-lines : goal.invariant-lines
 invariant-lines l =
     record {
       room : l.line + length l.rest ≤ 1 + length l.fn.bytes;
-      stands : l.clock ≡ clock l.statements.items;
-      order : FollowOneAnother [] l.statements.items;
-      read : IsRead l.fn.bytes l.rest l.statements.items l.line;
+      stands : l.clock ≡ clock l.known;
+      order : FollowOneAnother [] l.known;
+      read : IsRead l.fn.bytes l.rest l.known l.line;
     }
 
 abbrev pub decreases-lines : goal.decreases-lines

@@ -1,0 +1,124 @@
+//! The statements of a scenario so far, and what they declare.
+
+ghost use Rattle.std.specs.Prelude.{◌≡◌};
+ghost use Rattle.scenario.specs.Known.{declared_by};
+
+use crate::fault::ScenarioFault;
+use crate::statements::Statement;
+use indexmap::IndexSet;
+use std::alloc::Global;
+use std::marker::Model;
+
+/// What a statement declares, which no later one may declare again: a key to be hashed, so the
+/// numbers stand as they are read.
+#[derive(Clone, Copy, PartialEq, Eq, Hash)]
+pub(crate) enum Declaration {
+    /// A control gear.
+    Gear { bus: u8, short: u8 },
+    /// A control device.
+    Device { bus: u8, short: u8 },
+    /// An instance of a control device.
+    Instance { bus: u8, short: u8, number: u8 },
+    /// What becomes of a frame.
+    Reply { bus: u8, place: u64 },
+}
+
+/// Statements in order. What they declare is found by hashing, so that a line costs the same
+/// however many stand before it.
+#[derive(Drop)]
+pub(crate) struct Known {
+    statements: Vec<Statement>,
+    declared: IndexSet<Declaration>,
+}
+
+impl Model for Known {
+    ghost use Rattle.std.specs.Prelude.{◌≡◌, List};
+    ghost use Rattle.scenario.specs.Known.{declarations};
+    ghost use Rattle.scenario.specs.declared.statements.Statement.{Statement};
+
+    ghost Value = { List Statement };
+
+    ghost view = { λ k. k.statements.items };
+
+    ghost invariant = { λ k. k.declared.keys ≡ declarations k.statements.items };
+}
+
+impl Known {
+    ghost use Rattle.std.specs.Prelude.{◌≡◌, [], ◌∷◌, ◌++◌, IfOk, OnErr, Err};
+    ghost use Rattle.std.specs.List.{list_any};
+    ghost use Rattle.scenario.specs.Following.{IsKnown};
+    ghost use Rattle.scenario.specs.Known.{declares};
+    ghost use Rattle.scenario.specs.declared.fault.ScenarioFault.TheVariants.{Memory};
+
+    /// No statements.
+    pub(crate) fn new(alloc: Global) -> Known
+        ensures { result ≡ [] }
+    {
+        Known {
+            statements: Vec::new(alloc),
+            declared: IndexSet::new(alloc),
+        }
+    }
+
+    /// Whether one of them makes a declaration.
+    pub(crate) fn has(&self, declaration: Declaration) -> bool
+        ensures { result ≡ list_any (declares declaration) self.now }
+    {
+        self.declared.contains(&declaration)
+    }
+
+    /// These and one more, which may stand after them.
+    pub(crate) fn with(mut self, statement: Statement) -> Result<Known, ScenarioFault>
+        requires { IsKnown self statement }
+        ensures more { IfOk result (λ more. more ≡ self ++ statement ∷ []) }
+        ensures memory { OnErr result (result ≡ Err Memory) }
+    {
+        if let Some(declaration) = declared_by(&statement) {
+            self.declared.insert(declaration)?;
+        }
+        self.statements.push(statement)?;
+        Ok(self)
+    }
+
+    /// They alone.
+    pub(crate) fn into_statements(self) -> Vec<Statement>
+        ensures { result.items ≡ self }
+    {
+        self.statements
+    }
+}
+
+/// What a statement declares, where it declares something.
+fn declared_by(statement: &Statement) -> Option<Declaration>
+    ensures { result ≡ declared_by statement.now }
+{
+    match *statement {
+        Statement::Gear { bus, short } => Some(Declaration::Gear {
+            bus: bus.number(),
+            short: short.number(),
+        }),
+        Statement::Device { bus, short } => Some(Declaration::Device {
+            bus: bus.number(),
+            short: short.number(),
+        }),
+        Statement::InputInstance {
+            bus,
+            short,
+            number,
+            ..
+        } => Some(Declaration::Instance {
+            bus: bus.number(),
+            short: short.number(),
+            number: number.number(),
+        }),
+        Statement::Reply { bus, place, .. } => Some(Declaration::Reply {
+            bus: bus.number(),
+            place,
+        }),
+        Statement::LampFailure { .. }
+        | Statement::Memory { .. }
+        | Statement::HearFault { .. }
+        | Statement::Tick { .. }
+        | Statement::Event { .. } => None,
+    }
+}
