@@ -5,6 +5,7 @@ mod MadeScans
 mod MeantScans
 mod OneStep
 mod Parsed
+mod PlaysOut
 mod ReportedLines
 mod ScenarioFaults
 mod TaskNames

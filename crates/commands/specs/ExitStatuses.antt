@@ -3,6 +3,8 @@ use Rattle.std.specs.Prelude.{ℕ}
 use Rattle.clap.specs.declared.error.ErrorKind.{ErrorKind}
 use Rattle.clap.specs.declared.error.ErrorKind.TheVariants as kinds
 use Rattle.scenario.specs.declared.fault.ScenarioFault.TheVariants as scenario_faults
+use Rattle.plantplay.specs.declared.playing.Ending.{Ending}
+use Rattle.plantplay.specs.declared.playing.Ending.TheVariants as endings
 use Rattle.commands.specs.declared.exit_status.ExitStatus.{ExitStatus}
 use Rattle.commands.specs.declared.exit_status.ExitStatus.TheVariants.{Accepted, Refused, Misused, Failed}
 use Rattle.commands.specs.declared.play_stop.PlayStop.{PlayStop}
@@ -23,6 +25,12 @@ status_of_words kinds.DisplayHelp = Accepted
 status_of_words kinds.DisplayVersion = Accepted
 status_of_words kinds.OutOfMemory = Failed
 status_of_words _ = Misused
+
+-- of a play: no bus went down; or one did, or the allocator was out of memory
+abbrev pub status_of_ending : Ending → ExitStatus
+status_of_ending endings.Up = Accepted
+status_of_ending endings.Down = Failed
+status_of_ending endings.NoMemory = Failed
 
 -- of what stands against a text: out of memory, or something is at fault
 abbrev pub status_of_stop : Stop → ExitStatus

@@ -7,10 +7,13 @@ use Rattle.plantload.specs.Loading.{IsSetup}
 use Rattle.scenario.specs.declared.statements.Statement.{Statement}
 use Rattle.scenario.specs.Scenarios.{IsScenario, IsJudged}
 use Rattle.simbus.specs.Simulated.{Simulated}
-use Rattle.plantplay.specs.Installations.{IsInstallation, IsStartFault}
+use Rattle.plantevents.specs.Legal.{AreLegal}
+use Rattle.plantdrive.specs.Texts.{AreAsMeant}
+use Rattle.plantplay.specs.Installations.{IsInstallation, IsStartFault, sim_log}
+use Rattle.plantplay.specs.Playing.{IsAtRest, IsEnding, lines_of}
 use Rattle.plantplay.specs.declared.installation.Installation.{Installation}
+use Rattle.plantplay.specs.declared.playing.Ending.{Ending}
 use Rattle.commands.specs.declared.exit_status.ExitStatus.{ExitStatus}
-use Rattle.commands.specs.declared.exit_status.ExitStatus.TheVariants.{Accepted, Failed}
 use Rattle.commands.specs.declared.options.PlayFiles.{PlayFiles}
 use Rattle.commands.specs.declared.play_stop.PlayStop.{PlayStop}
 use Rattle.commands.specs.declared.play_stop.PlayStop.TheVariants.{Text, Scenario, Start}
@@ -20,7 +23,7 @@ use Rattle.commands.specs.declared.serving.Unserved.{Unserved}
 use Rattle.commands.specs.declared.serving.Unserved.TheVariants.{NotRead, NotPrinted}
 use Rattle.commands.specs.Answered.{IsCheckStop, IsStopOrMemory}
 use Rattle.commands.specs.Connected.{IsConnected, IsBindingStop}
-use Rattle.commands.specs.ExitStatuses.{status_of_play_stop}
+use Rattle.commands.specs.ExitStatuses.{status_of_ending, status_of_play_stop}
 
 -- the bytes of the three files
 pub record PlayBytes : Type 0 where
@@ -63,18 +66,29 @@ IsPlayStop bytes limit (Text stop) = IsTextStop bytes stop
 IsPlayStop bytes limit (Scenario fault) = HasSetup bytes × IsJudged bytes.scenario (Err fault)
 IsPlayStop bytes limit (Start fault) = HasSetup bytes × HasScenario bytes × IsStartFault limit fault
 
+-- ---- what a play leaves
+
+-- The installation of the text on the buses of the scenario, to which nothing had happened, was played. What it leaves:
+-- the history is legal; each scan came to what the source program means of the snapshot that it took; each bus sent the
+-- attempts of its reports, one after another, and the history heard what came on it; and the play ended so.
+pub record IsPlayedOut (bytes : PlayBytes) (limit : ℕ) (ending : Ending) : Type 0 where
+  pub start : Installation Simulated
+  pub statements : List Statement
+  pub started : IsStarted bytes limit start statements
+  pub left : Installation Simulated
+  pub legal : AreLegal left.plant.plant left.plant.history
+  pub meant : AreAsMeant started.loaded.2.plan.tree started.loaded.0.buses left.plant.history
+  pub rest : IsAtRest left.plant (lines_of sim_log left.connections.items)
+  pub ended : IsEnding statements start.plant (lines_of sim_log start.connections.items) left.plant
+      (lines_of sim_log left.connections.items) ending
+
 -- ---- how the program ends
 
-abbrev pub CanStart : PlayBytes → ℕ → Type 0
-CanStart bytes limit =
-    (installation : Installation Simulated) × (statements : List Statement)
-    × IsStarted bytes limit installation statements
-
--- by what stands against it; or, where it started, done or failed: of that nothing more is said
+-- by what stands against it, or by how the play ended
 abbrev pub IsPlayEnd : PlayBytes → ℕ → ExitStatus → Type 0
 IsPlayEnd bytes limit status =
     ((stop : PlayStop) × IsPlayStop bytes limit stop × (status ≡ status_of_play_stop stop))
-    ⊎ (CanStart bytes limit × ((status ≡ Accepted) ⊎ (status ≡ Failed)))
+    ⊎ ((ending : Ending) × IsPlayedOut bytes limit ending × (status ≡ status_of_ending ending))
 
 -- the program ends so by what the disk gave for the three files; of what is printed nothing is said
 pub record IsPlayed (gives : List ℕ → List ℕ → Type 0) (files : PlayFiles) (limit : ℕ) (status : ExitStatus) : Type 0

@@ -2,6 +2,7 @@
 
 use crate::stop::Stop;
 use clap::error::ErrorKind;
+use plantplay::Ending;
 
 /// How a call of the program ends.
 #[derive(Clone, Copy, PartialEq, Eq, Debug)]
@@ -18,7 +19,8 @@ pub enum ExitStatus {
 
 impl ExitStatus {
     ghost use Rattle.std.specs.Prelude.{◌≡◌};
-    ghost use Rattle.commands.specs.ExitStatuses.{status_of_stop, status_of_words, number_of_status};
+    ghost use Rattle.commands.specs.ExitStatuses.{number_of_status, status_of_ending};
+    ghost use Rattle.commands.specs.ExitStatuses.{status_of_stop, status_of_words};
 
     /// The number that the program exits with.
     pub fn number(self) -> u8
@@ -40,6 +42,16 @@ impl ExitStatus {
             ErrorKind::DisplayHelp | ErrorKind::DisplayVersion => ExitStatus::Accepted,
             ErrorKind::OutOfMemory => ExitStatus::Failed,
             _ => ExitStatus::Misused,
+        }
+    }
+
+    /// Of how a play ended.
+    pub fn of_ending(ending: Ending) -> ExitStatus
+        ensures { result ≡ status_of_ending ending }
+    {
+        match ending {
+            Ending::Up => ExitStatus::Accepted,
+            Ending::Down | Ending::NoMemory => ExitStatus::Failed,
         }
     }
 

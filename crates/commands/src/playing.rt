@@ -13,7 +13,8 @@ use crate::reading::Disk;
 use crate::serving::{Unserved, bytes_at};
 use crate::stop::Stop;
 use ilsetup::Setup;
-use plantplay::{Ending, Installation, open, play};
+use plantdrive::scans_are_as_meant;
+use plantplay::{Installation, open, play};
 use simbus::{Scenario, ScenarioFault, SimBus, parse};
 use std::alloc::Global;
 use std::io;
@@ -86,10 +87,9 @@ fn report<W: Write>(alloc: Global, out: &mut W, pages: &Pages, limit: u32) -> io
 {
     match start(alloc, pages, limit) {
         Ok((mut installation, scenario)) => {
-            match play(alloc, out, &mut installation, &scenario)? {
-                Ending::Up => Ok(ExitStatus::Accepted),
-                Ending::Down | Ending::NoMemory => Ok(ExitStatus::Failed),
-            }
+            scans_are_as_meant();
+            let ending = play(alloc, out, &mut installation, &scenario)?;
+            Ok(ExitStatus::of_ending(ending))
         }
         Err(stop) => {
             writeln!(out, "{stop}")?;

@@ -1,6 +1,6 @@
 -- What is kept follows the history with one event more.
 use Rattle.std.proofs.Common.{◌≡◌, ◌≢◌, ⊎_elim, ℕ, eqb, ◌+◌, ◌<◌, ◌≤◌, Bool, true, false, not, List, []}
-use Rattle.std.proofs.Common.{◌∷◌, length, refl, sym, ap, ◌∙◌, ◌-◌, length-set, arith}
+use Rattle.std.proofs.Common.{◌∷◌, length, refl, sym, ap, ◌∙◌, ◌-◌, length-set, subst, arith}
 use Rattle.std.proofs.lemmas.Bool.{ne_eqb}
 use Rattle.std.proofs.lemmas.Bool.Decides.{eqb_tells}
 use Rattle.std.specs.Prelude.{if◌then◌else◌, slice_index_or}
@@ -199,3 +199,7 @@ reserved_says p k b after says up room more = record {
       room_kept (slice_index_or p.reserved.buses b false) k.length k.kept after p.limit (rw (l, e) room) more
       says.within;
 }
+
+pub within_limit : (p : Shown) (k : KeptPlant) → Says p k → length p.history + kept p ≤ p.limit
+within_limit p k says =
+    subst (λ n. n + kept p ≤ p.limit) says.place (subst (λ n. k.length + n ≤ p.limit) says.places says.within)

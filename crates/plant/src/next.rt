@@ -1,6 +1,7 @@
 //! What is handed out next, and its transaction.
 
 ghost use Rattle.std.specs.Prelude.{◌≡◌, true, IfSome};
+ghost use Rattle.gearcmd.specs.FrameLists.{IsLegal};
 ghost use Rattle.plant.specs.HandingSteps.{IsOfClass, IsLevel, transaction_by, first_by};
 ghost use Rattle.plant.specs.HandingSteps.{owed_level_by};
 ghost use Rattle.plantevents.specs.Variables.{whole};
@@ -39,7 +40,8 @@ impl Next {
 /// Its transaction.
 pub(crate) fn transaction_of(next: Next) -> Transaction
     requires { IsOfClass next.class next.origin }
-    ensures { result ≡ transaction_by next.class next.origin }
+    ensures value { result ≡ transaction_by next.class next.origin }
+    ensures legal { IsLegal result.frames result.first_priority }
 {
     let task = next.class.task();
     match next.origin {

@@ -1,12 +1,12 @@
 //! The plant.
 
-ghost use Rattle.std.specs.Prelude.{◌≡◌, ◌+◌, ◌<◌, ◌≤◌, false, length, not, nat_lt, ◌&&◌};
+ghost use Rattle.std.specs.Prelude.{◌≡◌, ◌+◌, ◌<◌, ◌≤◌, true, false, length, not, nat_lt, ◌&&◌};
 ghost use Rattle.std.specs.Prelude.{OnOk, OnErr, IfOk, IfErr};
 ghost use Rattle.plantevents.specs.declared.event.Event.TheVariants as event;
 ghost use Rattle.plantevents.specs.declared.role.Role.TheVariants as roles;
 ghost use Rattle.plantevents.specs.Histories.{moment as last_moment, is_down};
 ghost use Rattle.plantevents.specs.Legal.{AreLegal, IsUp};
-ghost use Rattle.plant.specs.Shown.{Shown, grown, reserving, is_full, opened};
+ghost use Rattle.plant.specs.Shown.{Shown, grown, reserving, is_reserved, is_full, opened};
 ghost use Rattle.plant.specs.Shown.{IsWorkerCount, IsLimit, IsOpenFault};
 ghost use Rattle.plant.specs.Refusals.{GivesFirst, tick_cases, may_tick_cases, heard_cases};
 ghost use Rattle.plant.specs.Refusals.{down_cases, is_full_for};
@@ -187,6 +187,7 @@ impl Plant {
     pub fn may_tick(&mut self) -> Result<(), Refusal>
         ensures refused { GivesFirst (may_tick_cases self.old) result }
         ensures ok { OnOk result (self.new ≡ reserving roles.Clock self.old) }
+        ensures keeps { OnOk result (is_reserved roles.Clock self.new ≡ true) }
         ensures err { OnErr result (self.new ≡ self.old) }
     {
         if !self.clock_place && self.is_full() {
@@ -259,6 +260,7 @@ impl Plant {
     pub fn may_hear(&mut self, bus: u8) -> Result<(), Refusal>
         ensures refused { GivesFirst (heard_cases self.old bus) result }
         ensures ok { OnOk result (self.new ≡ reserving (roles.Bus bus) self.old) }
+        ensures keeps { OnOk result (is_reserved (roles.Bus bus) self.new ≡ true) }
         ensures err { OnErr result (self.new ≡ self.old) }
     {
         self.allows_frame(bus)?;

@@ -6,12 +6,14 @@
 
 mod desk;
 mod driving;
+mod laws;
 mod places;
 mod sending;
 mod step;
 mod text;
 
 pub use driving::{Driven, drive};
+pub use laws::scans_are_as_meant;
 pub use sending::{Performed, SendError, send_next};
 pub use step::{Step, StepReply};
 pub use text::{DriveFault, drive_text};

@@ -1,6 +1,7 @@
 //! What is sent next on a bus.
 
-ghost use Rattle.std.specs.Prelude.{◌≡◌, None, IfOk, IfErr, OnOk, OnErr};
+ghost use Rattle.std.specs.Prelude.{◌≡◌, ◌≤◌, None, IfOk, IfErr, OnOk, OnErr};
+ghost use Rattle.transact.specs.Attempts.{most_sent};
 ghost use Rattle.buslink.specs.BusLog.{with_spare};
 ghost use Rattle.buslink.specs.Performing.{after_report};
 ghost use Rattle.plant.specs.Refusals.{first_refusal, hand_cases};
@@ -69,6 +70,10 @@ pub fn send_next<B: Bus>(plant: &mut Plant, bus: u8, line: &mut B) -> Result<Per
         B.log line.new ≡ after_report done.report (B.log line.new).spare (B.log line.old)) }
     ensures error { IfErr result (IsSendError plant.old bus) }
     ensures err { OnErr result (plant.new ≡ plant.old) }
+
+    // Want of memory is answered only where the line had no room before.
+    ensures enough { most_sent ≤ (B.log line.old).spare
+        → IfErr result (λ error. ¬ (error ≡ SendError.Memory)) }
     ensures err_line { OnErr result
         (B.log line.new ≡ with_spare (B.log line.new).spare (B.log line.old)) }
 {

@@ -1,6 +1,7 @@
 -- The history with an event of each kind is legal.
 use Rattle.std.proofs.Common.{◌≡◌, inl, inr, ℕ, zero, suc, ◌<◌, true, [], ◌∷◌, length, refl, arith}
 use Rattle.std.specs.Prelude.{slice_get, option_and_then}
+use Rattle.daliframe.specs.declared.addressing.Address.TheVariants.{Short}
 use Rattle.transact.specs.declared.marks.Mark.TheVariants as mark
 use Rattle.transact.specs.Attempts.{IsReportParts}
 use Rattle.iltypes.specs.Values.{IsOf}
@@ -79,7 +80,12 @@ one_of_each_is_legal = (
     (
       record { known = omega arith; handed = _; is_open = refl; place = refl; transaction = refl; report = reports },
       (
-        record { up = record { known = omega arith; up = refl }; idle = refl; first = refl },
+        record {
+          up = record { known = omega arith; up = refl };
+          idle = refl;
+          first = refl;
+          legal = inl (inl refl, inl (Short 5, 0, omega arith, omega arith, refl));
+        },
         (
           record {
             known = omega arith;

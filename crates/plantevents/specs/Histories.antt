@@ -1,9 +1,10 @@
 -- What happened, and what is open. A history is kept from its newest event: e ∷ h is h, and then e. The place of e in
 -- it is length h, and the fronts of e ∷ h are itself and the fronts of h.
-use Rattle.std.specs.Prelude.{ℕ, ◌+◌, ◌%◌, ◌^◌, ◌==◌, ◌&&◌, Bool, true, false, List, [], ◌∷◌, length}
+use Rattle.std.specs.Prelude.{ℕ, ◌+◌, ◌%◌, ◌^◌, ◌==◌, ◌&&◌, Bool, true, false, List, [], ◌∷◌, ◌++◌, length}
 use Rattle.std.specs.Prelude.{Option, Some, None, if◌then◌else◌}
 use Rattle.dalievent.specs.declared.messages.Source.{Source}
 use Rattle.gearcmd.specs.FrameLists.{FrameList}
+use Rattle.transact.specs.declared.marks.Sent.{Sent}
 use Rattle.ilimage.specs.Snapshots.{ScanStart}
 use Rattle.plantevents.specs.declared.event.Origin.{Origin}
 use Rattle.plantevents.specs.declared.event.Event.{Event}
@@ -91,3 +92,17 @@ abbrev pub heards : ℕ → List Event → ℕ
 heards b [] = 0
 heards b (Heard c f ∷ h) = if c == b then heards b h + 1 else heards b h
 heards b (e ∷ h) = heards b h
+
+-- ---- what went over the links
+
+-- the frames that bus b sent by its reports, first to last, each with its priority and what became of it
+abbrev pub sent_in : ℕ → List Event → List Sent
+sent_in b [] = []
+sent_in b (Done c n r ∷ h) = if c == b then sent_in b h ++ r.attempts else sent_in b h
+sent_in b (e ∷ h) = sent_in b h
+
+-- the 24-bit frames that were heard on bus b, first to last
+abbrev pub heard_in : ℕ → List Event → List ℕ
+heard_in b [] = []
+heard_in b (Heard c f ∷ h) = if c == b then heard_in b h ++ f ∷ [] else heard_in b h
+heard_in b (e ∷ h) = heard_in b h

@@ -1,6 +1,6 @@
 -- Which histories are legal (IEC 61131-3, 2.7.2, IEC 62386-101, and profile).
 use Rattle.std.specs.Prelude.{◌≡◌, ℕ, ◌<◌, ◌≤◌, false, List, [], ◌∷◌, slice_get, Some, None, ⊤}
-use Rattle.gearcmd.specs.FrameLists.{FrameList}
+use Rattle.gearcmd.specs.FrameLists.{FrameList, IsLegal}
 use Rattle.transact.specs.Attempts.{ReportParts, IsReportParts}
 use Rattle.ilplan.specs.Plans.{PlannedTask}
 use Rattle.ilplan.specs.PlanMeaning.{plan_scan}
@@ -45,11 +45,12 @@ pub record IsCommit (p : Plant) (h : List Event) (w n : ℕ) (result : Scan) : T
   pub place : running.place ≡ n
   pub meant : IsResult p running result
 
--- a bus that is up and has nothing open is handed the first of what may be handed to it
+-- a bus that is up and has nothing open is handed the first of what may be handed to it, whose frames are legal
 pub record IsHand (p : Plant) (h : List Event) (b : ℕ) (s : Origin) (t : FrameList) : Type 0 where
   pub up : IsUp p h b
   pub idle : hand b h ≡ None
   pub first : slice_get (handouts p b h) 0 ≡ Some (record { origin = s; transaction = t })
+  pub legal : IsLegal t.frames t.first_priority
 
 -- the report is one of the transaction that was handed out at place n and is open
 pub record IsDone (p : Plant) (h : List Event) (b n : ℕ) (r : ReportParts) : Type 0 where

@@ -1,6 +1,7 @@
 -- An installation that starts: a plant to which nothing has happened, on the simulated buses of a scenario (profile).
 use Rattle.std.specs.Prelude.{◌≡◌, ℕ, zero, suc, false, List, [], ◌∷◌, ◌++◌, ⊤}
 use Rattle.std.specs.List.{filter_map}
+use Rattle.buslink.specs.BusLog.{BusLog}
 use Rattle.scenario.specs.declared.statements.Statement.{Statement}
 use Rattle.simbus.specs.Setups.{gear_on, memory_on, instance_on, reply_on, arrival_on}
 use Rattle.simbus.specs.Histories.{Setup}
@@ -20,6 +21,10 @@ equipment_of scenario bus =
       memory = filter_map (memory_on bus) scenario;
       instances = filter_map (instance_on bus) scenario;
     }
+
+-- what became of a simulated bus
+abbrev pub sim_log : Simulated → BusLog
+sim_log bus = bus.log
 
 -- the bus of a scenario with this number, on which nothing happened, and which is not down
 abbrev pub connection_of : List Statement → ℕ → Connection Simulated

@@ -1,1 +1,3 @@
 pub mod Installations
+pub mod PlaySteps
+pub mod Playing

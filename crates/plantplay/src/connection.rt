@@ -1,6 +1,10 @@
 //! Buses with their interfaces.
 
+ghost use Rattle.plantplay.specs.Playing.{line_of};
+ghost use Rattle.plantplay.specs.PlaySteps.{IsServed, Stops};
+
 use crate::halt::Halt;
+use buslink::Bus;
 use plant::Plant;
 use std::io::Write;
 
@@ -27,17 +31,22 @@ impl<B> Connection<B> {
             is_down: false,
         }
     }
+}
 
+impl<B: Bus> Connection<B> {
     /// Takes the bus, whose interface failed, out of use.
-    pub(crate) fn put_down<W: Write>(
-        &mut self,
-        plant: &mut Plant,
-        out: &mut W,
-    ) -> Result<(), Halt> {
-        if plant.down(self.bus).is_ok() {
-            self.is_down = true;
-            writeln!(out, "down {}", self.bus)?;
+    pub(crate) fn put_down<W: Write>(&mut self, plant: &mut Plant, out: &mut W) -> Result<(), Halt>
+        ensures served { IsServed plant.old plant.new (line_of B.log self.old)
+            (line_of B.log self.new) }
+        ensures stops { Stops plant.new result }
+    {
+        match plant.down(self.bus) {
+            Ok(()) => {
+                self.is_down = true;
+                writeln!(out, "down {}", self.bus)?;
+                Ok(())
+            }
+            Err(_) => Ok(()),
         }
-        Ok(())
     }
 }

@@ -15,12 +15,22 @@ pub(crate) enum Halt {
 }
 
 impl From<AllocError> for Halt {
+    ghost use Rattle.std.specs.Prelude.{◌≡◌};
+    ghost use Rattle.plantplay.specs.declared.halt.Halt.TheVariants.{Memory};
+
+    ghost from_gives = { λ _ halt. halt ≡ Memory };
+
     fn from(_refused: AllocError) -> Self {
         Halt::Memory
     }
 }
 
 impl From<io::Error> for Halt {
+    ghost use Rattle.std.specs.Prelude.{◌≡◌};
+    ghost use Rattle.plantplay.specs.declared.halt.Halt.TheVariants.{Unwritten};
+
+    ghost from_gives = { λ error halt. halt ≡ Unwritten error };
+
     fn from(error: io::Error) -> Self {
         Halt::Unwritten(error)
     }

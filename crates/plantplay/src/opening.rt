@@ -3,7 +3,8 @@
 ghost use Rattle.std.specs.Prelude.{◌≡◌, ◌≤◌, IfErr, IfOk};
 ghost use Rattle.limits.specs.Limits.{most_buses};
 ghost use Rattle.plantplay.specs.Installations.{IsInstallation, IsStartFault};
-ghost use Rattle.plantplay.specs.Installations.{connection_of, connections_of};
+ghost use Rattle.plantplay.specs.Installations.{connection_of, connections_of, sim_log};
+ghost use Rattle.plantplay.specs.Playing.{IsAtRest, lines_of};
 
 use crate::Installation;
 use crate::connection::Connection;
@@ -61,6 +62,8 @@ pub fn open(
     limit: u64,
 ) -> Result<Installation<SimBus>, StartFault>
     ensures installation { IfOk result (IsInstallation setup scenario.now limit) }
+    ensures rest { IfOk result (λ made. IsAtRest made.plant
+        (lines_of sim_log made.connections.items)) }
     ensures fault { IfErr result (IsStartFault limit) }
 {
     let connections = connections_of(alloc, setup.plan().buses(), scenario)?;

@@ -1,7 +1,13 @@
 //! Playing a scenario.
 
+ghost use Rattle.std.specs.Prelude.{◌≡◌, ◌∷◌, ◌++◌, [], IfOk, OnOk};
+ghost use Rattle.scenario.specs.Happenings.{happenings};
+ghost use Rattle.plantevents.specs.Legal.{AreLegal};
+ghost use Rattle.plantplay.specs.Playing.{IsAtRest, IsEnding, IsPlay, given_in, lines_of};
+ghost use Rattle.plantplay.specs.PlaySteps.{IsQuietOrSame, Stops, given_after, ticks_to_come};
+ghost use Rattle.plantplay.specs.Installations.{sim_log};
+
 use crate::Installation;
-use crate::connection::Connection;
 use crate::ending::write_end;
 use crate::halt::Halt;
 use daliframe::BusNumber;
@@ -35,15 +41,27 @@ pub fn play<W: Write>(
     out: &mut W,
     installation: &mut Installation<SimBus>,
     scenario: &Scenario,
-) -> io::Result<Ending> {
-    match installation.follow(alloc, out, scenario) {
+) -> io::Result<Ending>
+    ensures play { IsPlay installation.old.plant
+        (lines_of sim_log installation.old.connections.items) installation.new.plant
+        (lines_of sim_log installation.new.connections.items) }
+    ensures legal { AreLegal installation.new.plant.plant installation.new.plant.history }
+    ensures ending { IfOk result (IsEnding scenario.now installation.old.plant
+        (lines_of sim_log installation.old.connections.items) installation.new.plant
+        (lines_of sim_log installation.new.connections.items)) }
+{
+    let played = installation.follow(alloc, out, scenario);
+    let _legal = installation.plant.len();
+    match played {
         Ok(()) => {}
-        Err(Halt::Limit) => writeln!(out, "limit")?,
-        Err(Halt::Memory) => {
-            writeln!(out, "no memory")?;
-            return Ok(Ending::NoMemory);
-        }
-        Err(Halt::Unwritten(error)) => return Err(error),
+        Err(halt) => match halt {
+            Halt::Limit => writeln!(out, "limit")?,
+            Halt::Memory => {
+                writeln!(out, "no memory")?;
+                return Ok(Ending::NoMemory);
+            }
+            Halt::Unwritten(error) => return Err(error),
+        },
     }
     write_end(out, &installation.plant)?;
     if installation.has_down() {
@@ -60,7 +78,15 @@ impl Installation<SimBus> {
         alloc: Global,
         out: &mut W,
         scenario: &Scenario,
-    ) -> Result<(), Halt> {
+    ) -> Result<(), Halt>
+        ensures play { IsPlay self.old.plant (lines_of sim_log self.old.connections.items)
+            self.new.plant (lines_of sim_log self.new.connections.items) }
+        ensures given { OnOk result (given_in self.new.plant.history
+            ≡ given_in self.old.plant.history ++ ticks_to_come (happenings scenario.now)) }
+        ensures quiet { IsAtRest self.old.plant (lines_of sim_log self.old.connections.items)
+            → OnOk result (IsQuietOrSame self.old.plant self.new.plant) }
+        ensures stops { Stops self.new.plant result }
+    {
         let mut happenings = scenario.happenings();
         for _ in scenario.lines() {
             match happenings.next() {
@@ -78,7 +104,15 @@ impl Installation<SimBus> {
         alloc: Global,
         out: &mut W,
         happening: Happening,
-    ) -> Result<(), Halt> {
+    ) -> Result<(), Halt>
+        ensures play { IsPlay self.old.plant (lines_of sim_log self.old.connections.items)
+            self.new.plant (lines_of sim_log self.new.connections.items) }
+        ensures given { OnOk result (given_in self.new.plant.history
+            ≡ given_after happening (given_in self.old.plant.history)) }
+        ensures quiet { IsAtRest self.old.plant (lines_of sim_log self.old.connections.items)
+            → OnOk result (IsQuietOrSame self.old.plant self.new.plant) }
+        ensures stops { Stops self.new.plant result }
+    {
         match happening {
             Happening::Tick { moment } => {
                 self.tick(out, moment)?;
@@ -98,7 +132,13 @@ impl Installation<SimBus> {
     }
 
     /// The clock comes to a moment.
-    fn tick<W: Write>(&mut self, out: &mut W, moment: u64) -> Result<(), Halt> {
+    fn tick<W: Write>(&mut self, out: &mut W, moment: u64) -> Result<(), Halt>
+        ensures play { IsPlay self.old.plant (lines_of sim_log self.old.connections.items)
+            self.new.plant (lines_of sim_log self.new.connections.items) }
+        ensures given { OnOk result (given_in self.new.plant.history
+            ≡ given_in self.old.plant.history ++ moment ∷ []) }
+        ensures stops { Stops self.new.plant result }
+    {
         match self.plant.tick(moment) {
             Ok(()) => Ok(writeln!(out, "tick {moment}")?),
             Err(_) => Err(Halt::Limit),
@@ -106,13 +146,17 @@ impl Installation<SimBus> {
     }
 
     /// What comes next on a bus comes now. Whether there is such a bus.
-    fn arrive(&mut self, bus: BusNumber) -> bool {
-        for connection in self.connections.iter_mut() {
-            if connection.bus == bus.number() {
-                let _ = connection.interface.arrive();
-                return true;
-            }
+    fn arrive(&mut self, bus: BusNumber) -> bool
+        ensures play { IsPlay self.old.plant (lines_of sim_log self.old.connections.items)
+            self.new.plant (lines_of sim_log self.new.connections.items) }
+        ensures plant { self.new.plant ≡ self.old.plant }
+    {
+        let place = usize::from(bus.number());
+        if place < self.connections.len() {
+            let _ = self.connections[place].interface.arrive();
+            true
+        } else {
+            false
         }
-        false
     }
 }

@@ -1,5 +1,9 @@
 //! Transactions on a bus.
 
+ghost use Rattle.plant.specs.Refusals.{hand_cases};
+ghost use Rattle.plantplay.specs.Playing.{line_of};
+ghost use Rattle.plantplay.specs.PlaySteps.{HasNothing, IsServed, Stops, Tells};
+
 use crate::connection::Connection;
 use crate::halt::Halt;
 use crate::lines::{OutcomeLine, TransactionLine};
@@ -15,19 +19,32 @@ impl<B: Bus> Connection<B> {
         &mut self,
         plant: &mut Plant,
         out: &mut W,
-    ) -> Result<bool, Halt> {
+    ) -> Result<bool, Halt>
+        ensures served { IsServed plant.old plant.new (line_of B.log self.old)
+            (line_of B.log self.new) }
+        ensures turn { Tells (HasNothing (hand_cases plant.old self.old.bus)) plant.old plant.new
+            result }
+        ensures stops { Stops plant.new result }
+    {
         let mut any = false;
-        for _ in 0..plant.limit() {
+        for _ in 0..plant.limit() + 1 {
             if !self.send_next(plant, out)? {
                 return Ok(any);
             }
             any = true;
         }
-        Ok(any)
+        let _within = plant.len();
+        unreachable!()
     }
 
     /// Is handed the next transaction, and sends it. Whether there was one.
-    fn send_next<W: Write>(&mut self, plant: &mut Plant, out: &mut W) -> Result<bool, Halt> {
+    fn send_next<W: Write>(&mut self, plant: &mut Plant, out: &mut W) -> Result<bool, Halt>
+        ensures served { IsServed plant.old plant.new (line_of B.log self.old)
+            (line_of B.log self.new) }
+        ensures turn { Tells (HasNothing (hand_cases plant.old self.old.bus)) plant.old plant.new
+            result }
+        ensures stops { Stops plant.new result }
+    {
         match send_next(plant, self.bus, &mut self.interface) {
             Ok(performed) => {
                 self.follow(plant, out, &performed.report)?;
@@ -45,7 +62,11 @@ impl<B: Bus> Connection<B> {
         plant: &mut Plant,
         out: &mut W,
         report: &Report,
-    ) -> Result<(), Halt> {
+    ) -> Result<(), Halt>
+        ensures served { IsServed plant.old plant.new (line_of B.log self.old)
+            (line_of B.log self.new) }
+        ensures stops { Stops plant.new result }
+    {
         let handed = TransactionLine {
             bus: self.bus,
             transaction: report.transaction(),

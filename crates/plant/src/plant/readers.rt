@@ -1,6 +1,6 @@
 //! What is read of a plant.
 
-ghost use Rattle.std.specs.Prelude.{◌≡◌, ◌≤◌, ◌<◌, length, Some};
+ghost use Rattle.std.specs.Prelude.{◌≡◌, ◌+◌, ◌≤◌, ◌<◌, length, Some};
 ghost use Rattle.ilimage.specs.Images.{Global as GlobalVariable};
 ghost use Rattle.busqueue.specs.Queues.{class_number};
 ghost use Rattle.plantevents.specs.Plants.{activator};
@@ -9,6 +9,7 @@ ghost use Rattle.plantevents.specs.Readiness.{lost};
 ghost use Rattle.plantevents.specs.Variables.{value};
 ghost use Rattle.plantevents.specs.Waiting.{dropped};
 ghost use Rattle.plantevents.specs.Legal.{AreLegal};
+ghost use Rattle.plant.specs.Shown.{kept};
 
 use super::Plant;
 use busqueue::Class;
@@ -43,6 +44,9 @@ impl Plant {
     pub fn len(&self) -> u64
         ensures value { result ≡ length self.now.history }
         ensures legal { AreLegal self.now.plant self.now.history }
+
+        // With what is kept for events to come they are no more than the limit.
+        ensures within { length self.now.history + kept self.now ≤ self.now.limit }
     {
         self.length
     }

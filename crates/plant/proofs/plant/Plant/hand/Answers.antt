@@ -1,5 +1,6 @@
 use Rattle.std.proofs.Common.{◌≡◌, false, None, Some, sym, subst}
 use Rattle.std.specs.Prelude.{slice_get}
+use Rattle.gearcmd.specs.FrameLists.{FrameList, IsLegal}
 use Rattle.plantevents.specs.Histories.{hand}
 use Rattle.plantevents.specs.Waiting.{handouts}
 use Rattle.plantevents.specs.Legal.{IsUp, IsHand}
@@ -18,7 +19,14 @@ invariant_of-self c =
     let room = subst (λ (s : Shown). is_full s ≡ false) (sym c.self.view_is) c.in_ok-next.ensures.room in
     let first = subst (λ (s : Shown). slice_get (handouts s.plant b s.history) 0 ≡ Some (handout_of next))
     (sym c.self.view_is) c.in_ok-next.ensures.first in
-    let may : IsHand plant h b next.origin t = record { up = up; idle = idle; first = first } in
-    rw (c.push.ensures, c.origin.ensures, c.transaction_of.ensures) (hand_says _ _ b next.origin t _ says may room
+    let may : IsHand plant h b next.origin t = record {
+      up = up;
+      idle = idle;
+      first = first;
+      legal =
+          subst (λ (f : FrameList). IsLegal f.frames f.first_priority) c.transaction_of.ensures.value
+          c.transaction_of.ensures.legal;
+    } in
+    rw (c.push.ensures, c.origin.ensures, c.transaction_of.ensures.value) (hand_says _ _ b next.origin t _ says may room
     (c.other_events_leave_tasks.ensures.hand plant b next.origin t h p.tasks says.each_task)
     (c.note_hand.ensures plant h says.each_bus says.place))
