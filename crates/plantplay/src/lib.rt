@@ -4,8 +4,9 @@
 //! as a line.
 //!
 //! What crosses the boundary: [`Installation`], a plant with a bus interface for each of its buses;
-//! [`open`] makes one of simulated buses (`specs/Installations.antt`, the definition to read
-//! first), and [`play`] plays a scenario on it and says how that ended.
+//! [`open`] makes one of simulated buses, and [`play`] plays a scenario on it and says how that
+//! ended. The definitions to read first are `IsEnding` and `IsAtRest` (specs/Playing.antt): what a
+//! play leaves; then `IsInstallation` (specs/Installations.antt), what it begins with.
 //!
 //! ```text
 //! let mut installation = open(alloc, setup, &scenario, limit)?;
