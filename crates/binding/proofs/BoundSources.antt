@@ -5,7 +5,7 @@ use Rattle.std.specs.Prelude.{AllPairs, Contains, MatchOption, is_some}
 use Rattle.std.proofs.lemmas.List.{get_or_default}
 use Rattle.std.proofs.lemmas.List.Elements.{All-push, All-contains}
 use Rattle.std.proofs.lemmas.List.Quantifiers.{all_pairs_push}
-use Rattle.dalievent.specs.declared.messages.Source.{Source}
+use Rattle.dalievent.specs.declared.messages.EventSource.{EventSource}
 use Rattle.binding.specs.declared.sources.BoundSource.{BoundSource}
 use Rattle.binding.specs.Bindings.{HasPlaceFor, with_source}
 use Rattle.binding.proofs.Spelled.{alike_bound}
@@ -35,7 +35,7 @@ same_bound xs once x y (i, in_i, at_i) (j, in_j, at_j) bus number =
 -- the source that was found at a place is the one that is bound there
 pub found_bound : (wiring : Wiring) → IsWithinLimits wiring → (bus number : ℕ) (found : BoundSource)
     → Contains wiring.sources found → IsAt bus number found
-    → (source : Source) → (Some found.source ≡ Some source) ↔ IsBoundAt wiring bus number source
+    → (source : EventSource) → (Some found.source ≡ Some source) ↔ IsBoundAt wiring bus number source
 found_bound wiring limits bus number found among at source = (
   λ e. let is : found.source ≡ source = cc in
       let it : BoundSource = record { bus = bus; number = number; source = source } in
@@ -47,7 +47,7 @@ found_bound wiring limits bus number found among at source = (
 
 -- where nothing was found none is bound
 pub none_bound : (wiring : Wiring) (bus number : ℕ) → IsFree wiring bus number
-    → (source : Source) → (None ≡ Some source) ↔ IsBoundAt wiring bus number source
+    → (source : EventSource) → (None ≡ Some source) ↔ IsBoundAt wiring bus number source
 none_bound wiring bus number free source = (
   λ e. cc,
   λ b. absurd (All-contains (λ (x : BoundSource). ¬ IsAt bus number x) wiring.sources

@@ -9,7 +9,7 @@ use Rattle.wordlines.specs.WordLines.{number_upto, are_digits, AreAroundDot}
 use Rattle.daliframe.specs.declared.schemes.EventScheme.{EventScheme}
 use Rattle.daliframe.specs.declared.schemes.EventScheme.TheVariants.{Instance, Device, DeviceInstance}
 use Rattle.daliframe.specs.declared.schemes.EventScheme.TheVariants.{DeviceGroup, InstanceGroup}
-use Rattle.dalievent.specs.declared.messages.Source.{Source}
+use Rattle.dalievent.specs.declared.messages.EventSource.{EventSource}
 use Rattle.dalievent.specs.EventSchemes.{a_limit}
 use Rattle.binding.specs.declared.sources.BoundSource.{BoundSource}
 use Rattle.binding.specs.declared.lines.BindingLine.{BindingLine}
@@ -56,15 +56,15 @@ same_scheme InstanceGroup InstanceGroup h = refl
 same_scheme _ _ h = absurd (omega (arith, h))
 
 -- sources of equal parts are equal
-alike_source : (s t : Source) → s.scheme ≡ t.scheme → s.a ≡ t.a → s.b ≡ t.b → s ≡ t
+alike_source : (s t : EventSource) → s.scheme ≡ t.scheme → s.a ≡ t.a → s.b ≡ t.b → s ≡ t
 alike_source s t scheme a b =
     let first : s ≡ record t { a = s.a; b = s.b } =
-    ap (λ (e : EventScheme). let it : Source = record { scheme = e; a = s.a; b = s.b } in it) scheme in
+    ap (λ (e : EventScheme). let it : EventSource = record { scheme = e; a = s.a; b = s.b } in it) scheme in
     let second : record t { a = s.a; b = s.b } ≡ record t { b = s.b } =
-    ap (λ (n : ℕ). let it : Source = record { scheme = t.scheme; a = n; b = s.b } in it) a in
-    first ∙ (second ∙ ap (λ (n : ℕ). let it : Source = record { scheme = t.scheme; a = t.a; b = n } in it) b)
+    ap (λ (n : ℕ). let it : EventSource = record { scheme = t.scheme; a = n; b = s.b } in it) a in
+    first ∙ (second ∙ ap (λ (n : ℕ). let it : EventSource = record { scheme = t.scheme; a = t.a; b = n } in it) b)
 
-same_source : (words : List (List ℕ)) (s t : Source) → SpellsSource words s → SpellsSource words t → s ≡ t
+same_source : (words : List (List ℕ)) (s t : EventSource) → SpellsSource words s → SpellsSource words t → s ≡ t
 same_source words s t h k =
     let one : scheme_word s.scheme ∷ h.first ∷ h.second ∷ [] ≡ scheme_word t.scheme ∷ k.first ∷ k.second ∷ [] =
     sym h.are ∙ k.are in
@@ -85,7 +85,8 @@ alike_bound s t bus number source =
     let second : record t { number = s.number; source = s.source } ≡ record t { source = s.source } =
     ap (λ (n : ℕ). let it : BoundSource = record { bus = t.bus; number = n; source = s.source } in it) number in
     let third : record t { source = s.source } ≡ t =
-    ap (λ (e : Source). let it : BoundSource = record { bus = t.bus; number = t.number; source = e } in it) source in
+    ap (λ (e : EventSource). let it : BoundSource = record { bus = t.bus; number = t.number; source = e }
+    in it) source in
     first ∙ (second ∙ third)
 
 -- the place and the source of a line that binds

@@ -6,7 +6,7 @@ use Rattle.wordlines.specs.WordLines.{number_upto, AreAroundDot}
 use Rattle.daliframe.specs.declared.schemes.EventScheme.{EventScheme}
 use Rattle.daliframe.specs.declared.schemes.EventScheme.TheVariants.{Instance, Device, DeviceInstance}
 use Rattle.daliframe.specs.declared.schemes.EventScheme.TheVariants.{DeviceGroup, InstanceGroup}
-use Rattle.dalievent.specs.declared.messages.Source.{Source}
+use Rattle.dalievent.specs.declared.messages.EventSource.{EventSource}
 use Rattle.dalievent.specs.EventSchemes.{a_limit}
 use Rattle.binding.specs.declared.sources.BoundSource.{BoundSource}
 use Rattle.binding.specs.Wirings.{IsBusCount}
@@ -35,7 +35,7 @@ scheme_word DeviceGroup = codes "device-group"
 scheme_word InstanceGroup = codes "instance-group"
 
 -- the words are the keyword of the source's scheme and its parts, such as `instance T N`
-pub record SpellsSource (words : List (List ℕ)) (source : Source) : Type 0 where
+pub record SpellsSource (words : List (List ℕ)) (source : EventSource) : Type 0 where
   pub first : List ℕ
   pub second : List ℕ
   pub are : words ≡ scheme_word source.scheme ∷ first ∷ second ∷ []

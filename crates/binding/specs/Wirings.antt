@@ -1,7 +1,7 @@
 -- What a binding says (profile): how many buses there are, and which source of events is bound at which place of a bus.
 use Rattle.std.specs.Prelude.{◌≡◌, ℕ, ◌<◌, ◌≤◌, List, [], All, AllPairs, Contains}
 use Rattle.limits.specs.Limits.{most_buses, most_sources}
-use Rattle.dalievent.specs.declared.messages.Source.{Source}
+use Rattle.dalievent.specs.declared.messages.EventSource.{EventSource}
 use Rattle.dalievent.specs.EventSchemes.{a_limit}
 use Rattle.binding.specs.declared.sources.BoundSource.{BoundSource}
 
@@ -28,12 +28,12 @@ abbrev pub IsFree : Wiring → ℕ → ℕ → Type 0
 IsFree wiring bus number = All (λ bound. ¬ IsAt bus number bound) wiring.sources
 
 -- this source is bound there
-abbrev pub IsBoundAt : Wiring → ℕ → ℕ → Source → Type 0
+abbrev pub IsBoundAt : Wiring → ℕ → ℕ → EventSource → Type 0
 IsBoundAt wiring bus number source =
     Contains wiring.sources (record { bus = bus; number = number; source = source })
 
 -- both parts are in the ranges of the scheme (IEC 62386-103, clause 9)
-pub record HasPartsInRange (source : Source) : Type 0 where
+pub record HasPartsInRange (source : EventSource) : Type 0 where
   pub a : source.a < a_limit source.scheme
   pub b : source.b < 32
 

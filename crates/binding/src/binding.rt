@@ -11,7 +11,7 @@ ghost use Rattle.binding.specs.Wirings.{Wiring, IsAt};
 use crate::fault::{BindCause, BindFault};
 use crate::lines::{BindingLine, line_of};
 use crate::sources::BoundSource;
-use dalievent::Source;
+use dalievent::EventSource;
 use std::alloc::Global;
 use std::marker::Model;
 use wordlines::{first_line, is_skipped};
@@ -37,7 +37,7 @@ impl Model for Binding {
 impl Binding {
     ghost use Rattle.std.specs.Prelude.{◌≡◌, ◌↔◌, ℕ};
     ghost use Rattle.std.specs.Str.Lines.{lines};
-    ghost use Rattle.dalievent.specs.declared.messages.Source.{Source};
+    ghost use Rattle.dalievent.specs.declared.messages.EventSource.{EventSource};
     ghost use Rattle.binding.specs.Wirings.{Wiring, one_bus, IsBoundAt, IsInRange, IsWithinLimits};
     ghost use Rattle.binding.specs.Bindings.{BindsSome, GivesIfRoom, HasPlaceFor, IsBadBinding};
     ghost use Rattle.binding.specs.Bindings.{IsBinding, IsTooLong, with_source};
@@ -69,8 +69,8 @@ impl Binding {
     }
 
     /// The source that is bound at this place of a bus.
-    pub fn source(&self, bus: u8, number: u8) -> Option<Source>
-        ensures { (source : Source) → (result ≡ Some source)
+    pub fn source(&self, bus: u8, number: u8) -> Option<EventSource>
+        ensures { (source : EventSource) → (result ≡ Some source)
             ↔ IsBoundAt self.now bus number source }
     {
         match bound_at(&self.sources, bus, number) {

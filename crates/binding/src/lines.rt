@@ -1,7 +1,7 @@
 //! The lines of a binding.
 
 ghost use Rattle.std.specs.Prelude.{◌≡◌, ◌≢◌, ◌-◌, ◌∷◌, ℕ, codes, MatchOption};
-ghost use Rattle.dalievent.specs.declared.messages.Source.{Source};
+ghost use Rattle.dalievent.specs.declared.messages.EventSource.{EventSource};
 ghost use Rattle.dalievent.specs.EventSchemes.{a_limit};
 ghost use Rattle.daliframe.specs.declared.schemes.EventScheme.{EventScheme};
 ghost use Rattle.wordlines.specs.WordLines.{words, number_upto};
@@ -12,7 +12,7 @@ ghost use Rattle.binding.specs.Spelling.{scheme_word, SpellsBound, SpellsBuses, 
 ghost use Rattle.binding.specs.Spelling.{SpellsSource};
 
 use crate::sources::BoundSource;
-use dalievent::Source;
+use dalievent::EventSource;
 use daliframe::EventScheme;
 use limits::{MOST_BUSES, MOST_SOURCES};
 use wordlines::{Words, number_of, parts_around_dot};
@@ -92,15 +92,15 @@ fn byte_of(digits: &[u8], most: u8) -> Option<u8>
 }
 
 /// The source of events that a scheme's keyword and two parts spell.
-fn source_in(mut words: Words<'_>) -> Option<Source>
+fn source_in(mut words: Words<'_>) -> Option<EventSource>
     ensures { MatchOption result
-        ((source : Source) → ¬ SpellsSource words.entry source) (SpellsSource words.entry) }
+        ((source : EventSource) → ¬ SpellsSource words.entry source) (SpellsSource words.entry) }
 {
     let scheme = scheme_of(words.next()?)?;
     let a = words.byte(greatest_a(scheme))?;
     let b = words.byte(GREATEST_B)?;
     if words.is_empty() {
-        Some(Source { scheme, a, b })
+        Some(EventSource { scheme, a, b })
     } else {
         None
     }

@@ -3,7 +3,7 @@
 ghost use Rattle.std.specs.Prelude.{◌↔◌, IsTrue};
 ghost use Rattle.binding.specs.Wirings.{IsAt};
 
-use dalievent::Source;
+use dalievent::EventSource;
 
 /// A source of events that is bound at a place of a bus.
 #[derive(Clone, Copy, PartialEq, Eq)]
@@ -13,7 +13,7 @@ pub struct BoundSource {
     /// The number of the place there, 0 to 63.
     pub number: u8,
     /// Where the events come from.
-    pub source: Source,
+    pub source: EventSource,
 }
 
 impl BoundSource {

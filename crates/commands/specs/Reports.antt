@@ -6,7 +6,7 @@ use Rattle.std.specs.Io.KnownBytes.{Appends}
 use Rattle.gearcmd.specs.declared.requests.Request.{Request}
 use Rattle.gearcmd.specs.declared.requests.TaskKind.{TaskKind}
 use Rattle.iltypes.specs.declared.value.Value.{Value}
-use Rattle.ilplan.specs.declared.slot.Variable.{Variable}
+use Rattle.ilplan.specs.declared.slot.SlotOwner.{SlotOwner}
 use Rattle.ilplan.specs.Plans.{Planned, instance_name, slot_at, variable_name}
 use Rattle.ilsetup.specs.Loaded.{Loaded}
 use Rattle.commands.specs.declared.answers.Answer.{Answer}
@@ -68,7 +68,7 @@ abbrev pub scan_lines : Run → ℕ → List ℕ
 scan_lines made number = ended (scan_line made number) ++ requests_of_scan made number
 
 -- the line of a variable of a plan with this value; a global variable has no instance
-abbrev pub line_of : Planned → Variable → Value → List ℕ
+abbrev pub line_of : Planned → SlotOwner → Value → List ℕ
 line_of plan variable value =
     option_map_or (λ name. printed_variable (instance_name plan variable) name value) (variable_name plan variable) []
 

@@ -5,7 +5,7 @@ use Rattle.daliframe.specs.declared.schemes.EventScheme.{EventScheme}
 use Rattle.daliframe.specs.declared.schemes.EventScheme.TheVariants.{Instance, Device, DeviceInstance}
 use Rattle.daliframe.specs.declared.schemes.EventScheme.TheVariants.{DeviceGroup, InstanceGroup}
 use Rattle.dalievent.specs.declared.messages.EventMessage.{EventMessage}
-use Rattle.dalievent.specs.declared.messages.Source.{Source}
+use Rattle.dalievent.specs.declared.messages.EventSource.{EventSource}
 use Rattle.dalievent.specs.declared.messages.Heard.{Heard}
 use Rattle.dalievent.specs.declared.messages.Heard.TheVariants.{Event, Command, Other}
 
@@ -47,5 +47,5 @@ abbrev pub IsOnlyEvent : Heard → ℕ → Type 0
 IsOnlyEvent heard frame = (e : EventMessage) → Solves e frame → heard ≡ Event e
 
 -- an event comes from a source of its scheme and parts, whatever its information
-abbrev pub IsFrom : Source → EventMessage → Type 0
+abbrev pub IsFrom : EventSource → EventMessage → Type 0
 IsFrom source e = (source.scheme ≡ e.scheme) × (source.a ≡ e.a) × (source.b ≡ e.b)

@@ -6,4 +6,4 @@
 
 mod messages;
 
-pub use messages::{EventMessage, Heard, Source, decode, matches};
+pub use messages::{EventMessage, EventSource, Heard, decode, matches};

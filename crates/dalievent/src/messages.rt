@@ -20,7 +20,7 @@ pub struct EventMessage {
 
 /// Where event messages come from: all that have this scheme and these two parts.
 #[derive(Clone, Copy, Debug, PartialEq, Eq)]
-pub struct Source {
+pub struct EventSource {
     /// What `a` and `b` mean.
     pub scheme: EventScheme,
     /// As that of an event message.
@@ -76,7 +76,7 @@ fn event_of(number: u32) -> Option<EventMessage>
 }
 
 /// Whether an event message comes from a source.
-pub fn matches(source: Source, message: EventMessage) -> bool
+pub fn matches(source: EventSource, message: EventMessage) -> bool
     ensures { IsTrue result ↔ IsFrom source message }
 {
     source.scheme == message.scheme && source.a == message.a && source.b == message.b

@@ -1,16 +1,16 @@
 //! What a number of this crate is the number of, so that a group isn't taken for a bus.
 
 /// A short address.
-pub enum Short {}
+pub enum OfShort {}
 
 /// A group of control gear.
-pub enum Group {}
+pub enum OfGroup {}
 
 /// An instance of a control device.
-pub enum Instance {}
+pub enum OfInstance {}
 
 /// The type of an instance of a control device.
-pub enum InstanceKind {}
+pub enum OfInstanceKind {}
 
 /// A bus.
-pub enum Bus {}
+pub enum OfBus {}

@@ -18,7 +18,7 @@ pub use addressing::{Address, AddressClass};
 pub use forward::Frame;
 pub use forward16::{Fields16, Frame16};
 pub use forward24::{Fields24, Frame24};
-pub use kinds::{Bus, Group, Instance, InstanceKind, Short};
+pub use kinds::{OfBus, OfGroup, OfInstance, OfInstanceKind, OfShort};
 pub use numbers::{BusNumber, GroupAddress, InstanceNumber, InstanceType, Number, ShortAddress};
 pub use opcodes::{DeviceOpcodeClass, OpcodeClass};
 pub use schemes::EventScheme;

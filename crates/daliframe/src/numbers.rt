@@ -57,22 +57,22 @@ impl<Of, const LIMIT: u8> Number<Of, LIMIT> {
 }
 
 /// A short address, 0 to 63, of one control gear or control device.
-pub type ShortAddress = Number<kinds::Short, 64>;
+pub type ShortAddress = Number<kinds::OfShort, 64>;
 
 /// A group of control gear, 0 to 15.
-pub type GroupAddress = Number<kinds::Group, 16>;
+pub type GroupAddress = Number<kinds::OfGroup, 16>;
 
 /// The number of an instance of a control device, 0 to 31.
-pub type InstanceNumber = Number<kinds::Instance, 32>;
+pub type InstanceNumber = Number<kinds::OfInstance, 32>;
 
 /// The type of an instance of a control device, 0 to 31.
-pub type InstanceType = Number<kinds::InstanceKind, 32>;
+pub type InstanceType = Number<kinds::OfInstanceKind, 32>;
 
 /// The number of a bus, 0 to 15.
-pub type BusNumber = Number<kinds::Bus, { limits::MOST_BUSES }>;
+pub type BusNumber = Number<kinds::OfBus, { limits::MOST_BUSES }>;
 
 /// Bus 0, which fills the unused places of a collection of fixed capacity.
-impl Default for Number<kinds::Bus, { limits::MOST_BUSES }> {
+impl Default for Number<kinds::OfBus, { limits::MOST_BUSES }> {
     ghost is_default = { λ bus. bus ≡ 0 };
 
     fn default() -> Self {

@@ -11,13 +11,13 @@ use Rattle.iltypes.specs.declared.value.Value.TheVariants as values
 use Rattle.iltypes.specs.Values.{IsOf, AreOf}
 use Rattle.gearcmd.specs.declared.requests.Command.{Command}
 use Rattle.gearcmd.specs.declared.requests.Request.{Request}
-use Rattle.ilblocks.specs.declared.kind.Kind.{Kind}
-use Rattle.ilblocks.specs.declared.kind.Kind.TheVariants as kinds
+use Rattle.ilblocks.specs.declared.kind.BlockKind.{BlockKind}
+use Rattle.ilblocks.specs.declared.kind.BlockKind.TheVariants as kinds
 use Rattle.ilblocks.specs.declared.port.Port.{Port}
 use Rattle.ilblocks.specs.declared.port.PortValues.{PortValues}
 use Rattle.ilblocks.specs.declared.port.PortValues.TheVariants.{Truth, Int, UpTo, Bus}
 use Rattle.ilblocks.specs.Ports.{ports_of, types_of_ports, port_type, numbers, type_of, first_of}
-use Rattle.ilblocks.specs.Calls.{Block, at_first, IsBlockOf, number_of, natural_of, number, natural, truth}
+use Rattle.ilblocks.specs.Calls.{Block, at_first, IsBlockOf, number_or_zero, natural_of, number, natural, truth}
 use Rattle.ilblocks.specs.Calls.{rises, count, elapsed, start_of, ports_after, after_call, command_of, requested}
 use Rattle.ilblocks.proofs.Ports.{value_within, number_in}
 
@@ -55,20 +55,20 @@ value_at (v ∷ vs) (t ∷ ts) (suc place) type a e =
 
 -- ---- ports
 
-pub ports_of_kind : (buses : ℕ) (kind k : Kind) (b : Block) → kind ≡ k → IsBlockOf buses b kind
+pub ports_of_kind : (buses : ℕ) (kind k : BlockKind) (b : Block) → kind ≡ k → IsBlockOf buses b kind
     → length b.ports ≡ length (types_of_ports buses k)
 ports_of_kind buses kind k b e h =
-    as_long b.ports (types_of_ports buses k) (subst (λ (k : Kind). IsBlockOf buses b k) e h)
+    as_long b.ports (types_of_ports buses k) (subst (λ (k : BlockKind). IsBlockOf buses b k) e h)
 
 -- a port of numbers has one of them
-pub number_within : (buses : ℕ) (kind : Kind) (b : Block) (port : ℕ) (low high : ℤ) → low ≤ℤ high
+pub number_within : (buses : ℕ) (kind : BlockKind) (b : Block) (port : ℕ) (low high : ℤ) → low ≤ℤ high
     → IsBlockOf buses b kind → port_type buses kind port ≡ Some (numbers low high)
     → (low ≤ℤ number b port) × (number b port ≤ℤ high)
 number_within buses kind b port low high o h e =
     let a = value_at b.ports (types_of_ports buses kind) port (numbers low high) h e in
     let w = value_within a.value low high o a.typed in
     let f : slice_get b.ports port ≡ Some (values.Int w.number) = cc in
-    let q : w.number ≡ number b port = ap number_of (sym f) in
+    let q : w.number ≡ number b port = ap number_or_zero (sym f) in
     (subst (λ (n : ℤ). low ≤ℤ n) q w.low, subst (λ (n : ℤ). n ≤ℤ high) q w.high)
 
 natural_most : (n : ℤ) (most : ℕ) → n ≤ℤ pos most → natural_of n ≤ most
@@ -76,7 +76,7 @@ natural_most (pos n) most h = omega (arith, ints)
 natural_most (negsuc n) most h = omega arith
 
 -- a port of the numbers up to `most` has one of them
-pub natural_within : (buses : ℕ) (kind : Kind) (b : Block) (port most : ℕ) → IsBlockOf buses b kind
+pub natural_within : (buses : ℕ) (kind : BlockKind) (b : Block) (port most : ℕ) → IsBlockOf buses b kind
     → port_type buses kind port ≡ Some (numbers (pos 0) (pos most)) → natural b port < most + 1
 natural_within buses kind b port most h e =
     let w = number_within buses kind b port (pos 0) (pos most) (omega (arith, ints)) h e in
@@ -98,7 +98,7 @@ firsts_typed : (buses : ℕ) (ports : List Port)
 firsts_typed buses [] = tt
 firsts_typed buses (port ∷ more) = (first_typed buses port.values, firsts_typed buses more)
 
-pub at_first_typed : (buses : ℕ) (kind : Kind) → IsBlockOf buses (at_first kind) kind
+pub at_first_typed : (buses : ℕ) (kind : BlockKind) → IsBlockOf buses (at_first kind) kind
 at_first_typed buses kind = firsts_typed buses (ports_of kind)
 
 -- ---- a call
@@ -121,7 +121,7 @@ elapsed_within true a most = omega arith
 elapsed_within false a most = omega arith
 
 -- ports stay in their types
-pub ports_typed : (buses : ℕ) (kind : Kind) (moment : ℕ) (b : Block) → IsBlockOf buses b kind
+pub ports_typed : (buses : ℕ) (kind : BlockKind) (moment : ℕ) (b : Block) → IsBlockOf buses b kind
     → AreOf (ports_after kind moment b) (types_of_ports buses kind)
 ports_typed buses kinds.RTrig moment b h =
     set_typed b.ports (types_of_ports buses kinds.RTrig) 1 (values.Bool (rises b)) types.Bool h refl tt
@@ -151,18 +151,18 @@ ports_typed buses kinds.DevDo moment b h = h
 ports_typed buses kinds.DevScheme moment b h = h
 ports_typed buses kinds.DevAsk moment b h = h
 
-pub call_typed : (buses : ℕ) (kind : Kind) (moment : ℕ) (b : Block) → IsBlockOf buses b kind
+pub call_typed : (buses : ℕ) (kind : BlockKind) (moment : ℕ) (b : Block) → IsBlockOf buses b kind
     → IsBlockOf buses (after_call kind moment b) kind
 call_typed buses kind moment b h = ports_typed buses kind moment b h
 
 -- ---- requests
 
-bus_below : (buses : ℕ) (kind : Kind) (b : Block) → 1 ≤ buses → IsBlockOf buses b kind
+bus_below : (buses : ℕ) (kind : BlockKind) (b : Block) → 1 ≤ buses → IsBlockOf buses b kind
     → port_type buses kind 1 ≡ Some (numbers (pos 0) (pos (buses - 1))) → natural b 1 < buses
 bus_below buses kind b le h e = let n = natural_within buses kind b 1 (buses - 1) h e in omega arith
 
 -- where a block asks for something, its port BUS is the number of a bus
-pub asked_bus : (buses : ℕ) (kind : Kind) (b : Block) (c : Command) → 1 ≤ buses → IsBlockOf buses b kind
+pub asked_bus : (buses : ℕ) (kind : BlockKind) (b : Block) (c : Command) → 1 ≤ buses → IsBlockOf buses b kind
     → command_of kind b ≡ Some c → natural b 1 < buses
 asked_bus buses kinds.RTrig b c le h e = absurd (cc)
 asked_bus buses kinds.Ctu b c le h e = absurd (cc)
@@ -183,7 +183,7 @@ bus_of true (Some c) bus buses h = h c refl
 bus_of true None bus buses h = tt
 bus_of false o bus buses h = tt
 
-pub requested_bus : (buses : ℕ) (kind : Kind) (b : Block) → 1 ≤ buses → IsBlockOf buses b kind
+pub requested_bus : (buses : ℕ) (kind : BlockKind) (b : Block) → 1 ≤ buses → IsBlockOf buses b kind
     → IfSome (requested kind b) (λ r. r.bus < buses)
 requested_bus buses kind b le h =
     bus_of (rises b) (command_of kind b) (natural b 1) buses (λ c e. asked_bus buses kind b c le h e)

@@ -7,11 +7,11 @@ use Rattle.std.proofs.lemmas.Slice.Eq.{slice_eq-Decides}
 use Rattle.iltypes.proofs.Equality.{same_value}
 use Rattle.ilblocks.specs.Calls.{Block}
 use Rattle.ilblocks.specs.contracts.state.BlockStatePartialEq.TheImpl as block_eq
-use Rattle.ilblocks.specs.declared.kind.Kind.{Kind}
-use Rattle.ilblocks.specs.declared.kind.Kind.TheVariants as kinds
-use Rattle.ilblocks.specs.contracts.kind.KindPartialEq.TheImpl as kind_eq
+use Rattle.ilblocks.specs.declared.kind.BlockKind.{BlockKind}
+use Rattle.ilblocks.specs.declared.kind.BlockKind.TheVariants as kinds
+use Rattle.ilblocks.specs.contracts.kind.BlockKindPartialEq.TheImpl as kind_eq
 
-pub same_kind : (a b : Kind) → Decides (kind_eq.eq-value.it a b) (a ≡ b)
+pub same_kind : (a b : BlockKind) → Decides (kind_eq.eq-value.it a b) (a ≡ b)
 same_kind kinds.RTrig kinds.RTrig = (λ e. refl, λ e. refl)
 same_kind kinds.Ctu kinds.Ctu = (λ e. refl, λ e. refl)
 same_kind kinds.Ton kinds.Ton = (λ e. refl, λ e. refl)

@@ -8,8 +8,8 @@ use Rattle.iltypes.specs.declared.value.IlType.{IlType}
 use Rattle.iltypes.specs.declared.value.Value.{Value}
 use Rattle.iltypes.specs.Values.{IsOf, AreOf}
 use Rattle.gearcmd.specs.declared.requests.Request.{Request}
-use Rattle.ilblocks.specs.declared.kind.Kind.{Kind}
-use Rattle.ilblocks.specs.declared.kind.Kind.TheVariants as kinds
+use Rattle.ilblocks.specs.declared.kind.BlockKind.{BlockKind}
+use Rattle.ilblocks.specs.declared.kind.BlockKind.TheVariants as kinds
 use Rattle.ilblocks.specs.declared.port.Direction.{Direction}
 use Rattle.ilblocks.specs.declared.port.Direction.TheVariants.{Input, Output}
 use Rattle.ilblocks.specs.declared.port.Port.{Port}
@@ -34,7 +34,7 @@ input_port buses None type e = absurd (cc)
 input_port buses (Some p) type e = ap Some (if_input buses p.direction p.values type e)
 
 -- an input has the type of the port
-pub input_is_port : (buses : ℕ) (kind : Kind) (port : ℕ) (type : IlType) → input_type buses kind port ≡ Some type
+pub input_is_port : (buses : ℕ) (kind : BlockKind) (port : ℕ) (type : IlType) → input_type buses kind port ≡ Some type
     → port_type buses kind port ≡ Some type
 input_is_port buses kind port type e =
     slice_get-map (λ (p : Port). type_of buses p.values) (ports_of kind) port
@@ -65,7 +65,7 @@ wider_ports fewer more (v ∷ vs) (port ∷ ports) le h =
     (wider_port fewer more v port.values le h.0, wider_ports fewer more vs ports le h.1)
 
 -- a block on fewer buses is one on more
-pub on_more_buses : (fewer more : ℕ) (kind : Kind) (b : Block) → fewer ≤ more → IsBlockOf fewer b kind
+pub on_more_buses : (fewer more : ℕ) (kind : BlockKind) (b : Block) → fewer ≤ more → IsBlockOf fewer b kind
     → IsBlockOf more b kind
 on_more_buses fewer more kind b le h = wider_ports fewer more b.ports (ports_of kind) le h
 
@@ -75,7 +75,7 @@ none_asked : (t : Bool) → cond {A = Option Request} t None None ≡ None
 none_asked true = refl
 none_asked false = refl
 
-pub no_request : (kind : Kind) (b : Block) → makes_requests kind ≡ false → requested kind b ≡ None
+pub no_request : (kind : BlockKind) (b : Block) → makes_requests kind ≡ false → requested kind b ≡ None
 no_request kinds.RTrig b e = none_asked (rises b)
 no_request kinds.Ctu b e = none_asked (rises b)
 no_request kinds.Ton b e = none_asked (rises b)

@@ -13,7 +13,7 @@ use Rattle.iltypes.specs.Slots.{is_of, stored}
 use Rattle.iltypes.specs.Values.{IsOf, AreOf}
 use Rattle.iltypes.proofs.TypeTests.{test_holds, holds_test}
 use Rattle.gearcmd.specs.declared.requests.Request.{Request}
-use Rattle.ilblocks.specs.declared.kind.Kind.{Kind}
+use Rattle.ilblocks.specs.declared.kind.BlockKind.{BlockKind}
 use Rattle.ilblocks.specs.Calls.{Block, IsBlockOf, after_call, requested}
 use Rattle.ilblocks.specs.Ports.{types_of_ports, port_type, input_type, makes_requests}
 use Rattle.ilblocks.specs.Stores.{Shape, Store, IsStoreOf, blocks_at_first, slot_value, with_slot, port_value}
@@ -180,16 +180,16 @@ slot_has_type shape s slot value h e = type_at s.slots shape.slots slot value h.
 -- ---- ports
 
 -- an instance stands exactly where its kind does
-pub block_of_kind : (shape : Shape) (s : Store) (block : ℕ) (kind : Kind) → IsStoreOf shape s
+pub block_of_kind : (shape : Shape) (s : Store) (block : ℕ) (kind : BlockKind) → IsStoreOf shape s
     → slice_get shape.kinds block ≡ Some kind → HasItem (IsBlockOf shape.buses) s.blocks block kind
 block_of_kind shape s block kind h e = item_at (IsBlockOf shape.buses) s.blocks shape.kinds block kind h.blocks e
 
 -- a port has a value exactly where the kind has the port, and one of its type
-pub port_of_type : (buses : ℕ) (kind : Kind) (b : Block) (port : ℕ) (type : IlType) → IsBlockOf buses b kind
+pub port_of_type : (buses : ℕ) (kind : BlockKind) (b : Block) (port : ℕ) (type : IlType) → IsBlockOf buses b kind
     → port_type buses kind port ≡ Some type → HasValue b.ports port type
 port_of_type buses kind b port type h e = value_at b.ports (types_of_ports buses kind) port type h e
 
-pub port_has_type : (buses : ℕ) (kind : Kind) (b : Block) (port : ℕ) (value : Value) → IsBlockOf buses b kind
+pub port_has_type : (buses : ℕ) (kind : BlockKind) (b : Block) (port : ℕ) (value : Value) → IsBlockOf buses b kind
     → slice_get b.ports port ≡ Some value → HasType (types_of_ports buses kind) port value
 port_has_type buses kind b port value h e = type_at b.ports (types_of_ports buses kind) port value h e
 
@@ -229,13 +229,13 @@ port_value_has_type shape s block port value h e =
     let t = port_has_type shape.buses k.item b.of port value k.relates b.makes in
     record {
       type = t.type;
-      is = ap (option_and_then (λ (kind : Kind). port_type shape.buses kind port)) k.is ∙ t.is;
+      is = ap (option_and_then (λ (kind : BlockKind). port_type shape.buses kind port)) k.is ∙ t.is;
       typed = t.typed;
     }
 
 -- ---- instances before their first call
 
-pub at_first_are : (buses : ℕ) (kinds : List Kind) → AllZip (IsBlockOf buses) (blocks_at_first kinds) kinds
+pub at_first_are : (buses : ℕ) (kinds : List BlockKind) → AllZip (IsBlockOf buses) (blocks_at_first kinds) kinds
 at_first_are buses [] = tt
 at_first_are buses (kind ∷ more) = (at_first_typed buses kind, at_first_are buses more)
 
@@ -248,7 +248,7 @@ with_value b port value = record b { ports = slice_set b.ports port value }
 pub record IsWithPort (shape : Shape) (s : Store) (block port : ℕ) (value : Value) (t : Store) : Type 0 where
   pub instance : Block
   pub of_block : slice_get s.blocks block ≡ Some instance
-  pub kind : Kind
+  pub kind : BlockKind
   pub of_kind : slice_get shape.kinds block ≡ Some kind
   pub type : IlType
   pub of_input : input_type shape.buses kind port ≡ Some type
@@ -318,7 +318,7 @@ input_is_stored shape s block port value type h e p =
 -- ---- a call
 
 pub record IsCalled (shape : Shape) (s : Store) (block : ℕ) (t : Store) : Type 0 where
-  pub kind : Kind
+  pub kind : BlockKind
   pub of_kind : slice_get shape.kinds block ≡ Some kind
   pub instance : Block
   pub of_block : slice_get s.blocks block ≡ Some instance
@@ -333,12 +333,12 @@ called_is shape s block t e =
     record { kind = k.of; of_kind = k.is; instance = b.of; of_block = b.is; is = b.makes }
 
 -- a call is there exactly where the kind is
-pub is_called : (shape : Shape) (s : Store) (block : ℕ) (kind : Kind) (b : Block)
+pub is_called : (shape : Shape) (s : Store) (block : ℕ) (kind : BlockKind) (b : Block)
     → slice_get shape.kinds block ≡ Some kind → slice_get s.blocks block ≡ Some b
     → called shape s block ≡ Some (after_block kind s block b)
 is_called shape s block kind b e f = rw (e, f)
 
-pub kind_is_called : (shape : Shape) (s : Store) (block : ℕ) (kind : Kind) → IsStoreOf shape s
+pub kind_is_called : (shape : Shape) (s : Store) (block : ℕ) (kind : BlockKind) → IsStoreOf shape s
     → slice_get shape.kinds block ≡ Some kind → (t : Store) × (called shape s block ≡ Some t)
 kind_is_called shape s block kind h e =
     let b = block_of_kind shape s block kind h e in
@@ -415,12 +415,12 @@ called_requests shape s block t e =
     subst (λ (t : Store). (length s.requests ≤ length t.requests) × (length t.requests ≤ length s.requests + 1)) w.is
     (omega (arith, l, o), omega (arith, l, o))
 
-pub called_no_request : (shape : Shape) (s : Store) (block : ℕ) (kind : Kind) (t : Store)
+pub called_no_request : (shape : Shape) (s : Store) (block : ℕ) (kind : BlockKind) (t : Store)
     → slice_get shape.kinds block ≡ Some kind → makes_requests kind ≡ false → called shape s block ≡ Some t
     → t.requests ≡ s.requests
 called_no_request shape s block kind t k n e =
     let w = called_is shape s block t e in
     let q : kind ≡ w.kind = let a = w.of_kind in cc in
-    let m : makes_requests w.kind ≡ false = subst (λ (k : Kind). makes_requests k ≡ false) q n in
+    let m : makes_requests w.kind ≡ false = subst (λ (k : BlockKind). makes_requests k ≡ false) q n in
     subst (λ (t : Store). t.requests ≡ s.requests) w.is
     (ap (λ o. s.requests ++ listed o) (no_request w.kind w.instance m) ∙ append-nil s.requests)

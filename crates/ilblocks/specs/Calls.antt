@@ -13,8 +13,8 @@ use Rattle.daliframe.specs.declared.schemes.EventScheme.TheVariants as schemes
 use Rattle.gearcmd.specs.declared.requests.Command.{Command}
 use Rattle.gearcmd.specs.declared.requests.Command.TheVariants as commands
 use Rattle.gearcmd.specs.declared.requests.Request.{Request}
-use Rattle.ilblocks.specs.declared.kind.Kind.{Kind}
-use Rattle.ilblocks.specs.declared.kind.Kind.TheVariants as kinds
+use Rattle.ilblocks.specs.declared.kind.BlockKind.{BlockKind}
+use Rattle.ilblocks.specs.declared.kind.BlockKind.TheVariants as kinds
 use Rattle.ilblocks.specs.Ports.{ports_of, types_of_ports, first_of}
 
 -- what an instance keeps from call to call: the value of each port; its first input (CLK, CU, IN, REQ) as it was at the
@@ -25,11 +25,11 @@ pub record Block : Type 0 where
   pub start : ℕ
 
 -- before its first call
-abbrev pub at_first : Kind → Block
+abbrev pub at_first : BlockKind → Block
 at_first kind = record { ports = map (λ port. first_of port.values) (ports_of kind); before = false; start = 0 }
 
 -- each port has a value of its type, on so many buses
-abbrev pub IsBlockOf : ℕ → Block → Kind → Type 0
+abbrev pub IsBlockOf : ℕ → Block → BlockKind → Type 0
 IsBlockOf buses block kind = AreOf block.ports (types_of_ports buses kind)
 
 -- ---- ports by their numbers
@@ -38,9 +38,9 @@ abbrev pub truth_of : Option Value → Bool
 truth_of (Some (values.Bool truth)) = truth
 truth_of _ = false
 
-abbrev pub number_of : Option Value → ℤ
-number_of (Some (values.Int number)) = number
-number_of _ = pos 0
+abbrev pub number_or_zero : Option Value → ℤ
+number_or_zero (Some (values.Int number)) = number
+number_or_zero _ = pos 0
 
 abbrev pub natural_of : ℤ → ℕ
 natural_of (pos number) = number
@@ -50,7 +50,7 @@ abbrev pub truth : Block → ℕ → Bool
 truth b port = truth_of (slice_get b.ports port)
 
 abbrev pub number : Block → ℕ → ℤ
-number b port = number_of (slice_get b.ports port)
+number b port = number_or_zero (slice_get b.ports port)
 
 abbrev pub natural : Block → ℕ → ℕ
 natural b port = natural_of (number b port)
@@ -93,18 +93,18 @@ ports_of_timer moment b =
 -- ---- a call
 
 -- the ports after a call; a request block has inputs alone
-abbrev pub ports_after : Kind → ℕ → Block → List Value
+abbrev pub ports_after : BlockKind → ℕ → Block → List Value
 ports_after kinds.RTrig moment b = ports_of_trigger b
 ports_after kinds.Ctu moment b = ports_of_counter b
 ports_after kinds.Ton moment b = ports_of_timer moment b
 ports_after _ moment b = b.ports
 
-abbrev pub start_after : Kind → ℕ → Block → ℕ
+abbrev pub start_after : BlockKind → ℕ → Block → ℕ
 start_after kinds.Ton moment b = start_of moment b
 start_after _ moment b = b.start
 
 -- what the instance keeps after a call
-abbrev pub after_call : Kind → ℕ → Block → Block
+abbrev pub after_call : BlockKind → ℕ → Block → Block
 after_call kind moment b =
     record { ports = ports_after kind moment b; before = truth b 0; start = start_after kind moment b }
 
@@ -125,7 +125,7 @@ scheme_of number =
     number
 
 -- what a request block asks for by its ports after REQ and BUS, in their order
-abbrev pub command_of : Kind → Block → Option Command
+abbrev pub command_of : BlockKind → Block → Option Command
 command_of kinds.GearLevel b = option_map (λ a. commands.GearLevel a (natural b 3)) (address_of (natural b 2))
 command_of kinds.GearDo b = option_map (λ a. commands.GearDo a (natural b 3)) (address_of (natural b 2))
 command_of kinds.GearSet b =
@@ -140,9 +140,9 @@ command_of kinds.DevAsk b = Some (commands.DevAsk (natural b 2) (natural b 3) (n
 command_of _ b = None
 
 -- the request of the ports' values
-abbrev pub request_of : Kind → Block → Option Request
+abbrev pub request_of : BlockKind → Block → Option Request
 request_of kind b = option_map (λ c. record { bus = natural b 1; command = c }) (command_of kind b)
 
 -- the request that a call makes: one at a rising edge of REQ, else none
-abbrev pub requested : Kind → Block → Option Request
+abbrev pub requested : BlockKind → Block → Option Request
 requested kind b = if rises b then request_of kind b else None

@@ -7,8 +7,8 @@ use Rattle.iltypes.specs.declared.value.IlType.{IlType}
 use Rattle.iltypes.specs.declared.value.IlType.TheVariants as types
 use Rattle.iltypes.specs.declared.value.Value.{Value}
 use Rattle.iltypes.specs.declared.value.Value.TheVariants as values
-use Rattle.ilblocks.specs.declared.kind.Kind.{Kind}
-use Rattle.ilblocks.specs.declared.kind.Kind.TheVariants as kinds
+use Rattle.ilblocks.specs.declared.kind.BlockKind.{BlockKind}
+use Rattle.ilblocks.specs.declared.kind.BlockKind.TheVariants as kinds
 use Rattle.ilblocks.specs.declared.port.Direction.{Direction}
 use Rattle.ilblocks.specs.declared.port.Direction.TheVariants.{Input, Output}
 use Rattle.ilblocks.specs.declared.port.Port.{Port}
@@ -19,7 +19,7 @@ use Rattle.ilblocks.specs.declared.port.PortValues.TheVariants.{Truth, Int, UpTo
 use Rattle.ilblocks.specs.declared.port.TheConstants as tables
 
 -- the ports of a kind, in the order of their numbers, by its table
-abbrev pub ports_of : Kind → List Port
+abbrev pub ports_of : BlockKind → List Port
 ports_of kinds.RTrig = tables.R_TRIG
 ports_of kinds.Ctu = tables.CTU
 ports_of kinds.Ton = tables.TON
@@ -34,7 +34,7 @@ ports_of kinds.DevScheme = tables.DEV_SCHEME
 ports_of kinds.DevAsk = tables.DEV_ASK
 
 -- whether a call may make a request
-abbrev pub makes_requests : Kind → Bool
+abbrev pub makes_requests : BlockKind → Bool
 makes_requests kinds.RTrig = false
 makes_requests kinds.Ctu = false
 makes_requests kinds.Ton = false
@@ -56,11 +56,11 @@ type_of buses Int = numbers (negsuc 32767) (pos 32767)
 type_of buses (UpTo greatest) = numbers (pos 0) (pos greatest)
 type_of buses Bus = numbers (pos 0) (pos (buses - 1))
 
-abbrev pub types_of_ports : ℕ → Kind → List IlType
+abbrev pub types_of_ports : ℕ → BlockKind → List IlType
 types_of_ports buses kind = map (λ port. type_of buses port.values) (ports_of kind)
 
 -- the type of the port of this number, where the kind has it
-abbrev pub port_type : ℕ → Kind → ℕ → Option IlType
+abbrev pub port_type : ℕ → BlockKind → ℕ → Option IlType
 port_type buses kind port = slice_get (types_of_ports buses kind) port
 
 -- the type of a port that programs store to
@@ -69,7 +69,7 @@ type_if_input buses Input port = Some (type_of buses port)
 type_if_input buses Output port = None
 
 -- the type of the input of this number; none where the kind has none, or an output there
-abbrev pub input_type : ℕ → Kind → ℕ → Option IlType
+abbrev pub input_type : ℕ → BlockKind → ℕ → Option IlType
 input_type buses kind port =
     option_and_then (λ p. type_if_input buses p.direction p.values) (slice_get (ports_of kind) port)
 
@@ -100,7 +100,7 @@ abbrev pub is_named : List ℕ → Port → Bool
 is_named name port = str_eq_ignore_ascii_case (spelling port.name) name
 
 -- the number of the first port with the name
-abbrev pub port_named : Kind → List ℕ → Option ℕ
+abbrev pub port_named : BlockKind → List ℕ → Option ℕ
 port_named kind name = position (is_named name) (ports_of kind)
 
 -- each port has FALSE or 0 at first

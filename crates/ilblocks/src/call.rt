@@ -5,7 +5,7 @@ ghost use Rattle.limits.specs.Limits.{most_buses};
 ghost use Rattle.ilblocks.specs.Calls.{IsBlockOf, after_call, requested, count, elapsed, start_of};
 ghost use Rattle.ilblocks.specs.Calls.{ports_of_trigger, ports_of_counter, ports_of_timer};
 
-use crate::kind::Kind;
+use crate::kind::BlockKind;
 use crate::request::request_of;
 use crate::state::BlockState;
 use gearcmd::Request;
@@ -81,7 +81,7 @@ fn time(block: &mut BlockState, moment: u64)
 /// Calls an instance of the kind once, at a moment in milliseconds: its outputs and what it
 /// remembers become what the equations of the kind say, and a request block makes a request of its
 /// ports at each rising edge of REQ.
-pub fn step(kind: Kind, block: &mut BlockState, moment: u64) -> Option<Request>
+pub fn step(kind: BlockKind, block: &mut BlockState, moment: u64) -> Option<Request>
     requires { IsBlockOf most_buses block.old kind }
     ensures after { block.new ≡ after_call kind moment block.old }
     ensures request { result ≡ requested kind block.old }
@@ -97,9 +97,9 @@ pub fn step(kind: Kind, block: &mut BlockState, moment: u64) -> Option<Request>
         None
     };
     match kind {
-        Kind::RTrig => trigger(block),
-        Kind::Ctu => count(block),
-        Kind::Ton => time(block, moment),
+        BlockKind::RTrig => trigger(block),
+        BlockKind::Ctu => count(block),
+        BlockKind::Ton => time(block, moment),
         _ => {}
     }
     block.remember(first);

@@ -8,7 +8,7 @@ use iltypes::IlType;
 
 /// A kind of function block.
 #[derive(Clone, Copy, PartialEq, Eq)]
-pub enum Kind {
+pub enum BlockKind {
     /// R_TRIG: a rising edge (IEC 61131-3, table 35).
     RTrig,
     /// CTU: a counter of rising edges (table 36).
@@ -27,7 +27,7 @@ pub enum Kind {
     DevAsk,
 }
 
-impl Kind {
+impl BlockKind {
     ghost use Rattle.std.specs.Prelude.{◌≡◌, ◌≤◌, length};
     ghost use Rattle.ilblocks.specs.Ports.{ports_of, makes_requests, port_named};
     ghost use Rattle.ilblocks.specs.Ports.{port_type, input_type};
@@ -38,18 +38,18 @@ impl Kind {
         ensures few { length (ports_of self) ≤ 5 }
     {
         match self {
-            Kind::RTrig => &R_TRIG,
-            Kind::Ctu => &CTU,
-            Kind::Ton => &TON,
-            Kind::GearLevel => &GEAR_LEVEL,
-            Kind::GearDo => &GEAR_DO,
-            Kind::GearSet => &GEAR_SET,
-            Kind::GearPair => &GEAR_PAIR,
-            Kind::GearAsk => &GEAR_ASK,
-            Kind::GearRead => &GEAR_READ,
-            Kind::DevDo => &DEV_DO,
-            Kind::DevScheme => &DEV_SCHEME,
-            Kind::DevAsk => &DEV_ASK,
+            BlockKind::RTrig => &R_TRIG,
+            BlockKind::Ctu => &CTU,
+            BlockKind::Ton => &TON,
+            BlockKind::GearLevel => &GEAR_LEVEL,
+            BlockKind::GearDo => &GEAR_DO,
+            BlockKind::GearSet => &GEAR_SET,
+            BlockKind::GearPair => &GEAR_PAIR,
+            BlockKind::GearAsk => &GEAR_ASK,
+            BlockKind::GearRead => &GEAR_READ,
+            BlockKind::DevDo => &DEV_DO,
+            BlockKind::DevScheme => &DEV_SCHEME,
+            BlockKind::DevAsk => &DEV_ASK,
         }
     }
 
@@ -57,7 +57,7 @@ impl Kind {
     pub fn makes_requests(self) -> bool
         ensures { result ≡ makes_requests self }
     {
-        !matches!(self, Kind::RTrig | Kind::Ctu | Kind::Ton)
+        !matches!(self, BlockKind::RTrig | BlockKind::Ctu | BlockKind::Ton)
     }
 
     /// The type of a port, on so many buses.

@@ -1,13 +1,13 @@
 //! Function blocks (IEC 61131-3, 2.5.2.3; request blocks by the profile): their ports, and what a
 //! call of an instance does.
 //!
-//! What crosses the boundary: [`Kind`] with its [`Port`]s, [`BlockState`], which is what an
+//! What crosses the boundary: [`BlockKind`] with its [`Port`]s, [`BlockState`], which is what an
 //! instance keeps from call to call, and [`step`], which is one call. What a call leaves on the
 //! ports is `after_call`, and the request that it makes `requested` (specs/Calls.antt, to be read
 //! first). What a scan works on, variables and instances, is `Store` (specs/Stores.antt).
 //!
 //! ```text
-//! let request = step(Kind::GearDo, &mut block, moment);
+//! let request = step(BlockKind::GearDo, &mut block, moment);
 //! ```
 #![tactic(auto)]
 
@@ -18,6 +18,6 @@ mod request;
 mod state;
 
 pub use call::step;
-pub use kind::Kind;
+pub use kind::BlockKind;
 pub use port::{Direction, MOST_PORTS, Port, PortName, PortValues};
 pub use state::BlockState;

@@ -4,7 +4,7 @@ ghost use Rattle.limits.specs.Limits.{most_buses};
 ghost use Rattle.ilblocks.specs.Calls.{IsBlockOf, natural, address_of, scheme_of};
 ghost use Rattle.ilblocks.specs.Calls.{command_of, request_of};
 
-use crate::kind::Kind;
+use crate::kind::BlockKind;
 use crate::state::BlockState;
 use daliframe::{Address, EventScheme, Number};
 use gearcmd::{Command, Request};
@@ -54,8 +54,8 @@ fn scheme(block: &BlockState) -> EventScheme
 
 /// What GEAR_LEVEL asks for.
 fn gear_level(block: &BlockState) -> Command
-    requires { IsBlockOf most_buses block.now Kind.GearLevel }
-    ensures { Some result ≡ command_of Kind.GearLevel block.now }
+    requires { IsBlockOf most_buses block.now BlockKind.GearLevel }
+    ensures { Some result ≡ command_of BlockKind.GearLevel block.now }
 {
     Command::GearLevel {
         address: address(block),
@@ -65,8 +65,8 @@ fn gear_level(block: &BlockState) -> Command
 
 /// What GEAR_DO asks for.
 fn gear_do(block: &BlockState) -> Command
-    requires { IsBlockOf most_buses block.now Kind.GearDo }
-    ensures { Some result ≡ command_of Kind.GearDo block.now }
+    requires { IsBlockOf most_buses block.now BlockKind.GearDo }
+    ensures { Some result ≡ command_of BlockKind.GearDo block.now }
 {
     Command::GearDo {
         address: address(block),
@@ -76,8 +76,8 @@ fn gear_do(block: &BlockState) -> Command
 
 /// What GEAR_SET asks for.
 fn gear_set(block: &BlockState) -> Command
-    requires { IsBlockOf most_buses block.now Kind.GearSet }
-    ensures { Some result ≡ command_of Kind.GearSet block.now }
+    requires { IsBlockOf most_buses block.now BlockKind.GearSet }
+    ensures { Some result ≡ command_of BlockKind.GearSet block.now }
 {
     Command::GearSet {
         address: address(block),
@@ -88,8 +88,8 @@ fn gear_set(block: &BlockState) -> Command
 
 /// What GEAR_PAIR asks for.
 fn gear_pair(block: &BlockState) -> Command
-    requires { IsBlockOf most_buses block.now Kind.GearPair }
-    ensures { Some result ≡ command_of Kind.GearPair block.now }
+    requires { IsBlockOf most_buses block.now BlockKind.GearPair }
+    ensures { Some result ≡ command_of BlockKind.GearPair block.now }
 {
     Command::GearPair {
         address: address(block),
@@ -99,8 +99,8 @@ fn gear_pair(block: &BlockState) -> Command
 
 /// What GEAR_ASK asks for.
 fn gear_ask(block: &BlockState) -> Command
-    requires { IsBlockOf most_buses block.now Kind.GearAsk }
-    ensures { Some result ≡ command_of Kind.GearAsk block.now }
+    requires { IsBlockOf most_buses block.now BlockKind.GearAsk }
+    ensures { Some result ≡ command_of BlockKind.GearAsk block.now }
 {
     Command::GearAsk {
         address: number(block, 2),
@@ -110,8 +110,8 @@ fn gear_ask(block: &BlockState) -> Command
 
 /// What GEAR_READ asks for.
 fn gear_read(block: &BlockState) -> Command
-    requires { IsBlockOf most_buses block.now Kind.GearRead }
-    ensures { Some result ≡ command_of Kind.GearRead block.now }
+    requires { IsBlockOf most_buses block.now BlockKind.GearRead }
+    ensures { Some result ≡ command_of BlockKind.GearRead block.now }
 {
     Command::GearRead {
         address: number(block, 2),
@@ -122,8 +122,8 @@ fn gear_read(block: &BlockState) -> Command
 
 /// What DEV_DO asks for.
 fn dev_do(block: &BlockState) -> Command
-    requires { IsBlockOf most_buses block.now Kind.DevDo }
-    ensures { Some result ≡ command_of Kind.DevDo block.now }
+    requires { IsBlockOf most_buses block.now BlockKind.DevDo }
+    ensures { Some result ≡ command_of BlockKind.DevDo block.now }
 {
     Command::DevDo {
         address: number(block, 2),
@@ -134,8 +134,8 @@ fn dev_do(block: &BlockState) -> Command
 
 /// What DEV_SCHEME asks for.
 fn dev_scheme(block: &BlockState) -> Command
-    requires { IsBlockOf most_buses block.now Kind.DevScheme }
-    ensures { Some result ≡ command_of Kind.DevScheme block.now }
+    requires { IsBlockOf most_buses block.now BlockKind.DevScheme }
+    ensures { Some result ≡ command_of BlockKind.DevScheme block.now }
 {
     Command::DevScheme {
         address: number(block, 2),
@@ -146,8 +146,8 @@ fn dev_scheme(block: &BlockState) -> Command
 
 /// What DEV_ASK asks for.
 fn dev_ask(block: &BlockState) -> Command
-    requires { IsBlockOf most_buses block.now Kind.DevAsk }
-    ensures { Some result ≡ command_of Kind.DevAsk block.now }
+    requires { IsBlockOf most_buses block.now BlockKind.DevAsk }
+    ensures { Some result ≡ command_of BlockKind.DevAsk block.now }
 {
     Command::DevAsk {
         address: number(block, 2),
@@ -157,26 +157,26 @@ fn dev_ask(block: &BlockState) -> Command
 }
 
 /// What the block asks for; nothing where its kind makes no requests.
-fn command_of(kind: Kind, block: &BlockState) -> Option<Command>
+fn command_of(kind: BlockKind, block: &BlockState) -> Option<Command>
     requires { IsBlockOf most_buses block.now kind }
     ensures { result ≡ command_of kind block.now }
 {
     Some(match kind {
-        Kind::RTrig | Kind::Ctu | Kind::Ton => return None,
-        Kind::GearLevel => gear_level(block),
-        Kind::GearDo => gear_do(block),
-        Kind::GearSet => gear_set(block),
-        Kind::GearPair => gear_pair(block),
-        Kind::GearAsk => gear_ask(block),
-        Kind::GearRead => gear_read(block),
-        Kind::DevDo => dev_do(block),
-        Kind::DevScheme => dev_scheme(block),
-        Kind::DevAsk => dev_ask(block),
+        BlockKind::RTrig | BlockKind::Ctu | BlockKind::Ton => return None,
+        BlockKind::GearLevel => gear_level(block),
+        BlockKind::GearDo => gear_do(block),
+        BlockKind::GearSet => gear_set(block),
+        BlockKind::GearPair => gear_pair(block),
+        BlockKind::GearAsk => gear_ask(block),
+        BlockKind::GearRead => gear_read(block),
+        BlockKind::DevDo => dev_do(block),
+        BlockKind::DevScheme => dev_scheme(block),
+        BlockKind::DevAsk => dev_ask(block),
     })
 }
 
 /// The request of the ports' values; none where the kind makes no requests.
-pub(crate) fn request_of(kind: Kind, block: &BlockState) -> Option<Request>
+pub(crate) fn request_of(kind: BlockKind, block: &BlockState) -> Option<Request>
     requires { IsBlockOf most_buses block.now kind }
     ensures { result ≡ request_of kind block.now }
 {

@@ -2,7 +2,7 @@
 
 ghost use Rattle.std.specs.Prelude.{◌≤◌, length};
 
-use crate::kind::Kind;
+use crate::kind::BlockKind;
 use crate::port::MOST_PORTS;
 use arrayvec::ArrayVec;
 use iltypes::Value;
@@ -35,7 +35,7 @@ impl BlockState {
     ghost use Rattle.ilblocks.specs.Calls.{IsBlockOf, at_first, truth, number, natural, rises};
 
     /// An instance before its first call.
-    pub fn at_first(kind: Kind) -> BlockState
+    pub fn at_first(kind: BlockKind) -> BlockState
         ensures value { result ≡ at_first kind }
         ensures typed { (buses : ℕ) → IsBlockOf buses result kind }
     {

@@ -5,21 +5,21 @@ use Rattle.std.specs.Cmp.{booleans_Decides}
 use Rattle.std.proofs.lemmas.Bool.Decides.{Decides-eqb, Decides-and, Decides-like}
 use Rattle.iloperators.proofs.Equality.{same_operator, same_function, same_condition}
 use Rattle.ilcode.specs.Listings.{Listing, listing_of}
-use Rattle.ilcode.specs.declared.instruction.Operand.{Operand}
-use Rattle.ilcode.specs.declared.instruction.Operand.TheVariants as operands
-use Rattle.ilcode.specs.contracts.instruction.OperandPartialEq.TheImpl as operand_eq
-use Rattle.ilcode.specs.declared.instruction.Variable.{Variable}
-use Rattle.ilcode.specs.declared.instruction.Variable.TheVariants as variables
-use Rattle.ilcode.specs.contracts.instruction.VariablePartialEq.TheImpl as variable_eq
-use Rattle.ilcode.specs.declared.instruction.Instruction.{Instruction}
-use Rattle.ilcode.specs.declared.instruction.Instruction.TheVariants as words
-use Rattle.ilcode.specs.contracts.instruction.InstructionPartialEq.TheImpl as word_eq
+use Rattle.ilcode.specs.declared.word.WordOperand.{WordOperand}
+use Rattle.ilcode.specs.declared.word.WordOperand.TheVariants as operands
+use Rattle.ilcode.specs.contracts.word.WordOperandPartialEq.TheImpl as operand_eq
+use Rattle.ilcode.specs.declared.word.Target.{Target}
+use Rattle.ilcode.specs.declared.word.Target.TheVariants as variables
+use Rattle.ilcode.specs.contracts.word.TargetPartialEq.TheImpl as variable_eq
+use Rattle.ilcode.specs.declared.word.Word.{Word}
+use Rattle.ilcode.specs.declared.word.Word.TheVariants as words
+use Rattle.ilcode.specs.contracts.word.WordPartialEq.TheImpl as word_eq
 
 -- what is made of two parts is the same where both are
 same_pair : {A B C : Type 0} (make : A → B → C) (a c : A) (b d : B) → (a ≡ c) × (b ≡ d) → make a b ≡ make c d
 same_pair make a c b d e = ap (λ x. make x b) e.0 ∙ ap (make c) e.1
 
-pub same_operand : (a b : Operand) → Decides (operand_eq.eq-value.it a b) (a ≡ b)
+pub same_operand : (a b : WordOperand) → Decides (operand_eq.eq-value.it a b) (a ≡ b)
 same_operand (operands.Slot a) (operands.Slot b) =
     Decides-like _ (λ e. ap operands.Slot e) (λ e. cc) (Decides-eqb a b)
 same_operand (operands.Constant a) (operands.Constant b) =
@@ -29,7 +29,7 @@ same_operand (operands.Port port block) (operands.Port other instance) =
     (Decides-and _ _ (Decides-eqb port other) (Decides-eqb block instance))
 same_operand a b = (λ e. cc, λ e. cc)
 
-pub same_variable : (a b : Variable) → Decides (variable_eq.eq-value.it a b) (a ≡ b)
+pub same_variable : (a b : Target) → Decides (variable_eq.eq-value.it a b) (a ≡ b)
 same_variable (variables.Slot a) (variables.Slot b) =
     Decides-like _ (λ e. ap variables.Slot e) (λ e. cc) (Decides-eqb a b)
 same_variable (variables.Port port block) (variables.Port other instance) =
@@ -37,7 +37,7 @@ same_variable (variables.Port port block) (variables.Port other instance) =
     (Decides-and _ _ (Decides-eqb port other) (Decides-eqb block instance))
 same_variable a b = (λ e. cc, λ e. cc)
 
-pub same_word : (a b : Instruction) → Decides (word_eq.eq-value.it a b) (a ≡ b)
+pub same_word : (a b : Word) → Decides (word_eq.eq-value.it a b) (a ≡ b)
 same_word (words.Load negated operand) (words.Load not value) =
     Decides-like _ (same_pair words.Load negated not operand value) (λ e. (cc, cc))
     (Decides-and _ _ (booleans_Decides negated not) (same_operand operand value))

@@ -13,16 +13,16 @@ use Rattle.iloperators.specs.Functions.{modified, value_of_function}
 use Rattle.iloperators.specs.Operators.{both}
 use Rattle.limits.specs.Limits.{most_nesting}
 use Rattle.gearcmd.specs.declared.requests.Request.{Request}
-use Rattle.ilblocks.specs.declared.kind.Kind.{Kind}
-use Rattle.ilblocks.specs.declared.kind.Kind.TheVariants as kinds
+use Rattle.ilblocks.specs.declared.kind.BlockKind.{BlockKind}
+use Rattle.ilblocks.specs.declared.kind.BlockKind.TheVariants as kinds
 use Rattle.ilblocks.specs.Calls.{Block, requested, rises}
 use Rattle.ilblocks.specs.Ports.{makes_requests}
 use Rattle.ilblocks.specs.Stores.{Store, with_input, type_of_input, listed, after_block, called}
 use Rattle.ilcode.specs.declared.nesting.Opened.{Opened}
-use Rattle.ilcode.specs.declared.instruction.Instruction.{Instruction}
-use Rattle.ilcode.specs.declared.instruction.Instruction.TheVariants as words
-use Rattle.ilcode.specs.declared.instruction.Variable.{Variable}
-use Rattle.ilcode.specs.declared.instruction.Variable.TheVariants as variables
+use Rattle.ilcode.specs.declared.word.Word.{Word}
+use Rattle.ilcode.specs.declared.word.Word.TheVariants as words
+use Rattle.ilcode.specs.declared.word.Target.{Target}
+use Rattle.ilcode.specs.declared.word.Target.TheVariants as variables
 use Rattle.ilcode.specs.Listings.{Listing, shape_of}
 use Rattle.ilcode.specs.Paths.{may_request, requests_on}
 use Rattle.ilcode.specs.Steps.{Configuration, at, opened, value_of, stored_at, with_result, with_store, sets, calls}
@@ -53,14 +53,14 @@ blocks_add s t block (Some b) e =
     let same : record s { blocks = slice_set s.blocks block b } ≡ t = cc in
     subst (Adds 0 s) same (record { few = omega arith; moment = refl })
 
-stored_adds : (code : Listing) (s t : Store) (variable : Variable) (value : Value)
+stored_adds : (code : Listing) (s t : Store) (variable : Target) (value : Value)
     → stored_at code s variable value ≡ Some t → Adds 0 s t
 stored_adds code s t (variables.Slot slot) value e = slots_add s t (written code.slots s.slots slot value) e
 stored_adds code s t (variables.Port port block) value e =
     let type = type_of_input (shape_of code) block port in
     blocks_add s t block (option_and_then (λ b. with_input b port value type) (slice_get s.blocks block)) e
 
-maybe_stored_adds : (code : Listing) (s t : Store) (variable : Variable) (o : Option Value)
+maybe_stored_adds : (code : Listing) (s t : Store) (variable : Target) (o : Option Value)
     → option_and_then (stored_at code s variable) o ≡ Some t → Adds 0 s t
 maybe_stored_adds code s t variable None e = absurd (cc)
 maybe_stored_adds code s t variable (Some value) e = stored_adds code s t variable value e
@@ -70,7 +70,7 @@ never true request e = e
 never false request e = refl
 
 -- a call makes no request where its kind makes none, else at most one
-none_requested : (kind : Kind) (b : Block) → makes_requests kind ≡ false → requested kind b ≡ None
+none_requested : (kind : BlockKind) (b : Block) → makes_requests kind ≡ false → requested kind b ≡ None
 none_requested kinds.RTrig b e = never (rises b) None refl
 none_requested kinds.Ctu b e = never (rises b) None refl
 none_requested kinds.Ton b e = never (rises b) None refl
@@ -93,13 +93,13 @@ long_both [] ys = omega arith
 long_both (x ∷ xs) ys = let e = long_both xs ys in omega arith
 
 -- so many requests are listed at most
-listed_by : (kind : Kind) (b : Block) (may : Bool) → makes_requests kind ≡ may
+listed_by : (kind : BlockKind) (b : Block) (may : Bool) → makes_requests kind ≡ may
     → length (listed (requested kind b)) ≤ cond may 1 0
 listed_by kind b true e = listed_few (requested kind b)
 listed_by kind b false e =
     let none = ap (λ (o : Option Request). length (listed o)) (none_requested kind b e) in omega (arith, none)
 
-block_adds : (s t : Store) (kind : Kind) (block : ℕ) (o : Option Block)
+block_adds : (s t : Store) (kind : BlockKind) (block : ℕ) (o : Option Block)
     → option_map (after_block kind s block) o ≡ Some t → Adds (cond (makes_requests kind) 1 0) s t
 block_adds s t kind block None e = absurd (cc)
 block_adds s t kind block (Some b) e =
@@ -108,7 +108,7 @@ block_adds s t kind block (Some b) e =
     let few = listed_by kind b (makes_requests kind) refl in
     subst (Adds (cond (makes_requests kind) 1 0) s) same (record { few = omega (arith, long, few); moment = refl })
 
-call_adds : (s t : Store) (block : ℕ) (o : Option Kind)
+call_adds : (s t : Store) (block : ℕ) (o : Option BlockKind)
     → option_and_then (λ kind. option_map (after_block kind s block) (slice_get s.blocks block)) o ≡ Some t
     → Adds (cond (option_map_or makes_requests o false) 1 0) s t
 call_adds s t block None e = absurd (cc)
@@ -143,7 +143,7 @@ calls_adds c d most None adds e = absurd (cc)
 calls_adds c d most (Some t) adds e =
     subst (Adds most c.store) (made c d (c.place + 1) t None c.nesting e) (adds t refl)
 
-sets_adds : (code : Listing) (c d : Configuration) (variable : Variable) (truth : Bool) (result : Option Value)
+sets_adds : (code : Listing) (c d : Configuration) (variable : Target) (truth : Bool) (result : Option Value)
     → sets code c variable truth result ≡ Some d → Adds 0 c.store d.store
 sets_adds code c d variable truth None e = absurd (cc)
 sets_adds code c d variable truth (Some (values.Int n)) e = absurd (cc)
@@ -187,7 +187,7 @@ jumps_adds code c d target [] (Some false) e = goes_adds c d (c.place + 1) e
 jumps_adds code c d target (innermost ∷ nesting) met e = absurd (cc)
 
 -- a word makes no more requests than it may
-effect_adds : (code : Listing) (c d : Configuration) (word : Instruction) → effect code c word ≡ Some d
+effect_adds : (code : Listing) (c d : Configuration) (word : Word) → effect code c word ≡ Some d
     → Adds (cond (may_request code word) 1 0) c.store d.store
 effect_adds code c d (words.Load negated operand) e =
     result_adds c d c.nesting (option_and_then (modified negated) (value_of code c.store operand)) e
@@ -229,7 +229,7 @@ entered_by c d true ends h = if_closed_store (record c { result = None }) c d c.
 entered_by c d false true h = if_closed_store c c d c.nesting refl h
 entered_by c d false false h = if_closed_store c c d [] refl h
 
-by_effect : (code : Listing) (c d : Configuration) (word : Instruction) (o : Option Configuration)
+by_effect : (code : Listing) (c d : Configuration) (word : Word) (o : Option Configuration)
     → effect code c word ≡ o → option_and_then (entered code) o ≡ Some d
     → Adds (cond (may_request code word) 1 0) c.store d.store
 by_effect code c d word None e h = absurd (cc)
@@ -237,7 +237,7 @@ by_effect code c d word (Some b) e h =
     let same = entered_by b d (is_start code b.place) (b.place == length code.instructions) h in
     subst (Adds (cond (may_request code word) 1 0) c.store) same (effect_adds code c b word e)
 
-step_adds : (code : Listing) (c d : Configuration) (o : Option Instruction) → step_by code c o ≡ Some d
+step_adds : (code : Listing) (c d : Configuration) (o : Option Word) → step_by code c o ≡ Some d
     → Adds (cond (option_map_or (may_request code) o false) 1 0) c.store d.store
 step_adds code c d None h = absurd (cc)
 step_adds code c d (Some word) h = by_effect code c d word (effect code c word) refl h

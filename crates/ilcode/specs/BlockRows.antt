@@ -4,14 +4,14 @@ use Rattle.iltypes.specs.declared.value.Value.TheVariants as values
 use Rattle.daliframe.specs.declared.addressing.Address.{Address}
 use Rattle.gearcmd.specs.declared.requests.Command.TheVariants as commands
 use Rattle.gearcmd.specs.declared.requests.Request.{Request}
-use Rattle.ilblocks.specs.declared.kind.Kind.TheVariants.{Ton, GearDo}
+use Rattle.ilblocks.specs.declared.kind.BlockKind.TheVariants.{Ton, GearDo}
 use Rattle.ilblocks.specs.Calls.{Block, at_first}
 use Rattle.ilblocks.specs.Stores.{Store}
-use Rattle.ilcode.specs.declared.instruction.Instruction.{Instruction}
-use Rattle.ilcode.specs.declared.instruction.Instruction.TheVariants.{Load, Pass, Call, Set, Reset}
-use Rattle.ilcode.specs.declared.instruction.Instruction.TheVariants.{Store as St}
-use Rattle.ilcode.specs.declared.instruction.Operand.TheVariants.{Slot, Port}
-use Rattle.ilcode.specs.declared.instruction.Variable.TheVariants as variables
+use Rattle.ilcode.specs.declared.word.Word.{Word}
+use Rattle.ilcode.specs.declared.word.Word.TheVariants.{Load, Pass, Call, Set, Reset}
+use Rattle.ilcode.specs.declared.word.Word.TheVariants.{Store as St}
+use Rattle.ilcode.specs.declared.word.WordOperand.TheVariants.{Slot, Port}
+use Rattle.ilcode.specs.declared.word.Target.TheVariants as variables
 use Rattle.ilcode.specs.Rows.{whole}
 
 -- t with these values of IN, PT, Q and ET, IN at its last call, and the moment at which that became TRUE
@@ -50,46 +50,46 @@ abbrev pub request : Address → ℕ → Request
 request address command = record { bus = 0; command = commands.GearDo address command }
 
 -- IN := d, PT := b
-abbrev pub pass_in : Instruction
+abbrev pub pass_in : Word
 pass_in = Pass 0 0 (Slot 3)
 
-abbrev pub pass_pt : Instruction
+abbrev pub pass_pt : Word
 pass_pt = Pass 1 0 (Slot 1)
 
 -- CAL t, CAL g
-abbrev pub call_t : Instruction
+abbrev pub call_t : Word
 call_t = Call 0
 
-abbrev pub call_g : Instruction
+abbrev pub call_g : Word
 call_g = Call 1
 
 -- CAL t(IN := d, PT := b)
-abbrev pub timed : List Instruction
+abbrev pub timed : List Word
 timed = pass_in ∷ pass_pt ∷ call_t ∷ []
 
 -- LD t.Q, LD t.ET
-abbrev pub ld_q : Instruction
+abbrev pub ld_q : Word
 ld_q = Load false (Port 2 0)
 
-abbrev pub ld_et : Instruction
+abbrev pub ld_et : Word
 ld_et = Load false (Port 3 0)
 
 -- ST t.IN, STN t.IN, S t.IN, R t.IN, ST t.Q
-abbrev pub st_in : Instruction
+abbrev pub st_in : Word
 st_in = St false (variables.Port 0 0)
 
-abbrev pub stn_in : Instruction
+abbrev pub stn_in : Word
 stn_in = St true (variables.Port 0 0)
 
-abbrev pub s_in : Instruction
+abbrev pub s_in : Word
 s_in = Set (variables.Port 0 0)
 
-abbrev pub r_in : Instruction
+abbrev pub r_in : Word
 r_in = Reset (variables.Port 0 0)
 
-abbrev pub st_q : Instruction
+abbrev pub st_q : Word
 st_q = St false (variables.Port 2 0)
 
 -- CAL g(REQ := d, ADR := a, CMD := b)
-abbrev pub requested : List Instruction
+abbrev pub requested : List Word
 requested = Pass 0 1 (Slot 3) ∷ Pass 2 1 (Slot 0) ∷ Pass 3 1 (Slot 1) ∷ call_g ∷ []

@@ -3,8 +3,8 @@
 ghost use Rattle.std.specs.Prelude.{◌≡◌, nat_lt, ◌&&◌};
 ghost use Rattle.std.specs.List.{list_any};
 
-use crate::instruction::Instruction;
-use ilblocks::Kind;
+use crate::word::Word;
+use ilblocks::BlockKind;
 use iltypes::{IlType, Value};
 use std::marker::Model;
 
@@ -15,9 +15,9 @@ pub struct Code {
     buses: u8,
     constants: Vec<Value>,
     slots: Vec<IlType>,
-    kinds: Vec<Kind>,
+    kinds: Vec<BlockKind>,
     starts: Vec<usize>,
-    instructions: Vec<Instruction>,
+    instructions: Vec<Word>,
     lines: Vec<usize>,
 }
 
@@ -46,9 +46,9 @@ impl Code {
         buses: u8,
         constants: Vec<Value>,
         slots: Vec<IlType>,
-        kinds: Vec<Kind>,
+        kinds: Vec<BlockKind>,
         starts: Vec<usize>,
-        instructions: Vec<Instruction>,
+        instructions: Vec<Word>,
         lines: Vec<usize>,
     ) -> Code
         requires { IsLawful (listing_of buses constants.items slots.items kinds.items
@@ -103,7 +103,7 @@ impl Code {
     }
 
     /// The kinds of the block instances.
-    pub fn kinds(&self) -> &[Kind]
+    pub fn kinds(&self) -> &[BlockKind]
         ensures value { result.now ≡ self.now.kinds }
     {
         &self.kinds
@@ -117,7 +117,7 @@ impl Code {
     }
 
     /// The instructions, one at each place; no list is longer than its limit.
-    pub fn instructions(&self) -> &[Instruction]
+    pub fn instructions(&self) -> &[Word]
         ensures value { result.now ≡ self.now.instructions }
         ensures lawful { IsLawful self.now }
     {

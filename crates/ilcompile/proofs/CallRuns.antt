@@ -17,9 +17,9 @@ use Rattle.ilblocks.specs.Stores as stores
 use Rattle.ilplan.specs.declared.place.Place.{Place}
 use Rattle.ilplan.specs.declared.place.Place.TheVariants as places
 use Rattle.ilplan.specs.PlanMeaning.{places_of, with_place, passed_place, called_place}
-use Rattle.ilcode.specs.declared.instruction.Operand.{Operand as WordOperand}
-use Rattle.ilcode.specs.declared.instruction.Instruction.{Instruction as Word}
-use Rattle.ilcode.specs.declared.instruction.Instruction.TheVariants as words
+use Rattle.ilcode.specs.declared.word.WordOperand.{WordOperand}
+use Rattle.ilcode.specs.declared.word.Word.{Word}
+use Rattle.ilcode.specs.declared.word.Word.TheVariants as words
 use Rattle.ilcode.specs.Listings.{Listing, shape_of}
 use Rattle.ilcode.specs.Steps.{Configuration, at, value_of, stored_at, effect}
 use Rattle.ilcompile.specs.Layout.{operand_of, variable_of, block_of, pass_to, word_of_argument}

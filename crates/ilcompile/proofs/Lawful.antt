@@ -12,10 +12,10 @@ use Rattle.iltypes.specs.declared.value.Value.{Value}
 use Rattle.iltrees.specs.declared.instruction.Line.{Line}
 use Rattle.iltrees.specs.Words.{places_in}
 use Rattle.iltrees.specs.Words as counts
-use Rattle.ilblocks.specs.declared.kind.Kind.{Kind}
+use Rattle.ilblocks.specs.declared.kind.BlockKind.{BlockKind}
 use Rattle.ilplan.specs.declared.place.Place.{Place}
 use Rattle.ilplan.specs.Plans.{PlannedInstance, PlannedTask, KeepsLimits, all_lines, types_of, kinds_of}
-use Rattle.ilcode.specs.declared.instruction.Instruction.{Instruction as Word}
+use Rattle.ilcode.specs.declared.word.Word.{Word}
 use Rattle.ilcode.specs.Listings.{IsLawful, listing_of}
 use Rattle.ilsource.specs.Places.{line_at}
 use Rattle.ilcompile.specs.Layout.{words_of_programs, places_of_programs, starts_from, programs_of, laid_out}
@@ -99,7 +99,7 @@ laid_out_lawful buses text t low high k =
 
 -- parts that are laid out so make that code
 pub parts_are : (buses : ℕ) (text : List ℕ) (t : PlannedTask) (constants : List Value) (slots : List IlType)
-    (kinds : List Kind) (starts : List ℕ) (ws : List Word) (numbers : List ℕ)
+    (kinds : List BlockKind) (starts : List ℕ) (ws : List Word) (numbers : List ℕ)
     → constants ≡ t.constants → slots ≡ types_of t → kinds ≡ kinds_of t
     → starts ≡ starts_from 0 (programs_of t.instances)
     → ws ≡ words_of_programs t.constants 0 (programs_of t.instances)

@@ -19,7 +19,7 @@ use Rattle.ilplan.specs.Plans.{PlannedInstance, PlannedTask, KeepsLimits, all_li
 use Rattle.ilplan.proofs.EachOnce.{same_is}
 use Rattle.ilplan.proofs.Used.{uses_among}
 use Rattle.ilcode.specs.Listings.{Listing}
-use Rattle.ilcompile.specs.Layout.{number_of, programs_of, laid_out}
+use Rattle.ilcompile.specs.Layout.{constant_number, programs_of, laid_out}
 use Rattle.ilcompile.specs.Meant.{IsMeant}
 use Rattle.ilcompile.proofs.Stands.{Each}
 use Rattle.ilcompile.proofs.Served.{IsServed, AreServed, served_front, served_back}
@@ -29,16 +29,16 @@ use Rattle.ilcompile.proofs.CodeEnds.{one_end, some_end}
 
 -- a constant that is in the table stands at its number
 stands : (v : Value) (constants : List Value) → list_any (same_value v) constants ≡ true
-    → slice_get constants (number_of constants v) ≡ Some v
+    → slice_get constants (constant_number constants v) ≡ Some v
 stands v [] e = absurd cc
 stands v (c ∷ constants) e = go (same_value v c) (λ t. same_is v c t) e (stands v constants)
   where
     go : (b : Bool) → (b ≡ true → v ≡ c) → (b || list_any (same_value v) constants) ≡ true
-        → (list_any (same_value v) constants ≡ true → slice_get constants (number_of constants v) ≡ Some v)
-        → slice_get (c ∷ constants) (cond (not b) (1 + number_of constants v) 0) ≡ Some v
+        → (list_any (same_value v) constants ≡ true → slice_get constants (constant_number constants v) ≡ Some v)
+        → slice_get (c ∷ constants) (cond (not b) (1 + constant_number constants v) 0) ≡ Some v
     go true same f more = ap (λ x. Some x) (sym (same refl))
     go false same f more =
-        let n : suc (number_of constants v) ≡ 1 + number_of constants v = omega arith in
+        let n : suc (constant_number constants v) ≡ 1 + constant_number constants v = omega arith in
         subst (λ k. slice_get (c ∷ constants) k ≡ Some v) n (more f)
 
 module _ (constants : List Value) (few : length constants ≤ most_constants) where

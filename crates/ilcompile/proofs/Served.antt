@@ -13,7 +13,7 @@ use Rattle.ilplan.specs.declared.place.Place.{Place}
 use Rattle.ilplan.specs.declared.place.Place.TheVariants as places
 use Rattle.ilcode.specs.Listings.{Listing, shape_of}
 use Rattle.ilcode.specs.Steps.{value_of}
-use Rattle.ilcompile.specs.Layout.{number_of, operand_of}
+use Rattle.ilcompile.specs.Layout.{constant_number, operand_of}
 use Rattle.ilplan.specs.PlanMeaning.{places_of}
 use Rattle.ilcompile.proofs.Stands.{Each}
 
@@ -22,7 +22,7 @@ abbrev pub IsServed : List Value → Operand Place → Type 0
 IsServed constants (Name (places.Slot slot)) = ⊤
 IsServed constants (Name (places.Port block port)) = ⊤
 IsServed constants (Name (places.Block block)) = length constants ≤ most_constants
-IsServed constants (Constant value) = slice_get constants (number_of constants value) ≡ Some value
+IsServed constants (Constant value) = slice_get constants (constant_number constants value) ≡ Some value
 
 abbrev pub AreServed : List Value → List (Use Place) → Type 0
 AreServed constants uses = Each (λ u. IsServed constants u.operand) uses

@@ -27,27 +27,27 @@ use Rattle.ilplan.specs.PlanMeaning.{number_same}
 use Rattle.ilplan.specs.declared.place.Place.{Place}
 use Rattle.ilplan.specs.declared.place.Place.TheVariants as places
 use Rattle.ilplan.specs.Plans.{PlannedInstance, PlannedTask, types_of, kinds_of}
-use Rattle.ilcode.specs.declared.instruction.Operand.{Operand as WordOperand}
-use Rattle.ilcode.specs.declared.instruction.Operand.TheVariants as operands
-use Rattle.ilcode.specs.declared.instruction.Variable.{Variable}
-use Rattle.ilcode.specs.declared.instruction.Variable.TheVariants as variables
-use Rattle.ilcode.specs.declared.instruction.Instruction.{Instruction as Word}
-use Rattle.ilcode.specs.declared.instruction.Instruction.TheVariants as words
+use Rattle.ilcode.specs.declared.word.WordOperand.{WordOperand}
+use Rattle.ilcode.specs.declared.word.WordOperand.TheVariants as operands
+use Rattle.ilcode.specs.declared.word.Target.{Target}
+use Rattle.ilcode.specs.declared.word.Target.TheVariants as variables
+use Rattle.ilcode.specs.declared.word.Word.{Word}
+use Rattle.ilcode.specs.declared.word.Word.TheVariants as words
 use Rattle.ilcode.specs.Listings.{Listing, listing_of}
 
 -- the number of a constant: its place in the table
-abbrev pub number_of : List Value → Value → ℕ
-number_of constants value = position_or_len (same_value value) constants
+abbrev pub constant_number : List Value → Value → ℕ
+constant_number constants value = position_or_len (same_value value) constants
 
 -- an operand by its number; an instance has no value, and is past the last constant
 abbrev pub operand_of : List Value → Operand Place → WordOperand
 operand_of constants (Name (places.Slot slot)) = operands.Slot slot
 operand_of constants (Name (places.Port block port)) = operands.Port port block
 operand_of constants (Name (places.Block block)) = operands.Constant most_constants
-operand_of constants (Constant value) = operands.Constant (number_of constants value)
+operand_of constants (Constant value) = operands.Constant (constant_number constants value)
 
 -- what is stored to; an instance is not, and its port is that of an instance past the last
-abbrev pub variable_of : Place → Variable
+abbrev pub variable_of : Place → Target
 variable_of (places.Slot slot) = variables.Slot slot
 variable_of (places.Port block port) = variables.Port port block
 variable_of (places.Block block) = variables.Port 0 most_blocks

@@ -15,21 +15,21 @@ use Rattle.iltrees.specs.declared.instruction.Instruction.TheVariants as instruc
 use Rattle.iltrees.specs.declared.instruction.Line.{Line}
 use Rattle.iltrees.specs.Trees as trees
 use Rattle.ilsource.specs.declared.name.Name.{Name as NameInText}
-use Rattle.ilblocks.specs.declared.kind.Kind.{Kind}
-use Rattle.ilblocks.specs.declared.kind.Kind.TheVariants as kinds
+use Rattle.ilblocks.specs.declared.kind.BlockKind.{BlockKind}
+use Rattle.ilblocks.specs.declared.kind.BlockKind.TheVariants as kinds
 use Rattle.ilplan.specs.declared.activation.Activation.TheVariants.{Cyclic}
 use Rattle.ilplan.specs.declared.instance.FunctionBlock.{FunctionBlock}
 use Rattle.ilplan.specs.declared.slot.Slot.{Slot}
-use Rattle.ilplan.specs.declared.slot.Variable.TheVariants.{Own}
+use Rattle.ilplan.specs.declared.slot.SlotOwner.TheVariants.{Own}
 use Rattle.ilplan.specs.declared.place.Place.{Place}
 use Rattle.ilplan.specs.declared.place.Place.TheVariants as places
 use Rattle.ilplan.specs.Constants.{different_constants}
 use Rattle.ilplan.specs.Plans.{PlannedTask, task_of}
-use Rattle.ilcode.specs.declared.instruction.Operand.TheVariants as operands
-use Rattle.ilcode.specs.declared.instruction.Variable.{Variable}
-use Rattle.ilcode.specs.declared.instruction.Variable.TheVariants as variables
-use Rattle.ilcode.specs.declared.instruction.Instruction.{Instruction as Word}
-use Rattle.ilcode.specs.declared.instruction.Instruction.TheVariants as words
+use Rattle.ilcode.specs.declared.word.WordOperand.TheVariants as operands
+use Rattle.ilcode.specs.declared.word.Target.{Target}
+use Rattle.ilcode.specs.declared.word.Target.TheVariants as variables
+use Rattle.ilcode.specs.declared.word.Word.{Word}
+use Rattle.ilcode.specs.declared.word.Word.TheVariants as words
 use Rattle.ilcode.specs.Listings.{listing_of}
 use Rattle.ilcompile.specs.Layout.{laid_out}
 
@@ -39,7 +39,7 @@ no_name = record { from = 0; to = 0 }
 abbrev pub slot : Slot
 slot = record { variable = Own no_name no_name; value_type = types.Bool; initial = values.Bool false }
 
-abbrev pub block : Kind → FunctionBlock
+abbrev pub block : BlockKind → FunctionBlock
 block kind = record { instance = no_name; name = no_name; kind = kind }
 
 -- a task with these programs, two variables, a block instance TON and one R_TRIG, and the constants
@@ -67,10 +67,10 @@ a = Name (places.Slot 0)
 abbrev pub b : Operand Place
 b = Name (places.Slot 1)
 
-abbrev pub in_a : Variable
+abbrev pub in_a : Target
 in_a = variables.Slot 0
 
-abbrev pub in_b : Variable
+abbrev pub in_b : Target
 in_b = variables.Slot 1
 
 -- the line of an instruction at a place

@@ -8,7 +8,7 @@ ghost use Rattle.ilcompile.specs.Meant.{IsMeant};
 
 use crate::lines::line_numbers;
 use crate::words::words;
-use ilblocks::Kind;
+use ilblocks::BlockKind;
 use ilcode::Code;
 use ilplan::{FunctionBlock, Plan, Slot, Task};
 use iltypes::IlType;
@@ -54,7 +54,7 @@ fn slot_types(alloc: Global, slots: &[Slot]) -> Result<Vec<IlType>, AllocError>
 }
 
 /// The kinds of the block instances.
-fn block_kinds(alloc: Global, blocks: &[FunctionBlock]) -> Result<Vec<Kind>, AllocError>
+fn block_kinds(alloc: Global, blocks: &[FunctionBlock]) -> Result<Vec<BlockKind>, AllocError>
     ensures { IfOk result (λ kinds. kinds.items ≡ map (λ block. block.kind) blocks.now) }
 {
     blocks.iter().map(|block| block.kind).collect(alloc)

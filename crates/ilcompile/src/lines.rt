@@ -5,7 +5,7 @@ ghost use Rattle.iltrees.specs.Words.{places_in};
 ghost use Rattle.ilsource.specs.Places.{line_at};
 ghost use Rattle.ilcompile.specs.Layout.{places_of_programs, programs_of};
 
-use ilplan::{Instance, Place};
+use ilplan::{Place, ProgramInstance};
 use ilsource::LineCounter;
 use iltrees::Line;
 use std::alloc::{AllocError, Global};
@@ -14,7 +14,7 @@ use std::alloc::{AllocError, Global};
 pub(crate) fn line_numbers(
     alloc: Global,
     text: &[u8],
-    instances: &[Instance],
+    instances: &[ProgramInstance],
 ) -> Result<Vec<usize>, AllocError>
     ensures { IfOk result (λ numbers. numbers.items
         ≡ map (line_at text.now) (places_of_programs (programs_of instances.now))) }
@@ -29,7 +29,7 @@ pub(crate) fn line_numbers(
 }
 
 /// The place in the text of each word of the instances.
-fn places(alloc: Global, instances: &[Instance]) -> Result<Vec<usize>, AllocError>
+fn places(alloc: Global, instances: &[ProgramInstance]) -> Result<Vec<usize>, AllocError>
     ensures { IfOk result
         (λ places. places.items ≡ places_of_programs (programs_of instances.now)) }
 {

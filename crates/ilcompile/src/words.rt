@@ -4,15 +4,15 @@ ghost use Rattle.std.specs.Prelude.{◌≡◌, ◌≤◌, ◌+◌, ◌∷◌, �
 ghost use Rattle.limits.specs.Limits.{most_constants, most_words};
 ghost use Rattle.iltrees.specs.Words as counts;
 ghost use Rattle.ilplan.specs.Plans.{all_lines};
-ghost use Rattle.ilcode.specs.declared.instruction.Instruction.TheVariants as variants;
+ghost use Rattle.ilcode.specs.declared.word.Word.TheVariants as variants;
 ghost use Rattle.ilcompile.specs.Layout.{operand_of, variable_of, block_of, word_of_argument};
 ghost use Rattle.ilcompile.specs.Layout.{word_of, jump_over, words_of, words_in, words_of_lines};
 ghost use Rattle.ilcompile.specs.Layout.{words_of_programs, starts_from, programs_of};
 
 use crate::targets::{count, next_target, targets};
-use ilcode::{Instruction as Word, Operand as WordOperand, Variable};
+use ilcode::{Target, Word, WordOperand};
 use iloperators::{Condition, Operator};
-use ilplan::{Constants, Instance, Place};
+use ilplan::{Constants, Place, ProgramInstance};
 use iltrees::{Action, Argument, Instruction, Line, Operand, Piece};
 use limits::{MOST_BLOCKS, MOST_CONSTANTS};
 use std::alloc::{AllocError, Global};
@@ -21,7 +21,7 @@ use std::alloc::{AllocError, Global};
 pub(crate) fn words(
     alloc: Global,
     constants: &Constants,
-    instances: &[Instance],
+    instances: &[ProgramInstance],
 ) -> Result<(Vec<usize>, Vec<Word>), AllocError>
     requires few { length constants.now ≤ most_constants }
     requires limit { counts.words_of_lines (all_lines instances.now) ≤ most_words }
@@ -267,13 +267,13 @@ fn numbered(constants: &Constants, operand: Operand<Place>) -> WordOperand
 }
 
 /// What is stored to.
-fn variable(place: Place) -> Variable
+fn variable(place: Place) -> Target
     ensures { result ≡ variable_of place }
 {
     match place {
-        Place::Slot(slot) => Variable::Slot(slot),
-        Place::Port { block, port } => Variable::Port { port, block },
-        Place::Block(_) => Variable::Port {
+        Place::Slot(slot) => Target::Slot(slot),
+        Place::Port { block, port } => Target::Port { port, block },
+        Place::Block(_) => Target::Port {
             port: 0,
             block: MOST_BLOCKS as u16,
         },

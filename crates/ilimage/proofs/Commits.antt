@@ -12,7 +12,7 @@ use Rattle.ilblocks.specs.Calls.{Block}
 use Rattle.ilblocks.proofs.Blocks.{set_typed, value_at}
 use Rattle.ilverify.specs.Verdicts.{Accepted}
 use Rattle.ilimage.specs.declared.external.External.{External}
-use Rattle.ilimage.specs.Images.{TaskLayout, TaskImage, ProcessImage, Variable, Global, Own, image_of, layout_of}
+use Rattle.ilimage.specs.Images.{TaskLayout, TaskImage, ProcessImage, ImageVariable, Global, Own, image_of, layout_of}
 use Rattle.ilimage.specs.Images.{value_of, verified_of, blocks_of, written_at, written_in, AreTyped, AreApart}
 use Rattle.ilimage.specs.Images.{IsLawful, IsLawfulTask, IsImage}
 use Rattle.ilimage.specs.ImageSteps.{task_of, stored_globals}
@@ -258,7 +258,7 @@ past_end (x ∷ xs) zero e = absurd (cc)
 past_end (x ∷ xs) (suc place) e = let h = past_end xs place e in omega (arith, h)
 
 by_external : (image : ProcessImage) (task slot : ℕ) (t : TaskImage) (vs : List Value) (blocks : List Block)
-    (variable : Variable) (o : Option External) → IsScanned image task t vs → slice_get t.layout.externals slot ≡ o
+    (variable : ImageVariable) (o : Option External) → IsScanned image task t vs → slice_get t.layout.externals slot ≡ o
     → written_at task (slot - length t.layout.externals) o ≡ Some variable
     → value_of (committed image task t vs blocks) variable ≡ slice_get vs slot
 by_external image task slot t vs blocks variable None h e w =
@@ -275,7 +275,7 @@ by_external image task slot t vs blocks variable (Some x) h e w =
     lawful.apart h.typed h.whole.globals e c.0
 
 pub written : (image : ProcessImage) (task slot : ℕ) (t : TaskImage) (vs : List Value) (blocks : List Block)
-    (variable : Variable) → IsScanned image task t vs → written_in (layout_of image) task slot ≡ Some variable
+    (variable : ImageVariable) → IsScanned image task t vs → written_in (layout_of image) task slot ≡ Some variable
     → value_of (committed image task t vs blocks) variable ≡ slice_get vs slot
 written image task slot t vs blocks variable h w =
     by_external image task slot t vs blocks variable (slice_get t.layout.externals slot) h refl
@@ -284,7 +284,7 @@ written image task slot t vs blocks variable h w =
 -- ---- what a scan does not write
 
 pub kept : (image : ProcessImage) (task : ℕ) (t : TaskImage) (vs : List Value) (blocks : List Block)
-    (variable : Variable) → slice_get image.tasks task ≡ Some t
+    (variable : ImageVariable) → slice_get image.tasks task ≡ Some t
     → ((slot : ℕ) → written_in (layout_of image) task slot ≢ Some variable)
     → value_of (committed image task t vs blocks) variable ≡ value_of image variable
 kept image task t vs blocks (Global number) e h =
@@ -324,7 +324,7 @@ other_blocks image task other t vs blocks h =
 -- ---- a global that is set
 
 pub set_kept : (types : List IlType) (globals : List Value) (tasks : List TaskImage) (global : ℕ) (value : Value)
-    (variable : Variable) → variable ≢ Global global
+    (variable : ImageVariable) → variable ≢ Global global
     → value_of (image_of types (slice_set globals global value) tasks) variable
     ≡ value_of (image_of types globals tasks) variable
 set_kept types globals tasks global value (Global number) n =

@@ -11,7 +11,7 @@ use Rattle.iltypes.specs.declared.value.Value.{Value}
 use Rattle.iltypes.specs.Values.{IsOf, AreOf}
 use Rattle.ilblocks.proofs.Blocks.{as_long, set_typed, value_at}
 use Rattle.ilimage.specs.declared.overriding.Override.{Override}
-use Rattle.ilimage.specs.Images.{TaskImage, ProcessImage, Variable, Global, Own, image_of, layout_of, value_of}
+use Rattle.ilimage.specs.Images.{TaskImage, ProcessImage, ImageVariable, Global, Own, image_of, layout_of, value_of}
 use Rattle.ilimage.specs.Images.{overridden, value_under, variable_in}
 use Rattle.ilimage.specs.ImageSteps.{globals_under, slot_values, HasGlobals}
 use Rattle.ilimage.specs.Snapshots.{MayHave}
@@ -81,7 +81,7 @@ global_under types (o ∷ more) globals number h g =
 abbrev pub image_under : List Override → ProcessImage → ProcessImage
 image_under overrides image = image_of image.types (globals_under overrides image.globals) image.tasks
 
-variable_under : (overrides : List Override) (image : ProcessImage) (o : Option Variable)
+variable_under : (overrides : List Override) (image : ProcessImage) (o : Option ImageVariable)
     → AreAllowed image.types overrides → AreOf image.globals image.types
     → option_and_then (value_of (image_under overrides image)) o
     ≡ option_and_then (value_under overrides image) o

@@ -58,30 +58,30 @@ blocks_of image task = option_map (λ t. t.own.blocks) (slice_get image.tasks ta
 -- ---- variables
 
 -- a global variable, or one of a task's own; each by its number among those
-pub data Variable : Type 0 where
-  Global : ℕ → Variable
-  Own : ℕ → ℕ → Variable
+pub data ImageVariable : Type 0 where
+  Global : ℕ → ImageVariable
+  Own : ℕ → ℕ → ImageVariable
 
-abbrev pub value_of : ProcessImage → Variable → Option Value
+abbrev pub value_of : ProcessImage → ImageVariable → Option Value
 value_of image (Global number) = slice_get image.globals number
 value_of image (Own task number) = option_and_then (λ t. slice_get t.own.slots number) (slice_get image.tasks task)
 
 -- the variable in a slot of a task: the global one that stands there, or the own one of this number
-abbrev pub variable_at : ℕ → ℕ → Option External → Variable
+abbrev pub variable_at : ℕ → ℕ → Option External → ImageVariable
 variable_at task own (Some external) = Global external.global
 variable_at task own None = Own task own
 
-abbrev pub variable_in : Layout → ℕ → ℕ → Option Variable
+abbrev pub variable_in : Layout → ℕ → ℕ → Option ImageVariable
 variable_in layout task slot =
     option_map (λ t. variable_at task (slot - length t.externals) (slice_get t.externals slot))
     (slice_get layout.tasks task)
 
 -- the variable that a scan of a task writes from a slot: a global one that the task stores, or an own one
-abbrev pub written_at : ℕ → ℕ → Option External → Option Variable
+abbrev pub written_at : ℕ → ℕ → Option External → Option ImageVariable
 written_at task own (Some external) = if external.stored then Some (Global external.global) else None
 written_at task own None = Some (Own task own)
 
-abbrev pub written_in : Layout → ℕ → ℕ → Option Variable
+abbrev pub written_in : Layout → ℕ → ℕ → Option ImageVariable
 written_in layout task slot =
     option_and_then (λ t. written_at task (slot - length t.externals) (slice_get t.externals slot))
     (slice_get layout.tasks task)
@@ -96,7 +96,7 @@ overridden (given ∷ more) number value =
     overridden more number (if given.global == number then Some given.value else value)
 
 -- the value of a variable under overrides of global ones
-abbrev pub value_under : List Override → ProcessImage → Variable → Option Value
+abbrev pub value_under : List Override → ProcessImage → ImageVariable → Option Value
 value_under overrides image (Global number) = overridden overrides number (value_of image (Global number))
 value_under overrides image (Own task number) = value_of image (Own task number)
 

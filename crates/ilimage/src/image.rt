@@ -37,7 +37,7 @@ impl Image {
     ghost use Rattle.std.specs.Option.{IsSomeAnd, option_and_then};
     ghost use Rattle.iltypes.specs.Values.{AreOf};
     ghost use Rattle.ilblocks.specs.Stores.{Lasting};
-    ghost use Rattle.ilimage.specs.Images.{ProcessImage, Variable, IsImage, image_of};
+    ghost use Rattle.ilimage.specs.Images.{ProcessImage, ImageVariable, IsImage, image_of};
     ghost use Rattle.ilimage.specs.Images.{layout_of, value_of, verified_of, blocks_of};
     ghost use Rattle.ilimage.specs.Images.{variable_in, written_in, value_under};
     ghost use Rattle.ilimage.specs.Images.{Global as GlobalVariable};
@@ -137,10 +137,10 @@ impl Image {
         requires { IsSomeAnd (verified_of (layout_of self.old) task) (λ verified.
             IsLastingOf verified.code (record { slots = values.now; blocks = blocks.items })) }
         ensures layout { layout_of self.new ≡ layout_of self.old }
-        ensures written { (slot : ℕ) (variable : Variable)
+        ensures written { (slot : ℕ) (variable : ImageVariable)
             → written_in (layout_of self.old) task slot ≡ Some variable
             → value_of self.new variable ≡ slice_get values.now slot }
-        ensures kept { (variable : Variable)
+        ensures kept { (variable : ImageVariable)
             → ((slot : ℕ) → written_in (layout_of self.old) task slot ≢ Some variable)
             → value_of self.new variable ≡ value_of self.old variable }
         ensures blocks { blocks_of self.new task ≡ Some blocks.items }
@@ -156,7 +156,7 @@ impl Image {
         requires { MayHave self.old.types global value }
         ensures layout { layout_of self.new ≡ layout_of self.old }
         ensures written { value_of self.new (GlobalVariable global) ≡ Some value }
-        ensures kept { (variable : Variable) → variable ≢ GlobalVariable global
+        ensures kept { (variable : ImageVariable) → variable ≢ GlobalVariable global
             → value_of self.new variable ≡ value_of self.old variable }
         ensures blocks { (task : ℕ) → blocks_of self.new task ≡ blocks_of self.old task }
     {

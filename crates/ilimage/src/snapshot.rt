@@ -3,7 +3,7 @@
 ghost use Rattle.std.specs.Prelude.{◌≡◌, IfOk};
 ghost use Rattle.ilblocks.specs.Stores.{blocks_at_first};
 
-use ilblocks::{BlockState, Kind};
+use ilblocks::{BlockKind, BlockState};
 use iltypes::Value;
 use ilverify::Verified;
 use std::alloc::{AllocError, Global};
@@ -167,7 +167,10 @@ impl Snapshot {
 }
 
 /// Instances of these kinds before their first call.
-pub(crate) fn first_blocks(alloc: Global, kinds: &[Kind]) -> Result<Vec<BlockState>, AllocError>
+pub(crate) fn first_blocks(
+    alloc: Global,
+    kinds: &[BlockKind],
+) -> Result<Vec<BlockState>, AllocError>
     ensures { IfOk result (λ blocks. blocks.items ≡ blocks_at_first kinds.now) }
 {
     let mut blocks = Vec::new(alloc);

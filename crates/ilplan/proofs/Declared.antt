@@ -15,8 +15,8 @@ use Rattle.ilplan.specs.declared.activation.Activation.{Activation}
 use Rattle.ilplan.specs.declared.activation.Activation.TheVariants.{Cyclic, Event}
 use Rattle.ilplan.specs.declared.global.Global.{Global as GlobalVariable}
 use Rattle.ilplan.specs.declared.slot.Slot.{Slot}
-use Rattle.ilplan.specs.declared.slot.Variable.{Variable}
-use Rattle.ilplan.specs.declared.slot.Variable.TheVariants.{Global, Own}
+use Rattle.ilplan.specs.declared.slot.SlotOwner.{SlotOwner}
+use Rattle.ilplan.specs.declared.slot.SlotOwner.TheVariants.{Global, Own}
 use Rattle.ilplan.specs.Plans.{Planned, PlannedTask, KeepsLimits, IsLawful, IsDeclared, IsTaskOf, HasTrigger, IsThere}
 use Rattle.ilplan.specs.Plans.{type_and_initial, first_value, first_values, is_trigger_of, types_of}
 
@@ -34,7 +34,7 @@ same_type (Some x) g t v is declared =
     ap (λ (o : Option GlobalVariable). option_map_or (λ y. y.value_type) o types.Bool) (sym is)
     ∙ ap (λ (o : Option (IlType × Value)). option_map_or (λ p. p.0) o types.Bool) declared
 
-first_of : (globals : List GlobalVariable) (a : Activation) (variable : Variable) (t : IlType) (v : Value)
+first_of : (globals : List GlobalVariable) (a : Activation) (variable : SlotOwner) (t : IlType) (v : Value)
     → HasTrigger globals a → IsDeclared globals variable t v → IsOf v t
     → (b : Bool) → is_trigger_of a variable ≡ b → IsOf (cond b (values.Bool true) v) t
 first_of globals a variable t v trigger declared is false e = is
@@ -56,7 +56,7 @@ firsts globals task (s ∷ slots) trigger declared are = (
   firsts globals task slots trigger declared.1 are.1,
 )
 
-declared_there : (globals : List GlobalVariable) (variable : Variable) (t : IlType) (v : Value)
+declared_there : (globals : List GlobalVariable) (variable : SlotOwner) (t : IlType) (v : Value)
     → IsDeclared globals variable t v → IsThere globals variable
 declared_there globals (Own instance name) t v declared = tt
 declared_there globals (Global number) t v declared = within (slice_get globals number) refl declared

@@ -21,7 +21,7 @@ use Rattle.iltrees.specs.Uses.{uses_in}
 use Rattle.iltrees.specs.Words.{words_of_lines, AreShallow}
 use Rattle.ilsource.specs.declared.name.Name.{Name}
 use Rattle.ilsource.specs.Names.{text_of}
-use Rattle.ilblocks.specs.declared.kind.Kind.{Kind}
+use Rattle.ilblocks.specs.declared.kind.BlockKind.{BlockKind}
 use Rattle.ilblocks.specs.Stores.{Shape}
 use Rattle.ilplan.specs.declared.activation.Activation.{Activation}
 use Rattle.ilplan.specs.declared.activation.Activation.TheVariants.{Cyclic, Event}
@@ -31,8 +31,8 @@ use Rattle.ilplan.specs.declared.global.Location.TheVariants.{Level, GearAnswer,
 use Rattle.ilplan.specs.declared.global.Location.TheVariants.{Trigger}
 use Rattle.ilplan.specs.declared.instance.FunctionBlock.{FunctionBlock}
 use Rattle.ilplan.specs.declared.slot.Slot.{Slot}
-use Rattle.ilplan.specs.declared.slot.Variable.{Variable}
-use Rattle.ilplan.specs.declared.slot.Variable.TheVariants.{Global, Own}
+use Rattle.ilplan.specs.declared.slot.SlotOwner.{SlotOwner}
+use Rattle.ilplan.specs.declared.slot.SlotOwner.TheVariants.{Global, Own}
 use Rattle.ilplan.specs.declared.place.Place.{Place}
 use Rattle.ilplan.specs.declared.place.Place.TheVariants as places
 use Rattle.ilplan.specs.Constants.{different_constants}
@@ -102,7 +102,7 @@ abbrev pub initials_of : PlannedTask → List Value
 initials_of task = map (λ s. s.initial) task.slots
 
 -- the kinds of a task's block instances
-abbrev pub kinds_of : PlannedTask → List Kind
+abbrev pub kinds_of : PlannedTask → List BlockKind
 kinds_of task = map (λ b. b.kind) task.blocks
 
 -- the types of its variables and the kinds of its block instances, on so many buses
@@ -128,7 +128,7 @@ abbrev pub stores : PlannedTask → ℕ → Bool
 stores task slot = list_any (writes_slot slot) (flat_map uses_in (all_lines task.instances))
 
 -- the variable is the trigger of the event that starts the task
-abbrev pub is_trigger_of : Activation → Variable → Bool
+abbrev pub is_trigger_of : Activation → SlotOwner → Bool
 is_trigger_of (Event trigger) (Global number) = trigger == number
 is_trigger_of _ _ = false
 
@@ -148,13 +148,13 @@ HasInterval (Cyclic interval) = 1 ≤ interval
 HasInterval (Event trigger) = ⊤
 
 -- a global variable stands before those of greater number, and before those of programs
-abbrev pub Precedes : Variable → Variable → Type 0
+abbrev pub Precedes : SlotOwner → SlotOwner → Type 0
 Precedes (Global one) (Global other) = one < other
 Precedes (Own instance name) (Global other) = ⊥
 Precedes one (Own instance name) = ⊤
 
 -- each variable precedes all after it
-abbrev pub AreOrdered : List Variable → Type 0
+abbrev pub AreOrdered : List SlotOwner → Type 0
 AreOrdered [] = ⊤
 AreOrdered (variable ∷ variables) = AllByRecursion (Precedes variable) variables × AreOrdered variables
 
@@ -219,7 +219,7 @@ AreApart one other = IfSome one.location (λ location. ¬ (other.location ≡ So
 abbrev pub type_and_initial : GlobalVariable → IlType × Value
 type_and_initial global = (global.value_type, global.initial)
 
-abbrev pub IsDeclared : List GlobalVariable → Variable → IlType → Value → Type 0
+abbrev pub IsDeclared : List GlobalVariable → SlotOwner → IlType → Value → Type 0
 IsDeclared globals (Global number) value_type initial =
     option_map type_and_initial (slice_get globals number) ≡ Some (value_type, initial)
 IsDeclared globals (Own instance name) value_type initial = ⊤
@@ -257,15 +257,15 @@ abbrev pub slot_at : Planned → ℕ → ℕ → Option Slot
 slot_at plan task slot = option_and_then (λ t. slice_get t.slots slot) (slice_get plan.tasks task)
 
 -- a global variable is one of these
-abbrev pub IsThere : List GlobalVariable → Variable → Type 0
+abbrev pub IsThere : List GlobalVariable → SlotOwner → Type 0
 IsThere globals (Global number) = number < length globals
 IsThere globals (Own instance name) = ⊤
 
 -- the name of a slot's program instance, where it has one, and of its variable
-abbrev pub instance_name : Planned → Variable → Option (List ℕ)
+abbrev pub instance_name : Planned → SlotOwner → Option (List ℕ)
 instance_name plan (Global number) = None
 instance_name plan (Own instance name) = Some (text_of plan.text instance)
 
-abbrev pub variable_name : Planned → Variable → Option (List ℕ)
+abbrev pub variable_name : Planned → SlotOwner → Option (List ℕ)
 variable_name plan (Global number) = option_map (λ g. text_of plan.text g.name) (slice_get plan.globals number)
 variable_name plan (Own instance name) = Some (text_of plan.text name)

@@ -10,12 +10,12 @@ use Rattle.iltrees.specs.declared.instruction.Instruction.TheVariants as instruc
 use Rattle.iltrees.specs.declared.instruction.Line.{Line}
 use Rattle.iltrees.specs.declared.operand.Operand.TheVariants.{Name, Constant}
 use Rattle.ilsource.specs.declared.name.Name as names
-use Rattle.ilblocks.specs.declared.kind.Kind.TheVariants.{RTrig, GearLevel}
+use Rattle.ilblocks.specs.declared.kind.BlockKind.TheVariants.{RTrig, GearLevel}
 use Rattle.ilblocks.specs.Calls.{Block as BlockState, at_first}
 use Rattle.ilblocks.specs.Stores.{Store, blocks_at_first}
 use Rattle.ilplan.specs.declared.activation.Activation.TheVariants.{Cyclic}
 use Rattle.ilplan.specs.declared.slot.Slot as slots
-use Rattle.ilplan.specs.declared.slot.Variable.TheVariants.{Own}
+use Rattle.ilplan.specs.declared.slot.SlotOwner.TheVariants.{Own}
 use Rattle.ilplan.specs.declared.place.Place.{Place}
 use Rattle.ilplan.specs.declared.place.Place.TheVariants.{Slot, Port, Block}
 use Rattle.ilplan.specs.Plans.{PlannedTask, task_of}

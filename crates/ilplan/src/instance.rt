@@ -1,7 +1,7 @@
 //! Instances of programs and of function blocks (IEC 61131-3, 2.5.2 and 2.7.2).
 
 use crate::place::Place;
-use ilblocks::Kind;
+use ilblocks::BlockKind;
 use ilsource::Name;
 use iltrees::Line;
 use std::marker::Model;
@@ -13,18 +13,18 @@ pub struct FunctionBlock {
     pub instance: Name,
     /// The block instance's name in the text.
     pub name: Name,
-    pub kind: Kind,
+    pub kind: BlockKind,
 }
 
 /// A program as it runs in a task. Its lines have places in a store for names; the places in the
 /// text stay in them.
 #[derive(Drop)]
-pub struct Instance {
+pub struct ProgramInstance {
     name: Name,
     lines: Vec<Line<Place, usize>>,
 }
 
-impl Model for Instance {
+impl Model for ProgramInstance {
     ghost use Rattle.std.specs.Prelude.{List};
     ghost use Rattle.std.specs.Coded.{codes, code_by};
     ghost use Rattle.iltrees.specs.declared.nested.Piece.{Piece};
@@ -43,15 +43,15 @@ impl Model for Instance {
     ghost view = { λ i. record { name = i.name; lines = i.lines.items } };
 }
 
-impl Instance {
+impl ProgramInstance {
     ghost use Rattle.std.specs.Prelude.{◌≡◌};
     ghost use Rattle.ilplan.specs.Plans.{PlannedInstance};
 
     /// The instance of this name with these lines.
-    pub fn new(name: Name, lines: Vec<Line<Place, usize>>) -> Instance
+    pub fn new(name: Name, lines: Vec<Line<Place, usize>>) -> ProgramInstance
         ensures { result ≡ record { name = name; lines = lines.items } }
     {
-        Instance { name, lines }
+        ProgramInstance { name, lines }
     }
 
     /// The instance's name in the text.

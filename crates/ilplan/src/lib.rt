@@ -1,8 +1,8 @@
 //! Plans: what the tasks of a source program do, over places in a store instead of names.
 //!
-//! What crosses the boundary: [`Plan`] with its [`Task`]s, their [`Instance`]s, [`Slot`]s and
-//! [`FunctionBlock`]s, which the resolving of names makes and the compiler lays out. The lines of
-//! an instance are those of `iltrees`, over [`Place`]s. What holds of each task is `KeepsLimits`
+//! What crosses the boundary: [`Plan`] with its [`Task`]s, their [`ProgramInstance`]s, [`Slot`]s
+//! and [`FunctionBlock`]s, which the resolving of names makes and the compiler lays out. The lines
+//! of an instance are those of `iltrees`, over [`Place`]s. What holds of each task is `KeepsLimits`
 //! (specs/Plans.antt), and what a scan of it means is `plan_scan` (specs/PlanMeaning.antt), to be
 //! read first.
 #![tactic(auto)]
@@ -23,8 +23,8 @@ pub use activation::Activation;
 pub use constants::{Constants, each_value_stands_once};
 pub use declared_name::{DeclaredName, SlotName};
 pub use global::{Global, Location};
-pub use instance::{FunctionBlock, Instance};
+pub use instance::{FunctionBlock, ProgramInstance};
 pub use place::Place;
 pub use plan::Plan;
-pub use slot::{Slot, Variable};
+pub use slot::{Slot, SlotOwner};
 pub use task::Task;

@@ -2,7 +2,7 @@
 
 use crate::declared_name::{DeclaredName, SlotName};
 use crate::global::Global;
-use crate::slot::Variable;
+use crate::slot::SlotOwner;
 use crate::task::Task;
 use binding::BoundSource;
 use std::marker::Model;
@@ -146,18 +146,18 @@ impl Plan {
     }
 
     /// The name of a variable, as declared.
-    fn variable_name(&self, variable: Variable) -> SlotName<'_>
+    fn variable_name(&self, variable: SlotOwner) -> SlotName<'_>
         requires { IsThere self.now.globals variable }
         ensures instance { instance_name self.now variable
             ≡ option_map (λ name. name.bytes.now) result.instance }
         ensures variable { variable_name self.now variable ≡ Some result.variable.bytes.now }
     {
         match variable {
-            Variable::Global(number) => SlotName {
+            SlotOwner::Global(number) => SlotName {
                 instance: None,
                 variable: self.global_name(number),
             },
-            Variable::Own { instance, name } => SlotName {
+            SlotOwner::Own { instance, name } => SlotName {
                 instance: Some(DeclaredName {
                     bytes: instance.text(&self.text),
                 }),

@@ -5,7 +5,7 @@ use iltypes::{IlType, Value};
 
 /// A variable that a task's programs name.
 #[derive(Clone, Copy, PartialEq, Eq)]
-pub enum Variable {
+pub enum SlotOwner {
     /// The global variable of this number.
     Global(usize),
     /// A variable of a program instance, by the names of both in the text.
@@ -15,7 +15,7 @@ pub enum Variable {
 /// A place for the value of a variable.
 #[derive(Clone, Copy, PartialEq, Eq)]
 pub struct Slot {
-    pub variable: Variable,
+    pub variable: SlotOwner,
     pub value_type: IlType,
     /// Its value before the first scan.
     pub initial: Value,

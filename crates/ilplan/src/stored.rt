@@ -4,7 +4,7 @@ ghost use Rattle.std.specs.Prelude.{◌≡◌, IfOk, flat_map};
 ghost use Rattle.iltrees.specs.Uses.{uses_in};
 ghost use Rattle.ilplan.specs.StoreSteps.{Adds, AreStored, slot_of, stored_in};
 
-use crate::instance::Instance;
+use crate::instance::ProgramInstance;
 use crate::place::Place;
 use iltrees::{Instruction, Line};
 use std::alloc::{AllocError, Global};
@@ -13,7 +13,7 @@ use std::alloc::{AllocError, Global};
 pub(crate) fn stored_slots(
     alloc: Global,
     slots: usize,
-    instances: &[Instance],
+    instances: &[ProgramInstance],
 ) -> Result<Vec<bool>, AllocError>
     ensures { IfOk result (λ stored. AreStored instances.now slots stored.items) }
 {

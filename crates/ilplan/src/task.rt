@@ -2,8 +2,8 @@
 
 use crate::activation::Activation;
 use crate::constants::Constants;
-use crate::instance::{FunctionBlock, Instance};
-use crate::slot::{Slot, Variable};
+use crate::instance::{FunctionBlock, ProgramInstance};
+use crate::slot::{Slot, SlotOwner};
 use crate::stored::stored_slots;
 use iltypes::Value;
 use std::alloc::{AllocError, Global};
@@ -19,7 +19,7 @@ pub struct Task {
     slots: Vec<Slot>,
     blocks: Vec<FunctionBlock>,
     constants: Constants,
-    instances: Vec<Instance>,
+    instances: Vec<ProgramInstance>,
     /// For each slot whether a line stores to it.
     stored: Vec<bool>,
 }
@@ -67,7 +67,7 @@ impl Task {
         slots: Vec<Slot>,
         blocks: Vec<FunctionBlock>,
         constants: Constants,
-        instances: Vec<Instance>,
+        instances: Vec<ProgramInstance>,
     ) -> Result<Task, AllocError>
         requires { KeepsLimits (task_of (string_bytes name) activation priority slots.items
             blocks.items constants instances.items) }
@@ -146,7 +146,7 @@ impl Task {
         ensures { result ≡ first_value self.now slot.now }
     {
         match (self.activation, slot.variable) {
-            (Activation::Event { trigger }, Variable::Global(number)) if trigger == number => {
+            (Activation::Event { trigger }, SlotOwner::Global(number)) if trigger == number => {
                 Value::Bool(true)
             }
             _ => slot.initial,
@@ -168,7 +168,7 @@ impl Task {
     }
 
     /// The program instances, in declared order.
-    pub fn instances(&self) -> &[Instance]
+    pub fn instances(&self) -> &[ProgramInstance]
         ensures value { result.now ≡ self.now.instances }
         ensures limits { KeepsLimits self.now }
     {

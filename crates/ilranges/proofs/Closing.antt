@@ -2,9 +2,9 @@
 use Rattle.std.proofs.Common.{◌≡◌, ℕ, ◌<◌, ◌+◌, ◌-◌, List, [], ◌∷◌, length, Option, Some, None, Bool, IsTrue, ◌⊎◌}
 use Rattle.std.proofs.Common.{inl, inr, ap, ◌∙◌, arith}
 use Rattle.iloperators.specs.declared.operator.Operator.{Operator}
-use Rattle.ilcode.specs.declared.instruction.Instruction.{Instruction}
-use Rattle.ilcode.specs.declared.instruction.Instruction.TheVariants as words
-use Rattle.ilcode.specs.declared.instruction.Variable.TheVariants.{Slot, Port}
+use Rattle.ilcode.specs.declared.word.Word.{Word}
+use Rattle.ilcode.specs.declared.word.Word.TheVariants as words
+use Rattle.ilcode.specs.declared.word.Target.TheVariants.{Slot, Port}
 use Rattle.ilcode.specs.Listings.{Listing}
 use Rattle.ilranges.specs.declared.cause.Cause.{Cause}
 use Rattle.ilranges.specs.declared.cause.Cause.TheVariants as causes
@@ -24,7 +24,7 @@ open_count : (entry after : Entry) (operator : Operator) (result : Option Known)
 open_count entry after operator None h = absurd h
 open_count entry after operator (Some saved) h = ap (λ (e : Entry). length e.nesting) h ∙ omega arith
 
-pub after_count : (code : Listing) (entry : Entry) (word : Instruction) (after : Entry)
+pub after_count : (code : Listing) (entry : Entry) (word : Word) (after : Entry)
     → IsEntryAfter code entry word after → length after.nesting ≡ open_after word (length entry.nesting)
 after_count code entry (words.Load negated operand) after h = ap (λ (e : Entry). length e.nesting) h.is
 after_count code entry (words.Apply operator operand) after h = ap (λ (e : Entry). length e.nesting) h.is
@@ -56,7 +56,7 @@ closed_at code place met other ways after f e o (inr (inr j)) =
       | inr n ↦ absurd (omega (arith, ap length n, o))
     ]
 
-has_to_close : (code : Listing) (place : ℕ) (met other : Bool) (entry : Entry) (word : Instruction) (ways : Ways)
+has_to_close : (code : Listing) (place : ℕ) (met other : Bool) (entry : Entry) (word : Word) (ways : Ways)
     → IsMetOrClosed met other ways → AreWaysOf code entry word ways
     → 0 < open_after word (length entry.nesting) → HasToClose code place other word → HasToClose code place met word
 has_to_close code place met other entry (words.Jump condition target) ways f h o c = tt
@@ -64,7 +64,7 @@ has_to_close code place met other entry word ways f h o c =
     let n = after_count code entry word h.after h.leaves in
     closed_at code (place + 1) met other ways h.after f h.next (omega (arith, n, o)) c
 
-stays_open : (code : Listing) (place : ℕ) (met other : Bool) (entry : Entry) (word : Instruction) (ways : Ways)
+stays_open : (code : Listing) (place : ℕ) (met other : Bool) (entry : Entry) (word : Word) (ways : Ways)
     → IsMetOrClosed met other ways → AreWaysOf code entry word ways
     → StaysOpen code place other word (open_after word (length entry.nesting))
     → StaysOpen code place met word (open_after word (length entry.nesting))
@@ -73,7 +73,7 @@ stays_open code place met other entry word ways f h (inl s) =
 stays_open code place met other entry word ways f h (inr s) = inr s
 
 -- the word has its rule there too
-pub rule_met : (code : Listing) (place : ℕ) (met other : Bool) (entry : Entry) (word : Instruction) (ways : Ways)
+pub rule_met : (code : Listing) (place : ℕ) (met other : Bool) (entry : Entry) (word : Word) (ways : Ways)
     → IsMetOrClosed met other ways → IsRule code place met entry word ways → IsRule code place other entry word ways
 rule_met code place met other entry word ways f r = record { lawful = λ cause a. lawful cause a; leaves = r.leaves }
   where

@@ -14,7 +14,7 @@ use Rattle.iloperators.specs.declared.operator.Operator.{Operator}
 use Rattle.iloperators.specs.declared.operator.Operator.TheVariants as operators
 use Rattle.iloperators.specs.Operators.{value_of_operator}
 use Rattle.ilranges.specs.Passing.{IsPassing}
-use Rattle.ilranges.specs.PassingSteps.{IsTested, IsKept, IsLeastOf}
+use Rattle.ilranges.specs.PassingSteps.{IsTested, IsLeastTested, IsLeastOf}
 
 -- ---- the steps
 
@@ -143,8 +143,9 @@ above_of l z h n = elim (true_or_false (int_lt l z)) [
 other_than : (a b : ℤ) → a <ℤ b → ¬ (a ≡ b)
 other_than a b h e = let k : b <ℤ b = subst (λ (x : ℤ). x <ℤ b) e h in omega (arith, ints, k)
 
-pub not_first : (r : Range) (o : Option Range) (l limit : ℤ) → l ≡ limit → r.lo ≡ limit → IsKept (λ z. l <ℤ z) r o
-    → IsKept (λ z. ¬ (z ≡ limit)) r o
+pub not_first : (r : Range) (o : Option Range) (l limit : ℤ) → l ≡ limit → r.lo ≡ limit
+    → IsLeastTested (λ z. l <ℤ z) r o
+    → IsLeastTested (λ z. ¬ (z ≡ limit)) r o
 not_first r o l limit e s h =
     least_as (IsTested (λ z. l <ℤ z) r) (IsTested (λ z. ¬ (z ≡ limit)) r) o
     (λ z p. record { of_range = p.of_range; test = λ q. other_than l z p.test (e ∙ sym q) })
@@ -154,8 +155,8 @@ not_first r o l limit e s h =
           (above_of limit z (subst (λ (x : ℤ). x ≤ℤ z) s p.of_range.low) p.test);
     }) h
 
-pub not_last : (r : Range) (o : Option Range) (l limit : ℤ) → l ≡ limit → r.hi ≡ limit → IsKept (λ z. z <ℤ l) r o
-    → IsKept (λ z. ¬ (z ≡ limit)) r o
+pub not_last : (r : Range) (o : Option Range) (l limit : ℤ) → l ≡ limit → r.hi ≡ limit → IsLeastTested (λ z. z <ℤ l) r o
+    → IsLeastTested (λ z. ¬ (z ≡ limit)) r o
 not_last r o l limit e s h =
     least_as (IsTested (λ z. z <ℤ l) r) (IsTested (λ z. ¬ (z ≡ limit)) r) o
     (λ z p. record { of_range = p.of_range; test = λ q. other_than z l p.test (q ∙ sym e) })
@@ -176,41 +177,41 @@ truth_of a b e = cc
 passed : (comparison : Operator) (outcome : Bool) (limit : ℤ) (Test : ℤ → Type 0) (r : Range) (o : Option Range)
     → ((z : ℤ) → Test z → value_of_operator comparison (values.Int z) (values.Int limit) ≡ Some (values.Bool outcome))
     → ((z : ℤ) → value_of_operator comparison (values.Int z) (values.Int limit) ≡ Some (values.Bool outcome) → Test z)
-    → IsKept Test r o → IsLeastOf (IsPassing comparison outcome limit r) o
+    → IsLeastTested Test r o → IsLeastOf (IsPassing comparison outcome limit r) o
 passed comparison outcome limit Test r o to from h =
     least_as (IsTested Test r) (IsPassing comparison outcome limit r) o
     (λ z p. record { of_range = p.of_range; is = to z p.test })
     (λ z p. record { of_range = p.of_range; test = from z p.is }) h
 
-pub gt_false : (r : Range) (o : Option Range) (l limit : ℤ) → l ≡ limit → IsKept (λ z. z ≤ℤ l) r o
+pub gt_false : (r : Range) (o : Option Range) (l limit : ℤ) → l ≡ limit → IsLeastTested (λ z. z ≤ℤ l) r o
     → IsLeastOf (IsPassing operators.Gt false limit r) o
 gt_false r o l limit e h =
     passed operators.Gt false limit (λ z. z ≤ℤ limit) r o (λ z p. truth_is _ _ (ge_to limit z p))
-    (λ z p. ge_from limit z (truth_of _ _ p)) (subst (λ (x : ℤ). IsKept (λ z. z ≤ℤ x) r o) e h)
+    (λ z p. ge_from limit z (truth_of _ _ p)) (subst (λ (x : ℤ). IsLeastTested (λ z. z ≤ℤ x) r o) e h)
 
-pub le_true : (r : Range) (o : Option Range) (l limit : ℤ) → l ≡ limit → IsKept (λ z. z ≤ℤ l) r o
+pub le_true : (r : Range) (o : Option Range) (l limit : ℤ) → l ≡ limit → IsLeastTested (λ z. z ≤ℤ l) r o
     → IsLeastOf (IsPassing operators.Le true limit r) o
 le_true r o l limit e h =
     passed operators.Le true limit (λ z. z ≤ℤ limit) r o (λ z p. truth_is _ _ (le_to z limit p))
-    (λ z p. le_from z limit (truth_of _ _ p)) (subst (λ (x : ℤ). IsKept (λ z. z ≤ℤ x) r o) e h)
+    (λ z p. le_from z limit (truth_of _ _ p)) (subst (λ (x : ℤ). IsLeastTested (λ z. z ≤ℤ x) r o) e h)
 
-pub le_false : (r : Range) (o : Option Range) (l limit : ℤ) → l ≡ limit → IsKept (λ z. l <ℤ z) r o
+pub le_false : (r : Range) (o : Option Range) (l limit : ℤ) → l ≡ limit → IsLeastTested (λ z. l <ℤ z) r o
     → IsLeastOf (IsPassing operators.Le false limit r) o
 le_false r o l limit e h =
     passed operators.Le false limit (λ z. limit <ℤ z) r o (λ z p. truth_is _ _ (gt_to z limit p))
-    (λ z p. gt_from z limit (truth_of _ _ p)) (subst (λ (x : ℤ). IsKept (λ z. x <ℤ z) r o) e h)
+    (λ z p. gt_from z limit (truth_of _ _ p)) (subst (λ (x : ℤ). IsLeastTested (λ z. x <ℤ z) r o) e h)
 
-pub ge_true : (r : Range) (o : Option Range) (l limit : ℤ) → l ≡ limit → IsKept (λ z. l ≤ℤ z) r o
+pub ge_true : (r : Range) (o : Option Range) (l limit : ℤ) → l ≡ limit → IsLeastTested (λ z. l ≤ℤ z) r o
     → IsLeastOf (IsPassing operators.Ge true limit r) o
 ge_true r o l limit e h =
     passed operators.Ge true limit (λ z. limit ≤ℤ z) r o (λ z p. truth_is _ _ (le_to limit z p))
-    (λ z p. le_from limit z (truth_of _ _ p)) (subst (λ (x : ℤ). IsKept (λ z. x ≤ℤ z) r o) e h)
+    (λ z p. le_from limit z (truth_of _ _ p)) (subst (λ (x : ℤ). IsLeastTested (λ z. x ≤ℤ z) r o) e h)
 
-pub lt_false : (r : Range) (o : Option Range) (l limit : ℤ) → l ≡ limit → IsKept (λ z. l ≤ℤ z) r o
+pub lt_false : (r : Range) (o : Option Range) (l limit : ℤ) → l ≡ limit → IsLeastTested (λ z. l ≤ℤ z) r o
     → IsLeastOf (IsPassing operators.Lt false limit r) o
 lt_false r o l limit e h =
     passed operators.Lt false limit (λ z. limit ≤ℤ z) r o (λ z p. truth_is _ _ (ge_to z limit p))
-    (λ z p. ge_from z limit (truth_of _ _ p)) (subst (λ (x : ℤ). IsKept (λ z. x ≤ℤ z) r o) e h)
+    (λ z p. ge_from z limit (truth_of _ _ p)) (subst (λ (x : ℤ). IsLeastTested (λ z. x ≤ℤ z) r o) e h)
 
 differs_to : (z l : ℤ) → ¬ (z ≡ l) → int_eq z l ≡ false
 differs_to z l n = elim (true_or_false (int_eq z l)) [
@@ -229,16 +230,16 @@ of_not : (b : Bool) → not b ≡ true → b ≡ false
 of_not true e = cc
 of_not false e = refl
 
-pub eq_false : (r : Range) (o : Option Range) (l limit : ℤ) → l ≡ limit → IsKept (λ z. ¬ (z ≡ l)) r o
+pub eq_false : (r : Range) (o : Option Range) (l limit : ℤ) → l ≡ limit → IsLeastTested (λ z. ¬ (z ≡ l)) r o
     → IsLeastOf (IsPassing operators.Eq false limit r) o
 eq_false r o l limit e h =
     passed operators.Eq false limit (λ z. ¬ (z ≡ limit)) r o (λ z p. truth_is _ _ (differs_to z limit p))
-    (λ z p. differs_from z limit (truth_of _ _ p)) (subst (λ (x : ℤ). IsKept (λ z. ¬ (z ≡ x)) r o) e h)
+    (λ z p. differs_from z limit (truth_of _ _ p)) (subst (λ (x : ℤ). IsLeastTested (λ z. ¬ (z ≡ x)) r o) e h)
 
-pub ne_true : (r : Range) (o : Option Range) (l limit : ℤ) → l ≡ limit → IsKept (λ z. ¬ (z ≡ l)) r o
+pub ne_true : (r : Range) (o : Option Range) (l limit : ℤ) → l ≡ limit → IsLeastTested (λ z. ¬ (z ≡ l)) r o
     → IsLeastOf (IsPassing operators.Ne true limit r) o
 ne_true r o l limit e h =
     passed operators.Ne true limit (λ z. ¬ (z ≡ limit)) r o
     (λ z p. truth_is _ _ (not_false (int_eq z limit) (differs_to z limit p)))
     (λ z p. differs_from z limit (of_not (int_eq z limit) (truth_of _ _ p)))
-    (subst (λ (x : ℤ). IsKept (λ z. ¬ (z ≡ x)) r o) e h)
+    (subst (λ (x : ℤ). IsLeastTested (λ z. ¬ (z ≡ x)) r o) e h)

@@ -13,7 +13,7 @@ use Rattle.ilranges.specs.declared.cause.Cause.{Cause}
 use Rattle.ilranges.specs.declared.cause.Cause.TheVariants as causes
 use Rattle.ilranges.specs.declared.known.Known.{Known}
 use Rattle.ilranges.specs.declared.known.Known.TheVariants as knowns
-use Rattle.ilranges.specs.Causes.{number_of, IsLeastCause}
+use Rattle.ilranges.specs.Causes.{refusal_number, IsLeastCause}
 use Rattle.ilranges.specs.Knowns.{IsKnown, IsOfKind}
 use Rattle.ilranges.specs.Results.{DividesByZero, Arises}
 use Rattle.ilranges.specs.ResultSteps.{IsVerdict}
@@ -23,7 +23,8 @@ use Rattle.ilranges.specs.ResultSteps.{IsVerdict}
 same_number : (Arising : Cause → Type 0) (one other : Cause)
     → ((f a g b : Range) → Arising (causes.OutOfRange f a) → Arising (causes.OutOfRange g b)
     → causes.OutOfRange f a ≡ causes.OutOfRange g b)
-    → Arising one → Arising other → number_of one ≤ number_of other → number_of other ≤ number_of one → one ≡ other
+    → Arising one → Arising other → refusal_number one ≤ refusal_number other
+    → refusal_number other ≤ refusal_number one → one ≡ other
 same_number Arising causes.WrongType causes.WrongType h p q l m = refl
 same_number Arising causes.NoResult causes.NoResult h p q l m = refl
 same_number Arising causes.EmptyNesting causes.EmptyNesting h p q l m = refl
@@ -97,7 +98,7 @@ refused operator left right (Err c) h cause = (
 
 -- ---- kinds that no operator takes together
 
-pub at_least_two : (cause : Cause) → 2 ≤ number_of cause
+pub at_least_two : (cause : Cause) → 2 ≤ refusal_number cause
 at_least_two causes.WrongType = omega arith
 at_least_two cause = omega arith
 

@@ -9,7 +9,7 @@ use Rattle.iltypes.specs.declared.value.Value.TheVariants as values
 use Rattle.iltypes.specs.Values.{IsOf, AreOf}
 use Rattle.ilcode.specs.declared.nesting.Opened.{Opened}
 use Rattle.ilranges.specs.declared.known.Known.{Known}
-use Rattle.ilranges.specs.declared.mark.Mark.{Mark}
+use Rattle.ilranges.specs.declared.mark.ResultMark.{ResultMark}
 use Rattle.ilranges.specs.declared.nesting.KnownOpened.{KnownOpened}
 use Rattle.ilranges.specs.Knowns.{IsKnown, IsKnownWithin, known_of_type}
 use Rattle.ilranges.specs.Entries.{IsResultInto, IsOpenedInto}
@@ -47,11 +47,11 @@ opened_wider opened known wider h w = record {
   saved = value_wider opened.saved known.saved wider.saved h.saved w.saved;
 }
 
-mark_wider : (slots : List Value) (result : Option Value) (mark wider : Option Mark) → IsMarked slots result mark
+mark_wider : (slots : List Value) (result : Option Value) (mark wider : Option ResultMark) → IsMarked slots result mark
     → IsMarkInto mark wider → IsMarked slots result wider
 mark_wider slots result mark None h w = tt
 mark_wider slots result None (Some wider) h w = absurd w
-mark_wider slots result (Some mark) (Some wider) h w = subst (λ (m : Mark). IsMarked slots result (Some m)) w h
+mark_wider slots result (Some mark) (Some wider) h w = subst (λ (m : ResultMark). IsMarked slots result (Some m)) w h
 
 pub fit_wider : IsFitWider
 fit_wider code entry wider c i f = record {

@@ -21,7 +21,7 @@ use Rattle.ilranges.specs.declared.cause.Cause.{Cause}
 use Rattle.ilranges.specs.declared.cause.Cause.TheVariants as causes
 use Rattle.ilranges.specs.declared.known.Known.{Known}
 use Rattle.ilranges.specs.declared.known.Known.TheVariants as knowns
-use Rattle.ilranges.specs.Causes.{number_of, IsLeastCause}
+use Rattle.ilranges.specs.Causes.{refusal_number, IsLeastCause}
 use Rattle.ilranges.specs.Knowns.{IsKnown, only, known_of_value}
 use Rattle.ilranges.specs.Functions.{IsGiven, IsAfterFunction, IsWrongTypeFor, IsOutOfType, ArisesAtFunction}
 use Rattle.ilranges.specs.FunctionSteps.{IsFunctionVerdict}
@@ -74,7 +74,7 @@ abs_takes : (range : Range) → ¬ IsWrongTypeFor functions.Abs (knowns.Int rang
 abs_takes range h = let n = h (values.Int (pos 1)) tt in let k : ⊥ = cc in k
 
 least_too_big : (range : Range) (other : Cause) → ArisesAtFunction functions.Abs (knowns.Int range) other
-    → number_of causes.TooBig ≤ number_of other
+    → refusal_number causes.TooBig ≤ refusal_number other
 least_too_big range causes.WrongType a = absurd (abs_takes range a)
 least_too_big range causes.TooBig a = omega arith
 least_too_big range _ a = absurd a
@@ -147,7 +147,7 @@ convert_takes types.Udint range h = let n = h (values.Int (pos 1)) tt in let k :
 
 least_outside : (type : IntegerType) (range f b : Range) (other : Cause)
     → ArisesAtFunction (functions.Convert type) (knowns.Int range) other
-    → number_of (causes.OutOfRange f b) ≤ number_of other
+    → refusal_number (causes.OutOfRange f b) ≤ refusal_number other
 least_outside type range f b causes.WrongType a = absurd (convert_takes type range a)
 least_outside type range f b (causes.OutOfRange g d) a = omega arith
 least_outside type range f b _ a = absurd a

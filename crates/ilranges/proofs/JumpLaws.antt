@@ -13,15 +13,15 @@ use Rattle.iloperators.specs.declared.operator.Operator.{Operator}
 use Rattle.iloperators.specs.Conditions.{holds, chosen}
 use Rattle.iloperators.specs.Operators.{value_of_operator}
 use Rattle.ilcode.specs.declared.nesting.Opened.{Opened}
-use Rattle.ilcode.specs.declared.instruction.Instruction.TheVariants as words
+use Rattle.ilcode.specs.declared.word.Word.TheVariants as words
 use Rattle.ilcode.specs.Listings.{Listing}
 use Rattle.ilcode.specs.Steps.{Configuration, effect, goes_to, jumps, is_target}
 use Rattle.ilranges.specs.declared.cause.Cause.TheVariants as causes
 use Rattle.ilranges.specs.declared.entry.Entry.{Entry}
 use Rattle.ilranges.specs.declared.known.Known.{Known}
 use Rattle.ilranges.specs.declared.known.Known.TheVariants as knowns
-use Rattle.ilranges.specs.declared.mark.Mark.{Mark}
-use Rattle.ilranges.specs.declared.mark.Mark.TheVariants.{Copy, Test}
+use Rattle.ilranges.specs.declared.mark.ResultMark.{ResultMark}
+use Rattle.ilranges.specs.declared.mark.ResultMark.TheVariants.{Copy, Test}
 use Rattle.ilranges.specs.Fits.{IsResultKnown, Fits}
 use Rattle.ilranges.specs.Knowns.{IsKnown}
 use Rattle.ilranges.specs.Marks.{IsMarked}
@@ -89,7 +89,7 @@ tested_taken code c entry slot comparison outcome limit z (Some (knowns.Int rang
       });
     }
 
-refined_by : (code : Listing) (c : Configuration) (entry : Entry) (outcome : Bool) (mark : Option Mark)
+refined_by : (code : Listing) (c : Configuration) (entry : Entry) (outcome : Bool) (mark : Option ResultMark)
     (way : Option Entry) → Fits code entry c → IsMarked c.store.slots c.result mark
     → c.result ≡ Some (values.Bool outcome) → IsRefined entry outcome mark way → IsTaken code c way
 refined_by code c entry outcome None way f m r h = all_kept code c entry way f h

@@ -16,8 +16,8 @@ use Rattle.iloperators.specs.declared.function.Function.TheVariants as functions
 use Rattle.iloperators.specs.declared.operator.Operator.{Operator}
 use Rattle.iloperators.specs.Functions.{modified, value_of_function}
 use Rattle.iloperators.specs.Operators.{both, value_of_operator}
-use Rattle.ilcode.specs.declared.instruction.Operand.{Operand}
-use Rattle.ilcode.specs.declared.instruction.Operand.TheVariants as operands
+use Rattle.ilcode.specs.declared.word.WordOperand.{WordOperand}
+use Rattle.ilcode.specs.declared.word.WordOperand.TheVariants as operands
 use Rattle.ilcode.specs.Listings.{Listing, shape_of}
 use Rattle.ilcode.specs.Steps.{Configuration, value_of}
 use Rattle.ilranges.specs.declared.entry.Entry.{Entry}
@@ -74,7 +74,7 @@ port_known shape s block port (Some value) (Some type) h e f =
     let q : v.value ≡ value = cc in
     of_known value type (subst (λ (x : Value). IsOf x type) q v.typed)
 
-pub operand_known : (code : Listing) (entry : Entry) (c : Configuration) (operand : Operand) → Fits code entry c
+pub operand_known : (code : Listing) (entry : Entry) (c : Configuration) (operand : WordOperand) → Fits code entry c
     → IsOperandKnown (value_of code c.store operand) (known_of code entry operand)
 operand_known code entry c (operands.Slot slot) f = slot_known c.store.slots entry.slots slot f.slots
 operand_known code entry c (operands.Constant constant) f = constant_known (slice_get code.constants constant)

@@ -13,10 +13,10 @@ use Rattle.iloperators.specs.declared.function.Function.{Function}
 use Rattle.iloperators.specs.declared.function.Function.TheVariants as functions
 use Rattle.iloperators.specs.declared.operator.Operator.{Operator}
 use Rattle.iloperators.specs.Functions.{modified, value_of_function}
-use Rattle.ilblocks.specs.declared.kind.Kind.{Kind}
-use Rattle.ilcode.specs.declared.instruction.Variable.TheVariants as variables
-use Rattle.ilcode.specs.declared.instruction.Instruction.{Instruction}
-use Rattle.ilcode.specs.declared.instruction.Instruction.TheVariants as words
+use Rattle.ilblocks.specs.declared.kind.BlockKind.{BlockKind}
+use Rattle.ilcode.specs.declared.word.Target.TheVariants as variables
+use Rattle.ilcode.specs.declared.word.Word.{Word}
+use Rattle.ilcode.specs.declared.word.Word.TheVariants as words
 use Rattle.ilcode.specs.Listings.{Listing}
 use Rattle.ilranges.specs.declared.cause.Cause.{Cause}
 use Rattle.ilranges.specs.declared.cause.Cause.TheVariants as causes
@@ -176,11 +176,11 @@ set_lawful (Some knowns.Bool) (Some types.Bool) writable w h causes.NoResult a =
 set_lawful (Some knowns.Bool) (Some types.Bool) writable w h causes.BadSlot a = may_be_written types.Bool writable w a
 set_lawful (Some knowns.Bool) (Some types.Bool) writable w h _ a = absurd a
 
-there : (kind : Option Kind) → IsSome kind → ¬ IsNone kind
+there : (kind : Option BlockKind) → IsSome kind → ¬ IsNone kind
 there None s n = let k : ⊥ = cc in k
 there (Some kind) s n = let k : ⊥ = cc in k
 
-pub call_lawful : (kind : Option Kind) → IsSome kind → (cause : Cause) → ¬ refusals.ArisesAtCall kind cause
+pub call_lawful : (kind : Option BlockKind) → IsSome kind → (cause : Cause) → ¬ refusals.ArisesAtCall kind cause
 call_lawful kind h causes.BadSlot a = there kind h a
 call_lawful kind h _ a = a
 
@@ -197,7 +197,7 @@ close_lawful entry after (innermost ∷ nesting) h cause a =
     closing_lawful innermost.operator innermost.saved entry.result h.known h.given cause a
 
 -- where a word leaves something for the next place alone no cause arises at it before its parentheses
-pub lawful_before : (code : Listing) (place : ℕ) (entry : Entry) (word : Instruction) (after : Entry)
+pub lawful_before : (code : Listing) (place : ℕ) (entry : Entry) (word : Word) (after : Entry)
     → rules.IsEntryAfter code entry word after → (cause : Cause)
     → ¬ refusals.ArisesBeforeNesting code place entry word cause
 lawful_before code place entry (words.Load negated operand) after h cause a =

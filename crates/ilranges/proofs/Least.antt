@@ -12,7 +12,7 @@ use Rattle.ilranges.specs.declared.cause.Cause.{Cause}
 use Rattle.ilranges.specs.declared.cause.Cause.TheVariants as causes
 use Rattle.ilranges.specs.declared.known.Known.{Known}
 use Rattle.ilranges.specs.declared.known.Known.TheVariants as knowns
-use Rattle.ilranges.specs.Causes.{number_of, IsLeastCause}
+use Rattle.ilranges.specs.Causes.{refusal_number, IsLeastCause}
 use Rattle.ilranges.specs.WordSteps.{takes, if_right}
 use Rattle.ilranges.specs.Functions.{IsAfterFunction, ArisesAtFunction}
 use Rattle.ilranges.specs.Knowns.{IsKnown}
@@ -68,7 +68,7 @@ modified_truth false n = let k : ⊥ = cc in k
 
 -- without an operand the load is of no wrong type
 least_slot : (negated : Bool) (cause : Cause) → refusals.ArisesAtLoad negated None cause
-    → number_of causes.BadSlot ≤ number_of cause
+    → refusal_number causes.BadSlot ≤ refusal_number cause
 least_slot negated causes.WrongType a = absurd (modified_truth negated (a (values.Bool true) tt))
 least_slot negated causes.BadSlot a = omega arith
 least_slot negated _ a = absurd a
@@ -126,7 +126,7 @@ closing_of operator saved inner (Err cause) h r =
 
 -- no operand
 left_alone : (operator : Operator) (left : Known) → takes operator left ≡ true → (cause : Cause)
-    → refusals.ArisesAtApply operator (Some left) None cause → number_of causes.BadSlot ≤ number_of cause
+    → refusals.ArisesAtApply operator (Some left) None cause → refusal_number causes.BadSlot ≤ refusal_number cause
 left_alone operator left e causes.WrongType a = absurd (takes_left operator left e a)
 left_alone operator left e causes.NoResult a = let k : ⊥ = cc in absurd k
 left_alone operator left e causes.BadSlot a = omega arith
@@ -140,7 +140,7 @@ no_operand operator left false e =
 
 -- no current result
 right_alone : (operator : Operator) (right : Known) → takes operator right ≡ true → (cause : Cause)
-    → refusals.ArisesAtApply operator None (Some right) cause → number_of causes.NoResult ≤ number_of cause
+    → refusals.ArisesAtApply operator None (Some right) cause → refusal_number causes.NoResult ≤ refusal_number cause
 right_alone operator right e causes.WrongType a = absurd (takes_right operator right e a)
 right_alone operator right e causes.NoResult a = omega arith
 right_alone operator right e causes.BadSlot a = omega arith
@@ -153,7 +153,7 @@ no_current operator operand false e =
     wrong_least (refusals.ArisesAtApply operator None (Some operand)) (wrong_right operator operand e)
 
 saved_alone : (operator : Operator) (saved : Known) → takes operator saved ≡ true → (cause : Cause)
-    → refusals.ArisesAtClosing operator saved None cause → number_of causes.NoResult ≤ number_of cause
+    → refusals.ArisesAtClosing operator saved None cause → refusal_number causes.NoResult ≤ refusal_number cause
 saved_alone operator saved e causes.WrongType a = absurd (takes_left operator saved e a)
 saved_alone operator saved e causes.NoResult a = omega arith
 saved_alone operator saved e _ a = absurd a
@@ -166,7 +166,7 @@ no_inner operator saved false e =
 
 -- neither: each operator takes some kind
 none_alone : (operator : Operator) (cause : Cause) → refusals.ArisesAtApply operator None None cause
-    → number_of causes.NoResult ≤ number_of cause
+    → refusal_number causes.NoResult ≤ refusal_number cause
 none_alone operator causes.WrongType a = absurd (takes_any operator a)
 none_alone operator causes.NoResult a = omega arith
 none_alone operator causes.BadSlot a = omega arith

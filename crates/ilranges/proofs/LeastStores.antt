@@ -12,7 +12,7 @@ use Rattle.ilranges.specs.declared.cause.Cause.{Cause}
 use Rattle.ilranges.specs.declared.cause.Cause.TheVariants as causes
 use Rattle.ilranges.specs.declared.known.Known.{Known}
 use Rattle.ilranges.specs.declared.known.Known.TheVariants as knowns
-use Rattle.ilranges.specs.Causes.{number_of, IsLeastCause}
+use Rattle.ilranges.specs.Causes.{refusal_number, IsLeastCause}
 use Rattle.ilranges.specs.WordSteps.{may_modify, if_right}
 use Rattle.ilranges.specs.Knowns.{IsOfKind, known_of_type}
 use Rattle.ilranges.specs.Refusals as refusals
@@ -62,7 +62,7 @@ number_kept true knowns.Bool (knowns.Int s) (types.Int d) found allowed m a =
 -- a number out of the range is of the slot's kind
 least_out : (known : Known) (type : IlType) (found allowed : Range)
     → ArisesAtStore known type (causes.OutOfRange found allowed) → (cause : Cause)
-    → refusals.ArisesAtStoring false (Some known) (Some type) true cause → 7 ≤ number_of cause
+    → refusals.ArisesAtStoring false (Some known) (Some type) true cause → 7 ≤ refusal_number cause
 least_out knowns.Bool type found allowed o cause a = absurd (no_truth_out type found allowed o)
 least_out (knowns.Int r) types.Bool found allowed o cause a = absurd o
 least_out (knowns.Int r) (types.Int d) found allowed o causes.WrongType a =
@@ -73,7 +73,7 @@ least_out (knowns.Int r) (types.Int d) found allowed o causes.BadSlot a = omega 
 least_out (knowns.Int r) (types.Int d) found allowed o _ a = absurd a
 
 store_number : (stored : Known) (type : IlType) (cause : Cause) → ArisesAtStore stored type cause
-    → (number_of cause ≡ 2) ⊎ (number_of cause ≡ 7)
+    → (refusal_number cause ≡ 2) ⊎ (refusal_number cause ≡ 7)
 store_number knowns.Bool types.Bool cause a = absurd a
 store_number knowns.Bool (types.Int d) causes.WrongType a = inl refl
 store_number knowns.Bool (types.Int d) _ a = absurd a
@@ -107,7 +107,8 @@ no_slot_wrong false knowns.Bool e a = a (values.Bool true) (values.Bool true) tt
 no_slot_wrong false (knowns.Int r) e a = a (values.Int (pos 1)) (values.Int (pos 1)) tt refl tt
 
 no_slot_least : (negated : Bool) (known : Known) → may_modify negated known ≡ true → (cause : Cause)
-    → refusals.ArisesAtStoring negated (Some known) None true cause → number_of causes.BadSlot ≤ number_of cause
+    → refusals.ArisesAtStoring negated (Some known) None true cause
+    → refusal_number causes.BadSlot ≤ refusal_number cause
 no_slot_least negated known e causes.WrongType a = absurd (no_slot_wrong negated known e a)
 no_slot_least negated known e causes.NoResult a = let k : ⊥ = cc in absurd k
 no_slot_least negated known e causes.BadSlot a = omega arith
@@ -134,7 +135,8 @@ nothing_wrong false types.Bool e a = a (values.Bool true) (values.Bool true) tt 
 nothing_wrong false (types.Int d) e a = a (values.Int (pos 1)) (values.Int (pos 1)) tt refl tt
 
 nothing_least : (negated : Bool) (type : IlType) → may_modify negated (known_of_type type) ≡ true → (cause : Cause)
-    → refusals.ArisesAtStoring negated None (Some type) true cause → number_of causes.NoResult ≤ number_of cause
+    → refusals.ArisesAtStoring negated None (Some type) true cause
+    → refusal_number causes.NoResult ≤ refusal_number cause
 nothing_least negated type e causes.WrongType a = absurd (nothing_wrong negated type e a)
 nothing_least negated type e causes.NoResult a = omega arith
 nothing_least negated type e causes.BadSlot a = omega arith
@@ -159,7 +161,7 @@ neither_wrong true a = a (values.Bool true) (values.Bool false) tt refl tt
 neither_wrong false a = a (values.Bool true) (values.Bool true) tt refl tt
 
 neither_least : (negated : Bool) (cause : Cause) → refusals.ArisesAtStoring negated None None true cause
-    → number_of causes.NoResult ≤ number_of cause
+    → refusal_number causes.NoResult ≤ refusal_number cause
 neither_least negated causes.WrongType a = absurd (neither_wrong negated a)
 neither_least negated causes.NoResult a = omega arith
 neither_least negated causes.BadSlot a = omega arith

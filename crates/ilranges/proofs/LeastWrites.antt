@@ -9,12 +9,12 @@ use Rattle.ilranges.specs.declared.cause.Cause.{Cause}
 use Rattle.ilranges.specs.declared.cause.Cause.TheVariants as causes
 use Rattle.ilranges.specs.declared.known.Known.{Known}
 use Rattle.ilranges.specs.declared.known.Known.TheVariants as knowns
-use Rattle.ilranges.specs.Causes.{number_of, IsLeastCause}
+use Rattle.ilranges.specs.Causes.{refusal_number, IsLeastCause}
 use Rattle.ilranges.specs.Refusals as refusals
 use Rattle.ilranges.specs.Rules as rules
 use Rattle.ilranges.proofs.Lawful.{stored_lawful}
 
-bad_slot_last : (cause : Cause) → number_of cause ≤ number_of causes.BadSlot
+bad_slot_last : (cause : Cause) → refusal_number cause ≤ refusal_number causes.BadSlot
 bad_slot_last causes.BadSlot = omega arith
 bad_slot_last cause = omega arith
 
@@ -24,7 +24,7 @@ beside : (One Other : Cause → Type 0) (cause : Cause) → (One cause → Other
     → IsLeastCause Other cause
 beside One Other cause to from l = record { arises = to l.arises; least = λ other a. least other (from other a) }
   where
-    least : (other : Cause) → (other ≡ causes.BadSlot) ⊎ One other → number_of cause ≤ number_of other
+    least : (other : Cause) → (other ≡ causes.BadSlot) ⊎ One other → refusal_number cause ≤ refusal_number other
     least other (inl e) = rw e (bad_slot_last cause)
     least other (inr a) = l.least other a
 
@@ -33,7 +33,8 @@ alone : (One Other : Cause → Type 0) → Other causes.BadSlot → ((cause : Ca
     → ((other : Cause) → Other other → (other ≡ causes.BadSlot) ⊎ One other) → IsLeastCause Other causes.BadSlot
 alone One Other arises none from = record { arises = arises; least = λ other a. least other (from other a) }
   where
-    least : (other : Cause) → (other ≡ causes.BadSlot) ⊎ One other → number_of causes.BadSlot ≤ number_of other
+    least : (other : Cause) → (other ≡ causes.BadSlot) ⊎ One other
+        → refusal_number causes.BadSlot ≤ refusal_number other
     least other (inl e) = rw e (omega arith)
     least other (inr a) = absurd (none other a)
 
@@ -110,7 +111,7 @@ no_input_wrong knowns.Bool a = a (values.Bool true) (values.Bool true) tt refl t
 no_input_wrong (knowns.Int r) a = a (values.Int r.lo) (values.Int r.lo) tt refl tt
 
 no_operand_least : (type : Option IlType) (writable : Bool) (cause : Cause)
-    → refusals.ArisesAtPass None type writable cause → number_of causes.BadSlot ≤ number_of cause
+    → refusals.ArisesAtPass None type writable cause → refusal_number causes.BadSlot ≤ refusal_number cause
 no_operand_least type writable causes.WrongType a = absurd (no_operand_wrong type a)
 no_operand_least type writable (causes.OutOfRange found allowed) a = absurd a
 no_operand_least type writable causes.BadSlot a = omega arith
@@ -121,7 +122,7 @@ pub no_operand_passed : (type : Option IlType) (writable : Bool)
 no_operand_passed type writable = record { arises = inl refl; least = no_operand_least type writable }
 
 no_input_least : (known : Known) (writable : Bool) (cause : Cause)
-    → refusals.ArisesAtPass (Some known) None writable cause → number_of causes.BadSlot ≤ number_of cause
+    → refusals.ArisesAtPass (Some known) None writable cause → refusal_number causes.BadSlot ≤ refusal_number cause
 no_input_least known writable causes.WrongType a = absurd (no_input_wrong known a)
 no_input_least known writable (causes.OutOfRange found allowed) a = absurd a
 no_input_least known writable causes.BadSlot a = omega arith

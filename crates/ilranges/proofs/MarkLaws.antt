@@ -18,14 +18,14 @@ use Rattle.iloperators.specs.Functions.{modified, value_of_function}
 use Rattle.iloperators.specs.Operators.{both, value_of_operator, number, fits, rest}
 use Rattle.iloperators.proofs.Comparisons.{has_outcome, has_opposite_outcome}
 use Rattle.ilblocks.specs.Stores.{Store}
-use Rattle.ilcode.specs.declared.instruction.Operand.{Operand}
-use Rattle.ilcode.specs.declared.instruction.Operand.TheVariants.{Slot, Constant, Port}
+use Rattle.ilcode.specs.declared.word.WordOperand.{WordOperand}
+use Rattle.ilcode.specs.declared.word.WordOperand.TheVariants.{Slot, Constant, Port}
 use Rattle.ilcode.specs.Listings.{Listing}
 use Rattle.ilcode.specs.Steps.{value_of}
 use Rattle.ilranges.specs.declared.known.Known.{Known}
 use Rattle.ilranges.specs.declared.known.Known.TheVariants as knowns
-use Rattle.ilranges.specs.declared.mark.Mark.{Mark}
-use Rattle.ilranges.specs.declared.mark.Mark.TheVariants.{Copy, Test}
+use Rattle.ilranges.specs.declared.mark.ResultMark.{ResultMark}
+use Rattle.ilranges.specs.declared.mark.ResultMark.TheVariants.{Copy, Test}
 use Rattle.ilranges.specs.Knowns.{IsKnown}
 use Rattle.ilranges.specs.Marks.{IsCopy, IsTest, IsMarked, mark_of_load, constant_of, mark_of_apply}
 use Rattle.ilranges.specs.Marks.{mark_of_function}
@@ -36,7 +36,7 @@ loaded_value : (value : Option Value) (v : Value) → option_and_then (modified 
 loaded_value None v e = absurd (cc)
 loaded_value (Some value) v e = e
 
-pub load_marked : (code : Listing) (store : Store) (negated : Bool) (operand : Operand) (known : Known) (v : Value)
+pub load_marked : (code : Listing) (store : Store) (negated : Bool) (operand : WordOperand) (known : Known) (v : Value)
     → option_and_then (modified negated) (value_of code store operand) ≡ Some v → IsKnown v known
     → IsMarked store.slots (Some v) (mark_of_load negated operand known)
 load_marked code store true operand known v e k = tt
@@ -49,7 +49,7 @@ load_marked code store false (Slot slot) (knowns.Int range) (values.Int z) e k =
 
 -- ---- a comparison with a constant tests the number that was copied
 
-constant_value : (code : Listing) (store : Store) (operand : Operand) (value : Value)
+constant_value : (code : Listing) (store : Store) (operand : WordOperand) (value : Value)
     → constant_of code operand ≡ Some value → value_of code store operand ≡ Some value
 constant_value code store (Slot slot) value e = absurd (cc)
 constant_value code store (Constant constant) value e = e
@@ -73,7 +73,8 @@ compared_by slots result operand slot operator limit v true m o c e =
     compared slots result operand slot operator limit v m o c e
 compared_by slots result operand slot operator limit v false m o c e = tt
 
-applied_by : (slots : List Value) (result operand constant : Option Value) (mark : Option Mark) (operator : Operator)
+applied_by : (slots : List Value) (result operand constant : Option Value) (mark : Option ResultMark)
+    (operator : Operator)
     (v : Value) → IsMarked slots result mark → ((value : Value) → constant ≡ Some value → operand ≡ Some value)
     → both operator result operand ≡ Some v → IsMarked slots (Some v) (mark_of_apply mark operator constant)
 applied_by slots result operand constant None operator v m h e = tt
@@ -83,8 +84,9 @@ applied_by slots result operand (Some (values.Bool b)) (Some (Copy slot)) operat
 applied_by slots result operand (Some (values.Int limit)) (Some (Copy slot)) operator v m h e =
     compared_by slots result operand slot operator limit v (compares operator) m (h (values.Int limit) refl) refl e
 
-pub apply_marked : (code : Listing) (store : Store) (result : Option Value) (mark : Option Mark) (operator : Operator)
-    (operand : Operand) (v : Value) → IsMarked store.slots result mark
+pub apply_marked : (code : Listing) (store : Store) (result : Option Value) (mark : Option ResultMark)
+    (operator : Operator)
+    (operand : WordOperand) (v : Value) → IsMarked store.slots result mark
     → both operator result (value_of code store operand) ≡ Some v
     → IsMarked store.slots (Some v) (mark_of_apply mark operator (constant_of code operand))
 apply_marked code store result mark operator operand v m e =
@@ -139,7 +141,7 @@ turned_test slots result slot comparison limit v m e = record {
   is = sym e ∙ ap (option_and_then (value_of_function functions.Not)) m.is;
 }
 
-pub function_marked : (slots : List Value) (result : Option Value) (mark : Option Mark) (function : Function)
+pub function_marked : (slots : List Value) (result : Option Value) (mark : Option ResultMark) (function : Function)
     (v : Value) → IsMarked slots result mark → option_and_then (value_of_function function) result ≡ Some v
     → IsMarked slots (Some v) (mark_of_function mark function)
 function_marked slots result None function v m e = tt
@@ -179,7 +181,8 @@ truth_elsewhere (x ∷ xs) (y ∷ ys) (suc slot) (suc other) b z a t e =
     truth_elsewhere xs ys slot other b z a.1 t e
 
 -- a truth value is stored
-pub truth_marked : (slots : List Value) (declared : List IlType) (result : Option Value) (mark : Option Mark) (slot : ℕ)
+pub truth_marked : (slots : List Value) (declared : List IlType) (result : Option Value) (mark : Option ResultMark)
+    (slot : ℕ)
     (b outcome : Bool) → AreOf slots declared → slice_get declared slot ≡ Some types.Bool
     → result ≡ Some (values.Bool outcome) → IsMarked slots result mark
     → IsMarked (slice_set slots slot (values.Bool b)) result mark
@@ -211,7 +214,8 @@ not_modified : (negated outcome : Bool) (z : ℤ) → ¬ (modified negated (valu
 not_modified true outcome z e = let k : ⊥ = cc in k
 not_modified false outcome z e = let k : ⊥ = cc in k
 
-pub store_marked : (slots : List Value) (declared : List IlType) (result : Option Value) (mark : Option Mark) (slot : ℕ)
+pub store_marked : (slots : List Value) (declared : List IlType) (result : Option Value) (mark : Option ResultMark)
+    (slot : ℕ)
     (negated : Bool) (v : Value) (type : IlType) → AreOf slots declared → slice_get declared slot ≡ Some type
     → IsOf v type → option_and_then (modified negated) result ≡ Some v → IsMarked slots result mark
     → IsMarked (slice_set slots slot v) result mark

@@ -3,27 +3,28 @@ use Rattle.std.proofs.Common.{◌≡◌, Bool, true, false, Option, Some, None, 
 use Rattle.iltypes.specs.declared.value.Value.{Value}
 use Rattle.iloperators.specs.declared.function.Function.{Function}
 use Rattle.iloperators.specs.declared.operator.Operator.{Operator}
-use Rattle.ilcode.specs.declared.instruction.Operand.{Operand}
-use Rattle.ilcode.specs.declared.instruction.Operand.TheVariants.{Slot, Constant, Port}
+use Rattle.ilcode.specs.declared.word.WordOperand.{WordOperand}
+use Rattle.ilcode.specs.declared.word.WordOperand.TheVariants.{Slot, Constant, Port}
 use Rattle.ilranges.specs.declared.known.Known.{Known}
 use Rattle.ilranges.specs.declared.known.Known.TheVariants as knowns
-use Rattle.ilranges.specs.declared.mark.Mark.{Mark}
+use Rattle.ilranges.specs.declared.mark.ResultMark.{ResultMark}
 use Rattle.ilranges.specs.Knowns.{IsKnownWithin}
 use Rattle.ilranges.specs.Marks.{IsMarkInto, mark_of_load, mark_of_apply, mark_of_function}
 
-pub mark_self : (mark : Option Mark) → IsMarkInto mark mark
+pub mark_self : (mark : Option ResultMark) → IsMarkInto mark mark
 mark_self None = tt
 mark_self (Some mark) = refl
 
 -- what is made of a mark, and is none where there is none
-through : (after : Option Mark → Option Mark) (mark wider : Option Mark) → after None ≡ None → IsMarkInto mark wider
+through : (after : Option ResultMark → Option ResultMark) (mark wider : Option ResultMark) → after None ≡ None
+    → IsMarkInto mark wider
     → IsMarkInto (after mark) (after wider)
 through after mark None e h = subst (IsMarkInto (after mark)) (sym e) tt
 through after None (Some wider) e h = absurd h
 through after (Some mark) (Some wider) e h =
-    subst (λ (m : Mark). IsMarkInto (after (Some mark)) (after (Some m))) h (mark_self (after (Some mark)))
+    subst (λ (m : ResultMark). IsMarkInto (after (Some mark)) (after (Some m))) h (mark_self (after (Some mark)))
 
-pub load_marks : (negated : Bool) (operand : Operand) (known wider : Known) → IsKnownWithin known wider
+pub load_marks : (negated : Bool) (operand : WordOperand) (known wider : Known) → IsKnownWithin known wider
     → IsMarkInto (mark_of_load negated operand known) (mark_of_load negated operand wider)
 load_marks negated operand knowns.Bool knowns.Bool w = mark_self (mark_of_load negated operand knowns.Bool)
 load_marks negated operand knowns.Bool (knowns.Int s) w = absurd w
@@ -33,10 +34,11 @@ load_marks false (Slot slot) (knowns.Int r) (knowns.Int s) w = refl
 load_marks false (Constant constant) (knowns.Int r) (knowns.Int s) w = tt
 load_marks false (Port port block) (knowns.Int r) (knowns.Int s) w = tt
 
-pub apply_marks : (mark wider : Option Mark) (operator : Operator) (constant : Option Value) → IsMarkInto mark wider
+pub apply_marks : (mark wider : Option ResultMark) (operator : Operator) (constant : Option Value)
+    → IsMarkInto mark wider
     → IsMarkInto (mark_of_apply mark operator constant) (mark_of_apply wider operator constant)
 apply_marks mark wider operator constant h = through (λ m. mark_of_apply m operator constant) mark wider refl h
 
-pub function_marks : (mark wider : Option Mark) (function : Function) → IsMarkInto mark wider
+pub function_marks : (mark wider : Option ResultMark) (function : Function) → IsMarkInto mark wider
     → IsMarkInto (mark_of_function mark function) (mark_of_function wider function)
 function_marks mark wider function h = through (λ m. mark_of_function m function) mark wider refl h

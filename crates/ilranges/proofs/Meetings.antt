@@ -4,7 +4,7 @@ use Rattle.std.specs.Prelude.{IfSome, IsNone}
 use Rattle.std.specs.List.{AllZip}
 use Rattle.ilranges.specs.declared.entry.Entry.{Entry}
 use Rattle.ilranges.specs.declared.known.Known.{Known}
-use Rattle.ilranges.specs.declared.mark.Mark.{Mark}
+use Rattle.ilranges.specs.declared.mark.ResultMark.{ResultMark}
 use Rattle.ilranges.specs.declared.nesting.KnownOpened.{KnownOpened}
 use Rattle.ilranges.specs.Entries.{IsResultInto, IsOpenedInto}
 use Rattle.ilranges.specs.JoinSteps.{IsResultMeeting}
@@ -38,27 +38,27 @@ results_meet one other (Some known) n j =
 
 -- ---- the mark
 
-pub record IsMarkMeeting (one other meeting : Option Mark) : Type 0 where
+pub record IsMarkMeeting (one other meeting : Option ResultMark) : Type 0 where
   pub from_one : IsMarkInto one meeting
   pub from_other : IsMarkInto other meeting
-  pub least : (wider : Option Mark) → IsMarkInto one wider → IsMarkInto other wider → IsMarkInto meeting wider
+  pub least : (wider : Option ResultMark) → IsMarkInto one wider → IsMarkInto other wider → IsMarkInto meeting wider
 
-pub marks_agree : (one other : Option Mark) → one ≡ other → IsMarkMeeting one other one
+pub marks_agree : (one other : Option ResultMark) → one ≡ other → IsMarkMeeting one other one
 marks_agree one other e =
     record {
       from_one = mark_self one;
-      from_other = subst (λ (m : Option Mark). IsMarkInto m one) e (mark_self one);
+      from_other = subst (λ (m : Option ResultMark). IsMarkInto m one) e (mark_self one);
       least = λ wider h g. h;
     }
 
-least_of_marks : (one other wider : Option Mark) → ¬ (one ≡ other) → IsMarkInto one wider → IsMarkInto other wider
+least_of_marks : (one other wider : Option ResultMark) → ¬ (one ≡ other) → IsMarkInto one wider → IsMarkInto other wider
     → IsMarkInto None wider
 least_of_marks one other None n h g = tt
 least_of_marks None other (Some wider) n h g = absurd h
 least_of_marks (Some one) None (Some wider) n h g = absurd g
-least_of_marks (Some one) (Some other) (Some wider) n h g = absurd (n (ap (λ (m : Mark). Some m) (h ∙ sym g)))
+least_of_marks (Some one) (Some other) (Some wider) n h g = absurd (n (ap (λ (m : ResultMark). Some m) (h ∙ sym g)))
 
-pub marks_differ : (one other : Option Mark) → ¬ (one ≡ other) → IsMarkMeeting one other None
+pub marks_differ : (one other : Option ResultMark) → ¬ (one ≡ other) → IsMarkMeeting one other None
 marks_differ one other n =
     record { from_one = tt; from_other = tt; least = λ wider. least_of_marks one other wider n }
 

@@ -7,9 +7,9 @@ use Rattle.iloperators.specs.declared.condition.Condition.{Condition}
 use Rattle.iloperators.specs.declared.condition.Condition.TheVariants.{Always, IfTrue, IfFalse}
 use Rattle.iloperators.specs.declared.function.Function.{Function}
 use Rattle.iloperators.specs.declared.operator.Operator.{Operator}
-use Rattle.ilcode.specs.declared.instruction.Instruction.{Instruction}
-use Rattle.ilcode.specs.declared.instruction.Instruction.TheVariants as words
-use Rattle.ilcode.specs.declared.instruction.Variable.TheVariants as variables
+use Rattle.ilcode.specs.declared.word.Word.{Word}
+use Rattle.ilcode.specs.declared.word.Word.TheVariants as words
+use Rattle.ilcode.specs.declared.word.Target.TheVariants as variables
 use Rattle.ilcode.specs.Listings.{Listing}
 use Rattle.ilranges.specs.declared.cause.Cause.TheVariants.{OutOfRange}
 use Rattle.ilranges.specs.declared.entry.Entry.{Entry}
@@ -62,7 +62,7 @@ none_at_condition Always result f a h = h
 none_at_condition IfTrue result f a h = h
 none_at_condition IfFalse result f a h = h
 
-same_ranges : (code : Listing) (place : ℕ) (met : Bool) (entry : Entry) (word : Instruction) (f a g b : Range)
+same_ranges : (code : Listing) (place : ℕ) (met : Bool) (entry : Entry) (word : Word) (f a g b : Range)
     → ArisesAtWord code place met entry word (OutOfRange f a) → ArisesAtWord code place met entry word (OutOfRange g b)
     → OutOfRange f a ≡ OutOfRange g b
 same_ranges code place met entry (words.Load negated operand) f a g b h k = absurd h
@@ -82,6 +82,6 @@ same_ranges code place met entry words.Close f a g b h k = absurd (none_at_close
 same_ranges code place met entry (words.Jump condition target) f a g b h k =
     absurd (none_at_condition condition entry.result f a h)
 
-pub one_cause : (word : Instruction) → HasOneCause word
+pub one_cause : (word : Word) → HasOneCause word
 one_cause word code place met entry one other h k =
     exact.one_cause (ArisesAtWord code place met entry word) one other (same_ranges code place met entry word) h k

@@ -17,7 +17,7 @@ use Rattle.iloperators.specs.Operators.{value_of_operator, quotient, remainder, 
 use Rattle.ilranges.specs.declared.cause.Cause.{Cause}
 use Rattle.ilranges.specs.declared.cause.Cause.TheVariants as causes
 use Rattle.ilranges.specs.declared.known.Known.TheVariants as knowns
-use Rattle.ilranges.specs.Causes.{number_of, IsLeastCause}
+use Rattle.ilranges.specs.Causes.{refusal_number, IsLeastCause}
 use Rattle.ilranges.specs.Knowns.{IsKnown, AreReached}
 use Rattle.ilranges.specs.Results.{IsResult, IsClosest, IsAfter, IsWrongType, DividesByZero, Arises}
 use Rattle.ilranges.specs.ResultSteps.{IsVerdict, verdict}
@@ -112,7 +112,7 @@ no_zero operator f left right c (values.Bool y) p = absurd p
 
 least_too_big : (operator : Operator) (f : ℤ → ℤ → ℤ) (left right : Range) → Computes operator f left right
     → (other : Cause) → Arises operator (knowns.Int left) (knowns.Int right) other
-    → number_of causes.TooBig ≤ number_of other
+    → refusal_number causes.TooBig ≤ refusal_number other
 least_too_big operator f left right c causes.WrongType a = absurd (c.kinds a)
 least_too_big operator f left right c causes.MayBeZero a = absurd (no_zero operator f left right c a.y a.of_right a.is)
 least_too_big operator f left right c causes.TooBig a = omega arith
@@ -201,7 +201,8 @@ quotients left right n = record {
 
 least_by_zero : (operator : Operator) (left right : Range)
     → ¬ IsWrongType operator (knowns.Int left) (knowns.Int right) → (other : Cause)
-    → Arises operator (knowns.Int left) (knowns.Int right) other → number_of causes.MayBeZero ≤ number_of other
+    → Arises operator (knowns.Int left) (knowns.Int right) other
+    → refusal_number causes.MayBeZero ≤ refusal_number other
 least_by_zero operator left right n causes.WrongType a = absurd (n a)
 least_by_zero operator left right n causes.MayBeZero a = omega arith
 least_by_zero operator left right n causes.TooBig a = omega arith

@@ -10,17 +10,17 @@ use Rattle.ilblocks.specs.Stores.{type_of_port}
 use Rattle.iloperators.specs.declared.function.Function.{Function}
 use Rattle.iloperators.specs.declared.function.Function.TheVariants as functions
 use Rattle.iloperators.specs.declared.operator.Operator.{Operator}
-use Rattle.ilcode.specs.declared.instruction.Operand.{Operand}
-use Rattle.ilcode.specs.declared.instruction.Operand.TheVariants as operands
-use Rattle.ilcode.specs.declared.instruction.Variable.{Variable}
-use Rattle.ilcode.specs.declared.instruction.Variable.TheVariants as variables
-use Rattle.ilcode.specs.declared.instruction.Instruction.{Instruction}
-use Rattle.ilcode.specs.declared.instruction.Instruction.TheVariants as words
+use Rattle.ilcode.specs.declared.word.WordOperand.{WordOperand}
+use Rattle.ilcode.specs.declared.word.WordOperand.TheVariants as operands
+use Rattle.ilcode.specs.declared.word.Target.{Target}
+use Rattle.ilcode.specs.declared.word.Target.TheVariants as variables
+use Rattle.ilcode.specs.declared.word.Word.{Word}
+use Rattle.ilcode.specs.declared.word.Word.TheVariants as words
 use Rattle.ilcode.specs.Listings.{Listing, shape_of}
 use Rattle.ilranges.specs.declared.entry.Entry.{Entry}
 use Rattle.ilranges.specs.declared.known.Known.{Known}
 use Rattle.ilranges.specs.declared.known.Known.TheVariants as knowns
-use Rattle.ilranges.specs.declared.mark.Mark.{Mark}
+use Rattle.ilranges.specs.declared.mark.ResultMark.{ResultMark}
 use Rattle.ilranges.specs.declared.nesting.KnownOpened.{KnownOpened}
 use Rattle.ilranges.specs.Entries.{known_of, type_of_variable, IsResultInto, IsOpenedInto, IsInto}
 use Rattle.ilranges.specs.Knowns.{IsKnownWithin, known_of_type, known_of_value}
@@ -56,7 +56,7 @@ slot_within (x ∷ xs) [] slot h = absurd h
 slot_within (x ∷ xs) (y ∷ ys) zero h = h.0
 slot_within (x ∷ xs) (y ∷ ys) (suc slot) h = slot_within xs ys slot h.1
 
-pub operand_within : (code : Listing) (entry wider : Entry) (operand : Operand) → IsInto entry wider
+pub operand_within : (code : Listing) (entry wider : Entry) (operand : WordOperand) → IsInto entry wider
     → IsBothWithin (known_of code entry operand) (known_of code wider operand)
 operand_within code entry wider (operands.Slot slot) i = slot_within entry.slots wider.slots slot i.slots
 operand_within code entry wider (operands.Constant constant) i =
@@ -127,7 +127,7 @@ into_of entry wider after other p q i =
     subst (λ (e : Entry). IsInto e other) (sym p) (subst (IsInto entry) (sym q) i)
 
 gives_into : (entry wider after other : Entry) (nesting wider_nesting : List KnownOpened)
-    (mark_of wider_mark_of : Known → Option Mark) (P Q : Known → Type 0) → IsInto entry wider
+    (mark_of wider_mark_of : Known → Option ResultMark) (P Q : Known → Type 0) → IsInto entry wider
     → AllZip IsOpenedInto nesting wider_nesting
     → ((known its : Known) → P known → Q its → IsKnownWithin known its)
     → ((known its : Known) → IsKnownWithin known its → IsMarkInto (mark_of known) (wider_mark_of its))
@@ -137,7 +137,7 @@ gives_into entry wider after other nesting wider_nesting mark_of wider_mark_of P
     into_of _ _ after other h.is g.is
     (record { slots = i.slots; result = w; mark = marks h.known g.known w; nesting = n })
 
-writes_into : (entry wider after other : Entry) (variable : Variable) (P Q : Known → Type 0) → IsInto entry wider
+writes_into : (entry wider after other : Entry) (variable : Target) (P Q : Known → Type 0) → IsInto entry wider
     → ((known its : Known) → P known → Q its → IsKnownWithin known its) → Writes entry variable P after
     → Writes wider variable Q other → IsInto after other
 writes_into entry wider after other (variables.Port port block) P Q i each h g =
@@ -182,7 +182,7 @@ closes_into entry wider after other (x ∷ xs) (y ∷ ys) i n h g =
     (subst (λ (o : Operator). IsApplied o (Some x.saved) entry.result known) n.0.operator p) q)
     (λ known its w. tt) h g
 
-pub after_into : (word : Instruction) (code : Listing) (entry wider after other : Entry) → IsInto entry wider
+pub after_into : (word : Word) (code : Listing) (entry wider after other : Entry) → IsInto entry wider
     → IsEntryAfter code entry word after → IsEntryAfter code wider word other → IsInto after other
 after_into (words.Load negated operand) code entry wider after other i h g =
     gives_into entry wider after other entry.nesting wider.nesting _ _ _ _ i i.nesting

@@ -19,7 +19,7 @@ SameLengths (c ∷ cs) [] = ⊥
 SameLengths (c ∷ cs) (d ∷ ds) = (length c ≡ length d) × SameLengths cs ds
 
 -- the element at n stands at r in the part q
-pub record Place (cs : List (List Known)) (n q r : ℕ) : Type 0 where
+pub record PartPlace (cs : List (List Known)) (n q r : ℕ) : Type 0 where
   pub chunk : List Known
   pub is : slice_get cs q ≡ Some chunk
   pub inside : q < length cs
@@ -38,7 +38,7 @@ head_full c [] n i l w = omega (arith, length-append c [])
 head_full c (d ∷ ds) n i l w = i
 
 pub place_at : (cs : List (List Known)) (n q r : ℕ) → n ≡ q * 64 + r → r < 64 → AreChunks cs → n < length (whole cs)
-    → Place cs n q r
+    → PartPlace cs n q r
 place_at [] n q r e l a w = absurd (omega arith)
 place_at (c ∷ cs) n zero r e l a w =
     let f : n ≡ r = omega arith in
@@ -65,7 +65,8 @@ place_at (c ∷ cs) n (suc q) r e l a w =
       with_other = λ x. set_right c (whole cs) n (q * 64 + r) x f ∙ ap (λ zs. c ++ zs) (p.with_other x);
     }
 
-pub place_of : (cs : List (List Known)) (n : ℕ) → AreChunks cs → n < length (whole cs) → Place cs n (n / 64) (n % 64)
+pub place_of : (cs : List (List Known)) (n : ℕ) → AreChunks cs → n < length (whole cs)
+    → PartPlace cs n (n / 64) (n % 64)
 place_of cs n a w = place_at cs n (n / 64) (n % 64) (omega arith) (omega arith) a w
 
 pub alike_refl : (cs : List (List Known)) → SameLengths cs cs
@@ -140,7 +141,8 @@ whole_more [] c = append-nil c
 whole_more (d ∷ ds) c = ap (λ ys. d ++ ys) (whole_more ds c) ∙ sym (append_assoc d (whole ds) c)
 
 -- what is read in a part
-pub place_read : (cs : List (List Known)) (n q r : ℕ) (p : Place cs n q r) (x : List Known) → x ≡ slice_index_or cs q x
+pub place_read : (cs : List (List Known)) (n q r : ℕ) (p : PartPlace cs n q r) (x : List Known)
+    → x ≡ slice_index_or cs q x
     → p.chunk ≡ x
 place_read cs n q r p x e =
     let f : slice_get cs q ≡ Some x = slice_get_read cs (length cs) q x refl p.inside e in

@@ -10,8 +10,8 @@ use Rattle.iloperators.specs.declared.operator.Operator.{Operator}
 use Rattle.ilranges.specs.declared.entry.Entry.{Entry}
 use Rattle.ilranges.specs.declared.known.Known.{Known}
 use Rattle.ilranges.specs.declared.known.Known.TheVariants as knowns
-use Rattle.ilranges.specs.declared.mark.Mark.{Mark}
-use Rattle.ilranges.specs.declared.mark.Mark.TheVariants.{Copy, Test}
+use Rattle.ilranges.specs.declared.mark.ResultMark.{ResultMark}
+use Rattle.ilranges.specs.declared.mark.ResultMark.TheVariants.{Copy, Test}
 use Rattle.ilranges.specs.Entries.{IsInto}
 use Rattle.ilranges.specs.Knowns.{IsKnownWithin}
 use Rattle.ilranges.specs.Marks.{IsMarkInto}
@@ -112,14 +112,14 @@ tested_wider entry wider slot comparison outcome limit (Some (knowns.Int r)) (So
       nesting = i.nesting;
     })
 
-same_mark : (entry wider : Entry) (outcome : Bool) (mark : Mark) (way other : Option Entry) → IsInto entry wider
+same_mark : (entry wider : Entry) (outcome : Bool) (mark : ResultMark) (way other : Option Entry) → IsInto entry wider
     → IsRefined entry outcome (Some mark) way → IsRefined wider outcome (Some mark) other → IsWayInto way other
 same_mark entry wider outcome (Copy slot) way other i h k = same_way entry wider way other i h k
 same_mark entry wider outcome (Test slot comparison limit) way other i h k =
     tested_wider entry wider slot comparison outcome limit (slice_get entry.slots slot) (slice_get wider.slots slot)
     way other i (slot_within entry.slots wider.slots slot i.slots) h k
 
-no_mark : (entry wider : Entry) (outcome : Bool) (mark : Option Mark) (way : Option Entry) → IsInto entry wider
+no_mark : (entry wider : Entry) (outcome : Bool) (mark : Option ResultMark) (way : Option Entry) → IsInto entry wider
     → IsRefined entry outcome mark way → IsWayInto way (Some wider)
 no_mark entry wider outcome None way i h = same_way entry wider way (Some wider) i h refl
 no_mark entry wider outcome (Some (Copy slot)) way i h = same_way entry wider way (Some wider) i h refl
@@ -127,7 +127,8 @@ no_mark entry wider outcome (Some (Test slot comparison limit)) way i h =
     tested_within entry wider slot comparison outcome limit (slice_get entry.slots slot) way i refl h
 
 -- refined by a mark, against the same mark or none
-pub refined_into : (entry wider : Entry) (outcome : Bool) (mark wider_mark : Option Mark) (way other : Option Entry)
+pub refined_into : (entry wider : Entry) (outcome : Bool) (mark wider_mark : Option ResultMark)
+    (way other : Option Entry)
     → IsInto entry wider → IsMarkInto mark wider_mark → IsRefined entry outcome mark way
     → IsRefined wider outcome wider_mark other → IsWayInto way other
 refined_into entry wider outcome mark None way other i m h k =
@@ -135,4 +136,4 @@ refined_into entry wider outcome mark None way other i m h k =
 refined_into entry wider outcome None (Some wider_mark) way other i m h k = absurd m
 refined_into entry wider outcome (Some mark) (Some wider_mark) way other i m h k =
     same_mark entry wider outcome mark way other i h
-    (subst (λ (x : Mark). IsRefined wider outcome (Some x) other) (sym m) k)
+    (subst (λ (x : ResultMark). IsRefined wider outcome (Some x) other) (sym m) k)

@@ -16,9 +16,9 @@ use Rattle.iloperators.specs.declared.condition.Condition.{Condition}
 use Rattle.iloperators.specs.declared.condition.Condition.TheVariants.{Always, IfTrue, IfFalse}
 use Rattle.iloperators.specs.declared.function.Function.{Function}
 use Rattle.iloperators.specs.declared.operator.Operator.{Operator}
-use Rattle.ilcode.specs.declared.instruction.Instruction.{Instruction}
-use Rattle.ilcode.specs.declared.instruction.Instruction.TheVariants as words
-use Rattle.ilcode.specs.declared.instruction.Variable.TheVariants as variables
+use Rattle.ilcode.specs.declared.word.Word.{Word}
+use Rattle.ilcode.specs.declared.word.Word.TheVariants as words
+use Rattle.ilcode.specs.declared.word.Target.TheVariants as variables
 use Rattle.ilcode.specs.Listings.{Listing}
 use Rattle.ilcode.specs.Steps.{is_target}
 use Rattle.ilranges.specs.declared.cause.Cause.{Cause}
@@ -27,7 +27,7 @@ use Rattle.ilranges.specs.declared.entry.Entry.{Entry}
 use Rattle.ilranges.specs.declared.known.Known.{Known}
 use Rattle.ilranges.specs.declared.known.Known.TheVariants as knowns
 use Rattle.ilranges.specs.declared.nesting.KnownOpened.{KnownOpened}
-use Rattle.ilblocks.specs.declared.kind.Kind.{Kind}
+use Rattle.ilblocks.specs.declared.kind.BlockKind.{BlockKind}
 use Rattle.ilranges.specs.Entries.{known_of, type_of_variable, may_write, IsResultInto, IsOpenedInto, IsInto}
 use Rattle.ilranges.specs.Knowns.{IsKnown, IsKnownWithin}
 use Rattle.ilranges.specs.Refusals as refusals
@@ -122,7 +122,7 @@ pass_kept (Some known) (Some wider) type writable stored w t g causes.BadSlot (i
 pass_kept (Some known) (Some wider) type writable stored w t g _ a = a
 
 -- whether an instance is there does not depend on what is known
-call_kept : (kind : Option Kind) → IsSome kind → (cause : Cause) → ¬ refusals.ArisesAtCall kind cause
+call_kept : (kind : Option BlockKind) → IsSome kind → (cause : Cause) → ¬ refusals.ArisesAtCall kind cause
 call_kept None s cause a = let k : ⊥ = cc in k
 call_kept (Some kind) s causes.BadSlot a = let k : ⊥ = cc in k
 call_kept (Some kind) s _ a = a
@@ -191,7 +191,7 @@ close_kept wider after (x ∷ xs) (y ∷ ys) result n w g cause a =
 
 -- ---- words
 
-kept_before : (code : Listing) (place : ℕ) (entry wider : Entry) (word : Instruction) (after : Entry)
+kept_before : (code : Listing) (place : ℕ) (entry wider : Entry) (word : Word) (after : Entry)
     → IsInto entry wider → rules.IsEntryAfter code wider word after → (cause : Cause)
     → ¬ refusals.ArisesBeforeNesting code place entry word cause
 kept_before code place entry wider (words.Load negated operand) after i g cause a =
@@ -270,13 +270,13 @@ closed_kept code place met wider_met m (inl s) = inl s
 closed_kept code place met wider_met m (inr (inl e)) = inr (inl e)
 closed_kept code place met wider_met m (inr (inr j)) = inr (inr (m j))
 
-has_to_close : (code : Listing) (place : ℕ) (met wider_met : Bool) (word : Instruction)
+has_to_close : (code : Listing) (place : ℕ) (met wider_met : Bool) (word : Word)
     → (IsTrue met → IsTrue wider_met) → refusals.HasToClose code place met word
     → refusals.HasToClose code place wider_met word
 has_to_close code place met wider_met (words.Jump condition target) m h = tt
 has_to_close code place met wider_met word m h = closed_kept code (place + 1) met wider_met m h
 
-stays_open : (code : Listing) (place : ℕ) (met wider_met : Bool) (word : Instruction) (count : ℕ)
+stays_open : (code : Listing) (place : ℕ) (met wider_met : Bool) (word : Word) (count : ℕ)
     → (IsTrue met → IsTrue wider_met) → refusals.StaysOpen code place met word count
     → refusals.StaysOpen code place wider_met word count
 stays_open code place met wider_met word count m (inl h) =
@@ -284,7 +284,7 @@ stays_open code place met wider_met word count m (inl h) =
 stays_open code place met wider_met word count m (inr h) = inr h
 
 -- as many parentheses are open
-kept_open : (code : Listing) (place : ℕ) (met wider_met : Bool) (entry wider : Entry) (word : Instruction)
+kept_open : (code : Listing) (place : ℕ) (met wider_met : Bool) (entry wider : Entry) (word : Word)
     → IsInto entry wider → (IsTrue met → IsTrue wider_met)
     → refusals.ArisesAtWord code place met entry word causes.OpenNesting
     → refusals.ArisesAtWord code place wider_met wider word causes.OpenNesting
@@ -293,7 +293,7 @@ kept_open code place met wider_met entry wider word i m a =
     (sym (AllZip-long IsOpenedInto entry.nesting wider.nesting i.nesting))
     (stays_open code place met wider_met word _ m a)
 
-pub keeps_refusals : (word : Instruction) → KeepsWordRefusals word
+pub keeps_refusals : (word : Word) → KeepsWordRefusals word
 keeps_refusals word code place met wider_met entry wider wider_ways causes.OpenNesting i m a r =
     r.lawful causes.OpenNesting (kept_open code place met wider_met entry wider word i m a)
 keeps_refusals (words.Jump condition target) code place met wider_met entry wider wider_ways cause i m a r =

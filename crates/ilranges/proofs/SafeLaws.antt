@@ -9,8 +9,8 @@ use Rattle.iloperators.specs.declared.condition.Condition.{Condition}
 use Rattle.iloperators.specs.declared.condition.Condition.TheVariants.{Always, IfTrue, IfFalse}
 use Rattle.iloperators.specs.declared.operator.Operator.{Operator}
 use Rattle.ilcode.specs.declared.nesting.Opened.{Opened}
-use Rattle.ilcode.specs.declared.instruction.Instruction.{Instruction}
-use Rattle.ilcode.specs.declared.instruction.Instruction.TheVariants as words
+use Rattle.ilcode.specs.declared.word.Word.{Word}
+use Rattle.ilcode.specs.declared.word.Word.TheVariants as words
 use Rattle.ilcode.specs.Listings.{Listing}
 use Rattle.ilcode.specs.Paths.{LeadsTo}
 use Rattle.ilcode.specs.Steps.{Configuration, is_start, if_closed, entered, step_by}
@@ -18,8 +18,8 @@ use Rattle.ilranges.specs.declared.cause.Cause.TheVariants as causes
 use Rattle.ilranges.specs.declared.entry.Entry.{Entry}
 use Rattle.ilranges.specs.declared.known.Known.{Known}
 use Rattle.ilranges.specs.declared.known.Known.TheVariants as knowns
-use Rattle.ilranges.specs.declared.mark.Mark.{Mark}
-use Rattle.ilranges.specs.declared.mark.Mark.TheVariants.{Copy, Test}
+use Rattle.ilranges.specs.declared.mark.ResultMark.{ResultMark}
+use Rattle.ilranges.specs.declared.mark.ResultMark.TheVariants.{Copy, Test}
 use Rattle.ilranges.specs.declared.nesting.KnownOpened.{KnownOpened}
 use Rattle.ilranges.specs.Entries.{arriving}
 use Rattle.ilranges.specs.Fits.{IsOpenedKnown, Fits}
@@ -31,7 +31,7 @@ use Rattle.ilranges.proofs.SoundLaws.{sound}
 
 -- ---- at the end of a program nothing is open
 
-refined_nesting : (entry after : Entry) (outcome : Bool) (mark : Option Mark) (way : Option Entry)
+refined_nesting : (entry after : Entry) (outcome : Bool) (mark : Option ResultMark) (way : Option Entry)
     → IsRefined entry outcome mark way → way ≡ Some after → after.nesting ≡ entry.nesting
 refined_nesting entry after outcome None way h e =
     let p : after ≡ entry = cc in ap (λ (x : Entry). x.nesting) p
@@ -68,7 +68,7 @@ on_a_way target place to ways after (inl w) = inl w.1
 on_a_way target place to ways after (inr w) = inr w.1
 
 -- how many are open on a way
-way_count : (code : Listing) (entry after : Entry) (place to : ℕ) (word : Instruction) (ways : Ways)
+way_count : (code : Listing) (entry after : Entry) (place to : ℕ) (word : Word) (ways : Ways)
     → AreWaysOf code entry word ways → IsWay word place ways to after
     → length after.nesting ≡ open_after word (length entry.nesting)
 way_count code entry after place to (words.Jump condition target) ways h w =
@@ -80,7 +80,7 @@ way_count code entry after place to word ways h w =
     let p : after ≡ h.after = cc in
     after_count code entry word after (subst (IsEntryAfter code entry word) (sym p) h.leaves)
 
-has_to_close : (code : Listing) (place to : ℕ) (met : Bool) (word : Instruction) (ways : Ways) (after : Entry)
+has_to_close : (code : Listing) (place to : ℕ) (met : Bool) (word : Word) (ways : Ways) (after : Entry)
     → IsWay word place ways to after → IsTrue (is_start code to) ⊎ (to ≡ length code.instructions)
     → HasToClose code place met word
 has_to_close code place to met (words.Jump condition target) ways after w ends = tt
@@ -89,7 +89,7 @@ has_to_close code place to met word ways after w (inl s) =
 has_to_close code place to met word ways after w (inr e) = inr (inl (sym w.0 ∙ e))
 
 closed_at_end : (code : Listing) (met : Bool) (entry after : Entry) (ways : Ways) (c to : Configuration)
-    (word : Instruction) → IsRule code c.place met entry word ways → IsWay word c.place ways to.place after
+    (word : Word) → IsRule code c.place met entry word ways → IsWay word c.place ways to.place after
     → Fits code after to → IsTrue (is_start code to.place) ⊎ (to.place ≡ length code.instructions)
     → to.nesting ≡ []
 closed_at_end code met entry after ways c to word rule way fits ends =
@@ -137,7 +137,7 @@ enters code c after h f =
     enters_by code c after (is_start code c.place) (c.place == length code.instructions) (λ s. h (inl s))
     (λ e. h (inr (grind (arith, nat_tests)))) f
 
-pub safe : (word : Instruction) → IsSafeAt word
+pub safe : (word : Word) → IsSafeAt word
 safe word code met entry ways c le w rule f =
     let g = sound word code met entry ways c le rule f in
     let e = enters code g.to g.after (closed_at_end code met entry g.after ways c g.to word rule g.way g.fits)

@@ -11,14 +11,14 @@ use Rattle.iltypes.specs.declared.value.Value.{Value}
 use Rattle.iloperators.specs.declared.operator.Operator.{Operator}
 use Rattle.iloperators.specs.Operators.{both}
 use Rattle.ilcode.specs.declared.nesting.Opened.{Opened}
-use Rattle.ilcode.specs.declared.instruction.Instruction.{Instruction}
-use Rattle.ilcode.specs.declared.instruction.Instruction.TheVariants as words
+use Rattle.ilcode.specs.declared.word.Word.{Word}
+use Rattle.ilcode.specs.declared.word.Word.TheVariants as words
 use Rattle.ilcode.specs.Listings.{Listing}
 use Rattle.ilcode.specs.Steps.{Configuration, at, opened, value_of, with_result, opens, closes, effect, is_target}
 use Rattle.ilranges.specs.declared.cause.Cause.TheVariants as causes
 use Rattle.ilranges.specs.declared.entry.Entry.{Entry}
 use Rattle.ilranges.specs.declared.known.Known.{Known}
-use Rattle.ilranges.specs.declared.mark.Mark.{Mark}
+use Rattle.ilranges.specs.declared.mark.ResultMark.{ResultMark}
 use Rattle.ilranges.specs.declared.nesting.KnownOpened.{KnownOpened}
 use Rattle.ilranges.specs.Entries.{known_of}
 use Rattle.ilranges.specs.Fits.{IsResultKnown, IsOpenedKnown, Fits}
@@ -36,12 +36,12 @@ use Rattle.ilranges.proofs.StoreLaws.{Leaves, writes, passes, calls_by, sets_all
 -- ---- words that leave a current result
 
 -- what the mark says of a value that is given
-abbrev IsMarkedSo : List Value → Option Value → (Known → Option Mark) → Type 0
+abbrev IsMarkedSo : List Value → Option Value → (Known → Option ResultMark) → Type 0
 IsMarkedSo slots value mark_of =
     (known : Known) (v : Value) → value ≡ Some v → IsKnown v known → IsMarked slots (Some v) (mark_of known)
 
 gives : (code : Listing) (entry after : Entry) (c : Configuration) (nesting : List Opened)
-    (waits : List KnownOpened) (mark_of : Known → Option Mark) (IsGiven : Known → Type 0) (value : Option Value)
+    (waits : List KnownOpened) (mark_of : Known → Option ResultMark) (IsGiven : Known → Type 0) (value : Option Value)
     → Fits code entry c → AllZip IsOpenedKnown nesting waits → ((known : Known) → IsGiven known → Has value known)
     → IsMarkedSo c.store.slots value mark_of → Gives entry waits mark_of IsGiven after
     → Leaves code c (with_result c nesting value) after
@@ -97,7 +97,7 @@ closes_by code entry after c (o ∷ os) (x ∷ xs) f n h =
 
 -- ---- each word
 
-leaves : (code : Listing) (entry after : Entry) (c : Configuration) (word : Instruction) → 1 ≤ code.buses
+leaves : (code : Listing) (entry after : Entry) (c : Configuration) (word : Word) → 1 ≤ code.buses
     → ¬ (most_nesting < open_after word (length entry.nesting)) → IsEntryAfter code entry word after
     → Fits code entry c → Leaves code c (effect code c word) after
 leaves code entry after c (words.Load negated operand) le n h f =
@@ -142,7 +142,7 @@ lawful_target : (b : Bool) → ¬ ¬ IsTrue b → b ≡ true
 lawful_target true n = refl
 lawful_target false n = absurd (n (λ h. let k : ⊥ = cc in k))
 
-pub sound : (word : Instruction) → IsSoundAt word
+pub sound : (word : Word) → IsSoundAt word
 sound (words.Jump condition target) code met entry ways c le rule f =
     jump_goes code c entry condition target ways f
     (lawful_target (is_target code c.place target) (rule.lawful causes.BadJump))

@@ -4,7 +4,7 @@ use Rattle.std.specs.Prelude.{IsSome, option_and_then, slice_get}
 use Rattle.iltypes.specs.declared.value.IlType.{IlType}
 use Rattle.iltypes.specs.declared.value.Value.{Value}
 use Rattle.iltypes.specs.Values.{IsOf}
-use Rattle.ilblocks.specs.declared.kind.Kind.{Kind}
+use Rattle.ilblocks.specs.declared.kind.BlockKind.{BlockKind}
 use Rattle.ilblocks.specs.Ports.{port_type, input_type}
 use Rattle.ilblocks.specs.Stores.{Shape, Store, IsStoreOf, type_of_port, type_of_input, with_port, called}
 use Rattle.ilblocks.proofs.Inputs.{input_is_port}
@@ -21,7 +21,7 @@ input_typed : (shape : Shape) (block port : ℕ) (type : IlType) → IsSome (typ
 input_typed shape block port type w e =
     let i = there (type_of_input shape block port) w in
     let k = and_then_made (λ kind. input_type shape.buses kind port) (slice_get shape.kinds block) i.0 i.1 in
-    let p = ap (option_and_then (λ (kind : Kind). port_type shape.buses kind port)) k.is
+    let p = ap (option_and_then (λ (kind : BlockKind). port_type shape.buses kind port)) k.is
     ∙ input_is_port shape.buses k.of port i.0 k.makes in
     let q : i.0 ≡ type = cc in
     i.1 ∙ ap Some q

@@ -13,16 +13,16 @@ use Rattle.ilblocks.specs.Stores.{type_of_port, called}
 use Rattle.ilblocks.proofs.Blocks.{set_typed}
 use Rattle.ilblocks.proofs.Stores.{is_with_slot}
 use Rattle.iloperators.specs.Functions.{modified}
-use Rattle.ilcode.specs.declared.instruction.Operand.{Operand}
-use Rattle.ilcode.specs.declared.instruction.Variable.{Variable}
-use Rattle.ilcode.specs.declared.instruction.Variable.TheVariants as variables
-use Rattle.ilcode.specs.declared.instruction.Instruction.TheVariants as words
+use Rattle.ilcode.specs.declared.word.WordOperand.{WordOperand}
+use Rattle.ilcode.specs.declared.word.Target.{Target}
+use Rattle.ilcode.specs.declared.word.Target.TheVariants as variables
+use Rattle.ilcode.specs.declared.word.Word.TheVariants as words
 use Rattle.ilcode.specs.Listings.{Listing, shape_of}
 use Rattle.ilcode.specs.Steps.{Configuration, at, value_of, stored_at, with_store, sets, calls, effect}
 use Rattle.ilranges.specs.declared.entry.Entry.{Entry}
 use Rattle.ilranges.specs.declared.known.Known.{Known}
 use Rattle.ilranges.specs.declared.known.Known.TheVariants as knowns
-use Rattle.ilranges.specs.declared.mark.Mark.{Mark}
+use Rattle.ilranges.specs.declared.mark.ResultMark.{ResultMark}
 use Rattle.ilranges.specs.Entries.{known_of, type_of_variable, may_write}
 use Rattle.ilranges.specs.Fits.{IsResultKnown, Fits}
 use Rattle.ilranges.specs.Knowns.{IsKnown}
@@ -79,7 +79,7 @@ slot_leaves code entry after c slot value type slots f e o k m p =
 
 -- a value of its type is stored to an input, of which no more is known then
 port_leaves : (code : Listing) (entry after : Entry) (c : Configuration) (block port : ℕ) (value : Value)
-    (type : IlType) (mark : Option Mark) → Fits code entry c → IsTrue (may_write code (variables.Port port block))
+    (type : IlType) (mark : Option ResultMark) → Fits code entry c → IsTrue (may_write code (variables.Port port block))
     → type_of_port (shape_of code) block port ≡ Some type → IsOf value type → IsMarked c.store.slots c.result mark
     → after ≡ record entry { mark = mark }
     → Leaves code c (with_store c (stored_at code c.store (variables.Port port block) value)) after
@@ -100,7 +100,7 @@ port_leaves code entry after c block port value type mark f w e o m p =
     }
 
 -- a store of a value that is known so and of the variable's type
-record Stores (code : Listing) (variable : Variable) (value : Option Value) (known : Known) : Type 0 where
+record Stores (code : Listing) (variable : Target) (value : Option Value) (known : Known) : Type 0 where
   pub v : Value
   pub is : value ≡ Some v
   pub lies : IsKnown v known
@@ -108,7 +108,7 @@ record Stores (code : Listing) (variable : Variable) (value : Option Value) (kno
   pub declared : type_of_variable code variable ≡ Some type
   pub of : IsOf v type
 
-stored_has : (code : Listing) (variable : Variable) (negated : Bool) (x : Option Value) (result : Option Known)
+stored_has : (code : Listing) (variable : Target) (negated : Bool) (x : Option Value) (result : Option Known)
     (type : Option IlType) (known : Known) → type_of_variable code variable ≡ type → IsResultKnown x result
     → IsStored negated result type known → Stores code variable (option_and_then (modified negated) x) known
 stored_has code variable negated x None type known e p h = absurd h
@@ -118,7 +118,7 @@ stored_has code variable negated (Some x) (Some result) (Some type) known e p h 
     let m = modified_has negated x result known p h.0 in
     record { v = m.v; is = m.is; lies = m.lies; type = type; declared = e; of = h.1 m.v m.lies }
 
-writes_value : (code : Listing) (entry after : Entry) (c : Configuration) (variable : Variable) (negated : Bool)
+writes_value : (code : Listing) (entry after : Entry) (c : Configuration) (variable : Target) (negated : Bool)
     (value : Value) (type : IlType) (known : Known) → Fits code entry c → IsTrue (may_write code variable)
     → type_of_variable code variable ≡ Some type → IsOf value type → IsKnown value known
     → option_and_then (modified negated) c.result ≡ Some value → after ≡ with_stored entry variable known
@@ -131,7 +131,7 @@ writes_value code entry after c (variables.Port port block) negated value type k
     port_leaves code entry after c block port value type entry.mark f w e o f.mark p
 
 -- where the value is there
-on_value : (code : Listing) (after : Entry) (c : Configuration) (variable : Variable) (value : Option Value)
+on_value : (code : Listing) (after : Entry) (c : Configuration) (variable : Target) (value : Option Value)
     (v : Value) → value ≡ Some v → Leaves code c (with_store c (stored_at code c.store variable v)) after
     → Leaves code c (with_store c (option_and_then (stored_at code c.store variable) value)) after
 on_value code after c variable value v e l =
@@ -139,7 +139,7 @@ on_value code after c variable value v e l =
     (λ (x : Option Value). Leaves code c (with_store c (option_and_then (stored_at code c.store variable) x)) after)
     (sym e) l
 
-pub writes : (code : Listing) (entry after : Entry) (c : Configuration) (variable : Variable) (negated : Bool)
+pub writes : (code : Listing) (entry after : Entry) (c : Configuration) (variable : Target) (negated : Bool)
     → Fits code entry c → IsTrue (may_write code variable)
     → Writes entry variable (IsStored negated entry.result (type_of_variable code variable)) after
     → Leaves code c (effect code c (words.Store negated variable)) after
@@ -155,7 +155,7 @@ unmodified : (x : Option Value) → option_and_then (modified false) x ≡ x
 unmodified None = refl
 unmodified (Some x) = refl
 
-pub passes : (code : Listing) (entry after : Entry) (c : Configuration) (operand : Operand) (block port : ℕ)
+pub passes : (code : Listing) (entry after : Entry) (c : Configuration) (operand : WordOperand) (block port : ℕ)
     → Fits code entry c → IsTrue (may_write code (variables.Port port block))
     → Passes entry (IsStored false (known_of code entry operand) (type_of_port (shape_of code) block port)) after
     → Leaves code c (effect code c (words.Pass port block operand)) after
@@ -224,7 +224,7 @@ truth_known (v ∷ vs) (t ∷ ts) (k ∷ ks) zero b a e h =
     (other_truth v k b (subst (IsOf v) q a.0) h.0, h.1)
 truth_known (v ∷ vs) (t ∷ ts) (k ∷ ks) (suc slot) b a e h = (h.0, truth_known vs ts ks slot b a.1 e h.1)
 
-sets_by : (code : Listing) (entry after : Entry) (c : Configuration) (variable : Variable) (truth b outcome : Bool)
+sets_by : (code : Listing) (entry after : Entry) (c : Configuration) (variable : Target) (truth b outcome : Bool)
     → Fits code entry c → IsTrue (may_write code variable) → c.result ≡ Some (values.Bool outcome)
     → type_of_variable code variable ≡ Some types.Bool → after ≡ entry
     → Leaves code c (sets code c variable truth (Some (values.Bool b))) after
@@ -242,7 +242,7 @@ sets_by code entry after c (variables.Slot slot) truth true outcome f w r e p =
 sets_by code entry after c (variables.Port port block) truth true outcome f w r e p =
     port_leaves code entry after c block port (values.Bool truth) types.Bool entry.mark f w e tt f.mark p
 
-pub sets_all : (code : Listing) (entry after : Entry) (c : Configuration) (variable : Variable) (truth : Bool)
+pub sets_all : (code : Listing) (entry after : Entry) (c : Configuration) (variable : Target) (truth : Bool)
     → Fits code entry c → IsTrue (may_write code variable)
     → MaySet entry.result (type_of_variable code variable) → after ≡ entry
     → Leaves code c (sets code c variable truth c.result) after

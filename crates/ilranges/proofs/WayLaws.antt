@@ -2,8 +2,8 @@
 use Rattle.std.proofs.Common.{◌≡◌, Option, None, true, false, sym, subst}
 use Rattle.iloperators.specs.declared.condition.Condition.{Condition}
 use Rattle.iloperators.specs.declared.condition.Condition.TheVariants.{Always, IfTrue, IfFalse}
-use Rattle.ilcode.specs.declared.instruction.Instruction.TheVariants as words
-use Rattle.ilcode.specs.declared.instruction.Instruction.{Instruction}
+use Rattle.ilcode.specs.declared.word.Word.TheVariants as words
+use Rattle.ilcode.specs.declared.word.Word.{Word}
 use Rattle.ilranges.specs.declared.entry.Entry.{Entry}
 use Rattle.ilranges.specs.Entries.{IsInto}
 use Rattle.ilranges.specs.Rules.{Ways, AreJumped, AreOnward}
@@ -39,7 +39,7 @@ jumped_into IfFalse entry wider ways wider_ways i h k = (
   refined_into entry wider false entry.mark wider.mark ways.target wider_ways.target i i.mark h.0 k.0,
 )
 
-pub keeps_order : (word : Instruction) → KeepsEntryOrder word
+pub keeps_order : (word : Word) → KeepsEntryOrder word
 keeps_order (words.Jump condition target) code entry wider ways wider_ways i h k =
     jumped_into condition entry wider ways wider_ways i h k
 keeps_order word code entry wider ways wider_ways i h k =

@@ -4,19 +4,19 @@ use Rattle.ilranges.specs.declared.cause.Cause.{Cause}
 use Rattle.ilranges.specs.declared.cause.Cause.TheVariants as causes
 
 -- the numbers that are printed (profile)
-abbrev pub number_of : Cause → ℕ
-number_of causes.WrongType = 2
-number_of causes.NoResult = 3
-number_of causes.EmptyNesting = 4
-number_of causes.OpenNesting = 5
-number_of causes.MayBeZero = 6
-number_of (causes.OutOfRange found allowed) = 7
-number_of causes.TooBig = 8
-number_of causes.BadJump = 9
-number_of causes.TooManyRequests = 10
-number_of causes.BadSlot = 11
+abbrev pub refusal_number : Cause → ℕ
+refusal_number causes.WrongType = 2
+refusal_number causes.NoResult = 3
+refusal_number causes.EmptyNesting = 4
+refusal_number causes.OpenNesting = 5
+refusal_number causes.MayBeZero = 6
+refusal_number (causes.OutOfRange found allowed) = 7
+refusal_number causes.TooBig = 8
+refusal_number causes.BadJump = 9
+refusal_number causes.TooManyRequests = 10
+refusal_number causes.BadSlot = 11
 
 -- of the causes that arise, this one has the least number
 pub record IsLeastCause (Arises : Cause → Type 0) (cause : Cause) : Type 0 where
   pub arises : Arises cause
-  pub least : (other : Cause) → Arises other → number_of cause ≤ number_of other
+  pub least : (other : Cause) → Arises other → refusal_number cause ≤ refusal_number other

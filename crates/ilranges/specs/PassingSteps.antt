@@ -14,5 +14,5 @@ abbrev pub IsLeastOf : (ℤ → Type 0) → Option Range → Type 0
 IsLeastOf IsOfSet (Some range) = IsLeast IsOfSet range
 IsLeastOf IsOfSet None = (number : ℤ) → ¬ IsOfSet number
 
-abbrev pub IsKept : (ℤ → Type 0) → Range → Option Range → Type 0
-IsKept Test range kept = IsLeastOf (IsTested Test range) kept
+abbrev pub IsLeastTested : (ℤ → Type 0) → Range → Option Range → Type 0
+IsLeastTested Test range kept = IsLeastOf (IsTested Test range) kept

@@ -6,16 +6,16 @@ use Rattle.iltypes.specs.declared.range.Range.{Range}
 use Rattle.iltypes.specs.declared.value.IlType.{IlType}
 use Rattle.iltypes.specs.declared.value.Value.{Value}
 use Rattle.iltypes.specs.declared.value.Value.TheVariants as values
-use Rattle.ilblocks.specs.declared.kind.Kind.{Kind}
+use Rattle.ilblocks.specs.declared.kind.BlockKind.{BlockKind}
 use Rattle.iloperators.specs.declared.condition.Condition.{Condition}
 use Rattle.iloperators.specs.declared.condition.Condition.TheVariants.{Always}
 use Rattle.iloperators.specs.declared.function.Function.{Function}
 use Rattle.iloperators.specs.declared.operator.Operator.{Operator}
 use Rattle.iloperators.specs.Functions.{modified}
 use Rattle.iloperators.specs.Operators.{value_of_operator}
-use Rattle.ilcode.specs.declared.instruction.Variable.TheVariants as variables
-use Rattle.ilcode.specs.declared.instruction.Instruction.{Instruction}
-use Rattle.ilcode.specs.declared.instruction.Instruction.TheVariants as words
+use Rattle.ilcode.specs.declared.word.Target.TheVariants as variables
+use Rattle.ilcode.specs.declared.word.Word.{Word}
+use Rattle.ilcode.specs.declared.word.Word.TheVariants as words
 use Rattle.ilcode.specs.Listings.{Listing}
 use Rattle.ilcode.specs.Steps.{is_start, is_target}
 use Rattle.ilranges.specs.declared.cause.Cause.{Cause}
@@ -117,7 +117,7 @@ ArisesAtPass operand type writable causes.BadSlot = IsNone operand ⊎ IsNotWrit
 ArisesAtPass operand type writable _ = ⊥
 
 -- a call, of an instance of this kind
-abbrev pub ArisesAtCall : Option Kind → Cause → Type 0
+abbrev pub ArisesAtCall : Option BlockKind → Cause → Type 0
 ArisesAtCall kind causes.BadSlot = IsNone kind
 ArisesAtCall kind _ = ⊥
 
@@ -152,7 +152,7 @@ ArisesAtJump condition lawful result causes.BadJump = ¬ IsTrue lawful
 ArisesAtJump condition lawful result cause = ArisesAtCondition condition result cause
 
 -- the word's own causes
-abbrev pub ArisesBeforeNesting : Listing → ℕ → Entry → Instruction → Cause → Type 0
+abbrev pub ArisesBeforeNesting : Listing → ℕ → Entry → Word → Cause → Type 0
 ArisesBeforeNesting code place entry (words.Load negated operand) cause =
     ArisesAtLoad negated (known_of code entry operand) cause
 ArisesBeforeNesting code place entry (words.Apply operator operand) cause =
@@ -176,7 +176,7 @@ ArisesBeforeNesting code place entry (words.Jump condition target) cause =
 -- ---- parentheses that stay open
 
 -- how many parentheses are open after a word
-abbrev pub open_after : Instruction → ℕ → ℕ
+abbrev pub open_after : Word → ℕ → ℕ
 open_after (words.Open operator) count = count + 1
 open_after words.Close count = count - 1
 open_after _ count = count
@@ -186,19 +186,19 @@ abbrev pub IsClosedAt : Listing → ℕ → Bool → Type 0
 IsClosedAt code place met = IsTrue (is_start code place) ⊎ (place ≡ length code.instructions) ⊎ IsTrue met
 
 -- nothing may be open after the word: where it leads on to such a place, and at a jump
-abbrev pub HasToClose : Listing → ℕ → Bool → Instruction → Type 0
+abbrev pub HasToClose : Listing → ℕ → Bool → Word → Type 0
 HasToClose code place met (words.Jump condition target) = ⊤
 HasToClose code place met word = IsClosedAt code (place + 1) met
 
 -- a parenthesis stays open where nothing may be, or more are opened than there is room for
-abbrev pub StaysOpen : Listing → ℕ → Bool → Instruction → ℕ → Type 0
+abbrev pub StaysOpen : Listing → ℕ → Bool → Word → ℕ → Type 0
 StaysOpen code place met word count = (0 < count) × HasToClose code place met word ⊎ most_nesting < count
 
 -- ---- all causes
 
 -- the cause arises at the word before which this is known, where `met` says whether a jump leads to the next place;
 -- causes arise independently of one another
-abbrev pub ArisesAtWord : Listing → ℕ → Bool → Entry → Instruction → Cause → Type 0
+abbrev pub ArisesAtWord : Listing → ℕ → Bool → Entry → Word → Cause → Type 0
 ArisesAtWord code place met entry word causes.OpenNesting =
     StaysOpen code place met word (open_after word (length entry.nesting))
 ArisesAtWord code place met entry word cause = ArisesBeforeNesting code place entry word cause

@@ -13,17 +13,17 @@ use Rattle.iloperators.specs.declared.condition.Condition.TheVariants.{Always, I
 use Rattle.iloperators.specs.declared.function.Function.{Function}
 use Rattle.iloperators.specs.declared.function.Function.TheVariants as functions
 use Rattle.iloperators.specs.declared.operator.Operator.{Operator}
-use Rattle.ilcode.specs.declared.instruction.Variable.{Variable}
-use Rattle.ilcode.specs.declared.instruction.Variable.TheVariants as variables
-use Rattle.ilcode.specs.declared.instruction.Instruction.{Instruction}
-use Rattle.ilcode.specs.declared.instruction.Instruction.TheVariants as words
+use Rattle.ilcode.specs.declared.word.Target.{Target}
+use Rattle.ilcode.specs.declared.word.Target.TheVariants as variables
+use Rattle.ilcode.specs.declared.word.Word.{Word}
+use Rattle.ilcode.specs.declared.word.Word.TheVariants as words
 use Rattle.ilcode.specs.Listings.{Listing}
 use Rattle.ilranges.specs.declared.cause.Cause.{Cause}
 use Rattle.ilranges.specs.declared.entry.Entry.{Entry}
 use Rattle.ilranges.specs.declared.known.Known.{Known}
 use Rattle.ilranges.specs.declared.known.Known.TheVariants as knowns
-use Rattle.ilranges.specs.declared.mark.Mark.{Mark}
-use Rattle.ilranges.specs.declared.mark.Mark.TheVariants.{Test}
+use Rattle.ilranges.specs.declared.mark.ResultMark.{ResultMark}
+use Rattle.ilranges.specs.declared.mark.ResultMark.TheVariants.{Test}
 use Rattle.ilranges.specs.declared.nesting.KnownOpened.{KnownOpened}
 use Rattle.ilranges.specs.Entries.{known_of, type_of_variable, may_write}
 use Rattle.ilranges.specs.Functions.{IsAfterFunction}
@@ -65,23 +65,24 @@ MaySet (Some knowns.Bool) (Some types.Bool) = ⊤
 MaySet _ _ = ⊥
 
 -- the word leaves a current result with this mark, and these parentheses open
-pub record Gives (entry : Entry) (nesting : List KnownOpened) (mark_of : Known → Option Mark) (IsGiven : Known → Type 0)
+pub record Gives (entry : Entry) (nesting : List KnownOpened) (mark_of : Known → Option ResultMark)
+    (IsGiven : Known → Type 0)
     (after : Entry) : Type 0 where
   pub known : Known
   pub given : IsGiven known
   pub is : after ≡ record { slots = entry.slots; result = Some known; mark = mark_of known; nesting = nesting }
 
 -- no mark, whatever is known
-abbrev pub unmarked : Known → Option Mark
+abbrev pub unmarked : Known → Option ResultMark
 unmarked known = None
 
 -- a slot is known as what was stored from then on, and a port as before
-abbrev pub with_stored : Entry → Variable → Known → Entry
+abbrev pub with_stored : Entry → Target → Known → Entry
 with_stored entry (variables.Slot slot) stored = record entry { slots = slice_set entry.slots slot stored }
 with_stored entry (variables.Port port block) stored = entry
 
 -- the word stores to the variable; the current result and its mark stay
-pub record Writes (entry : Entry) (variable : Variable) (IsWritten : Known → Type 0) (after : Entry) : Type 0 where
+pub record Writes (entry : Entry) (variable : Target) (IsWritten : Known → Type 0) (after : Entry) : Type 0 where
   pub stored : Known
   pub written : IsWritten stored
   pub is : after ≡ with_stored entry variable stored
@@ -115,7 +116,7 @@ Closes entry (innermost ∷ nesting) after =
 
 -- what is known after a word that leads to the next place alone, from its operand and what was known before; S and R
 -- write a truth value where one was, and after a call there is no current result
-abbrev pub IsEntryAfter : Listing → Entry → Instruction → Entry → Type 0
+abbrev pub IsEntryAfter : Listing → Entry → Word → Entry → Type 0
 IsEntryAfter code entry (words.Load negated operand) after =
     Gives entry entry.nesting (mark_of_load negated operand) (IsLoaded negated (known_of code entry operand)) after
 IsEntryAfter code entry (words.Apply operator operand) after =
@@ -148,7 +149,7 @@ pub record Ways : Type 0 where
   pub target : Option Entry
 
 -- the slot holds the least range of the numbers that pass the test, if any does
-pub record IsKept (entry : Entry) (slot : ℕ) (comparison : Operator) (outcome : Bool) (limit : ℤ) (range : Range)
+pub record IsSlotTested (entry : Entry) (slot : ℕ) (comparison : Operator) (outcome : Bool) (limit : ℤ) (range : Range)
     (way : Entry) : Type 0 where
   pub kept : Range
   pub least : IsLeast (IsPassing comparison outcome limit range) kept
@@ -157,13 +158,13 @@ pub record IsKept (entry : Entry) (slot : ℕ) (comparison : Operator) (outcome 
 -- what is known where a slot's number passes a test, of the slot as it was known; nothing where none can
 abbrev pub IsTested : Entry → ℕ → Operator → Bool → ℤ → Option Known → Option Entry → Type 0
 IsTested entry slot comparison outcome limit (Some (knowns.Int range)) (Some way) =
-    IsKept entry slot comparison outcome limit range way
+    IsSlotTested entry slot comparison outcome limit range way
 IsTested entry slot comparison outcome limit (Some (knowns.Int range)) None =
     (number : ℤ) → ¬ IsPassing comparison outcome limit range number
 IsTested entry slot comparison outcome limit _ way = way ≡ Some entry
 
 -- what is known where the current result has this outcome: all that was, and what a test says
-abbrev pub IsRefined : Entry → Bool → Option Mark → Option Entry → Type 0
+abbrev pub IsRefined : Entry → Bool → Option ResultMark → Option Entry → Type 0
 IsRefined entry outcome (Some (Test slot comparison limit)) way =
     IsTested entry slot comparison outcome limit (slice_get entry.slots slot) way
 IsRefined entry outcome _ way = way ≡ Some entry
@@ -183,18 +184,18 @@ pub record AreOnward (IsAfter : Entry → Type 0) (ways : Ways) : Type 0 where
   pub target : ways.target ≡ None
 
 -- what is known on each way from the word
-abbrev pub AreWaysOf : Listing → Entry → Instruction → Ways → Type 0
+abbrev pub AreWaysOf : Listing → Entry → Word → Ways → Type 0
 AreWaysOf code entry (words.Jump condition target) ways = AreJumped condition entry ways
 AreWaysOf code entry word ways = AreOnward (IsEntryAfter code entry word) ways
 
 -- the word at a place leads to another, where this is known
-abbrev pub IsWay : Instruction → ℕ → Ways → ℕ → Entry → Type 0
+abbrev pub IsWay : Word → ℕ → Ways → ℕ → Entry → Type 0
 IsWay (words.Jump condition target) place ways to after =
     (to ≡ target) × (ways.target ≡ Some after) ⊎ (to ≡ place + 1) × (ways.next ≡ Some after)
 IsWay word place ways to after = (to ≡ place + 1) × (ways.next ≡ Some after)
 
 -- no cause arises at the word, and this is known on the ways from it
-pub record IsRule (code : Listing) (place : ℕ) (met : Bool) (entry : Entry) (word : Instruction) (ways : Ways)
+pub record IsRule (code : Listing) (place : ℕ) (met : Bool) (entry : Entry) (word : Word) (ways : Ways)
     : Type 0 where
   pub lawful : (cause : Cause) → ¬ ArisesAtWord code place met entry word cause
   pub leaves : AreWaysOf code entry word ways

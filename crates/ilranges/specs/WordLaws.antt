@@ -2,7 +2,7 @@
 -- after it, and is refused only where who knows less is refused too.
 use Rattle.std.specs.Prelude.{◌≡◌, ℕ, ◌≤◌, Bool, IsTrue, Option, Some, None, slice_get, ⊤}
 use Rattle.ilblocks.specs.Stores.{Store, IsStoreOf}
-use Rattle.ilcode.specs.declared.instruction.Instruction.{Instruction}
+use Rattle.ilcode.specs.declared.word.Word.{Word}
 use Rattle.ilcode.specs.Listings.{Listing, shape_of}
 use Rattle.ilcode.specs.Paths.{LeadsTo}
 use Rattle.ilcode.specs.Steps.{Configuration, effect, step, start}
@@ -15,7 +15,7 @@ use Rattle.ilranges.specs.Refusals.{ArisesAtWord}
 use Rattle.ilranges.specs.Rules.{Ways, AreWaysOf, IsWay, IsRule}
 
 -- the word is defined, and leads to where the rule says what is known
-pub record Goes (code : Listing) (c : Configuration) (word : Instruction) (ways : Ways) : Type 0 where
+pub record Goes (code : Listing) (c : Configuration) (word : Word) (ways : Ways) : Type 0 where
   pub to : Configuration
   pub is : effect code c word ≡ Some to
   pub leads : LeadsTo code word c.place to.place
@@ -25,13 +25,13 @@ pub record Goes (code : Listing) (c : Configuration) (word : Instruction) (ways 
 
 -- from each configuration that is as the entry says, where the word has a rule and there is a bus, as in each lawful
 -- code: on none a block's request would have no bus to go to
-abbrev pub IsSoundAt : Instruction → Type 0
+abbrev pub IsSoundAt : Word → Type 0
 IsSoundAt word =
     (code : Listing) (met : Bool) (entry : Entry) (ways : Ways) (c : Configuration) → 1 ≤ code.buses
     → IsRule code c.place met entry word ways → Fits code entry c → Goes code c word ways
 
 -- the step is defined, and what is known on a way from the word holds where the step leads
-pub record Steps (code : Listing) (c : Configuration) (word : Instruction) (ways : Ways) : Type 0 where
+pub record Steps (code : Listing) (c : Configuration) (word : Word) (ways : Ways) : Type 0 where
   pub to : Configuration
   pub is : step code c ≡ Some to
   pub leads : LeadsTo code word c.place to.place
@@ -39,7 +39,7 @@ pub record Steps (code : Listing) (c : Configuration) (word : Instruction) (ways
   pub way : IsWay word c.place ways to.place after
   pub fits : Fits code (arriving code to.place after) to
 
-abbrev pub IsSafeAt : Instruction → Type 0
+abbrev pub IsSafeAt : Word → Type 0
 IsSafeAt word =
     (code : Listing) (met : Bool) (entry : Entry) (ways : Ways) (c : Configuration) → 1 ≤ code.buses
     → slice_get code.instructions c.place ≡ Some word → IsRule code c.place met entry word ways → Fits code entry c
@@ -63,21 +63,21 @@ IsWayInto (Some way) None = ⊥
 IsWayInto (Some way) (Some wider) = IsInto way wider
 
 -- who knows more before the word knows more on each way from it
-abbrev pub KeepsEntryOrder : Instruction → Type 0
+abbrev pub KeepsEntryOrder : Word → Type 0
 KeepsEntryOrder word =
     (code : Listing) (entry wider : Entry) (ways wider_ways : Ways) → IsInto entry wider
     → AreWaysOf code entry word ways → AreWaysOf code wider word wider_ways
     → IsWayInto ways.next wider_ways.next × IsWayInto ways.target wider_ways.target
 
 -- what is refused where more is known is refused where less is, and where jumps lead that led there before
-abbrev pub KeepsWordRefusals : Instruction → Type 0
+abbrev pub KeepsWordRefusals : Word → Type 0
 KeepsWordRefusals word =
     (code : Listing) (place : ℕ) (met wider_met : Bool) (entry wider : Entry) (wider_ways : Ways) (cause : Cause)
     → IsInto entry wider → (IsTrue met → IsTrue wider_met) → ArisesAtWord code place met entry word cause
     → ¬ IsRule code place wider_met wider word wider_ways
 
 -- the least cause is one
-abbrev pub HasOneCause : Instruction → Type 0
+abbrev pub HasOneCause : Word → Type 0
 HasOneCause word =
     (code : Listing) (place : ℕ) (met : Bool) (entry : Entry) (one other : Cause)
     → IsLeastCause (ArisesAtWord code place met entry word) one

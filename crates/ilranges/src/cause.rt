@@ -36,11 +36,11 @@ pub enum Cause {
 }
 
 impl Cause {
-    ghost use Rattle.ilranges.specs.Causes.{number_of};
+    ghost use Rattle.ilranges.specs.Causes.{refusal_number};
 
     /// The number that is printed: 2 to 11 (profile).
     pub fn number(self) -> u8
-        ensures { result ≡ number_of self }
+        ensures { result ≡ refusal_number self }
     {
         match self {
             Cause::WrongType => 2,

@@ -5,7 +5,7 @@ ghost use Rattle.ilranges.specs.Changes.{changed};
 
 use crate::entry::Entry;
 use crate::known::Known;
-use crate::mark::Mark;
+use crate::mark::ResultMark;
 use crate::nesting::KnownOpened;
 use std::alloc::AllocError;
 
@@ -13,7 +13,7 @@ use std::alloc::AllocError;
 #[derive(Clone, Copy)]
 pub enum Change {
     /// There is a current result, known so, with this mark.
-    Give(Known, Option<Mark>),
+    Give(Known, Option<ResultMark>),
     /// The slot of this number is known so; the current result and its mark stay.
     Write(usize, Known),
     /// Nothing.

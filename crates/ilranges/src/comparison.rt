@@ -3,7 +3,7 @@
 ghost use Rattle.std.specs.Prelude.{◌≡◌, ◌↔◌, ℤ, ◌≤ℤ◌, ◌<ℤ◌, IsNone, IfSome};
 ghost use Rattle.iltypes.specs.Arithmetic.{IsLeast};
 ghost use Rattle.ilranges.specs.Passing.{IsPassing};
-ghost use Rattle.ilranges.specs.PassingSteps.{IsLeastOf, IsKept};
+ghost use Rattle.ilranges.specs.PassingSteps.{IsLeastOf, IsLeastTested};
 
 use iloperators::Operator;
 use iltypes::Range;
@@ -80,7 +80,7 @@ fn pass(range: Range, comparison: Operator, limit: i64, outcome: bool) -> Option
 
 /// The numbers below a limit.
 fn below(range: Range, limit: i64) -> Option<Range>
-    ensures { IsKept (λ z. z <ℤ limit) range result }
+    ensures { IsLeastTested (λ z. z <ℤ limit) range result }
 {
     if limit <= range.lo {
         return None;
@@ -93,7 +93,7 @@ fn below(range: Range, limit: i64) -> Option<Range>
 
 /// The numbers from a limit on.
 fn from(range: Range, limit: i64) -> Option<Range>
-    ensures { IsKept (λ z. limit ≤ℤ z) range result }
+    ensures { IsLeastTested (λ z. limit ≤ℤ z) range result }
 {
     if range.hi < limit {
         return None;
@@ -106,7 +106,7 @@ fn from(range: Range, limit: i64) -> Option<Range>
 
 /// The numbers above a limit.
 fn above(range: Range, limit: i64) -> Option<Range>
-    ensures { IsKept (λ z. limit <ℤ z) range result }
+    ensures { IsLeastTested (λ z. limit <ℤ z) range result }
 {
     if range.hi <= limit {
         return None;
@@ -119,7 +119,7 @@ fn above(range: Range, limit: i64) -> Option<Range>
 
 /// The numbers up to a limit.
 fn up_to(range: Range, limit: i64) -> Option<Range>
-    ensures { IsKept (λ z. z ≤ℤ limit) range result }
+    ensures { IsLeastTested (λ z. z ≤ℤ limit) range result }
 {
     if limit < range.lo {
         return None;
@@ -132,7 +132,7 @@ fn up_to(range: Range, limit: i64) -> Option<Range>
 
 /// The limit alone, where the range holds it.
 fn only(range: Range, limit: i64) -> Option<Range>
-    ensures { IsKept (λ z. z ≡ limit) range result }
+    ensures { IsLeastTested (λ z. z ≡ limit) range result }
 {
     if limit < range.lo || range.hi < limit {
         return None;
@@ -145,7 +145,7 @@ fn only(range: Range, limit: i64) -> Option<Range>
 
 /// The numbers but the limit, which matters where it is an end of the range.
 fn without_end(range: Range, limit: i64) -> Option<Range>
-    ensures { IsKept (λ z. ¬ (z ≡ limit)) range result }
+    ensures { IsLeastTested (λ z. ¬ (z ≡ limit)) range result }
 {
     if limit == range.lo {
         return above(range, limit);

@@ -4,8 +4,8 @@ ghost use Rattle.std.specs.Prelude.{◌≡◌, [], IfOk, OnOk};
 ghost use Rattle.ilranges.specs.JoinSteps.{IsResultMeeting};
 
 use crate::known::Known;
-use crate::mark::Mark;
-use crate::nesting::Nesting;
+use crate::mark::ResultMark;
+use crate::nesting::OpenParentheses;
 use crate::slots::Slots;
 use crate::word::is_start;
 use ilcode::Code;
@@ -19,9 +19,9 @@ pub struct Entry {
     /// What is known of the current result, or `None` where there may be none.
     pub result: Option<Known>,
     /// What the current result says of a slot, where it says something.
-    pub mark: Option<Mark>,
+    pub mark: Option<ResultMark>,
     /// The parentheses that are open.
-    pub nesting: Nesting,
+    pub nesting: OpenParentheses,
 }
 
 impl Entry {
@@ -37,7 +37,7 @@ impl Entry {
             slots: Slots::new(alloc, code.slots())?,
             result: None,
             mark: None,
-            nesting: Nesting::new(alloc),
+            nesting: OpenParentheses::new(alloc),
         })
     }
 

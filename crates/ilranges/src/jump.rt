@@ -13,7 +13,7 @@ use crate::change::{Change, Changes};
 use crate::comparison::passing;
 use crate::entry::Entry;
 use crate::known::Known;
-use crate::mark::Mark;
+use crate::mark::ResultMark;
 use iloperators::{Condition, Operator};
 
 /// Whether a jump with this condition may test the current result (IEC 61131-3, 3.2.2: the
@@ -74,13 +74,13 @@ fn refine(entry: &Entry, outcome: bool) -> Option<Change>
 {
     match entry.mark {
         Some(
-            Mark::Test {
+            ResultMark::Test {
                 slot,
                 comparison,
                 limit,
             },
         ) => test(entry, slot, comparison, limit, outcome),
-        Some(Mark::Copy(_)) => Some(Change::Keep),
+        Some(ResultMark::Copy(_)) => Some(Change::Keep),
         None => Some(Change::Keep),
     }
 }

@@ -2,8 +2,8 @@
 //!
 //! What crosses the boundary: [`Entry`], all that is known at a place, [`after_word`], which says
 //! what a word changes of it on each way from the word ([`Changes`]) or reports the least
-//! [`Cause`], and [`Known`], a kind with a range for numbers. A [`Mark`] says what the current
-//! result tells of a slot, by which a jump's ways are refined. The rules are `AreWaysOf`
+//! [`Cause`], and [`Known`], a kind with a range for numbers. A [`ResultMark`] says what the
+//! current result tells of a slot, by which a jump's ways are refined. The rules are `AreWaysOf`
 //! (specs/Rules.antt, to be read first) and `ArisesAtWord` (specs/Refusals.antt), over `IsAfter`
 //! of an operator (specs/Results.antt). Where ways meet, [`Entry::join`] has what is known on both.
 //!
@@ -39,7 +39,7 @@ pub use comparison::passing;
 pub use entry::Entry;
 pub use known::Known;
 pub use law::{least_cause_is_one, more_known_before_is_more_known_after, words_are_safe};
-pub use mark::Mark;
-pub use nesting::{KnownOpened, Nesting};
+pub use mark::ResultMark;
+pub use nesting::{KnownOpened, OpenParentheses};
 pub use slots::Slots;
 pub use word::after_word;

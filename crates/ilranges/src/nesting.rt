@@ -17,11 +17,11 @@ pub struct KnownOpened {
 
 /// The parentheses that are open, the innermost first.
 #[derive(Drop)]
-pub struct Nesting {
+pub struct OpenParentheses {
     items: Vec<KnownOpened>,
 }
 
-impl Model for Nesting {
+impl Model for OpenParentheses {
     ghost use Rattle.std.specs.Prelude.{List, reverse};
     ghost use Rattle.ilranges.specs.declared.nesting.KnownOpened.{KnownOpened};
 
@@ -30,12 +30,12 @@ impl Model for Nesting {
     ghost view = { λ n. reverse n.items.items };
 }
 
-impl Nesting {
+impl OpenParentheses {
     /// Nothing is open.
-    pub fn new(alloc: Global) -> Nesting
+    pub fn new(alloc: Global) -> OpenParentheses
         ensures { result ≡ [] }
     {
-        Nesting {
+        OpenParentheses {
             items: Vec::new(alloc),
         }
     }
@@ -70,10 +70,10 @@ impl Nesting {
     }
 
     /// The same.
-    pub fn share(&self) -> Result<Nesting, AllocError>
+    pub fn share(&self) -> Result<OpenParentheses, AllocError>
         ensures { IfOk result (λ nesting. nesting ≡ self.now) }
     {
-        Ok(Nesting {
+        Ok(OpenParentheses {
             items: self.items.clone()?,
         })
     }

@@ -7,7 +7,7 @@ ghost use Rattle.ilranges.specs.Entries.{known_of, type_of_variable, may_write};
 
 use crate::entry::Entry;
 use crate::known::Known;
-use ilcode::{Code, Operand, Variable};
+use ilcode::{Code, Target, WordOperand};
 use iltypes::IlType;
 
 /// The type of a port, where the code has the block instance and its kind the port.
@@ -33,37 +33,37 @@ fn type_of_input(code: &Code, block: u16, port: u8) -> Option<IlType>
 }
 
 /// What is known of an operand, where its table has it: of a port that it is of its type.
-pub(crate) fn known_of(code: &Code, entry: &Entry, operand: Operand) -> Option<Known>
+pub(crate) fn known_of(code: &Code, entry: &Entry, operand: WordOperand) -> Option<Known>
     ensures { result ≡ known_of code.now entry.now operand }
 {
     match operand {
-        Operand::Slot(slot) => entry.slots.get(usize::from(slot)),
-        Operand::Constant(constant) => {
+        WordOperand::Slot(slot) => entry.slots.get(usize::from(slot)),
+        WordOperand::Constant(constant) => {
             code.constants()
                 .get(usize::from(constant))
                 .copied()
                 .map(Known::of_value)
         }
-        Operand::Port { port, block } => type_of_port(code, block, port).map(Known::of),
+        WordOperand::Port { port, block } => type_of_port(code, block, port).map(Known::of),
     }
 }
 
 /// The type of what a store writes, where its table has it.
-pub(crate) fn type_of_variable(code: &Code, variable: Variable) -> Option<IlType>
+pub(crate) fn type_of_variable(code: &Code, variable: Target) -> Option<IlType>
     ensures { result ≡ type_of_variable code.now variable }
 {
     match variable {
-        Variable::Slot(slot) => code.slots().get(usize::from(slot)).copied(),
-        Variable::Port { port, block } => type_of_port(code, block, port),
+        Target::Slot(slot) => code.slots().get(usize::from(slot)).copied(),
+        Target::Port { port, block } => type_of_port(code, block, port),
     }
 }
 
 /// Whether a program may write it: a variable, or an input.
-pub(crate) fn may_write(code: &Code, variable: Variable) -> bool
+pub(crate) fn may_write(code: &Code, variable: Target) -> bool
     ensures { result ≡ may_write code.now variable }
 {
     match variable {
-        Variable::Slot(_) => true,
-        Variable::Port { port, block } => type_of_input(code, block, port).is_some(),
+        Target::Slot(_) => true,
+        Target::Port { port, block } => type_of_input(code, block, port).is_some(),
     }
 }

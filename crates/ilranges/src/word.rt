@@ -23,7 +23,7 @@ use crate::marks::{constant_of, mark_of_apply, mark_of_function, mark_of_load};
 use crate::nesting::KnownOpened;
 use crate::operand::{known_of, may_write, type_of_variable};
 use crate::rules;
-use ilcode::{Code, Instruction, Variable};
+use ilcode::{Code, Target, Word};
 use iloperators::Operator;
 use limits::MOST_NESTING;
 
@@ -39,42 +39,42 @@ fn onward(change: Change) -> Changes
 }
 
 /// What the word changes, or the least cause that arises at it before its parentheses.
-fn judge(code: &Code, place: usize, entry: &Entry, word: Instruction) -> Result<Changes, Cause>
+fn judge(code: &Code, place: usize, entry: &Entry, word: Word) -> Result<Changes, Cause>
     ensures { MatchResult result
         (λ changes. IsJudged code.now place entry.now word (ways_of entry.now changes))
         (IsLeastCause (ArisesBeforeNesting code.now place entry.now word)) }
 {
     match word {
-        Instruction::Load { negated, operand } => {
+        Word::Load { negated, operand } => {
             let known = rules::load(negated, known_of(code, entry, operand))?;
             Ok(onward(Change::Give(known, mark_of_load(negated, operand, known))))
         }
-        Instruction::Apply(operator, operand) => {
+        Word::Apply(operator, operand) => {
             let known = rules::apply(operator, entry.result, known_of(code, entry, operand))?;
             let mark = mark_of_apply(entry.mark, operator, constant_of(code, operand));
             Ok(onward(Change::Give(known, mark)))
         }
-        Instruction::Transform(function) => {
+        Word::Transform(function) => {
             let known = rules::transform(function, entry.result)?;
             Ok(onward(Change::Give(known, mark_of_function(entry.mark, function))))
         }
-        Instruction::Store { negated, variable } => {
+        Word::Store { negated, variable } => {
             let declared = type_of_variable(code, variable);
             let writable = may_write(code, variable);
             let stored = rules::store(negated, entry.result, declared, writable)?;
             Ok(onward(write(variable, stored)))
         }
-        Instruction::Set(variable) | Instruction::Reset(variable) => {
+        Word::Set(variable) | Word::Reset(variable) => {
             let declared = type_of_variable(code, variable);
             rules::check_set(entry.result, declared, may_write(code, variable))?;
             Ok(onward(Change::Keep))
         }
-        Instruction::Pass {
+        Word::Pass {
             port,
             block,
             operand,
         } => {
-            let input = Variable::Port { port, block };
+            let input = Target::Port { port, block };
             let declared = type_of_variable(code, input);
             rules::pass(
                 known_of(code, entry, operand),
@@ -83,10 +83,10 @@ fn judge(code: &Code, place: usize, entry: &Entry, word: Instruction) -> Result<
             )?;
             Ok(onward(Change::Unmark))
         }
-        Instruction::Call(block) => Ok(onward(call(code, block)?)),
-        Instruction::Open(operator) => Ok(onward(open(entry, operator)?)),
-        Instruction::Close => Ok(onward(close(entry)?)),
-        Instruction::Jump { condition, target } => {
+        Word::Call(block) => Ok(onward(call(code, block)?)),
+        Word::Open(operator) => Ok(onward(open(entry, operator)?)),
+        Word::Close => Ok(onward(close(entry)?)),
+        Word::Jump { condition, target } => {
             check_jump(
                 condition,
                 code.is_target(place, target as usize),
@@ -98,12 +98,12 @@ fn judge(code: &Code, place: usize, entry: &Entry, word: Instruction) -> Result<
 }
 
 /// What a store changes: a slot is known as what was stored, and a port as before.
-fn write(variable: Variable, stored: Known) -> Change
+fn write(variable: Target, stored: Known) -> Change
     ensures { (entry : Entry) → changed entry result ≡ with_stored entry variable stored }
 {
     match variable {
-        Variable::Slot(slot) => Change::Write(usize::from(slot), stored),
-        Variable::Port { .. } => Change::Keep,
+        Target::Slot(slot) => Change::Write(usize::from(slot), stored),
+        Target::Port { .. } => Change::Keep,
     }
 }
 
@@ -167,19 +167,19 @@ fn is_closed_after(code: &Code, place: usize, met: bool) -> bool
 }
 
 /// Whether nothing may be open after the word at the place.
-fn has_to_close(code: &Code, place: usize, met: bool, word: Instruction) -> bool
+fn has_to_close(code: &Code, place: usize, met: bool, word: Word) -> bool
     requires { place < length code.now.instructions }
     ensures { IsTrue result ↔ HasToClose code.now place met word }
 {
     match word {
-        Instruction::Jump { .. } => true,
+        Word::Jump { .. } => true,
         _ => is_closed_after(code, place, met),
     }
 }
 
 /// Whether a parenthesis stays open where nothing may be open, or one too many is opened; so many
 /// are open before the word.
-fn stays_open(code: &Code, place: usize, met: bool, word: Instruction, count: usize) -> bool
+fn stays_open(code: &Code, place: usize, met: bool, word: Word, count: usize) -> bool
     requires { place < length code.now.instructions }
     ensures { IsTrue result ↔ StaysOpen code.now place met word (open_after word count) }
 {
@@ -189,8 +189,8 @@ fn stays_open(code: &Code, place: usize, met: bool, word: Instruction, count: us
         MOST_NESTING
     };
     match word {
-        Instruction::Open(_) => count >= most,
-        Instruction::Close => count.saturating_sub(1) > most,
+        Word::Open(_) => count >= most,
+        Word::Close => count.saturating_sub(1) > most,
         _ => count > most,
     }
 }
@@ -218,7 +218,7 @@ pub fn after_word(
     place: usize,
     met: bool,
     entry: &Entry,
-    word: Instruction,
+    word: Word,
 ) -> Result<Changes, Cause>
     requires { place < length code.now.instructions }
     ensures { MatchResult result

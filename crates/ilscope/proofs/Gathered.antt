@@ -3,7 +3,7 @@ use Rattle.std.proofs.Common.{◌≡◌, ℕ, ◌<◌, ◌≤◌, Bool, true, fa
 use Rattle.std.proofs.Common.{arith, ◌⊎◌, inl, inr}
 use Rattle.std.specs.Prelude.{Option, Some, None, nat_lt, ◌==◌}
 use Rattle.std.proofs.lemmas.Grind.{common_steps}
-use Rattle.ilscope.specs.Causes.{number_of}
+use Rattle.ilscope.specs.Causes.{name_fault_number}
 use Rattle.ilscope.specs.Faults.{IsNotAfter, IsLeastOf}
 use Rattle.ilscope.specs.Order.{comes_before}
 use Rattle.ilscope.specs.declared.fault.NameCause.{NameCause}
@@ -38,10 +38,11 @@ before_false a b x y false false w e f g h = let l : b ≤ a = lt_false a b e in
 
 -- the first is reported before the second, and the second isn't reported after the first
 pub is_before : (f g : Found) → comes_before f g ≡ true → IsNotAfter f.at f.cause g.at g.cause
-is_before f g e = before_true f.at g.at (number_of f.cause) (number_of g.cause) _ _ _ refl refl refl e
+is_before f g e = before_true f.at g.at (name_fault_number f.cause) (name_fault_number g.cause) _ _ _ refl refl refl e
 
 pub is_not_before : (f g : Found) → comes_before f g ≡ false → IsNotAfter g.at g.cause f.at f.cause
-is_not_before f g e = before_false f.at g.at (number_of f.cause) (number_of g.cause) _ _ _ refl refl refl e
+is_not_before f g e = before_false f.at g.at (name_fault_number f.cause)
+    (name_fault_number g.cause) _ _ _ refl refl refl e
 
 pub later : (a b c x y z : ℕ) → (a < b) ⊎ ((a ≡ b) × (x ≤ y)) → (b < c) ⊎ ((b ≡ c) × (y ≤ z))
     → (a < c) ⊎ ((a ≡ c) × (x ≤ z))

@@ -5,7 +5,7 @@ use Rattle.std.proofs.Common.{refl, ap, sym, ◌∙◌, subst, ◌⊎◌, inl, i
 use Rattle.std.proofs.Math.Seq.{take-suc}
 use Rattle.std.proofs.lemmas.List.{get_or_default}
 use Rattle.std.specs.Prelude.{Option, Some, None, slice_get, if◌then◌else◌}
-use Rattle.ilscope.specs.Causes.{number_of}
+use Rattle.ilscope.specs.Causes.{name_fault_number}
 use Rattle.ilscope.specs.Faults.{IsLeastOf, OfCause, SomeOf}
 use Rattle.ilscope.specs.Order.{comes_before, lesser_of_two}
 use Rattle.ilscope.specs.declared.fault.NameCause.{NameCause}
@@ -31,7 +31,8 @@ both_least P Q (Some g) (Some f) h k = two (comes_before f g) refl
         record {
           is = inr k.is;
           least = λ place cause q.
-              or_else (λ p. later f.at g.at place (number_of f.cause) (number_of g.cause) (number_of cause)
+              or_else (λ p. later f.at g.at place (name_fault_number f.cause) (name_fault_number g.cause)
+              (name_fault_number cause)
               (is_before f g e) (h.least place cause p)) (λ y. k.least place cause y) q;
         }
     two false e =
@@ -39,7 +40,8 @@ both_least P Q (Some g) (Some f) h k = two (comes_before f g) refl
           is = inl h.is;
           least = λ place cause q.
               or_else (λ p. h.least place cause p)
-              (λ y. later g.at f.at place (number_of g.cause) (number_of f.cause) (number_of cause)
+              (λ y. later g.at f.at place (name_fault_number g.cause) (name_fault_number f.cause)
+              (name_fault_number cause)
               (is_not_before f g e) (k.least place cause y)) q;
         }
 
@@ -92,7 +94,8 @@ pub one_found : (P : ℕ → NameCause → Type 0) (f : Found) → P f.at f.caus
     IsLeastOf P (Some f)
 one_found P f p one = record {
   is = p;
-  least = λ place cause q. let e = one place cause q in let n = ap number_of e.1 in inr (sym e.0, omega (arith, n));
+  least = λ place cause q. let e = one place cause q in let n = ap name_fault_number e.1 in
+      inr (sym e.0, omega (arith, n));
 }
 
 -- faults of one cause, at some element of a list

@@ -2,7 +2,7 @@
 use Rattle.std.proofs.Common.{◌≡◌, ℕ, List, refl, sym, ap, ◌∙◌, inl, inr, arith}
 use Rattle.std.specs.Prelude.{◌==◌, Option, Some, None, if◌then◌else◌}
 use Rattle.ilsource.specs.Places.{line_at, col_at}
-use Rattle.ilscope.specs.Causes.{number_of}
+use Rattle.ilscope.specs.Causes.{name_fault_number}
 use Rattle.ilscope.specs.Faults.{IsNotAfter, IsLeast, IsLeastOf}
 use Rattle.ilscope.specs.Reports.{ReportsLeast}
 use Rattle.ilscope.specs.declared.fault.NameCause.{NameCause}
@@ -22,7 +22,7 @@ cause_of n =
     else if n == 8 then WrittenTwice else if n == 9 then WritesInput else if n == 10 then NoTask
     else if n == 11 then TooMany else BadDeclaration
 
-cause_again : (c : NameCause) → cause_of (number_of c) ≡ c
+cause_again : (c : NameCause) → cause_of (name_fault_number c) ≡ c
 cause_again Unknown = refl
 cause_again Twice = refl
 cause_again UnknownLabel = refl
@@ -35,7 +35,7 @@ cause_again NoTask = refl
 cause_again TooMany = refl
 cause_again BadDeclaration = refl
 
-same_cause : (a b : NameCause) → number_of a ≡ number_of b → a ≡ b
+same_cause : (a b : NameCause) → name_fault_number a ≡ name_fault_number b → a ≡ b
 same_cause a b e = sym (cause_again a) ∙ ap cause_of e ∙ cause_again b
 
 -- each isn't after the other

@@ -27,7 +27,7 @@ use Rattle.iltokens.specs.declared.lexed.AddressKind.TheVariants.{OutputByte, In
 use Rattle.ilsource.specs.Configurations.{DeclaredGlobals, globals_of as declared_together}
 use Rattle.ilsource.specs.Names.{folded}
 use Rattle.ilsource.specs.Trees.{Tree, types_of}
-use Rattle.ilsource.specs.declared.address.Address.{Address}
+use Rattle.ilsource.specs.declared.address.DirectAddress.{DirectAddress}
 use Rattle.ilsource.specs.declared.declaration.Constant.{Constant}
 use Rattle.ilsource.specs.declared.declaration.Declared.TheVariants as declared_as
 use Rattle.ilsource.specs.declared.declaration.Specification.{Specification}
@@ -182,7 +182,8 @@ module _ (spelled : Name → List ℕ) where
 abbrev IsSuited : DeclaredGlobal → Type 0
 IsSuited g = IfSome g.address (λ a. (¬ IsOtherArea a.kind g.value_type) × (¬ LacksInput a g.value_type))
 
-located_values : (address : Option Address) (type : DataType) → (located_type address type).value_type ≡ type.value_type
+located_values : (address : Option DirectAddress) (type : DataType)
+    → (located_type address type).value_type ≡ type.value_type
 located_values address type = by (initial_at address)
   where
     by : (initial : Option Constant) → (unwrap_or (with_initial initial type) type).value_type ≡ type.value_type
@@ -203,10 +204,10 @@ module _ (above : TypeNames) (sound : IsSound above) where
       × ((place : ℕ) → ¬ IsBadlyLocatedIn above place d)
       × ((place : ℕ) → ¬ IsInputTooSmallIn above place d)
 
-  abbrev Suits : IlType → Address → Type 0
+  abbrev Suits : IlType → DirectAddress → Type 0
   Suits type a = (¬ IsOtherArea a.kind type) × (¬ LacksInput a type)
 
-  suited_at : (address : Option Address) (specification : Specification) (initial : Option Constant) (n : Name)
+  suited_at : (address : Option DirectAddress) (specification : Specification) (initial : Option Constant) (n : Name)
       (ns : List Name) → Faultless (declared_together (n ∷ ns) address specification initial)
       → IfSome address (Suits (located_type address (type_of above specification initial)).value_type)
   suited_at None specification initial n ns h = tt
@@ -312,10 +313,10 @@ there_or_not wiring InputWord bus place =
         ])
 
 module _ (wiring : Wiring) where
-  abbrev IsConnected : Address → Type 0
+  abbrev IsConnected : DirectAddress → Type 0
   IsConnected a = (a.bus < wiring.buses) × IsThere wiring a.kind a.bus a.place
 
-  connected_one : (a : Address) → ((place : ℕ) → ¬ IsBadAddressAt wiring place a) → IsConnected a
+  connected_one : (a : DirectAddress) → ((place : ℕ) → ¬ IsBadAddressAt wiring place a) → IsConnected a
   connected_one a h = by (cases_lt a.bus wiring.buses) (there_or_not wiring a.kind a.bus a.place)
     where
       by : ((a.bus < wiring.buses) ⊎ (wiring.buses ≤ a.bus))
@@ -333,7 +334,7 @@ module _ (wiring : Wiring) where
   connected [] h = All-nil IsConnectedGlobal
   connected (g ∷ gs) h = by g.address h (connected gs)
     where
-      by : (o : Option Address)
+      by : (o : Option DirectAddress)
           → ((place : ℕ) → ¬ SomeOf (IsBadAddressAt wiring place) (cons_option o (filter_map (λ x. x.address) gs)))
           → (((place : ℕ) → ¬ SomeOf (IsBadAddressAt wiring place) (filter_map (λ x. x.address) gs))
           → All IsConnectedGlobal gs) →
@@ -346,7 +347,7 @@ module _ (wiring : Wiring) where
 -- ---- all of it
 
 -- a number of the bus and the place is there, and the type suits it
-abbrev pub IsSoundAt : Wiring → IlType → Address → Type 0
+abbrev pub IsSoundAt : Wiring → IlType → DirectAddress → Type 0
 IsSoundAt wiring type a =
     (a.bus < wiring.buses) × IsThere wiring a.kind a.bus a.place × (¬ IsOtherArea a.kind type) × (¬ LacksInput a type)
 
@@ -389,22 +390,22 @@ globals_sound tree wiring h k g below =
 
 -- ---- no address is given twice
 
-abbrev Differs : Address → DeclaredGlobal → Type 0
+abbrev Differs : DirectAddress → DeclaredGlobal → Type 0
 Differs a g = IfSome g.address (λ b. ¬ SameAddress a b)
 
 -- two global variables are not located at one address
 abbrev pub AreAtOthers : DeclaredGlobal → DeclaredGlobal → Type 0
 AreAtOthers one other = IfSome one.address (λ a. IfSome other.address (λ b. ¬ SameAddress a b))
 
-abbrev AtAgain : Address → Address → ℕ → Type 0
+abbrev AtAgain : DirectAddress → DirectAddress → ℕ → Type 0
 AtAgain earlier later place = SameAddress earlier later × (place ≡ later.at)
 
-differ : (a : Address) (gs : List DeclaredGlobal)
+differ : (a : DirectAddress) (gs : List DeclaredGlobal)
     → ((place : ℕ) → ¬ SomeOf (λ b. AtAgain a b place) (filter_map (λ g. g.address) gs)) → All (Differs a) gs
 differ a [] h = All-nil (Differs a)
 differ a (g ∷ gs) h = by g.address h (differ a gs)
   where
-    by : (o : Option Address)
+    by : (o : Option DirectAddress)
         → ((place : ℕ) → ¬ SomeOf (λ b. AtAgain a b place) (cons_option o (filter_map (λ x. x.address) gs)))
         → (((place : ℕ) → ¬ SomeOf (λ b. AtAgain a b place) (filter_map (λ x. x.address) gs)) → All (Differs a) gs) →
         All (Differs a) (record g { address = o } ∷ gs)
@@ -418,7 +419,7 @@ apart : (gs : List DeclaredGlobal) → ((place : ℕ) → ¬ IsAddressTwice (fil
 apart [] h = λ i j d below within. absurd (omega arith)
 apart (g ∷ gs) h = by g.address h (apart gs)
   where
-    by : (o : Option Address)
+    by : (o : Option DirectAddress)
         → ((place : ℕ) → ¬ IsAddressTwice (cons_option o (filter_map (λ x. x.address) gs)) place)
         → (((place : ℕ) → ¬ IsAddressTwice (filter_map (λ x. x.address) gs) place) → AllPairs AreAtOthers gs) →
         AllPairs AreAtOthers (record g { address = o } ∷ gs)

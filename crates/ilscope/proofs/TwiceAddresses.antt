@@ -10,7 +10,7 @@ use Rattle.std.specs.List.{list_any}
 use Rattle.std.specs.Prelude.{◌||◌, cond, IsTrue, Option}
 use Rattle.iltokens.specs.declared.lexed.AddressKind.{AddressKind}
 use Rattle.iltokens.specs.declared.lexed.AddressKind.TheVariants.{OutputByte, InputWord, InputBit}
-use Rattle.ilsource.specs.declared.address.Address.{Address}
+use Rattle.ilsource.specs.declared.address.DirectAddress.{DirectAddress}
 use Rattle.ilscope.specs.AddressSteps.{key_of, letter_of, same_key}
 use Rattle.ilscope.specs.Faults.{IsAddressTwice, IsLeastOf, OfCause, SameAddress, SomeOf}
 use Rattle.ilscope.specs.Order.{lesser_of_two}
@@ -28,7 +28,7 @@ same_letter InputWord InputWord e = refl
 same_letter InputBit InputBit e = refl
 same_letter a b e = absurd (omega (arith, e))
 
-same_address : (a b : Address) → Decides (same_key (key_of a) (key_of b)) (SameAddress a b)
+same_address : (a b : DirectAddress) → Decides (same_key (key_of a) (key_of b)) (SameAddress a b)
 same_address a b =
     Decides-like _
     (λ e. record { kind = same_letter a.kind b.kind e.0.0; bus = e.0.1; place = e.1 })
@@ -38,7 +38,7 @@ same_address a b =
 
 -- ---- keys that were seen
 
-abbrev pub seen_in : List Address → ℕ × ℕ × ℕ → Bool
+abbrev pub seen_in : List DirectAddress → ℕ × ℕ × ℕ → Bool
 seen_in xs key = list_any (λ a. same_key (key_of a) key) xs
 
 either_way : (b c : Bool) → cond b true c ≡ (c || (b || false))
@@ -55,18 +55,20 @@ or_true : (b c : Bool) → c ≡ true → (b || c) ≡ true
 or_true true c e = refl
 or_true false c e = e
 
-seen_some : (xs : List Address) (x : Address) → seen_in xs (key_of x) ≡ true → SomeOf (λ a. SameAddress a x) xs
+seen_some : (xs : List DirectAddress) (x : DirectAddress) → seen_in xs (key_of x) ≡ true
+    → SomeOf (λ a. SameAddress a x) xs
 seen_some [] x e = absurd cc
 seen_some (a ∷ xs) x e =
     or_else (λ t. inl ((same_address a x).0 t)) (λ r. inr (seen_some xs x r))
     (true_or (same_key (key_of a) (key_of x)) (seen_in xs (key_of x)) e)
 
-some_seen : (xs : List Address) (x : Address) → SomeOf (λ a. SameAddress a x) xs → seen_in xs (key_of x) ≡ true
+some_seen : (xs : List DirectAddress) (x : DirectAddress) → SomeOf (λ a. SameAddress a x) xs
+    → seen_in xs (key_of x) ≡ true
 some_seen [] x s = absurd s
 some_seen (a ∷ xs) x (inl s) = let t = (same_address a x).1 s in rw t refl
 some_seen (a ∷ xs) x (inr s) = or_true (same_key (key_of a) (key_of x)) (seen_in xs (key_of x)) (some_seen xs x s)
 
-module _ (xs : List Address) (i : ℕ) (d : Address) (below : i < length xs) where
+module _ (xs : List DirectAddress) (i : ℕ) (d : DirectAddress) (below : i < length xs) where
   next : take (i + 1) xs ≡ take i xs ++ get_or xs i d ∷ []
   next = take_more xs i (get_or xs i d) below (get_or_default xs i d (get_or xs i d) below)
 
@@ -81,7 +83,7 @@ module _ (xs : List Address) (i : ℕ) (d : Address) (below : i < length xs) whe
       ∙ either_way (same_key key q) (seen_in (take i xs) q)
       ∙ ap (λ (k : ℕ × ℕ × ℕ). seen_in (take i xs) q || (same_key k q || false)) is
       ∙ sym (list_any-append (λ a. same_key (key_of a) q) (take i xs) (get_or xs i d ∷ []))
-      ∙ ap (λ (ys : List Address). seen_in ys q) (sym next)
+      ∙ ap (λ (ys : List DirectAddress). seen_in ys q) (sym next)
 
   pub twice_more : (is_new : Bool) (key : ℕ × ℕ × ℕ) (a b : Option Found) → key ≡ key_of (get_or xs i d)
       → is_new ≡ not (seen_in (take i xs) key)
@@ -89,7 +91,7 @@ module _ (xs : List Address) (i : ℕ) (d : Address) (below : i < length xs) whe
       → IsLeastOf (OfCause Twice (λ place. IsTrue (not is_new) × (place ≡ (get_or xs i d).at))) b
       → IsLeastOf (OfCause Twice (IsAddressTwice (take (i + 1) xs))) (lesser_of_two a b)
   twice_more is_new key a b is new h k =
-      subst (λ (ys : List Address). IsLeastOf (OfCause Twice (IsAddressTwice ys)) (lesser_of_two a b)) (sym next)
+      subst (λ (ys : List DirectAddress). IsLeastOf (OfCause Twice (IsAddressTwice ys)) (lesser_of_two a b)) (sym next)
       (twice_last SameAddress (λ x. x.at) (take i xs) (get_or xs i d) (IsTrue (not is_new)) a b
       (λ t. seen_some (take i xs) (get_or xs i d) (known is_new (seen_in (take i xs) (key_of (get_or xs i d)))
       new_here t))

@@ -20,7 +20,7 @@ use Rattle.ilsource.specs.Names.{folded}
 use Rattle.ilsource.specs.Programs.{DeclaredNames}
 use Rattle.ilsource.specs.Configurations.{DeclaredGlobals}
 use Rattle.ilsource.specs.Trees.{Tree, types_of}
-use Rattle.ilsource.specs.declared.address.Address.{Address}
+use Rattle.ilsource.specs.declared.address.DirectAddress.{DirectAddress}
 use Rattle.ilsource.specs.declared.declaration.Constant.{Constant}
 use Rattle.ilsource.specs.declared.declaration.Constant.TheVariants as constants
 use Rattle.ilsource.specs.declared.declaration.Declared.{Declared}
@@ -40,13 +40,13 @@ use Rattle.ilscope.specs.Declarations.{DeclaredProgram, declared_program, declar
 use Rattle.ilscope.specs.Declarations.{variable, variables_among, variables_in, with_declared}
 use Rattle.ilscope.specs.declared.data_type.DataType.{DataType}
 use Rattle.ilscope.specs.declared.global.DeclaredGlobal.{DeclaredGlobal}
-use Rattle.ilscope.specs.declared.variable.Variable.{Variable}
+use Rattle.ilscope.specs.declared.variable.DeclaredVariable.{DeclaredVariable}
 use Rattle.ilscope.proofs.Subranges.{le_from}
 
 abbrev IsTyped : DataType → Type 0
 IsTyped type = IsOf type.initial type.value_type
 
-abbrev pub IsTypedVariable : Variable → Type 0
+abbrev pub IsTypedVariable : DeclaredVariable → Type 0
 IsTypedVariable variable = IsOf variable.initial variable.value_type
 
 numbers_typed : (low high first : ℤ) → (low ≤ℤ high → (low ≤ℤ first) × (first ≤ℤ high))
@@ -200,7 +200,7 @@ declared_typed_programs tree = programs_typed (folded tree.text) [] tree.element
 abbrev pub IsTypedGlobal : DeclaredGlobal → Type 0
 IsTypedGlobal global = IsOf global.initial global.value_type
 
-located_typed : (address : Option Address) (type : DataType) → IsTyped type → IsTyped (located_type address type)
+located_typed : (address : Option DirectAddress) (type : DataType) → IsTyped type → IsTyped (located_type address type)
 located_typed address type h = typed (with_initial (initial_at address) type) (with_typed (initial_at address) type h)
   where
     typed : (o : Option DataType) → IfSome o IsTyped → IsTyped (unwrap_or o type)
@@ -223,7 +223,7 @@ declared_typed_globals tree =
     (declared_globals_of tree)
 
 -- so the initial values of some variables are of their types, one for each
-pub initials_are_of : (variables : List Variable) → All IsTypedVariable variables
+pub initials_are_of : (variables : List DeclaredVariable) → All IsTypedVariable variables
     → AreOf (map (λ v. v.initial) variables) (map (λ v. v.value_type) variables)
 initials_are_of [] h = tt
 initials_are_of (v ∷ vs) h = (h 0 v (omega arith), initials_are_of vs (λ k d below. h (suc k) d (omega arith)))

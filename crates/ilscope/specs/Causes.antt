@@ -8,20 +8,20 @@ use Rattle.ilscope.specs.declared.fault.NameCause.TheVariants.{BadDeclaration}
 use Rattle.ilscope.specs.declared.fault.NameFault.{NameFault}
 use Rattle.ilscope.specs.declared.fault.NameFault.TheVariants.{Memory, At}
 
-abbrev pub number_of : NameCause → ℕ
-number_of Unknown = 2
-number_of Twice = 3
-number_of UnknownLabel = 4
-number_of BackwardJump = 5
-number_of BadAddress = 6
-number_of InputRangeTooSmall = 7
-number_of WrittenTwice = 8
-number_of WritesInput = 9
-number_of NoTask = 10
-number_of TooMany = 11
-number_of BadDeclaration = 12
+abbrev pub name_fault_number : NameCause → ℕ
+name_fault_number Unknown = 2
+name_fault_number Twice = 3
+name_fault_number UnknownLabel = 4
+name_fault_number BackwardJump = 5
+name_fault_number BadAddress = 6
+name_fault_number InputRangeTooSmall = 7
+name_fault_number WrittenTwice = 8
+name_fault_number WritesInput = 9
+name_fault_number NoTask = 10
+name_fault_number TooMany = 11
+name_fault_number BadDeclaration = 12
 
 -- 1 where memory was refused
 abbrev pub fault_number : NameFault → ℕ
 fault_number Memory = 1
-fault_number (At line col cause) = number_of cause
+fault_number (At line col cause) = name_fault_number cause

@@ -11,7 +11,7 @@ use Rattle.ilsource.specs.Configurations.{DeclaredGlobals}
 use Rattle.ilsource.specs.Names.{folded}
 use Rattle.ilsource.specs.Programs.{DeclaredNames}
 use Rattle.ilsource.specs.Trees.{Tree, types_of}
-use Rattle.ilsource.specs.declared.address.Address.{Address}
+use Rattle.ilsource.specs.declared.address.DirectAddress.{DirectAddress}
 use Rattle.ilsource.specs.declared.configuration.InstanceDeclaration.{InstanceDeclaration}
 use Rattle.ilsource.specs.declared.configuration.TaskDeclaration.{TaskDeclaration}
 use Rattle.ilsource.specs.declared.declaration.Constant.{Constant}
@@ -40,15 +40,15 @@ input_initial address_kinds.OutputByte place = None
 input_initial address_kinds.InputWord place = Some (constants.Number (if nat_lt place 128 then pos 258 else pos 0))
 input_initial address_kinds.InputBit place = Some (constants.Bool false)
 
-abbrev pub initial_at : Option Address → Option Constant
+abbrev pub initial_at : Option DirectAddress → Option Constant
 initial_at address = option_and_then (λ a. input_initial a.kind a.place) address
 
 -- the type of what is located there, or nowhere: an input begins with its own value, where the type has that
-abbrev pub located_type : Option Address → DataType → DataType
+abbrev pub located_type : Option DirectAddress → DataType → DataType
 located_type address type = unwrap_or (with_initial (initial_at address) type) type
 
 -- a global variable of this type
-abbrev pub global : Option Address → DataType → Name → DeclaredGlobal
+abbrev pub global : Option DirectAddress → DataType → Name → DeclaredGlobal
 global address type name =
     record { name = name; address = address; value_type = type.value_type; initial = type.initial }
 
@@ -92,7 +92,7 @@ values_of_global tree name =
     option_and_then (λ number. unwrap_or (slice_get (value_types_of tree) number) None) (global_number tree name)
 
 -- where global variables are located, in declared order
-abbrev pub addresses_of : Tree → List Address
+abbrev pub addresses_of : Tree → List DirectAddress
 addresses_of tree = filter_map (λ g. g.address) (globals_of tree)
 
 -- ---- tasks and program instances

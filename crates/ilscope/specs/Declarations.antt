@@ -5,7 +5,7 @@ use Rattle.std.specs.Prelude.{ℕ, List, [], ◌∷◌, Option, map, flat_map, f
 use Rattle.ilsource.specs.Names.{folded}
 use Rattle.ilsource.specs.Programs.{DeclaredNames, Written}
 use Rattle.ilsource.specs.Trees.{Tree, program_in}
-use Rattle.ilblocks.specs.declared.kind.Kind.{Kind}
+use Rattle.ilblocks.specs.declared.kind.BlockKind.{BlockKind}
 use Rattle.ilsource.specs.declared.declaration.Constant.{Constant}
 use Rattle.ilsource.specs.declared.declaration.Declared.{Declared}
 use Rattle.ilsource.specs.declared.declaration.Declared.TheVariants as declared_as
@@ -19,7 +19,7 @@ use Rattle.ilscope.specs.DataTypes.{TypeNames, data_type, truth_values, declared
 use Rattle.ilscope.specs.declared.block.DeclaredBlock.{DeclaredBlock}
 use Rattle.ilscope.specs.declared.data_type.DataType.{DataType}
 use Rattle.ilscope.specs.declared.external.DeclaredExternal.{DeclaredExternal}
-use Rattle.ilscope.specs.declared.variable.Variable.{Variable}
+use Rattle.ilscope.specs.declared.variable.DeclaredVariable.{DeclaredVariable}
 
 -- a type or a program, with the types above it, the nearest first
 pub record Standing : Type 0 where
@@ -55,30 +55,30 @@ names_of program = flat_map (λ d. d.names) program.declarations
 abbrev pub type_of : TypeNames → Specification → Option Constant → DataType
 type_of types_above specification initial = unwrap_or (declared_type types_above specification initial) truth_values
 
-abbrev pub variable : DataType → Name → Variable
+abbrev pub variable : DataType → Name → DeclaredVariable
 variable type name = record { name = name; value_type = type.value_type; initial = type.initial }
 
 -- the variables among names that are declared together, and the block instances among them
-abbrev pub variables_among : TypeNames → List Name → Declared → List Variable
+abbrev pub variables_among : TypeNames → List Name → Declared → List DeclaredVariable
 variables_among types_above names (declared_as.Variables specification initial) =
     map (variable (type_of types_above specification initial)) names
 variables_among types_above names _ = []
 
-abbrev pub block : Kind → Name → DeclaredBlock
+abbrev pub block : BlockKind → Name → DeclaredBlock
 block kind name = record { name = name; kind = kind }
 
 abbrev pub blocks_among : List Name → Declared → List DeclaredBlock
 blocks_among names (declared_as.Blocks kind) = map (block kind) names
 blocks_among names _ = []
 
-abbrev pub variables_in : TypeNames → DeclaredNames → List Variable
+abbrev pub variables_in : TypeNames → DeclaredNames → List DeclaredVariable
 variables_in types_above declaration = variables_among types_above declaration.names declaration.declared
 
 abbrev pub blocks_in : DeclaredNames → List DeclaredBlock
 blocks_in declaration = blocks_among declaration.names declaration.declared
 
 -- a program's variables, in declared order
-abbrev pub variables_of : TypeNames → Written → List Variable
+abbrev pub variables_of : TypeNames → Written → List DeclaredVariable
 variables_of types_above program = flat_map (variables_in types_above) program.declarations
 
 -- a program's block instances, in declared order
@@ -107,7 +107,7 @@ externals_of types_above program = flat_map (externals_in types_above) program.d
 -- a program with its own variables, its block instances and its externals
 pub record DeclaredProgram : Type 0 where
   pub program : Written
-  pub variables : List Variable
+  pub variables : List DeclaredVariable
   pub blocks : List DeclaredBlock
   pub externals : List DeclaredExternal
 

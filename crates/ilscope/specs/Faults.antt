@@ -13,7 +13,7 @@ use Rattle.ilsource.specs.Configurations.{DeclaredGlobals}
 use Rattle.ilsource.specs.Names.{folded}
 use Rattle.ilsource.specs.Programs.{DeclaredNames}
 use Rattle.ilsource.specs.Trees.{Tree, programs_of}
-use Rattle.ilsource.specs.declared.address.Address.{Address}
+use Rattle.ilsource.specs.declared.address.DirectAddress.{DirectAddress}
 use Rattle.ilsource.specs.declared.configuration.InstanceDeclaration.{InstanceDeclaration}
 use Rattle.ilsource.specs.declared.configuration.TaskDeclaration.{TaskDeclaration}
 use Rattle.ilsource.specs.declared.declaration.Constant.{Constant}
@@ -22,7 +22,7 @@ use Rattle.ilsource.specs.declared.declaration.Declared.TheVariants as declared_
 use Rattle.ilsource.specs.declared.declaration.Specification.{Specification}
 use Rattle.ilsource.specs.declared.declaration.Specification.TheVariants as specifications
 use Rattle.ilsource.specs.declared.name.Name.{Name}
-use Rattle.ilscope.specs.Causes.{number_of}
+use Rattle.ilscope.specs.Causes.{name_fault_number}
 use Rattle.ilscope.specs.Configured.{as_variables, types_of_text, declared_globals_of, task_declarations}
 use Rattle.ilscope.specs.Configured.{instance_declarations, global_named, global_number, task_number, program_number}
 use Rattle.ilscope.specs.Configured.{addresses_of, globals_of, values_of_global}
@@ -111,13 +111,13 @@ IsTwiceIn spelled names place =
     SomeLater (λ earlier later. (spelled earlier ≡ spelled later) × (place ≡ later.from)) names
 
 -- both addresses are one
-pub record SameAddress (one other : Address) : Type 0 where
+pub record SameAddress (one other : DirectAddress) : Type 0 where
   pub kind : one.kind ≡ other.kind
   pub bus : one.bus ≡ other.bus
   pub place : one.place ≡ other.place
 
 -- the address at the place stands before
-abbrev pub IsAddressTwice : List Address → ℕ → Type 0
+abbrev pub IsAddressTwice : List DirectAddress → ℕ → Type 0
 IsAddressTwice addresses place = SomeLater (λ earlier later. SameAddress earlier later × (place ≡ later.at)) addresses
 
 -- what is declared again at the place: a type or a program; a variable, block instance or external of a program; a
@@ -225,7 +225,7 @@ IsThere wiring address_kinds.InputWord bus place =
 IsThere wiring address_kinds.InputBit bus place = IsBound wiring bus place
 
 -- an address, at the place, of a bus or of a place on it that is not there
-abbrev pub IsBadAddressAt : Wiring → ℕ → Address → Type 0
+abbrev pub IsBadAddressAt : Wiring → ℕ → DirectAddress → Type 0
 IsBadAddressAt wiring place a = ¬ ((a.bus < wiring.buses) × IsThere wiring a.kind a.bus a.place) × (place ≡ a.at)
 
 abbrev pub IsBadAddress : Tree → Wiring → ℕ → Type 0
@@ -250,7 +250,7 @@ abbrev pub LacksWord : ℕ → IlType → Type 0
 LacksWord place types.Bool = ⊥
 LacksWord place (types.Int range) = (pos 0 <ℤ range.lo) ⊎ (range.hi <ℤ greatest_at place)
 
-abbrev pub LacksInput : Address → IlType → Type 0
+abbrev pub LacksInput : DirectAddress → IlType → Type 0
 LacksInput address type = (address.kind ≡ address_kinds.InputWord) × LacksWord address.place type
 
 -- a variable lacks values of the input that it is located at, whose address stands at the place
@@ -262,7 +262,7 @@ abbrev pub IsInputTooSmall : Tree → ℕ → Type 0
 IsInputTooSmall tree place = SomeOf (IsInputTooSmallIn (types_of_text tree) place) (declared_globals_of tree)
 
 -- a variable, its name at the place, that is located at an input is given an initial value
-abbrev pub IsInput : Address → Type 0
+abbrev pub IsInput : DirectAddress → Type 0
 IsInput address = ¬ (address.kind ≡ address_kinds.OutputByte)
 
 abbrev pub IsInputGivenIn : ℕ → DeclaredGlobals → Type 0
@@ -299,7 +299,8 @@ OfCause its At place cause = (cause ≡ its) × At place
 
 -- the first place and cause aren't after the second
 abbrev pub IsNotAfter : ℕ → NameCause → ℕ → NameCause → Type 0
-IsNotAfter place cause other its = (place < other) ⊎ ((place ≡ other) × (number_of cause ≤ number_of its))
+IsNotAfter place cause other its = (place < other) ⊎
+    ((place ≡ other) × (name_fault_number cause ≤ name_fault_number its))
 
 -- of some faults this is one, and no other stands at a lesser place, nor there with a lesser cause
 pub record IsLeast (Faults : ℕ → NameCause → Type 0) (place : ℕ) (cause : NameCause) : Type 0 where

@@ -1,7 +1,7 @@
 -- How faults of names are printed (profile).
 use Rattle.std.specs.Prelude.{ℕ, List, ◌++◌, codes}
 use Rattle.std.specs.Fmt.{decimal}
-use Rattle.ilscope.specs.Causes.{number_of}
+use Rattle.ilscope.specs.Causes.{name_fault_number}
 use Rattle.ilscope.specs.declared.fault.NameFault.{NameFault}
 use Rattle.ilscope.specs.declared.fault.NameFault.TheVariants.{Memory, At}
 
@@ -9,4 +9,4 @@ use Rattle.ilscope.specs.declared.fault.NameFault.TheVariants.{Memory, At}
 abbrev pub printed_name_fault : NameFault → List ℕ
 printed_name_fault Memory = codes "no memory"
 printed_name_fault (At line col cause) =
-    codes "name fault " ++ decimal (number_of cause) ++ codes " at " ++ decimal line ++ codes ":" ++ decimal col
+    codes "name fault " ++ decimal (name_fault_number cause) ++ codes " at " ++ decimal line ++ codes ":" ++ decimal col

@@ -4,7 +4,7 @@ use Rattle.std.specs.Char.{to_ascii_lowercase}
 use Rattle.ilsource.specs.declared.name.Name.{Name}
 use Rattle.ilscope.specs.declared.block.DeclaredBlock.{DeclaredBlock}
 use Rattle.ilscope.specs.declared.external.DeclaredExternal.{DeclaredExternal}
-use Rattle.ilscope.specs.declared.variable.Variable.{Variable}
+use Rattle.ilscope.specs.declared.variable.DeclaredVariable.{DeclaredVariable}
 
 -- a text with letters in lower case
 abbrev pub lowered : List ℕ → List ℕ
@@ -16,7 +16,7 @@ first_at test [] = None
 first_at test (x ∷ xs) = if test x then Some 0 else option_map suc (first_at test xs)
 
 -- the number of the first variable with the name; `spelled` is how names are compared
-abbrev pub variable_number : (Name → List ℕ) → List Variable → Name → Option ℕ
+abbrev pub variable_number : (Name → List ℕ) → List DeclaredVariable → Name → Option ℕ
 variable_number spelled variables name =
     first_at (λ variable. bytes_eq (spelled name) (spelled variable.name)) variables
 

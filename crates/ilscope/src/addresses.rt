@@ -7,7 +7,7 @@ ghost use Rattle.ilscope.specs.declared.fault.NameCause.TheVariants.{Twice};
 
 use crate::fault::NameCause;
 use crate::found::{Found, found_where, lesser_of};
-use ilsource::Address;
+use ilsource::DirectAddress;
 use iltokens::AddressKind;
 use std::alloc::{AllocError, Global};
 use std::collections::HashSet;
@@ -15,7 +15,7 @@ use std::collections::HashSet;
 /// The least fault of an address that is given again.
 pub(crate) fn twice_addresses(
     alloc: Global,
-    addresses: &[Address],
+    addresses: &[DirectAddress],
 ) -> Result<Option<Found>, AllocError>
     ensures { IfOk result (λ found.
         IsLeastOf (OfCause Twice (IsAddressTwice addresses.now)) found) }
@@ -30,7 +30,7 @@ pub(crate) fn twice_addresses(
 }
 
 /// What equal addresses have alike: the letter of the kind, the bus and the place.
-fn key_of(address: &Address) -> (u8, u64, u64)
+fn key_of(address: &DirectAddress) -> (u8, u64, u64)
     ensures { result ≡ key_of address.now }
 {
     let letter = match address.kind {

@@ -1,6 +1,6 @@
 //! Block instances of a program.
 
-use ilblocks::Kind;
+use ilblocks::BlockKind;
 use ilsource::Name;
 
 /// A function block instance of a program (IEC 61131-3, 2.5.2.2).
@@ -8,5 +8,5 @@ use ilsource::Name;
 pub struct DeclaredBlock {
     /// The name in its declaration.
     pub name: Name,
-    pub kind: Kind,
+    pub kind: BlockKind,
 }

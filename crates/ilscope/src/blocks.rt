@@ -4,7 +4,7 @@ ghost use Rattle.std.specs.Prelude.{◌≡◌, ◌++◌, IfOk, OnOk, map};
 ghost use Rattle.ilscope.specs.Declarations.{block, blocks_of};
 
 use crate::block::DeclaredBlock;
-use ilblocks::Kind;
+use ilblocks::BlockKind;
 use ilsource::{Declared, Name, Program};
 use std::alloc::{AllocError, Global};
 
@@ -22,7 +22,11 @@ pub(crate) fn blocks_of(alloc: Global, program: &Program) -> Result<Vec<Declared
 }
 
 /// Adds the block instances of one declaration.
-fn add_blocks(blocks: &mut Vec<DeclaredBlock>, kind: Kind, names: &[Name]) -> Result<(), AllocError>
+fn add_blocks(
+    blocks: &mut Vec<DeclaredBlock>,
+    kind: BlockKind,
+    names: &[Name],
+) -> Result<(), AllocError>
     ensures { OnOk result (blocks.new.items ≡ blocks.old.items ++ map (block kind) names.now) }
 {
     for name in names {

@@ -13,7 +13,7 @@ use crate::tables::Tables;
 use crate::tasks::{bad_tasks, no_triggers, without_task};
 use crate::unknown::{unknown_externals, unknown_programs, unknown_tasks, unknown_triggers};
 use binding::Binding;
-use ilsource::Address;
+use ilsource::DirectAddress;
 use std::alloc::{AllocError, Global};
 
 impl<'a> Tables<'a> {
@@ -76,7 +76,7 @@ impl<'a> Tables<'a> {
     }
 
     /// Where global variables are located, in declared order.
-    fn addresses(&self, alloc: Global) -> Result<Vec<Address>, AllocError>
+    fn addresses(&self, alloc: Global) -> Result<Vec<DirectAddress>, AllocError>
         ensures { IfOk result (λ v. v.items ≡ addresses_of self.now) }
     {
         addresses_of(alloc, self.globals.as_slice())

@@ -1,7 +1,7 @@
 //! Faults of names.
 
 ghost use Rattle.std.specs.Prelude.{◌≡◌};
-ghost use Rattle.ilscope.specs.Causes.{number_of, fault_number};
+ghost use Rattle.ilscope.specs.Causes.{name_fault_number, fault_number};
 
 use std::alloc::{AllocError, AllocFailed};
 use std::fmt;
@@ -43,7 +43,7 @@ pub enum NameCause {
 impl NameCause {
     /// The number that is printed.
     pub fn number(self) -> u8
-        ensures { result ≡ number_of self }
+        ensures { result ≡ name_fault_number self }
     {
         match self {
             NameCause::Unknown => 2,

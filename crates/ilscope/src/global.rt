@@ -1,6 +1,6 @@
 //! Declared global variables.
 
-use ilsource::{Address, Name};
+use ilsource::{DirectAddress, Name};
 use iltypes::{IlType, Value};
 
 /// A global variable of a configuration, as it is declared (IEC 61131-3, 2.4.3).
@@ -8,7 +8,7 @@ use iltypes::{IlType, Value};
 pub struct DeclaredGlobal {
     pub name: Name,
     /// Where it is located, if it is.
-    pub address: Option<Address>,
+    pub address: Option<DirectAddress>,
     pub value_type: IlType,
     /// The value that it has at first, which is one of its type.
     pub initial: Value,

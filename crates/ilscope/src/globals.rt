@@ -14,7 +14,7 @@ use crate::externals::values_of;
 use crate::found::{Found, lesser_of};
 use crate::global::DeclaredGlobal;
 use crate::types::{DeclaredTypes, declared_type};
-use ilsource::{Address, Constant, Declared, GlobalDeclaration, Name};
+use ilsource::{Constant, Declared, DirectAddress, GlobalDeclaration, Name};
 use iltokens::AddressKind;
 use iltypes::IlType;
 use std::alloc::{AllocError, Global};
@@ -56,7 +56,7 @@ fn global_type(lower: &[u8], types: &DeclaredTypes, declaration: &GlobalDeclarat
 /// Adds the global variables of one declaration.
 fn add_globals(
     globals: &mut Vec<DeclaredGlobal>,
-    address: Option<Address>,
+    address: Option<DirectAddress>,
     declared: DataType,
     names: &[Name],
 ) -> Result<(), AllocError>
@@ -75,7 +75,7 @@ fn add_globals(
 }
 
 /// The type of what is located there, or nowhere, with the value that an input has at first.
-fn located_type(address: Option<Address>, declared: DataType) -> DataType
+fn located_type(address: Option<DirectAddress>, declared: DataType) -> DataType
     ensures { result ≡ located_type address declared }
 {
     declared
@@ -84,7 +84,7 @@ fn located_type(address: Option<Address>, declared: DataType) -> DataType
 }
 
 /// The value that an input has at first, if there is an input.
-fn initial_at(address: Option<Address>) -> Option<Constant>
+fn initial_at(address: Option<DirectAddress>) -> Option<Constant>
     ensures { result ≡ initial_at address }
 {
     let address = address?;
@@ -149,7 +149,7 @@ pub(crate) fn global_names(
 pub(crate) fn addresses_of(
     alloc: Global,
     globals: &[DeclaredGlobal],
-) -> Result<Vec<Address>, AllocError>
+) -> Result<Vec<DirectAddress>, AllocError>
     ensures { IfOk result (λ v. v.items ≡ filter_map (λ g. g.address) globals.now) }
 {
     globals

@@ -2,7 +2,7 @@
 //! each program, and the global variables, tasks and program instances of its configuration.
 //!
 //! What crosses the boundary: [`Scope`], which is made of an [`ilsource::Source`] and a
-//! [`binding::Binding`]. It has each program with its [`Variable`]s, [`DeclaredBlock`]s and
+//! [`binding::Binding`]. It has each program with its [`DeclaredVariable`]s, [`DeclaredBlock`]s and
 //! [`DeclaredExternal`]s, the [`DeclaredGlobal`]s, and the least fault of the declarations:
 //! [`NameFault`], with its line, its column and its [`NameCause`]; [`Found`] is a fault at its
 //! place in the text. Names are looked up in [`Names`], by hashing. The definitions to read first
@@ -50,4 +50,4 @@ pub use global::DeclaredGlobal;
 pub use names::Names;
 pub use program_scope::ProgramScope;
 pub use scope::{Scope, report_of};
-pub use variable::Variable;
+pub use variable::DeclaredVariable;

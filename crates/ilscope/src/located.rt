@@ -17,12 +17,12 @@ use crate::fault::NameCause;
 use crate::found::{Found, found_where, lesser_of};
 use crate::types::DeclaredTypes;
 use binding::{Binding, BoundSource};
-use ilsource::{Address, GlobalDeclaration};
+use ilsource::{DirectAddress, GlobalDeclaration};
 use iltokens::AddressKind;
 use iltypes::{IlType, Range};
 
 /// The least fault of an address of a bus, or of a place on it, that is not there.
-pub(crate) fn bad_addresses(wiring: &Binding, addresses: &[Address]) -> Option<Found>
+pub(crate) fn bad_addresses(wiring: &Binding, addresses: &[DirectAddress]) -> Option<Found>
     ensures { IsLeastOf (OfCause BadAddress (λ place.
         SomeOf (IsBadAddressAt wiring.now place) addresses.now)) result }
 {
@@ -34,7 +34,7 @@ pub(crate) fn bad_addresses(wiring: &Binding, addresses: &[Address]) -> Option<F
 }
 
 /// The fault of one such address.
-fn bad_address(wiring: &Binding, address: &Address) -> Option<Found>
+fn bad_address(wiring: &Binding, address: &DirectAddress) -> Option<Found>
     ensures { IsLeastOf (OfCause BadAddress (λ place.
         IsBadAddressAt wiring.now place address.now)) result }
 {
@@ -43,7 +43,7 @@ fn bad_address(wiring: &Binding, address: &Address) -> Option<Found>
 }
 
 /// Whether an address is one of a bus and of a place on it that are there.
-fn is_connected(wiring: &Binding, address: &Address) -> bool
+fn is_connected(wiring: &Binding, address: &DirectAddress) -> bool
     ensures { IsTrue result ↔ (address.now.bus < wiring.now.buses)
         × IsThere wiring.now address.now.kind address.now.bus address.now.place }
 {
@@ -159,7 +159,7 @@ fn input_too_small(lower: &[u8], types: &DeclaredTypes, global: &GlobalDeclarati
 }
 
 /// Whether a variable of this type lacks values of the input at the address.
-fn lacks_input(address: &Address, its: IlType) -> bool
+fn lacks_input(address: &DirectAddress, its: IlType) -> bool
     ensures { IsTrue result ↔ LacksInput address.now its }
 {
     match (address.kind, its) {
@@ -211,7 +211,7 @@ fn input_given(global: &GlobalDeclaration) -> Option<Found>
 }
 
 /// Whether what is located there is an input.
-fn is_input(address: &Address) -> bool
+fn is_input(address: &DirectAddress) -> bool
     ensures { IsTrue result ↔ IsInput address.now }
 {
     !matches!(address.kind, AddressKind::OutputByte)

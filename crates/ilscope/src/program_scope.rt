@@ -2,7 +2,7 @@
 
 use crate::block::DeclaredBlock;
 use crate::external::DeclaredExternal;
-use crate::variable::Variable;
+use crate::variable::DeclaredVariable;
 use ilsource::Program;
 use std::marker::Model;
 
@@ -10,7 +10,7 @@ use std::marker::Model;
 #[derive(Drop)]
 pub struct ProgramScope<'a> {
     program: &'a Program,
-    variables: Vec<Variable>,
+    variables: Vec<DeclaredVariable>,
     blocks: Vec<DeclaredBlock>,
     externals: Vec<DeclaredExternal>,
 }
@@ -47,7 +47,7 @@ impl<'a> ProgramScope<'a> {
     /// are declared.
     pub(crate) fn new(
         program: &'a Program,
-        variables: Vec<Variable>,
+        variables: Vec<DeclaredVariable>,
         blocks: Vec<DeclaredBlock>,
         externals: Vec<DeclaredExternal>,
     ) -> ProgramScope<'a>
@@ -72,7 +72,7 @@ impl<'a> ProgramScope<'a> {
     }
 
     /// Its variables, in the order in which they are declared.
-    pub fn variables(&self) -> &[Variable]
+    pub fn variables(&self) -> &[DeclaredVariable]
         ensures value { result.now ≡ self.now.variables }
     {
         &self.variables

@@ -11,8 +11,8 @@ use crate::global::DeclaredGlobal;
 use crate::program_scope::ProgramScope;
 use crate::tables::Tables;
 use binding::Binding;
-use ilblocks::Kind;
-use ilsource::{Name, Place, Source};
+use ilblocks::BlockKind;
+use ilsource::{LineColumn, Name, Source};
 use std::alloc::{AllocError, Global};
 use std::marker::Model;
 
@@ -151,7 +151,7 @@ impl<'a> Scope<'a> {
 
     /// The number of the first block instance with this name, in the program with this number,
     /// which is below the number of programs; and its kind.
-    pub fn block(&self, program: usize, name: Name) -> Option<(usize, Kind)>
+    pub fn block(&self, program: usize, name: Name) -> Option<(usize, BlockKind)>
         requires { program < length (declared_programs self.now.tree) }
         ensures number { (p : DeclaredProgram)
             → slice_get (declared_programs self.now.tree) program ≡ Some p
@@ -210,7 +210,7 @@ impl<'a> Scope<'a> {
 pub fn report_of(text: &[u8], found: Found) -> NameFault
     ensures { IsReportOf text.now found result }
 {
-    let Place { line, col } = Place::of(text, found.at);
+    let LineColumn { line, col } = LineColumn::of(text, found.at);
     NameFault::At {
         line,
         col,

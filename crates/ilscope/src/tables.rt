@@ -14,7 +14,7 @@ use crate::numbers::{
 };
 use crate::program_scope::ProgramScope;
 use crate::types::DeclaredTypes;
-use ilblocks::Kind;
+use ilblocks::BlockKind;
 use ilsource::{Name, Source};
 use iltypes::IlType;
 use std::alloc::{AllocError, Global};
@@ -163,7 +163,7 @@ impl<'a> Tables<'a> {
 
     /// The number of the first block instance with this name, in the program with this number,
     /// which is below the number of programs; and its kind.
-    pub(crate) fn block(&self, program: usize, name: Name) -> Option<(usize, Kind)>
+    pub(crate) fn block(&self, program: usize, name: Name) -> Option<(usize, BlockKind)>
         requires { program < length (declared_programs self.now) }
         ensures number { (p : DeclaredProgram)
             → slice_get (declared_programs self.now) program ≡ Some p

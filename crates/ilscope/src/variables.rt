@@ -6,7 +6,7 @@ ghost use Rattle.ilscope.specs.Kept.{types_in};
 
 use crate::data_type::DataType;
 use crate::types::{DeclaredTypes, declared_type};
-use crate::variable::Variable;
+use crate::variable::DeclaredVariable;
 use ilsource::{Declared, Name, Program};
 use std::alloc::{AllocError, Global};
 
@@ -16,7 +16,7 @@ pub(crate) fn variables_of(
     lower: &[u8],
     types: &DeclaredTypes,
     program: &Program,
-) -> Result<Vec<Variable>, AllocError>
+) -> Result<Vec<DeclaredVariable>, AllocError>
     ensures { IfOk result (λ v.
         v.items ≡ variables_of (types_in lower.now types.now) program.now) }
 {
@@ -38,7 +38,7 @@ pub(crate) fn variables_of(
 
 /// Adds the variables of one declaration.
 fn add_variables(
-    variables: &mut Vec<Variable>,
+    variables: &mut Vec<DeclaredVariable>,
     declared: DataType,
     names: &[Name],
 ) -> Result<(), AllocError>
@@ -52,10 +52,10 @@ fn add_variables(
 }
 
 /// The variable of this name, with what its declaration says.
-fn variable_of(name: Name, declared: DataType) -> Variable
+fn variable_of(name: Name, declared: DataType) -> DeclaredVariable
     ensures { result ≡ variable declared name }
 {
-    Variable {
+    DeclaredVariable {
         name,
         value_type: declared.value_type,
         initial: declared.initial,
@@ -63,7 +63,10 @@ fn variable_of(name: Name, declared: DataType) -> Variable
 }
 
 /// The names of some variables.
-pub(crate) fn variable_names(alloc: Global, variables: &[Variable]) -> Result<Vec<Name>, AllocError>
+pub(crate) fn variable_names(
+    alloc: Global,
+    variables: &[DeclaredVariable],
+) -> Result<Vec<Name>, AllocError>
     ensures { IfOk result (λ v. v.items ≡ map (λ variable. variable.name) variables.now) }
 {
     variables

@@ -1,6 +1,6 @@
 -- Configurations as contracts see them (IEC 61131-3, 2.4.3 and 2.7.1).
 use Rattle.std.specs.Prelude.{List, Option}
-use Rattle.ilsource.specs.declared.address.Address.{Address}
+use Rattle.ilsource.specs.declared.address.DirectAddress.{DirectAddress}
 use Rattle.ilsource.specs.declared.configuration.InstanceDeclaration.{InstanceDeclaration}
 use Rattle.ilsource.specs.declared.configuration.TaskDeclaration.{TaskDeclaration}
 use Rattle.ilsource.specs.declared.declaration.Constant.{Constant}
@@ -10,11 +10,11 @@ use Rattle.ilsource.specs.declared.name.Name.{Name}
 -- global variables that are declared together: where they are located, and their type and initial value as written
 pub record DeclaredGlobals : Type 0 where
   pub names : List Name
-  pub address : Option Address
+  pub address : Option DirectAddress
   pub specification : Specification
   pub initial : Option Constant
 
-abbrev pub globals_of : List Name → Option Address → Specification → Option Constant → DeclaredGlobals
+abbrev pub globals_of : List Name → Option DirectAddress → Specification → Option Constant → DeclaredGlobals
 globals_of names address specification initial =
     record { names = names; address = address; specification = specification; initial = initial }
 

@@ -1,6 +1,6 @@
 //! Configurations.
 
-use crate::address::Address;
+use crate::address::DirectAddress;
 use crate::declaration::{Constant, Specification};
 use crate::name::Name;
 use std::marker::Model;
@@ -10,7 +10,7 @@ use std::marker::Model;
 #[derive(Drop)]
 pub struct GlobalDeclaration {
     names: Vec<Name>,
-    address: Option<Address>,
+    address: Option<DirectAddress>,
     specification: Specification,
     initial: Option<Constant>,
 }
@@ -35,7 +35,7 @@ impl GlobalDeclaration {
     /// The declaration of these names; one with an address has one name.
     pub fn new(
         names: Vec<Name>,
-        address: Option<Address>,
+        address: Option<DirectAddress>,
         specification: Specification,
         initial: Option<Constant>,
     ) -> GlobalDeclaration
@@ -57,7 +57,7 @@ impl GlobalDeclaration {
     }
 
     /// Where the variable is located, if it is.
-    pub fn address(&self) -> Option<Address>
+    pub fn address(&self) -> Option<DirectAddress>
         ensures value { result ≡ self.now.address }
     {
         self.address

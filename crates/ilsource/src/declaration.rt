@@ -1,7 +1,7 @@
 //! Declarations of types and of variables (IEC 61131-3, 2.3.3.1 and 2.4.3).
 
 use crate::name::Name;
-use ilblocks::Kind;
+use ilblocks::BlockKind;
 use iloperators::IntegerType;
 use std::marker::Model;
 
@@ -51,7 +51,7 @@ pub enum Declared {
         initial: Option<Constant>,
     },
     /// Instances of a function block.
-    Blocks(Kind),
+    Blocks(BlockKind),
     /// In VAR_EXTERNAL: global variables of this type, which a configuration declares.
     External(Specification),
 }

@@ -2,8 +2,8 @@
 //!
 //! What crosses the boundary: [`Source`], which the parser makes and names are resolved on, with
 //! its types and programs, their declarations, and their lines, which are those of `iltrees` over
-//! the [`Symbol`]s of a text. A [`Name`] is a word of the text, and [`Place`] gives line and column
-//! of a byte. Contracts see a `Source` as a record of specs/Trees.antt, to be read first;
+//! the [`Symbol`]s of a text. A [`Name`] is a word of the text, and [`LineColumn`] gives line and
+//! column of a byte. Contracts see a `Source` as a record of specs/Trees.antt, to be read first;
 //! specs/Names.antt says when two names are the same.
 
 #![tactic(auto)]
@@ -11,19 +11,19 @@
 mod address;
 mod configuration;
 mod declaration;
+mod line_column;
 mod line_counter;
 mod name;
-mod place;
 mod program;
 mod source;
 mod symbol;
 
-pub use address::Address;
+pub use address::DirectAddress;
 pub use configuration::{Configuration, GlobalDeclaration, InstanceDeclaration, TaskDeclaration};
 pub use declaration::{Constant, Declaration, Declared, Specification, TypeDeclaration};
+pub use line_column::LineColumn;
 pub use line_counter::LineCounter;
 pub use name::Name;
-pub use place::Place;
 pub use program::Program;
 pub use source::{Element, Source};
 pub use symbol::Symbol;

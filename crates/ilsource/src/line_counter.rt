@@ -3,7 +3,7 @@
 ghost use Rattle.std.specs.Prelude.{◌≡◌, ◌-◌, ◌≤◌, drop, take};
 ghost use Rattle.ilsource.specs.Places.{line_at};
 
-use crate::place::line_feeds;
+use crate::line_column::line_feeds;
 
 /// Gives the lines of places in a text, in one pass over it where the places rise.
 #[derive(Drop)]

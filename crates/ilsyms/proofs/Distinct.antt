@@ -14,7 +14,7 @@ use Rattle.ilscope.specs.Declarations.{DeclaredProgram, declared_program, declar
 use Rattle.ilscope.specs.Faults.{SomeOf, IsTwiceIn, IsTwice}
 use Rattle.ilsyms.specs.InstanceSteps.{AreOthers, AreApart}
 use Rattle.ilsyms.specs.Meaning.{same_name}
-use Rattle.ilsyms.specs.Tasks.{ProgramInstance, instance_named, instances_in, is_in, main_task}
+use Rattle.ilsyms.specs.Tasks.{NamedProgram, instance_named, instances_in, is_in, main_task}
 use Rattle.ilsyms.proofs.Labels.{either, alike, same_as}
 
 module _ (text : List ℕ) where
@@ -27,7 +27,7 @@ module _ (text : List ℕ) where
 
   -- ---- of programs, one instance each
 
-  abbrev of_programs : List TypeDeclaration → List Element → List ProgramInstance
+  abbrev of_programs : List TypeDeclaration → List Element → List NamedProgram
   of_programs above es =
       map (λ p. instance_named p.program.name p) (filter_map (declared_program (folded text)) (standing above es))
 
@@ -48,7 +48,7 @@ module _ (text : List ℕ) where
       (others program.name es above (λ place s. h place (inl s)), apart es above (λ place s. h place (inr s)))
 
   -- before and after an instance stand instances with other names
-  before : (n : Name) (front back : List ProgramInstance) (i : ProgramInstance) → AreOthers text n (front ++ i ∷ back)
+  before : (n : Name) (front back : List NamedProgram) (i : NamedProgram) → AreOthers text n (front ++ i ∷ back)
       → same_name text i.name n ≡ false
   before n [] back i o = not_same i.name n (λ e. false_true (same_as text n i.name (sym e)) o.0)
     where
@@ -56,7 +56,7 @@ module _ (text : List ℕ) where
       false_true t f = cc
   before n (q ∷ front) back i o = before n front back i o.1
 
-  pub others_around : (front back : List ProgramInstance) (i : ProgramInstance) → AreApart text (front ++ i ∷ back)
+  pub others_around : (front back : List NamedProgram) (i : NamedProgram) → AreApart text (front ++ i ∷ back)
       → AreOthers text i.name front × AreOthers text i.name back
   others_around [] back i a = (tt, a.0)
   others_around (q ∷ front) back i a =

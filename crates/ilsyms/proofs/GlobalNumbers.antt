@@ -5,8 +5,8 @@ use Rattle.std.specs.Prelude.{Some, None, if◌then◌else◌}
 use Rattle.std.specs.List.{list_any}
 use Rattle.std.proofs.lemmas.List.{drop_all, drop_more, get_or-replicate, length-replicate}
 use Rattle.ilplan.specs.declared.slot.Slot.{Slot}
-use Rattle.ilplan.specs.declared.slot.Variable.{Variable}
-use Rattle.ilplan.specs.declared.slot.Variable.TheVariants.{Global, Own}
+use Rattle.ilplan.specs.declared.slot.SlotOwner.{SlotOwner}
+use Rattle.ilplan.specs.declared.slot.SlotOwner.TheVariants.{Global, Own}
 use Rattle.ilsyms.specs.Meaning.{is_global}
 use Rattle.ilsyms.specs.PlanningSteps.{AreGlobalSlots, SetsWhere, number_of_global}
 use Rattle.ilsyms.proofs.Labels.{either}
@@ -61,7 +61,7 @@ module _ (slots : List Slot) (at count : ℕ) (numbers : List ℕ) (d : Slot) (a
       omega (arith, past, whole, after)
 
   -- where the number of its variable is set
-  pub one_set : (variable : Variable) → variable ≡ one.variable → (new : List ℕ)
+  pub one_set : (variable : SlotOwner) → variable ≡ one.variable → (new : List ℕ)
       → SetsWhere (λ g. is_global (Some g) variable) (at - 1) numbers new → AreFrom slots (at - 1) count new
   one_set variable e new h =
       record {
@@ -93,7 +93,7 @@ all_read slots at count numbers e h =
 pub without_number : (slots : List Slot) → number_of_global slots None ≡ length slots
 without_number slots = none_passes (λ s. is_global None s.variable) slots (none slots)
   where
-    is_none : (v : Variable) → is_global None v ≡ false
+    is_none : (v : SlotOwner) → is_global None v ≡ false
     is_none (Global n) = refl
     is_none (Own instance name) = refl
 

@@ -9,10 +9,10 @@ use Rattle.ilscope.specs.Configured.{globals_of}
 use Rattle.ilscope.specs.declared.global.DeclaredGlobal.{DeclaredGlobal}
 use Rattle.ilplan.specs.declared.slot.Slot.{Slot}
 use Rattle.ilsyms.specs.Meaning.{is_own}
-use Rattle.ilsyms.specs.Tasks.{ProgramInstance}
+use Rattle.ilsyms.specs.Tasks.{NamedProgram}
 use Rattle.ilsyms.specs.Variables.{is_named, global_slot, named_slot, global_slots}
 
-module _ (tree : Tree) (is : List ProgramInstance) where
+module _ (tree : Tree) (is : List NamedProgram) where
   -- what holds of each slot of a global variable holds of those that are named
   abbrev named : List (ℕ × DeclaredGlobal) → List Slot
   named gs = filter_map (named_slot tree is) gs
@@ -30,6 +30,6 @@ module _ (tree : Tree) (is : List ProgramInstance) where
       by e true = e
       by e false = e
 
-pub no_own_global : (tree : Tree) (is : List ProgramInstance) (text : List ℕ) (instance name : Name)
+pub no_own_global : (tree : Tree) (is : List NamedProgram) (text : List ℕ) (instance name : Name)
     → list_any (λ s. is_own text instance name s.variable) (global_slots tree is) ≡ false
 no_own_global tree is text instance name = none_own tree is text instance name (enumerate_from 0 (globals_of tree))

@@ -4,7 +4,7 @@ use Rattle.std.proofs.Common.{arith}
 use Rattle.std.specs.Prelude.{Option, Some, None, option_map, option_and_then, slice_get, unwrap_or, if◌then◌else◌}
 use Rattle.std.specs.List.{list_any, position_or_len}
 use Rattle.std.specs.Option.{option_map_or}
-use Rattle.ilblocks.specs.declared.kind.Kind.{Kind}
+use Rattle.ilblocks.specs.declared.kind.BlockKind.{BlockKind}
 use Rattle.ilblocks.specs.Ports.{port_named, most_ports}
 use Rattle.ilsource.specs.declared.name.Name.{Name}
 use Rattle.ilsource.specs.declared.symbol.Symbol.{Symbol}
@@ -15,7 +15,7 @@ use Rattle.ilscope.specs.Configured.{global_number}
 use Rattle.ilscope.specs.Kept.{Kept}
 use Rattle.ilscope.specs.Tables.{first_at}
 use Rattle.ilscope.specs.declared.block.DeclaredBlock.{DeclaredBlock}
-use Rattle.ilscope.specs.declared.variable.Variable.{Variable}
+use Rattle.ilscope.specs.declared.variable.DeclaredVariable.{DeclaredVariable}
 use Rattle.ilplan.specs.declared.instance.FunctionBlock.{FunctionBlock}
 use Rattle.ilplan.specs.declared.slot.Slot.{Slot}
 use Rattle.ilplan.specs.declared.place.Place.TheVariants as places
@@ -24,22 +24,22 @@ use Rattle.ilsyms.specs.Meaning.{same_name, is_own, is_block_under, place_in_sto
 use Rattle.ilsyms.specs.Meaning.{port_of_block, place_of}
 use Rattle.ilsyms.specs.PlanningSteps.{Numbering, slot_number, number_of_block, number_of_port, place_by_number}
 use Rattle.ilsyms.specs.PlanningSteps.{number_of_global}
-use Rattle.ilsyms.specs.Tasks.{ProgramInstance}
+use Rattle.ilsyms.specs.Tasks.{NamedProgram}
 use Rattle.ilsyms.specs.Variables.{own_slot, function_block, slots_of, own_slots, global_slots, blocks_of}
 use Rattle.ilsyms.proofs.GlobalSlots.{no_own_global}
 use Rattle.ilsyms.proofs.Labels.{same_as}
 use Rattle.ilsyms.proofs.Numbers.{NonePass, number_among, found_among, passed_over}
 
-abbrev variables_in : ProgramInstance → List Variable
+abbrev variables_in : NamedProgram → List DeclaredVariable
 variables_in i = i.program.variables
 
-abbrev blocks_in : ProgramInstance → List DeclaredBlock
+abbrev blocks_in : NamedProgram → List DeclaredBlock
 blocks_in i = i.program.blocks
 
-abbrev slot_of : ProgramInstance → Variable → Slot
+abbrev slot_of : NamedProgram → DeclaredVariable → Slot
 slot_of i = own_slot i.name
 
-abbrev block_of : ProgramInstance → DeclaredBlock → FunctionBlock
+abbrev block_of : NamedProgram → DeclaredBlock → FunctionBlock
 block_of i = function_block i.name
 
 abbrev is_meant : List ℕ → Name → Name → Slot → Bool
@@ -63,18 +63,18 @@ any_first test xs o e = any_is test xs ∙ ap (λ q. option_map_or (λ k. true) 
 
 module _ (text : List ℕ) (instance name : Name) where
   -- no slot and no block instance of another instance is meant
-  other_slots : (is : List ProgramInstance) → AreOthers text instance is
+  other_slots : (is : List NamedProgram) → AreOthers text instance is
       → NonePass variables_in slot_of (is_meant text instance name) is
   other_slots [] o = tt
   other_slots (i ∷ is) o = ((λ v. let e = o.0 in rw e refl), other_slots is o.1)
 
-  other_blocks : (is : List ProgramInstance) → AreOthers text instance is
+  other_blocks : (is : List NamedProgram) → AreOthers text instance is
       → NonePass blocks_in block_of (is_block_under text instance name) is
   other_blocks [] o = tt
   other_blocks (i ∷ is) o = ((λ b. let e = o.0 in rw e refl), other_blocks is o.1)
 
   -- one of the instance is meant where its name is
-  own_is : (v : Variable) → is_meant text instance name (own_slot instance v) ≡ same_name text name v.name
+  own_is : (v : DeclaredVariable) → is_meant text instance name (own_slot instance v) ≡ same_name text name v.name
   own_is v = let e = same_as text instance instance refl in rw e refl
 
   own_block : (b : DeclaredBlock)
@@ -82,8 +82,8 @@ module _ (text : List ℕ) (instance name : Name) where
   own_block b = let e = same_as text instance instance refl in rw e refl
 
 -- an instance among others with other names, whose labels have these numbers
-module _ (tree : Tree) (front back : List ProgramInstance) (p : ProgramInstance) (labels : Kept ℕ) where
-  abbrev all_instances : List ProgramInstance
+module _ (tree : Tree) (front back : List NamedProgram) (p : NamedProgram) (labels : Kept ℕ) where
+  abbrev all_instances : List NamedProgram
   all_instances = front ++ p ∷ back
 
   abbrev all_slots : List Slot
@@ -151,13 +151,13 @@ module _ (tree : Tree) (front back : List ProgramInstance) (p : ProgramInstance)
       where
         named : (b : DeclaredBlock) (o : Option ℕ)
             → unwrap_or o most_ports
-            ≡ option_map_or (λ (found : Kind × ℕ). found.1) (option_map (λ n. (b.kind, n)) o) most_ports
+            ≡ option_map_or (λ (found : BlockKind × ℕ). found.1) (option_map (λ n. (b.kind, n)) o) most_ports
         named b None = refl
         named b (Some n) = refl
 
         by : (o : Option DeclaredBlock)
             → option_map_or (port_of_block tree.text port) (option_map (block_of p) o) most_ports
-            ≡ option_map_or (λ (found : Kind × ℕ). found.1)
+            ≡ option_map_or (λ (found : BlockKind × ℕ). found.1)
             (option_and_then (λ b. option_map (λ n. (b.kind, n)) (port_named b.kind (text_of tree.text port))) o)
             most_ports
         by None = refl

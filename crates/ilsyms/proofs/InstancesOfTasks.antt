@@ -18,7 +18,7 @@ use Rattle.ilscope.specs.Configured.{program_number, task_number}
 use Rattle.ilscope.specs.Declarations.{DeclaredProgram, declared_programs}
 use Rattle.ilsyms.specs.declared.tasks.Assigned.{Assigned}
 use Rattle.ilsyms.specs.InstanceSteps.{instance_at, numbered, assigned, given_to}
-use Rattle.ilsyms.specs.Tasks.{ProgramInstance, instance_named, instances_in, declared_task, tasks_of}
+use Rattle.ilsyms.specs.Tasks.{NamedProgram, instance_named, instances_in, declared_task, tasks_of}
 use Rattle.ilsyms.specs.Tasks.{SourceTask, main_task}
 use Rattle.ilsyms.proofs.Firsts.{first_there}
 
@@ -78,14 +78,14 @@ rows_all (x ∷ xs) k (suc n) h = ap (λ es. (k, x) ∷ es) (rows_all xs (k + 1)
 -- ---- the instances of one task
 
 module _ (tree : Tree) (task : ℕ) where
-  abbrev Stand : List Assigned → List ProgramInstance → Type 0
+  abbrev Stand : List Assigned → List NamedProgram → Type 0
   Stand given instances = map (instance_at tree) (filter_map (given_to task) given) ≡ map Some instances
 
   there : (name : Name) (k : ℕ) → program_number tree name ≡ Some k
       → (p : DeclaredProgram) × (slice_get (declared_programs tree) k ≡ Some p)
   there name k e = first_there _ (declared_programs tree) k e
 
-  stand_more : (i : InstanceDeclaration) (given : List Assigned) (rest : List ProgramInstance) → Stand given rest
+  stand_more : (i : InstanceDeclaration) (given : List Assigned) (rest : List NamedProgram) → Stand given rest
       → (o q : Option ℕ)
       → ((k : ℕ) → q ≡ Some k → (p : DeclaredProgram) × (slice_get (declared_programs tree) k ≡ Some p))
       → Stand (cons_option (option_and_then (λ number. option_map (numbered i number) q) o) given)

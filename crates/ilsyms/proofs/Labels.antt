@@ -8,7 +8,7 @@ use Rattle.std.proofs.lemmas.List.Sums.{passes_at_first}
 use Rattle.std.proofs.lemmas.Slice.Eq.{bytes_eq-Decides}
 use Rattle.iltrees.specs.declared.instruction.Line.{Line}
 use Rattle.iltrees.specs.Passes.{has_label}
-use Rattle.iltrees.specs.Renaming.{IsKept, AreKept}
+use Rattle.iltrees.specs.Renaming.{IsLabelKept, AreKept}
 use Rattle.ilsource.specs.declared.name.Name.{Name}
 use Rattle.ilsource.specs.declared.symbol.Symbol.{Symbol}
 use Rattle.ilsource.specs.Names.{folded}
@@ -79,7 +79,7 @@ module _ (text : List ℕ) where
         ((λ e. one_number l m (alike l m e)), (λ e. other_number l m has_m e))
 
     kept_label : (o : Option Name) → ((m : Name) → o ≡ Some m → list_any (has m) all ≡ true)
-        → IsKept (same_name text) number_same (label_number text all) o
+        → IsLabelKept (same_name text) number_same (label_number text all) o
     kept_label None among = tt
     kept_label (Some m) among = λ l. number_kept m (among m refl) l
 

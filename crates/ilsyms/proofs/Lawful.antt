@@ -15,7 +15,7 @@ use Rattle.iltokens.specs.declared.lexed.AddressKind.TheVariants.{OutputByte, In
 use Rattle.ilsource.specs.Configurations.{Configured}
 use Rattle.ilsource.specs.Names.{folded}
 use Rattle.ilsource.specs.Trees.{Tree}
-use Rattle.ilsource.specs.declared.address.Address.{Address}
+use Rattle.ilsource.specs.declared.address.DirectAddress.{DirectAddress}
 use Rattle.ilsource.specs.declared.configuration.TaskDeclaration.{TaskDeclaration}
 use Rattle.ilsource.specs.declared.name.Name.{Name}
 use Rattle.ilscope.specs.Configured.{global_named, global_number, globals_of, task_declarations}
@@ -47,7 +47,8 @@ trigger_located : (wiring : Wiring) (g : DeclaredGlobal) → IsSoundGlobal wirin
     → IsPlannedTrigger (planned_global g)
 trigger_located wiring g sound is = by g.address is sound.1
   where
-    by : (o : Option Address) → ¬ (¬ IsSomeAnd o (λ a. a.kind ≡ InputBit)) → IfSome o (IsSoundAt wiring g.value_type)
+    by : (o : Option DirectAddress) → ¬ (¬ IsSomeAnd o (λ a. a.kind ≡ InputBit))
+        → IfSome o (IsSoundAt wiring g.value_type)
         → IsPlannedTrigger (planned_global (record g { address = o }))
     by None h s = absurd (h (λ x. x))
     by (Some a) h s =

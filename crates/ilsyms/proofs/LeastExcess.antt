@@ -14,7 +14,7 @@ use Rattle.ilscope.specs.declared.fault.NameCause.TheVariants.{TooMany}
 use Rattle.ilscope.specs.declared.found.Found.{Found}
 use Rattle.ilscope.proofs.Gathered.{or_else}
 use Rattle.ilsyms.specs.Faults.{IsTooMany, IsTooManyIn, MakesTooManyConstants, instance_names, place_of_slot}
-use Rattle.ilsyms.specs.Tasks.{ProgramInstance, tasks_of}
+use Rattle.ilsyms.specs.Tasks.{NamedProgram, tasks_of}
 use Rattle.ilsyms.specs.Variables.{blocks_of, lines_of, slots_of, uses_of}
 use Rattle.ilsyms.proofs.LeastOfCauses.{of_both, of_same}
 
@@ -42,7 +42,7 @@ pub places_of_names : {X : Type 0} (name_of : X → Name) (xs : List X)
 places_of_names name_of [] = refl
 places_of_names name_of (x ∷ xs) = ap (λ ns. (name_of x).from ∷ ns) (places_of_names name_of xs)
 
-module _ (tree : Tree) (instances : List ProgramInstance) where
+module _ (tree : Tree) (instances : List NamedProgram) where
   abbrev slot_past : Option ℕ
   slot_past = slice_get (map (λ s. place_of_slot tree s.variable) (slots_of tree instances)) most_slots
 

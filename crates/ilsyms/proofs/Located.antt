@@ -15,7 +15,7 @@ use Rattle.iltypes.specs.declared.value.IlType.TheVariants as types
 use Rattle.iltokens.specs.declared.lexed.AddressKind.{AddressKind}
 use Rattle.iltokens.specs.declared.lexed.AddressKind.TheVariants.{OutputByte, InputWord, InputBit}
 use Rattle.ilsource.specs.Trees.{Tree}
-use Rattle.ilsource.specs.declared.address.Address.{Address}
+use Rattle.ilsource.specs.declared.address.DirectAddress.{DirectAddress}
 use Rattle.ilscope.specs.Configured.{globals_of}
 use Rattle.ilscope.specs.Faults.{IsBound, IsOtherArea, IsThere, LacksWord, SameAddress, SomeOf, greatest_at}
 use Rattle.ilscope.specs.declared.global.DeclaredGlobal.{DeclaredGlobal}
@@ -122,7 +122,7 @@ located_one wiring InputBit bus place type there is area lacks =
 located_global : (wiring : Wiring) (g : DeclaredGlobal) → IsSoundGlobal wiring g → IsLocatedIn wiring (planned_global g)
 located_global wiring g h = by g.address h.1
   where
-    by : (o : Option Address) → IfSome o (IsSoundAt wiring g.value_type)
+    by : (o : Option DirectAddress) → IfSome o (IsSoundAt wiring g.value_type)
         → IfSome (option_map (λ a. location a.kind a.bus a.place) o)
         (λ l. IsAddressIn wiring l × Suits g.value_type l)
     by None s = tt
@@ -178,7 +178,7 @@ of_place InputWord bus place = by (nat_lt place 64) (nat_lt place 128) (nat_lt p
         let low = ltb-false place 192 g in record { kind_is = refl; bus_is = refl; place_is = omega arith }
 
 -- two addresses with one location are one
-same_address : (a b : Address) → location a.kind a.bus a.place ≡ location b.kind b.bus b.place → SameAddress a b
+same_address : (a b : DirectAddress) → location a.kind a.bus a.place ≡ location b.kind b.bus b.place → SameAddress a b
 same_address a b e =
     let one = of_place a.kind a.bus a.place in
     let other = of_place b.kind b.bus b.place in
@@ -191,7 +191,7 @@ same_address a b e =
 apart_one : (one other : DeclaredGlobal) → AreAtOthers one other → AreApart (planned_global one) (planned_global other)
 apart_one one other h = by one.address other.address h
   where
-    by : (o p : Option Address) → IfSome o (λ a. IfSome p (λ b. ¬ SameAddress a b))
+    by : (o p : Option DirectAddress) → IfSome o (λ a. IfSome p (λ b. ¬ SameAddress a b))
         → IfSome (option_map (λ a. location a.kind a.bus a.place) o)
         (λ l. ¬ (option_map (λ b. location b.kind b.bus b.place) p ≡ Some l))
     by None p k = tt
@@ -229,7 +229,7 @@ module _ (tree : Tree) (wiring : Wiring) (named : IsWellNamed tree wiring) where
 
 -- ---- numbers of addresses are those of a byte
 
-abbrev pub AreBytes : Address → Type 0
+abbrev pub AreBytes : DirectAddress → Type 0
 AreBytes a = (a.bus < 256) × (a.place < 256)
 
 some_bound : (wiring : Wiring) (bus place : ℕ) (sources : List BoundSource) → All (IsOnBus wiring.buses) sources
@@ -255,7 +255,7 @@ all_fit tree wiring limits named k g below =
     let its = get_or (globals_of tree) k g in
     by its.value_type its.address (all_sound tree wiring named k g below).1
   where
-    by : (type : IlType) (o : Option Address) → IfSome o (IsSoundAt wiring type) → IfSome o AreBytes
+    by : (type : IlType) (o : Option DirectAddress) → IfSome o (IsSoundAt wiring type) → IfSome o AreBytes
     by type None s = tt
     by type (Some a) s =
         let there = s.0 in

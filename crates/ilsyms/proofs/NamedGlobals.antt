@@ -14,7 +14,7 @@ use Rattle.ilscope.specs.Declarations.{DeclaredProgram, declared_programs}
 use Rattle.ilscope.specs.Faults.{SomeOf}
 use Rattle.ilscope.specs.declared.global.DeclaredGlobal.{DeclaredGlobal}
 use Rattle.ilsyms.specs.SlotSteps.{AddsWhere, AreNamed}
-use Rattle.ilsyms.specs.Tasks.{ProgramInstance}
+use Rattle.ilsyms.specs.Tasks.{NamedProgram}
 use Rattle.ilsyms.proofs.Labels.{either}
 use Rattle.ilsyms.specs.Variables.{is_among, is_named, global_slot, named_slot}
 
@@ -38,7 +38,7 @@ adds_both f g h a b c first second e =
     }
 
 -- the programs of instances up to one, and of one more
-pub named_more : (tree : Tree) (is : List ProgramInstance) (i : ProgramInstance) (number : ℕ)
+pub named_more : (tree : Tree) (is : List NamedProgram) (i : NamedProgram) (number : ℕ)
     → is_named tree (is ++ i ∷ []) number ≡ (is_named tree is number || is_among tree number i.program.externals)
 named_more tree is i number =
     list_any-append (λ j. is_among tree number j.program.externals) is (i ∷ [])
@@ -46,7 +46,7 @@ named_more tree is i number =
 
 -- a program of some of the instances names no other global variable
 among_named : (tree : Tree) (number : ℕ) (p : DeclaredProgram) → slice_get (declared_programs tree) number ≡ Some p
-    → (front : List ProgramInstance) → SomeOf (λ i. slice_get (declared_programs tree) number ≡ Some i.program) front
+    → (front : List NamedProgram) → SomeOf (λ i. slice_get (declared_programs tree) number ≡ Some i.program) front
     → (n : ℕ) → is_among tree n p.externals ≡ true → is_named tree front n ≡ true
 among_named tree number p is [] s n e = absurd s
 among_named tree number p is (x ∷ front) (inl h) n e =
@@ -60,8 +60,8 @@ among_named tree number p is (x ∷ front) (inr s) n e =
     let rest = among_named tree number p is front s n e in
     either (is_among tree n x.program.externals) (λ t. rw t refl) (λ f. rw f rest)
 
-pub named_still : (tree : Tree) (number : ℕ) (i : ProgramInstance)
-    → slice_get (declared_programs tree) number ≡ Some i.program → (front : List ProgramInstance)
+pub named_still : (tree : Tree) (number : ℕ) (i : NamedProgram)
+    → slice_get (declared_programs tree) number ≡ Some i.program → (front : List NamedProgram)
     → SomeOf (λ j. slice_get (declared_programs tree) number ≡ Some j.program) front → (n : ℕ)
     → is_named tree (front ++ i ∷ []) n ≡ is_named tree front n
 named_still tree number i is front s n =
@@ -98,7 +98,7 @@ written_back len new old e g =
     ∙ take_all len new (omega (arith, e, g))
 
 -- one global variable more
-module _ (tree : Tree) (is : List ProgramInstance) (n : ℕ) (g : DeclaredGlobal) (below : n < length (globals_of tree))
+module _ (tree : Tree) (is : List NamedProgram) (n : ℕ) (g : DeclaredGlobal) (below : n < length (globals_of tree))
     (got : g ≡ get_or (globals_of tree) n g) where
   abbrev rows : List (ℕ × DeclaredGlobal)
   rows = enumerate_from 0 (globals_of tree)

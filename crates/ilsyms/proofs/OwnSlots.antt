@@ -9,15 +9,15 @@ use Rattle.ilsource.specs.declared.name.Name.{Name}
 use Rattle.ilsource.specs.Trees.{Tree}
 use Rattle.ilscope.specs.Configured.{globals_of}
 use Rattle.ilscope.specs.declared.global.DeclaredGlobal.{DeclaredGlobal}
-use Rattle.ilscope.specs.declared.variable.Variable.{Variable}
+use Rattle.ilscope.specs.declared.variable.DeclaredVariable.{DeclaredVariable}
 use Rattle.ilplan.specs.declared.global.Global.{Global as PlannedGlobal}
 use Rattle.ilplan.specs.declared.slot.Slot.{Slot}
-use Rattle.ilplan.specs.declared.slot.Variable.{Variable as SlotVariable}
-use Rattle.ilplan.specs.declared.slot.Variable.TheVariants.{Global, Own}
+use Rattle.ilplan.specs.declared.slot.SlotOwner.{SlotOwner}
+use Rattle.ilplan.specs.declared.slot.SlotOwner.TheVariants.{Global, Own}
 use Rattle.ilplan.specs.Plans.{IsDeclared, Precedes, AreOrdered, type_and_initial}
 use Rattle.ilsyms.specs.PlanningSteps.{is_of_instance}
 use Rattle.ilsyms.specs.Resolved.{planned_global}
-use Rattle.ilsyms.specs.Tasks.{ProgramInstance}
+use Rattle.ilsyms.specs.Tasks.{NamedProgram}
 use Rattle.ilsyms.specs.Variables.{is_named, global_slot, named_slot, global_slots, own_slot, own_slots, slots_of}
 use Rattle.ilsyms.proofs.Numbers.{passed_over}
 
@@ -27,12 +27,12 @@ IsOwn s = (instance : Name) × (name : Name) × (s.variable ≡ Own instance nam
 abbrev pub AreOwn : List Slot → Type 0
 AreOwn slots = AllByRecursion IsOwn slots
 
-own_variables : (instance : Name) (vs : List Variable) (rest : List Slot) → AreOwn rest
+own_variables : (instance : Name) (vs : List DeclaredVariable) (rest : List Slot) → AreOwn rest
     → AreOwn (map (own_slot instance) vs ++ rest)
 own_variables instance [] rest r = r
 own_variables instance (v ∷ vs) rest r = ((instance, v.name, refl), own_variables instance vs rest r)
 
-own_instances : (is : List ProgramInstance) → AreOwn (own_slots is)
+own_instances : (is : List NamedProgram) → AreOwn (own_slots is)
 own_instances [] = tt
 own_instances (i ∷ is) = own_variables i.name i.program.variables (own_slots is) (own_instances is)
 
@@ -42,7 +42,7 @@ first_of_own [] own = refl
 first_of_own (s ∷ slots) own =
     let is : is_of_instance s.variable ≡ true = ap (λ v. is_of_instance v) own.0.2 in rw is refl
 
-module _ (tree : Tree) (is : List ProgramInstance) where
+module _ (tree : Tree) (is : List NamedProgram) where
   no_instance : (gs : List (ℕ × DeclaredGlobal))
       → list_any (λ s. is_of_instance s.variable) (filter_map (named_slot tree is) gs) ≡ false
   no_instance [] = refl
@@ -64,15 +64,15 @@ module _ (tree : Tree) (is : List ProgramInstance) where
 
 -- ---- they are in order
 
-before_own : (v : SlotVariable) (instance name : Name) → Precedes v (Own instance name)
+before_own : (v : SlotOwner) (instance name : Name) → Precedes v (Own instance name)
 before_own (Global number) instance name = tt
 before_own (Own its other) instance name = tt
 
-before_all : (v : SlotVariable) (slots : List Slot) → AreOwn slots
+before_all : (v : SlotOwner) (slots : List Slot) → AreOwn slots
     → AllByRecursion (Precedes v) (map (λ s. s.variable) slots)
 before_all v [] own = tt
 before_all v (s ∷ slots) own =
-    let first = subst (λ (w : SlotVariable). Precedes v w) (sym own.0.2) (before_own v own.0.0 own.0.1) in
+    let first = subst (λ (w : SlotOwner). Precedes v w) (sym own.0.2) (before_own v own.0.0 own.0.1) in
     (first, before_all v slots own.1)
 
 pub own_ordered : (slots : List Slot) → AreOwn slots → AreOrdered (map (λ s. s.variable) slots)
@@ -85,12 +85,12 @@ pub own_declared : (globals : List PlannedGlobal) (slots : List Slot) → AreOwn
     → AllByRecursion (λ s. IsDeclared globals s.variable s.value_type s.initial) slots
 own_declared globals [] own = tt
 own_declared globals (s ∷ slots) own =
-    let first = subst (λ (w : SlotVariable). IsDeclared globals w s.value_type s.initial) (sym own.0.2) tt in
+    let first = subst (λ (w : SlotOwner). IsDeclared globals w s.value_type s.initial) (sym own.0.2) tt in
     (first, own_declared globals slots own.1)
 
 -- ---- slots of global variables
 
-module _ (tree : Tree) (is : List ProgramInstance) where
+module _ (tree : Tree) (is : List NamedProgram) where
   -- what holds of the slot of each global variable holds of those that are named
   of_named : (Q : Slot → Type 0) (gs : List (ℕ × DeclaredGlobal)) → AllByRecursion (λ g. Q (global_slot g.0 g.1)) gs
       → AllByRecursion Q (filter_map (named_slot tree is) gs)

@@ -22,7 +22,7 @@ use Rattle.ilsyms.specs.InstanceSteps.{AreApart}
 use Rattle.ilsyms.specs.LabelSteps.{AreNumbered}
 use Rattle.ilsyms.specs.PlanningSteps.{Numbering, label_of, numbering_of, numbers}
 use Rattle.ilsyms.specs.Resolved.{new_places, label_number, planned_instance}
-use Rattle.ilsyms.specs.Tasks.{ProgramInstance}
+use Rattle.ilsyms.specs.Tasks.{NamedProgram}
 use Rattle.ilsyms.specs.Variables.{own_slot, slots_in, own_slots, global_slots, slots_of, lines_of}
 use Rattle.ilsyms.specs.Variables.{function_block, blocks_in, blocks_of}
 use Rattle.ilsyms.proofs.Distinct.{others_around}
@@ -40,7 +40,7 @@ parted xs i x is below =
     ∙ take-append-drop i xs)
 
 -- the places that are given are the places in the store
-numbers_are : (tree : Tree) (front back : List ProgramInstance) (p : ProgramInstance) (labels : Kept ℕ)
+numbers_are : (tree : Tree) (front back : List NamedProgram) (p : NamedProgram) (labels : Kept ℕ)
     → AreApart tree.text (front ++ p ∷ back)
     → numbers (numbering tree front back p labels)
     ≡ new_places tree (slots_of tree (front ++ p ∷ back)) (blocks_of (front ++ p ∷ back)) p
@@ -56,7 +56,7 @@ abbrev pub renamed : Numbering → List (Line Symbol Name) → List (Line Place 
 renamed n lines = map (rename_line (numbers n) (label_of n)) lines
 
 -- the instance, where its lines have these places
-instance_is : (tree : Tree) (front back : List ProgramInstance) (p : ProgramInstance) (labels : Kept ℕ)
+instance_is : (tree : Tree) (front back : List NamedProgram) (p : NamedProgram) (labels : Kept ℕ)
     (lines : List (Line Place ℕ)) → AreApart tree.text (front ++ p ∷ back)
     → AreNumbered tree.text p.program.program.lines labels
     → lines ≡ renamed (numbering tree front back p labels) p.program.program.lines
@@ -68,7 +68,7 @@ instance_is tree front back p labels lines apart numbered h =
     let names_are = numbers_are tree front back p labels apart in
     h ∙ (λ i. map (rename_line (names_are i) (labels_are i)) p.program.program.lines)
 
-module _ (tree : Tree) (ps : List ProgramInstance) (i : ℕ) (p : ProgramInstance) (is : p ≡ get_or ps i p)
+module _ (tree : Tree) (ps : List NamedProgram) (i : ℕ) (p : NamedProgram) (is : p ≡ get_or ps i p)
     (below : i < length ps) where
   -- with one instance more
   pub planned_more : AreApart tree.text ps → (slots : List Slot) (first_slot all_blocks first_block : ℕ)

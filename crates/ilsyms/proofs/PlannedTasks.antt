@@ -17,7 +17,7 @@ use Rattle.ilsyms.specs.declared.tasks.TaskInstance.{TaskInstance}
 use Rattle.ilsyms.specs.InstanceSteps.{AreInstances, AreInstancesOfTask, AreInstancesOfTasks, AreThere, instance_at}
 use Rattle.ilsyms.specs.InstanceSteps.{instances_of}
 use Rattle.ilsyms.specs.Resolved.{planned_task}
-use Rattle.ilsyms.specs.Tasks.{ProgramInstance, SourceTask, declared_task, main_task, tasks_of}
+use Rattle.ilsyms.specs.Tasks.{NamedProgram, SourceTask, declared_task, main_task, tasks_of}
 use Rattle.ilsyms.proofs.Firsts.{below_end}
 use Rattle.ilsyms.proofs.TasksOfText.{task_at}
 use Rattle.ilsyms.proofs.There.{instances_are, there}
@@ -90,7 +90,7 @@ pub of_task : (tree : Tree) (given : List (List TaskInstance)) (number : ℕ) (i
     → AreInstancesOfTask tree number instances
 of_task tree given number instances are at =
     sym (slice_get-map (λ t. map Some t.instances) (tasks_of tree) number)
-    ∙ ap (λ (xs : List (List (Option ProgramInstance))). slice_get xs number) (sym are)
+    ∙ ap (λ (xs : List (List (Option NamedProgram))). slice_get xs number) (sym are)
     ∙ slice_get-map (map (instance_at tree)) given number
     ∙ ap (option_map (map (instance_at tree))) at
 
@@ -115,7 +115,7 @@ tasks_more tree number planned task so_far e = by (slice_get (tasks_of tree) num
 pub as_many_tasks : (tree : Tree) (given : List (List TaskInstance)) → AreInstancesOfTasks tree given
     → length given ≡ length (tasks_of tree)
 as_many_tasks tree given are =
-    let e = ap (λ (xs : List (List (Option ProgramInstance))). length xs) are in
+    let e = ap (λ (xs : List (List (Option NamedProgram))). length xs) are in
     let one = length-map given (map (instance_at tree)) in
     let other = length-map (tasks_of tree) (λ t. map Some t.instances) in
     omega (arith, e, one, other)

@@ -21,7 +21,7 @@ use Rattle.ilplan.specs.declared.place.Place.{Place}
 use Rattle.ilplan.specs.Constants.{constant_in, constants_used, different_constants, each_once}
 use Rattle.ilplan.specs.Plans.{all_lines}
 use Rattle.ilsyms.specs.Resolved.{new_places, label_number, planned_instance}
-use Rattle.ilsyms.specs.Tasks.{ProgramInstance}
+use Rattle.ilsyms.specs.Tasks.{NamedProgram}
 use Rattle.ilsyms.specs.Variables.{lines_of, uses_of}
 
 pub shallow_append : {N L : Type 0} (xs ys : List (Line N L)) → AreShallow xs → AreShallow ys → AreShallow (xs ++ ys)
@@ -37,7 +37,7 @@ pub used_append : {N : Type 0} (us vs : List (Use N))
 used_append {N} us vs = filter_map-append (λ (u : Use N). constant_in u.operand) us vs
 
 -- of one instance's lines
-module _ (tree : Tree) (slots : List Slot) (blocks : List FunctionBlock) (instance : ProgramInstance) (label : Name → ℕ)
+module _ (tree : Tree) (slots : List Slot) (blocks : List FunctionBlock) (instance : NamedProgram) (label : Name → ℕ)
   where
     abbrev renamed : List (Line Symbol Name) → List (Line Place ℕ)
     renamed lines = map (rename_line (new_places tree slots blocks instance) label) lines
@@ -81,14 +81,14 @@ module _ (tree : Tree) (slots : List Slot) (blocks : List FunctionBlock) (instan
 
 -- of all instances
 module _ (tree : Tree) (slots : List Slot) (blocks : List FunctionBlock) where
-  abbrev planned : List ProgramInstance → List (Line Place ℕ)
+  abbrev planned : List NamedProgram → List (Line Place ℕ)
   planned is = all_lines (map (planned_instance tree slots blocks) is)
 
-  own_places : (i : ProgramInstance)
+  own_places : (i : NamedProgram)
       → flat_map places_in (planned_instance tree slots blocks i).lines ≡ flat_map places_in i.program.program.lines
   own_places i = places_of tree slots blocks i (label_number tree.text i.program.program.lines) i.program.program.lines
 
-  pub same_places : (is : List ProgramInstance) → flat_map places_in (planned is) ≡ flat_map places_in (lines_of is)
+  pub same_places : (is : List NamedProgram) → flat_map places_in (planned is) ≡ flat_map places_in (lines_of is)
   same_places [] = refl
   same_places (i ∷ is) =
       let one = own_places i in
@@ -97,7 +97,7 @@ module _ (tree : Tree) (slots : List Slot) (blocks : List FunctionBlock) where
       ∙ (λ j. one j ++ rest j)
       ∙ sym (flat_map-append places_in i.program.program.lines (lines_of is))
 
-  own_constants : (i : ProgramInstance)
+  own_constants : (i : NamedProgram)
       → constants_used (flat_map uses_in (planned_instance tree slots blocks i).lines)
       ≡ constants_used (flat_map uses_in i.program.program.lines)
   own_constants i = constants_of tree slots blocks i (label_number tree.text i.program.program.lines)
@@ -109,7 +109,7 @@ module _ (tree : Tree) (slots : List Slot) (blocks : List FunctionBlock) where
   used_of xs ys =
       ap constants_used (flat_map-append uses_in xs ys) ∙ used_append (flat_map uses_in xs) (flat_map uses_in ys)
 
-  same_used : (is : List ProgramInstance)
+  same_used : (is : List NamedProgram)
       → constants_used (flat_map uses_in (planned is)) ≡ constants_used (uses_of (lines_of is))
   same_used [] = refl
   same_used (i ∷ is) =
@@ -119,11 +119,11 @@ module _ (tree : Tree) (slots : List Slot) (blocks : List FunctionBlock) where
       ∙ (λ j. one j ++ rest j)
       ∙ sym (used_of i.program.program.lines (lines_of is))
 
-  pub same_constants : (is : List ProgramInstance)
+  pub same_constants : (is : List NamedProgram)
       → different_constants (planned is) ≡ different_constants (lines_of is)
   same_constants is = ap each_once (same_used is)
 
-  pub all_shallow : (is : List ProgramInstance) → AreShallow (lines_of is) → AreShallow (planned is)
+  pub all_shallow : (is : List NamedProgram) → AreShallow (lines_of is) → AreShallow (planned is)
   all_shallow [] h = tt
   all_shallow (i ∷ is) h =
       let parts = left_shallow i.program.program.lines (lines_of is) h in

@@ -13,7 +13,7 @@ use Rattle.ilplan.specs.declared.slot.Slot.{Slot}
 use Rattle.ilplan.specs.PlanMeaning.{places_of, number_same, plan_scan}
 use Rattle.ilsyms.specs.Meaning.{same_name, place_of, names_in, instances_scan, source_scan}
 use Rattle.ilsyms.specs.Resolved.{new_places, label_number, planned_instance, planned_task}
-use Rattle.ilsyms.specs.Tasks.{ProgramInstance, SourceTask}
+use Rattle.ilsyms.specs.Tasks.{NamedProgram, SourceTask}
 use Rattle.ilsyms.specs.Variables.{slots_of, blocks_of, shape_of}
 use Rattle.ilsyms.proofs.Labels.{labels_kept}
 
@@ -31,7 +31,7 @@ then_same k l o q e g = ap (option_and_then k) g ∙ go_on q
     go_on (Some store) = e store
 
 module _ (shape : Shape) (tree : Tree) (slots : List Slot) (blocks : List FunctionBlock) where
-  seen : (i : ProgramInstance)
+  seen : (i : NamedProgram)
       → IsSeen (names_in shape tree slots blocks i) (places_of shape) (new_places tree slots blocks i) (λ store. store)
   seen i = record {
     read = λ s o.
@@ -42,7 +42,7 @@ module _ (shape : Shape) (tree : Tree) (slots : List Slot) (blocks : List Functi
     call = λ s n. unchanged _;
   }
 
-  instance_same : (i : ProgramInstance) (store : Store)
+  instance_same : (i : NamedProgram) (store : Store)
       → passes number_same (places_of shape) (planned_instance tree slots blocks i).lines On None store
       ≡ passes (same_name tree.text) (names_in shape tree slots blocks i) i.program.program.lines On None store
   instance_same i store =
@@ -59,7 +59,7 @@ module _ (shape : Shape) (tree : Tree) (slots : List Slot) (blocks : List Functi
       i.program.program.lines (planned_instance tree slots blocks i).lines renamed None store
       ∙ sym (unchanged _)
 
-  instances_same : (is : List ProgramInstance) (store : Store)
+  instances_same : (is : List NamedProgram) (store : Store)
       → scan number_same (places_of shape) (map (λ i. i.lines) (map (planned_instance tree slots blocks) is)) store
       ≡ instances_scan shape tree slots blocks is store
   instances_same [] store = refl

@@ -18,7 +18,7 @@ use Rattle.ilscope.proofs.Least.{some_front, some_last}
 use Rattle.ilplan.specs.Constants.{constants_used, same_value}
 use Rattle.ilsyms.specs.CountingSteps.{AreCounted, AreSeen}
 use Rattle.ilsyms.specs.InstanceSteps.{AreThere, instances_of}
-use Rattle.ilsyms.specs.Tasks.{ProgramInstance, instance_named}
+use Rattle.ilsyms.specs.Tasks.{NamedProgram, instance_named}
 use Rattle.ilsyms.specs.Variables.{lines_of, uses_of}
 use Rattle.ilsyms.specs.declared.tasks.TaskInstance.{TaskInstance}
 use Rattle.ilsyms.proofs.CountedUses.{AreKnown, known_counted, used_append}
@@ -31,16 +31,16 @@ or_true true = refl
 or_true false = refl
 
 -- what the lines of instances use, with one instance more
-uses_more : (front : List ProgramInstance) (x : ProgramInstance)
+uses_more : (front : List NamedProgram) (x : NamedProgram)
     → uses_of (lines_of (front ++ x ∷ [])) ≡ uses_of (lines_of front) ++ uses_of x.program.program.lines
 uses_more front x =
-    ap uses_of (flat_map-append (λ (i : ProgramInstance). i.program.program.lines) front (x ∷ []))
+    ap uses_of (flat_map-append (λ (i : NamedProgram). i.program.program.lines) front (x ∷ []))
     ∙ ap (λ ls. uses_of (lines_of front ++ ls)) (append-nil x.program.program.lines)
     ∙ flat_map-append uses_in (lines_of front) x.program.program.lines
 
 -- the constants of a program of the instances are among theirs
 among_theirs : (tree : Tree) (number : ℕ) (p : DeclaredProgram) → slice_get (declared_programs tree) number ≡ Some p
-    → (front : List ProgramInstance) → SomeOf (λ i. slice_get (declared_programs tree) number ≡ Some i.program) front
+    → (front : List NamedProgram) → SomeOf (λ i. slice_get (declared_programs tree) number ≡ Some i.program) front
     → AreKnown (uses_of (lines_of front)) (uses_of p.program.lines)
 among_theirs tree number p is [] s v e = absurd s
 among_theirs tree number p is (x ∷ front) (inl h) v e =
@@ -66,16 +66,16 @@ among_theirs tree number p is (x ∷ front) (inr s) v e =
 module _ (tree : Tree) (given : List TaskInstance) (there : AreThere tree given) (i : ℕ) (d : TaskInstance)
     (below : i < length given) (p : DeclaredProgram)
     (is : slice_get (declared_programs tree) (get_or given i d).program ≡ Some p) where
-  abbrev front : List ProgramInstance
+  abbrev front : List NamedProgram
   front = take i (instances_of tree given)
 
-  abbrev next : List ProgramInstance
+  abbrev next : List NamedProgram
   next = take (i + 1) (instances_of tree given)
 
   abbrev number : ℕ
   number = (get_or given i d).program
 
-  abbrev last : ProgramInstance
+  abbrev last : NamedProgram
   last = instance_named (get_or given i d).name p
 
   whole : next ≡ front ++ last ∷ []
@@ -84,12 +84,12 @@ module _ (tree : Tree) (given : List TaskInstance) (there : AreThere tree given)
   module _ (marks : List Bool) (seen : AreSeen tree front marks) where
     pub seen_kept : AreSeen tree next marks
     seen_kept n e =
-        subst (λ (is : List ProgramInstance). SomeOf (λ x. slice_get (declared_programs tree) n ≡ Some x.program) is)
+        subst (λ (is : List NamedProgram). SomeOf (λ x. slice_get (declared_programs tree) n ≡ Some x.program) is)
         (sym whole) (some_front (λ x. slice_get (declared_programs tree) n ≡ Some x.program) front last (seen n e))
 
     pub seen_more : number < length marks → AreSeen tree next (slice_set marks number true)
     seen_more low n e =
-        subst (λ (is : List ProgramInstance). SomeOf (λ x. slice_get (declared_programs tree) n ≡ Some x.program) is)
+        subst (λ (is : List NamedProgram). SomeOf (λ x. slice_get (declared_programs tree) n ≡ Some x.program) is)
         (sym whole)
         (either (number == n)
         (λ t. some_last (λ x. slice_get (declared_programs tree) n ≡ Some x.program) front last
@@ -103,7 +103,7 @@ module _ (tree : Tree) (given : List TaskInstance) (there : AreThere tree given)
         → AreCounted (uses_of (lines_of front)) known excess → AreCounted (uses_of (lines_of next)) known excess
     counted_kept known excess marked c =
         subst (λ (us : List (Use Symbol)). AreCounted us known excess)
-        (sym (ap (λ (is : List ProgramInstance). uses_of (lines_of is)) whole ∙ uses_more front last))
+        (sym (ap (λ (is : List NamedProgram). uses_of (lines_of is)) whole ∙ uses_more front last))
         (known_counted (uses_of p.program.lines) (uses_of (lines_of front)) known excess
         (among_theirs tree number p is front (seen number marked)) c)
 
@@ -112,7 +112,7 @@ module _ (tree : Tree) (given : List TaskInstance) (there : AreThere tree given)
       → AreCounted (uses_of (lines_of next)) known excess
   counted_more known excess c =
       subst (λ (us : List (Use Symbol)). AreCounted us known excess)
-      (sym (ap (λ (is : List ProgramInstance). uses_of (lines_of is)) whole ∙ uses_more front last)) c
+      (sym (ap (λ (is : List NamedProgram). uses_of (lines_of is)) whole ∙ uses_more front last)) c
 
 -- at first none is marked
 unmarked : (n k : ℕ) (b : Bool) → slice_get (replicate n false) k ≡ Some b → b ≡ false

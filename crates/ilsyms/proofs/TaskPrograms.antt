@@ -14,7 +14,7 @@ use Rattle.ilscope.proofs.Gathered.{or_else}
 use Rattle.ilsyms.specs.Faults.{ProgramStores, TaskStores}
 use Rattle.ilsyms.specs.InstanceSteps.{AreInstances, AreInstancesOfTasks, instance_at}
 use Rattle.ilsyms.specs.TaskSetSteps.{AreSetsOf, HasInstance, IsSetOf, StoresBefore}
-use Rattle.ilsyms.specs.Tasks.{ProgramInstance, SourceTask, instance_named, tasks_of}
+use Rattle.ilsyms.specs.Tasks.{NamedProgram, SourceTask, instance_named, tasks_of}
 use Rattle.ilsyms.specs.declared.task_sets.TaskSet.{TaskSet}
 use Rattle.ilsyms.specs.declared.task_sets.TaskSet.TheVariants.{Empty}
 use Rattle.ilsyms.specs.declared.tasks.TaskInstance.{TaskInstance}
@@ -102,7 +102,7 @@ module _ (tree : Tree) where
       at (p ∷ ps) zero low = (p, refl)
       at (p ∷ ps) (suc i) low = at ps i (omega (arith, low))
 
-  named_there : (i : TaskInstance) (p : ProgramInstance) → instance_at tree i ≡ Some p
+  named_there : (i : TaskInstance) (p : NamedProgram) → instance_at tree i ≡ Some p
       → slice_get (declared_programs tree) i.program ≡ Some p.program
   named_there i p e = by (slice_get (declared_programs tree) i.program) refl
     where
@@ -113,9 +113,9 @@ module _ (tree : Tree) where
       by (Some q) f =
           let some : instance_at tree i ≡ Some (instance_named i.name q) = ap (option_map (instance_named i.name)) f in
           let same : instance_named i.name q ≡ p = cc in
-          ap (λ (x : ProgramInstance). Some x.program) same
+          ap (λ (x : NamedProgram). Some x.program) same
 
-  pub all_known : (given : List TaskInstance) (instances : List ProgramInstance) → AreInstances tree given instances
+  pub all_known : (given : List TaskInstance) (instances : List NamedProgram) → AreInstances tree given instances
       → All (λ n. n < length (declared_programs tree)) (map (λ i. i.program) given)
   all_known [] instances are = All-nil _
   all_known (i ∷ given) [] are = absurd (let e = are in cc)
@@ -132,7 +132,7 @@ module _ (tree : Tree) where
         ≡ option_map (λ (t : SourceTask). map Some t.instances) (slice_get (tasks_of tree) number)
     both_there number =
         sym (slice_get-map (map (instance_at tree)) tasks number)
-        ∙ ap (λ (xs : List (List (Option ProgramInstance))). slice_get xs number) are
+        ∙ ap (λ (xs : List (List (Option NamedProgram))). slice_get xs number) are
         ∙ slice_get-map (λ (t : SourceTask). map Some t.instances) (tasks_of tree) number
 
     pub task_of_given : (number : ℕ) (given : List TaskInstance) → slice_get tasks number ≡ Some given
@@ -183,7 +183,7 @@ module _ (tree : Tree) where
     -- as many tasks
     pub tasks_as_many : length tasks ≡ length (tasks_of tree)
     tasks_as_many =
-        let e = ap (λ (xs : List (List (Option ProgramInstance))). length xs) are in
+        let e = ap (λ (xs : List (List (Option NamedProgram))). length xs) are in
         let one = length-map tasks (map (instance_at tree)) in
         let other = length-map (tasks_of tree) (λ (t : SourceTask). map Some t.instances) in
         omega (arith, e, one, other)
@@ -253,7 +253,7 @@ module _ (tree : Tree) where
       }
 
     stored_by : (g k : ℕ) (p : DeclaredProgram) → slice_get (declared_programs tree) k ≡ Some p
-        → ProgramStores tree g p → (given : List TaskInstance) (instances : List ProgramInstance)
+        → ProgramStores tree g p → (given : List TaskInstance) (instances : List NamedProgram)
         → AreInstances tree given instances → SomeOf (λ i. i.program ≡ k) given
         → SomeOf (λ i. ProgramStores tree g i.program) instances
     stored_by g k p is stores [] instances are_its s = absurd s
@@ -268,7 +268,7 @@ module _ (tree : Tree) where
         let rest : AreInstances tree given instances = cc in
         inr (stored_by g k p is stores given instances rest s)
 
-    program_stores : (g : ℕ) (given : List TaskInstance) (instances : List ProgramInstance)
+    program_stores : (g : ℕ) (given : List TaskInstance) (instances : List NamedProgram)
         → AreInstances tree given instances → SomeOf (λ i. ProgramStores tree g i.program) instances
         → (k : ℕ) × (p : DeclaredProgram) × (slice_get (declared_programs tree) k ≡ Some p) × ProgramStores tree g p
         × SomeOf (λ i. i.program ≡ k) given

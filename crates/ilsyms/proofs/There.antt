@@ -10,14 +10,14 @@ use Rattle.ilscope.proofs.Least.{take_more}
 use Rattle.ilsource.specs.Trees.{Tree}
 use Rattle.ilsyms.specs.declared.tasks.TaskInstance.{TaskInstance}
 use Rattle.ilsyms.specs.InstanceSteps.{AreInstances, AreThere, instance_at, instances_of}
-use Rattle.ilsyms.specs.Tasks.{ProgramInstance, instance_named}
+use Rattle.ilsyms.specs.Tasks.{NamedProgram, instance_named}
 use Rattle.ilsyms.proofs.Firsts.{below_end}
 
-some_of_all : (given : List (Option ProgramInstance)) (is : List ProgramInstance) → given ≡ map Some is
+some_of_all : (given : List (Option NamedProgram)) (is : List NamedProgram) → given ≡ map Some is
     → filter_map (λ o. o) given ≡ is
 some_of_all given is e = ap (filter_map (λ o. o)) e ∙ all is
   where
-    all : (xs : List ProgramInstance) → filter_map (λ o. o) (map Some xs) ≡ xs
+    all : (xs : List NamedProgram) → filter_map (λ o. o) (map Some xs) ≡ xs
     all [] = refl
     all (x ∷ xs) = ap (λ ys. x ∷ ys) (all xs)
 
@@ -27,19 +27,19 @@ kept tree [] = refl
 kept tree (i ∷ given) = ap (cons_option (instance_at tree i)) (kept tree given)
 
 -- what is given are these instances and no others
-pub instances_are : (tree : Tree) (given : List TaskInstance) (is : List ProgramInstance) → AreInstances tree given is
+pub instances_are : (tree : Tree) (given : List TaskInstance) (is : List NamedProgram) → AreInstances tree given is
     → instances_of tree given ≡ is
 instances_are tree given is e = sym (kept tree given) ∙ some_of_all (map (instance_at tree) given) is e
 
-pub there : (tree : Tree) (given : List TaskInstance) (is : List ProgramInstance) → AreInstances tree given is
+pub there : (tree : Tree) (given : List TaskInstance) (is : List NamedProgram) → AreInstances tree given is
     → AreThere tree given
-there tree given is e = subst (λ (js : List ProgramInstance). AreInstances tree given js)
+there tree given is e = subst (λ (js : List NamedProgram). AreInstances tree given js)
     (sym (instances_are tree given is e)) e
 
 module _ (tree : Tree) (given : List TaskInstance) (is_there : AreThere tree given) where
   pub as_many : length (instances_of tree given) ≡ length given
   as_many =
-      let e = ap (λ (xs : List (Option ProgramInstance)). length xs) is_there in
+      let e = ap (λ (xs : List (Option NamedProgram)). length xs) is_there in
       let one = length-map given (instance_at tree) in
       let other : length (map Some (instances_of tree given)) ≡ length (instances_of tree given) =
       length-map (instances_of tree given) (λ i. Some i) in
@@ -52,7 +52,7 @@ module _ (tree : Tree) (given : List TaskInstance) (is_there : AreThere tree giv
     both : option_map Some (slice_get (instances_of tree given) k) ≡ Some (instance_at tree one)
     both =
         sym (slice_get-map (λ i. Some i) (instances_of tree given) k)
-        ∙ ap (λ (xs : List (Option ProgramInstance)). slice_get xs k) (sym is_there)
+        ∙ ap (λ (xs : List (Option NamedProgram)). slice_get xs k) (sym is_there)
         ∙ slice_get-map (instance_at tree) given k
         ∙ ap (option_map (instance_at tree)) (slice_get-get_or given k d below)
 
@@ -60,7 +60,7 @@ module _ (tree : Tree) (given : List TaskInstance) (is_there : AreThere tree giv
     pub program_there : (p : DeclaredProgram) × (slice_get (declared_programs tree) one.program ≡ Some p)
     program_there = by (slice_get (declared_programs tree) one.program) (slice_get (instances_of tree given) k) both
       where
-        by : (o : Option DeclaredProgram) (q : Option ProgramInstance)
+        by : (o : Option DeclaredProgram) (q : Option NamedProgram)
             → option_map Some q ≡ Some (option_map (instance_named one.name) o) → (p : DeclaredProgram) × (o ≡ Some p)
         by (Some p) q e = (p, refl)
         by None None e = absurd cc
@@ -75,7 +75,7 @@ module _ (tree : Tree) (given : List TaskInstance) (is_there : AreThere tree giv
     instance_there p e =
         by (slice_get (instances_of tree given) k) (both ∙ ap (λ o. Some (option_map (instance_named one.name) o)) e)
       where
-        by : (q : Option ProgramInstance) → option_map Some q ≡ Some (Some (instance_named one.name p))
+        by : (q : Option NamedProgram) → option_map Some q ≡ Some (Some (instance_named one.name p))
             → q ≡ Some (instance_named one.name p)
         by None e = absurd cc
         by (Some i) e = cc

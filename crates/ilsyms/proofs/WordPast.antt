@@ -13,7 +13,7 @@ use Rattle.ilscope.specs.Declarations.{DeclaredProgram, declared_programs}
 use Rattle.ilscope.proofs.Least.{take_more}
 use Rattle.ilsyms.specs.InstanceSteps.{instance_at, instances_of}
 use Rattle.ilsyms.specs.LimitSteps.{places_at, places_of_program}
-use Rattle.ilsyms.specs.Tasks.{ProgramInstance, instance_named}
+use Rattle.ilsyms.specs.Tasks.{NamedProgram, instance_named}
 use Rattle.ilsyms.specs.Variables.{lines_of}
 use Rattle.ilsyms.specs.declared.tasks.TaskInstance.{TaskInstance}
 
@@ -101,7 +101,7 @@ words_same tree (i ∷ given) = by (slice_get (declared_programs tree) i.program
     words : List (List ℕ)
     words = map places_of_program (declared_programs tree)
 
-    rest : List ProgramInstance
+    rest : List NamedProgram
     rest = instances_of tree given
 
     at : slice_get words i.program ≡ option_map places_of_program (slice_get (declared_programs tree) i.program)

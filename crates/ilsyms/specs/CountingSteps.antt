@@ -8,7 +8,7 @@ use Rattle.ilsource.specs.Trees.{Tree}
 use Rattle.ilscope.specs.Declarations.{declared_programs}
 use Rattle.ilscope.specs.Faults.{SomeOf}
 use Rattle.ilsyms.specs.Faults.{MakesTooManyConstants}
-use Rattle.ilsyms.specs.Tasks.{ProgramInstance}
+use Rattle.ilsyms.specs.Tasks.{NamedProgram}
 
 -- the different constants of the uses, and the place of the one that makes them too many, if there is one
 pub record AreCounted (uses : List (Use Symbol)) (constants : List Value) (excess : Option ℕ) : Type 0 where
@@ -16,7 +16,7 @@ pub record AreCounted (uses : List (Use Symbol)) (constants : List Value) (exces
   pub too_many : (place : ℕ) → (excess ≡ Some place) ↔ MakesTooManyConstants uses place
 
 -- the programs that are marked are those of some of the instances
-abbrev pub AreSeen : Tree → List ProgramInstance → List Bool → Type 0
+abbrev pub AreSeen : Tree → List NamedProgram → List Bool → Type 0
 AreSeen tree instances marks =
     (number : ℕ) → slice_get marks number ≡ Some true
     → SomeOf (λ i. slice_get (declared_programs tree) number ≡ Some i.program) instances

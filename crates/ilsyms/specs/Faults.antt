@@ -32,12 +32,12 @@ use Rattle.ilscope.specs.declared.fault.NameCause.TheVariants.{Unknown, Twice, U
 use Rattle.ilscope.specs.declared.fault.NameCause.TheVariants.{WritesInput, TooMany}
 use Rattle.ilscope.specs.Tables.{first_at}
 use Rattle.ilplan.specs.Constants.{constants_used, each_once}
-use Rattle.ilplan.specs.declared.slot.Variable.{Variable as Planned}
-use Rattle.ilplan.specs.declared.slot.Variable.TheVariants as variables
-use Rattle.ilblocks.specs.declared.kind.Kind.{Kind}
+use Rattle.ilplan.specs.declared.slot.SlotOwner.{SlotOwner}
+use Rattle.ilplan.specs.declared.slot.SlotOwner.TheVariants as variables
+use Rattle.ilblocks.specs.declared.kind.BlockKind.{BlockKind}
 use Rattle.ilblocks.specs.Ports.{port_named, input_type}
 use Rattle.ilsyms.specs.Meaning.{same_name}
-use Rattle.ilsyms.specs.Tasks.{ProgramInstance, SourceTask, tasks_of}
+use Rattle.ilsyms.specs.Tasks.{NamedProgram, SourceTask, tasks_of}
 use Rattle.ilsyms.specs.Variables.{slots_of, blocks_of, lines_of, uses_of}
 
 -- no variable or external of the program has the name, and no block instance has it
@@ -49,7 +49,7 @@ abbrev pub IsNoBlock : List ℕ → DeclaredProgram → Name → Type 0
 IsNoBlock text p name = ¬ SomeOf (λ b. SameName text name b.name) p.blocks
 
 -- the number of the port of a name, of the first block instance of a name; none where there is no such port
-abbrev pub port_number : List ℕ → DeclaredProgram → Name → Name → Option (Kind × ℕ)
+abbrev pub port_number : List ℕ → DeclaredProgram → Name → Name → Option (BlockKind × ℕ)
 port_number text p block port =
     option_and_then
     (λ b. option_map (λ number. (b.kind, number)) (port_named b.kind (text_of text port)))
@@ -87,7 +87,7 @@ IsUnknownName tree place =
 -- ---- ports
 
 -- an output is stored to, set, reset or given as an argument's port
-abbrev pub IsOutput : Option (Kind × ℕ) → Type 0
+abbrev pub IsOutput : Option (BlockKind × ℕ) → Type 0
 IsOutput None = ⊥
 IsOutput (Some port) = IsNone (input_type 1 port.0 port.1)
 
@@ -242,13 +242,13 @@ instance_names tree =
     (map (λ p. p.program.name) (declared_programs tree))
 
 -- the place of the declaration of a slot's variable
-abbrev pub place_of_slot : Tree → Planned → ℕ
+abbrev pub place_of_slot : Tree → SlotOwner → ℕ
 place_of_slot tree (variables.Own instance name) = name.from
 place_of_slot tree (variables.Global number) = option_map_or (λ g. g.name.from) (slice_get (globals_of tree) number) 0
 
 -- the variable, the block instance, or the instruction with the word or the constant, that exceeds the limit of a task
 -- with these instances is at the place
-abbrev pub IsTooManyIn : Tree → ℕ → List ProgramInstance → Type 0
+abbrev pub IsTooManyIn : Tree → ℕ → List NamedProgram → Type 0
 IsTooManyIn tree place instances =
     (slice_get (map (λ s. place_of_slot tree s.variable) (slots_of tree instances)) most_slots ≡ Some place)
     ⊎ (slice_get (map (λ b. b.name.from) (blocks_of instances)) most_blocks ≡ Some place)

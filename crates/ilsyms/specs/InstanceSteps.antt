@@ -11,18 +11,18 @@ use Rattle.ilplan.specs.declared.activation.Activation.{Activation}
 use Rattle.ilsyms.specs.declared.tasks.Assigned.{Assigned}
 use Rattle.ilsyms.specs.declared.tasks.TaskInstance.{TaskInstance}
 use Rattle.ilsyms.specs.Meaning.{same_name}
-use Rattle.ilsyms.specs.Tasks.{ProgramInstance, SourceTask, instance_named, tasks_of}
+use Rattle.ilsyms.specs.Tasks.{NamedProgram, SourceTask, instance_named, tasks_of}
 
 -- the instance of the program with this number
-abbrev pub instance_at : Tree → TaskInstance → Option ProgramInstance
+abbrev pub instance_at : Tree → TaskInstance → Option NamedProgram
 instance_at tree i = option_map (instance_named i.name) (slice_get (declared_programs tree) i.program)
 
 -- they are these instances
-abbrev pub AreInstances : Tree → List TaskInstance → List ProgramInstance → Type 0
+abbrev pub AreInstances : Tree → List TaskInstance → List NamedProgram → Type 0
 AreInstances tree given instances = map (instance_at tree) given ≡ map Some instances
 
 -- the instances of those programs that are there
-abbrev pub instances_of : Tree → List TaskInstance → List ProgramInstance
+abbrev pub instances_of : Tree → List TaskInstance → List NamedProgram
 instances_of tree given = filter_map (instance_at tree) given
 
 -- each program is there
@@ -41,11 +41,11 @@ AreInstancesOfTask tree number given =
 -- ---- instances with names of their own
 
 -- the instances have other names
-abbrev pub AreOthers : List ℕ → Name → List ProgramInstance → Type 0
+abbrev pub AreOthers : List ℕ → Name → List NamedProgram → Type 0
 AreOthers text name [] = ⊤
 AreOthers text name (i ∷ is) = (same_name text name i.name ≡ false) × AreOthers text name is
 
-abbrev pub AreApart : List ℕ → List ProgramInstance → Type 0
+abbrev pub AreApart : List ℕ → List NamedProgram → Type 0
 AreApart text [] = ⊤
 AreApart text (i ∷ is) = AreOthers text i.name is × AreApart text is
 
@@ -66,6 +66,6 @@ abbrev pub given_to : ℕ → Assigned → Option TaskInstance
 given_to task a = if a.task == task then Some a.instance else None
 
 -- the task of these parts
-abbrev pub task_with : List ℕ → Activation → ℕ → List ProgramInstance → SourceTask
+abbrev pub task_with : List ℕ → Activation → ℕ → List NamedProgram → SourceTask
 task_with name activation priority instances =
     record { name = name; activation = activation; priority = priority; instances = instances }

@@ -20,12 +20,12 @@ use Rattle.ilsource.specs.Trees.{Tree}
 use Rattle.ilscope.specs.Configured.{global_number}
 use Rattle.ilplan.specs.declared.instance.FunctionBlock.{FunctionBlock}
 use Rattle.ilplan.specs.declared.slot.Slot.{Slot}
-use Rattle.ilplan.specs.declared.slot.Variable.{Variable}
-use Rattle.ilplan.specs.declared.slot.Variable.TheVariants as variables
+use Rattle.ilplan.specs.declared.slot.SlotOwner.{SlotOwner}
+use Rattle.ilplan.specs.declared.slot.SlotOwner.TheVariants as variables
 use Rattle.ilplan.specs.declared.place.Place.{Place}
 use Rattle.ilplan.specs.declared.place.Place.TheVariants as places
 use Rattle.ilplan.specs.PlanMeaning.{place_value, with_place, passed_place, called_place}
-use Rattle.ilsyms.specs.Tasks.{ProgramInstance, SourceTask}
+use Rattle.ilsyms.specs.Tasks.{NamedProgram, SourceTask}
 use Rattle.ilsyms.specs.Variables.{slots_of, blocks_of, shape_of}
 
 -- both are spelled alike, in a text
@@ -33,18 +33,18 @@ abbrev pub same_name : List ℕ → Name → Name → Bool
 same_name text one other = bytes_eq (folded text one) (folded text other)
 
 -- the variable is one of this name, of an instance of that name
-abbrev pub is_own : List ℕ → Name → Name → Variable → Bool
+abbrev pub is_own : List ℕ → Name → Name → SlotOwner → Bool
 is_own text instance name (variables.Own its own) = same_name text instance its && same_name text name own
 is_own text instance name (variables.Global number) = false
 
 -- the variable is the global one of this number, if there is such a number
-abbrev pub is_global : Option ℕ → Variable → Bool
+abbrev pub is_global : Option ℕ → SlotOwner → Bool
 is_global wanted (variables.Global number) = option_map_or (λ its. its == number) wanted false
 is_global wanted (variables.Own its own) = false
 
 -- the place in a store of the value of what an instance's lines name: the instance's own variable, else the global
 -- variable of that name; past the last value where there is neither
-abbrev pub place_in_store : Tree → List Slot → ProgramInstance → Name → ℕ
+abbrev pub place_in_store : Tree → List Slot → NamedProgram → Name → ℕ
 place_in_store tree slots instance name =
     if list_any (λ v. same_name tree.text name v.name) instance.program.variables
     then position_or_len (λ s. is_own tree.text instance.name name s.variable) slots
@@ -65,7 +65,7 @@ abbrev pub port_in_store : List ℕ → List FunctionBlock → ℕ → Name → 
 port_in_store text blocks block port = option_map_or (port_of_block text port) (slice_get blocks block) most_ports
 
 -- the place of what an instance's lines name
-abbrev pub place_of : Tree → List Slot → List FunctionBlock → ProgramInstance → Symbol → Place
+abbrev pub place_of : Tree → List Slot → List FunctionBlock → NamedProgram → Symbol → Place
 place_of tree slots blocks instance (symbols.Variable name) = places.Slot (place_in_store tree slots instance name)
 place_of tree slots blocks instance (symbols.Port block port) =
     let number = block_in_store tree.text blocks instance.name block in
@@ -74,7 +74,7 @@ place_of tree slots blocks instance (symbols.Block name) =
     places.Block (block_in_store tree.text blocks instance.name name)
 
 -- how the names in an instance's lines are read, written, passed to and called, in the store of its task
-abbrev pub names_in : Shape → Tree → List Slot → List FunctionBlock → ProgramInstance → Access Symbol Store
+abbrev pub names_in : Shape → Tree → List Slot → List FunctionBlock → NamedProgram → Access Symbol Store
 names_in shape tree slots blocks instance =
     record {
       read = λ store name. place_value store (place_of tree slots blocks instance name);
@@ -84,7 +84,7 @@ names_in shape tree slots blocks instance =
     }
 
 -- the store that the instances leave, one after another, where they leave one
-abbrev pub instances_scan : Shape → Tree → List Slot → List FunctionBlock → List ProgramInstance → Store → Option Store
+abbrev pub instances_scan : Shape → Tree → List Slot → List FunctionBlock → List NamedProgram → Store → Option Store
 instances_scan shape tree slots blocks [] store = Some store
 instances_scan shape tree slots blocks (i ∷ instances) store =
     option_and_then

@@ -17,8 +17,8 @@ use Rattle.ilscope.specs.Declarations.{DeclaredProgram}
 use Rattle.ilscope.specs.Kept.{Kept}
 use Rattle.ilscope.specs.Tables.{block_number, variable_number}
 use Rattle.ilplan.specs.declared.slot.Slot.{Slot}
-use Rattle.ilplan.specs.declared.slot.Variable.{Variable}
-use Rattle.ilplan.specs.declared.slot.Variable.TheVariants.{Global, Own}
+use Rattle.ilplan.specs.declared.slot.SlotOwner.{SlotOwner}
+use Rattle.ilplan.specs.declared.slot.SlotOwner.TheVariants.{Global, Own}
 use Rattle.ilplan.specs.declared.place.Place.{Place}
 use Rattle.ilplan.specs.declared.place.Place.TheVariants as places
 use Rattle.ilsyms.specs.Faults.{port_number}
@@ -93,6 +93,6 @@ abbrev pub label_of : Numbering → Name → ℕ
 label_of n label = unwrap_or (lookup (bytes_eq (folded n.tree.text label)) n.labels) (length n.program.program.lines)
 
 -- the variable is one of an instance
-abbrev pub is_of_instance : Variable → Bool
+abbrev pub is_of_instance : SlotOwner → Bool
 is_of_instance (Own instance name) = true
 is_of_instance (Global number) = false

@@ -23,7 +23,7 @@ use Rattle.ilplan.specs.declared.slot.Slot.{Slot}
 use Rattle.ilplan.specs.Constants.{different_constants}
 use Rattle.ilplan.specs.Plans.{PlannedInstance, PlannedTask, Planned, task_of, plan_of}
 use Rattle.ilsyms.specs.Meaning.{same_name, place_of}
-use Rattle.ilsyms.specs.Tasks.{ProgramInstance, SourceTask, tasks_of}
+use Rattle.ilsyms.specs.Tasks.{NamedProgram, SourceTask, tasks_of}
 use Rattle.ilsyms.specs.Variables.{slots_of, blocks_of, lines_of}
 
 -- where an address of a place that is there lies
@@ -45,7 +45,7 @@ planned_global g =
     }
 
 -- each name in an instance's lines as its place; constants stay
-abbrev pub new_places : Tree → List Slot → List FunctionBlock → ProgramInstance → NewNames Symbol Place
+abbrev pub new_places : Tree → List Slot → List FunctionBlock → NamedProgram → NewNames Symbol Place
 new_places tree slots blocks instance =
     let place = place_of tree slots blocks instance in record { operand = by_name place; name = place }
 
@@ -53,7 +53,7 @@ new_places tree slots blocks instance =
 abbrev pub label_number : List ℕ → List (Line Symbol Name) → Name → ℕ
 label_number text lines label = position_or_len (λ line. has_label (same_name text) label line.label) lines
 
-abbrev pub planned_instance : Tree → List Slot → List FunctionBlock → ProgramInstance → PlannedInstance
+abbrev pub planned_instance : Tree → List Slot → List FunctionBlock → NamedProgram → PlannedInstance
 planned_instance tree slots blocks i =
     let lines = i.program.program.lines in
     record {
@@ -61,7 +61,7 @@ planned_instance tree slots blocks i =
       lines = map (rename_line (new_places tree slots blocks i) (label_number tree.text lines)) lines;
     }
 
-abbrev pub planned_instances : Tree → List ProgramInstance → List PlannedInstance
+abbrev pub planned_instances : Tree → List NamedProgram → List PlannedInstance
 planned_instances tree instances =
     map (planned_instance tree (slots_of tree instances) (blocks_of instances)) instances
 

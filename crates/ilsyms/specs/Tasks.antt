@@ -18,7 +18,7 @@ use Rattle.ilplan.specs.Printed.{printed_name}
 use Rattle.ilplan.specs.declared.activation.Activation.TheVariants.{Cyclic, Event}
 
 -- a program under the name of an instance
-pub record ProgramInstance : Type 0 where
+pub record NamedProgram : Type 0 where
   pub name : Name
   pub program : DeclaredProgram
 
@@ -27,7 +27,7 @@ pub record SourceTask : Type 0 where
   pub name : List ℕ
   pub activation : Activation
   pub priority : ℕ
-  pub instances : List ProgramInstance
+  pub instances : List NamedProgram
 
 -- what starts a task that has no fault: the trigger that SINGLE names, or the clock
 abbrev pub activation_of : Tree → TaskDeclaration → Activation
@@ -42,11 +42,11 @@ abbrev pub priority_of : ℤ → ℕ
 priority_of (pos n) = n
 priority_of _ = 0
 
-abbrev pub instance_named : Name → DeclaredProgram → ProgramInstance
+abbrev pub instance_named : Name → DeclaredProgram → NamedProgram
 instance_named name program = record { name = name; program = program }
 
 -- the instance that is declared, of the first program of its program's name
-abbrev pub declared_instance : Tree → InstanceDeclaration → Option ProgramInstance
+abbrev pub declared_instance : Tree → InstanceDeclaration → Option NamedProgram
 declared_instance tree i =
     option_map (instance_named i.name)
     (option_and_then (slice_get (declared_programs tree)) (program_number tree i.program))
@@ -55,10 +55,10 @@ declared_instance tree i =
 abbrev pub is_in : Tree → ℕ → InstanceDeclaration → Bool
 is_in tree task i = option_map_or (λ number. number == task) (option_and_then (task_number tree) i.task) false
 
-abbrev pub instance_in : Tree → ℕ → InstanceDeclaration → Option ProgramInstance
+abbrev pub instance_in : Tree → ℕ → InstanceDeclaration → Option NamedProgram
 instance_in tree task i = if is_in tree task i then declared_instance tree i else None
 
-abbrev pub instances_in : Tree → List InstanceDeclaration → ℕ → List ProgramInstance
+abbrev pub instances_in : Tree → List InstanceDeclaration → ℕ → List NamedProgram
 instances_in tree instances task = filter_map (instance_in tree task) instances
 
 abbrev pub declared_task : Tree → Configured → ℕ × TaskDeclaration → SourceTask

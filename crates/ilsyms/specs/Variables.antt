@@ -16,11 +16,11 @@ use Rattle.ilscope.specs.Configured.{globals_of, global_number}
 use Rattle.ilscope.specs.declared.block.DeclaredBlock.{DeclaredBlock}
 use Rattle.ilscope.specs.declared.external.DeclaredExternal.{DeclaredExternal}
 use Rattle.ilscope.specs.declared.global.DeclaredGlobal.{DeclaredGlobal}
-use Rattle.ilscope.specs.declared.variable.Variable.{Variable}
+use Rattle.ilscope.specs.declared.variable.DeclaredVariable.{DeclaredVariable}
 use Rattle.ilplan.specs.declared.instance.FunctionBlock.{FunctionBlock}
 use Rattle.ilplan.specs.declared.slot.Slot.{Slot}
-use Rattle.ilplan.specs.declared.slot.Variable.TheVariants as variables
-use Rattle.ilsyms.specs.Tasks.{ProgramInstance}
+use Rattle.ilplan.specs.declared.slot.SlotOwner.TheVariants as variables
+use Rattle.ilsyms.specs.Tasks.{NamedProgram}
 
 -- ---- variables
 
@@ -30,47 +30,47 @@ is_among tree number externals =
     list_any (λ e. option_map_or (λ its. its == number) (global_number tree e.name) false) externals
 
 -- the programs of the instances name it in VAR_EXTERNAL
-abbrev pub is_named : Tree → List ProgramInstance → ℕ → Bool
+abbrev pub is_named : Tree → List NamedProgram → ℕ → Bool
 is_named tree instances number = list_any (λ i. is_among tree number i.program.externals) instances
 
 -- the slot of a global variable, and that of a variable of an instance
 abbrev pub global_slot : ℕ → DeclaredGlobal → Slot
 global_slot number g = record { variable = variables.Global number; value_type = g.value_type; initial = g.initial }
 
-abbrev pub own_slot : Name → Variable → Slot
+abbrev pub own_slot : Name → DeclaredVariable → Slot
 own_slot instance v =
     record { variable = variables.Own instance v.name; value_type = v.value_type; initial = v.initial }
 
 -- the global variables that the instances' programs name, in declared order
-abbrev pub named_slot : Tree → List ProgramInstance → ℕ × DeclaredGlobal → Option Slot
+abbrev pub named_slot : Tree → List NamedProgram → ℕ × DeclaredGlobal → Option Slot
 named_slot tree instances numbered =
     if is_named tree instances numbered.0 then Some (global_slot numbered.0 numbered.1) else None
 
-abbrev pub global_slots : Tree → List ProgramInstance → List Slot
+abbrev pub global_slots : Tree → List NamedProgram → List Slot
 global_slots tree instances = filter_map (named_slot tree instances) (enumerate_from 0 (globals_of tree))
 
 -- the variables of instances: those of the first, in declared order, then those of the next
-abbrev pub slots_in : ProgramInstance → List Slot
+abbrev pub slots_in : NamedProgram → List Slot
 slots_in i = map (own_slot i.name) i.program.variables
 
-abbrev pub own_slots : List ProgramInstance → List Slot
+abbrev pub own_slots : List NamedProgram → List Slot
 own_slots instances = flat_map slots_in instances
 
-abbrev pub slots_of : Tree → List ProgramInstance → List Slot
+abbrev pub slots_of : Tree → List NamedProgram → List Slot
 slots_of tree instances = global_slots tree instances ++ own_slots instances
 
 -- the block instances, in the same order
 abbrev pub function_block : Name → DeclaredBlock → FunctionBlock
 function_block instance b = record { instance = instance; name = b.name; kind = b.kind }
 
-abbrev pub blocks_in : ProgramInstance → List FunctionBlock
+abbrev pub blocks_in : NamedProgram → List FunctionBlock
 blocks_in i = map (function_block i.name) i.program.blocks
 
-abbrev pub blocks_of : List ProgramInstance → List FunctionBlock
+abbrev pub blocks_of : List NamedProgram → List FunctionBlock
 blocks_of instances = flat_map blocks_in instances
 
 -- on so many buses they are stores of this shape
-abbrev pub shape_of : Tree → ℕ → List ProgramInstance → Shape
+abbrev pub shape_of : Tree → ℕ → List NamedProgram → Shape
 shape_of tree buses instances =
     record {
       buses = buses;
@@ -81,7 +81,7 @@ shape_of tree buses instances =
 -- ---- lines
 
 -- the lines of instances, one instance after another
-abbrev pub lines_of : List ProgramInstance → List (Line Symbol Name)
+abbrev pub lines_of : List NamedProgram → List (Line Symbol Name)
 lines_of instances = flat_map (λ i. i.program.program.lines) instances
 
 -- what they use

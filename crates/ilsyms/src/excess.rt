@@ -17,7 +17,7 @@ use crate::counting::Counted;
 use crate::slots::slots_of;
 use crate::tasks::{TaskInstance, TaskInstances};
 use crate::words::{WordPlaces, word_past, words_of_programs};
-use ilplan::{FunctionBlock, Slot, Variable};
+use ilplan::{FunctionBlock, Slot, SlotOwner};
 use ilscope::{Found, NameCause, ProgramScope, Scope, lesser_of};
 use ilsource::Configuration;
 use limits::{MOST_BLOCKS, MOST_INSTANCES, MOST_SLOTS, MOST_TASKS};
@@ -132,12 +132,12 @@ fn slot_past(scope: &Scope<'_>, slots: &[Slot]) -> Option<usize>
 }
 
 /// The place of the declaration of a variable.
-fn place_of(scope: &Scope<'_>, variable: Variable) -> usize
+fn place_of(scope: &Scope<'_>, variable: SlotOwner) -> usize
     ensures { result ≡ place_of_slot scope.now.tree variable }
 {
     match variable {
-        Variable::Own { name, .. } => name.from,
-        Variable::Global(number) => match scope.globals().get(number) {
+        SlotOwner::Own { name, .. } => name.from,
+        SlotOwner::Global(number) => match scope.globals().get(number) {
             Some(global) => global.name.from,
             None => 0,
         },

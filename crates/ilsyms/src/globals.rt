@@ -9,7 +9,7 @@ ghost use Rattle.ilsyms.specs.Resolved.{location, planned_global};
 
 use ilplan::{Global as PlannedGlobal, Location};
 use ilscope::{DeclaredGlobal, Scope};
-use ilsource::Address;
+use ilsource::DirectAddress;
 use iltokens::AddressKind;
 use std::alloc::{AllocError, Global};
 
@@ -43,7 +43,7 @@ fn planned_global(global: DeclaredGlobal) -> PlannedGlobal
 }
 
 /// Where the address lies, if there is one.
-fn planned_location(address: Option<Address>) -> Option<Location>
+fn planned_location(address: Option<DirectAddress>) -> Option<Location>
     requires { IfSome address (λ a. (a.bus < 256) × (a.place < 256)) }
     ensures { result ≡ option_map (λ a. location a.kind a.bus a.place) address }
 {

@@ -30,6 +30,6 @@ mod uses;
 mod words;
 mod written_twice;
 
-pub use ilplan::{Instance, Plan, Slot, Task, Variable};
+pub use ilplan::{Plan, ProgramInstance, Slot, SlotOwner, Task};
 pub use ilscope::{NameCause, NameFault, Scope};
 pub use resolving::resolve;

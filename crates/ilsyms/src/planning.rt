@@ -13,7 +13,7 @@ ghost use Rattle.ilsyms.specs.Variables.{blocks_of, lines_of, slots_of};
 use crate::labelling::number_labels;
 use crate::numbering::Numbering;
 use crate::tasks::{TaskInstance, program_of};
-use ilplan::{FunctionBlock, Instance, Slot, Variable};
+use ilplan::{FunctionBlock, ProgramInstance, Slot, SlotOwner};
 use ilscope::Scope;
 use std::alloc::{AllocError, Global};
 
@@ -25,7 +25,7 @@ pub(crate) fn plan_instances(
     instances: &[TaskInstance],
     slots: &[Slot],
     blocks: &[FunctionBlock],
-) -> Result<Vec<Instance>, AllocError>
+) -> Result<Vec<ProgramInstance>, AllocError>
     requires there { AreThere scope.now.tree instances.now }
     requires apart { AreApart scope.now.tree.text (instances_of scope.now.tree instances.now) }
     requires slots { slots.now ≡ slots_of scope.now.tree
@@ -58,7 +58,7 @@ pub(crate) fn plan_instances(
             labels,
         );
         let lines = numbering.lines(alloc, lines)?;
-        planned.push(Instance::new(instance.name, lines))?;
+        planned.push(ProgramInstance::new(instance.name, lines))?;
         first_slot += program.variables().len();
         first_block += program.blocks().len();
     }
@@ -78,11 +78,11 @@ fn global_slots(alloc: Global, slots: &[Slot], globals: usize) -> Result<Vec<usi
 }
 
 /// Sets the number of the slot of a variable, where it is a global one with an entry.
-fn set_number(numbers: &mut [usize], variable: Variable, number: usize)
+fn set_number(numbers: &mut [usize], variable: SlotOwner, number: usize)
     ensures { SetsWhere (λ global. is_global (Some global) variable) number
         numbers.old numbers.new }
 {
-    if let Variable::Global(global) = variable
+    if let SlotOwner::Global(global) = variable
         && global < numbers.len()
     {
         numbers[global] = number;
@@ -103,8 +103,8 @@ fn first_own(slots: &[Slot]) -> usize
 }
 
 /// Whether a variable is one of an instance.
-fn is_of_instance(variable: Variable) -> bool
+fn is_of_instance(variable: SlotOwner) -> bool
     ensures { result ≡ is_of_instance variable }
 {
-    matches!(variable, Variable::Own { .. })
+    matches!(variable, SlotOwner::Own { .. })
 }

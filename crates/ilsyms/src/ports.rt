@@ -6,7 +6,7 @@ ghost use Rattle.ilscope.specs.Faults.{IsLeastOf, OfCause};
 ghost use Rattle.ilscope.specs.declared.fault.NameCause.TheVariants.{WritesInput};
 ghost use Rattle.ilsyms.specs.Faults.{place_of_port, port_number, writes, WritesOutput};
 
-use ilblocks::Kind;
+use ilblocks::BlockKind;
 use ilscope::{Found, NameCause, Scope};
 use ilsource::{Name, Symbol};
 use iltrees::{Operand, Purpose, Use};
@@ -18,7 +18,7 @@ pub(crate) fn port_of(
     number: usize,
     block: Name,
     port: Name,
-) -> Option<(Kind, usize)>
+) -> Option<(BlockKind, usize)>
     requires { number < length (declared_programs scope.now.tree) }
     ensures { (p : DeclaredProgram) → slice_get (declared_programs scope.now.tree) number ≡ Some p
         → result ≡ port_number scope.now.tree.text p block port }

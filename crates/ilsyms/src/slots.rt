@@ -11,7 +11,7 @@ ghost use Rattle.ilsyms.specs.Variables.{global_slot, global_slots, is_among, is
 ghost use Rattle.ilsyms.specs.Variables.{slots_in, slots_of};
 
 use crate::tasks::{TaskInstance, program_of};
-use ilplan::{Slot, Variable};
+use ilplan::{Slot, SlotOwner};
 use ilscope::{DeclaredExternal, DeclaredGlobal, ProgramScope, Scope};
 use ilsource::Name;
 use limits::MOST_SLOTS;
@@ -64,7 +64,7 @@ fn slot_of_global(number: usize, global: DeclaredGlobal) -> Slot
     ensures { result ≡ global_slot number global }
 {
     Slot {
-        variable: Variable::Global(number),
+        variable: SlotOwner::Global(number),
         value_type: global.value_type,
         initial: global.initial,
     }
@@ -129,7 +129,7 @@ fn add_slots(
     }
     for variable in program.variables() {
         let slot = Slot {
-            variable: Variable::Own {
+            variable: SlotOwner::Own {
                 instance,
                 name: variable.name,
             },

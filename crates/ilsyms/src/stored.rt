@@ -13,7 +13,7 @@ ghost use Rattle.ilsyms.specs.Faults.{StoresToInput, stored_name};
 
 use crate::uses::uses_of;
 use ilscope::{Found, NameCause, Scope};
-use ilsource::{Address, Name, Symbol};
+use ilsource::{DirectAddress, Name, Symbol};
 use iltokens::AddressKind;
 use iltrees::{Operand, Purpose, Use};
 use std::alloc::{AllocError, Global};
@@ -105,7 +105,7 @@ fn is_named_input(scope: &Scope<'_>, name: Name) -> bool
 }
 
 /// Where the global variable of this name is located, if it is.
-fn named_address(scope: &Scope<'_>, name: Name) -> Option<Address>
+fn named_address(scope: &Scope<'_>, name: Name) -> Option<DirectAddress>
     ensures { result ≡ option_and_then (λ g. g.address) (global_named scope.now.tree name) }
 {
     let number = scope.global_number(name)?;
@@ -113,7 +113,7 @@ fn named_address(scope: &Scope<'_>, name: Name) -> Option<Address>
 }
 
 /// Whether a variable at this address is an input, which no program stores to.
-fn is_input(address: Address) -> bool
+fn is_input(address: DirectAddress) -> bool
     ensures { IsTrue result ↔ IsInput address }
 {
     !matches!(address.kind, AddressKind::OutputByte)

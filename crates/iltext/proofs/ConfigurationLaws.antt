@@ -9,8 +9,8 @@ use Rattle.ilsource.specs.declared.configuration.TaskDeclaration.{TaskDeclaratio
 use Rattle.iltokens.specs.declared.keyword.Keyword.{Keyword}
 use Rattle.iltokens.specs.declared.keyword.Keyword.TheVariants as words
 use Rattle.iltokens.specs.declared.lexed.What.TheVariants as whats
-use Rattle.iltext.specs.declared.token.Kind.{Kind}
-use Rattle.iltext.specs.declared.token.Kind.TheVariants as kinds
+use Rattle.iltext.specs.declared.token.TokenKind.{TokenKind}
+use Rattle.iltext.specs.declared.token.TokenKind.TheVariants as kinds
 use Rattle.iltext.specs.declared.token.Token.{Token}
 use Rattle.iltext.specs.Configurations.{body, resource_head, resource, end, contents, configuration}
 use Rattle.iltext.specs.Globals.{global_blocks, var_global}
@@ -77,7 +77,7 @@ unfolding body tasks task program_instances program_instance var_global word
 inside_word_apart words.VarGlobal f g e = absurd cc
 inside_word_apart _ f g e = refl
 
-inside_apart : (k : Kind) (f g : ℕ) → (lead body (spaced (word words.EndResource))).starts (token_of k f g) ≡ true
+inside_apart : (k : TokenKind) (f g : ℕ) → (lead body (spaced (word words.EndResource))).starts (token_of k f g) ≡ true
     → NoEnd (token_of k f g) × NoGlobal (token_of k f g)
 unfolding body tasks task program_instances program_instance var_global word delimiter
 inside_apart (kinds.Good (whats.Keyword w)) f g e = (refl, inside_word_apart w f g e)
@@ -86,7 +86,7 @@ inside_apart _ f g e = absurd cc
 abbrev begins_globals : Token → Bool
 begins_globals t = (lead global_blocks (lead body (spaced (word words.EndResource)))).starts t
 
-globals_no_end : (k : Kind) (f g : ℕ) → begins_globals (token_of k f g) ≡ true → NoEnd (token_of k f g)
+globals_no_end : (k : TokenKind) (f g : ℕ) → begins_globals (token_of k f g) ≡ true → NoEnd (token_of k f g)
 unfolding global_blocks body tasks task program_instances program_instance var_global word delimiter
 globals_no_end (kinds.Good (whats.Keyword w)) f g e = refl
 globals_no_end _ f g e = absurd cc
@@ -111,7 +111,7 @@ unfolding end body tasks task program_instances program_instance resource resour
 body_word_apart words.Resource f g e = absurd cc
 body_word_apart _ f g e = refl
 
-body_apart : (k : Kind) (f g : ℕ) → (lead body end).starts (token_of k f g) ≡ true
+body_apart : (k : TokenKind) (f g : ℕ) → (lead body end).starts (token_of k f g) ≡ true
     → resource.starts (token_of k f g) ≡ false
 unfolding end body tasks task program_instances program_instance resource resource_head word
 body_apart (kinds.Good (whats.Keyword w)) f g e = body_word_apart w f g e
@@ -131,13 +131,13 @@ unfolding contents end body tasks task program_instances program_instance resour
 contents_word_apart words.VarGlobal f g e = absurd cc
 contents_word_apart _ f g e = refl
 
-contents_apart : (k : Kind) (f g : ℕ) → contents.starts (token_of k f g) ≡ true
+contents_apart : (k : TokenKind) (f g : ℕ) → contents.starts (token_of k f g) ≡ true
     → NoEnd (token_of k f g) × NoGlobal (token_of k f g)
 unfolding contents end body tasks task program_instances program_instance resource resource_head word delimiter
 contents_apart (kinds.Good (whats.Keyword w)) f g e = (refl, contents_word_apart w f g e)
 contents_apart _ f g e = absurd cc
 
-contents_no_end : (k : Kind) (f g : ℕ) → (lead global_blocks contents).starts (token_of k f g) ≡ true
+contents_no_end : (k : TokenKind) (f g : ℕ) → (lead global_blocks contents).starts (token_of k f g) ≡ true
     → NoEnd (token_of k f g)
 unfolding global_blocks var_global word delimiter
 contents_no_end k f g e = go (var_global.starts (token_of k f g)) refl

@@ -2,12 +2,12 @@
 use Rattle.std.proofs.Common.{◌≡◌, ℕ, ◌≤◌, List, [], ◌∷◌, length, refl, sym, ap, ◌∙◌}
 use Rattle.iltokens.specs.declared.lexed.Lexed.TheVariants as lexed
 use Rattle.iltokens.proofs.Reporting.{one_reported, ends_within}
-use Rattle.iltext.specs.declared.token.Kind.{Kind}
-use Rattle.iltext.specs.declared.token.Kind.TheVariants as kinds
+use Rattle.iltext.specs.declared.token.TokenKind.{TokenKind}
+use Rattle.iltext.specs.declared.token.TokenKind.TheVariants as kinds
 use Rattle.iltext.specs.declared.token.Token.{Token}
 use Rattle.iltext.specs.Cutting.{Stands, Follows, Cuts}
 
-abbrev made : Kind → ℕ → ℕ → Token
+abbrev made : TokenKind → ℕ → ℕ → Token
 made k f g = record { kind = k; from = f; to = g }
 
 equal : (t u : Token) → t.kind ≡ u.kind → t.from ≡ u.from → t.to ≡ u.to → t ≡ u
@@ -18,18 +18,18 @@ pub one_cut : (text : List ℕ) (at : ℕ) → at ≤ length text → (ts us : L
 one_cut text at le [] [] h i = refl
 one_cut text at le [] (u ∷ us) h i = go u.kind i.0
   where
-    go : (k : Kind) → Stands text at u k → [] ≡ u ∷ us
+    go : (k : TokenKind) → Stands text at u k → [] ≡ u ∷ us
     go (kinds.Good w) i = let e = one_reported text at le lexed.End (lexed.Token w u.from u.to) h i in absurd cc
     go (kinds.Bad d) i = let e = one_reported text at le lexed.End (lexed.Fault d u.from) h i.0 in absurd cc
 one_cut text at le (t ∷ ts) [] h i = go t.kind h.0
   where
-    go : (j : Kind) → Stands text at t j → t ∷ ts ≡ []
+    go : (j : TokenKind) → Stands text at t j → t ∷ ts ≡ []
     go (kinds.Good v) h = let e = one_reported text at le lexed.End (lexed.Token v t.from t.to) i h in absurd cc
     go (kinds.Bad c) h = let e = one_reported text at le lexed.End (lexed.Fault c t.from) i h.0 in absurd cc
 one_cut text at le (t ∷ ts) (u ∷ us) h i =
     go t.kind u.kind refl refl h i (λ further a b. one_cut text t.to further ts us a b)
   where
-    go : (j k : Kind) → t.kind ≡ j → u.kind ≡ k → Stands text at t j × Follows j (Cuts text t.to ts) ts
+    go : (j k : TokenKind) → t.kind ≡ j → u.kind ≡ k → Stands text at t j × Follows j (Cuts text t.to ts) ts
         → Stands text at u k × Follows k (Cuts text u.to us) us
         → (t.to ≤ length text → Cuts text t.to ts → Cuts text t.to us → ts ≡ us) → t ∷ ts ≡ u ∷ us
     go (kinds.Good v) (kinds.Bad d) a b h i ih =

@@ -2,8 +2,8 @@
 use Rattle.std.proofs.Common.{◌≡◌, ◌||◌, ℕ, ℤ, true, false, List, Option, refl}
 use Rattle.iloperators.specs.declared.function.IntegerType.{IntegerType}
 use Rattle.iloperators.specs.declared.function.IntegerType.TheVariants as integers
-use Rattle.ilblocks.specs.declared.kind.Kind.{Kind as BlockKind}
-use Rattle.ilblocks.specs.declared.kind.Kind.TheVariants as blocks
+use Rattle.ilblocks.specs.declared.kind.BlockKind.{BlockKind}
+use Rattle.ilblocks.specs.declared.kind.BlockKind.TheVariants as blocks
 use Rattle.ilgrammar.specs.Items.{lead, is_in}
 use Rattle.ilgrammar.proofs.Laws.{Lawful, Lawful-map}
 use Rattle.ilgrammar.proofs.Firm.{Firm, Firm-one, Firm-map, Firm-seq, Firm-seq_open, Firm-lead, Firm-alt, Firm-fewer}
@@ -19,8 +19,8 @@ use Rattle.iltokens.specs.declared.keyword.Keyword.{Keyword}
 use Rattle.iltokens.specs.declared.keyword.Keyword.TheVariants as words
 use Rattle.iltokens.specs.declared.lexed.Delimiter.TheVariants as delimiters
 use Rattle.iltokens.specs.declared.lexed.What.TheVariants as whats
-use Rattle.iltext.specs.declared.token.Kind.{Kind}
-use Rattle.iltext.specs.declared.token.Kind.TheVariants as kinds
+use Rattle.iltext.specs.declared.token.TokenKind.{TokenKind}
+use Rattle.iltext.specs.declared.token.TokenKind.TheVariants as kinds
 use Rattle.iltext.specs.declared.token.Token.{Token}
 use Rattle.iltext.specs.declared.block_kinds.TheConstants.{BLOCKS}
 use Rattle.iltext.specs.Roles.{lookup}
@@ -71,7 +71,7 @@ integer_apart words.Bool e = absurd cc
 integer_apart words.Time e = absurd cc
 integer_apart _ e = refl
 
-range_apart : (k : Kind) (f g : ℕ) → range.starts (token_of k f g) ≡ true
+range_apart : (k : TokenKind) (f g : ℕ) → range.starts (token_of k f g) ≡ true
     → (spaced simple).starts (token_of k f g) ≡ false
 unfolding range integer simple
 range_apart (kinds.Good (whats.Keyword w)) f g e = integer_apart w e
@@ -82,7 +82,8 @@ unfolding specification
 Firm-specification = Firm-fewer (λ t. NoEnd t × NoOpen t) (λ t e. (e.0, e))
     (Firm-alt (Firm-spaced Firm-simple) (λ t e. range_apart t.kind t.from t.to e) Firm-range)
 
-pub specification_no_end : (k : Kind) (f g : ℕ) → specification.starts (token_of k f g) ≡ true → NoEnd (token_of k f g)
+pub specification_no_end : (k : TokenKind) (f g : ℕ) → specification.starts (token_of k f g) ≡ true
+    → NoEnd (token_of k f g)
 unfolding specification range integer simple delimiter
 specification_no_end (kinds.Good (whats.Delimiter m)) f g e = absurd cc
 specification_no_end _ f g e = refl
@@ -100,7 +101,8 @@ semicolon_apart t e = (
   apart_delimiter delimiters.Semicolon (delimiter delimiters.Assign).starts (λ f g. refl) t.kind t.from t.to e,
 )
 
-begins_value : (k : Kind) (f g : ℕ) → (lead initial (spaced (delimiter delimiters.Semicolon))).starts (token_of k f g)
+begins_value : (k : TokenKind) (f g : ℕ)
+    → (lead initial (spaced (delimiter delimiters.Semicolon))).starts (token_of k f g)
     ≡ true
     → NoEnd (token_of k f g) × NoOpen (token_of k f g)
 unfolding initial delimiter
@@ -167,7 +169,7 @@ word_apart words.Uint e = refl
 word_apart words.Udint e = refl
 word_apart _ e = absurd cc
 
-typing_apart : (k : Kind) (f g : ℕ) → typing.starts (token_of k f g) ≡ true
+typing_apart : (k : TokenKind) (f g : ℕ) → typing.starts (token_of k f g) ≡ true
     → instances.starts (token_of k f g) ≡ false
 unfolding typing specification range integer simple instances block
 typing_apart (kinds.Good (whats.Keyword w)) f g e = word_apart w e
@@ -178,7 +180,7 @@ unfolding declared
 Firm-declared = Firm-fewer NoEnd (λ t e. (e, e))
     (Firm-alt (Firm-map _ Firm-instances) (λ t e. typing_apart t.kind t.from t.to e) (Firm-map _ Firm-typing))
 
-declared_no_end : (k : Kind) (f g : ℕ) → declared.starts (token_of k f g) ≡ true → NoEnd (token_of k f g)
+declared_no_end : (k : TokenKind) (f g : ℕ) → declared.starts (token_of k f g) ≡ true → NoEnd (token_of k f g)
 unfolding declared instances block typing specification range integer simple delimiter
 declared_no_end (kinds.Good (whats.Delimiter m)) f g e = absurd cc
 declared_no_end _ f g e = refl
@@ -198,7 +200,8 @@ pub last_apart : (w : Keyword) (t : Token) → (word w).starts t ≡ true → No
 unfolding name
 last_apart w t e = (word_no_end w t e, apart_word w name.starts (λ f g. refl) t.kind t.from t.to e)
 
-inside_no_end : (k : Kind) (f g : ℕ) → (lead declarations (spaced (word words.EndVar))).starts (token_of k f g) ≡ true
+inside_no_end : (k : TokenKind) (f g : ℕ)
+    → (lead declarations (spaced (word words.EndVar))).starts (token_of k f g) ≡ true
     → NoEnd (token_of k f g)
 unfolding declarations declaration names name word delimiter
 inside_no_end (kinds.Good (whats.Delimiter m)) f g e = absurd cc
@@ -228,7 +231,8 @@ Lawful-externals : Lawful Token (List DeclaredNames) externals (λ t. NoEnd t ×
 unfolding externals external
 Lawful-externals = from_many (λ t e. name_no_end t.kind t.from t.to e) Firm-external
 
-external_no_end : (k : Kind) (f g : ℕ) → (lead externals (spaced (word words.EndVar))).starts (token_of k f g) ≡ true
+external_no_end : (k : TokenKind) (f g : ℕ)
+    → (lead externals (spaced (word words.EndVar))).starts (token_of k f g) ≡ true
     → NoEnd (token_of k f g)
 unfolding externals external name word delimiter
 external_no_end (kinds.Good (whats.Delimiter m)) f g e = absurd cc

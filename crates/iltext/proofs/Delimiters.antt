@@ -7,9 +7,9 @@ use Rattle.iltokens.specs.declared.keyword.Keyword.{Keyword}
 use Rattle.iltokens.specs.declared.lexed.Delimiter.{Delimiter}
 use Rattle.iltokens.specs.contracts.keyword.Keyword.{the_type as all_words}
 use Rattle.iltokens.specs.contracts.lexed.Delimiter.{the_type as all_delimiters}
-use Rattle.iltext.specs.declared.token.Kind.{Kind}
+use Rattle.iltext.specs.declared.token.TokenKind.{TokenKind}
 use Rattle.iltokens.specs.declared.lexed.What.TheVariants as whats
-use Rattle.iltext.specs.declared.token.Kind.TheVariants as kinds
+use Rattle.iltext.specs.declared.token.TokenKind.TheVariants as kinds
 use Rattle.iltext.specs.declared.token.Token.{Token}
 use Rattle.iltext.specs.Terminals.{Seen, same_word, word, same_delimiter, delimiter}
 
@@ -17,7 +17,7 @@ abbrev pub Anything : Token → Type 0
 Anything t = Unit {0}
 
 -- a token of this kind somewhere
-abbrev pub token_of : Kind → ℕ → ℕ → Token
+abbrev pub token_of : TokenKind → ℕ → ℕ → Token
 token_of k f g = record { kind = k; from = f; to = g }
 
 abbrev taken : Bool → Option Seen
@@ -33,7 +33,7 @@ Firm-word w = Firm-one _ (token_of (kinds.Good (whats.Keyword w)) 0 0) tt (ap ta
 
 -- what a reserved word is apart from
 pub apart_word : (w : Keyword) (p : Token → Bool)
-    → ((f g : ℕ) → p (token_of (kinds.Good (whats.Keyword w)) f g) ≡ false) → (k : Kind) (f g : ℕ)
+    → ((f g : ℕ) → p (token_of (kinds.Good (whats.Keyword w)) f g) ≡ false) → (k : TokenKind) (f g : ℕ)
     → (word w).starts (token_of k f g) ≡ true → p (token_of k f g) ≡ false
 unfolding word
 apart_word w p h (kinds.Good (whats.Keyword v)) f g e =
@@ -49,7 +49,7 @@ Firm-delimiter m = Firm-one _ (token_of (kinds.Good (whats.Delimiter m)) 0 0) tt
 -- what a delimiter is apart from
 pub apart_delimiter : (m : Delimiter) (p : Token → Bool)
     → ((f g : ℕ) → p (token_of (kinds.Good (whats.Delimiter m)) f g) ≡ false)
-    → (k : Kind) (f g : ℕ)
+    → (k : TokenKind) (f g : ℕ)
     → (delimiter m).starts (token_of k f g) ≡ true → p (token_of k f g) ≡ false
 unfolding delimiter
 apart_delimiter m p h (kinds.Good (whats.Delimiter n)) f g e =

@@ -11,8 +11,8 @@ use Rattle.iltokens.specs.declared.keyword.Keyword.TheVariants as words
 use Rattle.iltokens.specs.declared.lexed.Delimiter.{Delimiter}
 use Rattle.iltokens.specs.declared.lexed.Delimiter.TheVariants as delimiters
 use Rattle.iltokens.specs.declared.lexed.What.TheVariants as whats
-use Rattle.iltext.specs.declared.token.Kind.{Kind}
-use Rattle.iltext.specs.declared.token.Kind.TheVariants as kinds
+use Rattle.iltext.specs.declared.token.TokenKind.{TokenKind}
+use Rattle.iltext.specs.declared.token.TokenKind.TheVariants as kinds
 use Rattle.iltext.specs.declared.token.Token.{Token}
 use Rattle.iltext.specs.Terminals.{Seen, word, same_delimiter, delimiter, name, number, constant, closing}
 use Rattle.iltext.specs.Terminals.{line_ends, spaced, line_break, ended}
@@ -93,17 +93,17 @@ unfolding delimiter
 delimiter_no_end m other t e = apart_delimiter m (delimiter delimiters.LineEnd).starts
     (λ f g. rw other refl) t.kind t.from t.to e
 
-pub name_no_end : (k : Kind) (f g : ℕ) → name.starts (token_of k f g) ≡ true → NoEnd (token_of k f g)
+pub name_no_end : (k : TokenKind) (f g : ℕ) → name.starts (token_of k f g) ≡ true → NoEnd (token_of k f g)
 unfolding name delimiter
 name_no_end (kinds.Good whats.Name) f g e = refl
 name_no_end _ f g e = absurd cc
 
-pub number_no_end : (k : Kind) (f g : ℕ) → number.starts (token_of k f g) ≡ true → NoEnd (token_of k f g)
+pub number_no_end : (k : TokenKind) (f g : ℕ) → number.starts (token_of k f g) ≡ true → NoEnd (token_of k f g)
 unfolding number delimiter
 number_no_end (kinds.Good (whats.Number n)) f g e = refl
 number_no_end _ f g e = absurd cc
 
-pub constant_no_end : (k : Kind) (f g : ℕ) → constant.starts (token_of k f g) ≡ true → NoEnd (token_of k f g)
+pub constant_no_end : (k : TokenKind) (f g : ℕ) → constant.starts (token_of k f g) ≡ true → NoEnd (token_of k f g)
 unfolding constant delimiter
 constant_no_end (kinds.Good (whats.Delimiter m)) f g e = absurd cc
 constant_no_end _ f g e = refl

@@ -5,14 +5,14 @@ use Rattle.ilgrammar.proofs.Laws.{Lawful, Lawful-map}
 use Rattle.ilgrammar.proofs.Firm.{Firm, Firm-one, Firm-map, Firm-seq, Firm-lead, Firm-alt, Firm-fewer, Firm-select}
 use Rattle.ilgrammar.proofs.Firm.{from_many}
 use Rattle.ilsource.specs.Configurations.{DeclaredGlobals}
-use Rattle.ilsource.specs.declared.address.Address.{Address}
+use Rattle.ilsource.specs.declared.address.DirectAddress.{DirectAddress}
 use Rattle.ilsource.specs.declared.name.Name.{Name}
 use Rattle.iltokens.specs.declared.keyword.Keyword.TheVariants as words
 use Rattle.iltokens.specs.declared.lexed.AddressKind.TheVariants as addresses
 use Rattle.iltokens.specs.declared.lexed.Delimiter.TheVariants as delimiters
 use Rattle.iltokens.specs.declared.lexed.What.TheVariants as whats
-use Rattle.iltext.specs.declared.token.Kind.{Kind}
-use Rattle.iltext.specs.declared.token.Kind.TheVariants as kinds
+use Rattle.iltext.specs.declared.token.TokenKind.{TokenKind}
+use Rattle.iltext.specs.declared.token.TokenKind.TheVariants as kinds
 use Rattle.iltext.specs.declared.token.Token.{Token}
 use Rattle.iltext.specs.Declarations.{typing, next_name, more_names, names_after}
 use Rattle.iltext.specs.Globals.{address, located, unlocated, global_named, global, globals, var_global, global_blocks}
@@ -22,12 +22,12 @@ use Rattle.iltext.proofs.DeclarationLaws.{NoName, specification_no_end, Firm-typ
 use Rattle.iltext.proofs.DeclarationLaws.{last_apart}
 use Rattle.iltext.proofs.Ends.{NoEnd, Firm-name, Firm-spaced, word_no_end, delimiter_no_end, name_no_end}
 
-Firm-address : Firm Token Address address Anything
+Firm-address : Firm Token DirectAddress address Anything
 unfolding address
 Firm-address = Firm-one _ (token_of (kinds.Good (whats.Address addresses.OutputByte 0 0)) 0 0)
     (record { at = 0; kind = addresses.OutputByte; bus = 0; place = 0 }) refl
 
-address_no_end : (k : Kind) (f g : ℕ) → address.starts (token_of k f g) ≡ true → NoEnd (token_of k f g)
+address_no_end : (k : TokenKind) (f g : ℕ) → address.starts (token_of k f g) ≡ true → NoEnd (token_of k f g)
 unfolding address delimiter
 address_no_end (kinds.Good (whats.Delimiter m)) f g e = absurd cc
 address_no_end _ f g e = refl
@@ -48,7 +48,7 @@ module _ (first : Name) where
   Firm-unlocated = Firm-map _ (Firm-lead (Lawful-names_after first) (λ t e. colon_apart t e)
       (Firm-seq (Firm-spaced (Firm-delimiter delimiters.Colon)) (λ t e. typing_no_end t e) Firm-typing))
 
-  unlocated_apart : (k : Kind) (f g : ℕ) → (unlocated first).starts (token_of k f g) ≡ true
+  unlocated_apart : (k : TokenKind) (f g : ℕ) → (unlocated first).starts (token_of k f g) ≡ true
       → (located first).starts (token_of k f g) ≡ false
   unfolding located unlocated names_after more_names next_name word delimiter
   unlocated_apart (kinds.Good (whats.Keyword w)) f g e = absurd cc
@@ -59,7 +59,8 @@ module _ (first : Name) where
   Firm-global_named = Firm-fewer NoEnd (λ t e. (e, e))
       (Firm-alt Firm-located (λ t e. unlocated_apart t.kind t.from t.to e) Firm-unlocated)
 
-  named_no_end : (k : Kind) (f g : ℕ) → (global_named first).starts (token_of k f g) ≡ true → NoEnd (token_of k f g)
+  named_no_end : (k : TokenKind) (f g : ℕ) → (global_named first).starts (token_of k f g) ≡ true
+      → NoEnd (token_of k f g)
   unfolding global_named located unlocated names_after more_names next_name word delimiter
   named_no_end (kinds.Good (whats.Delimiter delimiters.LineEnd)) f g e = absurd cc
   named_no_end _ f g e = refl
@@ -74,7 +75,7 @@ Lawful-globals : Lawful Token (List DeclaredGlobals) globals (λ t. NoEnd t × N
 unfolding globals global
 Lawful-globals = from_many (λ t e. name_no_end t.kind t.from t.to e) Firm-global
 
-inside_no_end : (k : Kind) (f g : ℕ) → (lead globals (spaced (word words.EndVar))).starts (token_of k f g) ≡ true
+inside_no_end : (k : TokenKind) (f g : ℕ) → (lead globals (spaced (word words.EndVar))).starts (token_of k f g) ≡ true
     → NoEnd (token_of k f g)
 unfolding globals global name word delimiter
 inside_no_end (kinds.Good (whats.Delimiter m)) f g e = absurd cc

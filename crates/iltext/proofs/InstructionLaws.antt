@@ -15,10 +15,10 @@ use Rattle.ilsource.specs.declared.symbol.Symbol.{Symbol}
 use Rattle.iltokens.specs.declared.keyword.Keyword.TheVariants as words
 use Rattle.iltokens.specs.declared.lexed.Delimiter.TheVariants as delimiters
 use Rattle.iltokens.specs.declared.lexed.What.TheVariants as whats
-use Rattle.iltext.specs.declared.roles.Role.{Role}
-use Rattle.iltext.specs.declared.roles.Role.TheVariants as roles
-use Rattle.iltext.specs.declared.token.Kind.{Kind}
-use Rattle.iltext.specs.declared.token.Kind.TheVariants as kinds
+use Rattle.iltext.specs.declared.roles.OperatorRole.{OperatorRole}
+use Rattle.iltext.specs.declared.roles.OperatorRole.TheVariants as roles
+use Rattle.iltext.specs.declared.token.TokenKind.{TokenKind}
+use Rattle.iltext.specs.declared.token.TokenKind.TheVariants as kinds
 use Rattle.iltext.specs.declared.token.Token.{Token}
 use Rattle.iltext.specs.Roles.{role_of_word, inner_role_at}
 use Rattle.iltext.specs.Terminals.{delimiter, name, closing, line_break, ended}
@@ -40,7 +40,7 @@ Firm-on_operand operator at = Firm-map _ Firm-operand
 abbrev NoInner : Token → Type 0
 NoInner t = NoEnd t × (is_in (inner_role_at t) ≡ false)
 
-closing_apart : (k : Kind) (f g : ℕ) → closing.starts (token_of k f g) ≡ true → NoInner (token_of k f g)
+closing_apart : (k : TokenKind) (f g : ℕ) → closing.starts (token_of k f g) ≡ true → NoInner (token_of k f g)
 unfolding closing delimiter
 closing_apart (kinds.Good (whats.Delimiter delimiters.Close)) f g e = (refl, refl)
 closing_apart _ f g e = absurd cc
@@ -52,7 +52,7 @@ module _ (content : ℕ → Item Token (Tree Symbol)) (law : (at : ℕ) → Firm
   Firm-on_content = Firm-map _ (Firm-seq (Firm-delimiter delimiters.Open) (λ t e. tt)
       (Firm-seq (law at) (λ t e. closing_apart t.kind t.from t.to e) Firm-closing))
 
-  operand_apart : (k : Kind) (f g : ℕ) → (on_operand operator at).starts (token_of k f g) ≡ true
+  operand_apart : (k : TokenKind) (f g : ℕ) → (on_operand operator at).starts (token_of k f g) ≡ true
       → (on_content content operator at).starts (token_of k f g) ≡ false
   unfolding on_operand on_content operand symbol literal name delimiter
   operand_apart (kinds.Good (whats.Delimiter m)) f g e = absurd cc
@@ -76,7 +76,7 @@ AreFirm applied = (operator : Operator) (at : ℕ) → Firm Token TextLine (appl
 fewer : {A : Type 0} {a : Item Token A} → Firm Token A a NoDot → Firm Token A a NoMore
 fewer x = Firm-fewer NoMore (λ t e. e.0) x
 
-Lawful-operands : (applied : Operator → ℕ → Item Token TextLine) → AreFirm applied → (role : Role) (at : ℕ)
+Lawful-operands : (applied : Operator → ℕ → Item Token TextLine) → AreFirm applied → (role : OperatorRole) (at : ℕ)
     → Lawful Token TextLine (operands applied role at) NoMore
 Lawful-operands applied law (roles.Load negated) at = (fewer (Firm-map _ Firm-operand)).lawful
 Lawful-operands applied law (roles.Apply operator) at = (fewer (law operator at)).lawful
@@ -98,7 +98,7 @@ Firm-load : Firm Token (Tree Symbol) load NoDot
 unfolding load role_of_word
 Firm-load = Firm-map _ (Firm-seq (Firm-one _ load_word (false, 0) refl) (λ t e. tt) Firm-operand)
 
-load_no_end : (k : Kind) (f g : ℕ) → (ended load).starts (token_of k f g) ≡ true → NoEnd (token_of k f g)
+load_no_end : (k : TokenKind) (f g : ℕ) → (ended load).starts (token_of k f g) ≡ true → NoEnd (token_of k f g)
 unfolding load delimiter
 load_no_end (kinds.Good (whats.Delimiter delimiters.LineEnd)) f g e = absurd cc
 load_no_end _ f g e = refl
@@ -121,7 +121,7 @@ Firm-inner_of applied law = Firm-fewer NoMore (λ t e. (tt, e))
     (Firm-select (Firm-one _ load_word (roles.Load false, 0) refl) (λ x t e. tt)
     (λ x. Lawful-operands applied law x.0 x.1))
 
-inner_no_end : (k : Kind) (f g : ℕ) → is_in (inner_role_at (token_of k f g)) ≡ true → NoEnd (token_of k f g)
+inner_no_end : (k : TokenKind) (f g : ℕ) → is_in (inner_role_at (token_of k f g)) ≡ true → NoEnd (token_of k f g)
 unfolding delimiter
 inner_no_end (kinds.Good (whats.Delimiter delimiters.LineEnd)) f g e = absurd cc
 inner_no_end _ f g e = refl
@@ -170,7 +170,7 @@ unfolding with_label
 Firm-with_label = Firm-map _ (Firm-fewer NoInstruction (λ t e. (tt, e))
     (Firm-seq_open Firm-label (λ t e. tt) (from_opt Firm-instruction)))
 
-instruction_apart : (k : Kind) (f g : ℕ) → instruction.starts (token_of k f g) ≡ true
+instruction_apart : (k : TokenKind) (f g : ℕ) → instruction.starts (token_of k f g) ≡ true
     → with_label.starts (token_of k f g) ≡ false
 unfolding instruction with_label label name
 instruction_apart (kinds.Good whats.Name) f g e = absurd cc
@@ -195,7 +195,7 @@ Firm-line = Firm-map _ (Firm-seq
 abbrev pub NoLine : Token → Type 0
 NoLine t = line.starts t ≡ false
 
-pub line_no_end : (k : Kind) (f g : ℕ) → line.starts (token_of k f g) ≡ true → NoEnd (token_of k f g)
+pub line_no_end : (k : TokenKind) (f g : ℕ) → line.starts (token_of k f g) ≡ true → NoEnd (token_of k f g)
 unfolding line with_label label name instruction delimiter
 line_no_end (kinds.Good (whats.Delimiter delimiters.LineEnd)) f g e = absurd cc
 line_no_end _ f g e = refl

@@ -10,8 +10,8 @@ use Rattle.iltokens.specs.declared.keyword.Keyword.{Keyword}
 use Rattle.iltokens.specs.declared.keyword.Keyword.TheVariants as words
 use Rattle.iltokens.specs.declared.lexed.Delimiter.TheVariants as delimiters
 use Rattle.iltokens.specs.declared.lexed.What.TheVariants as whats
-use Rattle.iltext.specs.declared.token.Kind.{Kind}
-use Rattle.iltext.specs.declared.token.Kind.TheVariants as kinds
+use Rattle.iltext.specs.declared.token.TokenKind.{TokenKind}
+use Rattle.iltext.specs.declared.token.TokenKind.TheVariants as kinds
 use Rattle.iltext.specs.declared.token.Token.{Token}
 use Rattle.iltext.specs.Roles.{role_of_word}
 use Rattle.iltext.specs.Terminals.{Seen, word, delimiter, name, spaced}
@@ -41,7 +41,7 @@ Firm-body : Firm Token (List TextLine × Seen) (lead lines (spaced (word words.E
 unfolding lines
 Firm-body = Firm-lead Lawful-lines (λ t e. end_program_apart t e) (Firm-spaced (Firm-word words.EndProgram))
 
-variables_no_end : (k : Kind) (f g : ℕ) → variables.starts (token_of k f g) ≡ true → NoEnd (token_of k f g)
+variables_no_end : (k : TokenKind) (f g : ℕ) → variables.starts (token_of k f g) ≡ true → NoEnd (token_of k f g)
 unfolding variables vars var_external word delimiter
 variables_no_end (kinds.Good (whats.Delimiter m)) f g e = absurd cc
 variables_no_end _ f g e = refl
@@ -58,7 +58,7 @@ body_word_apart words.Var f g e = absurd cc
 body_word_apart words.VarExternal f g e = absurd cc
 body_word_apart _ f g e = refl
 
-body_apart : (k : Kind) (f g : ℕ) → (lead lines (spaced (word words.EndProgram))).starts (token_of k f g) ≡ true
+body_apart : (k : TokenKind) (f g : ℕ) → (lead lines (spaced (word words.EndProgram))).starts (token_of k f g) ≡ true
     → NoEnd (token_of k f g) × NoVar (token_of k f g)
 unfolding variables vars var_external lines line with_label label name instruction word delimiter
 body_apart (kinds.Good (whats.Keyword w)) f g e = (refl, body_word_apart w f g e)
@@ -71,7 +71,7 @@ unfolding blocks
 Firm-inside = Firm-lead {b = lead lines (spaced (word words.EndProgram))} Lawful-blocks
     (λ t e. body_apart t.kind t.from t.to e) Firm-body
 
-inside_apart : (k : Kind) (f g : ℕ)
+inside_apart : (k : TokenKind) (f g : ℕ)
     → (lead blocks (lead lines (spaced (word words.EndProgram)))).starts (token_of k f g) ≡ true
     → NoEnd (token_of k f g)
 unfolding blocks variables vars var_external lines line with_label label name instruction word delimiter
@@ -94,7 +94,7 @@ Lawful-derived_types : Lawful Token (List Element) derived_types (λ t. NoEnd t 
 unfolding derived_types derived_type type_declaration
 Lawful-derived_types = from_many (λ t e. name_no_end t.kind t.from t.to e) Firm-derived_type
 
-types_no_end : (k : Kind) (f g : ℕ)
+types_no_end : (k : TokenKind) (f g : ℕ)
     → (lead derived_types (spaced (word words.EndType))).starts (token_of k f g) ≡ true → NoEnd (token_of k f g)
 unfolding derived_types derived_type type_declaration name word delimiter
 types_no_end (kinds.Good (whats.Delimiter m)) f g e = absurd cc
@@ -119,7 +119,7 @@ Firm-unit = Firm-fewer NoEnd (λ t e. (e, e))
 abbrev NoUnit : Token → Type 0
 NoUnit t = unit.starts t ≡ false
 
-unit_no_end : (k : Kind) (f g : ℕ) → unit.starts (token_of k f g) ≡ true → NoEnd (token_of k f g)
+unit_no_end : (k : TokenKind) (f g : ℕ) → unit.starts (token_of k f g) ≡ true → NoEnd (token_of k f g)
 unfolding unit types program word delimiter
 unit_no_end (kinds.Good (whats.Delimiter m)) f g e = absurd cc
 unit_no_end _ f g e = refl
@@ -136,7 +136,7 @@ configuration_word_apart words.Type f g e = absurd cc
 configuration_word_apart words.Program f g e = absurd cc
 configuration_word_apart _ f g e = refl
 
-configuration_apart : (k : Kind) (f g : ℕ) → configuration.starts (token_of k f g) ≡ true
+configuration_apart : (k : TokenKind) (f g : ℕ) → configuration.starts (token_of k f g) ≡ true
     → NoEnd (token_of k f g) × NoUnit (token_of k f g)
 unfolding configuration unit types program word delimiter
 configuration_apart (kinds.Good (whats.Keyword w)) f g e = (refl, configuration_word_apart w f g e)
@@ -151,7 +151,7 @@ unfolding units
 Lawful-parts = Lawful-lead_open _ _ _ _ _ _ _ Lawful-units (from_opt Firm-configuration)
     (λ t e. configuration_apart t.kind t.from t.to e)
 
-part_no_end : (k : Kind) (f g : ℕ) → (lead units (opt configuration)).starts (token_of k f g) ≡ true
+part_no_end : (k : TokenKind) (f g : ℕ) → (lead units (opt configuration)).starts (token_of k f g) ≡ true
     → NoEnd (token_of k f g)
 unfolding units unit types program configuration word delimiter
 part_no_end (kinds.Good (whats.Delimiter m)) f g e = absurd cc

@@ -9,8 +9,8 @@ use Rattle.iltokens.specs.declared.lexed.What.TheVariants as whats
 use Rattle.iltrees.specs.declared.operand.Operand.{Operand}
 use Rattle.iltypes.specs.declared.value.Value.{Value}
 use Rattle.iltypes.specs.declared.value.Value.TheVariants as values
-use Rattle.iltext.specs.declared.token.Kind.{Kind}
-use Rattle.iltext.specs.declared.token.Kind.TheVariants as kinds
+use Rattle.iltext.specs.declared.token.TokenKind.{TokenKind}
+use Rattle.iltext.specs.declared.token.TokenKind.TheVariants as kinds
 use Rattle.iltext.specs.declared.token.Token.{Token}
 use Rattle.iltext.specs.Terminals.{delimiter, name}
 use Rattle.iltext.specs.Operands.{port, dot_port, symbol, literal, operand}
@@ -24,7 +24,7 @@ pub Firm-port : Firm Token Name port Anything
 unfolding port
 Firm-port = Firm-one _ (token_of (kinds.Good whats.Name) 0 0) (record { from = 0; to = 0 }) refl
 
-pub port_no_end : (k : Kind) (f g : ℕ) → port.starts (token_of k f g) ≡ true → NoEnd (token_of k f g)
+pub port_no_end : (k : TokenKind) (f g : ℕ) → port.starts (token_of k f g) ≡ true → NoEnd (token_of k f g)
 unfolding port delimiter
 port_no_end (kinds.Good (whats.Delimiter m)) f g e = absurd cc
 port_no_end _ f g e = refl
@@ -44,7 +44,8 @@ Firm-literal : Firm Token Value literal Anything
 unfolding literal
 Firm-literal = Firm-one _ (token_of (kinds.Good (whats.Keyword words.True)) 0 0) (values.Bool true) refl
 
-literal_apart : (k : Kind) (f g : ℕ) → literal.starts (token_of k f g) ≡ true → name.starts (token_of k f g) ≡ false
+literal_apart : (k : TokenKind) (f g : ℕ) → literal.starts (token_of k f g) ≡ true
+    → name.starts (token_of k f g) ≡ false
 unfolding literal name
 literal_apart (kinds.Good whats.Name) f g e = absurd cc
 literal_apart _ f g e = refl
@@ -54,7 +55,7 @@ unfolding operand symbol
 Firm-operand = Firm-fewer NoDot (λ t e. (e, tt))
     (Firm-alt (Firm-map _ Firm-symbol) (λ t e. literal_apart t.kind t.from t.to e) (Firm-map _ Firm-literal))
 
-pub operand_no_end : (k : Kind) (f g : ℕ) → operand.starts (token_of k f g) ≡ true → NoEnd (token_of k f g)
+pub operand_no_end : (k : TokenKind) (f g : ℕ) → operand.starts (token_of k f g) ≡ true → NoEnd (token_of k f g)
 unfolding operand symbol literal name delimiter
 operand_no_end (kinds.Good (whats.Delimiter m)) f g e = absurd cc
 operand_no_end _ f g e = refl
@@ -82,7 +83,7 @@ Firm-spaced_operand = Firm-fewer Apart (λ t e. (e, e.0))
     (Firm-alt (Firm-map _ Firm-spaced_symbol) (λ t e. literal_apart t.kind t.from t.to e)
     (Firm-map _ (Firm-spaced Firm-literal)))
 
-pub spaced_operand_no_end : (k : Kind) (f g : ℕ) → spaced_operand.starts (token_of k f g) ≡ true
+pub spaced_operand_no_end : (k : TokenKind) (f g : ℕ) → spaced_operand.starts (token_of k f g) ≡ true
     → NoEnd (token_of k f g)
 unfolding spaced_operand spaced_symbol literal name delimiter
 spaced_operand_no_end (kinds.Good (whats.Delimiter m)) f g e = absurd cc

@@ -11,8 +11,8 @@ use Rattle.iltrees.specs.Words.{IsShallow, AreShallow}
 use Rattle.ilgrammar.specs.Items.{Item, alt, opt_whole, many_whole}
 use Rattle.ilsource.specs.declared.name.Name.{Name}
 use Rattle.ilsource.specs.declared.symbol.Symbol.{Symbol}
-use Rattle.iltext.specs.declared.roles.Role.{Role}
-use Rattle.iltext.specs.declared.roles.Role.TheVariants as roles
+use Rattle.iltext.specs.declared.roles.OperatorRole.{OperatorRole}
+use Rattle.iltext.specs.declared.roles.OperatorRole.TheVariants as roles
 use Rattle.iltext.specs.declared.token.Token.{Token}
 use Rattle.iltext.specs.Terminals.{ended}
 use Rattle.iltext.specs.Instructions.{TextInstruction, TextLine, grown, grows, grows_by, on_operand, on_content}
@@ -45,7 +45,7 @@ module _ (more : ℕ) where
 
   operands_fit : (of : Operator → ℕ → Item Token TextLine)
       → ((operator : Operator) (at : ℕ) → AllFit more (of operator at))
-      → (role : Role) (at : ℕ) → AllFit more (operands of role at)
+      → (role : OperatorRole) (at : ℕ) → AllFit more (operands of role at)
   operands_fit of fit (roles.Load negated) at ts l w = subst (Fits more) (sym w.2) tt
   operands_fit of fit (roles.Apply operator) at ts l w = fit operator at ts l w
   operands_fit of fit (roles.Transform function) at ts l w = subst (Fits more) (sym w.1) tt

@@ -10,8 +10,8 @@ use Rattle.iltokens.specs.declared.keyword.Keyword.{Keyword}
 use Rattle.iltokens.specs.declared.keyword.Keyword.TheVariants as words
 use Rattle.iltokens.specs.declared.lexed.Delimiter.TheVariants as delimiters
 use Rattle.iltokens.specs.declared.lexed.What.TheVariants as whats
-use Rattle.iltext.specs.declared.token.Kind.{Kind}
-use Rattle.iltext.specs.declared.token.Kind.TheVariants as kinds
+use Rattle.iltext.specs.declared.token.TokenKind.{TokenKind}
+use Rattle.iltext.specs.declared.token.TokenKind.TheVariants as kinds
 use Rattle.iltext.specs.declared.token.Token.{Token}
 use Rattle.iltext.specs.Tasks.{duration, single, interval, priority, inputs, task, tasks}
 use Rattle.iltext.specs.Tasks.{with_task, program_instance, program_instances}
@@ -26,7 +26,7 @@ Firm-duration : Firm Token ℕ duration Anything
 unfolding duration
 Firm-duration = Firm-one _ (token_of (kinds.Good (whats.Time 0)) 0 0) 0 refl
 
-duration_no_end : (k : Kind) (f g : ℕ) → duration.starts (token_of k f g) ≡ true → NoEnd (token_of k f g)
+duration_no_end : (k : TokenKind) (f g : ℕ) → duration.starts (token_of k f g) ≡ true → NoEnd (token_of k f g)
 unfolding duration delimiter
 duration_no_end (kinds.Good (whats.Delimiter m)) f g e = absurd cc
 duration_no_end _ f g e = refl
@@ -68,7 +68,7 @@ unfolding single interval priority word
 interval_word_apart words.Single f g e = absurd cc
 interval_word_apart _ f g e = refl
 
-interval_apart : (k : Kind) (f g : ℕ) → (lead (opt interval) priority).starts (token_of k f g) ≡ true
+interval_apart : (k : TokenKind) (f g : ℕ) → (lead (opt interval) priority).starts (token_of k f g) ≡ true
     → NoEnd (token_of k f g) × (single.starts (token_of k f g) ≡ false)
 unfolding single interval priority word delimiter
 interval_apart (kinds.Good (whats.Keyword w)) f g e = (refl, interval_word_apart w f g e)
@@ -81,7 +81,7 @@ Firm-inputs = Firm-lead {b = lead (opt interval) priority} (from_opt Firm-single
     (λ t e. interval_apart t.kind t.from t.to e)
     (Firm-lead (from_opt Firm-interval) (λ t e. priority_apart t e) Firm-priority)
 
-inputs_no_end : (k : Kind) (f g : ℕ) → inputs.starts (token_of k f g) ≡ true → NoEnd (token_of k f g)
+inputs_no_end : (k : TokenKind) (f g : ℕ) → inputs.starts (token_of k f g) ≡ true → NoEnd (token_of k f g)
 unfolding inputs single interval priority word delimiter
 inputs_no_end (kinds.Good (whats.Delimiter m)) f g e = absurd cc
 inputs_no_end _ f g e = refl
@@ -119,7 +119,7 @@ colon_apart t e = (
 abbrev of_task : Token → Bool
 of_task t = with_task.starts t || (delimiter delimiters.Colon).starts t
 
-of_task_no_end : (k : Kind) (f g : ℕ) → of_task (token_of k f g) ≡ true → NoEnd (token_of k f g)
+of_task_no_end : (k : TokenKind) (f g : ℕ) → of_task (token_of k f g) ≡ true → NoEnd (token_of k f g)
 unfolding with_task word delimiter
 of_task_no_end (kinds.Good (whats.Delimiter delimiters.LineEnd)) f g e = absurd cc
 of_task_no_end _ f g e = refl

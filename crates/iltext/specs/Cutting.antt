@@ -2,17 +2,17 @@
 use Rattle.std.specs.Prelude.{◌≡◌, ℕ, List, [], ◌∷◌}
 use Rattle.iltokens.specs.declared.lexed.Lexed.TheVariants as lexed
 use Rattle.iltokens.specs.Tokens.{StandsNext}
-use Rattle.iltext.specs.declared.token.Kind.{Kind}
-use Rattle.iltext.specs.declared.token.Kind.TheVariants as kinds
+use Rattle.iltext.specs.declared.token.TokenKind.{TokenKind}
+use Rattle.iltext.specs.declared.token.TokenKind.TheVariants as kinds
 use Rattle.iltext.specs.declared.token.Token.{Token}
 
 -- At a place of the text stands what is of this kind, next after blanks and comments. A bad token has no bytes.
-abbrev pub Stands : List ℕ → ℕ → Token → Kind → Type 0
+abbrev pub Stands : List ℕ → ℕ → Token → TokenKind → Type 0
 Stands text at t (kinds.Good what) = StandsNext text at (lexed.Token what t.from t.to)
 Stands text at t (kinds.Bad cause) = StandsNext text at (lexed.Fault cause t.from) × (t.to ≡ t.from)
 
 -- what follows a token: the tokens from its end on; nothing follows what begins no token
-abbrev pub Follows : Kind → Type 0 → List Token → Type 0
+abbrev pub Follows : TokenKind → Type 0 → List Token → Type 0
 Follows (kinds.Good what) Further ts = Further
 Follows (kinds.Bad cause) Further ts = ts ≡ []
 

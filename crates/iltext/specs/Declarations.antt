@@ -3,7 +3,7 @@
 use Rattle.std.specs.Prelude.{ℤ, List, [], ◌∷◌, Option, Some, None}
 use Rattle.iloperators.specs.declared.function.IntegerType.{IntegerType}
 use Rattle.iloperators.specs.declared.function.IntegerType.TheVariants as integers
-use Rattle.ilblocks.specs.declared.kind.Kind.{Kind as BlockKind}
+use Rattle.ilblocks.specs.declared.kind.BlockKind.{BlockKind}
 use Rattle.ilgrammar.specs.Items.{Item, one, map, seq, lead, select, opt, alt, many}
 use Rattle.ilsource.specs.declared.name.Name.{Name}
 use Rattle.ilsource.specs.declared.declaration.Constant.{Constant}
@@ -18,8 +18,8 @@ use Rattle.iltokens.specs.declared.keyword.Keyword.TheVariants as words
 use Rattle.iltokens.specs.declared.lexed.Delimiter.TheVariants as delimiters
 use Rattle.iltokens.specs.declared.lexed.What.TheVariants as whats
 use Rattle.iltext.specs.declared.block_kinds.TheConstants.{BLOCKS}
-use Rattle.iltext.specs.declared.token.Kind.{Kind}
-use Rattle.iltext.specs.declared.token.Kind.TheVariants as kinds
+use Rattle.iltext.specs.declared.token.TokenKind.{TokenKind}
+use Rattle.iltext.specs.declared.token.TokenKind.TheVariants as kinds
 use Rattle.iltext.specs.declared.token.Token.{Token}
 use Rattle.iltext.specs.Roles.{lookup}
 use Rattle.iltext.specs.Terminals.{word, delimiter, name, number, constant, spaced}
@@ -35,7 +35,7 @@ integer_word words.Uint = Some integers.Uint
 integer_word words.Udint = Some integers.Udint
 integer_word _ = None
 
-abbrev pub integer_at : Kind → Option IntegerType
+abbrev pub integer_at : TokenKind → Option IntegerType
 integer_at (kinds.Good (whats.Keyword w)) = integer_word w
 integer_at _ = None
 
@@ -48,7 +48,7 @@ simple_word words.Bool = Some specifications.Bool
 simple_word words.Time = Some specifications.Time
 simple_word _ = None
 
-abbrev pub simple_at : Kind → Token → Option Specification
+abbrev pub simple_at : TokenKind → Token → Option Specification
 simple_at (kinds.Good (whats.Keyword w)) t = simple_word w
 simple_at (kinds.Good whats.Name) t = Some (specifications.Named (record { from = t.from; to = t.to }))
 simple_at _ t = None
@@ -104,7 +104,7 @@ names_after first = map (λ names. first ∷ names) more_names
 unfoldable pub names : Item Token (List Name)
 names = select (spaced name) names_after
 
-abbrev pub block_at : Kind → Option BlockKind
+abbrev pub block_at : TokenKind → Option BlockKind
 block_at (kinds.Good (whats.Keyword w)) = lookup BLOCKS w
 block_at _ = None
 

@@ -13,10 +13,10 @@ use Rattle.iltext.specs.declared.fault.TextCause.TheVariants.{NotAscii, BadToken
 use Rattle.iltext.specs.declared.fault.TextCause.TheVariants.{NotNested, CommentOpen, TooLong}
 use Rattle.iltext.specs.declared.fault.TextFault.{TextFault}
 use Rattle.iltext.specs.declared.fault.TextFault.TheVariants as faults
-use Rattle.iltext.specs.declared.roles.Role.{Role}
-use Rattle.iltext.specs.declared.roles.Role.TheVariants as roles
-use Rattle.iltext.specs.declared.token.Kind.{Kind}
-use Rattle.iltext.specs.declared.token.Kind.TheVariants as kinds
+use Rattle.iltext.specs.declared.roles.OperatorRole.{OperatorRole}
+use Rattle.iltext.specs.declared.roles.OperatorRole.TheVariants as roles
+use Rattle.iltext.specs.declared.token.TokenKind.{TokenKind}
+use Rattle.iltext.specs.declared.token.TokenKind.TheVariants as kinds
 use Rattle.iltext.specs.declared.token.Token.{Token}
 use Rattle.iltext.specs.Roles.{role_of, is_inner}
 
@@ -30,22 +30,22 @@ number_of_cause NotNested = 7
 number_of_cause CommentOpen = 8
 number_of_cause TooLong = 9
 
-abbrev pub number_of : TextFault → ℕ
-number_of faults.Memory = 1
-number_of (faults.At line col cause) = number_of_cause cause
+abbrev pub text_fault_number : TextFault → ℕ
+text_fault_number faults.Memory = 1
+text_fault_number (faults.At line col cause) = number_of_cause cause
 
 -- ---- parentheses of deferred operators
 
-abbrev pub is_deferrable : Option Role → Bool
+abbrev pub is_deferrable : Option OperatorRole → Bool
 is_deferrable (Some (roles.Apply operator)) = may_defer operator
 is_deferrable _ = false
 
 -- whether the token is an operator that may be deferred
-abbrev pub defers : Kind → Bool
+abbrev pub defers : TokenKind → Bool
 defers kind = is_deferrable (role_of kind)
 
 -- how many are open after a token, where so many are open before it and such an operator stands just before it or not
-abbrev pub open_after : Bool → ℕ → Kind → ℕ
+abbrev pub open_after : Bool → ℕ → TokenKind → ℕ
 open_after true count (kinds.Good (whats.Delimiter delimiters.Open)) = count + 1
 open_after before count (kinds.Good (whats.Delimiter delimiters.Close)) = count - 1
 open_after before count kind = count
@@ -64,7 +64,7 @@ cause_of lexical.BadNumber = BadNumber
 cause_of lexical.CommentOpen = CommentOpen
 
 -- the cause is what stands there, whatever was expected, where so many parentheses are open
-abbrev pub cause_of_kind : ℕ → Kind → TextCause
+abbrev pub cause_of_kind : ℕ → TokenKind → TextCause
 cause_of_kind count (kinds.Bad cause) = cause_of cause
 cause_of_kind count (kinds.Good (whats.Delimiter delimiters.Open)) =
     if nat_le most_nesting count then TooDeep else Unexpected

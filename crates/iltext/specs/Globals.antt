@@ -2,24 +2,24 @@
 use Rattle.std.specs.Prelude.{List, [], ◌∷◌, Option, Some, None}
 use Rattle.ilgrammar.specs.Items.{Item, one, map, seq, lead, select, alt, many}
 use Rattle.ilsource.specs.Configurations.{DeclaredGlobals, globals_of}
-use Rattle.ilsource.specs.declared.address.Address.{Address}
+use Rattle.ilsource.specs.declared.address.DirectAddress.{DirectAddress}
 use Rattle.ilsource.specs.declared.name.Name.{Name}
 use Rattle.iltokens.specs.declared.keyword.Keyword.TheVariants as words
 use Rattle.iltokens.specs.declared.lexed.Delimiter.TheVariants as delimiters
 use Rattle.iltokens.specs.declared.lexed.What.TheVariants as whats
-use Rattle.iltext.specs.declared.token.Kind.{Kind}
-use Rattle.iltext.specs.declared.token.Kind.TheVariants as kinds
+use Rattle.iltext.specs.declared.token.TokenKind.{TokenKind}
+use Rattle.iltext.specs.declared.token.TokenKind.TheVariants as kinds
 use Rattle.iltext.specs.declared.token.Token.{Token}
 use Rattle.iltext.specs.Declarations.{typing, names_after}
 use Rattle.iltext.specs.Terminals.{word, delimiter, name, spaced, flat}
 
-abbrev pub address_at : Kind → Token → Option Address
+abbrev pub address_at : TokenKind → Token → Option DirectAddress
 address_at (kinds.Good (whats.Address kind bus place)) t =
     Some (record { at = t.from; kind = kind; bus = bus; place = place })
 address_at _ t = None
 
 -- %QB, %IW or %IX with its numbers
-unfoldable pub address : Item Token Address
+unfoldable pub address : Item Token DirectAddress
 address = one (λ t. address_at t.kind t)
 
 -- AT address ":" typing, after the only name

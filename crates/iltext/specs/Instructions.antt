@@ -17,8 +17,8 @@ use Rattle.ilsource.specs.declared.name.Name.{Name}
 use Rattle.ilsource.specs.declared.symbol.Symbol.{Symbol}
 use Rattle.ilsource.specs.declared.symbol.Symbol.TheVariants as symbols
 use Rattle.iltokens.specs.declared.lexed.Delimiter.TheVariants as delimiters
-use Rattle.iltext.specs.declared.roles.Role.{Role}
-use Rattle.iltext.specs.declared.roles.Role.TheVariants as roles
+use Rattle.iltext.specs.declared.roles.OperatorRole.{OperatorRole}
+use Rattle.iltext.specs.declared.roles.OperatorRole.TheVariants as roles
 use Rattle.iltext.specs.declared.token.Token.{Token}
 use Rattle.iltext.specs.Roles.{role_of, role_at, inner_role_at}
 use Rattle.iltext.specs.Terminals.{delimiter, name, closing, line_break, ended}
@@ -78,7 +78,7 @@ abbrev pub call_of : Condition → Name × List (Argument Symbol) → TextInstru
 call_of condition x = instructions.Call condition (symbols.Block x.0) x.1
 
 -- by what the operator does, where `applied` says what AND .. LT, MIN and MAX are applied to
-abbrev pub operands : (Operator → ℕ → Item Token TextLine) → Role → ℕ → Item Token TextLine
+abbrev pub operands : (Operator → ℕ → Item Token TextLine) → OperatorRole → ℕ → Item Token TextLine
 operands applied (roles.Load negated) at = map (λ o. line_of at (instructions.Load negated o)) operand
 operands applied (roles.Apply operator) at = applied operator at
 operands applied (roles.Transform function) at = empty (line_of at (instructions.Transform function))
@@ -92,7 +92,7 @@ operands applied (roles.Call condition) at = map (λ x. line_of at (call_of cond
 
 -- ---- what stands in parentheses
 
-abbrev pub load_of : Option Role → ℕ → Option (Bool × ℕ)
+abbrev pub load_of : Option OperatorRole → ℕ → Option (Bool × ℕ)
 load_of (Some (roles.Load negated)) at = Some (negated, at)
 load_of _ at = None
 

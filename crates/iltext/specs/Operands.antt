@@ -12,14 +12,14 @@ use Rattle.iltokens.specs.declared.keyword.Keyword.{Keyword}
 use Rattle.iltokens.specs.declared.keyword.Keyword.TheVariants as words
 use Rattle.iltokens.specs.declared.lexed.Delimiter.TheVariants as delimiters
 use Rattle.iltokens.specs.declared.lexed.What.TheVariants as whats
-use Rattle.iltext.specs.declared.token.Kind.{Kind}
-use Rattle.iltext.specs.declared.token.Kind.TheVariants as kinds
+use Rattle.iltext.specs.declared.token.TokenKind.{TokenKind}
+use Rattle.iltext.specs.declared.token.TokenKind.TheVariants as kinds
 use Rattle.iltext.specs.declared.token.Token.{Token}
 use Rattle.iltext.specs.Terminals.{delimiter, name, spaced}
 
 -- ---- variables and ports
 
-abbrev pub port_at : Kind → Token → Option Name
+abbrev pub port_at : TokenKind → Token → Option Name
 port_at (kinds.Good whats.Name) t = Some (record { from = t.from; to = t.to })
 port_at (kinds.Good (whats.Keyword words.R)) t = Some (record { from = t.from; to = t.to })
 port_at _ t = None
@@ -47,7 +47,7 @@ literal_word words.True = Some (values.Bool true)
 literal_word words.False = Some (values.Bool false)
 literal_word _ = None
 
-abbrev pub literal_at : Kind → Option Value
+abbrev pub literal_at : TokenKind → Option Value
 literal_at (kinds.Good (whats.Keyword w)) = literal_word w
 literal_at (kinds.Good (whats.Number n)) = Some (values.Int n)
 literal_at (kinds.Good (whats.Time n)) = Some (values.Int (pos n))

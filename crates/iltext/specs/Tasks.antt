@@ -8,14 +8,14 @@ use Rattle.ilsource.specs.declared.name.Name.{Name}
 use Rattle.iltokens.specs.declared.keyword.Keyword.TheVariants as words
 use Rattle.iltokens.specs.declared.lexed.Delimiter.TheVariants as delimiters
 use Rattle.iltokens.specs.declared.lexed.What.TheVariants as whats
-use Rattle.iltext.specs.declared.token.Kind.{Kind}
-use Rattle.iltext.specs.declared.token.Kind.TheVariants as kinds
+use Rattle.iltext.specs.declared.token.TokenKind.{TokenKind}
+use Rattle.iltext.specs.declared.token.TokenKind.TheVariants as kinds
 use Rattle.iltext.specs.declared.token.Token.{Token}
 use Rattle.iltext.specs.Terminals.{word, delimiter, name, number, spaced}
 
 -- ---- tasks
 
-abbrev pub duration_at : Kind → Option ℕ
+abbrev pub duration_at : TokenKind → Option ℕ
 duration_at (kinds.Good (whats.Time n)) = Some n
 duration_at _ = None
 

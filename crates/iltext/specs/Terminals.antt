@@ -12,9 +12,9 @@ use Rattle.iltokens.specs.declared.keyword.Keyword.{Keyword}
 use Rattle.iltokens.specs.declared.keyword.Keyword.TheVariants as words
 use Rattle.iltokens.specs.declared.lexed.Delimiter.{Delimiter}
 use Rattle.iltokens.specs.declared.lexed.Delimiter.TheVariants as delimiters
-use Rattle.iltext.specs.declared.token.Kind.{Kind}
+use Rattle.iltext.specs.declared.token.TokenKind.{TokenKind}
 use Rattle.iltokens.specs.declared.lexed.What.TheVariants as whats
-use Rattle.iltext.specs.declared.token.Kind.TheVariants as kinds
+use Rattle.iltext.specs.declared.token.TokenKind.TheVariants as kinds
 use Rattle.iltext.specs.declared.token.Token.{Token}
 
 -- one list after the other
@@ -29,7 +29,7 @@ Seen = Unit {0}
 abbrev pub same_word : Keyword → Keyword → Bool
 same_word = sameb all_words
 
-abbrev pub word_at : Keyword → Kind → Option Seen
+abbrev pub word_at : Keyword → TokenKind → Option Seen
 word_at w (kinds.Good (whats.Keyword v)) = if same_word v w then Some tt else None
 word_at w _ = None
 
@@ -41,7 +41,7 @@ word w = one (λ t. word_at w t.kind)
 abbrev pub same_delimiter : Delimiter → Delimiter → Bool
 same_delimiter = sameb all_delimiters
 
-abbrev pub delimiter_at : Delimiter → Kind → Option Seen
+abbrev pub delimiter_at : Delimiter → TokenKind → Option Seen
 delimiter_at m (kinds.Good (whats.Delimiter n)) = if same_delimiter n m then Some tt else None
 delimiter_at m _ = None
 
@@ -49,7 +49,7 @@ delimiter_at m _ = None
 unfoldable pub delimiter : Delimiter → Item Token Seen
 delimiter m = one (λ t. delimiter_at m t.kind)
 
-abbrev pub name_at : Kind → Token → Option Name
+abbrev pub name_at : TokenKind → Token → Option Name
 name_at (kinds.Good whats.Name) t = Some (record { from = t.from; to = t.to })
 name_at _ t = None
 
@@ -62,7 +62,7 @@ constant_word words.True = Some (constants.Bool true)
 constant_word words.False = Some (constants.Bool false)
 constant_word _ = None
 
-abbrev pub constant_at : Kind → Option Constant
+abbrev pub constant_at : TokenKind → Option Constant
 constant_at (kinds.Good (whats.Keyword w)) = constant_word w
 constant_at (kinds.Good (whats.Number n)) = Some (constants.Number n)
 constant_at (kinds.Good (whats.Time n)) = Some (constants.Time n)
@@ -72,7 +72,7 @@ constant_at _ = None
 unfoldable pub constant : Item Token Constant
 constant = one (λ t. constant_at t.kind)
 
-abbrev pub number_at : Kind → Option ℤ
+abbrev pub number_at : TokenKind → Option ℤ
 number_at (kinds.Good (whats.Number n)) = Some n
 number_at _ = None
 
@@ -80,7 +80,7 @@ number_at _ = None
 unfoldable pub number : Item Token ℤ
 number = one (λ t. number_at t.kind)
 
-abbrev pub closing_at : Kind → ℕ → Option ℕ
+abbrev pub closing_at : TokenKind → ℕ → Option ℕ
 closing_at (kinds.Good (whats.Delimiter delimiters.Close)) at = Some at
 closing_at _ at = None
 

@@ -6,8 +6,8 @@ ghost use Rattle.ilgrammar.specs.Results.{Gives};
 ghost use Rattle.iltext.specs.Declarations.{block_at, block, instances};
 
 use crate::roles::lookup;
-use crate::token::{Kind, Token};
-use ilblocks::Kind as BlockKind;
+use crate::token::{Token, TokenKind};
+use ilblocks::BlockKind;
 use ilgrammar::ReadError;
 use iltokens::{Keyword, What};
 
@@ -28,11 +28,11 @@ pub const BLOCKS: [(Keyword, BlockKind); 12] = [
 ];
 
 /// The kind of block that a token is the word of.
-fn kind_of(kind: Kind) -> Option<BlockKind>
+fn kind_of(kind: TokenKind) -> Option<BlockKind>
     ensures { result ≡ block_at kind }
 {
     match kind {
-        Kind::Good(What::Keyword(word)) => lookup(&BLOCKS, word),
+        TokenKind::Good(What::Keyword(word)) => lookup(&BLOCKS, word),
         _ => None,
     }
 }

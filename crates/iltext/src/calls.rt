@@ -7,7 +7,7 @@ ghost use Rattle.iltext.specs.Calls.{argument, next_argument, arguments, passed,
 
 use crate::operands::{spaced_operand, spaced_port};
 use crate::reading::{delimiter, name, spaced_delimiter};
-use crate::token::{Kind, Token};
+use crate::token::{Token, TokenKind};
 use ilgrammar::ReadError;
 use ilsource::{Name, Symbol};
 use iltokens::{Delimiter, What};
@@ -37,7 +37,7 @@ fn begins_next_argument(block: Name, ts: &[Token]) -> bool
         ts,
         [
             Token {
-                kind: Kind::Good(What::Delimiter(Delimiter::Comma)),
+                kind: TokenKind::Good(What::Delimiter(Delimiter::Comma)),
                 ..
             },
             ..
@@ -101,7 +101,7 @@ fn begins_passed(block: Name, ts: &[Token]) -> bool
         ts,
         [
             Token {
-                kind: Kind::Good(What::Delimiter(Delimiter::Open)),
+                kind: TokenKind::Good(What::Delimiter(Delimiter::Open)),
                 ..
             },
             ..

@@ -3,7 +3,7 @@
 ghost use Rattle.std.specs.Prelude.{◌≡◌, ◌≤◌, length, IfOk, All};
 ghost use Rattle.iltext.specs.Cutting.{Cuts};
 
-use crate::token::{Kind, Token};
+use crate::token::{Token, TokenKind};
 use iltokens::{Lexed, token};
 use std::alloc::{AllocError, Global};
 
@@ -19,7 +19,7 @@ pub fn tokens(alloc: Global, text: &[u8]) -> Result<Vec<Token>, AllocError>
             Lexed::End => return Ok(all),
             Lexed::Fault { cause, at: place } => {
                 all.push(Token {
-                    kind: Kind::Bad(cause),
+                    kind: TokenKind::Bad(cause),
                     from: place,
                     to: place,
                 })?;
@@ -27,7 +27,7 @@ pub fn tokens(alloc: Global, text: &[u8]) -> Result<Vec<Token>, AllocError>
             }
             Lexed::Token { what, from, to } => {
                 all.push(Token {
-                    kind: Kind::Good(what),
+                    kind: TokenKind::Good(what),
                     from,
                     to,
                 })?;

@@ -18,8 +18,8 @@ use crate::reading::{
     begins_word, line_ends, spaced_constant, spaced_delimiter, spaced_name, spaced_number,
     spaced_word,
 };
-use crate::token::{Kind, Token};
-use ilblocks::Kind as BlockKind;
+use crate::token::{Token, TokenKind};
+use ilblocks::BlockKind;
 use ilgrammar::ReadError;
 use iloperators::IntegerType;
 use ilsource::{Constant, Declaration, Declared, Name, Specification, TypeDeclaration};
@@ -34,12 +34,12 @@ fn integer<'a>(ts: &'a [Token]) -> Result<(IntegerType, &'a [Token]), ReadError<
     match ts {
         [first, rest @ ..] => {
             let integer = match first.kind {
-                Kind::Good(What::Keyword(Keyword::Sint)) => IntegerType::Sint,
-                Kind::Good(What::Keyword(Keyword::Int)) => IntegerType::Int,
-                Kind::Good(What::Keyword(Keyword::Dint)) => IntegerType::Dint,
-                Kind::Good(What::Keyword(Keyword::Usint)) => IntegerType::Usint,
-                Kind::Good(What::Keyword(Keyword::Uint)) => IntegerType::Uint,
-                Kind::Good(What::Keyword(Keyword::Udint)) => IntegerType::Udint,
+                TokenKind::Good(What::Keyword(Keyword::Sint)) => IntegerType::Sint,
+                TokenKind::Good(What::Keyword(Keyword::Int)) => IntegerType::Int,
+                TokenKind::Good(What::Keyword(Keyword::Dint)) => IntegerType::Dint,
+                TokenKind::Good(What::Keyword(Keyword::Usint)) => IntegerType::Usint,
+                TokenKind::Good(What::Keyword(Keyword::Uint)) => IntegerType::Uint,
+                TokenKind::Good(What::Keyword(Keyword::Udint)) => IntegerType::Udint,
                 _ => return Err(ReadError::Fault(ts)),
             };
             Ok((integer, rest))
@@ -56,9 +56,9 @@ fn simple<'a>(ts: &'a [Token]) -> Result<(Specification, &'a [Token]), ReadError
     match ts {
         [first, rest @ ..] => {
             let specification = match first.kind {
-                Kind::Good(What::Keyword(Keyword::Bool)) => Specification::Bool,
-                Kind::Good(What::Keyword(Keyword::Time)) => Specification::Time,
-                Kind::Good(What::Name) => Specification::Named(Name {
+                TokenKind::Good(What::Keyword(Keyword::Bool)) => Specification::Bool,
+                TokenKind::Good(What::Keyword(Keyword::Time)) => Specification::Time,
+                TokenKind::Good(What::Name) => Specification::Named(Name {
                     from: first.from,
                     to: first.to,
                 }),
@@ -93,7 +93,7 @@ fn range<'a>(ts: &'a [Token]) -> Result<(Specification, &'a [Token]), ReadError<
     match rest {
         [
             Token {
-                kind: Kind::Good(What::Delimiter(Delimiter::Open)),
+                kind: TokenKind::Good(What::Delimiter(Delimiter::Open)),
                 ..
             },
             ..
@@ -113,7 +113,7 @@ fn begins_simple(ts: &[Token]) -> bool
         ts,
         [
             Token {
-                kind: Kind::Good(
+                kind: TokenKind::Good(
                     What::Keyword(Keyword::Bool) | What::Keyword(Keyword::Time) | What::Name,
                 ),
                 ..
@@ -144,7 +144,7 @@ fn initial<'a>(ts: &'a [Token]) -> Result<(Option<Constant>, &'a [Token]), ReadE
     match ts {
         [
             Token {
-                kind: Kind::Good(What::Delimiter(Delimiter::Assign)),
+                kind: TokenKind::Good(What::Delimiter(Delimiter::Assign)),
                 ..
             },
             ..
@@ -196,7 +196,7 @@ fn begins_next_name(ts: &[Token]) -> bool
         ts,
         [
             Token {
-                kind: Kind::Good(What::Delimiter(Delimiter::Comma)),
+                kind: TokenKind::Good(What::Delimiter(Delimiter::Comma)),
                 ..
             },
             ..
@@ -258,7 +258,7 @@ pub fn begins_name(ts: &[Token]) -> bool
         ts,
         [
             Token {
-                kind: Kind::Good(What::Name),
+                kind: TokenKind::Good(What::Name),
                 ..
             },
             ..

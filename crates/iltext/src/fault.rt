@@ -1,13 +1,13 @@
 //! Why a text was refused.
 
 ghost use Rattle.std.specs.Prelude.{◌≡◌, ◌≤◌, length, false, Some};
-ghost use Rattle.iltext.specs.Faults.{number_of, number_of_cause, cause_of_kind, cause_at};
+ghost use Rattle.iltext.specs.Faults.{text_fault_number, number_of_cause, cause_of_kind, cause_at};
 ghost use Rattle.iltext.specs.Faults.{is_deferrable, defers, open_after, open_after_all};
 ghost use Rattle.iltext.specs.Faults.{place_at, Reports};
 
-use crate::roles::{Role, is_inner, role_of};
-use crate::token::{Kind, Token};
-use ilsource::Place;
+use crate::roles::{OperatorRole, is_inner, role_of};
+use crate::token::{Token, TokenKind};
+use ilsource::LineColumn;
 use iltokens::{Delimiter, LexicalCause, What};
 use limits::MOST_NESTING;
 use std::fmt;
@@ -83,7 +83,7 @@ impl fmt::Display for TextFault {
 impl TextFault {
     /// The number by which the fault is printed.
     pub fn number(&self) -> u8
-        ensures { result ≡ number_of self.now }
+        ensures { result ≡ text_fault_number self.now }
     {
         match self {
             TextFault::Memory => 1,
@@ -93,11 +93,11 @@ impl TextFault {
 }
 
 /// Whether a token is an operator that may be deferred.
-fn defers(kind: Kind) -> bool
+fn defers(kind: TokenKind) -> bool
     ensures { result ≡ defers kind }
 {
     match role_of(kind) {
-        Some(Role::Apply(operator)) => operator.may_defer(),
+        Some(OperatorRole::Apply(operator)) => operator.may_defer(),
         _ => false,
     }
 }
@@ -110,12 +110,12 @@ fn open_after(before: &[Token]) -> usize
     let mut deferred = false;
     'tokens: for token in before {
         match token.kind {
-            Kind::Good(What::Delimiter(Delimiter::Open)) => {
+            TokenKind::Good(What::Delimiter(Delimiter::Open)) => {
                 if deferred {
                     count += 1;
                 }
             }
-            Kind::Good(What::Delimiter(Delimiter::Close)) => count = count.saturating_sub(1),
+            TokenKind::Good(What::Delimiter(Delimiter::Close)) => count = count.saturating_sub(1),
             _ => {}
         }
         deferred = defers(token.kind);
@@ -130,18 +130,18 @@ fn cause_at(before: &[Token], rest: &[Token]) -> TextCause
     match rest {
         [] => TextCause::Unexpected,
         [first, ..] => match first.kind {
-            Kind::Bad(LexicalCause::NotAscii) => TextCause::NotAscii,
-            Kind::Bad(LexicalCause::BadToken) => TextCause::BadToken,
-            Kind::Bad(LexicalCause::BadNumber) => TextCause::BadNumber,
-            Kind::Bad(LexicalCause::CommentOpen) => TextCause::CommentOpen,
-            Kind::Good(What::Delimiter(Delimiter::Open)) => {
+            TokenKind::Bad(LexicalCause::NotAscii) => TextCause::NotAscii,
+            TokenKind::Bad(LexicalCause::BadToken) => TextCause::BadToken,
+            TokenKind::Bad(LexicalCause::BadNumber) => TextCause::BadNumber,
+            TokenKind::Bad(LexicalCause::CommentOpen) => TextCause::CommentOpen,
+            TokenKind::Good(What::Delimiter(Delimiter::Open)) => {
                 if open_after(before) >= MOST_NESTING {
                     TextCause::TooDeep
                 } else {
                     TextCause::Unexpected
                 }
             }
-            Kind::Good(What::Keyword(word)) => {
+            TokenKind::Good(What::Keyword(word)) => {
                 if open_after(before) > 0 && !is_inner(word) {
                     TextCause::NotNested
                 } else {
@@ -169,7 +169,7 @@ pub fn fault_at(text: &[u8], before: &[Token], rest: &[Token]) -> TextFault
     requires { place_at text.now rest.now ≤ length text.now }
     ensures { Reports text.now before.now rest.now result }
 {
-    let place = Place::of(text, place_at(text, rest));
+    let place = LineColumn::of(text, place_at(text, rest));
     TextFault::At {
         line: place.line,
         col: place.col,

@@ -9,21 +9,21 @@ ghost use Rattle.iltext.specs.Globals.{globals, var_global, global_blocks};
 
 use crate::declarations::{begins_name, names_after, typing};
 use crate::reading::{begins_word, line_ends, spaced_delimiter, spaced_name, spaced_word};
-use crate::token::{Kind, Token};
+use crate::token::{Token, TokenKind};
 use ilgrammar::ReadError;
-use ilsource::{Address, GlobalDeclaration, Name};
+use ilsource::{DirectAddress, GlobalDeclaration, Name};
 use iltokens::{Delimiter, Keyword, What};
 use std::alloc::Global;
 
 /// `%QB`, `%IW` or `%IX` with its numbers.
 #[tactic(auto, unfolding(crate::specs::Globals::address))]
-fn address<'a>(ts: &'a [Token]) -> Result<(Address, &'a [Token]), ReadError<'a, Token>>
+fn address<'a>(ts: &'a [Token]) -> Result<(DirectAddress, &'a [Token]), ReadError<'a, Token>>
     ensures { Gives (λ x. (x.0, x.1.now)) result (address.read ts.now) }
 {
     match ts {
         [first, rest @ ..] => match first.kind {
-            Kind::Good(What::Address { kind, bus, place }) => Ok((
-                Address {
+            TokenKind::Good(What::Address { kind, bus, place }) => Ok((
+                DirectAddress {
                     at: first.from,
                     kind,
                     bus,

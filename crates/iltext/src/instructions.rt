@@ -11,7 +11,7 @@ use crate::declarations::begins_name;
 use crate::operands::{operand, symbol};
 use crate::parentheses::{bounds, content, may_open};
 use crate::reading::{closing, delimiter, line_break, name};
-use crate::roles::{Role, role_of};
+use crate::roles::{OperatorRole, role_of};
 use crate::token::Token;
 use ilgrammar::ReadError;
 use iloperators::Operator;
@@ -75,41 +75,41 @@ fn applied<'a>(
 /// What follows an operator at a place.
 fn operands<'a>(
     alloc: Global,
-    role: Role,
+    role: OperatorRole,
     at: usize,
     ts: &'a [Token],
 ) -> Result<(Line<Symbol, Name>, &'a [Token]), ReadError<'a, Token>>
     ensures { Gives (λ x. (x.0, x.1.now)) result ((operands (applied 32) role at).read ts.now) }
 {
     let (instruction, rest) = match role {
-        Role::Load { negated } => {
+        OperatorRole::Load { negated } => {
             let (operand, rest) = operand(ts)?;
             (Instruction::Load { negated, operand }, rest)
         }
-        Role::Apply(operator) => return applied(alloc, operator, at, ts),
-        Role::Transform(function) => (Instruction::Transform(function), ts),
-        Role::Limit => {
+        OperatorRole::Apply(operator) => return applied(alloc, operator, at, ts),
+        OperatorRole::Transform(function) => (Instruction::Transform(function), ts),
+        OperatorRole::Limit => {
             let ((low, high), rest) = bounds(ts)?;
             (Instruction::Limit { low, high }, rest)
         }
-        Role::Store { negated } => {
+        OperatorRole::Store { negated } => {
             let (variable, rest) = symbol(ts)?;
             (Instruction::Store { negated, variable }, rest)
         }
-        Role::Set => {
+        OperatorRole::Set => {
             let (variable, rest) = symbol(ts)?;
             (Instruction::Set(variable), rest)
         }
-        Role::Reset => {
+        OperatorRole::Reset => {
             let (variable, rest) = symbol(ts)?;
             (Instruction::Reset(variable), rest)
         }
-        Role::Jump(condition) => {
+        OperatorRole::Jump(condition) => {
             let (label, rest) = name(ts)?;
             (Instruction::Jump(condition, label), rest)
         }
-        Role::Return(condition) => (Instruction::Return(condition), ts),
-        Role::Call(condition) => {
+        OperatorRole::Return(condition) => (Instruction::Return(condition), ts),
+        OperatorRole::Call(condition) => {
             let ((block, arguments), rest) = call(alloc, ts)?;
             let instruction = Instruction::Call {
                 condition,

@@ -8,7 +8,7 @@ ghost use Rattle.iltext.specs.Operands.{port, dot_port, symbol_of, symbol, liter
 ghost use Rattle.iltext.specs.Operands.{spaced_dot_port, spaced_symbol, spaced_operand};
 
 use crate::reading::{delimiter, line_ends, name, spaced_delimiter, spaced_name};
-use crate::token::{Kind, Token};
+use crate::token::{Token, TokenKind};
 use ilgrammar::ReadError;
 use ilsource::{Name, Symbol};
 use iltokens::{Delimiter, Keyword, What};
@@ -22,7 +22,7 @@ fn port<'a>(ts: &'a [Token]) -> Result<(Name, &'a [Token]), ReadError<'a, Token>
 {
     match ts {
         [first, rest @ ..] => match first.kind {
-            Kind::Good(What::Name) | Kind::Good(What::Keyword(Keyword::R)) => Ok((
+            TokenKind::Good(What::Name) | TokenKind::Good(What::Keyword(Keyword::R)) => Ok((
                 Name {
                     from: first.from,
                     to: first.to,
@@ -53,7 +53,7 @@ fn begins_dot_port(ts: &[Token]) -> bool
         ts,
         [
             Token {
-                kind: Kind::Good(What::Delimiter(Delimiter::Dot)),
+                kind: TokenKind::Good(What::Delimiter(Delimiter::Dot)),
                 ..
             },
             ..
@@ -92,10 +92,10 @@ fn literal<'a>(ts: &'a [Token]) -> Result<(Value, &'a [Token]), ReadError<'a, To
     match ts {
         [first, rest @ ..] => {
             let value = match first.kind {
-                Kind::Good(What::Keyword(Keyword::True)) => Value::Bool(true),
-                Kind::Good(What::Keyword(Keyword::False)) => Value::Bool(false),
-                Kind::Good(What::Number(number)) => Value::Int(number),
-                Kind::Good(What::Time(milliseconds)) => Value::Int(i64::from(milliseconds)),
+                TokenKind::Good(What::Keyword(Keyword::True)) => Value::Bool(true),
+                TokenKind::Good(What::Keyword(Keyword::False)) => Value::Bool(false),
+                TokenKind::Good(What::Number(number)) => Value::Int(number),
+                TokenKind::Good(What::Time(milliseconds)) => Value::Int(i64::from(milliseconds)),
                 _ => return Err(ReadError::Fault(ts)),
             };
             Ok((value, rest))
@@ -114,7 +114,7 @@ fn begins_symbol(ts: &[Token]) -> bool
         ts,
         [
             Token {
-                kind: Kind::Good(What::Name),
+                kind: TokenKind::Good(What::Name),
                 ..
             },
             ..

@@ -14,8 +14,8 @@ ghost use Rattle.iltext.specs.Roles.{may_nest};
 
 use crate::operands::operand;
 use crate::reading::{begins_line_end, closing, delimiter, line_break};
-use crate::roles::{Role, inner_role_of, role_of};
-use crate::token::{Kind, Token};
+use crate::roles::{OperatorRole, inner_role_of, role_of};
+use crate::token::{Token, TokenKind};
 use ilgrammar::ReadError;
 use iloperators::Operator;
 use ilsource::Symbol;
@@ -32,7 +32,7 @@ fn opens(ts: &[Token]) -> bool
         ts,
         [
             Token {
-                kind: Kind::Good(What::Delimiter(Delimiter::Open)),
+                kind: TokenKind::Good(What::Delimiter(Delimiter::Open)),
                 ..
             },
             ..
@@ -74,7 +74,7 @@ fn load<'a>(
 {
     match ts {
         [first, rest @ ..] => match role_of(first.kind) {
-            Some(Role::Load { negated }) => {
+            Some(OperatorRole::Load { negated }) => {
                 let (operand, rest) = operand(rest)?;
                 Ok(((first.from, negated, operand), rest))
             }
@@ -159,7 +159,7 @@ fn applied<'a>(
 #[cycle(nest)]
 fn operands<'a>(
     more: usize,
-    role: Role,
+    role: OperatorRole,
     at: usize,
     pieces: &mut Vec<Piece<Symbol>>,
     ts: &'a [Token],
@@ -169,28 +169,28 @@ fn operands<'a>(
         (extend pieces_in pieces.old.items ((operands (applied more) role at).read ts.now)) }
 {
     match role {
-        Role::Load { negated } => {
+        OperatorRole::Load { negated } => {
             let (operand, rest) = operand(ts)?;
             push(pieces, at, Action::Load { negated, operand })?;
             Ok(rest)
         }
-        Role::Apply(operator) => applied(more, operator, at, pieces, ts),
-        Role::Transform(function) => {
+        OperatorRole::Apply(operator) => applied(more, operator, at, pieces, ts),
+        OperatorRole::Transform(function) => {
             push(pieces, at, Action::Transform(function))?;
             Ok(ts)
         }
-        Role::Limit => {
+        OperatorRole::Limit => {
             let ((low, high), rest) = bounds(ts)?;
             push(pieces, at, Action::Apply(Operator::Max, low))?;
             push(pieces, at, Action::Apply(Operator::Min, high))?;
             Ok(rest)
         }
-        Role::Store { .. }
-        | Role::Set
-        | Role::Reset
-        | Role::Jump(_)
-        | Role::Return(_)
-        | Role::Call(_) => { unreachable!() }
+        OperatorRole::Store { .. }
+        | OperatorRole::Set
+        | OperatorRole::Reset
+        | OperatorRole::Jump(_)
+        | OperatorRole::Return(_)
+        | OperatorRole::Call(_) => { unreachable!() }
     }
 }
 

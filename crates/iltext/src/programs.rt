@@ -12,7 +12,7 @@ use crate::configurations::optional_configuration;
 use crate::declarations::{begins_name, begins_variables, type_declaration, variables};
 use crate::instructions::lines;
 use crate::reading::{line_ends, spaced_name, spaced_word};
-use crate::token::{Kind, Token};
+use crate::token::{Token, TokenKind};
 use ilgrammar::ReadError;
 use ilsource::{Configuration, Declaration, Element, Program};
 use iltokens::{Keyword, What};
@@ -100,7 +100,7 @@ fn begins_types(ts: &[Token]) -> bool
         ts,
         [
             Token {
-                kind: Kind::Good(What::Keyword(Keyword::Type)),
+                kind: TokenKind::Good(What::Keyword(Keyword::Type)),
                 ..
             },
             ..
@@ -134,7 +134,9 @@ fn begins_unit(ts: &[Token]) -> bool
         ts,
         [
             Token {
-                kind: Kind::Good(What::Keyword(Keyword::Type) | What::Keyword(Keyword::Program)),
+                kind: TokenKind::Good(
+                    What::Keyword(Keyword::Type) | What::Keyword(Keyword::Program)
+                ),
                 ..
             },
             ..

@@ -6,7 +6,7 @@ ghost use Rattle.ilgrammar.specs.Results.{Gives};
 ghost use Rattle.iltext.specs.Terminals.{word, delimiter, name, number, constant, closing};
 ghost use Rattle.iltext.specs.Terminals.{line_ends, spaced, line_break};
 
-use crate::token::{Kind, Token};
+use crate::token::{Token, TokenKind};
 use ilgrammar::ReadError;
 use ilsource::{Constant, Name};
 use iltokens::{Delimiter, Keyword, What};
@@ -19,7 +19,7 @@ pub fn word<'a>(ts: &'a [Token], wanted: Keyword) -> Result<&'a [Token], ReadErr
     match ts {
         [
             Token {
-                kind: Kind::Good(What::Keyword(found)),
+                kind: TokenKind::Good(What::Keyword(found)),
                 ..
             },
             rest @ ..,
@@ -42,7 +42,7 @@ pub fn begins_word(ts: &[Token], wanted: Keyword) -> bool
     match ts {
         [
             Token {
-                kind: Kind::Good(What::Keyword(found)),
+                kind: TokenKind::Good(What::Keyword(found)),
                 ..
             },
             ..
@@ -62,7 +62,7 @@ pub fn delimiter<'a>(
     match ts {
         [
             Token {
-                kind: Kind::Good(What::Delimiter(found)),
+                kind: TokenKind::Good(What::Delimiter(found)),
                 ..
             },
             rest @ ..,
@@ -84,7 +84,7 @@ pub fn name<'a>(ts: &'a [Token]) -> Result<(Name, &'a [Token]), ReadError<'a, To
 {
     match ts {
         [first, rest @ ..] => match first.kind {
-            Kind::Good(What::Name) => Ok((
+            TokenKind::Good(What::Name) => Ok((
                 Name {
                     from: first.from,
                     to: first.to,
@@ -104,10 +104,10 @@ pub fn constant<'a>(ts: &'a [Token]) -> Result<(Constant, &'a [Token]), ReadErro
 {
     match ts {
         [first, rest @ ..] => match first.kind {
-            Kind::Good(What::Keyword(Keyword::True)) => Ok((Constant::Bool(true), rest)),
-            Kind::Good(What::Keyword(Keyword::False)) => Ok((Constant::Bool(false), rest)),
-            Kind::Good(What::Number(number)) => Ok((Constant::Number(number), rest)),
-            Kind::Good(What::Time(milliseconds)) => Ok((Constant::Time(milliseconds), rest)),
+            TokenKind::Good(What::Keyword(Keyword::True)) => Ok((Constant::Bool(true), rest)),
+            TokenKind::Good(What::Keyword(Keyword::False)) => Ok((Constant::Bool(false), rest)),
+            TokenKind::Good(What::Number(number)) => Ok((Constant::Number(number), rest)),
+            TokenKind::Good(What::Time(milliseconds)) => Ok((Constant::Time(milliseconds), rest)),
             _ => Err(ReadError::Fault(ts)),
         },
         [] => Err(ReadError::Fault(ts)),
@@ -121,7 +121,7 @@ pub fn number<'a>(ts: &'a [Token]) -> Result<(i64, &'a [Token]), ReadError<'a, T
 {
     match ts {
         [first, rest @ ..] => match first.kind {
-            Kind::Good(What::Number(number)) => Ok((number, rest)),
+            TokenKind::Good(What::Number(number)) => Ok((number, rest)),
             _ => Err(ReadError::Fault(ts)),
         },
         [] => Err(ReadError::Fault(ts)),
@@ -135,7 +135,7 @@ pub fn closing<'a>(ts: &'a [Token]) -> Result<(usize, &'a [Token]), ReadError<'a
 {
     match ts {
         [first, rest @ ..] => match first.kind {
-            Kind::Good(What::Delimiter(Delimiter::Close)) => Ok((first.from, rest)),
+            TokenKind::Good(What::Delimiter(Delimiter::Close)) => Ok((first.from, rest)),
             _ => Err(ReadError::Fault(ts)),
         },
         [] => Err(ReadError::Fault(ts)),
@@ -153,7 +153,7 @@ pub fn begins_line_end(ts: &[Token]) -> bool
         ts,
         [
             Token {
-                kind: Kind::Good(What::Delimiter(Delimiter::LineEnd)),
+                kind: TokenKind::Good(What::Delimiter(Delimiter::LineEnd)),
                 ..
             },
             ..

@@ -9,7 +9,7 @@ ghost use Rattle.iltext.specs.Tasks.{with_task, program_instance, program_instan
 use crate::reading::{
     begins_word, line_ends, spaced_delimiter, spaced_name, spaced_number, spaced_word,
 };
-use crate::token::{Kind, Token};
+use crate::token::{Token, TokenKind};
 use ilgrammar::ReadError;
 use ilsource::{InstanceDeclaration, Name, TaskDeclaration};
 use iltokens::{Delimiter, Keyword, What};
@@ -22,7 +22,7 @@ fn duration<'a>(ts: &'a [Token]) -> Result<(u32, &'a [Token]), ReadError<'a, Tok
 {
     match ts {
         [first, rest @ ..] => match first.kind {
-            Kind::Good(What::Time(milliseconds)) => Ok((milliseconds, rest)),
+            TokenKind::Good(What::Time(milliseconds)) => Ok((milliseconds, rest)),
             _ => Err(ReadError::Fault(ts)),
         },
         [] => Err(ReadError::Fault(ts)),

@@ -4,7 +4,7 @@ use iltokens::{LexicalCause, What};
 
 /// What stands at a place of a text.
 #[derive(Clone, Copy, PartialEq, Eq)]
-pub enum Kind {
+pub enum TokenKind {
     Good(What),
     /// What begins no token, and why.
     Bad(LexicalCause),
@@ -13,7 +13,7 @@ pub enum Kind {
 /// A token and its bytes `from..to` in the text.
 #[derive(Clone, Copy, PartialEq, Eq)]
 pub struct Token {
-    pub kind: Kind,
+    pub kind: TokenKind,
     pub from: usize,
     pub to: usize,
 }

@@ -6,7 +6,7 @@ use Rattle.iltokens.specs.declared.lexed.LexicalCause.TheVariants.{NotAscii, Bad
 use Rattle.iltokens.specs.Blanks.{AreBlanks}
 use Rattle.iltokens.specs.NumberSteps.{unsigned, signed}
 use Rattle.iltokens.specs.TimeSteps.{time}
-use Rattle.iltokens.specs.AddressSteps.{Place, address}
+use Rattle.iltokens.specs.AddressSteps.{AddressParts, address}
 use Rattle.iltokens.specs.Letters.{is_letter}
 use Rattle.iltokens.specs.Digits.{is_digit}
 use Rattle.iltokens.specs.FrontSteps.{Front, end, taken, fault, in_limits, number_front, number_at, time_front, word_at}
@@ -52,7 +52,7 @@ address_fits : (b : ℕ) (bs : List ℕ) → b < 128 → Fits b (address_at bs)
 unfolding address_at
 address_fits b bs lt = go (address bs)
   where
-    go : (o : Option Place) → Fits b (address_front o)
+    go : (o : Option AddressParts) → Fits b (address_front o)
     go None = lt
     go (Some p) = chosen (ltb p.bus (2 ^ 63) && ltb p.place (2 ^ 63)) b _ _ (λ e. tt) (λ e. tt)
 

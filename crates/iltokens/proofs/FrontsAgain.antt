@@ -15,7 +15,7 @@ use Rattle.iltokens.specs.declared.lexed.LexicalCause.TheVariants.{BadNumber}
 use Rattle.iltokens.specs.Digits.{is_digit}
 use Rattle.iltokens.specs.NumberSteps.{unsigned, signed}
 use Rattle.iltokens.specs.TimeSteps.{time}
-use Rattle.iltokens.specs.AddressSteps.{Place, address}
+use Rattle.iltokens.specs.AddressSteps.{AddressParts, address}
 use Rattle.iltokens.specs.Letters.{is_letter}
 use Rattle.iltokens.specs.WordSteps.{after_name}
 use Rattle.iltokens.specs.FrontSteps.{Front, end, taken, fault, in_limits, number_front, number_at, word_kind}
@@ -38,7 +38,7 @@ abbrev pub rest_of : Option (ℕ × List ℕ) → Option (List ℕ)
 rest_of None = None
 rest_of (Some read) = Some read.1
 
-abbrev pub place_rest : Option Place → Option (List ℕ)
+abbrev pub place_rest : Option AddressParts → Option (List ℕ)
 place_rest None = None
 place_rest (Some p) = Some p.rest
 
@@ -254,7 +254,7 @@ time_reaches u n h rest =
 
 -- ---- addresses
 
-limited_address : (kind : AddressKind) (bus place : ℕ) (rest : List ℕ) (o : Option Place)
+limited_address : (kind : AddressKind) (bus place : ℕ) (rest : List ℕ) (o : Option AddressParts)
     → AddressTo kind bus place rest o
     → Reaches (whats.Address kind bus place) rest (address_front o) (place_rest o)
 limited_address kind bus place rest None h = h

@@ -8,7 +8,7 @@ use Rattle.iltokens.specs.declared.lexed.AddressKind.TheVariants as kinds
 use Rattle.iltokens.specs.Digits.{is_digit}
 use Rattle.iltokens.specs.DigitSteps.{digits, plain_from, plain}
 use Rattle.iltokens.specs.NumberSteps.{hexadecimal, based, unsigned}
-use Rattle.iltokens.specs.AddressSteps.{Place, kind_at, with_place, with_bus, with_kind, address}
+use Rattle.iltokens.specs.AddressSteps.{AddressParts, kind_at, with_place, with_bus, with_kind, address}
 use Rattle.iltokens.specs.Spellings as forms
 use Rattle.iltokens.specs.Spellings.{Reads, IsUnsigned, IsAddress}
 use Rattle.iltokens.proofs.Comments.{both}
@@ -166,7 +166,7 @@ kind_again kinds.InputBit p rest h =
 
 -- the address that is read: nothing of what stands after the spelling is left out, and where nothing stands there the
 -- numbers are these
-abbrev pub AddressTo : AddressKind → ℕ → ℕ → List ℕ → Option Place → Type 0
+abbrev pub AddressTo : AddressKind → ℕ → ℕ → List ℕ → Option AddressParts → Type 0
 AddressTo kind bus place rest None = ⊥
 AddressTo kind bus place rest (Some p) =
     (length p.rest ≤ length rest) × (rest ≡ [] → (p.kind ≡ kind) × (p.bus ≡ capped bus) × (p.place ≡ capped place))

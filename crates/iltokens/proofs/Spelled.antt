@@ -10,7 +10,16 @@ use Rattle.iltokens.specs.DigitSteps.{digits, plain}
 use Rattle.iltokens.specs.NumberSteps.{hexadecimal, based, unsigned}
 use Rattle.iltokens.specs.Letters.{is_name_byte}
 use Rattle.iltokens.specs.WordSteps.{after_name, after_word}
-use Rattle.iltokens.specs.AddressSteps.{Place, is_kind, kind_at, with_place, after_dot, with_bus, with_kind, address}
+use Rattle.iltokens.specs.AddressSteps.{
+  AddressParts,
+  is_kind,
+  kind_at,
+  with_place,
+  after_dot,
+  with_bus,
+  with_kind,
+  address,
+}
 use Rattle.iltokens.specs.Spellings as forms
 use Rattle.iltokens.specs.Spellings.{Spells, Reads, IsUnsigned}
 use Rattle.iltokens.proofs.Comments.{both}
@@ -135,7 +144,7 @@ kind_found bs =
     (kind_is bs kinds.InputBit (after_word (codes "%ix") bs) (word_found (codes "%ix") bs)))
 
 -- an address whose numbers are kept at 64 bits
-abbrev pub AddressAt : List ℕ → Option Place → Type 0
+abbrev pub AddressAt : List ℕ → Option AddressParts → Type 0
 AddressAt bs None = Unit {0}
 AddressAt bs (Some p) =
     (v : List ℕ) × (bus place : ℕ) × (bs ≡ v ++ p.rest) × forms.IsAddress v p.kind bus place × (p.bus ≡ capped bus) ×

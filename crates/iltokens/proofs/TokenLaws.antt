@@ -10,7 +10,7 @@ use Rattle.iltokens.specs.declared.lexed.LexicalCause.TheVariants.{BadNumber}
 use Rattle.iltokens.specs.Digits.{is_digit}
 use Rattle.iltokens.specs.NumberSteps.{unsigned, signed}
 use Rattle.iltokens.specs.TimeSteps.{time}
-use Rattle.iltokens.specs.AddressSteps.{Place, address}
+use Rattle.iltokens.specs.AddressSteps.{AddressParts, address}
 use Rattle.iltokens.specs.Letters.{is_letter}
 use Rattle.iltokens.specs.WordSteps.{after_name}
 use Rattle.iltokens.specs.FrontSteps.{Front, end, taken, fault, in_limits, number_front, number_at, word_front}
@@ -168,7 +168,7 @@ address_reported : (bs : List ℕ) → Reported bs (address_at bs) (place_rest (
 unfolding address_at
 address_reported bs = go (address bs) (address_found bs)
   where
-    go : (o : Option Place) → AddressAt bs o → Reported bs (address_front o) (place_rest o)
+    go : (o : Option AddressParts) → AddressAt bs o → Reported bs (address_front o) (place_rest o)
     go None h = tt
     go (Some p) h = limited (ltb p.bus (2 ^ 63)) (ltb p.place (2 ^ 63)) refl refl
       where

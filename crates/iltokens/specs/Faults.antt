@@ -3,8 +3,8 @@ use Rattle.std.specs.Prelude.{ℕ}
 use Rattle.iltokens.specs.declared.lexed.LexicalCause.{LexicalCause}
 use Rattle.iltokens.specs.declared.lexed.LexicalCause.TheVariants.{NotAscii, BadToken, BadNumber, CommentOpen}
 
-abbrev pub number_of : LexicalCause → ℕ
-number_of NotAscii = 2
-number_of BadToken = 3
-number_of BadNumber = 5
-number_of CommentOpen = 8
+abbrev pub lexical_fault_number : LexicalCause → ℕ
+lexical_fault_number NotAscii = 2
+lexical_fault_number BadToken = 3
+lexical_fault_number BadNumber = 5
+lexical_fault_number CommentOpen = 8

@@ -13,7 +13,7 @@ use Rattle.iltokens.specs.TimeSteps.{time}
 use Rattle.iltokens.specs.KeywordSteps.{keyword}
 use Rattle.iltokens.specs.Letters.{is_letter}
 use Rattle.iltokens.specs.WordSteps.{after_name}
-use Rattle.iltokens.specs.AddressSteps.{Place, address}
+use Rattle.iltokens.specs.AddressSteps.{AddressParts, address}
 
 -- the end, a token and what stands after it, or a fault
 pub data Front : Type 0 where
@@ -51,7 +51,7 @@ time_front (Some read) bs = if nat_le read.0 4294967295 then taken (whats.Time r
 unfoldable pub word_at : List ℕ → Front
 word_at bs = time_front (time bs) bs
 
-abbrev pub address_front : Option Place → Front
+abbrev pub address_front : Option AddressParts → Front
 address_front None = fault BadToken
 address_front (Some p) =
     if nat_lt p.bus (2 ^ 63) && nat_lt p.place (2 ^ 63)

@@ -4,7 +4,7 @@ use Rattle.std.specs.Borrow.{Bor}
 use Rattle.iltokens.specs.declared.blanks.Blank.{Blank}
 use Rattle.iltokens.specs.declared.blanks.Blank.TheVariants as code
 use Rattle.iltokens.specs.declared.lexed.AddressKind.{AddressKind}
-use Rattle.iltokens.specs.declared.address.Address.{Address}
+use Rattle.iltokens.specs.declared.address.LeadingAddress.{LeadingAddress}
 use Rattle.iltokens.specs.declared.time.Parts.{Parts}
 use Rattle.iltokens.specs.declared.front.Front.{Front}
 use Rattle.iltokens.specs.declared.front.Front.TheVariants as fronts
@@ -40,7 +40,7 @@ abbrev pub kind_view : Option (AddressKind × Bor (List ℕ)) → Option (Addres
 kind_view (Some x) = Some (x.0, x.1.now)
 kind_view None = None
 
-abbrev pub address_view : Option Address → Option addresses.Place
+abbrev pub address_view : Option LeadingAddress → Option addresses.AddressParts
 address_view (Some a) = Some (record { kind = a.kind; bus = a.bus; place = a.place; rest = a.rest.now })
 address_view None = None
 

@@ -1,7 +1,7 @@
 //! Kinds of tokens, and faults.
 
 ghost use Rattle.std.specs.Prelude.{◌≡◌};
-ghost use Rattle.iltokens.specs.Faults.{number_of};
+ghost use Rattle.iltokens.specs.Faults.{lexical_fault_number};
 
 use crate::keyword::Keyword;
 
@@ -73,7 +73,7 @@ pub enum LexicalCause {
 impl LexicalCause {
     /// The number by which the fault is printed.
     pub fn number(self) -> u8
-        ensures { result ≡ number_of self }
+        ensures { result ≡ lexical_fault_number self }
     {
         match self {
             LexicalCause::NotAscii => 2,

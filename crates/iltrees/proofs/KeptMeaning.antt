@@ -19,7 +19,7 @@ use Rattle.iloperators.specs.Conditions.{holds, chosen}
 use Rattle.iltrees.specs.Meaning.{passed, called, line_does}
 use Rattle.iltrees.specs.Passes.{has_label, takes, at_end, passes, scan}
 use Rattle.iltrees.specs.Renaming.{NewNames, by_name, rename_tree, rename_argument, rename, rename_line}
-use Rattle.iltrees.specs.Renaming.{IsSeen, IsKept, AreKept, IsRenamed, AreRenamed}
+use Rattle.iltrees.specs.Renaming.{IsSeen, IsLabelKept, AreKept, IsRenamed, AreRenamed}
 
 module _ {N M S T : Type 0} (a : Access N S) (b : Access M T) (new : NewNames N M) (view : S → T)
     (h : IsSeen a b new view) where
@@ -141,12 +141,12 @@ module _ {N M L K S T : Type 0} (a : Access N S) (b : Access M T) (new : NewName
   on_same u v (Some x) e = e x
 
   module _ (same : L → L → Bool) (same' : K → K → Bool) where
-    label_same : (l : L) (m : Option L) → IsKept same same' label m
+    label_same : (l : L) (m : Option L) → IsLabelKept same same' label m
         → has_label same' (label l) (option_map label m) ≡ has_label same l m
     label_same l None k = refl
     label_same l (Some m) k = k l
 
-    takes_same : (way : Way L) (m : Option L) → IsKept same same' label m
+    takes_same : (way : Way L) (m : Option L) → IsLabelKept same same' label m
         → takes same' (way_of way) (option_map label m) ≡ takes same way m
     takes_same On m k = refl
     takes_same (To l) m k = label_same l m k

@@ -79,13 +79,13 @@ module _ {N M S T : Type 0} (a : Access N S) (b : Access M T) (new : NewNames N 
     pub call : (s : S) (n : N) → b.call (view s) (new.name n) ≡ option_map view (a.call s n)
 
 -- no label but one that is the same gets the new name of a line's label
-abbrev pub IsKept : {L K : Type 0} → (L → L → Bool) → (K → K → Bool) → (L → K) → Option L → Type 0
-IsKept same same' label None = ⊤
-IsKept {L} same same' label (Some m) = (l : L) → same' (label l) (label m) ≡ same l m
+abbrev pub IsLabelKept : {L K : Type 0} → (L → L → Bool) → (K → K → Bool) → (L → K) → Option L → Type 0
+IsLabelKept same same' label None = ⊤
+IsLabelKept {L} same same' label (Some m) = (l : L) → same' (label l) (label m) ≡ same l m
 
 abbrev pub AreKept : {N L K : Type 0} → (L → L → Bool) → (K → K → Bool) → (L → K) → List (Line N L) → Type 0
 AreKept same same' label [] = ⊤
-AreKept same same' label (line ∷ lines) = IsKept same same' label line.label × AreKept same same' label lines
+AreKept same same' label (line ∷ lines) = IsLabelKept same same' label line.label × AreKept same same' label lines
 
 module _ {N M L K : Type 0} (same : L → L → Bool) (same' : K → K → Bool) (new : NewNames N M) where
   -- the second lines are the first ones under their new names

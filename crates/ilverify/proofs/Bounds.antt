@@ -8,8 +8,8 @@ use Rattle.std.proofs.lemmas.Option.{slice_get-get_or}
 use Rattle.std.proofs.lemmas.Bool.Decides.{nat_tests}
 use Rattle.iloperators.specs.declared.condition.Condition.{Condition}
 use Rattle.iloperators.specs.declared.condition.Condition.TheVariants.{Always, IfTrue, IfFalse}
-use Rattle.ilcode.specs.declared.instruction.Instruction.{Instruction}
-use Rattle.ilcode.specs.declared.instruction.Instruction.TheVariants as words
+use Rattle.ilcode.specs.declared.word.Word.{Word}
+use Rattle.ilcode.specs.declared.word.Word.TheVariants as words
 use Rattle.ilcode.specs.Listings.{Listing}
 use Rattle.ilcode.specs.Paths.{IsJumpTo, LeadsTo, IsNext, AreNext, IsPath, IsBound}
 use Rattle.ilcode.specs.Steps.{is_target}
@@ -71,19 +71,19 @@ ahead : (code : Listing) (place target : ℕ) → IsTrue (is_target code place t
 ahead code place target h = grind (arith, nat_tests)
 
 -- the word at a place is one
-leads_by : (code : Listing) (place to : ℕ) (word : Instruction) → slice_get code.instructions place ≡ Some word
+leads_by : (code : Listing) (place to : ℕ) (word : Word) → slice_get code.instructions place ≡ Some word
     → (next : IsNext code place to) → LeadsTo code word place to
 leads_by code place to word is next =
     let h = next.is in
     let e : next.word ≡ word = cc in
-    subst (λ (w : Instruction). LeadsTo code w place to) e next.leads
+    subst (λ (w : Word). LeadsTo code w place to) e next.leads
 
 -- ---- words that go on to the next place
 
-abbrev pub IsNoJump : Instruction → Type 0
+abbrev pub IsNoJump : Word → Type 0
 IsNoJump word = (condition : Condition) (target : ℕ) → word ≡ words.Jump condition target → ⊥
 
-onward : (code : Listing) (place to : ℕ) (word : Instruction) → IsNoJump word → LeadsTo code word place to
+onward : (code : Listing) (place to : ℕ) (word : Word) → IsNoJump word → LeadsTo code word place to
     → to ≡ place + 1
 onward code place to (words.Load negated operand) n h = h
 onward code place to (words.Apply operator operand) n h = h
@@ -97,7 +97,7 @@ onward code place to (words.Open operator) n h = h
 onward code place to words.Close n h = h
 onward code place to (words.Jump condition target) n h = absurd (n condition target refl)
 
-leads_on : (code : Listing) (place : ℕ) (word : Instruction) → IsNoJump word → LeadsTo code word place (place + 1)
+leads_on : (code : Listing) (place : ℕ) (word : Word) → IsNoJump word → LeadsTo code word place (place + 1)
 leads_on code place (words.Load negated operand) n = refl
 leads_on code place (words.Apply operator operand) n = refl
 leads_on code place (words.Transform function) n = refl
@@ -110,7 +110,7 @@ leads_on code place (words.Open operator) n = refl
 leads_on code place words.Close n = refl
 leads_on code place (words.Jump condition target) n = absurd (n condition target refl)
 
-pub on_longest : (code : Listing) (kept : List ℕ) (place : ℕ) (word : Instruction)
+pub on_longest : (code : Listing) (kept : List ℕ) (place : ℕ) (word : Word)
     → AreLongest code kept (place + 1) → slice_get code.instructions place ≡ Some word → IsNoJump word
     → IsLongestFrom code place (words_at kept (place + 1) + 1)
 on_longest code kept place word l is n =
@@ -173,7 +173,7 @@ or_target code kept place target to (inr j) =
     let a = ahead code place target j.lawful in
     (omega (arith, a, j.is), inr (at_target code kept place target to j))
 
-either : (code : Listing) (kept : List ℕ) (place target : ℕ) (word : Instruction) → AreLongest code kept (place + 1)
+either : (code : Listing) (kept : List ℕ) (place target : ℕ) (word : Word) → AreLongest code kept (place + 1)
     → slice_get code.instructions place ≡ Some word
     → ((to : ℕ) → LeadsTo code word place to → (to ≡ place + 1) ⊎ IsJumpTo code place target to)
     → LeadsTo code word place (place + 1)
@@ -230,11 +230,11 @@ if_by code kept place target condition l is (inr e) =
     (subst (λ (c : Condition). slice_get code.instructions place ≡ Some (words.Jump c target)) e is)
 
 -- the word that is read at a place
-pub word_there : (code : Listing) (place : ℕ) (read : List Instruction) (default word : Instruction)
+pub word_there : (code : Listing) (place : ℕ) (read : List Word) (default word : Word)
     → read ≡ code.instructions → place < length code.instructions → get_or read place default ≡ word
     → slice_get code.instructions place ≡ Some word
 word_there code place read default word e lt is =
-    ap (λ (l : List Instruction). slice_get l place) (sym e)
+    ap (λ (l : List Word). slice_get l place) (sym e)
     ∙ slice_get-get_or read place default (omega (arith, ap length e, lt)) ∙ ap Some is
 
 -- ---- no path is longer than the code
@@ -246,7 +246,7 @@ or_ahead : (code : Listing) (place target to : ℕ) → ((to ≡ place + 1) ⊎ 
 or_ahead code place target to (inl e) = omega (arith, e)
 or_ahead code place target to (inr j) = jumps_ahead code place target to j
 
-pub forward : (code : Listing) (place to : ℕ) (word : Instruction) → LeadsTo code word place to → place < to
+pub forward : (code : Listing) (place to : ℕ) (word : Word) → LeadsTo code word place to → place < to
 forward code place to (words.Load negated operand) h = omega (arith, h)
 forward code place to (words.Apply operator operand) h = omega (arith, h)
 forward code place to (words.Transform function) h = omega (arith, h)

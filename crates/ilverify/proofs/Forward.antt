@@ -7,8 +7,8 @@ use Rattle.std.specs.Option.{option_map}
 use Rattle.std.proofs.lemmas.Bool.{cases_eq}
 use Rattle.std.proofs.lemmas.List.{length-replicate}
 use Rattle.std.proofs.lemmas.Option.{slice_get_within}
-use Rattle.ilcode.specs.declared.instruction.Instruction.{Instruction}
-use Rattle.ilcode.specs.declared.instruction.Instruction.TheVariants as words
+use Rattle.ilcode.specs.declared.word.Word.{Word}
+use Rattle.ilcode.specs.declared.word.Word.TheVariants as words
 use Rattle.ilcode.specs.Listings.{Listing}
 use Rattle.ilcode.specs.Steps.{is_start, is_target}
 use Rattle.ilcode.proofs.Runs.{target_ahead}
@@ -33,17 +33,17 @@ use Rattle.ilverify.proofs.Order.{closed_wider, closed_is}
 
 -- ---- where a word leads
 
-way_is : (word : Instruction) (place : ℕ) (ways : Ways) (to : ℕ) (after : Entry) → IsWay word place ways to after
+way_is : (word : Word) (place : ℕ) (ways : Ways) (to : ℕ) (after : Entry) → IsWay word place ways to after
     → (to ≡ target_of place word) × (ways.target ≡ Some after) ⊎ (to ≡ place + 1) × (ways.next ≡ Some after)
 way_is (words.Jump condition target) place ways to after h = h
 way_is word place ways to after h = inr h
 
-next_way : (word : Instruction) (place : ℕ) (ways : Ways) (after : Entry) → ways.next ≡ Some after
+next_way : (word : Word) (place : ℕ) (ways : Ways) (after : Entry) → ways.next ≡ Some after
     → IsWay word place ways (place + 1) after
 next_way (words.Jump condition target) place ways after e = inr (refl, e)
 next_way word place ways after e = (refl, e)
 
-target_way : (code : Listing) (entry : Entry) (word : Instruction) (place : ℕ) (ways : Ways) (after : Entry)
+target_way : (code : Listing) (entry : Entry) (word : Word) (place : ℕ) (ways : Ways) (after : Entry)
     → AreWaysOf code entry word ways → ways.target ≡ Some after → IsWay word place ways (target_of place word) after
 target_way code entry (words.Jump condition target) place ways after h e = inl (refl, e)
 target_way code entry word place ways after h e = let n = h.target in let k : ⊥ = cc in absurd k
@@ -53,7 +53,7 @@ true_of true h = refl
 true_of false h = absurd (h (λ k. let z : ⊥ = cc in z))
 
 -- a jump that has a rule leads forward
-pub target_forward : (code : Listing) (place : ℕ) (met : Bool) (entry : Entry) (word : Instruction) (ways : Ways)
+pub target_forward : (code : Listing) (place : ℕ) (met : Bool) (entry : Entry) (word : Word) (ways : Ways)
     → IsRule code place met entry word ways → place < target_of place word
 target_forward code place met entry (words.Jump condition target) ways rule =
     target_ahead code place target (true_of (is_target code place target) (rule.lawful causes.BadJump))
@@ -134,7 +134,7 @@ leads_grow a b to None e c l = tt
 leads_grow a b to (Some way) e c l = λ lt. leads_wider a b to way c (l (omega (arith, lt, e)))
 
 -- a word below stays fine
-fine_grow : (code : Listing) (a c : Certificate) (place : ℕ) (entry : Entry) (word : Instruction)
+fine_grow : (code : Listing) (a c : Certificate) (place : ℕ) (entry : Entry) (word : Word)
     → slice_get c (place + 1) ≡ slice_get a (place + 1) → Covers a c → IsFine code a place entry word
     → IsFine code c place entry word
 fine_grow code a c place entry word e cov f = record {
@@ -167,7 +167,7 @@ met_or_closed code c n met ways l after e j =
     inr (closed_is after.nesting (subst IsTrue (sym closed) there.closed))
 
 -- what the word leaves at its place is fine
-fine_here : (code : Listing) (c : Certificate) (n : ℕ) (met : Bool) (entry : Entry) (word : Instruction) (ways : Ways)
+fine_here : (code : Listing) (c : Certificate) (n : ℕ) (met : Bool) (entry : Entry) (word : Word) (ways : Ways)
     → length c ≡ length code.instructions → IsRule code n met entry word ways
     → LeadsIf c (target_of n word) (arrived code (target_of n word) ways.target)
     → LeadsIf c (n + 1) (arrived code (n + 1) ways.next) → IsFine code c n entry word
@@ -189,7 +189,7 @@ fine_here code c n met entry word ways long rule target next = record {
 
 -- the word, whatever the names of word and entry
 fine_at : (code : Listing) (certificate : Certificate) (n place : ℕ) (entry known : Entry)
-    (word instruction : Instruction) → place ≡ n → slice_get code.instructions n ≡ Some word
+    (word instruction : Word) → place ≡ n → slice_get code.instructions n ≡ Some word
     → slice_get code.instructions place ≡ Some instruction → entry ≡ known
     → IsFine code certificate n entry word → IsFine code certificate place known instruction
 fine_at code certificate n place entry known word instruction q w ws b fine =
@@ -220,7 +220,7 @@ same_below : (a b c : Certificate) (n target : ℕ) (way next : Option Entry) �
 same_below a b c n target way next ahead t u place le =
     u.elsewhere place (λ q. omega (arith, q, le)) ∙ t.elsewhere place (λ q. omega (arith, ahead, q, le))
 
-passed_consistent : (code : Listing) (a b c : Certificate) (n : ℕ) (entry : Entry) (word : Instruction) (ways : Ways)
+passed_consistent : (code : Listing) (a b c : Certificate) (n : ℕ) (entry : Entry) (word : Word) (ways : Ways)
     → IsConsistentBelow code a n → slice_get code.instructions n ≡ Some word → slice_get a n ≡ Some (Some entry)
     → IsRule code n (is_met a (n + 1)) entry word ways
     → Takes a (target_of n word) (arrived code (target_of n word) ways.target) b
@@ -254,7 +254,7 @@ passed_consistent code a b c n entry word ways k w e rule t u =
     }
 
 -- each certificate that is consistent at the word too holds what its ways bring
-passed_covers : (code : Listing) (a b c other : Certificate) (n : ℕ) (entry : Entry) (word : Instruction) (ways : Ways)
+passed_covers : (code : Listing) (a b c other : Certificate) (n : ℕ) (entry : Entry) (word : Word) (ways : Ways)
     → IsClosest code a n → slice_get code.instructions n ≡ Some word → slice_get a n ≡ Some (Some entry)
     → IsRule code n (is_met a (n + 1)) entry word ways
     → Takes a (target_of n word) (arrived code (target_of n word) ways.target) b
@@ -274,7 +274,7 @@ passed_covers code a b c other n entry word ways h w e rule t u o =
     u.least other long_b (t.least other long_a covers target) next
 
 -- the certificate takes in what the word's ways bring, to a jump's target first
-pub passed : (code : Listing) (a b c : Certificate) (n : ℕ) (entry : Entry) (word : Instruction) (ways : Ways)
+pub passed : (code : Listing) (a b c : Certificate) (n : ℕ) (entry : Entry) (word : Word) (ways : Ways)
     → IsClosest code a n → slice_get code.instructions n ≡ Some word → slice_get a n ≡ Some (Some entry)
     → IsRule code n (is_met a (n + 1)) entry word ways
     → Takes a (target_of n word) (arrived code (target_of n word) ways.target) b
@@ -300,7 +300,7 @@ met_wider : (a other : Certificate) (place : ℕ) → Covers a other → IsTrue 
     → IsTrue (is_met other place)
 met_wider a other place covers h = met_by a other place covers (slice_get a place) refl h
 
-pub refused : (code : Listing) (a : Certificate) (n line : ℕ) (cause : Cause) (entry : Entry) (word : Instruction)
+pub refused : (code : Listing) (a : Certificate) (n line : ℕ) (cause : Cause) (entry : Entry) (word : Word)
     → IsClosest code a n → slice_get code.instructions n ≡ Some word → slice_get a n ≡ Some (Some entry)
     → slice_get code.lines n ≡ Some line
     → IsLeastCause (ArisesAtWord code n (is_met a (n + 1)) entry word) cause

@@ -14,7 +14,7 @@ use Rattle.ilranges.specs.declared.known.Known.TheVariants as knowns
 use Rattle.ilranges.specs.Knowns.{IsKnownWithin}
 use Rattle.ilranges.specs.declared.entry.Entry.{Entry}
 use Rattle.ilranges.specs.declared.nesting.KnownOpened.{KnownOpened}
-use Rattle.ilranges.specs.declared.mark.Mark.{Mark}
+use Rattle.ilranges.specs.declared.mark.ResultMark.{ResultMark}
 use Rattle.ilranges.specs.Entries.{IsResultInto, IsOpenedInto, IsInto}
 use Rattle.ilranges.specs.Marks.{IsMarkInto}
 use Rattle.ilverify.specs.Certificates.{are_closed}
@@ -75,7 +75,7 @@ result_trans a None (Some z) h g = absurd g
 result_trans None (Some y) (Some z) h g = absurd h
 result_trans (Some x) (Some y) (Some z) h g = known_trans x y z h g
 
-mark_trans : (a b c : Option Mark) → IsMarkInto a b → IsMarkInto b c → IsMarkInto a c
+mark_trans : (a b c : Option ResultMark) → IsMarkInto a b → IsMarkInto b c → IsMarkInto a c
 mark_trans a b None h g = tt
 mark_trans a None (Some z) h g = absurd g
 mark_trans None (Some y) (Some z) h g = absurd h
@@ -110,7 +110,7 @@ same_result None (Some y) h g = absurd h
 same_result (Some x) None h g = absurd g
 same_result (Some x) (Some y) h g = ap Some (same_known x y h g)
 
-same_mark : (a b : Option Mark) → IsMarkInto a b → IsMarkInto b a → a ≡ b
+same_mark : (a b : Option ResultMark) → IsMarkInto a b → IsMarkInto b a → a ≡ b
 same_mark None None h g = refl
 same_mark None (Some y) h g = absurd h
 same_mark (Some x) None h g = absurd g
@@ -162,7 +162,7 @@ result_none result None e h = refl
 result_none None (Some y) e h = absurd h
 result_none (Some x) (Some y) e h = absurd (cc)
 
-mark_none : (mark wider : Option Mark) → mark ≡ None → IsMarkInto mark wider → wider ≡ None
+mark_none : (mark wider : Option ResultMark) → mark ≡ None → IsMarkInto mark wider → wider ≡ None
 mark_none mark None e h = refl
 mark_none None (Some y) e h = absurd h
 mark_none (Some x) (Some y) e h = absurd (cc)

@@ -7,7 +7,7 @@ use Rattle.std.specs.List.{AllZip}
 use Rattle.std.specs.Option.{option_map}
 use Rattle.std.proofs.lemmas.Bool.{cases_eq, cases_lt}
 use Rattle.std.proofs.lemmas.List.{set_past}
-use Rattle.ilcode.specs.declared.instruction.Instruction.{Instruction}
+use Rattle.ilcode.specs.declared.word.Word.{Word}
 use Rattle.ilcode.specs.Listings.{Listing}
 use Rattle.ilcode.specs.Steps.{is_start}
 use Rattle.ilranges.specs.declared.change.Changes.{Changes}
@@ -207,7 +207,7 @@ arrived_all P code to (Some way) h entry e =
     let q : arriving code to way ≡ entry = cc in
     subst P q (h way refl)
 
-pub target_bounded : (code : Listing) (place to : ℕ) (met : Bool) (entry : Entry) (word : Instruction) (ways : Ways)
+pub target_bounded : (code : Listing) (place to : ℕ) (met : Bool) (entry : Entry) (word : Word) (ways : Ways)
     → AreTyped code entry.slots → IsRule code place met entry word ways
     → IsBoundedIf code (option_map (arriving code to) ways.target)
 target_bounded code place to met entry word ways t r =
@@ -216,7 +216,7 @@ target_bounded code place to met entry word ways t r =
     (target_closes code place met entry way word ways r.leaves e)
     (target_shaped code entry way word ways t r.leaves e))
 
-next_arrived : (code : Listing) (place to : ℕ) (met : Bool) (entry : Entry) (word : Instruction) (ways : Ways)
+next_arrived : (code : Listing) (place to : ℕ) (met : Bool) (entry : Entry) (word : Word) (ways : Ways)
     → AreTyped code entry.slots → IsRule code place met entry word ways → HasToClose code place met word
     → IsBoundedIf code (option_map (arriving code to) ways.next)
 next_arrived code place to met entry word ways t r c =
@@ -224,7 +224,7 @@ next_arrived code place to met entry word ways t r c =
     (λ way e. closed_bounded code place to met entry way word ways r c
     (next_shaped code entry way word ways t r.leaves e))
 
-next_is_typed : (code : Listing) (place to : ℕ) (met : Bool) (entry : Entry) (word : Instruction) (ways : Ways)
+next_is_typed : (code : Listing) (place to : ℕ) (met : Bool) (entry : Entry) (word : Word) (ways : Ways)
     → AreTyped code entry.slots → IsRule code place met entry word ways → (way : Entry)
     → option_map (arriving code to) ways.next ≡ Some way → AreTyped code way.slots
 next_is_typed code place to met entry word ways t r =
@@ -236,7 +236,7 @@ closed_of [] h = refl
 closed_of (x ∷ xs) h = absurd h
 
 -- where an entry is kept at the next place, a jump leads there
-kept_closes : (code : Listing) (place to : ℕ) (entry : Entry) (word : Instruction) (ways : Ways)
+kept_closes : (code : Listing) (place to : ℕ) (entry : Entry) (word : Word) (ways : Ways)
     (pending between : Certificate) (target : Option Entry) → ways.target ≡ target
     → AreBounded code place pending → AreWaysOf code entry word ways
     → MeetsIf pending to (option_map (arriving code to) target) between → (old : Entry)
@@ -249,7 +249,7 @@ kept_closes code place to entry word ways pending between None q b h m old e =
     met_closes code place (is_met pending (place + 1)) word
     (subst (λ (x : Option (Option Entry)). IsTrue (is_closed x)) (sym f) (closed_of old.nesting i.nesting))
 
-pub kept_bounded : (code : Listing) (place to : ℕ) (entry : Entry) (word : Instruction) (ways : Ways)
+pub kept_bounded : (code : Listing) (place to : ℕ) (entry : Entry) (word : Word) (ways : Ways)
     (pending between : Certificate) → AreTyped code entry.slots → AreBounded code place pending
     → IsRule code place (is_met pending (place + 1)) entry word ways
     → MeetsIf pending to (option_map (arriving code to) ways.target) between → (old : Entry)
@@ -259,7 +259,7 @@ kept_bounded code place to entry word ways pending between t b r m old e =
     next_arrived code place (place + 1) (is_met pending (place + 1)) entry word ways t r
     (kept_closes code place to entry word ways pending between ways.target refl b r.leaves m old e)
 
-pub between_bounded : (code : Listing) (place to : ℕ) (met : Bool) (entry : Entry) (word : Instruction) (ways : Ways)
+pub between_bounded : (code : Listing) (place to : ℕ) (met : Bool) (entry : Entry) (word : Word) (ways : Ways)
     (pending between : Certificate) → AreTyped code entry.slots → AreBounded code place pending
     → IsRule code place met entry word ways
     → MeetsIf pending to (option_map (arriving code to) ways.target) between → AreBounded code place between
@@ -325,7 +325,7 @@ found_skipped code n pending lt f e = record {
   bounded = λ later entry more g. rest_bounded code n pending f.bounded later entry (omega (arith, more)) g;
 }
 
-pub found_next : (code : Listing) (n : ℕ) (entry : Entry) (word : Instruction) (changes : Changes)
+pub found_next : (code : Listing) (n : ℕ) (entry : Entry) (word : Word) (changes : Changes)
     (pending new : Certificate) → IsFound code n pending → slice_get pending n ≡ Some (Some entry)
     → slice_get code.instructions n ≡ Some word
     → IsRule code n (is_met (slice_set pending n None) (n + 1)) entry word (ways_of entry changes)

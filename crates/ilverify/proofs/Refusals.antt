@@ -2,7 +2,7 @@
 use Rattle.std.proofs.Common.{◌≡◌, ℕ, ◌+◌, Bool, false, Option, None, Some, inl, inr, refl, sym, ap, ◌∙◌, subst, arith}
 use Rattle.std.specs.Prelude.{slice_get}
 use Rattle.std.proofs.lemmas.Bool.{cases_lt}
-use Rattle.ilcode.specs.declared.instruction.Instruction.{Instruction}
+use Rattle.ilcode.specs.declared.word.Word.{Word}
 use Rattle.ilcode.specs.Listings.{Listing}
 use Rattle.ilranges.specs.declared.cause.Cause.{Cause}
 use Rattle.ilranges.specs.Causes.{IsLeastCause}
@@ -74,7 +74,7 @@ same_at code word line other cause its h g =
     let instruction : h.word ≡ g.word = let a = h.is in let b = g.is in cc in
     let met = is_met g.certificate (word + 1) in
     let there : IsLeastCause (ArisesAtWord code word met g.entry g.word) cause =
-    subst (λ (w : Instruction). IsLeastCause (ArisesAtWord code word met g.entry w) cause) instruction
+    subst (λ (w : Word). IsLeastCause (ArisesAtWord code word met g.entry w) cause) instruction
     (subst (λ (e : Entry). IsLeastCause (ArisesAtWord code word met e h.word) cause) entry
     (subst (λ (m : Bool). IsLeastCause (ArisesAtWord code word m h.entry h.word) cause)
     (same_met code h.certificate g.certificate word (word + 1) h.closest g.closest) h.cause)) in

@@ -8,8 +8,8 @@ use Rattle.std.proofs.lemmas.List.{length-replicate, set_past}
 use Rattle.std.proofs.lemmas.Option.{slice_get_within, slice_get-get_or}
 use Rattle.limits.specs.Limits.{most_requests}
 use Rattle.iloperators.specs.declared.condition.Condition.TheVariants.{Always, IfTrue, IfFalse}
-use Rattle.ilcode.specs.declared.instruction.Instruction.{Instruction}
-use Rattle.ilcode.specs.declared.instruction.Instruction.TheVariants as words
+use Rattle.ilcode.specs.declared.word.Word.{Word}
+use Rattle.ilcode.specs.declared.word.Word.TheVariants as words
 use Rattle.ilcode.specs.Listings.{Listing}
 use Rattle.ilcode.specs.Paths.{IsJumpTo, LeadsTo, IsNext, IsPath, requests_on}
 use Rattle.ilcode.specs.Steps.{is_target}
@@ -155,7 +155,7 @@ raises_on code most place target requests =
     (raised between (place + 1) requests) (raises_target code most place target requests)
     (raises_one between (place + 1) requests)
 
-raises_after : (code : Listing) (most : List (Option ℕ)) (place requests : ℕ) (word : Instruction)
+raises_after : (code : Listing) (most : List (Option ℕ)) (place requests : ℕ) (word : Word)
     → Raises (LeadsTo code word place) requests most (raised_after code most place word requests)
 raises_after code most place requests (words.Load negated operand) = raises_one most (place + 1) requests
 raises_after code most place requests (words.Apply operator operand) = raises_one most (place + 1) requests
@@ -267,7 +267,7 @@ overfull code most place before m e lt =
     }
 
 -- there are not too many, and the word passes them on
-pub most_passed : (code : Listing) (most : List (Option ℕ)) (place before requests : ℕ) (word : Instruction)
+pub most_passed : (code : Listing) (most : List (Option ℕ)) (place before requests : ℕ) (word : Word)
     → AreMost code most place → slice_get code.instructions place ≡ Some word
     → slice_get most place ≡ Some (Some before) → requests ≡ before + requests_of code place
     → requests ≤ most_requests → AreMost code (raised_after code most place word requests) (place + 1)
@@ -319,7 +319,7 @@ most_passed code most place before requests word m is e total le = record {
     passed_on to from earlier q next h =
         let step = subst (λ (p : ℕ). IsNext code p to) q next in
         let words_are : step.word ≡ word = let w = step.is in cc in
-        let leads : LeadsTo code word place to = subst (λ (w : Instruction). LeadsTo code w place to) words_are
+        let leads : LeadsTo code word place to = subst (λ (w : Word). LeadsTo code w place to) words_are
         step.leads in
         let few = at_most earlier (subst (λ (p : ℕ). AreBefore code p earlier) q h) in
         let first = requests_first code from earlier in

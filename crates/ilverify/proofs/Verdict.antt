@@ -4,7 +4,7 @@ use Rattle.std.specs.Prelude.{length, slice_get}
 use Rattle.ilcode.specs.Listings.{Listing, IsLawful}
 use Rattle.ilranges.specs.declared.cause.Cause.{Cause}
 use Rattle.ilranges.specs.declared.cause.Cause.TheVariants as causes
-use Rattle.ilranges.specs.Causes.{number_of}
+use Rattle.ilranges.specs.Causes.{refusal_number}
 use Rattle.ilverify.specs.declared.refusal.Refusal.{Refusal}
 use Rattle.ilverify.specs.Certificates.{IsCertified, IsRangeRefusal, IsAccepted, MayRefuse, IsNotAfter, IsRefusal}
 use Rattle.ilverify.specs.Requests.{HasFewRequests, IsRequestRefusal}
@@ -37,7 +37,7 @@ same_request_refusal code a b h g =
 
 -- ---- a refusal of either kind
 
-too_many : (cause : Cause) → number_of cause ≡ 10 → cause ≡ causes.TooManyRequests
+too_many : (cause : Cause) → refusal_number cause ≡ 10 → cause ≡ causes.TooManyRequests
 too_many causes.WrongType e = absurd (omega arith)
 too_many causes.NoResult e = absurd (omega arith)
 too_many causes.EmptyNesting e = absurd (omega arith)
@@ -54,21 +54,21 @@ same_word a b (inl h) (inl g) = absurd (omega (arith, h, g))
 same_word a b (inl h) (inr g) = absurd (omega (arith, h, g.0))
 same_word a b (inr h) g = h.0
 
-same_number : (a b : Refusal) → IsNotAfter a b → IsNotAfter b a → number_of a.cause ≡ number_of b.cause
+same_number : (a b : Refusal) → IsNotAfter a b → IsNotAfter b a → refusal_number a.cause ≡ refusal_number b.cause
 same_number a b (inl h) (inl g) = absurd (omega (arith, h, g))
 same_number a b (inl h) (inr g) = absurd (omega (arith, h, g.0))
 same_number a b (inr h) (inl g) = absurd (omega (arith, h.0, g))
 same_number a b (inr h) (inr g) = omega (arith, h.1, g.1)
 
 -- a refusal by values beside one by requests, at the same word under the same number
-same_mixed : (code : Listing) (a b : Refusal) → a.word ≡ b.word → number_of a.cause ≡ number_of b.cause
+same_mixed : (code : Listing) (a b : Refusal) → a.word ≡ b.word → refusal_number a.cause ≡ refusal_number b.cause
     → IsRangeRefusal code a → IsRequestRefusal code b → a ≡ b
 same_mixed code a b word number h g =
-    let cause = too_many a.cause (number ∙ ap number_of g.cause) in
+    let cause = too_many a.cause (number ∙ ap refusal_number g.cause) in
     same_parts a b word (same_line code a b word h.line g.line) (cause ∙ sym g.cause)
 
 same_may : (code : Listing) (a b : Refusal) → MayRefuse code a → MayRefuse code b → a.word ≡ b.word
-    → number_of a.cause ≡ number_of b.cause → a ≡ b
+    → refusal_number a.cause ≡ refusal_number b.cause → a ≡ b
 same_may code a b (inl h) (inl g) word number = same_range_refusal code a b h g
 same_may code a b (inl h) (inr g) word number = same_mixed code a b word number h g
 same_may code a b (inr h) (inl g) word number = sym (same_mixed code b a (sym word) (sym number) g h)

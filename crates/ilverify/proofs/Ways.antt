@@ -14,17 +14,17 @@ use Rattle.iltypes.specs.Ranges.{IsWithin}
 use Rattle.iltypes.specs.Values.{IsOf}
 use Rattle.iloperators.specs.declared.condition.Condition.TheVariants.{Always, IfTrue, IfFalse}
 use Rattle.iloperators.specs.declared.operator.Operator.{Operator}
-use Rattle.ilcode.specs.declared.instruction.Instruction.{Instruction}
-use Rattle.ilcode.specs.declared.instruction.Instruction.TheVariants as words
-use Rattle.ilcode.specs.declared.instruction.Variable.TheVariants.{Slot, Port}
+use Rattle.ilcode.specs.declared.word.Word.{Word}
+use Rattle.ilcode.specs.declared.word.Word.TheVariants as words
+use Rattle.ilcode.specs.declared.word.Target.TheVariants.{Slot, Port}
 use Rattle.ilcode.specs.Listings.{Listing}
 use Rattle.ilcode.specs.Steps.{is_start}
 use Rattle.ilranges.specs.declared.cause.Cause.TheVariants as causes
 use Rattle.ilranges.specs.declared.entry.Entry.{Entry}
 use Rattle.ilranges.specs.declared.known.Known.{Known}
 use Rattle.ilranges.specs.declared.known.Known.TheVariants as knowns
-use Rattle.ilranges.specs.declared.mark.Mark.{Mark}
-use Rattle.ilranges.specs.declared.mark.Mark.TheVariants.{Copy, Test}
+use Rattle.ilranges.specs.declared.mark.ResultMark.{ResultMark}
+use Rattle.ilranges.specs.declared.mark.ResultMark.TheVariants.{Copy, Test}
 use Rattle.ilranges.specs.declared.nesting.KnownOpened.{KnownOpened}
 use Rattle.ilranges.specs.Entries.{IsOpenedInto, IsInto, opening, arriving}
 use Rattle.ilranges.specs.Knowns.{IsKnown, IsKnownWithin, known_of_type}
@@ -100,7 +100,7 @@ refined_slot wider entry way slot comparison outcome limit (Some (knowns.Int ran
       ap (λ (x : Entry). x.nesting) h.is,
     )
 
-refined : (wider : List Known) (entry way : Entry) (outcome : Bool) (mark : Option Mark)
+refined : (wider : List Known) (entry way : Entry) (outcome : Bool) (mark : Option ResultMark)
     → AllZip IsKnownWithin entry.slots wider → IsRefined entry outcome mark (Some way)
     → AllZip IsKnownWithin way.slots wider × (way.nesting ≡ entry.nesting)
 refined wider entry way outcome None t h =
@@ -128,7 +128,7 @@ closes_typed : (code : Listing) (entry after : Entry) (nesting : List KnownOpene
 closes_typed code entry after [] t h = absurd h
 closes_typed code entry after (innermost ∷ nesting) t h = typed_at code _ after h.is t
 
-after_typed : (code : Listing) (entry : Entry) (word : Instruction) (after : Entry) → AreTyped code entry.slots
+after_typed : (code : Listing) (entry : Entry) (word : Word) (after : Entry) → AreTyped code entry.slots
     → IsEntryAfter code entry word after → AreTyped code after.slots
 after_typed code entry (words.Load negated operand) after t h = typed_at code _ after h.is t
 after_typed code entry (words.Apply operator operand) after t h = typed_at code _ after h.is t
@@ -160,7 +160,7 @@ refined_shaped code entry way outcome o t e h =
     record { typed = r.0; count_is = ap length r.1 }
 
 -- on the way to the next place
-pub next_shaped : (code : Listing) (entry way : Entry) (word : Instruction) (ways : Ways) → AreTyped code entry.slots
+pub next_shaped : (code : Listing) (entry way : Entry) (word : Word) (ways : Ways) → AreTyped code entry.slots
     → AreWaysOf code entry word ways → ways.next ≡ Some way
     → IsShaped code (open_after word (length entry.nesting)) way
 next_shaped code entry way (words.Jump Always target) ways t h e = let n = h.1 in absurd (cc)
@@ -177,7 +177,7 @@ next_shaped code entry way word ways t h e =
     })
 
 -- on the way to a jump's target
-pub target_shaped : (code : Listing) (entry way : Entry) (word : Instruction) (ways : Ways) → AreTyped code entry.slots
+pub target_shaped : (code : Listing) (entry way : Entry) (word : Word) (ways : Ways) → AreTyped code entry.slots
     → AreWaysOf code entry word ways → ways.target ≡ Some way
     → IsShaped code (open_after word (length entry.nesting)) way
 target_shaped code entry way (words.Jump Always target) ways t h e =
@@ -192,23 +192,23 @@ target_shaped code entry way word ways t h e = let n = h.target in let k : ⊥ =
 
 -- ---- where nothing may be open
 
-pub met_closes : (code : Listing) (place : ℕ) (met : Bool) (word : Instruction) → IsTrue met
+pub met_closes : (code : Listing) (place : ℕ) (met : Bool) (word : Word) → IsTrue met
     → HasToClose code place met word
 met_closes code place met (words.Jump condition target) h = tt
 met_closes code place met word h = inr (inr h)
 
-pub target_closes : (code : Listing) (place : ℕ) (met : Bool) (entry way : Entry) (word : Instruction) (ways : Ways)
+pub target_closes : (code : Listing) (place : ℕ) (met : Bool) (entry way : Entry) (word : Word) (ways : Ways)
     → AreWaysOf code entry word ways → ways.target ≡ Some way → HasToClose code place met word
 target_closes code place met entry way (words.Jump condition target) ways h e = tt
 target_closes code place met entry way word ways h e = let n = h.target in let k : ⊥ = cc in absurd k
 
-no_count : (code : Listing) (place : ℕ) (met : Bool) (word : Instruction) (count : ℕ)
+no_count : (code : Listing) (place : ℕ) (met : Bool) (word : Word) (count : ℕ)
     → ¬ StaysOpen code place met word count → HasToClose code place met word → count ≡ 0
 no_count code place met word zero n h = refl
 no_count code place met word (suc count) n h = absurd (n (inl (omega arith, h)))
 
 -- where nothing may be open after a word that has a rule, nothing is
-closed_after : (code : Listing) (place : ℕ) (met : Bool) (entry : Entry) (word : Instruction) (ways : Ways)
+closed_after : (code : Listing) (place : ℕ) (met : Bool) (entry : Entry) (word : Word) (ways : Ways)
     → IsRule code place met entry word ways → HasToClose code place met word
     → open_after word (length entry.nesting) ≡ 0
 closed_after code place met entry word ways r h =
@@ -234,7 +234,7 @@ bounded code false way t n = record {
 }
 
 -- such a way says nothing more than what is known before the first word
-pub closed_bounded : (code : Listing) (place to : ℕ) (met : Bool) (entry way : Entry) (word : Instruction) (ways : Ways)
+pub closed_bounded : (code : Listing) (place to : ℕ) (met : Bool) (entry way : Entry) (word : Word) (ways : Ways)
     → IsRule code place met entry word ways → HasToClose code place met word
     → IsShaped code (open_after word (length entry.nesting)) way → IsInto (arriving code to way) (opening code)
 closed_bounded code place to met entry way word ways r h s =

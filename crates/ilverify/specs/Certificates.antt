@@ -2,10 +2,10 @@
 -- refused.
 use Rattle.std.specs.Prelude.{◌≡◌, ℕ, ◌+◌, ◌<◌, ◌≤◌, ◌⊎◌, Bool, true, false, List, [], ◌∷◌, length, Option, Some, None}
 use Rattle.std.specs.Prelude.{IsTrue, slice_get, ⊤}
-use Rattle.ilcode.specs.declared.instruction.Instruction.{Instruction}
+use Rattle.ilcode.specs.declared.word.Word.{Word}
 use Rattle.ilcode.specs.Listings.{Listing}
 use Rattle.ilcode.specs.Steps.{is_start}
-use Rattle.ilranges.specs.Causes.{number_of, IsLeastCause}
+use Rattle.ilranges.specs.Causes.{refusal_number, IsLeastCause}
 use Rattle.ilranges.specs.declared.entry.Entry.{Entry}
 use Rattle.ilranges.specs.declared.nesting.KnownOpened.{KnownOpened}
 use Rattle.ilranges.specs.Entries.{IsInto, opening}
@@ -40,7 +40,7 @@ abbrev pub is_met : Certificate → ℕ → Bool
 is_met certificate place = is_closed (slice_get certificate place)
 
 -- no cause arises at the word, and what is known on each way from it leads into the entry of the word there
-pub record IsFine (code : Listing) (certificate : Certificate) (place : ℕ) (entry : Entry) (word : Instruction)
+pub record IsFine (code : Listing) (certificate : Certificate) (place : ℕ) (entry : Entry) (word : Word)
     : Type 0 where
   pub ways : Ways
   pub rule : IsRule code place (is_met certificate (place + 1)) entry word ways
@@ -54,7 +54,7 @@ pub record IsConsistentBelow (code : Listing) (certificate : Certificate) (end :
   pub first : 0 < length code.instructions → Leads certificate 0 (opening code)
   pub starts : (place : ℕ) (entry : Entry) → IsTrue (is_start code place)
       → slice_get certificate place ≡ Some (Some entry) → (entry.result ≡ None) × (entry.mark ≡ None)
-  pub each : (place : ℕ) (entry : Entry) (word : Instruction) → place < end
+  pub each : (place : ℕ) (entry : Entry) (word : Word) → place < end
       → slice_get code.instructions place ≡ Some word
       → slice_get certificate place ≡ Some (Some entry) → IsFine code certificate place entry word
 
@@ -80,7 +80,7 @@ pub record IsRangeRefusal (code : Listing) (refusal : Refusal) : Type 0 where
   pub closest : IsClosest code certificate refusal.word
   pub entry : Entry
   pub reached : slice_get certificate refusal.word ≡ Some (Some entry)
-  pub word : Instruction
+  pub word : Word
   pub is : slice_get code.instructions refusal.word ≡ Some word
   pub cause : IsLeastCause (ArisesAtWord code refusal.word (is_met certificate (refusal.word + 1)) entry word)
       refusal.cause
@@ -99,7 +99,7 @@ MayRefuse code refusal = IsRangeRefusal code refusal ⊎ IsRequestRefusal code r
 -- at a lesser word, or at the same one by a cause of no greater number
 abbrev pub IsNotAfter : Refusal → Refusal → Type 0
 IsNotAfter one other =
-    (one.word < other.word) ⊎ ((one.word ≡ other.word) × (number_of one.cause ≤ number_of other.cause))
+    (one.word < other.word) ⊎ ((one.word ≡ other.word) × (refusal_number one.cause ≤ refusal_number other.cause))
 
 -- the least of the two
 pub record IsRefusal (code : Listing) (refusal : Refusal) : Type 0 where
@@ -109,7 +109,7 @@ pub record IsRefusal (code : Listing) (refusal : Refusal) : Type 0 where
 -- the number under which an error is reported
 abbrev pub number_of_error : VerifyError → ℕ
 number_of_error (Memory error) = 1
-number_of_error (Refused refusal) = number_of refusal.cause
+number_of_error (Refused refusal) = refusal_number refusal.cause
 
 -- an error that is not out of memory is a refusal
 abbrev pub IsError : Listing → VerifyError → Type 0

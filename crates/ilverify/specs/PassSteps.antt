@@ -2,8 +2,8 @@
 use Rattle.std.specs.Prelude.{◌≡◌, ℕ, ◌+◌, ◌<◌, ◌≤◌, List, [], length, map, Option, Some, None, slice_get, slice_set, ⊤}
 use Rattle.std.specs.List.{AllZip}
 use Rattle.std.specs.Option.{option_map}
-use Rattle.ilcode.specs.declared.instruction.Instruction.{Instruction}
-use Rattle.ilcode.specs.declared.instruction.Instruction.TheVariants as words
+use Rattle.ilcode.specs.declared.word.Word.{Word}
+use Rattle.ilcode.specs.declared.word.Word.TheVariants as words
 use Rattle.ilcode.specs.Listings.{Listing}
 use Rattle.ilranges.specs.declared.change.Change.{Change}
 use Rattle.ilranges.specs.declared.change.Changes.{Changes}
@@ -57,7 +57,7 @@ MeetsIf old place None new = new ≡ old
 -- ---- the ways from a word
 
 -- where a jump leads, or the next place
-abbrev pub target_of : ℕ → Instruction → ℕ
+abbrev pub target_of : ℕ → Word → ℕ
 target_of place (words.Jump condition target) = target
 target_of place word = place + 1
 
@@ -66,7 +66,7 @@ abbrev pub arrived : Listing → ℕ → Entry → Option Change → Option Entr
 arrived code place entry change = option_map (arriving code place) (option_map (changed entry) change)
 
 -- both ways from the word have gone where they lead
-pub record AreFollowed (code : Listing) (place : ℕ) (word : Instruction) (entry : Entry) (changes : Changes)
+pub record AreFollowed (code : Listing) (place : ℕ) (word : Word) (entry : Entry) (changes : Changes)
     (old new : Certificate) : Type 0 where
   pub between : Certificate
   pub target : MeetsIf old (target_of place word) (arrived code (target_of place word) entry changes.target) between

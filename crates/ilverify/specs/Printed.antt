@@ -4,7 +4,7 @@ use Rattle.std.specs.Fmt.{decimal, signed_decimal}
 use Rattle.iltypes.specs.declared.range.Range.{Range}
 use Rattle.ilranges.specs.declared.cause.Cause.{Cause}
 use Rattle.ilranges.specs.declared.cause.Cause.TheVariants.{OutOfRange}
-use Rattle.ilranges.specs.Causes.{number_of}
+use Rattle.ilranges.specs.Causes.{refusal_number}
 use Rattle.ilverify.specs.declared.refusal.Refusal.{Refusal}
 
 -- both limits, with two dots between them
@@ -20,5 +20,5 @@ printed_ranges _ = []
 -- the cause's number, the word counted from 0, its line, and the ranges of a number outside its range
 abbrev pub printed : Refusal → List ℕ
 printed refusal =
-    codes "refused " ++ decimal (number_of refusal.cause) ++ codes " at word " ++ decimal refusal.word
+    codes "refused " ++ decimal (refusal_number refusal.cause) ++ codes " at word " ++ decimal refusal.word
     ++ codes " line " ++ decimal refusal.line ++ printed_ranges refusal.cause

@@ -4,8 +4,8 @@ use Rattle.std.specs.Prelude.{slice_get, slice_set, get_or, max, ⊤}
 use Rattle.std.specs.Option.{unwrap_or}
 use Rattle.limits.specs.Limits.{most_requests}
 use Rattle.iloperators.specs.declared.condition.Condition.TheVariants.{Always}
-use Rattle.ilcode.specs.declared.instruction.Instruction.{Instruction}
-use Rattle.ilcode.specs.declared.instruction.Instruction.TheVariants as words
+use Rattle.ilcode.specs.declared.word.Word.{Word}
+use Rattle.ilcode.specs.declared.word.Word.TheVariants as words
 use Rattle.ilcode.specs.Listings.{Listing}
 use Rattle.ilcode.specs.Paths.{IsNext, requests_on}
 use Rattle.ilcode.specs.Steps.{is_target}
@@ -59,7 +59,7 @@ raised_target code most place target requests =
     if is_target code place target then raised most target requests else most
 
 -- wherever the word leads
-abbrev pub raised_after : Listing → List (Option ℕ) → ℕ → Instruction → ℕ → List (Option ℕ)
+abbrev pub raised_after : Listing → List (Option ℕ) → ℕ → Word → ℕ → List (Option ℕ)
 raised_after code most place (words.Jump Always target) requests = raised_target code most place target requests
 raised_after code most place (words.Jump condition target) requests =
     raised (raised_target code most place target requests) (place + 1) requests

@@ -4,7 +4,7 @@ ghost use Rattle.std.specs.Prelude.{◌≡◌, ◌<◌, ◌+◌, length, IfOk};
 ghost use Rattle.ilcode.specs.Paths.{IsBound};
 ghost use Rattle.ilverify.specs.BoundSteps.{IsLongestFrom, AreLongest, words_at, words_at_target};
 
-use ilcode::{Code, Instruction};
+use ilcode::{Code, Word};
 use iloperators::Condition;
 use std::alloc::{AllocError, Global};
 
@@ -48,7 +48,7 @@ fn longest_from(code: &Code, place: usize, longest: &[u32]) -> u32
 {
     let next = words_at(longest, place + 1);
     let after = match code.instructions()[place] {
-        Instruction::Jump { condition, target } => {
+        Word::Jump { condition, target } => {
             let there = words_from_target(code, place, target, longest);
             match condition {
                 Condition::Always => there,

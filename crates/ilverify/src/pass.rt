@@ -19,7 +19,7 @@ ghost use Rattle.ilverify.specs.PassSteps.{MeetsIf, arrived, target_of, AreTyped
 ghost use Rattle.ilverify.specs.PassSteps.{AreFollowed, IsFound};
 
 use crate::refusal::Refusal;
-use ilcode::{Code, Instruction};
+use ilcode::{Code, Word};
 use ilranges::{Change, Changes, Entry, after_word};
 use std::alloc::{AllocError, Global};
 
@@ -46,12 +46,12 @@ fn is_met(pending: &[Option<Entry>], place: usize) -> bool
 }
 
 /// Where a jump leads, or the next place.
-fn target_of(place: usize, word: Instruction) -> usize
+fn target_of(place: usize, word: Word) -> usize
     requires { place < most_words }
     ensures { result ≡ target_of place word }
 {
     match word {
-        Instruction::Jump { target, .. } => target as usize,
+        Word::Jump { target, .. } => target as usize,
         _ => place + 1,
     }
 }
@@ -144,7 +144,7 @@ fn follow_ways(
     code: &Code,
     pending: &mut Vec<Option<Entry>>,
     place: usize,
-    word: Instruction,
+    word: Word,
     entry: Entry,
     changes: Changes,
 ) -> Result<(), AllocError>
@@ -162,7 +162,7 @@ fn follow_ways(
 }
 
 /// The word at the place.
-pub(crate) fn word_at(code: &Code, place: usize) -> Instruction
+pub(crate) fn word_at(code: &Code, place: usize) -> Word
     requires { place < length code.now.instructions }
     ensures value { slice_get code.now.instructions place ≡ Some result }
     ensures lawful { IsLawful code.now }

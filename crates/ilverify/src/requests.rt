@@ -10,7 +10,7 @@ ghost use Rattle.ilverify.specs.RequestSteps.{raised, raised_target};
 ghost use Rattle.ilverify.specs.RequestSteps.{raised_after, IsFirstOverfull};
 
 use crate::pass::word_at;
-use ilcode::{Code, Instruction};
+use ilcode::{Code, Word};
 use iloperators::Condition;
 use limits::MOST_REQUESTS;
 use std::alloc::{AllocError, Global};
@@ -39,11 +39,11 @@ pub(crate) fn first_overfull(alloc: Global, code: &Code) -> Result<Option<usize>
 }
 
 /// Whether the word calls an instance that may make a request.
-fn may_request(code: &Code, word: Instruction) -> bool
+fn may_request(code: &Code, word: Word) -> bool
     ensures { result ≡ may_request code.now word }
 {
     match word {
-        Instruction::Call(block) => match code.kinds().get(usize::from(block)) {
+        Word::Call(block) => match code.kinds().get(usize::from(block)) {
             Some(kind) => kind.makes_requests(),
             None => false,
         },
@@ -71,18 +71,12 @@ fn raise_target(code: &Code, most: &mut Vec<Option<u8>>, place: usize, target: u
 }
 
 /// A path with so many requests leads on from the word at the place.
-fn raise_after(
-    code: &Code,
-    most: &mut Vec<Option<u8>>,
-    place: usize,
-    word: Instruction,
-    requests: u8,
-)
+fn raise_after(code: &Code, most: &mut Vec<Option<u8>>, place: usize, word: Word, requests: u8)
     requires { place < most_words }
     ensures { most.new.items ≡ raised_after code.now most.old.items place word requests }
 {
     match word {
-        Instruction::Jump { condition, target } => {
+        Word::Jump { condition, target } => {
             raise_target(code, most, place, target as usize, requests);
             match condition {
                 Condition::Always => {}

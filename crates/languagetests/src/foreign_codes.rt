@@ -2,8 +2,8 @@
 //! instances that are not there, parentheses that are not opened or not closed, and jumps that are
 //! not lawful. And that thousands of entries share their slots, which no clause can say.
 
-use ilblocks::Kind;
-use ilcode::{Code, Instruction, Operand, Variable};
+use ilblocks::BlockKind;
+use ilcode::{Code, Target, Word, WordOperand};
 use iloperators::{Condition, Operator};
 use ilranges::{Known, Slots};
 use iltypes::{IlType, Range, Value};
@@ -16,24 +16,24 @@ const LEVEL: IlType = IlType::Int(Range { lo: 0, hi: 254 });
 
 const FEW: IlType = IlType::Int(Range { lo: 0, hi: 5 });
 
-const X: Operand = Operand::Slot(0);
+const X: WordOperand = WordOperand::Slot(0);
 
-const B: Operand = Operand::Slot(1);
+const B: WordOperand = WordOperand::Slot(1);
 
-const N: Operand = Operand::Slot(2);
+const N: WordOperand = WordOperand::Slot(2);
 
-const NO_SLOT: Operand = Operand::Slot(3);
+const NO_SLOT: WordOperand = WordOperand::Slot(3);
 
 /// The constants 10, TRUE, 0 and -1.
-const TEN: Operand = Operand::Constant(0);
+const TEN: WordOperand = WordOperand::Constant(0);
 
-const TRUE: Operand = Operand::Constant(1);
+const TRUE: WordOperand = WordOperand::Constant(1);
 
-const ZERO: Operand = Operand::Constant(2);
+const ZERO: WordOperand = WordOperand::Constant(2);
 
-const MINUS_ONE: Operand = Operand::Constant(3);
+const MINUS_ONE: WordOperand = WordOperand::Constant(3);
 
-const NO_CONSTANT: Operand = Operand::Constant(4);
+const NO_CONSTANT: WordOperand = WordOperand::Constant(4);
 
 /// The instances: a TON, and a GEAR_DO.
 const TIMER: u16 = 0;
@@ -53,248 +53,248 @@ const ET: u8 = 3;
 
 const NO_PORT: u8 = 4;
 
-const LD_X: Instruction = Instruction::Load {
+const LD_X: Word = Word::Load {
     negated: false,
     operand: X,
 };
 
-const LD_B: Instruction = Instruction::Load {
+const LD_B: Word = Word::Load {
     negated: false,
     operand: B,
 };
 
-const LD_N: Instruction = Instruction::Load {
+const LD_N: Word = Word::Load {
     negated: false,
     operand: N,
 };
 
-const LD_TEN: Instruction = Instruction::Load {
+const LD_TEN: Word = Word::Load {
     negated: false,
     operand: TEN,
 };
 
-const LD_TRUE: Instruction = Instruction::Load {
+const LD_TRUE: Word = Word::Load {
     negated: false,
     operand: TRUE,
 };
 
-const LD_MINUS_ONE: Instruction = Instruction::Load {
+const LD_MINUS_ONE: Word = Word::Load {
     negated: false,
     operand: MINUS_ONE,
 };
 
-const LD_NO_SLOT: Instruction = Instruction::Load {
+const LD_NO_SLOT: Word = Word::Load {
     negated: false,
     operand: NO_SLOT,
 };
 
-const LD_NO_CONSTANT: Instruction = Instruction::Load {
+const LD_NO_CONSTANT: Word = Word::Load {
     negated: false,
     operand: NO_CONSTANT,
 };
 
-const LD_NO_PORT: Instruction = Instruction::Load {
+const LD_NO_PORT: Word = Word::Load {
     negated: false,
-    operand: Operand::Port {
+    operand: WordOperand::Port {
         port: NO_PORT,
         block: TIMER,
     },
 };
 
-const LD_NO_INSTANCE: Instruction = Instruction::Load {
+const LD_NO_INSTANCE: Word = Word::Load {
     negated: false,
-    operand: Operand::Port {
+    operand: WordOperand::Port {
         port: IN,
         block: NO_INSTANCE,
     },
 };
 
-const ST_X: Instruction = Instruction::Store {
+const ST_X: Word = Word::Store {
     negated: false,
-    variable: Variable::Slot(0),
+    variable: Target::Slot(0),
 };
 
-const ST_B: Instruction = Instruction::Store {
+const ST_B: Word = Word::Store {
     negated: false,
-    variable: Variable::Slot(1),
+    variable: Target::Slot(1),
 };
 
-const ST_NO_SLOT: Instruction = Instruction::Store {
+const ST_NO_SLOT: Word = Word::Store {
     negated: false,
-    variable: Variable::Slot(3),
+    variable: Target::Slot(3),
 };
 
-const STN_NO_SLOT: Instruction = Instruction::Store {
+const STN_NO_SLOT: Word = Word::Store {
     negated: true,
-    variable: Variable::Slot(3),
+    variable: Target::Slot(3),
 };
 
-const S_NO_SLOT: Instruction = Instruction::Set(Variable::Slot(3));
+const S_NO_SLOT: Word = Word::Set(Target::Slot(3));
 
-const ST_Q: Instruction = Instruction::Store {
+const ST_Q: Word = Word::Store {
     negated: false,
-    variable: Variable::Port {
+    variable: Target::Port {
         port: Q,
         block: TIMER,
     },
 };
 
-const ST_ET: Instruction = Instruction::Store {
+const ST_ET: Word = Word::Store {
     negated: false,
-    variable: Variable::Port {
+    variable: Target::Port {
         port: ET,
         block: TIMER,
     },
 };
 
-const ST_NO_PORT: Instruction = Instruction::Store {
+const ST_NO_PORT: Word = Word::Store {
     negated: false,
-    variable: Variable::Port {
+    variable: Target::Port {
         port: NO_PORT,
         block: TIMER,
     },
 };
 
-const S_Q: Instruction = Instruction::Set(Variable::Port {
+const S_Q: Word = Word::Set(Target::Port {
     port: Q,
     block: TIMER,
 });
 
-const S_NO_PORT: Instruction = Instruction::Set(Variable::Port {
+const S_NO_PORT: Word = Word::Set(Target::Port {
     port: NO_PORT,
     block: TIMER,
 });
 
 /// PT := 10.
-const PASS_PT: Instruction = Instruction::Pass {
+const PASS_PT: Word = Word::Pass {
     port: PT,
     block: TIMER,
     operand: TEN,
 };
 
 /// Q := TRUE, and Q := 10.
-const PASS_Q: Instruction = Instruction::Pass {
+const PASS_Q: Word = Word::Pass {
     port: Q,
     block: TIMER,
     operand: TRUE,
 };
 
-const PASS_Q_TEN: Instruction = Instruction::Pass {
+const PASS_Q_TEN: Word = Word::Pass {
     port: Q,
     block: TIMER,
     operand: TEN,
 };
 
-const PASS_NO_PORT: Instruction = Instruction::Pass {
+const PASS_NO_PORT: Word = Word::Pass {
     port: NO_PORT,
     block: TIMER,
     operand: TRUE,
 };
 
-const PASS_NO_INSTANCE: Instruction = Instruction::Pass {
+const PASS_NO_INSTANCE: Word = Word::Pass {
     port: IN,
     block: NO_INSTANCE,
     operand: TRUE,
 };
 
-const PASS_NO_CONSTANT: Instruction = Instruction::Pass {
+const PASS_NO_CONSTANT: Word = Word::Pass {
     port: IN,
     block: TIMER,
     operand: NO_CONSTANT,
 };
 
-const CALL_TIMER: Instruction = Instruction::Call(TIMER);
+const CALL_TIMER: Word = Word::Call(TIMER);
 
 /// A call that makes a request.
-const ASK: Instruction = Instruction::Call(GEAR);
+const ASK: Word = Word::Call(GEAR);
 
-const CALL_NOTHING: Instruction = Instruction::Call(NO_INSTANCE);
+const CALL_NOTHING: Word = Word::Call(NO_INSTANCE);
 
-const ADD_NO_SLOT: Instruction = Instruction::Apply(Operator::Add, NO_SLOT);
+const ADD_NO_SLOT: Word = Word::Apply(Operator::Add, NO_SLOT);
 
-const AND_TEN: Instruction = Instruction::Apply(Operator::And { negated: false }, TEN);
+const AND_TEN: Word = Word::Apply(Operator::And { negated: false }, TEN);
 
-const DIV_ZERO: Instruction = Instruction::Apply(Operator::Div, ZERO);
+const DIV_ZERO: Word = Word::Apply(Operator::Div, ZERO);
 
-const DIV_N: Instruction = Instruction::Apply(Operator::Div, N);
+const DIV_N: Word = Word::Apply(Operator::Div, N);
 
-const EQ_ZERO: Instruction = Instruction::Apply(Operator::Eq, ZERO);
+const EQ_ZERO: Word = Word::Apply(Operator::Eq, ZERO);
 
-const OPEN: Instruction = Instruction::Open(Operator::Add);
+const OPEN: Word = Word::Open(Operator::Add);
 
-const OPEN_EQ: Instruction = Instruction::Open(Operator::Eq);
+const OPEN_EQ: Word = Word::Open(Operator::Eq);
 
-const CLOSE: Instruction = Instruction::Close;
+const CLOSE: Word = Word::Close;
 
 /// JMP to the place 0, and so on.
-const JMP_0: Instruction = Instruction::Jump {
+const JMP_0: Word = Word::Jump {
     condition: Condition::Always,
     target: 0,
 };
 
-const JMP_1: Instruction = Instruction::Jump {
+const JMP_1: Word = Word::Jump {
     condition: Condition::Always,
     target: 1,
 };
 
-const JMP_2: Instruction = Instruction::Jump {
+const JMP_2: Word = Word::Jump {
     condition: Condition::Always,
     target: 2,
 };
 
-const JMP_3: Instruction = Instruction::Jump {
+const JMP_3: Word = Word::Jump {
     condition: Condition::Always,
     target: 3,
 };
 
-const JMP_4: Instruction = Instruction::Jump {
+const JMP_4: Word = Word::Jump {
     condition: Condition::Always,
     target: 4,
 };
 
-const JMP_5: Instruction = Instruction::Jump {
+const JMP_5: Word = Word::Jump {
     condition: Condition::Always,
     target: 5,
 };
 
-const JMPC_0: Instruction = Instruction::Jump {
+const JMPC_0: Word = Word::Jump {
     condition: Condition::IfTrue,
     target: 0,
 };
 
-const JMPC_1: Instruction = Instruction::Jump {
+const JMPC_1: Word = Word::Jump {
     condition: Condition::IfTrue,
     target: 1,
 };
 
-const JMPC_3: Instruction = Instruction::Jump {
+const JMPC_3: Word = Word::Jump {
     condition: Condition::IfTrue,
     target: 3,
 };
 
-const JMPC_4: Instruction = Instruction::Jump {
+const JMPC_4: Word = Word::Jump {
     condition: Condition::IfTrue,
     target: 4,
 };
 
-const JMPC_5: Instruction = Instruction::Jump {
+const JMPC_5: Word = Word::Jump {
     condition: Condition::IfTrue,
     target: 5,
 };
 
-const JMPC_6: Instruction = Instruction::Jump {
+const JMPC_6: Word = Word::Jump {
     condition: Condition::IfTrue,
     target: 6,
 };
 
-const JMPCN_0: Instruction = Instruction::Jump {
+const JMPCN_0: Word = Word::Jump {
     condition: Condition::IfFalse,
     target: 0,
 };
 
 /// A code of two programs: its name, the place where the second begins, its words, and the number
 /// of the cause and the word, or 0 and the bound where it is accepted.
-type Row = (&'static str, usize, &'static [Instruction], (u8, usize));
+type Row = (&'static str, usize, &'static [Word], (u8, usize));
 
 /// Numbers that a table does not have, stores to outputs, and arguments apart from a call.
 const NUMBERS: [Row; 33] = [
@@ -495,7 +495,7 @@ const SHAPES: [Row; 47] = [
 ];
 
 /// The code of the words, of which the second program begins at a place; all stand on line 1.
-fn code(alloc: Global, start: usize, words: &[Instruction]) -> Result<Option<Code>, AllocError> {
+fn code(alloc: Global, start: usize, words: &[Word]) -> Result<Option<Code>, AllocError> {
     if start > words.len() || words.len() > 65_536 {
         return Ok(None);
     }
@@ -506,7 +506,7 @@ fn code(alloc: Global, start: usize, words: &[Instruction]) -> Result<Option<Cod
         Value::Int(-1),
     ]?;
     let slots = vec![in alloc; LEVEL, IlType::Bool, FEW]?;
-    let kinds = vec![in alloc; Kind::Ton, Kind::GearDo]?;
+    let kinds = vec![in alloc; BlockKind::Ton, BlockKind::GearDo]?;
     let starts = vec![in alloc; 0usize, start]?;
     let lines = vec![in alloc; 1usize; words.len()]?;
     let words = Vec::from_slice(alloc, words)?;
@@ -514,7 +514,7 @@ fn code(alloc: Global, start: usize, words: &[Instruction]) -> Result<Option<Cod
 }
 
 /// The number of the cause and the word; 0 and the bound, where the code is accepted.
-fn verdict(alloc: Global, start: usize, words: &[Instruction]) -> Result<(u8, usize), Fail> {
+fn verdict(alloc: Global, start: usize, words: &[Word]) -> Result<(u8, usize), Fail> {
     let Some(code) = code(alloc, start, words)? else {
         return Err("it is no code".into());
     };
@@ -544,7 +544,7 @@ fn parentheses_and_jumps_that_no_text_has(rt: HostRuntime) -> Result<(), Fail> {
 }
 
 /// `LD 10`, then `ADD( 10` so many times, and then `)` as often.
-fn nested(alloc: Global, depth: usize) -> Result<Vec<Instruction>, AllocError> {
+fn nested(alloc: Global, depth: usize) -> Result<Vec<Word>, AllocError> {
     let mut words = vec![in alloc; LD_TEN]?;
     for _ in 0..depth {
         words.push(OPEN)?;
@@ -564,7 +564,7 @@ fn the_33rd_parenthesis_is_refused(rt: HostRuntime) -> Result<(), Fail> {
         assert_eq!(rt; found, wanted, "{depth}");
     }
     // A code of 65,536 words is to have half a megabyte.
-    assert_eq!(rt; size_of::<Instruction>(), 8);
+    assert_eq!(rt; size_of::<Word>(), 8);
     Ok(())
 }
 

@@ -14,7 +14,7 @@ use Rattle.ilplan.specs.declared.global.Location.{Location}
 use Rattle.ilplan.specs.declared.global.Location.TheVariants.{Level, GearAnswer, DeviceAnswer, Information, Count}
 use Rattle.ilplan.specs.declared.global.Location.TheVariants.{Trigger}
 use Rattle.ilplan.specs.Plans.{Planned}
-use Rattle.ilimage.specs.Images.{ProcessImage, Variable, Global, Own, layout_of, value_of, blocks_of}
+use Rattle.ilimage.specs.Images.{ProcessImage, ImageVariable, Global, Own, layout_of, value_of, blocks_of}
 use Rattle.plantevents.specs.declared.event.Origin.{Origin}
 use Rattle.plantevents.specs.declared.event.Event.{Event}
 use Rattle.plantevents.specs.declared.event.Event.TheVariants.{Done}
@@ -66,7 +66,7 @@ past_all plan b origin result g le =
 
 pub answer_same : (p : Plant) (b n : ℕ) (r : ReportParts) (h : List Event) (handed : OpenHand)
     → hand b h ≡ Some handed
-    → (v : Variable) → answer_at p.plan b handed.origin r.outcome v ≡ write_of p v (Done b n r) h
+    → (v : ImageVariable) → answer_at p.plan b handed.origin r.outcome v ≡ write_of p v (Done b n r) h
 answer_same p b n r h handed is (Global g) =
     ap (λ (o : Option OpenHand). report_write b r.outcome o (location p g)) (sym is)
 answer_same p b n r h handed is (Own t g) =
@@ -76,7 +76,8 @@ answer_same p b n r h handed is (Own t g) =
 pub image_done : (p : Plant) (b n : ℕ) (r : ReportParts) (h : List Event) (handed : OpenHand)
     (before after : ProcessImage) → ImageFollows p h before → hand b h ≡ Some handed
     → layout_of after ≡ layout_of before
-    → ((v : Variable) → value_of after v ≡ newest (answer_at p.plan b handed.origin r.outcome v) (value_of before v))
+    → ((v : ImageVariable) → value_of after v ≡ newest (answer_at p.plan b handed.origin r.outcome v)
+    (value_of before v))
     → ((t : ℕ) → blocks_of after t ≡ blocks_of before t)
     → ImageFollows p (Done b n r ∷ h) after
 image_done p b n r h handed before after follows is laid values instances = record {

@@ -12,8 +12,8 @@ use Rattle.iltypes.specs.Values.{AreOf}
 use Rattle.ilsource.specs.declared.name.Name.{Name}
 use Rattle.ilplan.specs.declared.global.Global.{Global as GlobalVariable}
 use Rattle.ilplan.specs.declared.slot.Slot.{Slot}
-use Rattle.ilplan.specs.declared.slot.Variable as slots
-use Rattle.ilplan.specs.declared.slot.Variable.TheVariants as slot
+use Rattle.ilplan.specs.declared.slot.SlotOwner as slots
+use Rattle.ilplan.specs.declared.slot.SlotOwner.TheVariants as slot
 use Rattle.ilplan.specs.Plans as plans
 use Rattle.ilplan.specs.Plans.{PlannedTask, Planned, stores, Precedes, AreOrdered, IsDeclared, type_and_initial}
 use Rattle.ilplan.specs.Plans.{types_of, initials_of, KeepsLimits, IsTaskOf}
@@ -25,7 +25,7 @@ use Rattle.ilsetup.specs.Loaded.{Loaded, IsCodeOf}
 use Rattle.plantevents.specs.Plants.{external_in, externals_from, externals_of, own_by, own_initials, first_tasks}
 use Rattle.plant.specs.OpeningSteps.{global_types, IsFirstImage, AreLawfulTasks}
 
-abbrev variables : List Slot → List slots.Variable
+abbrev variables : List Slot → List slots.SlotOwner
 variables slots = map (λ s. s.variable) slots
 
 abbrev types : List Slot → List IlType
@@ -45,7 +45,7 @@ external_of task n global = record { global = global; stored = stores task n }
 
 -- ---- a slot and those behind it
 
-no_external : (task : PlannedTask) (n : ℕ) (instance name : Name) (v : slots.Variable)
+no_external : (task : PlannedTask) (n : ℕ) (instance name : Name) (v : slots.SlotOwner)
     → Precedes (slot.Own instance name) v → external_in task n v ≡ None
 no_external task n instance name (slot.Global global) own = absurd own
 no_external task n instance name (slot.Own other x) own = refl
@@ -68,7 +68,7 @@ first_own : (task : PlannedTask) (n : ℕ) (x : Slot) (more : List Slot) (instan
     → AreOrdered (variables (x ∷ more)) → x.variable ≡ slot.Own instance name
     → (externals_from task n (x ∷ more) ≡ []) × (externals_from task (n + 1) more ≡ [])
 first_own task n x more instance name ordered is =
-    let behind = subst (λ (v : slots.Variable). AllByRecursion (Precedes v) (variables more)) is ordered.0 in
+    let behind = subst (λ (v : slots.SlotOwner). AllByRecursion (Precedes v) (variables more)) is ordered.0 in
     let none = none_global task (n + 1) instance name more behind in (
       ap (λ v. option_to_list (external_in task n v) ++ externals_from task (n + 1) more) is ∙ none,
       none,
@@ -92,10 +92,10 @@ type_of_pair (Some g) value_type initial is = ap (option_map (λ (p : IlType × 
 typed_here : (globals : List GlobalVariable) (task : PlannedTask) (n : ℕ) (x : Slot) (more : List Slot)
     → AreOrdered (variables (x ∷ more)) → IsDeclared globals x.variable x.value_type x.initial
     → AreTyped (type_list globals) (types more) (externals_from task (n + 1) more)
-    → (v : slots.Variable) → x.variable ≡ v
+    → (v : slots.SlotOwner) → x.variable ≡ v
     → AreTyped (type_list globals) (types (x ∷ more)) (externals_from task n (x ∷ more))
 typed_here globals task n x more ordered here deeper (slot.Global g) is =
-    let declared = subst (λ (v : slots.Variable). IsDeclared globals v x.value_type x.initial) is here in
+    let declared = subst (λ (v : slots.SlotOwner). IsDeclared globals v x.value_type x.initial) is here in
     let there : slice_get (type_list globals) g ≡ Some x.value_type =
     slice_get-map (λ (g : GlobalVariable). g.value_type) globals g
     ∙ type_of_pair (slice_get globals g) x.value_type x.initial declared in
@@ -121,9 +121,9 @@ IsOther g e = ¬ (e.global ≡ g)
 
 behind_here : (task : PlannedTask) (n g : ℕ) (x : Slot) (more : List Slot) → AreOrdered (variables (x ∷ more))
     → Precedes (slot.Global g) x.variable → All (IsOther g) (externals_from task (n + 1) more)
-    → (v : slots.Variable) → x.variable ≡ v → All (IsOther g) (externals_from task n (x ∷ more))
+    → (v : slots.SlotOwner) → x.variable ≡ v → All (IsOther g) (externals_from task n (x ∷ more))
 behind_here task n g x more ordered before deeper (slot.Global k) is =
-    let lt : g < k = subst (λ (v : slots.Variable). Precedes (slot.Global g) v) is before in
+    let lt : g < k = subst (λ (v : slots.SlotOwner). Precedes (slot.Global g) v) is before in
     subst (λ (es : List External). All (IsOther g) es) (sym (first_global task n x more k is))
     (All-cons (IsOther g) (external_of task n k) (externals_from task (n + 1) more)
     (λ e. let same : k ≡ g = e in absurd (omega arith)) deeper)
@@ -138,10 +138,10 @@ behind task n g (x ∷ more) ordered before =
     behind_here task n g x more ordered before.0 (behind task (n + 1) g more ordered.1 before.1) x.variable refl
 
 apart_here : (task : PlannedTask) (n : ℕ) (x : Slot) (more : List Slot) → AreOrdered (variables (x ∷ more))
-    → AreApart (externals_from task (n + 1) more) → (v : slots.Variable) → x.variable ≡ v
+    → AreApart (externals_from task (n + 1) more) → (v : slots.SlotOwner) → x.variable ≡ v
     → AreApart (externals_from task n (x ∷ more))
 apart_here task n x more ordered deeper (slot.Global g) is =
-    let before = subst (λ (v : slots.Variable). AllByRecursion (Precedes v) (variables more)) is ordered.0 in
+    let before = subst (λ (v : slots.SlotOwner). AllByRecursion (Precedes v) (variables more)) is ordered.0 in
     subst AreApart (sym (first_global task n x more g is)) (behind task (n + 1) g more ordered.1 before, deeper)
 apart_here task n x more ordered deeper (slot.Own instance name) is =
     subst AreApart (sym (first_own task n x more instance name ordered is).0) tt
@@ -157,7 +157,7 @@ apart_from task n (x ∷ more) ordered =
 owned_here : (task : PlannedTask) (n : ℕ) (x : Slot) (more : List Slot) → AreOrdered (variables (x ∷ more))
     → AreOf (initials (x ∷ more)) (types (x ∷ more))
     → AreOf (owns more) (drop (length (externals_from task (n + 1) more)) (types more))
-    → (v : slots.Variable) → x.variable ≡ v
+    → (v : slots.SlotOwner) → x.variable ≡ v
     → AreOf (owns (x ∷ more)) (drop (length (externals_from task n (x ∷ more))) (types (x ∷ more)))
 owned_here task n x more ordered typed deeper (slot.Global g) is =
     subst (λ (es : List External). AreOf (owns (x ∷ more)) (drop (length es) (types (x ∷ more))))

@@ -8,12 +8,12 @@ use Rattle.std.specs.Prelude.{nat_lt, if◌then◌else◌, slice_get, option_map
 use Rattle.std.specs.Option.{option_and_then}
 use Rattle.std.specs.List.{position, find, position_or_len}
 use Rattle.iltypes.specs.declared.value.Value.{Value}
-use Rattle.dalievent.specs.declared.messages.Source.{Source}
+use Rattle.dalievent.specs.declared.messages.EventSource.{EventSource}
 use Rattle.binding.specs.declared.sources.BoundSource.{BoundSource}
 use Rattle.ilplan.specs.declared.global.Location.{Location}
 use Rattle.ilplan.specs.declared.global.Location.TheVariants.{Level, GearAnswer, DeviceAnswer, Information, Count}
 use Rattle.ilplan.specs.declared.global.Location.TheVariants.{Trigger}
-use Rattle.ilimage.specs.Images.{Variable, Global, Own}
+use Rattle.ilimage.specs.Images.{ImageVariable, Global, Own}
 use Rattle.plantevents.specs.declared.event.Event.{Event}
 use Rattle.plantevents.specs.declared.event.Event.TheVariants.{Heard}
 use Rattle.plantevents.specs.Plants.{Plant, location}
@@ -52,7 +52,7 @@ found test xs = by_place test xs (position_or_len test xs) (find test xs) (find_
 
 -- ---- what is written
 
-either_way : (t : Bool) (source : Source) (F : Source → Value)
+either_way : (t : Bool) (source : EventSource) (F : EventSource → Value)
     → (if t then Some (F source) else None) ≡ option_map F (if t then Some source else None)
 either_way true source F = refl
 either_way false source F = refl
@@ -66,7 +66,7 @@ information_same sources bus b f number None s by =
     (option_map (λ (x : BoundSource). x.source) s))) by)
 information_same sources bus b f number (Some i) s by =
     let source = (source_in sources i).source in
-    either_way (eqb b bus && is_message source f) source (λ (x : Source). whole (information x f))
+    either_way (eqb b bus && is_message source f) source (λ (x : EventSource). whole (information x f))
     ∙ sym (ap (λ (s : Option BoundSource). information_by f
     (speaker bus b f (option_map (λ (x : BoundSource). x.source) s))) by.1)
 
@@ -85,7 +85,7 @@ count_same sources counts bus b f number h (Some i) s follow by =
     let counted = (follow.1 i by.0).counted in
     let here = ap (λ (m : ℕ). message_count m source h) (on_bus bus number bound by.2) in
     ap (λ (n : ℕ). if eqb b bus && is_message source f then Some (whole n) else None) (counted ∙ here)
-    ∙ (either_way (eqb b bus && is_message source f) source (λ (x : Source). whole (message_count bus x h))
+    ∙ (either_way (eqb b bus && is_message source f) source (λ (x : EventSource). whole (message_count bus x h))
     ∙ sym (ap (λ (s : Option BoundSource). count_by bus h (speaker bus b f
     (option_map (λ (x : BoundSource). x.source) s))) by.1))
 
@@ -105,6 +105,6 @@ place_same p b f h counts follow (Some (Count bus number)) =
 
 pub writes_same : (p : Plant) (b f : ℕ) (h : List Event) (counts : List ℕ)
     → CountsFollow p.plan.sources (Heard b f ∷ h) counts
-    → (v : Variable) → input_at p.plan counts b f v ≡ write_of p v (Heard b f) h
+    → (v : ImageVariable) → input_at p.plan counts b f v ≡ write_of p v (Heard b f) h
 writes_same p b f h counts follow (Global number) = place_same p b f h counts follow (location p number)
 writes_same p b f h counts follow (Own t number) = refl

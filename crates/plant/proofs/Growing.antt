@@ -9,7 +9,7 @@ use Rattle.plantevents.specs.declared.event.Event.TheVariants.{Tick, Heard, Take
 use Rattle.plantevents.specs.declared.role.Role.TheVariants.{Bus, Clock}
 use Rattle.plantevents.specs.Histories.{moment, is_down, heards}
 use Rattle.taskset.specs.TaskSets.{TaskSet, Follows}
-use Rattle.ilimage.specs.Images.{ProcessImage, Variable, layout_of, value_of, blocks_of}
+use Rattle.ilimage.specs.Images.{ProcessImage, ImageVariable, layout_of, value_of, blocks_of}
 use Rattle.plantevents.specs.Plants.{Plant}
 use Rattle.plantevents.specs.Variables.{newest, write_of}
 use Rattle.plantevents.specs.Legal.{IsUp}
@@ -112,11 +112,11 @@ heards_few b (Down c ∷ h) = let r = heards_few b h in omega arith
 
 -- what a frame writes is the same by the counts that are kept
 abbrev WritesSame : Plant → ℕ → ℕ → List Event → List ℕ → Type 0
-WritesSame p b f h counts = (v : Variable) → input_at p.plan counts b f v ≡ write_of p v (Heard b f) h
+WritesSame p b f h counts = (v : ImageVariable) → input_at p.plan counts b f v ≡ write_of p v (Heard b f) h
 
 pub image_heard : (p : Plant) (b f : ℕ) (h : List Event) (counts : List ℕ) (before after : ProcessImage)
     → ImageFollows p h before → WritesSame p b f h counts → layout_of after ≡ layout_of before
-    → ((v : Variable) → value_of after v ≡ newest (input_at p.plan counts b f v) (value_of before v))
+    → ((v : ImageVariable) → value_of after v ≡ newest (input_at p.plan counts b f v) (value_of before v))
     → ((t : ℕ) → blocks_of after t ≡ blocks_of before t)
     → ImageFollows p (Heard b f ∷ h) after
 image_heard p b f h counts before after follows same laid values instances = record {

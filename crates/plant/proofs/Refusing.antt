@@ -2,11 +2,11 @@
 use Rattle.std.proofs.Common.{◌≡◌, ℕ, ◌+◌, ◌≤◌, Bool, true, false, not, List, ◌∷◌, None, refl, arith}
 use Rattle.std.proofs.lemmas.Grind.{common_steps}
 use Rattle.std.specs.Prelude.{◌&&◌, if◌then◌else◌, nat_lt}
-use Rattle.plant.specs.declared.refusal.Refusal.{Refusal}
+use Rattle.plant.specs.declared.refusal.CallRefusal.{CallRefusal}
 use Rattle.plant.specs.Refusals.{Case, first_refusal}
 
 -- neither the first nor a later one
-pub none_holds : (holds : Bool) (refusal : Refusal) (more : List Case)
+pub none_holds : (holds : Bool) (refusal : CallRefusal) (more : List Case)
     → first_refusal ((holds, refusal) ∷ more) ≡ None → (holds ≡ false) × (first_refusal more ≡ None)
 none_holds true refusal more is = absurd (cc)
 none_holds false refusal more is = (refl, is)

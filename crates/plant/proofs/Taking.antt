@@ -13,7 +13,7 @@ use Rattle.ilplan.specs.declared.global.Location.TheVariants.{Level, GearAnswer,
 use Rattle.ilplan.specs.declared.global.Location.TheVariants.{Trigger}
 use Rattle.ilverify.specs.Verdicts.{Accepted}
 use Rattle.ilimage.specs.declared.overriding.Override.{Override}
-use Rattle.ilimage.specs.Images.{ProcessImage, TaskImage, TaskLayout, Variable, Global, Own, layout_of, value_of}
+use Rattle.ilimage.specs.Images.{ProcessImage, TaskImage, TaskLayout, ImageVariable, Global, Own, layout_of, value_of}
 use Rattle.ilimage.specs.Images.{verified_of, blocks_of, variable_in, overridden, value_under}
 use Rattle.ilimage.specs.Snapshots.{ScanStart}
 use Rattle.plantevents.specs.declared.activator.PendingEvent.{PendingEvent}
@@ -104,7 +104,7 @@ with_event place first bus number a o is of =
 taken_value : (p : Plant) (t : ℕ) (h : List Event) (image : ProcessImage) (given : List Override)
     → ImageFollows p h image
     → ((g : ℕ) (v : Option Value) → overridden given g v ≡ newest (taken_at p h t g) v)
-    → (v : Variable) → value_under given image v ≡ snapshot_value p t h v
+    → (v : ImageVariable) → value_under given image v ≡ snapshot_value p t h v
 taken_value p t h image given follows taken (Global g) =
     taken g (value_of image (Global g)) ∙ ap (newest (taken_at p h t g)) (follows.values (Global g))
 taken_value p t h image given follows taken (Own u n) =
@@ -112,7 +112,7 @@ taken_value p t h image given follows taken (Own u n) =
     ∙ ap (λ (o : Option Value). newest o (value p (Own u n) h))
     (sym (nowhere (trigger_of p t) (slice_get (pending (activator p t) t h) 0)))
 
-each_value : (F G : Variable → Option Value) → ((v : Variable) → F v ≡ G v) → (o : Option Variable)
+each_value : (F G : ImageVariable → Option Value) → ((v : ImageVariable) → F v ≡ G v) → (o : Option ImageVariable)
     → option_and_then F o ≡ option_and_then G o
 each_value F G same None = refl
 each_value F G same (Some v) = same v

@@ -11,7 +11,7 @@ use Rattle.iltypes.specs.Values.{AreOf}
 use Rattle.ilblocks.specs.Calls.{Block}
 use Rattle.ilblocks.proofs.Blocks.{as_long}
 use Rattle.ilimage.specs.declared.external.External.{External}
-use Rattle.ilimage.specs.Images.{ProcessImage, TaskImage, TaskLayout, Layout, Variable, Own, IsImage, layout_of}
+use Rattle.ilimage.specs.Images.{ProcessImage, TaskImage, TaskLayout, Layout, ImageVariable, Own, IsImage, layout_of}
 use Rattle.ilimage.specs.Images.{value_of, blocks_of, own_types, written_at, written_in}
 use Rattle.ilimage.proofs.Places.{externals_fit, layout_at}
 use Rattle.ilimage.proofs.Commits.{past_end, lawful_task}
@@ -21,7 +21,7 @@ use Rattle.plantevents.specs.declared.event.Event.TheVariants.{Commit}
 use Rattle.plantevents.specs.Plants.{Plant, layout}
 use Rattle.plantevents.specs.Histories.{OpenScan, scan}
 use Rattle.plantevents.specs.Variables.{newest, scan_write, commit_write, write_of}
-use Rattle.plantevents.specs.Writes.{IsWrittenFrom, IsKept}
+use Rattle.plantevents.specs.Writes.{IsWrittenFrom, IsNotWritten}
 use Rattle.plant.specs.KeptSteps.{ImageFollows}
 
 -- a task of the image, of which a scan left these values in its slots: its own variables are those behind the global
@@ -46,15 +46,15 @@ is_ended image t of slots whole is owned typed =
 pub record IsCommitted (image after : ProcessImage) (t : ℕ) (slots : List Value) (instances : List Block)
     : Type 0 where
   pub same : layout_of after ≡ layout_of image
-  pub written : (slot : ℕ) (v : Variable) → written_in (layout_of image) t slot ≡ Some v
+  pub written : (slot : ℕ) (v : ImageVariable) → written_in (layout_of image) t slot ≡ Some v
       → value_of after v ≡ slice_get slots slot
-  pub kept : (v : Variable) → ((slot : ℕ) → written_in (layout_of image) t slot ≢ Some v)
+  pub kept : (v : ImageVariable) → ((slot : ℕ) → written_in (layout_of image) t slot ≢ Some v)
       → value_of after v ≡ value_of image v
   pub here : blocks_of after t ≡ Some instances
   pub others : (u : ℕ) → u ≢ t → blocks_of after u ≡ blocks_of image u
 
 -- from past the last slot a variable is written that is not there
-none_before : (image : ProcessImage) (t : ℕ) (of : TaskImage) (slots : List Value) (v : Variable) (slot : ℕ)
+none_before : (image : ProcessImage) (t : ℕ) (of : TaskImage) (slots : List Value) (v : ImageVariable) (slot : ℕ)
     → IsEnded image t of slots → written_in (layout_of image) t slot ≡ Some v → slice_get slots slot ≡ None
     → value_of image v ≡ None
 none_before image t of slots v slot ended from none =
@@ -67,7 +67,7 @@ none_before image t of slots v slot ended from none =
     written_at t (slot - length l.externals) (slice_get l.externals slot))) (layout_at image t of ended.is) in
     let found : Some (Own t number) ≡ Some v = sym (there ∙ ap (written_at t number) outside) ∙ from in
     let same : Own t number ≡ v = cc in
-    subst (λ (x : Variable). value_of image x ≡ None) same
+    subst (λ (x : ImageVariable). value_of image x ≡ None) same
     (ap (option_and_then (λ (u : TaskImage). slice_get u.own.slots number)) ended.is
     ∙ slice_get_past of.own.slots number (omega arith))
 
@@ -77,8 +77,8 @@ newest_same (Some x) before none = refl
 
 -- what a variable's value is, written or not
 value_after : (image after : ProcessImage) (t : ℕ) (of : TaskImage) (slots : List Value) (instances : List Block)
-    (v : Variable) → IsEnded image t of slots → IsCommitted image after t slots instances
-    → IsWrittenFrom (layout_of image) t of.layout v slots ⊎ IsKept (layout_of image) t of.layout v slots
+    (v : ImageVariable) → IsEnded image t of slots → IsCommitted image after t slots instances
+    → IsWrittenFrom (layout_of image) t of.layout v slots ⊎ IsNotWritten (layout_of image) t of.layout v slots
     → value_of after v ≡ newest (scan_write t v slots of.layout) (value_of image v)
 value_after image after t of slots instances v ended done law =
     ⊎_elim
@@ -86,13 +86,13 @@ value_after image after t of slots instances v ended done law =
     done.written w.slot v w.from
     ∙ (newest_same (slice_get slots w.slot) (value_of image v) (none_before image t of slots v w.slot ended w.from)
     ∙ ap (λ (o : Option Value). newest o (value_of image v)) (sym w.value)))
-    (λ (k : IsKept (layout_of image) t of.layout v slots).
+    (λ (k : IsNotWritten (layout_of image) t of.layout v slots).
     done.kept v k.from ∙ ap (λ (o : Option Value). newest o (value_of image v)) (sym k.value))
     law
 
 -- what a scan of each variable writes, as the law of scans says it
 abbrev pub EachWrite : Layout → ℕ → TaskLayout → List Value → Type 0
-EachWrite laid t task slots = (v : Variable) → IsWrittenFrom laid t task v slots ⊎ IsKept laid t task v slots
+EachWrite laid t task slots = (v : ImageVariable) → IsWrittenFrom laid t task v slots ⊎ IsNotWritten laid t task v slots
 
 committed_by : (p : Plant) (w n : ℕ) (running : OpenScan) (result : Scan) (h : List Event)
     (image after : ProcessImage) (of : TaskImage) → ImageFollows p h image → scan w h ≡ Some running

@@ -7,7 +7,7 @@ use Rattle.gearcmd.specs.declared.requests.Answerer.{Answerer}
 use Rattle.transact.specs.declared.marks.Outcome.{Outcome}
 use Rattle.ilplan.specs.declared.global.Location.{Location}
 use Rattle.ilplan.specs.Plans.{Planned, HasUpTo}
-use Rattle.ilimage.specs.Images.{Variable, Global, Own}
+use Rattle.ilimage.specs.Images.{ImageVariable, Global, Own}
 use Rattle.plantevents.specs.declared.event.Origin.{Origin}
 use Rattle.plantevents.specs.Variables.{answerer_by, is_answer_of, outcome_value}
 
@@ -20,7 +20,7 @@ abbrev pub answer_write : ℕ → Option Answerer → Outcome → Option Locatio
 answer_write b answerer result place = if is_answer_of b answerer place then outcome_value result else None
 
 -- what the end of a transaction, which was made of this and sent on bus b, writes to a variable
-abbrev pub answer_at : Planned → ℕ → Origin → Outcome → Variable → Option Value
+abbrev pub answer_at : Planned → ℕ → Origin → Outcome → ImageVariable → Option Value
 answer_at plan b origin result (Global number) =
     answer_write b (answerer_by origin) result (option_and_then (λ g. g.location) (slice_get plan.globals number))
 answer_at plan b origin result (Own task number) = None

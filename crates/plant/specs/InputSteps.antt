@@ -9,7 +9,7 @@ use Rattle.binding.specs.declared.sources.BoundSource.{BoundSource}
 use Rattle.ilplan.specs.declared.global.Location.{Location}
 use Rattle.ilplan.specs.declared.global.Location.TheVariants.{Information, Count}
 use Rattle.ilplan.specs.Plans.{Planned, Suits}
-use Rattle.ilimage.specs.Images.{Variable, Global, Own}
+use Rattle.ilimage.specs.Images.{ImageVariable, Global, Own}
 use Rattle.plantevents.specs.Messages.{is_message, information}
 use Rattle.plantevents.specs.Variables.{whole}
 use Rattle.plant.specs.KeptSteps.{source_in}
@@ -40,7 +40,7 @@ abbrev pub IsWrittenAs : IlType → Location → Value → Type 0
 IsWrittenAs value_type location value = Suits value_type location → IsOf value value_type
 
 -- what a frame that was heard on bus b writes to a variable
-abbrev pub input_at : Planned → List ℕ → ℕ → ℕ → Variable → Option Value
+abbrev pub input_at : Planned → List ℕ → ℕ → ℕ → ImageVariable → Option Value
 input_at plan counts b f (Global number) =
     option_and_then (written_by plan.sources counts b f)
     (option_and_then (λ g. g.location) (slice_get plan.globals number))

@@ -6,7 +6,7 @@ use Rattle.daliframe.specs.declared.schemes.EventScheme.TheVariants.{Instance}
 use Rattle.gearcmd.specs.declared.requests.Request.{Request}
 use Rattle.busqueue.specs.declared.class.Class.{Class}
 use Rattle.busqueue.specs.Queues.{BusQueues, queue, queue_of, class_number}
-use Rattle.ilimage.specs.Images.{ProcessImage, Variable, layout_of, value_of, blocks_of}
+use Rattle.ilimage.specs.Images.{ProcessImage, ImageVariable, layout_of, value_of, blocks_of}
 use Rattle.plantevents.specs.declared.event.Event.{Event}
 use Rattle.plantevents.specs.Plants.{Plant, layout}
 use Rattle.plantevents.specs.Histories.{OpenScan, OpenHand, moment, message_count, scan, hand, is_down}
@@ -115,7 +115,7 @@ CountsFollow sources h counts =
 -- the image has the value of each variable, and each block instance as the last scan left it
 pub record ImageFollows (p : Plant) (h : List Event) (image : ProcessImage) : Type 0 where
   pub laid : layout_of image ≡ layout p
-  pub values : (v : Variable) → value_of image v ≡ value p v h
+  pub values : (v : ImageVariable) → value_of image v ≡ value p v h
   pub instances : (t : ℕ) → blocks_of image t ≡ blocks p t h
 
 -- ---- the plant

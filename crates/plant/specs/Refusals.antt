@@ -8,15 +8,15 @@ use Rattle.plantevents.specs.Plants.{Plant}
 use Rattle.plantevents.specs.Histories.{moment, scan, hand, is_down}
 use Rattle.plantevents.specs.Choices.{is_free}
 use Rattle.plantevents.specs.Waiting.{handouts}
-use Rattle.plant.specs.declared.refusal.Refusal.{Refusal}
-use Rattle.plant.specs.declared.refusal.Refusal.TheVariants.{ClockBack, NothingReady, Stranger, Busy, BusDown, Full}
+use Rattle.plant.specs.declared.refusal.CallRefusal.{CallRefusal}
+use Rattle.plant.specs.declared.refusal.CallRefusal.TheVariants.{ClockBack, NothingReady, Stranger, Busy, BusDown, Full}
 use Rattle.plant.specs.declared.refusal.TakeError.{TakeError}
 use Rattle.plant.specs.declared.refusal.TakeError.TheVariants.{Memory, Refused}
 use Rattle.plant.specs.Shown.{Shown, is_reserved, is_full}
 
 -- a case with its refusal
 abbrev pub Case : Type 0
-Case = Bool × Refusal
+Case = Bool × CallRefusal
 
 -- no task of a number below n is ready without an open scan
 abbrev pub none_free : Plant → List Event → ℕ → Bool
@@ -69,12 +69,12 @@ down_cases p b = (has_no_bus p b, Stranger) ∷ (is_down b p.history, BusDown) �
 -- ---- what is answered
 
 -- the refusal of the first case that holds
-abbrev pub first_refusal : List Case → Option Refusal
+abbrev pub first_refusal : List Case → Option CallRefusal
 first_refusal [] = None
 first_refusal (c ∷ more) = if c.0 then Some c.1 else first_refusal more
 
 -- A call is accepted where no case holds, and else answers the first.
-abbrev pub GivesFirst : {A : Type 0} → List Case → Result A Refusal → Type 0
+abbrev pub GivesFirst : {A : Type 0} → List Case → Result A CallRefusal → Type 0
 GivesFirst cases (Ok x) = first_refusal cases ≡ None
 GivesFirst cases (Err refusal) = first_refusal cases ≡ Some refusal
 

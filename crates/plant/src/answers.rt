@@ -2,7 +2,7 @@
 
 ghost use Rattle.std.specs.Prelude.{◌≡◌, ℕ, ◌<◌, length, map, Some, IfSome};
 ghost use Rattle.iltypes.specs.declared.value.IlType.{IlType};
-ghost use Rattle.ilimage.specs.Images.{Variable, layout_of, value_of, blocks_of};
+ghost use Rattle.ilimage.specs.Images.{ImageVariable, layout_of, value_of, blocks_of};
 ghost use Rattle.ilimage.specs.Images.{Global as GlobalVariable};
 ghost use Rattle.ilimage.specs.Snapshots.{MayHave};
 ghost use Rattle.plantevents.specs.Variables.{reply_value, outcome_value, answerer_by};
@@ -123,7 +123,7 @@ pub(crate) fn write_answer(
 )
     requires { image.old.types ≡ map (λ g. g.value_type) plan.now.globals }
     ensures layout { layout_of image.new ≡ layout_of image.old }
-    ensures values { (v : Variable) → value_of image.new v
+    ensures values { (v : ImageVariable) → value_of image.new v
         ≡ newest (answer_at plan.now bus origin.now outcome v) (value_of image.old v) }
     ensures blocks { (task : ℕ) → blocks_of image.new task ≡ blocks_of image.old task }
 {

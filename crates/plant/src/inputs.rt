@@ -4,7 +4,7 @@ ghost use Rattle.std.specs.Prelude.{◌≡◌, ◌≢◌, ℕ, ◌+◌, ◌<◌,
 ghost use Rattle.std.specs.Prelude.{IfSome};
 ghost use Rattle.std.specs.List.{position};
 ghost use Rattle.iltypes.specs.declared.value.IlType.{IlType};
-ghost use Rattle.ilimage.specs.Images.{Variable, layout_of, value_of, blocks_of};
+ghost use Rattle.ilimage.specs.Images.{ImageVariable, layout_of, value_of, blocks_of};
 ghost use Rattle.ilimage.specs.Images.{Global as GlobalVariable};
 ghost use Rattle.ilimage.specs.Snapshots.{MayHave};
 ghost use Rattle.plantevents.specs.Variables.{newest};
@@ -63,7 +63,7 @@ pub(crate) fn give(image: &mut Image, global: usize, value: Option<Value>)
     ensures layout { layout_of image.new ≡ layout_of image.old }
     ensures written { value_of image.new (GlobalVariable global)
         ≡ newest value (value_of image.old (GlobalVariable global)) }
-    ensures kept { (variable : Variable) → variable ≢ GlobalVariable global
+    ensures kept { (variable : ImageVariable) → variable ≢ GlobalVariable global
         → value_of image.new variable ≡ value_of image.old variable }
     ensures blocks { (task : ℕ) → blocks_of image.new task ≡ blocks_of image.old task }
 {
@@ -90,7 +90,7 @@ pub(crate) fn write_message(plan: &Plan, counts: &[u16], image: &mut Image, bus:
     requires each { length counts.now ≡ length plan.now.sources }
     requires types { image.old.types ≡ map (λ g. g.value_type) plan.now.globals }
     ensures layout { layout_of image.new ≡ layout_of image.old }
-    ensures values { (v : Variable) → value_of image.new v
+    ensures values { (v : ImageVariable) → value_of image.new v
         ≡ newest (input_at plan.now counts.now bus frame v) (value_of image.old v) }
     ensures blocks { (task : ℕ) → blocks_of image.new task ≡ blocks_of image.old task }
 {

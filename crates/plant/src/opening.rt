@@ -14,7 +14,7 @@ ghost use Rattle.plantevents.specs.Plants.{first_tasks, opening};
 ghost use Rattle.plant.specs.OpeningSteps.{IsFirstImage, AreLawfulTasks, global_types, as_planned};
 
 use ilimage::{External, Image, TaskImage};
-use ilplan::{Plan, Slot, Task, Variable};
+use ilplan::{Plan, Slot, SlotOwner, Task};
 use ilsetup::Setup;
 use iltypes::{IlType, Value};
 use ilverify::Verified;
@@ -27,11 +27,11 @@ fn external_at(task: &Task, number: usize, slot: Slot) -> Option<External>
     ensures value { result ≡ external_in task.now number slot.variable }
 {
     match slot.variable {
-        Variable::Global(global) => Some(External {
+        SlotOwner::Global(global) => Some(External {
             global,
             stored: task.stores(number),
         }),
-        Variable::Own { .. } => None,
+        SlotOwner::Own { .. } => None,
     }
 }
 
@@ -40,8 +40,8 @@ fn own_value(slot: Slot) -> Option<Value>
     ensures value { result ≡ own_by slot.variable slot.initial }
 {
     match slot.variable {
-        Variable::Own { .. } => Some(slot.initial),
-        Variable::Global(_) => None,
+        SlotOwner::Own { .. } => Some(slot.initial),
+        SlotOwner::Global(_) => None,
     }
 }
 

@@ -8,7 +8,7 @@ ghost use Rattle.plant.specs.OutputSteps.{planned, is_store_in, is_event_store, 
 ghost use Rattle.plant.specs.OutputSteps.{AreOutputsOf, OutputsFollow};
 
 use gearcmd::TaskKind;
-use ilplan::{Location, Plan, Task, Variable};
+use ilplan::{Location, Plan, SlotOwner, Task};
 use std::alloc::{AllocError, Global};
 use std::marker::Model;
 
@@ -74,13 +74,13 @@ fn output_at(plan: &Plan, bus: u8, address: u8) -> Option<usize>
 
 /// Whether the slot of this number is that of the global variable, and a program of the task stores
 /// to it.
-fn is_stored_in(task: &Task, number: usize, variable: Variable, global: usize) -> bool
+fn is_stored_in(task: &Task, number: usize, variable: SlotOwner, global: usize) -> bool
     requires { number < length task.now.slots }
     ensures { result ≡ is_store_in global (external_in task.now number variable) }
 {
     match variable {
-        Variable::Global(other) => other == global && task.stores(number),
-        Variable::Own { .. } => false,
+        SlotOwner::Global(other) => other == global && task.stores(number),
+        SlotOwner::Own { .. } => false,
     }
 }
 

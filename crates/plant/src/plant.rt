@@ -25,7 +25,7 @@ use crate::open_fault::OpenFault;
 use crate::opening::first_image;
 use crate::outputs::{BusOutputs, outputs_of};
 use crate::place::{keep_place, keep_place_of, use_place, use_place_of};
-use crate::refusal::Refusal;
+use crate::refusal::CallRefusal;
 use crate::running::{RunningScan, idle_workers};
 use crate::setups::task_setups;
 use daliframe::Frame24;
@@ -184,36 +184,36 @@ impl Plant {
     }
 
     /// Keeps a place of the history back for a tick, until it is used.
-    pub fn may_tick(&mut self) -> Result<(), Refusal>
+    pub fn may_tick(&mut self) -> Result<(), CallRefusal>
         ensures refused { GivesFirst (may_tick_cases self.old) result }
         ensures ok { OnOk result (self.new ≡ reserving roles.Clock self.old) }
         ensures keeps { OnOk result (is_reserved roles.Clock self.new ≡ true) }
         ensures err { OnErr result (self.new ≡ self.old) }
     {
         if !self.clock_place && self.is_full() {
-            return Err(Refusal::Full);
+            return Err(CallRefusal::Full);
         }
         keep_place(&mut self.clock_place, &mut self.kept);
         Ok(())
     }
 
     /// Whether a tick to this moment is possible.
-    fn allows_tick(&self, moment: u64) -> Result<(), Refusal>
+    fn allows_tick(&self, moment: u64) -> Result<(), CallRefusal>
         ensures refused { GivesFirst (tick_cases self.now moment) result }
         ensures allowed { OnOk result ((last_moment self.now.history ≤ moment)
             × (is_full_for roles.Clock self.now ≡ false)) }
     {
         if moment < self.moment {
-            return Err(Refusal::ClockBack);
+            return Err(CallRefusal::ClockBack);
         }
         if !self.clock_place && self.is_full() {
-            return Err(Refusal::Full);
+            return Err(CallRefusal::Full);
         }
         Ok(())
     }
 
     /// Notes that it is this moment, in milliseconds.
-    pub fn tick(&mut self, moment: u64) -> Result<(), Refusal>
+    pub fn tick(&mut self, moment: u64) -> Result<(), CallRefusal>
         ensures refused { GivesFirst (tick_cases self.old moment) result }
         ensures ok { OnOk result (self.new ≡ grown self.old (event.Tick moment)) }
         ensures err { OnErr result (self.new ≡ self.old) }
@@ -228,21 +228,21 @@ impl Plant {
     }
 
     /// Whether there is such a bus that is not down.
-    fn is_up(&self, bus: u8) -> Result<(), Refusal>
+    fn is_up(&self, bus: u8) -> Result<(), CallRefusal>
         ensures refused { GivesFirst (down_cases self.now bus) result }
         ensures allowed { OnOk result (IsUp self.now.plant self.now.history bus) }
     {
         if bus >= self.setup.plan().buses() {
-            return Err(Refusal::Stranger);
+            return Err(CallRefusal::Stranger);
         }
         if self.buses[usize::from(bus)].is_down {
-            return Err(Refusal::BusDown);
+            return Err(CallRefusal::BusDown);
         }
         Ok(())
     }
 
     /// Closes a bus, and its transaction if one is open.
-    pub fn down(&mut self, bus: u8) -> Result<(), Refusal>
+    pub fn down(&mut self, bus: u8) -> Result<(), CallRefusal>
         ensures refused { GivesFirst (down_cases self.old bus) result }
         ensures ok { OnOk result (self.new ≡ grown self.old (event.Down bus)) }
         ensures err { OnErr result (self.new ≡ self.old) }
@@ -257,7 +257,7 @@ impl Plant {
     }
 
     /// Keeps a place of the history back for a frame of a bus, until it is used.
-    pub fn may_hear(&mut self, bus: u8) -> Result<(), Refusal>
+    pub fn may_hear(&mut self, bus: u8) -> Result<(), CallRefusal>
         ensures refused { GivesFirst (heard_cases self.old bus) result }
         ensures ok { OnOk result (self.new ≡ reserving (roles.Bus bus) self.old) }
         ensures keeps { OnOk result (is_reserved (roles.Bus bus) self.new ≡ true) }
@@ -269,20 +269,20 @@ impl Plant {
     }
 
     /// Whether a frame of a bus may be heard.
-    fn allows_frame(&self, bus: u8) -> Result<(), Refusal>
+    fn allows_frame(&self, bus: u8) -> Result<(), CallRefusal>
         ensures refused { GivesFirst (heard_cases self.now bus) result }
         ensures up { OnOk result (IsUp self.now.plant self.now.history bus) }
         ensures room { OnOk result (is_full_for (roles.Bus bus) self.now ≡ false) }
     {
         self.is_up(bus)?;
         if !self.bus_places[usize::from(bus)] && self.is_full() {
-            return Err(Refusal::Full);
+            return Err(CallRefusal::Full);
         }
         Ok(())
     }
 
     /// Notes a frame that was heard on a bus.
-    pub fn heard(&mut self, bus: u8, frame: Frame24) -> Result<(), Refusal>
+    pub fn heard(&mut self, bus: u8, frame: Frame24) -> Result<(), CallRefusal>
         ensures refused { GivesFirst (heard_cases self.old bus) result }
         ensures ok { OnOk result (self.new ≡ grown self.old (event.Heard bus frame)) }
         ensures err { OnErr result (self.new ≡ self.old) }

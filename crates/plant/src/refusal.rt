@@ -4,7 +4,7 @@ use std::alloc::AllocError;
 
 /// Why a call of the plant was refused. A refused call changes nothing.
 #[derive(Clone, Copy, PartialEq, Eq, Debug)]
-pub enum Refusal {
+pub enum CallRefusal {
     /// 2: the moment is below the last one.
     ClockBack,
     /// 3: no task is ready without an open scan, or nothing is to be sent on the bus.
@@ -25,16 +25,16 @@ pub enum TakeError {
     /// 1: the allocator is out of memory.
     Memory,
     /// The call was refused.
-    Refused(Refusal),
+    Refused(CallRefusal),
 }
 
-impl From<Refusal> for TakeError {
+impl From<CallRefusal> for TakeError {
     ghost use Rattle.std.specs.Prelude.{◌≡◌};
     ghost use Rattle.plant.specs.declared.refusal.TakeError.TheVariants.{Refused};
 
     ghost from_gives = { λ refusal error. error ≡ Refused refusal };
 
-    fn from(refusal: Refusal) -> Self {
+    fn from(refusal: CallRefusal) -> Self {
         TakeError::Refused(refusal)
     }
 }

@@ -7,7 +7,7 @@ ghost use Rattle.plant.specs.InputSteps.{is_bound_at};
 ghost use Rattle.plant.specs.TakingSteps.{trigger_place};
 
 use binding::BoundSource;
-use dalievent::Source;
+use dalievent::EventSource;
 use gearcmd::TaskKind;
 use ilplan::{Activation, Location, Plan};
 use plantevents::Activator;
@@ -15,7 +15,7 @@ use std::alloc::{AllocError, Global};
 use taskset::TaskSetup;
 
 /// The source that is bound at this place of a bus.
-fn bound_source(sources: &[BoundSource], bus: u8, number: u8) -> Option<Source>
+fn bound_source(sources: &[BoundSource], bus: u8, number: u8) -> Option<EventSource>
     ensures value { result
         ≡ option_map (λ b. b.source) (find (is_bound_at bus number) sources.now) }
 {

@@ -3,7 +3,7 @@
 ghost use Rattle.std.specs.Prelude.{◌≡◌, true, false, Some, None};
 ghost use Rattle.plantevents.specs.declared.event.Event.TheVariants.{Tick, Down};
 ghost use Rattle.plantevents.specs.declared.role.Role.TheVariants.{Clock, Bus};
-ghost use Rattle.plant.specs.declared.refusal.Refusal.TheVariants.{ClockBack, BusDown, Full};
+ghost use Rattle.plant.specs.declared.refusal.CallRefusal.TheVariants.{ClockBack, BusDown, Full};
 ghost use Rattle.plant.specs.Refusals.{first_refusal, tick_cases, may_tick_cases, down_cases};
 ghost use Rattle.plant.specs.Refusals.{heard_cases};
 ghost use Rattle.plant.specs.Shown.{grown, reserving, kept, is_full};

@@ -2,7 +2,7 @@
 use Rattle.std.proofs.Common.{◌≡◌, List, length, None, Some, subst}
 use Rattle.plantevents.specs.declared.event.Event.{Event}
 use Rattle.plantevents.specs.Legal.{Allowed, AreLegal}
-use Rattle.plant.specs.declared.refusal.Refusal.{Refusal}
+use Rattle.plant.specs.declared.refusal.CallRefusal.{CallRefusal}
 use Rattle.plant.specs.Refusals.{Case, first_refusal}
 use Rattle.plant.specs.Shown.{Shown, grown}
 use Rattle.plantdrive.specs.declared.step.Step.{Step}
@@ -10,7 +10,7 @@ use Rattle.plantdrive.specs.declared.step.StepReply.{StepReply}
 use Rattle.plantdrive.specs.Runs.{NothingIsRefused, IsEventOf, IsAccepted}
 
 -- where no case holds none is answered
-pub none_answered : (cases : List Case) → first_refusal cases ≡ None → (refusal : Refusal)
+pub none_answered : (cases : List Case) → first_refusal cases ≡ None → (refusal : CallRefusal)
     → ¬ (first_refusal cases ≡ Some refusal)
 none_answered cases none refusal some = absurd (cc)
 

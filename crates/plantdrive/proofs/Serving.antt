@@ -2,7 +2,7 @@
 use Rattle.std.proofs.Common.{◌≡◌, ℕ, ◌∷◌, None, Some, Result, Ok, Err, length, refl, sym, subst}
 use Rattle.plantevents.specs.declared.event.Event.{Event}
 use Rattle.plantevents.specs.Legal.{AreLegal}
-use Rattle.plant.specs.declared.refusal.Refusal.{Refusal}
+use Rattle.plant.specs.declared.refusal.CallRefusal.{CallRefusal}
 use Rattle.plant.specs.declared.refusal.TakeError.{TakeError}
 use Rattle.plant.specs.declared.refusal.TakeError.TheVariants as errors
 use Rattle.plant.specs.Refusals.{GivesFirstOrMemory, take_cases}
@@ -16,7 +16,7 @@ use Rattle.plantdrive.specs.Runs.{Answered, IsAccepted, IsEventOf, IsRefused, No
 use Rattle.plantdrive.proofs.Accepting.{accepted, none_answered}
 
 -- a step that is refused
-pub refused_at : (p s q : Shown) (step : Step) (refusal : Refusal) → p ≡ s → IsRefused p step refusal → q ≡ p
+pub refused_at : (p s q : Shown) (step : Step) (refusal : CallRefusal) → p ≡ s → IsRefused p step refusal → q ≡ p
     → Answered s step (Refused refusal) q
 refused_at p s q step refusal view is same =
     subst (λ (x : Shown). Answered x step (Refused refusal) q) view (is, same)

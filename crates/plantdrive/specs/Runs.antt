@@ -9,8 +9,8 @@ use Rattle.plantevents.specs.declared.event.Event.{Event}
 use Rattle.plantevents.specs.declared.event.Event.TheVariants as event
 use Rattle.plantevents.specs.Histories.{OpenScan, scan}
 use Rattle.plantevents.specs.Legal.{Allowed}
-use Rattle.plant.specs.declared.refusal.Refusal.{Refusal}
-use Rattle.plant.specs.declared.refusal.Refusal.TheVariants.{Stranger}
+use Rattle.plant.specs.declared.refusal.CallRefusal.{CallRefusal}
+use Rattle.plant.specs.declared.refusal.CallRefusal.TheVariants.{Stranger}
 use Rattle.plant.specs.Matches.{IsOpenTransaction}
 use Rattle.plant.specs.Refusals.{first_refusal, tick_cases, heard_cases, take_cases, hand_cases, down_cases}
 use Rattle.plant.specs.Shown.{Shown, grown}
@@ -30,7 +30,7 @@ abbrev pub HasNoReport : Shown → ℕ → ℕ → List Mark → Type 0
 HasNoReport p b n marks = (transaction : FrameList) → IsOpenTransaction p b n transaction → SpellsNone transaction marks
 
 -- why a step is refused: what the plant's call refuses; and a scan or a report of what is not open is a stranger
-abbrev pub IsRefused : Shown → Step → Refusal → Type 0
+abbrev pub IsRefused : Shown → Step → CallRefusal → Type 0
 IsRefused p (Tick m) refusal = first_refusal (tick_cases p m) ≡ Some refusal
 IsRefused p (Heard b f) refusal = first_refusal (heard_cases p b) ≡ Some refusal
 IsRefused p (Take w) refusal = first_refusal (take_cases p w) ≡ Some refusal
@@ -40,7 +40,7 @@ IsRefused p (Done b n marks) refusal = (refusal ≡ Stranger) × HasNoReport p b
 IsRefused p (Down b) refusal = first_refusal (down_cases p b) ≡ Some refusal
 
 abbrev pub NothingIsRefused : Shown → Step → Type 0
-NothingIsRefused p step = (refusal : Refusal) → ¬ IsRefused p step refusal
+NothingIsRefused p step = (refusal : CallRefusal) → ¬ IsRefused p step refusal
 
 -- ---- what is accepted
 

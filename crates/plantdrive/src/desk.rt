@@ -14,7 +14,7 @@ use crate::step::{Step, StepReply};
 use daliframe::Frame24;
 use ilmachine::{Work, scan_into};
 use ilsetup::Setup;
-use plant::{OpenFault, Plant, Refusal};
+use plant::{CallRefusal, OpenFault, Plant};
 use std::alloc::Global;
 use std::marker::Model;
 use transact::{Mark, Report};
@@ -144,7 +144,7 @@ impl Desk {
     {
         let work = match take_order(&mut self.orders, worker) {
             Some(work) => work,
-            None => return StepReply::Refused(Refusal::Stranger),
+            None => return StepReply::Refused(CallRefusal::Stranger),
         };
         match self.plant.commit(worker, scan_into(work)) {
             Ok(()) => {}
@@ -194,7 +194,7 @@ impl Desk {
     {
         let report = match self.report_of(bus, number, marks) {
             Some(report) => report,
-            None => return StepReply::Refused(Refusal::Stranger),
+            None => return StepReply::Refused(CallRefusal::Stranger),
         };
         match self.plant.done(bus, number, report) {
             Ok(()) => {}

@@ -8,7 +8,7 @@ ghost use Rattle.plant.specs.Refusals.{first_refusal, hand_cases};
 ghost use Rattle.plantdrive.specs.Sending.{IsSent, IsSendError};
 
 use buslink::{Bus, perform};
-use plant::{Plant, Refusal};
+use plant::{CallRefusal, Plant};
 use plantevents::Origin;
 use std::alloc::AllocError;
 use transact::{MOST_SENT, Report};
@@ -30,16 +30,16 @@ pub enum SendError {
     /// 1: the allocator is out of memory.
     Memory,
     /// Nothing was handed out.
-    Refused(Refusal),
+    Refused(CallRefusal),
 }
 
-impl From<Refusal> for SendError {
+impl From<CallRefusal> for SendError {
     ghost use Rattle.std.specs.Prelude.{◌≡◌};
     ghost use Rattle.plantdrive.specs.declared.sending.SendError.TheVariants.{Refused};
 
     ghost from_gives = { λ refusal error. error ≡ Refused refusal };
 
-    fn from(refusal: Refusal) -> Self {
+    fn from(refusal: CallRefusal) -> Self {
         SendError::Refused(refusal)
     }
 }

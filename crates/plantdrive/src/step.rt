@@ -1,7 +1,7 @@
 //! Steps and their replies.
 
 use daliframe::Frame24;
-use plant::{Refusal, TakeError};
+use plant::{CallRefusal, TakeError};
 use plantevents::Origin;
 use transact::{Mark, Transaction};
 
@@ -58,7 +58,7 @@ pub enum StepReply {
         transaction: Transaction,
     },
     /// The step was refused.
-    Refused(Refusal),
+    Refused(CallRefusal),
     /// 1: the allocator is out of memory.
     Memory,
 }

@@ -6,7 +6,7 @@ use Rattle.std.proofs.lemmas.Bool.{ltb-true, ltb-false}
 use Rattle.std.proofs.lemmas.Bool.Decides.{eqb_tells}
 use Rattle.std.specs.Prelude.{if◌then◌else◌, nat_lt, ◌==◌}
 use Rattle.circular_buffer.specs.Buffer.{keep_last}
-use Rattle.dalievent.specs.declared.messages.Source.{Source}
+use Rattle.dalievent.specs.declared.messages.EventSource.{EventSource}
 use Rattle.plantevents.specs.declared.activator.PendingEvent.{PendingEvent}
 use Rattle.plantevents.specs.declared.activator.Activator.{Activator}
 use Rattle.plantevents.specs.declared.activator.Activator.TheVariants.{Messages}
@@ -125,11 +125,11 @@ first_of_both : (x y : Bool) → (x && y) ≡ true → x ≡ true
 first_of_both true y e = refl
 first_of_both false y e = absurd (cc)
 
-some_pending : (bus : ℕ) (source : Source) (t : ℕ) (h : List Event) → ready (Some (Messages bus source)) t h ≡ true
+some_pending : (bus : ℕ) (source : EventSource) (t : ℕ) (h : List Event) → ready (Some (Messages bus source)) t h ≡ true
     → 0 < length (pending (Some (Messages bus source)) t h)
 some_pending bus source t h is = ltb-true 0 (length (pending (Some (Messages bus source)) t h)) is
 
-taken_some : (p : Plant) (bus : ℕ) (source : Source) (u t : ℕ) (h : List Event)
+taken_some : (p : Plant) (bus : ℕ) (source : EventSource) (u t : ℕ) (h : List Event)
     → activator p t ≡ Some (Messages bus source)
     → (ready (activator p u) u h && not (is_scanned u h)) ≡ true → (u == t) ≡ true
     → 0 < length (pending (Some (Messages bus source)) t h)
@@ -142,7 +142,7 @@ taken_some p bus source u t h is free same =
     (first_of_both (ready (activator p u) u h) (not (is_scanned u h)) free) in
     some_pending bus source t h (subst (λ (a : Option Activator). ready a t h ≡ true) is now)
 
-pub left_in : (p : Plant) (bus : ℕ) (source : Source) (t : ℕ) (h : List Event)
+pub left_in : (p : Plant) (bus : ℕ) (source : EventSource) (t : ℕ) (h : List Event)
     → activator p t ≡ Some (Messages bus source)
     → AreLegal p h → LeftIn (Some (Messages bus source)) t h
 left_in p bus source t [] is legal = record { within = omega arith; are = refl }
@@ -158,7 +158,7 @@ left_in p bus source t (Hand b s x ∷ h) is legal = left_in p bus source t h is
 left_in p bus source t (Done b n r ∷ h) is legal = left_in p bus source t h is legal.1
 left_in p bus source t (Down b ∷ h) is legal = left_in p bus source t h is legal.1
 
-pub pending_in_order : (p : Plant) (bus : ℕ) (source : Source) (t : ℕ) (h : List Event)
+pub pending_in_order : (p : Plant) (bus : ℕ) (source : EventSource) (t : ℕ) (h : List Event)
     → activator p t ≡ Some (Messages bus source) → AreLegal p h
     → pending (Some (Messages bus source)) t h
     ≡ drop (lost (Some (Messages bus source)) t h + scans t h) (arrivals (Some (Messages bus source)) h)

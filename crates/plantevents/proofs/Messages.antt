@@ -3,7 +3,7 @@ use Rattle.std.proofs.Common.{◌≡◌, ℕ, ◌+◌, ◌-◌, ◌^◌, ◌<◌
 use Rattle.std.proofs.lemmas.Bool.{le-leb, leb-true, lt-ltb, ltb-true}
 use Rattle.std.specs.Prelude.{nat_lt, nat_le}
 use Rattle.dalievent.specs.declared.messages.EventMessage.{EventMessage}
-use Rattle.dalievent.specs.declared.messages.Source.{Source}
+use Rattle.dalievent.specs.declared.messages.EventSource.{EventSource}
 use Rattle.dalievent.specs.EventSchemes.{scheme_bits, Solves, IsFrom}
 use Rattle.binding.specs.Wirings.{HasPartsInRange}
 use Rattle.plantevents.specs.Messages.{first_message, is_message, information}
@@ -13,12 +13,12 @@ parts true true e = (refl, refl)
 parts true false e = absurd (cc)
 parts false y e = absurd (cc)
 
-within : (s : Source) (f : ℕ) → is_message s f ≡ true → (first_message s ≤ f) × (f < first_message s + 2 ^ 10)
+within : (s : EventSource) (f : ℕ) → is_message s f ≡ true → (first_message s ≤ f) × (f < first_message s + 2 ^ 10)
 within s f is =
     let p = parts (nat_le (first_message s) f) (nat_lt f (first_message s + 2 ^ 10)) is in
     (leb-true (first_message s) f p.0, ltb-true f (first_message s + 2 ^ 10) p.1)
 
-pub message_of : (s : Source) (f : ℕ) → HasPartsInRange s → is_message s f ≡ true
+pub message_of : (s : EventSource) (f : ℕ) → HasPartsInRange s → is_message s f ≡ true
     → (e : EventMessage) × Solves e f × IsFrom s e
 message_of s f ranges is =
     let w = within s f is in (
@@ -28,14 +28,14 @@ message_of s f ranges is =
     )
 
 -- the first message, by the parts of a message of the source
-first_is : (s : Source) (e : EventMessage) (f : ℕ) → Solves e f → IsFrom s e → f ≡ first_message s + e.info
+first_is : (s : EventSource) (e : EventMessage) (f : ℕ) → Solves e f → IsFrom s e → f ≡ first_message s + e.info
 first_is s e f solves from =
     let bits : scheme_bits s.scheme ≡ scheme_bits e.scheme = ap scheme_bits from.0 in
     let is = solves.3 in
     let a = from.1 in
     let b = from.2 in omega arith
 
-pub is_message_of : (s : Source) (e : EventMessage) (f : ℕ) → Solves e f → IsFrom s e → is_message s f ≡ true
+pub is_message_of : (s : EventSource) (e : EventMessage) (f : ℕ) → Solves e f → IsFrom s e → is_message s f ≡ true
 is_message_of s e f solves from =
     let is = first_is s e f solves from in
     let small = solves.2 in
@@ -43,5 +43,5 @@ is_message_of s e f solves from =
     let high : nat_lt f (first_message s + 2 ^ 10) ≡ true = lt-ltb f (first_message s + 2 ^ 10) (omega arith) in
     rw low high
 
-pub information_is : (s : Source) (e : EventMessage) (f : ℕ) → Solves e f → IsFrom s e → information s f ≡ e.info
+pub information_is : (s : EventSource) (e : EventMessage) (f : ℕ) → Solves e f → IsFrom s e → information s f ≡ e.info
 information_is s e f solves from = let is = first_is s e f solves from in omega arith

@@ -4,7 +4,7 @@ use Rattle.std.proofs.Common.{Option, Some, None, refl, sym, ap, ◌∙◌, subs
 use Rattle.std.proofs.lemmas.Bool.Decides.{eqb_tells}
 use Rattle.std.specs.Prelude.{if◌then◌else◌, ◌==◌, option_map, option_and_then}
 use Rattle.circular_buffer.specs.Buffer.{keep_last}
-use Rattle.dalievent.specs.declared.messages.Source.{Source}
+use Rattle.dalievent.specs.declared.messages.EventSource.{EventSource}
 use Rattle.ilplan.specs.declared.activation.Activation as activations
 use Rattle.ilplan.specs.declared.activation.Activation.TheVariants.{Cyclic, Event as OnEvent}
 use Rattle.ilplan.specs.declared.global.Location.TheVariants.{Trigger, Information, Count}
@@ -25,7 +25,7 @@ use Rattle.plantevents.specs.Members.{Has, IsPendingEvent}
 use Rattle.plantevents.proofs.Having.{has_drop, has_append}
 
 -- the message of a pending event
-record IsBy (bus : ℕ) (source : Source) (h : List Event) (a : PendingEvent) : Type 0 where
+record IsBy (bus : ℕ) (source : EventSource) (h : List Event) (a : PendingEvent) : Type 0 where
   later : List Event
   frame : ℕ
   front : List Event
@@ -33,7 +33,7 @@ record IsBy (bus : ℕ) (source : Source) (h : List Event) (a : PendingEvent) : 
   message : is_message source frame ≡ true
   is : pending_event (Some (Messages bus source)) bus frame front ≡ a
 
-later_by : (bus : ℕ) (source : Source) (e : Event) (h : List Event) (a : PendingEvent) → IsBy bus source h a
+later_by : (bus : ℕ) (source : EventSource) (e : Event) (h : List Event) (a : PendingEvent) → IsBy bus source h a
     → IsBy bus source (e ∷ h) a
 later_by bus source e h a by =
     record {
@@ -54,7 +54,7 @@ equal : (a b : ℕ) → eqb a b ≡ true → a ≡ b
 equal a b e = ⊎_elim (λ (k : (eqb a b ≡ true) × (a ≡ b)). k.1) (λ (k : (eqb a b ≡ false) × (a ≢ b)).
     absurd (cc)) (eqb_tells a b)
 
-by_frame : (bus b f : ℕ) (source : Source) (h : List Event) → activates (Some (Messages bus source)) b f ≡ true
+by_frame : (bus b f : ℕ) (source : EventSource) (h : List Event) → activates (Some (Messages bus source)) b f ≡ true
     → IsBy bus source (Heard b f ∷ h) (pending_event (Some (Messages bus source)) b f h)
 by_frame bus b f source h is =
     let p = parts (b == bus) (is_message source f) is in
@@ -63,7 +63,7 @@ by_frame bus b f source h is =
     (record { later = []; frame = f; front = h; stands = refl; message = p.1; is = refl })
 
 -- by whether the frame activates the task
-heard_by : (bus b f t : ℕ) (source : Source) (h : List Event) (a : PendingEvent) (x : Bool)
+heard_by : (bus b f t : ℕ) (source : EventSource) (h : List Event) (a : PendingEvent) (x : Bool)
     → activates (Some (Messages bus source)) b f ≡ x
     → (Has (pending (Some (Messages bus source)) t h) a → IsBy bus source h a)
     → Has (if x then keep_last most_pending (pending (Some (Messages bus source)) t h
@@ -78,14 +78,14 @@ heard_by bus b f t source h a true is before has =
     subst (λ (c : PendingEvent). IsBy bus source (Heard b f ∷ h) c) new (by_frame bus b f source h is))
     (has_append _ _ a (has_drop _ _ a has))
 
-took_by : (bus w u t : ℕ) (source : Source) (h : List Event) (a : PendingEvent) (x : Bool)
+took_by : (bus w u t : ℕ) (source : EventSource) (h : List Event) (a : PendingEvent) (x : Bool)
     → (Has (pending (Some (Messages bus source)) t h) a → IsBy bus source h a)
     → Has (if x then drop 1 (pending (Some (Messages bus source)) t h) else pending (Some
     (Messages bus source)) t h) a → IsBy bus source h a
 took_by bus w u t source h a true before has = before (has_drop 1 _ a has)
 took_by bus w u t source h a false before has = before has
 
-all_by : (bus t : ℕ) (source : Source) (h : List Event) (a : PendingEvent)
+all_by : (bus t : ℕ) (source : EventSource) (h : List Event) (a : PendingEvent)
     → Has (pending (Some (Messages bus source)) t h) a → IsBy bus source h a
 all_by bus t source [] a (n, is) = absurd (cc)
 all_by bus t source (Tick m ∷ h) a has = later_by bus source (Tick m) h a (all_by bus t source h a has)
@@ -100,10 +100,11 @@ all_by bus t source (Down b ∷ h) a has = later_by bus source (Down b) h a (all
 
 -- ---- the values just after a message
 
-speaker_is : (bus f : ℕ) (source : Source) → is_message source f ≡ true → speaker bus bus f (Some source) ≡ Some source
+speaker_is : (bus f : ℕ) (source : EventSource) → is_message source f ≡ true
+    → speaker bus bus f (Some source) ≡ Some source
 speaker_is bus f source is = let same : eqb bus bus ≡ true = eq-eqb bus bus refl in rw same (rw is refl)
 
-pub information_after : (p : Plant) (g bus number f : ℕ) (source : Source) (h : List Event)
+pub information_after : (p : Plant) (g bus number f : ℕ) (source : EventSource) (h : List Event)
     → location p g ≡ Some (Information bus number)
     → source_at p bus number ≡ Some source → is_message source f ≡ true
     → value p (Global g) (Heard bus f ∷ h) ≡ Some (whole (information source f))
@@ -112,7 +113,7 @@ information_after p g bus number f source h there bound is =
     ∙ (ap (λ s. newest (information_by f (speaker bus bus f s)) (value p (Global g) h)) bound
     ∙ ap (λ s. newest (information_by f s) (value p (Global g) h)) (speaker_is bus f source is))
 
-pub count_after : (p : Plant) (g bus number f : ℕ) (source : Source) (h : List Event)
+pub count_after : (p : Plant) (g bus number f : ℕ) (source : EventSource) (h : List Event)
     → location p g ≡ Some (Count bus number)
     → source_at p bus number ≡ Some source → is_message source f ≡ true
     → value p (Global g) (Heard bus f ∷ h) ≡ Some (whole (message_count bus source (Heard bus f ∷ h)))
@@ -123,25 +124,25 @@ count_after p g bus number f source h there bound is =
 
 -- ---- the activator of a task
 
-located_by : (p : Plant) (bus number : ℕ) (source : Source) (act : activations.Activation)
+located_by : (p : Plant) (bus number : ℕ) (source : EventSource) (act : activations.Activation)
     → source_at p bus number ≡ Some source
     → trigger_by p act ≡ Some (Trigger bus number) → activator_by p act ≡ Some (Messages bus source)
 located_by p bus number source (Cyclic interval) bound is = absurd (cc)
 located_by p bus number source (OnEvent trigger) bound is =
     ap (option_and_then (messages_at p)) is ∙ ap (option_map (λ s. Messages bus s)) bound
 
-planned_by : (p : Plant) (bus number : ℕ) (source : Source) (task : Option PlannedTask)
+planned_by : (p : Plant) (bus number : ℕ) (source : EventSource) (task : Option PlannedTask)
     → source_at p bus number ≡ Some source
     → option_and_then (λ (t : PlannedTask). trigger_by p t.activation) task ≡ Some (Trigger bus number)
     → option_and_then (λ (t : PlannedTask). activator_by p t.activation) task ≡ Some (Messages bus source)
 planned_by p bus number source None bound is = absurd (cc)
 planned_by p bus number source (Some task) bound is = located_by p bus number source task.activation bound is
 
-pub activated_by : (p : Plant) (t bus number : ℕ) (source : Source) → trigger_of p t ≡ Some (Trigger bus number)
+pub activated_by : (p : Plant) (t bus number : ℕ) (source : EventSource) → trigger_of p t ≡ Some (Trigger bus number)
     → source_at p bus number ≡ Some source → activator p t ≡ Some (Messages bus source)
 activated_by p t bus number source is bound = planned_by p bus number source (task_at p t) bound is
 
-pub all_pending_events : (p : Plant) (t bus number : ℕ) (source : Source) (h : List Event) (a : PendingEvent)
+pub all_pending_events : (p : Plant) (t bus number : ℕ) (source : EventSource) (h : List Event) (a : PendingEvent)
     → trigger_of p t ≡ Some (Trigger bus number) → source_at p bus number ≡ Some source
     → Has (pending (activator p t) t h) a → IsPendingEvent p bus number source h a
 all_pending_events p t bus number source h a is bound has =

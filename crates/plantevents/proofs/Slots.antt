@@ -7,8 +7,8 @@ use Rattle.std.specs.List.{AllByRecursion, cons_option}
 use Rattle.iltypes.specs.declared.value.Value.{Value}
 use Rattle.ilsource.specs.declared.name.Name.{Name}
 use Rattle.ilplan.specs.declared.slot.Slot.{Slot}
-use Rattle.ilplan.specs.declared.slot.Variable as slots
-use Rattle.ilplan.specs.declared.slot.Variable.TheVariants as slot
+use Rattle.ilplan.specs.declared.slot.SlotOwner as slots
+use Rattle.ilplan.specs.declared.slot.SlotOwner.TheVariants as slot
 use Rattle.ilplan.specs.Plans.{PlannedTask, stores, Precedes, AreOrdered}
 use Rattle.ilverify.specs.Verdicts.{Accepted}
 use Rattle.ilimage.specs.declared.external.External.{External}
@@ -20,7 +20,7 @@ use Rattle.plantevents.specs.Slots.{own_number, IsSlotOf}
 
 -- ---- global variables come first
 
-abbrev variables : List Slot → List slots.Variable
+abbrev variables : List Slot → List slots.SlotOwner
 variables slots = map (λ s. s.variable) slots
 
 abbrev owns : List Slot → List Value
@@ -29,13 +29,13 @@ owns slots = filter_map (λ s. own_by s.variable s.initial) slots
 abbrev external_of : PlannedTask → ℕ → ℕ → External
 external_of task n global = record { global = global; stored = stores task n }
 
-all_at : (P : slots.Variable → Type 0) (more : List Slot) (i : ℕ) (s : Slot) → AllByRecursion P (variables more)
+all_at : (P : slots.SlotOwner → Type 0) (more : List Slot) (i : ℕ) (s : Slot) → AllByRecursion P (variables more)
     → slice_get more i ≡ Some s → P s.variable
 all_at P [] i s all is = absurd (cc)
 all_at P (x ∷ more) zero s all is = let e : x ≡ s = cc in subst (λ (y : Slot). P y.variable) e all.0
 all_at P (x ∷ more) (suc i) s all is = all_at P more i s all.1 is
 
-no_external : (task : PlannedTask) (n : ℕ) (instance name : Name) (v : slots.Variable)
+no_external : (task : PlannedTask) (n : ℕ) (instance name : Name) (v : slots.SlotOwner)
     → Precedes (slot.Own instance name) v
     → external_in task n v ≡ None
 no_external task n instance name (slot.Global global) own = absurd own
@@ -59,7 +59,7 @@ first_own : (task : PlannedTask) (n : ℕ) (x : Slot) (more : List Slot) (instan
     → AreOrdered (variables (x ∷ more)) → x.variable ≡ slot.Own instance name
     → (externals_from task n (x ∷ more) ≡ []) × (externals_from task (n + 1) more ≡ [])
 first_own task n x more instance name ordered is =
-    let behind = subst (λ (v : slots.Variable). AllByRecursion (Precedes v) (variables more)) is ordered.0 in
+    let behind = subst (λ (v : slots.SlotOwner). AllByRecursion (Precedes v) (variables more)) is ordered.0 in
     let none = none_global task (n + 1) instance name more behind in (
       ap (λ v. option_to_list (external_in task n v) ++ externals_from task (n + 1) more) is ∙ none,
       none,
@@ -78,14 +78,14 @@ no_global_behind : (x s : Slot) (more : List Slot) (i global : ℕ) (instance na
     → AreOrdered (variables (x ∷ more))
     → slice_get more i ≡ Some s → s.variable ≡ slot.Global global → x.variable ≡ slot.Own instance name → ⊥
 no_global_behind x s more i global instance name ordered is of own =
-    let behind = subst (λ (v : slots.Variable). AllByRecursion (Precedes v) (variables more)) own ordered.0 in
+    let behind = subst (λ (v : slots.SlotOwner). AllByRecursion (Precedes v) (variables more)) own ordered.0 in
     let here = all_at (Precedes (slot.Own instance name)) more i s behind is in
-    subst (λ (v : slots.Variable). Precedes (slot.Own instance name) v) of here
+    subst (λ (v : slots.SlotOwner). Precedes (slot.Own instance name) v) of here
 
 global_behind : (task : PlannedTask) (n : ℕ) (x : Slot) (more : List Slot) (i : ℕ) (s : Slot) (global : ℕ)
     → AreOrdered (variables (x ∷ more)) → slice_get more i ≡ Some s → s.variable ≡ slot.Global global
     → slice_get (externals_from task (n + 1) more) i ≡ Some (external_of task (n + 1 + i) global)
-    → (v : slots.Variable) → x.variable ≡ v
+    → (v : slots.SlotOwner) → x.variable ≡ v
     → slice_get (externals_from task n (x ∷ more)) (suc i) ≡ Some (external_of task (n + suc i) global)
 global_behind task n x more i s global ordered is of deeper (slot.Global first) here =
     let same : n + 1 + i ≡ n + suc i = omega arith in
@@ -129,7 +129,7 @@ own_here task n x more instance name ordered is =
 
 own_behind : (task : PlannedTask) (n : ℕ) (x : Slot) (more : List Slot) (i : ℕ) (initial : Value)
     → AreOrdered (variables (x ∷ more))
-    → IsOwnAt task (n + 1) more i initial → (v : slots.Variable) → x.variable ≡ v
+    → IsOwnAt task (n + 1) more i initial → (v : slots.SlotOwner) → x.variable ≡ v
     → IsOwnAt task n (x ∷ more) (suc i) initial
 own_behind task n x more i initial ordered deeper (slot.Global global) is =
     let len = ap length (first_global task n x more global is) in
@@ -192,7 +192,7 @@ layout_at p t task code is of =
     slice_get-map (λ k. k.layout) (first_tasks p.plan.tasks p.codes) t
     ∙ ap (option_map (λ k. k.layout)) (first_at p.plan.tasks p.codes t task code is of)
 
-pub slot_of : (p : Plant) (t : ℕ) (task : PlannedTask) (code : Accepted) (number : ℕ) (s : Slot) (v : slots.Variable)
+pub slot_of : (p : Plant) (t : ℕ) (task : PlannedTask) (code : Accepted) (number : ℕ) (s : Slot) (v : slots.SlotOwner)
     → task_at p t ≡ Some task → slice_get p.codes t ≡ Some code → AreOrdered (variables task.slots)
     → slice_get task.slots number ≡ Some s → s.variable ≡ v → IsSlotOf p t task number s.initial v
 slot_of p t task code number s (slot.Global global) is of ordered there variable =

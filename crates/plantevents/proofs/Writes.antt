@@ -1,7 +1,7 @@
 -- The value of a variable is that of the last write to it.
 use Rattle.std.proofs.Common.{◌≡◌, ◌⊎◌, ⊎_elim, inl, inr, List, [], ◌∷◌, ◌++◌, Option, Some, None, refl, ap, ◌∙◌, subst}
 use Rattle.iltypes.specs.declared.value.Value.{Value}
-use Rattle.ilimage.specs.Images.{Variable}
+use Rattle.ilimage.specs.Images.{ImageVariable}
 use Rattle.plantevents.specs.declared.event.Event.{Event}
 use Rattle.plantevents.specs.Plants.{Plant}
 use Rattle.plantevents.specs.Variables.{newest, write_of, value}
@@ -19,7 +19,7 @@ no_front : (later front : List Event) (e : Event) → [] ≡ later ++ e ∷ fron
 no_front [] front e is = absurd (cc)
 no_front (x ∷ later) front e is = absurd (cc)
 
-writes_now : (p : Plant) (v : Variable) (e : Event) (h : List Event) (x : Value) → write_of p v e h ≡ Some x
+writes_now : (p : Plant) (v : ImageVariable) (e : Event) (h : List Event) (x : Value) → write_of p v e h ≡ Some x
     → HasLast p v (e ∷ h)
 writes_now p v e h x now =
     record {
@@ -35,7 +35,7 @@ writes_now p v e h x now =
       is = ap (λ o. newest o (value p v h)) now;
     }
 
-keeps_last : (p : Plant) (v : Variable) (e : Event) (h : List Event) → write_of p v e h ≡ None → HasLast p v h
+keeps_last : (p : Plant) (v : ImageVariable) (e : Event) (h : List Event) → write_of p v e h ≡ None → HasLast p v h
     → HasLast p v (e ∷ h)
 keeps_last p v e h none l =
     let w = l.write in
@@ -53,7 +53,7 @@ keeps_last p v e h none l =
       is = ap (λ o. newest o (value p v h)) none ∙ l.is;
     }
 
-keeps_first : (p : Plant) (v : Variable) (e : Event) (h : List Event) → write_of p v e h ≡ None → HasFirst p v h
+keeps_first : (p : Plant) (v : ImageVariable) (e : Event) (h : List Event) → write_of p v e h ≡ None → HasFirst p v h
     → HasFirst p v (e ∷ h)
 keeps_first p v e h none f =
     record {
@@ -61,13 +61,13 @@ keeps_first p v e h none f =
       is = ap (λ o. newest o (value p v h)) none ∙ f.is;
     }
 
-by_cases : (p : Plant) (v : Variable) (e : Event) (h : List Event) (o : Option Value) → write_of p v e h ≡ o
+by_cases : (p : Plant) (v : ImageVariable) (e : Event) (h : List Event) (o : Option Value) → write_of p v e h ≡ o
     → HasLast p v h ⊎ HasFirst p v h → HasLast p v (e ∷ h) ⊎ HasFirst p v (e ∷ h)
 by_cases p v e h (Some x) now before = inl (writes_now p v e h x now)
 by_cases p v e h None none before =
     ⊎_elim (λ (l : HasLast p v h). inl (keeps_last p v e h none l)) (λ (f : HasFirst p v h).
     inr (keeps_first p v e h none f)) before
 
-pub last_write : (p : Plant) (v : Variable) (h : List Event) → HasLast p v h ⊎ HasFirst p v h
+pub last_write : (p : Plant) (v : ImageVariable) (h : List Event) → HasLast p v h ⊎ HasFirst p v h
 last_write p v [] = inr (record { never = λ later front e is. absurd (no_front later front e is); is = refl })
 last_write p v (e ∷ h) = by_cases p v e h (write_of p v e h) refl (last_write p v h)

@@ -7,9 +7,9 @@ use Rattle.std.proofs.lemmas.Option.{slice_get_past}
 use Rattle.std.specs.Prelude.{if◌then◌else◌, ◌==◌, slice_get}
 use Rattle.iltypes.specs.declared.value.Value.{Value}
 use Rattle.ilimage.specs.declared.external.External.{External}
-use Rattle.ilimage.specs.Images.{Layout, TaskLayout, Variable, Global, Own, written_at, written_in}
+use Rattle.ilimage.specs.Images.{Layout, TaskLayout, ImageVariable, Global, Own, written_at, written_in}
 use Rattle.plantevents.specs.Variables.{stored_value}
-use Rattle.plantevents.specs.Writes.{IsWrittenFrom, IsKept}
+use Rattle.plantevents.specs.Writes.{IsWrittenFrom, IsNotWritten}
 
 -- the slot of a global variable that the task stores, and its value
 record IsStoredAt (g : ℕ) (externals : List External) (slots : List Value) : Type 0 where
@@ -95,7 +95,7 @@ stored_cases g (e ∷ more) (v ∷ others) le =
 -- ---- of a task's slots
 
 -- which variable a slot of a task is written to
-abbrev from_slot : ℕ → TaskLayout → ℕ → Option Variable
+abbrev from_slot : ℕ → TaskLayout → ℕ → Option ImageVariable
 from_slot t task slot = written_at t (slot - length task.externals) (slice_get task.externals slot)
 
 written_is : (layout : Layout) (t : ℕ) (task : TaskLayout) (slot : ℕ) → slice_get layout.tasks t ≡ Some task
@@ -135,9 +135,9 @@ other_own t u n k (Some e) other is =
       | false ↦ λ same. absurd (cc)
     ] is
 
-pub what_is_written : (layout : Layout) (t : ℕ) (task : TaskLayout) (v : Variable) (slots : List Value)
+pub what_is_written : (layout : Layout) (t : ℕ) (task : TaskLayout) (v : ImageVariable) (slots : List Value)
     → slice_get layout.tasks t ≡ Some task
-    → length task.externals ≤ length slots → IsWrittenFrom layout t task v slots ⊎ IsKept layout t task v slots
+    → length task.externals ≤ length slots → IsWrittenFrom layout t task v slots ⊎ IsNotWritten layout t task v slots
 what_is_written layout t task (Global g) slots is le =
     ⊎_elim
     (λ (s : IsStoredAt g task.externals slots). inl (record {

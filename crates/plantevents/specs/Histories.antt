@@ -2,7 +2,7 @@
 -- it is length h, and the fronts of e ∷ h are itself and the fronts of h.
 use Rattle.std.specs.Prelude.{ℕ, ◌+◌, ◌%◌, ◌^◌, ◌==◌, ◌&&◌, Bool, true, false, List, [], ◌∷◌, ◌++◌, length}
 use Rattle.std.specs.Prelude.{Option, Some, None, if◌then◌else◌}
-use Rattle.dalievent.specs.declared.messages.Source.{Source}
+use Rattle.dalievent.specs.declared.messages.EventSource.{EventSource}
 use Rattle.gearcmd.specs.FrameLists.{FrameList}
 use Rattle.transact.specs.declared.marks.Sent.{Sent}
 use Rattle.ilimage.specs.Snapshots.{ScanStart}
@@ -18,14 +18,14 @@ moment (Tick m ∷ h) = m
 moment (e ∷ h) = moment h
 
 -- how many messages of a source were heard on a bus
-abbrev pub messages : ℕ → Source → List Event → ℕ
+abbrev pub messages : ℕ → EventSource → List Event → ℕ
 messages bus source [] = 0
 messages bus source (Heard b f ∷ h) =
     if b == bus && is_message source f then messages bus source h + 1 else messages bus source h
 messages bus source (e ∷ h) = messages bus source h
 
 -- the count of a source, which has 16 bits
-abbrev pub message_count : ℕ → Source → List Event → ℕ
+abbrev pub message_count : ℕ → EventSource → List Event → ℕ
 message_count bus source h = messages bus source h % 2 ^ 16
 
 -- ---- scans

@@ -1,6 +1,6 @@
 -- What is pending, owed, or in a part, asked of a whole history: each member of these lists by itself.
 use Rattle.std.specs.Prelude.{◌≡◌, ◌≢◌, ◌⊎◌, ℕ, ◌<◌, ◌≤◌, true, List, [], ◌∷◌, ◌++◌, length, slice_get, Some}
-use Rattle.dalievent.specs.declared.messages.Source.{Source}
+use Rattle.dalievent.specs.declared.messages.EventSource.{EventSource}
 use Rattle.gearcmd.specs.declared.requests.Request.{Request}
 use Rattle.ilplan.specs.declared.global.Location.TheVariants.{Information, Count}
 use Rattle.ilimage.specs.Images.{Global}
@@ -21,7 +21,7 @@ Has items x = (place : ℕ) × (slice_get items place ≡ Some x)
 
 -- the pending event is a message of this source, heard on its bus, that stands in the history at its place; and it has
 -- the information and the count of the source as they are just after that event
-pub record IsPendingEvent (p : Plant) (bus number : ℕ) (source : Source) (h : List Event)
+pub record IsPendingEvent (p : Plant) (bus number : ℕ) (source : EventSource) (h : List Event)
     (a : PendingEvent) : Type 0 where
   pub later : List Event
   pub frame : ℕ

@@ -3,7 +3,7 @@ use Rattle.std.specs.Prelude.{ℕ, ◌+◌, ◌==◌, ◌&&◌, Bool, false, Lis
 use Rattle.std.specs.Prelude.{Option, None, Some, option_map, option_and_then, option_to_list, if◌then◌else◌}
 use Rattle.std.specs.List.{list_any}
 use Rattle.iltypes.specs.declared.value.Value.{Value}
-use Rattle.dalievent.specs.declared.messages.Source.{Source}
+use Rattle.dalievent.specs.declared.messages.EventSource.{EventSource}
 use Rattle.gearcmd.specs.declared.requests.TaskKind as kinds
 use Rattle.gearcmd.specs.declared.requests.TaskKind.TheVariants as kind
 use Rattle.ilplan.specs.declared.activation.Activation as activations
@@ -11,8 +11,8 @@ use Rattle.ilplan.specs.declared.activation.Activation.TheVariants.{Cyclic, Even
 use Rattle.ilplan.specs.declared.global.Location.{Location}
 use Rattle.ilplan.specs.declared.global.Location.TheVariants.{Level, Trigger}
 use Rattle.ilplan.specs.declared.slot.Slot.{Slot}
-use Rattle.ilplan.specs.declared.slot.Variable as slots
-use Rattle.ilplan.specs.declared.slot.Variable.TheVariants as slot
+use Rattle.ilplan.specs.declared.slot.SlotOwner as slots
+use Rattle.ilplan.specs.declared.slot.SlotOwner.TheVariants as slot
 use Rattle.ilplan.specs.Plans.{Planned, PlannedTask, is_event, stores}
 use Rattle.ilverify.specs.Verdicts.{Accepted}
 use Rattle.ilimage.specs.declared.external.External.{External}
@@ -33,7 +33,7 @@ abbrev pub location : Plant → ℕ → Option Location
 location p global = option_and_then (λ g. g.location) (slice_get p.plan.globals global)
 
 -- the source of events that is bound at this place of a bus
-abbrev pub source_at : Plant → ℕ → ℕ → Option Source
+abbrev pub source_at : Plant → ℕ → ℕ → Option EventSource
 source_at p bus number =
     option_map (λ bound. bound.source) (find (λ bound. bound.bus == bus && bound.number == number) p.plan.sources)
 
@@ -82,7 +82,7 @@ kind_of p t = kind_by (task_at p t)
 -- ---- the process image before the first event
 
 -- the global variable in the slot of this number of a task, with whether a program of the task stores to it
-abbrev pub external_in : PlannedTask → ℕ → slots.Variable → Option External
+abbrev pub external_in : PlannedTask → ℕ → slots.SlotOwner → Option External
 external_in task number (slot.Global global) = Some (record { global = global; stored = stores task number })
 external_in task number (slot.Own instance name) = None
 
@@ -96,7 +96,7 @@ abbrev pub externals_of : PlannedTask → List External
 externals_of task = externals_from task 0 task.slots
 
 -- the initial value of a slot, where it is an own variable of the task
-abbrev pub own_by : slots.Variable → Value → Option Value
+abbrev pub own_by : slots.SlotOwner → Value → Option Value
 own_by (slot.Global global) initial = None
 own_by (slot.Own instance name) initial = Some initial
 

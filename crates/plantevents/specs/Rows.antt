@@ -9,7 +9,7 @@ use Rattle.iltypes.specs.declared.value.Value.TheVariants as values
 use Rattle.daliframe.specs.declared.schemes.EventScheme.TheVariants.{DeviceInstance}
 use Rattle.daliframe.specs.declared.forward.Frame.TheVariants.{Forward16}
 use Rattle.daliframe.specs.declared.addressing.Address.TheVariants.{Short}
-use Rattle.dalievent.specs.declared.messages.Source.{Source}
+use Rattle.dalievent.specs.declared.messages.EventSource.{EventSource}
 use Rattle.gearcmd.specs.declared.requests.Request.{Request}
 use Rattle.gearcmd.specs.declared.requests.Command.{Command}
 use Rattle.gearcmd.specs.declared.requests.Command.TheVariants.{GearLevel, GearRead}
@@ -29,7 +29,7 @@ use Rattle.ilplan.specs.declared.global.Location.TheVariants.{Level, GearAnswer,
 use Rattle.ilplan.specs.declared.place.Place.{Place}
 use Rattle.ilplan.specs.declared.place.Place.TheVariants.{Slot}
 use Rattle.ilplan.specs.declared.slot.Slot as slots
-use Rattle.ilplan.specs.declared.slot.Variable.TheVariants as variable
+use Rattle.ilplan.specs.declared.slot.SlotOwner.TheVariants as variable
 use Rattle.ilplan.specs.Plans.{PlannedTask, plan_of, task_of, types_of}
 use Rattle.ilcode.specs.Listings.{listing_of}
 use Rattle.ilverify.specs.Verdicts.{Accepted}
@@ -99,7 +99,7 @@ abbrev pub code : PlannedTask → Accepted
 code t = record { code = listing_of 1 [] (types_of t) [] [] [] []; bound = 0 }
 
 -- the button is instance 2 of the device with short address 5
-abbrev pub button : Source
+abbrev pub button : EventSource
 button = record { scheme = DeviceInstance; a = 5; b = 2 }
 
 abbrev pub house : Plant

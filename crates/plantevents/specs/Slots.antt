@@ -1,8 +1,8 @@
 -- How the slots of a plan's task stand in the process image.
 use Rattle.std.specs.Prelude.{◌≡◌, ℕ, ◌-◌, length, Some, None, if◌then◌else◌}
 use Rattle.iltypes.specs.declared.value.Value.{Value}
-use Rattle.ilplan.specs.declared.slot.Variable as slots
-use Rattle.ilplan.specs.declared.slot.Variable.TheVariants as slot
+use Rattle.ilplan.specs.declared.slot.SlotOwner as slots
+use Rattle.ilplan.specs.declared.slot.SlotOwner.TheVariants as slot
 use Rattle.ilplan.specs.Plans.{PlannedTask, stores}
 use Rattle.ilimage.specs.Images.{Global, Own, variable_in, written_in, value_of}
 use Rattle.plantevents.specs.Plants.{Plant, externals_of, opening, layout}
@@ -13,7 +13,7 @@ own_number task number = number - length (externals_of task)
 
 -- The slot of this number of task t is that of this variable. A global variable is written from it where a program of
 -- the task stores to it. An own variable is written from it, and has this value at first.
-abbrev pub IsSlotOf : Plant → ℕ → PlannedTask → ℕ → Value → slots.Variable → Type 0
+abbrev pub IsSlotOf : Plant → ℕ → PlannedTask → ℕ → Value → slots.SlotOwner → Type 0
 IsSlotOf p t task number initial (slot.Global global) =
     (variable_in (layout p) t number ≡ Some (Global global))
     × (written_in (layout p) t number ≡ (if stores task number then Some (Global global) else None))

@@ -3,7 +3,7 @@ use Rattle.std.specs.Prelude.{◌≡◌, ℕ, pos, ◌==◌, ◌&&◌, Bool, tru
 use Rattle.std.specs.Prelude.{Option, Some, None, option_map, option_and_then, if◌then◌else◌}
 use Rattle.iltypes.specs.declared.value.Value.{Value}
 use Rattle.iltypes.specs.declared.value.Value.TheVariants as values
-use Rattle.dalievent.specs.declared.messages.Source.{Source}
+use Rattle.dalievent.specs.declared.messages.EventSource.{EventSource}
 use Rattle.gearcmd.specs.declared.requests.Answerer.{Answerer}
 use Rattle.gearcmd.specs.declared.requests.Answerer.TheVariants.{Gear, Instance}
 use Rattle.gearcmd.specs.Requests.{answerer_of}
@@ -15,7 +15,7 @@ use Rattle.ilblocks.specs.Calls.{Block}
 use Rattle.ilplan.specs.declared.global.Location.{Location}
 use Rattle.ilplan.specs.declared.global.Location.TheVariants.{GearAnswer, DeviceAnswer, Information, Count, Trigger}
 use Rattle.ilimage.specs.declared.external.External.{External}
-use Rattle.ilimage.specs.Images.{TaskLayout, Variable, Global, Own, value_of, blocks_of, variable_in}
+use Rattle.ilimage.specs.Images.{TaskLayout, ImageVariable, Global, Own, value_of, blocks_of, variable_in}
 use Rattle.ilimage.specs.Snapshots.{ScanStart}
 use Rattle.plantevents.specs.declared.activator.PendingEvent.{PendingEvent}
 use Rattle.plantevents.specs.declared.event.Origin.{Origin}
@@ -31,22 +31,22 @@ abbrev pub whole : ℕ → Value
 whole number = values.Int (pos number)
 
 -- where a global variable is located; an own variable of a task is located nowhere
-abbrev pub location_of : Plant → Variable → Option Location
+abbrev pub location_of : Plant → ImageVariable → Option Location
 location_of p (Global number) = location p number
 location_of p (Own task number) = None
 
 -- ---- what events write
 
 -- the source, where the frame is a message of it that was heard on its bus
-abbrev pub speaker : ℕ → ℕ → ℕ → Option Source → Option Source
+abbrev pub speaker : ℕ → ℕ → ℕ → Option EventSource → Option EventSource
 speaker bus b f (Some source) = if b == bus && is_message source f then Some source else None
 speaker bus b f None = None
 
 -- a frame that was heard on bus b writes the information and the count of each source that it is a message of
-abbrev pub information_by : ℕ → Option Source → Option Value
+abbrev pub information_by : ℕ → Option EventSource → Option Value
 information_by f source = option_map (λ s. whole (information s f)) source
 
-abbrev pub count_by : ℕ → List Event → Option Source → Option Value
+abbrev pub count_by : ℕ → List Event → Option EventSource → Option Value
 count_by bus h source = option_map (λ s. whole (message_count bus s h)) source
 
 abbrev pub heard_write : Plant → ℕ → ℕ → List Event → Option Location → Option Value
@@ -91,18 +91,18 @@ stored_value global _ _ = None
 
 -- what a scan of task t, which left these values in its slots, writes to a variable: a global one that the task stores,
 -- or one of its own
-abbrev pub scan_write : ℕ → Variable → List Value → TaskLayout → Option Value
+abbrev pub scan_write : ℕ → ImageVariable → List Value → TaskLayout → Option Value
 scan_write t (Global number) slots task = stored_value number task.externals slots
 scan_write t (Own u number) slots task = if u == t then slice_get (drop (length task.externals) slots) number else None
 
 -- the result of the scan that a worker has open
-abbrev pub commit_write : Plant → Variable → List Value → Option OpenScan → Option Value
+abbrev pub commit_write : Plant → ImageVariable → List Value → Option OpenScan → Option Value
 commit_write p v slots None = None
 commit_write p v slots (Some running) =
     option_and_then (scan_write running.task v slots) (slice_get (layout p).tasks running.task)
 
 -- the value that an event writes to a variable, after this front
-abbrev pub write_of : Plant → Variable → Event → List Event → Option Value
+abbrev pub write_of : Plant → ImageVariable → Event → List Event → Option Value
 write_of p v (Heard b f) h = heard_write p b f h (location_of p v)
 write_of p v (Commit w n result) h = commit_write p v result.after.slots (scan w h)
 write_of p v (Done b n report) h = report_write b report.outcome (hand b h) (location_of p v)
@@ -115,7 +115,7 @@ newest (Some x) before = Some x
 newest None before = before
 
 -- the value of a variable: the last one that was written, else its initial value
-abbrev pub value : Plant → Variable → List Event → Option Value
+abbrev pub value : Plant → ImageVariable → List Event → Option Value
 value p v [] = value_of (opening p) v
 value p v (e ∷ h) = newest (write_of p v e h) (value p v h)
 
@@ -140,7 +140,7 @@ pending_value (Some (Trigger bus number)) (Some a) (Some place) = event_value bu
 pending_value _ _ _ = None
 
 -- the value of a variable as task t takes it: that of its first pending event, if it has one, else the variable's
-abbrev pub snapshot_value : Plant → ℕ → List Event → Variable → Option Value
+abbrev pub snapshot_value : Plant → ℕ → List Event → ImageVariable → Option Value
 snapshot_value p t h v =
     newest (pending_value (trigger_of p t) (slice_get (pending (activator p t) t h) 0) (location_of p v)) (value p v h)
 

@@ -1,6 +1,6 @@
 //! What activates tasks.
 
-use dalievent::Source;
+use dalievent::EventSource;
 
 /// What activates a task (IEC 61131-3, 2.7.2).
 #[derive(Clone, Copy, PartialEq, Eq)]
@@ -8,7 +8,7 @@ pub enum Activator {
     /// The clock, every so many milliseconds, 1 or more.
     Interval { milliseconds: u32 },
     /// The event messages of a source that are heard on a bus.
-    Messages { bus: u8, source: Source },
+    Messages { bus: u8, source: EventSource },
 }
 
 /// An event message that activated a task, which has not been taken for it yet.

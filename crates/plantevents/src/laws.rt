@@ -4,11 +4,11 @@ ghost use Rattle.std.specs.Prelude.{◌≡◌, ◌↔◌, ◌⊎◌, ℕ, ◌≤
 ghost use Rattle.std.specs.Prelude.{map, drop, length, slice_get, ◌+◌};
 ghost use Rattle.iltypes.specs.declared.value.Value.{Value};
 ghost use Rattle.dalievent.specs.declared.messages.EventMessage.{EventMessage};
-ghost use Rattle.dalievent.specs.declared.messages.Source.{Source};
+ghost use Rattle.dalievent.specs.declared.messages.EventSource.{EventSource};
 ghost use Rattle.dalievent.specs.EventSchemes.{Solves, IsFrom};
 ghost use Rattle.binding.specs.Wirings.{HasPartsInRange};
 ghost use Rattle.ilimage.specs.Snapshots.{ScanStart};
-ghost use Rattle.ilimage.specs.Images.{Layout, TaskLayout, Variable};
+ghost use Rattle.ilimage.specs.Images.{Layout, TaskLayout, ImageVariable};
 ghost use Rattle.ilverify.specs.Verdicts.{Accepted};
 ghost use Rattle.ilplan.specs.Plans.{PlannedTask, AreOrdered};
 ghost use Rattle.ilplan.specs.declared.slot.Slot.{Slot};
@@ -28,7 +28,7 @@ ghost use Rattle.plantevents.specs.Waiting.{OwedLevel, Handout, waiting, dropped
 ghost use Rattle.plantevents.specs.Waiting.{owed, handouts, classes};
 ghost use Rattle.plantevents.specs.Fronts.{IsSince, IsScanned};
 ghost use Rattle.plantevents.specs.Acceptances.{accepted_requests, handed_count, asked_count};
-ghost use Rattle.plantevents.specs.Writes.{IsWrittenFrom, IsKept, HasLast, HasFirst};
+ghost use Rattle.plantevents.specs.Writes.{IsWrittenFrom, IsNotWritten, HasLast, HasFirst};
 ghost use Rattle.plantevents.specs.Messages.{is_message, information};
 ghost use Rattle.plantevents.specs.Members.{Has, IsPendingEvent, IsOwed, IsFirstOwed};
 ghost use Rattle.plantevents.specs.Members.{HasNothing, IsNextHandout, IsInPart};
@@ -67,37 +67,37 @@ pub fn what_a_part_shows()
 /// What a scan writes to a variable is the value of the slot from which the process image says that
 /// it is written.
 pub fn what_a_scan_writes()
-    ensures { (layout : Layout) (t : ℕ) (task : TaskLayout) (v : Variable) (slots : List Value)
+    ensures { (layout : Layout) (t : ℕ) (task : TaskLayout) (v : ImageVariable) (slots : List Value)
         → slice_get layout.tasks t ≡ Some task → length task.externals ≤ length slots
-        → IsWrittenFrom layout t task v slots ⊎ IsKept layout t task v slots }
+        → IsWrittenFrom layout t task v slots ⊎ IsNotWritten layout t task v slots }
 {}
 
 /// The value of a variable is what was written to it last, or its initial value where nothing was.
 pub fn the_last_write_counts()
-    ensures { (p : Plant) (v : Variable) (h : List Event) → HasLast p v h ⊎ HasFirst p v h }
+    ensures { (p : Plant) (v : ImageVariable) (h : List Event) → HasLast p v h ⊎ HasFirst p v h }
 {}
 
 /// The frames of a source are those that solve the equation of its scheme with its parts, and their
 /// information is the equation's.
 pub fn messages_solve_their_equation()
-    ensures some { (s : Source) (f : ℕ) → HasPartsInRange s → is_message s f ≡ true
+    ensures some { (s : EventSource) (f : ℕ) → HasPartsInRange s → is_message s f ≡ true
         → (e : EventMessage) × Solves e f × IsFrom s e }
-    ensures all { (s : Source) (e : EventMessage) (f : ℕ)
+    ensures all { (s : EventSource) (e : EventMessage) (f : ℕ)
         → Solves e f → IsFrom s e → is_message s f ≡ true }
-    ensures information { (s : Source) (e : EventMessage) (f : ℕ)
+    ensures information { (s : EventSource) (e : EventMessage) (f : ℕ)
         → Solves e f → IsFrom s e → information s f ≡ e.info }
 {}
 
 /// A pending event of an event task is a message of its trigger's source, and has the information
 /// and the count as they are just after it.
 pub fn what_is_pending()
-    ensures each { (p : Plant) (t bus number : ℕ) (source : Source) (h : List Event)
+    ensures each { (p : Plant) (t bus number : ℕ) (source : EventSource) (h : List Event)
         (a : PendingEvent)
         → trigger_of p t ≡ Some (Trigger bus number) → source_at p bus number ≡ Some source
         → Has (pending (activator p t) t h) a → IsPendingEvent p bus number source h a }
 
     // They are all that arrived, in order, without as many first ones as were given up or taken.
-    ensures order { (p : Plant) (bus : ℕ) (source : Source) (t : ℕ) (h : List Event)
+    ensures order { (p : Plant) (bus : ℕ) (source : EventSource) (t : ℕ) (h : List Event)
         → activator p t ≡ Some (Messages bus source) → AreLegal p h
         → pending (Some (Messages bus source)) t h
         ≡ drop (lost (Some (Messages bus source)) t h + scans t h)

@@ -1,5 +1,24 @@
 -- What happens on one line leads a whole installation from rest to rest; and so do scans and ticks.
-use Rattle.std.proofs.Common.{◌≡◌, ◌≢◌, ◌⊎◌, inl, inr, ⊎_elim, ℕ, zero, suc, eqb, ◌<◌, Bool, true, false, not, List, [], ◌∷◌}
+use Rattle.std.proofs.Common.{
+  ◌≡◌,
+  ◌≢◌,
+  ◌⊎◌,
+  inl,
+  inr,
+  ⊎_elim,
+  ℕ,
+  zero,
+  suc,
+  eqb,
+  ◌<◌,
+  Bool,
+  true,
+  false,
+  not,
+  List,
+  [],
+  ◌∷◌,
+}
 use Rattle.std.proofs.Common.{length, length-set, Some, None, true≢false, refl, sym, ap, ◌∙◌, subst, arith}
 use Rattle.std.proofs.lemmas.Bool.{lt-ltb}
 use Rattle.std.proofs.lemmas.Bool.Decides.{eqb_tells}
@@ -13,7 +32,7 @@ use Rattle.plantevents.specs.declared.event.Event.TheVariants.{Tick, Take, Commi
 use Rattle.plantevents.specs.Plants.{Plant}
 use Rattle.plantevents.specs.Histories.{scan, hand, is_down}
 use Rattle.plantevents.specs.Waiting.{handouts}
-use Rattle.plant.specs.declared.refusal.Refusal.TheVariants.{NothingReady, Stranger, Busy, BusDown, Full}
+use Rattle.plant.specs.declared.refusal.CallRefusal.TheVariants.{NothingReady, Stranger, Busy, BusDown, Full}
 use Rattle.plant.specs.Matches.{IsOpenScan}
 use Rattle.plant.specs.Shown.{Shown, grown, is_full}
 use Rattle.plant.specs.Refusals.{none_free, has_no_worker, has_no_bus, take_cases, hand_cases}

@@ -1,12 +1,31 @@
 -- What the turns of playing do, as private functions say it.
-use Rattle.std.specs.Prelude.{◌≡◌, ◌≢◌, ◌⊎◌, ℕ, ◌+◌, ◌<◌, ◌≤◌, Bool, true, false, List, ◌∷◌, [], ◌++◌, length, map, slice_get, Option}
+use Rattle.std.specs.Prelude.{
+  ◌≡◌,
+  ◌≢◌,
+  ◌⊎◌,
+  ℕ,
+  ◌+◌,
+  ◌<◌,
+  ◌≤◌,
+  Bool,
+  true,
+  false,
+  List,
+  ◌∷◌,
+  [],
+  ◌++◌,
+  length,
+  map,
+  slice_get,
+  Option,
+}
 use Rattle.std.specs.Prelude.{Some}
 use Rattle.std.specs.Prelude.{Result, Ok, Err, ⊤}
 use Rattle.buslink.specs.declared.faults.Fault.{Fault}
 use Rattle.plantevents.specs.declared.event.Event.{Event}
 use Rattle.plantevents.specs.Histories.{scan, hand, is_down, sent_in, heard_in}
-use Rattle.plant.specs.declared.refusal.Refusal.{Refusal}
-use Rattle.plant.specs.declared.refusal.Refusal.TheVariants.{Full}
+use Rattle.plant.specs.declared.refusal.CallRefusal.{CallRefusal}
+use Rattle.plant.specs.declared.refusal.CallRefusal.TheVariants.{Full}
 use Rattle.plant.specs.Shown.{Shown}
 use Rattle.plant.specs.Refusals.{Case, first_refusal, hand_cases}
 use Rattle.scenario.specs.declared.happenings.Happening.{Happening}
@@ -45,7 +64,7 @@ heard_after _ heard = heard
 
 -- the call is refused, and not for want of a place in the history
 abbrev pub HasNothing : List Case → Type 0
-HasNothing cases = (refusal : Refusal) × (first_refusal cases ≡ Some refusal) × (refusal ≢ Full)
+HasNothing cases = (refusal : CallRefusal) × (first_refusal cases ≡ Some refusal) × (refusal ≢ Full)
 
 -- whether a turn did anything: then there are more events, and else this is why
 abbrev pub Tells : Type 0 → Shown → Shown → Result Bool Halt → Type 0

@@ -8,7 +8,7 @@ use crate::connection::Connection;
 use crate::halt::Halt;
 use buslink::{Bus, Fault};
 use daliframe::Frame24;
-use plant::{Plant, Refusal};
+use plant::{CallRefusal, Plant};
 use std::alloc::AllocError;
 use std::io::Write;
 
@@ -36,7 +36,7 @@ impl<B: Bus> Connection<B> {
     {
         match plant.may_hear(self.bus) {
             Ok(()) => {}
-            Err(Refusal::Full) => return Err(Halt::Limit),
+            Err(CallRefusal::Full) => return Err(Halt::Limit),
             Err(_) => return Ok(false),
         }
         match self.hear()? {

@@ -9,7 +9,7 @@ use crate::Installation;
 use crate::halt::Halt;
 use buslink::Bus;
 use ilmachine::scan_into;
-use plant::{Refusal, TakeError};
+use plant::{CallRefusal, TakeError};
 use std::alloc::Global;
 use std::io;
 use std::io::Write;
@@ -50,7 +50,7 @@ impl<B: Bus> Installation<B> {
         let order = match self.plant.take(alloc, WORKER) {
             Ok(order) => order,
             Err(TakeError::Memory) => return Err(Halt::Memory),
-            Err(TakeError::Refused(Refusal::Full)) => return Err(Halt::Limit),
+            Err(TakeError::Refused(CallRefusal::Full)) => return Err(Halt::Limit),
             Err(TakeError::Refused(_)) => return Ok(false),
         };
         let task = order.task;

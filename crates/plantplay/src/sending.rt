@@ -8,7 +8,7 @@ use crate::connection::Connection;
 use crate::halt::Halt;
 use crate::lines::{OutcomeLine, TransactionLine};
 use buslink::Bus;
-use plant::{Plant, Refusal};
+use plant::{CallRefusal, Plant};
 use plantdrive::{SendError, send_next};
 use std::io::Write;
 use transact::{Outcome, Report};
@@ -51,7 +51,7 @@ impl<B: Bus> Connection<B> {
                 Ok(true)
             }
             Err(SendError::Memory) => Err(Halt::Memory),
-            Err(SendError::Refused(Refusal::Full)) => Err(Halt::Limit),
+            Err(SendError::Refused(CallRefusal::Full)) => Err(Halt::Limit),
             Err(SendError::Refused(_)) => Ok(false),
         }
     }

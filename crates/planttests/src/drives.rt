@@ -4,7 +4,7 @@
 
 use binding::Binding;
 use daliframe::Frame24;
-use plant::Refusal;
+use plant::CallRefusal;
 use plantdrive::{Driven, Step, StepReply, drive_text};
 use std::alloc::{AllocError, Global};
 use std::test::Fail;
@@ -64,13 +64,13 @@ enum Answer {
     Noted,
     Taken(usize),
     Handed,
-    Refused(Refusal),
+    Refused(CallRefusal),
     Memory,
 }
 
 use Answer::{Handed, Noted, Refused, Taken};
 use Call::{Commit, Done, Down, Hand, Push, Take, Tick, Turn};
-use Refusal::{BusDown, Busy, ClockBack, Full, NothingReady, Stranger};
+use CallRefusal::{BusDown, Busy, ClockBack, Full, NothingReady, Stranger};
 
 /// A text that is driven: how many workers and places there are, and each step so many times, with
 /// its answer.

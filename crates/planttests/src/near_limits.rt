@@ -5,7 +5,7 @@ use binding::Binding;
 use daliframe::Frame24;
 use ilsetup::Setup;
 use memo::Memo;
-use plant::{Plant, Refusal};
+use plant::{CallRefusal, Plant};
 use plantevents::Event;
 use plantload::{LoadFault, load};
 use plantplay::{open, play};
@@ -97,10 +97,10 @@ fn frames(plant: &mut Plant, frame: Frame24) -> u64 {
 fn keeps_a_frame(plant: &mut Plant, frame: Frame24) -> bool {
     plant.may_hear(0).is_ok()
         && ticks(plant) == 97
-        && plant.may_tick() == Err(Refusal::Full)
+        && plant.may_tick() == Err(CallRefusal::Full)
         && plant.may_hear(0).is_ok()
         && frames(plant, frame) == 1
-        && plant.may_hear(0) == Err(Refusal::Full)
+        && plant.may_hear(0) == Err(CallRefusal::Full)
         && plant.down(0).is_ok()
         && plant.len() == 99
 }
@@ -109,10 +109,10 @@ fn keeps_a_frame(plant: &mut Plant, frame: Frame24) -> bool {
 fn keeps_a_tick(plant: &mut Plant, frame: Frame24) -> bool {
     plant.may_tick().is_ok()
         && frames(plant, frame) == 97
-        && plant.may_hear(0) == Err(Refusal::Full)
+        && plant.may_hear(0) == Err(CallRefusal::Full)
         && plant.may_tick().is_ok()
         && ticks(plant) == 1
-        && plant.may_tick() == Err(Refusal::Full)
+        && plant.may_tick() == Err(CallRefusal::Full)
         && plant.len() == 98
 }
 

@@ -25,7 +25,14 @@ use Rattle.simbus.specs.Histories.{gear_variables, variables_at, instance_variab
 use Rattle.simbus.specs.Histories.{IsReachedBy, IsMissedBy}
 use Rattle.simbus.specs.Instances.{dtr0_after_fields}
 use Rattle.simbus.specs.Kept.{live_gear, live_instance, gear_after_fields, live_instance_after_fields, live_answer}
-use Rattle.simbus.specs.Kept.{live_instance_answer, is_begun, setup_of, IsKept, IsAfterGearFields, IsAfterDeviceFields}
+use Rattle.simbus.specs.Kept.{
+  live_instance_answer,
+  is_begun,
+  setup_of,
+  IsEquipmentOf,
+  IsAfterGearFields,
+  IsAfterDeviceFields,
+}
 use Rattle.simbus.proofs.Fields.{fields_of-is, device_fields_of-is}
 use Rattle.simbus.proofs.Steps.{map_through, map_same, filter_map_through, filter_map_none}
 
@@ -87,7 +94,8 @@ pub taken16 : (setup : Setup) (h : List Sent) (s : Sent) (n : ℕ) (fields : Fie
     (begun : Option Frame) (old new : Equipment) →
     IsReachedBy (Forward16 n) s → HasFields16 fields n → paired ≡ is_begun old.begun (Forward16 n) → begun
     ≡ cond paired None (Some (Forward16 n)) →
-    IsAfterGearFields paired fields (record old { begun = begun }) new → IsKept setup h old → IsKept setup (s ∷ h) new
+    IsAfterGearFields paired fields (record old { begun = begun }) new → IsEquipmentOf setup h old
+    → IsEquipmentOf setup (s ∷ h) new
 taken16 setup h s n fields paired begun old new reached said p b after kept =
     let pairs : paired ≡ is_pair (Forward16 n) h = p ∙ kept.begun (Forward16 n) in
     let says : fields ≡ fields_of n = fields_of-is fields n said in
@@ -110,7 +118,8 @@ pub taken24 : (setup : Setup) (h : List Sent) (s : Sent) (n : ℕ) (fields : Fie
     (begun : Option Frame) (old new : Equipment) →
     IsReachedBy (Forward24 n) s → HasFields24 fields n → paired ≡ is_begun old.begun (Forward24 n) → begun
     ≡ cond paired None (Some (Forward24 n)) →
-    IsAfterDeviceFields paired fields (record old { begun = begun }) new → IsKept setup h old → IsKept setup (s ∷ h) new
+    IsAfterDeviceFields paired fields (record old { begun = begun }) new → IsEquipmentOf setup h old
+    → IsEquipmentOf setup (s ∷ h) new
 taken24 setup h s n fields paired begun old new reached said p b after kept =
     let pairs : paired ≡ is_pair (Forward24 n) h = p ∙ kept.begun (Forward24 n) in
     let says : fields ≡ device_fields_of n = device_fields_of-is fields n said in
@@ -128,8 +137,8 @@ taken24 setup h s n fields paired begun old new reached said p b after kept =
     }
 
 -- a frame reached nobody
-pub missed : (setup : Setup) (h : List Sent) (s : Sent) (old : Equipment) → IsMissedBy s → IsKept setup h old
-    → IsKept setup (s ∷ h) (record old { begun = None })
+pub missed : (setup : Setup) (h : List Sent) (s : Sent) (old : Equipment) → IsMissedBy s → IsEquipmentOf setup h old
+    → IsEquipmentOf setup (s ∷ h) (record old { begun = None })
 missed setup h s old m kept = record {
   gears = kept.gears ∙ map_same (live_gear h) (live_gear (s ∷ h)) setup.gears (λ g. rw m refl);
   memory = kept.memory;
@@ -139,7 +148,7 @@ missed setup h s old m kept = record {
 }
 
 pub replied16 : (setup : Setup) (h : List Sent) (n : ℕ) (fields : Fields16) (e : Equipment) → HasFields16 fields n
-    → IsKept setup h e →
+    → IsEquipmentOf setup h e →
     reply_of (filter_map (live_answer e.memory.items fields) e.gears.items) ≡ answer_of setup h (Forward16 n)
 replied16 setup h n fields e said kept =
     let says : fields ≡ fields_of n = fields_of-is fields n said in
@@ -153,7 +162,7 @@ replied16 setup h n fields e said kept =
     ) refl
 
 pub replied24 : (setup : Setup) (h : List Sent) (n : ℕ) (fields : Fields24) (e : Equipment) → HasFields24 fields n
-    → IsKept setup h e →
+    → IsEquipmentOf setup h e →
     reply_of (filter_map (live_instance_answer fields) e.instances.items) ≡ answer_of setup h (Forward24 n)
 replied24 setup h n fields e said kept =
     let says : fields ≡ device_fields_of n = device_fields_of-is fields n said in
@@ -164,7 +173,7 @@ replied24 setup h n fields e said kept =
       filter_map_none {Y = ℕ} setup.gears,
     ) refl
 
-pub setup_kept : (setup : Setup) (h : List Sent) (e : Equipment) → IsKept setup h e → setup_of e ≡ setup
+pub setup_kept : (setup : Setup) (h : List Sent) (e : Equipment) → IsEquipmentOf setup h e → setup_of e ≡ setup
 setup_kept setup h e k =
     let gears : map (λ (live : LiveGear). live.gear) e.gears.items ≡ setup.gears =
     rw k.gears (map_through (λ (live : LiveGear). live.gear) (live_gear h) (λ (g : Gear). g) setup.gears
@@ -188,15 +197,15 @@ setup_kept setup h e k =
     ∙ ap (λ (x : List InputInstance). record { gears = setup.gears; memory = setup.memory; instances = x }) instances)
 
 -- one frame more keeps what was declared
-pub setup_stays : (e new : Equipment) (s : Sent) (h : List Sent) → IsKept (setup_of e) (s ∷ h) new
+pub setup_stays : (e new : Equipment) (s : Sent) (h : List Sent) → IsEquipmentOf (setup_of e) (s ∷ h) new
     → setup_of new ≡ setup_of e
 setup_stays e new s h k = setup_kept (setup_of e) (s ∷ h) new k
 
 -- what is kept is that of the frames that were sent, first to last
-pub kept_sent : (setup : Setup) (h sent : List Sent) (e : Equipment) → IsKept setup h e → reverse sent ≡ h
-    → IsKept (setup_of e) (reverse sent) e
+pub kept_sent : (setup : Setup) (h sent : List Sent) (e : Equipment) → IsEquipmentOf setup h e → reverse sent ≡ h
+    → IsEquipmentOf (setup_of e) (reverse sent) e
 kept_sent setup h sent e k same =
-    let K : Setup → List Sent → Type 0 = λ x y. IsKept x y e in
+    let K : Setup → List Sent → Type 0 = λ x y. IsEquipmentOf x y e in
     subst (λ (x : Setup). K x (reverse sent)) (sym (setup_kept setup h e k))
     (subst (λ (y : List Sent). K setup y) (sym same) k)
 
@@ -236,13 +245,13 @@ instance_found h address number [] = refl
 instance_found h address number (i ∷ instances) =
     found_instance_or (is_instance address number i) h i _ _ (instance_found h address number instances)
 
-pub found_instance : (setup : Setup) (h : List Sent) (e : Equipment) (address number : ℕ) → IsKept setup h e →
+pub found_instance : (setup : Setup) (h : List Sent) (e : Equipment) (address number : ℕ) → IsEquipmentOf setup h e →
     option_map (λ (live : LiveInstance). live.variables)
     (find (λ (live : LiveInstance). is_instance address number live.instance) e.instances.items)
     ≡ instance_variables_at setup h address number
 found_instance setup h e address number k = rw k.instances (instance_found h address number setup.instances)
 
-pub found_gear : (setup : Setup) (h : List Sent) (e : Equipment) (address : ℕ) → IsKept setup h e →
+pub found_gear : (setup : Setup) (h : List Sent) (e : Equipment) (address : ℕ) → IsEquipmentOf setup h e →
     option_map (λ (live : LiveGear). live.variables)
     (find (λ (live : LiveGear). live.gear.address == address) e.gears.items) ≡ variables_at setup h address
 found_gear setup h e address k = rw k.gears (found h address setup.gears)

@@ -9,8 +9,8 @@ use Rattle.transact.specs.declared.marks.Reply.{Reply}
 use Rattle.transact.specs.declared.marks.Reply.TheVariants as reply
 use Rattle.simbus.specs.declared.commands.Query.{Query}
 use Rattle.simbus.specs.declared.commands.Query.TheVariants as query
-use Rattle.simbus.specs.declared.commands.Command.{Command}
-use Rattle.simbus.specs.declared.commands.Command.TheVariants.{Act, Set, Ask, Nothing}
+use Rattle.simbus.specs.declared.commands.GearCommand.{GearCommand}
+use Rattle.simbus.specs.declared.commands.GearCommand.TheVariants.{Act, Set, Ask, Nothing}
 use Rattle.simbus.specs.declared.gears.Gear.{Gear}
 use Rattle.simbus.specs.declared.gears.GearVariables.{GearVariables}
 use Rattle.simbus.specs.declared.gears.MemoryByte.{MemoryByte}
@@ -60,7 +60,7 @@ answer_to memory gear query.Groups8To15 v = Some (byte_of (drop 8 v.groups))
 answer_to memory gear query.Memory v = memory_byte memory gear.address v.dtr1 v.dtr0
 
 -- only queries are answered
-abbrev pub command_answer : List MemoryByte → Gear → Command → GearVariables → Option ℕ
+abbrev pub command_answer : List MemoryByte → Gear → GearCommand → GearVariables → Option ℕ
 command_answer memory gear (Ask query) v = answer_to memory gear query v
 command_answer memory gear (Act action) v = None
 command_answer memory gear (Set setting) v = None

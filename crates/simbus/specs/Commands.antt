@@ -2,14 +2,14 @@
 -- simulated
 -- gear obeys or answers. In a row of its own a command has the number of a scene or group in its last four bits.
 use Rattle.std.specs.Prelude.{ℕ, ◌==◌, ◌/◌, ◌%◌, if◌then◌else◌}
-use Rattle.simbus.specs.declared.commands.Action.TheVariants as action
+use Rattle.simbus.specs.declared.commands.GearAction.TheVariants as action
 use Rattle.simbus.specs.declared.commands.Setting.TheVariants as setting
 use Rattle.simbus.specs.declared.commands.Query.TheVariants as query
-use Rattle.simbus.specs.declared.commands.Command.{Command}
-use Rattle.simbus.specs.declared.commands.Command.TheVariants.{Act, Set, Ask, Nothing}
+use Rattle.simbus.specs.declared.commands.GearCommand.{GearCommand}
+use Rattle.simbus.specs.declared.commands.GearCommand.TheVariants.{Act, Set, Ask, Nothing}
 
 -- 00 to 0F: changes of the level; UP (01) and DOWN (02) do nothing here
-unfoldable pub action_at : ℕ → Command
+unfoldable pub action_at : ℕ → GearCommand
 action_at n =
     if n == 0x0 then Act action.Off
     else (if n == 0x3 then Act action.StepUp
@@ -22,14 +22,14 @@ action_at n =
     else Nothing)))))))
 
 -- 20 to 2F: SET MAX LEVEL (2A) and those after it do nothing here
-unfoldable pub setting_at : ℕ → Command
+unfoldable pub setting_at : ℕ → GearCommand
 setting_at n =
     if n == 0x0 then Set setting.Reset
     else (if n == 0x1 then Set setting.StoreActualLevelInDtr0
     else Nothing)
 
 -- 90 to 9F
-unfoldable pub query_at : ℕ → Command
+unfoldable pub query_at : ℕ → GearCommand
 query_at n =
     if n == 0x0 then Ask query.Status
     else (if n == 0x1 then Ask query.ControlGearPresent
@@ -40,7 +40,7 @@ query_at n =
     else Nothing)))))
 
 -- A0 to AF
-unfoldable pub level_query_at : ℕ → Command
+unfoldable pub level_query_at : ℕ → GearCommand
 level_query_at n =
     if n == 0x0 then Ask query.ActualLevel
     else (if n == 0x1 then Ask query.MaxLevel
@@ -48,7 +48,7 @@ level_query_at n =
     else Nothing))
 
 -- C0 to CF
-unfoldable pub group_query_at : ℕ → Command
+unfoldable pub group_query_at : ℕ → GearCommand
 group_query_at n =
     if n == 0x0 then Ask query.Groups0To7
     else (if n == 0x1 then Ask query.Groups8To15
@@ -56,7 +56,7 @@ group_query_at n =
     else Nothing))
 
 -- the command in a row of opcodes at a number
-unfoldable pub command_at : ℕ → ℕ → Command
+unfoldable pub command_at : ℕ → ℕ → GearCommand
 command_at row n =
     if row == 0x0 then action_at n
     else (if row == 0x1 then Act (action.GoToScene n)
@@ -72,5 +72,5 @@ command_at row n =
     else Nothing))))))))))
 
 -- the command of an opcode
-abbrev pub command_of : ℕ → Command
+abbrev pub command_of : ℕ → GearCommand
 command_of opcode = command_at (opcode / 16) (opcode % 16)

@@ -3,12 +3,12 @@
 -- with the levels MIN 1 and MAX 254, and without fading).
 use Rattle.std.specs.Prelude.{ℕ, ◌+◌, ◌-◌, ◌==◌, nat_le, min, max, Bool, true, false, if◌then◌else◌, replicate}
 use Rattle.std.specs.Prelude.{slice_index, slice_index_or, slice_set}
-use Rattle.simbus.specs.declared.commands.Action.{Action}
-use Rattle.simbus.specs.declared.commands.Action.TheVariants as action
+use Rattle.simbus.specs.declared.commands.GearAction.{GearAction}
+use Rattle.simbus.specs.declared.commands.GearAction.TheVariants as action
 use Rattle.simbus.specs.declared.commands.Setting.{Setting}
 use Rattle.simbus.specs.declared.commands.Setting.TheVariants as setting
-use Rattle.simbus.specs.declared.commands.Command.{Command}
-use Rattle.simbus.specs.declared.commands.Command.TheVariants.{Act, Set, Ask, Nothing}
+use Rattle.simbus.specs.declared.commands.GearCommand.{GearCommand}
+use Rattle.simbus.specs.declared.commands.GearCommand.TheVariants.{Act, Set, Ask, Nothing}
 use Rattle.simbus.specs.declared.gears.GearVariables.{GearVariables}
 use Rattle.simbus.specs.Commands.{command_of}
 use Rattle.simbus.specs.FrameFields.{fields_of}
@@ -58,7 +58,7 @@ step_up v = at_level (min (v.level + 1) max_level) v
 abbrev pub step_down : GearVariables → GearVariables
 step_down v = at_level (max (v.level - 1) min_level) v
 
-abbrev pub after_action : Action → GearVariables → GearVariables
+abbrev pub after_action : GearAction → GearVariables → GearVariables
 after_action action.Off v = at_level 0 v
 after_action action.StepUp v = if v.level == 0 then v else step_up v
 after_action action.StepDown v = if v.level == 0 then v else step_down v
@@ -97,7 +97,7 @@ is_addressed (Group group) own v = slice_index_or v.groups group false
 is_addressed Broadcast own v = true
 
 -- a command that is sent twice acts only as a pair, at the second frame
-abbrev pub after_command : Bool → Command → GearVariables → GearVariables
+abbrev pub after_command : Bool → GearCommand → GearVariables → GearVariables
 after_command is_pair (Act action) v = after_action action v
 after_command is_pair (Set setting) v = if is_pair then after_setting setting v else v
 after_command is_pair (Ask query) v = v

@@ -6,7 +6,7 @@ use Rattle.simbus.specs.declared.buses.SimBus.TheInside.{Inside}
 use Rattle.simbus.specs.declared.clocks.ScriptedClock.TheInside as clocks
 use Rattle.simbus.specs.ScriptedTicks.{ScriptedTicks}
 use Rattle.simbus.specs.Simulated.{Simulated}
-use Rattle.simbus.specs.Kept.{setup_of, IsKept}
+use Rattle.simbus.specs.Kept.{setup_of, IsEquipmentOf}
 
 abbrev pub simulated : Inside → Simulated
 simulated bus = record {
@@ -27,7 +27,7 @@ simulated bus = record {
 -- The equipment is what all frames that were sent made of it, the spare places are there, and what comes later finds
 -- room among what waits.
 pub record IsSimBus (bus : Inside) : Type 0 where
-  pub kept : IsKept (setup_of bus.equipment) (reverse bus.sent.items) bus.equipment
+  pub kept : IsEquipmentOf (setup_of bus.equipment) (reverse bus.sent.items) bus.equipment
   pub sent_spare : vec_len bus.sent + bus.spare ≤ vec_capacity bus.sent
   pub heard_spare : vec_len bus.heard + bus.spare ≤ vec_capacity bus.heard
   pub room : deque_len bus.waiting + deque_len bus.later ≤ deque_capacity bus.waiting

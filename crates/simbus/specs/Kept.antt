@@ -59,7 +59,7 @@ is_begun None frame = false
 is_begun (Some first) frame = same_frame first frame
 
 -- the equipment is that of the setup after these frames, of which the last comes first
-pub record IsKept (setup : Setup) (earlier : List Sent) (e : Equipment) : Type 0 where
+pub record IsEquipmentOf (setup : Setup) (earlier : List Sent) (e : Equipment) : Type 0 where
   pub gears : e.gears.items ≡ map (live_gear earlier) setup.gears
   pub memory : e.memory.items ≡ setup.memory
   pub instances : e.instances.items ≡ map (live_instance earlier) setup.instances

@@ -3,7 +3,7 @@ ghost use Rattle.std.specs.Prelude.{◌≡◌, ◌<◌, ◌≤◌, ◌^◌, leng
 ghost use Rattle.simbus.specs.Answers.{yes_if, is_lit, status, byte_of, memory_byte, answer_to};
 ghost use Rattle.simbus.specs.Answers.{fields_answer};
 
-use crate::commands::{Command, Query};
+use crate::commands::{GearCommand, Query};
 use crate::gears::{MAX_LEVEL, MIN_LEVEL};
 use crate::{Gear, GearVariables, MemoryByte};
 use bitflags::Flags;
@@ -99,9 +99,9 @@ impl Gear {
         match fields {
             Fields16::Command { address, opcode }
                 if variables.is_addressed(self.address, *address) => {
-                match Command::of(*opcode) {
-                    Command::Ask(query) => self.answer_to(variables, memory, query),
-                    Command::Act(_) | Command::Set(_) | Command::Nothing => None,
+                match GearCommand::of(*opcode) {
+                    GearCommand::Ask(query) => self.answer_to(variables, memory, query),
+                    GearCommand::Act(_) | GearCommand::Set(_) | GearCommand::Nothing => None,
                 }
             }
             _ => None,

@@ -35,7 +35,7 @@ impl SceneOrGroup {
 
 /// A command that acts when it is sent once.
 #[derive(Clone, Copy, PartialEq, Eq)]
-pub(crate) enum Action {
+pub(crate) enum GearAction {
     Off,
     StepUp,
     StepDown,
@@ -79,15 +79,15 @@ pub(crate) enum Query {
 
 /// What an opcode commands.
 #[derive(Clone, Copy, PartialEq, Eq)]
-pub(crate) enum Command {
-    Act(Action),
+pub(crate) enum GearCommand {
+    Act(GearAction),
     Set(Setting),
     Ask(Query),
     /// No simulated gear does anything with it.
     Nothing,
 }
 
-impl Command {
+impl GearCommand {
     /// What an opcode commands.
     #[tactic(auto, unfolding(crate::specs::Commands::command_at))]
     pub(crate) fn of(opcode: u8) -> Self
@@ -97,89 +97,89 @@ impl Command {
         let scene_or_group = SceneOrGroup { number };
         match opcode / 16 {
             0x0 => action_of(number),
-            0x1 => Command::Act(Action::GoToScene(scene_or_group)),
+            0x1 => GearCommand::Act(GearAction::GoToScene(scene_or_group)),
             0x2 => setting_of(number),
-            0x4 => Command::Set(Setting::SetScene(scene_or_group)),
-            0x5 => Command::Set(Setting::RemoveFromScene(scene_or_group)),
-            0x6 => Command::Set(Setting::AddToGroup(scene_or_group)),
-            0x7 => Command::Set(Setting::RemoveFromGroup(scene_or_group)),
+            0x4 => GearCommand::Set(Setting::SetScene(scene_or_group)),
+            0x5 => GearCommand::Set(Setting::RemoveFromScene(scene_or_group)),
+            0x6 => GearCommand::Set(Setting::AddToGroup(scene_or_group)),
+            0x7 => GearCommand::Set(Setting::RemoveFromGroup(scene_or_group)),
             0x9 => query_of(number),
             0xA => level_query(number),
-            0xB => Command::Ask(Query::SceneLevel(scene_or_group)),
+            0xB => GearCommand::Ask(Query::SceneLevel(scene_or_group)),
             0xC => group_query(number),
-            _ => Command::Nothing,
+            _ => GearCommand::Nothing,
         }
     }
 }
 
 /// The opcodes 00 to 0F.
 #[tactic(auto, unfolding(crate::specs::Commands::action_at))]
-fn action_of(number: u8) -> Command
+fn action_of(number: u8) -> GearCommand
     ensures { result ≡ action_at number }
 {
-    Command::Act(match number {
-        0x0 => Action::Off,
-        0x3 => Action::StepUp,
-        0x4 => Action::StepDown,
-        0x5 => Action::RecallMaxLevel,
-        0x6 => Action::RecallMinLevel,
-        0x7 => Action::StepDownAndOff,
-        0x8 => Action::OnAndStepUp,
-        0xA => Action::GoToLastActiveLevel,
-        _ => return Command::Nothing,
+    GearCommand::Act(match number {
+        0x0 => GearAction::Off,
+        0x3 => GearAction::StepUp,
+        0x4 => GearAction::StepDown,
+        0x5 => GearAction::RecallMaxLevel,
+        0x6 => GearAction::RecallMinLevel,
+        0x7 => GearAction::StepDownAndOff,
+        0x8 => GearAction::OnAndStepUp,
+        0xA => GearAction::GoToLastActiveLevel,
+        _ => return GearCommand::Nothing,
     })
 }
 
 /// The opcodes 20 to 2F.
 #[tactic(auto, unfolding(crate::specs::Commands::setting_at))]
-fn setting_of(number: u8) -> Command
+fn setting_of(number: u8) -> GearCommand
     ensures { result ≡ setting_at number }
 {
     match number {
-        0x0 => Command::Set(Setting::Reset),
-        0x1 => Command::Set(Setting::StoreActualLevelInDtr0),
-        _ => Command::Nothing,
+        0x0 => GearCommand::Set(Setting::Reset),
+        0x1 => GearCommand::Set(Setting::StoreActualLevelInDtr0),
+        _ => GearCommand::Nothing,
     }
 }
 
 /// The opcodes 90 to 9F.
 #[tactic(auto, unfolding(crate::specs::Commands::query_at))]
-fn query_of(number: u8) -> Command
+fn query_of(number: u8) -> GearCommand
     ensures { result ≡ query_at number }
 {
-    Command::Ask(match number {
+    GearCommand::Ask(match number {
         0x0 => Query::Status,
         0x1 => Query::ControlGearPresent,
         0x2 => Query::LampFailure,
         0x3 => Query::LampPowerOn,
         0x8 => Query::ContentDtr0,
         0xC => Query::ContentDtr1,
-        _ => return Command::Nothing,
+        _ => return GearCommand::Nothing,
     })
 }
 
 /// The opcodes A0 to AF.
 #[tactic(auto, unfolding(crate::specs::Commands::level_query_at))]
-fn level_query(number: u8) -> Command
+fn level_query(number: u8) -> GearCommand
     ensures { result ≡ level_query_at number }
 {
     match number {
-        0x0 => Command::Ask(Query::ActualLevel),
-        0x1 => Command::Ask(Query::MaxLevel),
-        0x2 => Command::Ask(Query::MinLevel),
-        _ => Command::Nothing,
+        0x0 => GearCommand::Ask(Query::ActualLevel),
+        0x1 => GearCommand::Ask(Query::MaxLevel),
+        0x2 => GearCommand::Ask(Query::MinLevel),
+        _ => GearCommand::Nothing,
     }
 }
 
 /// The opcodes C0 to CF.
 #[tactic(auto, unfolding(crate::specs::Commands::group_query_at))]
-fn group_query(number: u8) -> Command
+fn group_query(number: u8) -> GearCommand
     ensures { result ≡ group_query_at number }
 {
     match number {
-        0x0 => Command::Ask(Query::Groups0To7),
-        0x1 => Command::Ask(Query::Groups8To15),
-        0x5 => Command::Ask(Query::Memory),
-        _ => Command::Nothing,
+        0x0 => GearCommand::Ask(Query::Groups0To7),
+        0x1 => GearCommand::Ask(Query::Groups8To15),
+        0x5 => GearCommand::Ask(Query::Memory),
+        _ => GearCommand::Nothing,
     }
 }

@@ -10,7 +10,7 @@ ghost use Rattle.simbus.specs.Answers.{reply_of};
 ghost use Rattle.simbus.specs.Instances.{dtr0_after_fields};
 ghost use Rattle.std.specs.Prelude.{[], ◌∷◌, ◌==◌, if◌then◌else◌, option_map, find};
 ghost use Rattle.simbus.specs.Kept.{live_gear, live_instance, IsAfterGearFields};
-ghost use Rattle.simbus.specs.Kept.{IsAfterDeviceFields, IsKept, is_begun};
+ghost use Rattle.simbus.specs.Kept.{IsAfterDeviceFields, IsEquipmentOf, is_begun};
 ghost use Rattle.simbus.specs.Kept.{joined, gear_after_fields, live_instance_after_fields};
 ghost use Rattle.simbus.specs.Kept.{live_answer, live_instance_answer};
 
@@ -214,7 +214,7 @@ impl Equipment {
         memory: Vec<MemoryByte>,
         instances: &[InputInstance],
     ) -> Result<Self, AllocError>
-        ensures { IfOk result (λ e. IsKept
+        ensures { IfOk result (λ e. IsEquipmentOf
             (record { gears = gears.now; memory = memory.items; instances = instances.now }) [] e) }
     {
         let gears = live_gears(alloc, gears)?;
@@ -230,7 +230,7 @@ impl Equipment {
 
     /// What is answered to a frame.
     pub(crate) fn reply(&self, frame: &Frame) -> Reply
-        ensures { (setup : Setup) (earlier : List Sent) → IsKept setup earlier self.now
+        ensures { (setup : Setup) (earlier : List Sent) → IsEquipmentOf setup earlier self.now
             → result ≡ answer_of setup earlier frame.now }
     {
         match frame {
@@ -249,7 +249,7 @@ impl Equipment {
     pub(crate) fn see(&mut self, frame: &Frame, mark: Mark)
         ensures { (setup : Setup) (earlier : List Sent) (s : Sent) → s.frame ≡ frame.now
             → s.mark ≡ mark
-            → IsKept setup earlier self.old → IsKept setup (s ∷ earlier) self.new }
+            → IsEquipmentOf setup earlier self.old → IsEquipmentOf setup (s ∷ earlier) self.new }
     {
         if is_reached(mark) {
             self.take(frame);
@@ -260,7 +260,7 @@ impl Equipment {
 
     /// The variables of the gear at a short address, where there is gear.
     pub(crate) fn gear(&self, address: ShortAddress) -> Option<GearVariables>
-        ensures { (setup : Setup) (earlier : List Sent) → IsKept setup earlier self.now
+        ensures { (setup : Setup) (earlier : List Sent) → IsEquipmentOf setup earlier self.now
             → result ≡ variables_at setup earlier address }
     {
         gear_in(self.gears.as_slice(), address)
@@ -272,7 +272,7 @@ impl Equipment {
         address: ShortAddress,
         number: InstanceNumber,
     ) -> Option<InstanceVariables>
-        ensures { (setup : Setup) (earlier : List Sent) → IsKept setup earlier self.now
+        ensures { (setup : Setup) (earlier : List Sent) → IsEquipmentOf setup earlier self.now
             → result ≡ instance_variables_at setup earlier address number }
     {
         instance_in(self.instances.as_slice(), address, number)
@@ -281,7 +281,7 @@ impl Equipment {
     /// A frame reached the bus.
     fn take(&mut self, frame: &Frame)
         ensures { (setup : Setup) (earlier : List Sent) (s : Sent) → IsReachedBy frame.now s
-            → IsKept setup earlier self.old → IsKept setup (s ∷ earlier) self.new }
+            → IsEquipmentOf setup earlier self.old → IsEquipmentOf setup (s ∷ earlier) self.new }
     {
         let is_pair = is_begun(&self.begun, frame);
         self.begun = begun_after(is_pair, frame);
@@ -309,7 +309,7 @@ impl Equipment {
     /// pair.
     fn miss(&mut self)
         ensures { (setup : Setup) (earlier : List Sent) (s : Sent) → IsMissedBy s
-            → IsKept setup earlier self.old → IsKept setup (s ∷ earlier) self.new }
+            → IsEquipmentOf setup earlier self.old → IsEquipmentOf setup (s ∷ earlier) self.new }
     {
         self.begun = None;
     }

@@ -4,7 +4,7 @@ ghost use Rattle.simbus.specs.Gears.{new_variables, at_level, to_level, after_ac
 ghost use Rattle.simbus.specs.Gears.{with_member, after_setting, is_addressed, after_command};
 ghost use Rattle.simbus.specs.Gears.{after_fields};
 
-use crate::commands::{Action, Command, SceneOrGroup, Setting};
+use crate::commands::{GearAction, GearCommand, SceneOrGroup, Setting};
 use daliframe::{Address, Fields16, ShortAddress};
 
 /// The least level of simulated gear but for 0, which is off.
@@ -83,23 +83,23 @@ impl GearVariables {
         }
     }
 
-    fn after_action(self, action: Action) -> Self
+    fn after_action(self, action: GearAction) -> Self
         ensures { result ≡ after_action action self }
     {
         match action {
-            Action::Off => self.at_level(0),
-            Action::StepUp if self.level == 0 => self,
-            Action::OnAndStepUp if self.level == 0 => self.at_level(MIN_LEVEL),
-            Action::StepUp | Action::OnAndStepUp => {
+            GearAction::Off => self.at_level(0),
+            GearAction::StepUp if self.level == 0 => self,
+            GearAction::OnAndStepUp if self.level == 0 => self.at_level(MIN_LEVEL),
+            GearAction::StepUp | GearAction::OnAndStepUp => {
                 self.at_level(self.level.saturating_add(1).min(MAX_LEVEL))
             }
-            Action::StepDown if self.level == 0 => self,
-            Action::StepDown => self.at_level((self.level - 1).max(MIN_LEVEL)),
-            Action::StepDownAndOff => self.at_level(self.level.saturating_sub(1)),
-            Action::RecallMaxLevel => self.at_level(MAX_LEVEL),
-            Action::RecallMinLevel => self.at_level(MIN_LEVEL),
-            Action::GoToLastActiveLevel => self.at_level(self.last_active),
-            Action::GoToScene(scene) => self.to_level(self.scenes[scene.index()]),
+            GearAction::StepDown if self.level == 0 => self,
+            GearAction::StepDown => self.at_level((self.level - 1).max(MIN_LEVEL)),
+            GearAction::StepDownAndOff => self.at_level(self.level.saturating_sub(1)),
+            GearAction::RecallMaxLevel => self.at_level(MAX_LEVEL),
+            GearAction::RecallMinLevel => self.at_level(MIN_LEVEL),
+            GearAction::GoToLastActiveLevel => self.at_level(self.last_active),
+            GearAction::GoToScene(scene) => self.to_level(self.scenes[scene.index()]),
         }
     }
 
@@ -139,13 +139,13 @@ impl GearVariables {
         self
     }
 
-    fn after_command(self, command: Command, is_pair: bool) -> Self
+    fn after_command(self, command: GearCommand, is_pair: bool) -> Self
         ensures { result ≡ after_command is_pair command self }
     {
         match command {
-            Command::Act(action) => self.after_action(action),
-            Command::Set(setting) if is_pair => self.after_setting(setting),
-            Command::Set(_) | Command::Ask(_) | Command::Nothing => self,
+            GearCommand::Act(action) => self.after_action(action),
+            GearCommand::Set(setting) if is_pair => self.after_setting(setting),
+            GearCommand::Set(_) | GearCommand::Ask(_) | GearCommand::Nothing => self,
         }
     }
 
@@ -170,7 +170,7 @@ impl GearVariables {
                 self.to_level(*level)
             }
             Fields16::Command { address, opcode } if self.is_addressed(own, *address) => {
-                self.after_command(Command::of(*opcode), is_pair)
+                self.after_command(GearCommand::of(*opcode), is_pair)
             }
             Fields16::Dtr0 { value } => GearVariables {
                 dtr0: *value,

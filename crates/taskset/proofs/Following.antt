@@ -9,7 +9,7 @@ use Rattle.std.proofs.lemmas.Bool.Decides.{eqb_tells}
 use Rattle.std.specs.Prelude.{slice_set, slice_index_or}
 use Rattle.ilimage.specs.Snapshots.{ScanStart}
 use Rattle.ilmachine.specs.Scans.{Scan}
-use Rattle.dalievent.specs.declared.messages.Source.{Source}
+use Rattle.dalievent.specs.declared.messages.EventSource.{EventSource}
 use Rattle.plantevents.specs.declared.activator.Activator.{Activator}
 use Rattle.plantevents.specs.declared.activator.Activator.TheVariants.{Interval, Messages}
 use Rattle.plantevents.specs.declared.event.Event.{Event}
@@ -59,7 +59,7 @@ one_kept p h m t tasks e s all still here other = record {
 
 -- at an event that is no message
 count_still : (a : Option Activator) (e : Event) (h : List Event)
-    → ((bus : ℕ) (source : Source) → message_count bus source (e ∷ h) ≡ message_count bus source h)
+    → ((bus : ℕ) (source : EventSource) → message_count bus source (e ∷ h) ≡ message_count bus source h)
     → count_for a (e ∷ h) ≡ count_for a h
 count_still None e h still = refl
 count_still (Some (Interval milliseconds)) e h still = refl

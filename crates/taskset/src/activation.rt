@@ -5,7 +5,7 @@ ghost use Rattle.plantevents.specs.Messages.{first_message, is_message, informat
 ghost use Rattle.plantevents.specs.Readiness.{activates};
 ghost use Rattle.taskset.specs.TaskSetSteps.{information_for};
 
-use dalievent::Source;
+use dalievent::EventSource;
 use daliframe::{EventScheme, Frame24};
 use plantevents::Activator;
 
@@ -26,14 +26,14 @@ fn bits_of(scheme: EventScheme) -> u32
 }
 
 /// The number of a source's message with the information 0.
-fn first_of(source: Source) -> u32
+fn first_of(source: EventSource) -> u32
     ensures value { result ≡ first_message source }
 {
     bits_of(source.scheme) + 0x2_0000 * u32::from(source.a) + 0x400 * u32::from(source.b)
 }
 
 /// The information of a frame, 0 to 1023, where it is a message of the source.
-fn information_from(source: Source, frame: Frame24) -> Option<u16>
+fn information_from(source: EventSource, frame: Frame24) -> Option<u16>
     ensures value { result
         ≡ (if is_message source frame then Some (information source frame) else None) }
 {

@@ -14,7 +14,7 @@ ghost use Rattle.plant.specs.HandingSteps.{IsOfClass, handout_of};
 use super::Plant;
 use crate::bus::note_hand;
 use crate::next::{Next, first_of, transaction_of};
-use crate::refusal::Refusal;
+use crate::refusal::CallRefusal;
 use busqueue::Class;
 use gearcmd::Request;
 use plantevents::{Event, Origin};
@@ -87,7 +87,7 @@ impl Plant {
     }
 
     /// What a bus may be handed, or why it may be handed nothing.
-    fn handout_for(&self, bus: u8) -> Result<Next, Refusal>
+    fn handout_for(&self, bus: u8) -> Result<Next, CallRefusal>
         ensures refused { GivesFirst (hand_cases self.now bus) result }
         ensures up { OnOk result (IsUp self.now.plant self.now.history bus) }
         ensures idle { OnOk result (open_hand bus self.now.history ≡ None) }
@@ -98,13 +98,13 @@ impl Plant {
     {
         self.is_up(bus)?;
         if self.buses[usize::from(bus)].hand.is_some() {
-            return Err(Refusal::Busy);
+            return Err(CallRefusal::Busy);
         }
         let Some(next) = self.next_handout(bus) else {
-            return Err(Refusal::NothingReady);
+            return Err(CallRefusal::NothingReady);
         };
         if self.is_full() {
-            return Err(Refusal::Full);
+            return Err(CallRefusal::Full);
         }
         Ok(next)
     }
@@ -117,7 +117,7 @@ impl Plant {
     ///
     /// There is no such bus, it is down, it has a transaction open, nothing is to be sent, or the
     /// history is full: the first of these. The plant is unchanged then.
-    pub fn hand(&mut self, bus: u8) -> Result<Handed, Refusal>
+    pub fn hand(&mut self, bus: u8) -> Result<Handed, CallRefusal>
         ensures refused { GivesFirst (hand_cases self.old bus) result }
         ensures number { IfOk result (λ handed. handed.number ≡ length self.old.history) }
         ensures next { IfOk result (λ handed. IsHand self.old.plant self.old.history bus

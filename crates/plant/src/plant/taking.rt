@@ -17,7 +17,7 @@ ghost use Rattle.plant.specs.TakingSteps.{IsInType, taken_at};
 
 use super::Plant;
 use crate::overrides::overrides;
-use crate::refusal::{Refusal, TakeError};
+use crate::refusal::{CallRefusal, TakeError};
 use crate::running::{RunningScan, note_scan, note_take};
 use crate::setups::{trigger_of, trigger_place};
 use ilimage::{Override, Snapshot};
@@ -47,23 +47,23 @@ impl Plant {
     }
 
     /// The task that a worker may take, or why it may take none.
-    fn task_for(&self, worker: usize) -> Result<usize, Refusal>
+    fn task_for(&self, worker: usize) -> Result<usize, CallRefusal>
         ensures refused { GivesFirst (take_cases self.now worker) result }
         ensures idle { IfOk result (λ t. (worker < self.now.plant.workers)
             × (scan worker self.now.history ≡ None) × (is_full self.now ≡ false)) }
         ensures next { IfOk result (IsNextTask self.now.plant self.now.history) }
     {
         if worker >= self.workers {
-            return Err(Refusal::Stranger);
+            return Err(CallRefusal::Stranger);
         }
         if self.scans[worker].is_some() {
-            return Err(Refusal::Busy);
+            return Err(CallRefusal::Busy);
         }
         let Some(task) = self.next() else {
-            return Err(Refusal::NothingReady);
+            return Err(CallRefusal::NothingReady);
         };
         if self.is_full() {
-            return Err(Refusal::Full);
+            return Err(CallRefusal::Full);
         }
         Ok(task)
     }

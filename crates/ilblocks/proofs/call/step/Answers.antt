@@ -1,6 +1,6 @@
 use Rattle.std.proofs.Common.{◌≡◌, ◌<◌, IfSome, sym, subst, Option, arith, rules}
 use Rattle.gearcmd.specs.declared.requests.Request.{Request}
-use Rattle.ilblocks.specs.declared.kind.Kind.TheVariants as kinds
+use Rattle.ilblocks.specs.declared.kind.BlockKind.TheVariants as kinds
 use Rattle.ilblocks.specs.Calls.{Block, IsBlockOf, after_call, requested}
 use Rattle.ilblocks.proofs.Blocks.{ports_of_kind, call_typed, requested_bus}
 use Rattle.ilblocks.proofs.call.step.Goals as goal

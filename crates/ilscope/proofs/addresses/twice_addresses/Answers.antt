@@ -1,7 +1,7 @@
 use Rattle.std.proofs.Common.{◌∙◌, List, ap, not, subst}
 use Rattle.std.proofs.lemmas.List.{take_all}
 use Rattle.std.specs.HashSet.{contains}
-use Rattle.ilsource.specs.declared.address.Address.{Address}
+use Rattle.ilsource.specs.declared.address.DirectAddress.{DirectAddress}
 use Rattle.ilscope.specs.AddressSteps.{same_key}
 use Rattle.ilscope.specs.Faults.{IsAddressTwice, IsLeastOf, OfCause}
 use Rattle.ilscope.specs.declared.fault.NameCause.TheVariants.{Twice}
@@ -25,6 +25,6 @@ loop-address-preserved c =
 
 pub returns : goal.returns
 returns c =
-    subst (λ (xs : List Address). IsLeastOf (OfCause Twice (IsAddressTwice xs)) c.loop-address.least)
+    subst (λ (xs : List DirectAddress). IsLeastOf (OfCause Twice (IsAddressTwice xs)) c.loop-address.least)
     (take_all c.loop-address.address-index c.args.addresses.now c.loop-address-test.false)
     c.loop-address.invariant.least

@@ -2,7 +2,7 @@ use Rattle.std.proofs.Common.{◌∙◌, ◌+◌, ◌++◌, List, ap, take, sym,
 use Rattle.std.proofs.lemmas.List.{take_all}
 use Rattle.std.proofs.lemmas.Grind.{flat_map-append}
 use Rattle.ilsyms.specs.InstanceSteps.{instances_of}
-use Rattle.ilsyms.specs.Tasks.{ProgramInstance}
+use Rattle.ilsyms.specs.Tasks.{NamedProgram}
 use Rattle.ilsyms.specs.Variables.{blocks_in, blocks_of}
 use Rattle.ilsyms.proofs.There.{number_there, taken_more, as_many}
 use Rattle.ilsyms.proofs.blocks.blocks_of.Goals as goal
@@ -23,12 +23,12 @@ loop-instance-preserved c =
     ∙ ap (take (256 + 1))
     (ap (λ bs. blocks_of (take k is) ++ bs) (sym (append-nil _))
     ∙ sym (flat_map-append blocks_in (take k is) _)
-    ∙ ap (λ (js : List ProgramInstance). blocks_of js) (sym more))
+    ∙ ap (λ (js : List NamedProgram). blocks_of js) (sym more))
 
 pub returns : goal.returns
 returns c =
     let is = instances_of c.args.scope.now.tree c.args.instances.now in
     let many = as_many c.args.scope.now.tree c.args.instances.now c.requires in
     c.loop-instance.invariant
-    ∙ ap (λ (js : List ProgramInstance). take (256 + 1) (blocks_of js))
+    ∙ ap (λ (js : List NamedProgram). take (256 + 1) (blocks_of js))
     (take_all c.loop-instance.instance-index is (omega (arith, many, c.loop-instance-test.false)))

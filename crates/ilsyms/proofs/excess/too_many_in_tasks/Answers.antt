@@ -7,7 +7,7 @@ use Rattle.ilscope.specs.declared.fault.NameCause.TheVariants.{TooMany}
 use Rattle.ilscope.proofs.Least.{got_at, got_below, least_of_more, of_one_cause}
 use Rattle.ilsyms.specs.Faults.{IsTooManyIn}
 use Rattle.ilsyms.specs.InstanceSteps.{AreThere, instances_of}
-use Rattle.ilsyms.specs.Tasks.{ProgramInstance, SourceTask, tasks_of}
+use Rattle.ilsyms.specs.Tasks.{NamedProgram, SourceTask, tasks_of}
 use Rattle.ilsyms.specs.declared.tasks.TaskInstance.{TaskInstance}
 use Rattle.ilsyms.proofs.TaskPrograms.{task_of_given, tasks_as_many}
 use Rattle.ilsyms.proofs.There.{instances_are, there}
@@ -44,7 +44,7 @@ loop-instances-preserved c =
     (least_of_more (λ (t : SourceTask). OfCause TooMany (λ at. IsTooManyIn tree at t.instances)) (tasks_of tree) i task
     c.loop-instances.least c.in_ok-fault.fault (got_below (tasks_of tree) i task found.1)
     (sym (get_or_from_slice_get (tasks_of tree) i task task found.1)) c.loop-instances.invariant
-    (subst (λ (is : List ProgramInstance).
+    (subst (λ (is : List NamedProgram).
     IsLeastOf (OfCause TooMany (λ at. IsTooManyIn tree at is)) c.in_ok-fault.fault) same c.in_ok-fault.ensures))
 
 pub returns : goal.returns

@@ -15,7 +15,7 @@ use Rattle.ilsyms.specs.InstanceSteps.{instances_of}
 use Rattle.ilsyms.specs.LabelSteps.{AreNumbered}
 use Rattle.ilsyms.specs.PlanningSteps.{AreGlobalSlots, is_of_instance}
 use Rattle.ilsyms.specs.Resolved.{planned_instance}
-use Rattle.ilsyms.specs.Tasks.{ProgramInstance}
+use Rattle.ilsyms.specs.Tasks.{NamedProgram}
 use Rattle.ilsyms.specs.Variables.{slots_of, blocks_of, lines_of}
 use Rattle.ilsyms.proofs.OwnSlots.{first_own}
 use Rattle.ilsyms.proofs.Planned.{planned_more, slots_fit, slots_more, blocks_fit, blocks_more, shallow_more, renamed}
@@ -123,7 +123,7 @@ returns c =
     record {
       instances =
           c.loop-instance.invariant.instances
-          ∙ ap (λ (is : List ProgramInstance). map (planned_instance tree (slots_of tree all) (blocks_of all)) is)
+          ∙ ap (λ (is : List NamedProgram). map (planned_instance tree (slots_of tree all) (blocks_of all)) is)
           whole;
-      shallow = subst (λ (is : List ProgramInstance). AreShallow (lines_of is)) whole c.loop-instance.invariant.shallow;
+      shallow = subst (λ (is : List NamedProgram). AreShallow (lines_of is)) whole c.loop-instance.invariant.shallow;
     }

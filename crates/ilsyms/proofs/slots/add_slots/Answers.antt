@@ -1,7 +1,7 @@
 use Rattle.std.proofs.Common.{◌∙◌, ◌+◌, ◌++◌, List, [], ◌∷◌, ap, map, take, arith}
 use Rattle.std.proofs.lemmas.List.{take_all}
 use Rattle.ilplan.specs.declared.slot.Slot.{Slot}
-use Rattle.ilscope.specs.declared.variable.Variable.{Variable}
+use Rattle.ilscope.specs.declared.variable.DeclaredVariable.{DeclaredVariable}
 use Rattle.ilsyms.specs.Variables.{own_slot}
 use Rattle.ilsyms.proofs.Bounded.{full, mapped_more}
 use Rattle.ilsyms.proofs.slots.add_slots.Goals as goal
@@ -23,6 +23,6 @@ loop-variable-preserved c all e =
 pub returns : goal.returns
 returns c all e =
     c.loop-variable.invariant all e
-    ∙ ap (λ (xs : List Variable). take (4096 + 1) (all ++ map (own_slot c.args.instance) xs))
+    ∙ ap (λ (xs : List DeclaredVariable). take (4096 + 1) (all ++ map (own_slot c.args.instance) xs))
     (take_all c.loop-variable.variable-index c.variables-variable-items.result.now c.loop-variable-test.false
     ∙ c.variables-variable-items.ensures.value)

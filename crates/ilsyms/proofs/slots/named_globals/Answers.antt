@@ -10,7 +10,7 @@ use Rattle.ilscope.specs.declared.global.DeclaredGlobal.{DeclaredGlobal}
 use Rattle.ilscope.specs.declared.external.DeclaredExternal.{DeclaredExternal}
 use Rattle.ilsyms.specs.InstanceSteps.{instances_of}
 use Rattle.ilsyms.specs.SlotSteps.{AddsWhere}
-use Rattle.ilsyms.specs.Tasks.{ProgramInstance, instance_named}
+use Rattle.ilsyms.specs.Tasks.{NamedProgram, instance_named}
 use Rattle.ilsyms.specs.Variables.{is_among, is_named}
 use Rattle.ilsyms.specs.declared.tasks.TaskInstance.{TaskInstance}
 use Rattle.ilsyms.proofs.NamedGlobals.{adds_both, adds_same, added_to_none, named_more, named_still}
@@ -87,7 +87,7 @@ loop-instance-preserved c =
           (subst
           (λ (bs : List Bool). AddsWhere (λ n. is_among tree n w.externals.result.now) bs w.add_externals.new.named)
           w.deref_mut.ensures.value w.add_externals.ensures)
-          (λ n. ap (λ (js : List ProgramInstance). is_named tree js n) more ∙ named_more tree (take i all) _ n
+          (λ n. ap (λ (js : List NamedProgram). is_named tree js n) more ∙ named_more tree (take i all) _ n
           ∙ ap (λ (es : List DeclaredExternal). is_named tree (take i all) n || is_among tree n es)
           (sym w.externals.ensures.value))
           in
@@ -115,7 +115,7 @@ loop-instance-preserved c =
                 rw w.named-is
                 (adds_same (is_named tree (take i all)) (is_named tree (take (i + 1) all)) zeros
                 c.loop-instance.named.items
-                (λ n. ap (λ (js : List ProgramInstance). is_named tree js n) more ∙ still n)
+                (λ n. ap (λ (js : List NamedProgram). is_named tree js n) more ∙ still n)
                 c.loop-instance.invariant.named);
             count = rw w.seen-is c.loop-instance.invariant.count;
             seen =
@@ -132,6 +132,6 @@ returns c =
     let whole = take_all c.loop-instance.instance-index all (omega (arith, many, c.loop-instance-test.false)) in
     added_to_none (is_named tree all) (length (globals_of tree)) c.loop-instance.named.items
     (subst
-    (λ (is : List ProgramInstance).
+    (λ (is : List NamedProgram).
     AddsWhere (is_named tree is) (replicate (length (globals_of tree)) false) c.loop-instance.named.items)
     whole c.loop-instance.invariant.named)

@@ -2,7 +2,7 @@ use Rattle.std.proofs.Common.{◌∙◌, ◌+◌, ◌++◌, List, ap, take, sym,
 use Rattle.std.proofs.lemmas.List.{take_all}
 use Rattle.std.proofs.lemmas.Grind.{flat_map-append}
 use Rattle.ilsyms.specs.InstanceSteps.{instances_of}
-use Rattle.ilsyms.specs.Tasks.{ProgramInstance}
+use Rattle.ilsyms.specs.Tasks.{NamedProgram}
 use Rattle.ilsyms.specs.Variables.{global_slots, slots_in, own_slots}
 use Rattle.ilsyms.proofs.There.{number_there, taken_more, as_many}
 use Rattle.ilsyms.proofs.slots.slots_of.Goals as goal
@@ -26,12 +26,12 @@ loop-instance-preserved c =
     ∙ ap (λ ss. first ++ ss)
     (ap (λ ss. own_slots (take k is) ++ ss) (sym (append-nil _))
     ∙ sym (flat_map-append slots_in (take k is) _)
-    ∙ ap (λ (js : List ProgramInstance). own_slots js) (sym more)))
+    ∙ ap (λ (js : List NamedProgram). own_slots js) (sym more)))
 
 pub returns : goal.returns
 returns c =
     let is = instances_of c.args.scope.now.tree c.args.instances.now in
     let many = as_many c.args.scope.now.tree c.args.instances.now c.requires in
     c.loop-instance.invariant
-    ∙ ap (λ (js : List ProgramInstance). take (4096 + 1) (global_slots c.args.scope.now.tree is ++ own_slots js))
+    ∙ ap (λ (js : List NamedProgram). take (4096 + 1) (global_slots c.args.scope.now.tree is ++ own_slots js))
     (take_all c.loop-instance.instance-index is (omega (arith, many, c.loop-instance-test.false)))

@@ -7,10 +7,10 @@ use Rattle.ilscope.proofs.Least.{take_more, got_at}
 use Rattle.ilsource.specs.Programs.{Written}
 use Rattle.ilsyms.specs.declared.tasks.TaskInstance.{TaskInstance}
 use Rattle.ilsyms.specs.InstanceSteps.{instance_at}
-use Rattle.ilsyms.specs.Tasks.{ProgramInstance, instance_named}
+use Rattle.ilsyms.specs.Tasks.{NamedProgram, instance_named}
 use Rattle.ilsyms.proofs.tasks.instances_of_programs.Goals as goal
 
-abbrev of_program : DeclaredProgram → ProgramInstance
+abbrev of_program : DeclaredProgram → NamedProgram
 of_program p = instance_named p.program.name p
 
 pub loop-number-preserved : goal.loop-number-preserved

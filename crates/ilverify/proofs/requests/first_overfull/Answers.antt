@@ -3,7 +3,7 @@ use Rattle.std.proofs.Common.{replicate, rules, sym, ap, subst, arith, refl}
 use Rattle.std.specs.Prelude.{slice_get, get_or}
 use Rattle.std.specs.Option.{option_map_or}
 use Rattle.std.proofs.lemmas.Option.{slice_get-get_or}
-use Rattle.ilcode.specs.declared.instruction.Instruction.{Instruction}
+use Rattle.ilcode.specs.declared.word.Word.{Word}
 use Rattle.ilcode.specs.Listings.{Listing}
 use Rattle.ilcode.specs.Paths.{may_request}
 use Rattle.ilverify.specs.Requests.{HasFewRequests}
@@ -23,11 +23,11 @@ at_most_one true = omega arith
 at_most_one false = omega arith
 
 -- what the word adds
-added : (code : Listing) (place : ℕ) (word : Instruction) (may : Bool) (n : ℕ)
+added : (code : Listing) (place : ℕ) (word : Word) (may : Bool) (n : ℕ)
     → slice_get code.instructions place ≡ Some word → may ≡ may_request code word → n ≡ mir.Val.bool_byte may
     → n ≡ requests_of code place
 added code place word may n is m e =
-    let there = ap (λ (o : Option Instruction). option_map_or (may_request code) o false) is in
+    let there = ap (λ (o : Option Word). option_map_or (may_request code) o false) is in
     byte_of may n e ∙ ap (λ (b : Bool). cond b 1 0) (m ∙ sym there)
 
 -- what is kept for the place

@@ -1,7 +1,7 @@
 use Rattle.std.proofs.Common.{◌≡◌, ◌∙◌, List, ap, sym, subst}
 use Rattle.std.specs.Arc.{arc_value}
 use Rattle.std.specs.List.{AllZip}
-use Rattle.ilblocks.specs.declared.kind.Kind.{Kind}
+use Rattle.ilblocks.specs.declared.kind.BlockKind.{BlockKind}
 use Rattle.ilblocks.specs.Calls.{Block, IsBlockOf}
 use Rattle.ilblocks.specs.Stores.{blocks_at_first}
 use Rattle.ilblocks.proofs.Stores.{at_first_are}
@@ -15,7 +15,7 @@ invariant_of-result c =
     let kinds : c.kinds.result.now ≡ code.kinds =
     c.kinds.ensures.value ∙ ap (λ (l : Listing). l.kinds) c.code.ensures.value
     ∙ ap (λ (v : Accepted). v.code.kinds) c.deref.ensures in
-    let blocks = c.in_ok-blocks.ensures ∙ ap (λ (ks : List Kind). blocks_at_first ks) kinds in
+    let blocks = c.in_ok-blocks.ensures ∙ ap (λ (ks : List BlockKind). blocks_at_first ks) kinds in
     record {
       values = c.requires;
       blocks = subst (λ (bs : List Block). AllZip (IsBlockOf code.buses) bs code.kinds) (sym blocks)

@@ -12,7 +12,7 @@ use Rattle.ilscope.specs.ScopeSteps.{variable_names}
 use Rattle.ilscope.specs.declared.block.DeclaredBlock.{DeclaredBlock}
 use Rattle.ilscope.specs.declared.external.DeclaredExternal.{DeclaredExternal}
 use Rattle.ilscope.specs.declared.fault.NameCause.TheVariants.{Twice}
-use Rattle.ilscope.specs.declared.variable.Variable.{Variable}
+use Rattle.ilscope.specs.declared.variable.DeclaredVariable.{DeclaredVariable}
 use Rattle.ilscope.proofs.OneMore.{program_added}
 use Rattle.ilscope.proofs.gathering.Gathering.add_program.Goals as goal
 
@@ -28,7 +28,7 @@ returns c front h =
     let variables_numbered : AreNumbersOf (text_of lower) (variable_names c.new.result) its_variables =
     subst (λ (ns : List Name). AreNumbersOf (text_of lower) ns its_variables)
     (c.deref-2.ensures.value ∙ c.in_ok-names.ensures
-    ∙ ap (λ (vs : List Variable). map (λ v. v.name) vs) (c.deref.ensures.value ∙ sym c.new.ensures.variables))
+    ∙ ap (λ (vs : List DeclaredVariable). map (λ v. v.name) vs) (c.deref.ensures.value ∙ sym c.new.ensures.variables))
     c.in_ok-variable_numbers.ensures.numbers
     in
     let blocks_numbered : AreNumbersOf (text_of lower) (block_names c.new.result) its_blocks =

@@ -1,7 +1,7 @@
 use Rattle.std.proofs.Common.{◌≡◌, ◌∙◌, ap, ℕ, List, subst}
 use Rattle.std.specs.Prelude.{Option, option_and_then, slice_get}
 use Rattle.ilsource.specs.Trees.{Tree}
-use Rattle.ilsource.specs.declared.address.Address.{Address}
+use Rattle.ilsource.specs.declared.address.DirectAddress.{DirectAddress}
 use Rattle.ilsource.specs.declared.configuration.TaskDeclaration.{TaskDeclaration}
 use Rattle.ilsource.specs.declared.name.Name.{Name}
 use Rattle.ilscope.specs.Configured.{global_named, global_number, globals_of, task_declarations}
@@ -35,7 +35,8 @@ returns c =
     (c.as_slice-3.ensures.value ∙ c.self.invariant.global_variables)
     in
     let addresses : IsLeastOf (OfCause BadAddress (IsBadAddress c.args.self.now wiring)) address =
-    subst (λ (all : List Address). IsLeastOf (OfCause BadAddress (λ place. SomeOf (IsBadAddressAt wiring place) all))
+    subst (λ (all : List DirectAddress). IsLeastOf
+    (OfCause BadAddress (λ place. SomeOf (IsBadAddressAt wiring place) all))
     address) (c.as_slice.ensures.value ∙ c.in_ok-addresses.ensures) c.bad_addresses-address.ensures
     in
     let triggers : IsLeastOf (OfCause BadAddress (IsNoTrigger tree)) trigger =

@@ -1,6 +1,6 @@
 use Rattle.std.proofs.Common.{◌≡◌, ◌∙◌, ◌<◌, ap, length, List, ℕ, sym, subst}
 use Rattle.std.specs.Prelude.{Option, Some, None, bytes_eq, option_map, slice_get}
-use Rattle.ilblocks.specs.declared.kind.Kind.{Kind}
+use Rattle.ilblocks.specs.declared.kind.BlockKind.{BlockKind}
 use Rattle.ilsource.specs.Names.{folded}
 use Rattle.ilscope.specs.Declarations.{DeclaredProgram}
 use Rattle.ilscope.specs.declared.block.DeclaredBlock.{DeclaredBlock}
@@ -38,7 +38,7 @@ returns-in_err-block-clause-none c p e =
     let spelled = folded c.args.self.now.text in
     rw c.from_residual-in_err-block.ensures
     (none_is (λ (b : DeclaredBlock). spelled b.name) p.blocks (spelled c.args.name) None
-    (ap (λ (o : Option (ℕ × Kind)). option_map (λ b. b.0) o) (sym c.from_residual-in_err-block.ensures)
+    (ap (λ (o : Option (ℕ × BlockKind)). option_map (λ b. b.0) o) (sym c.from_residual-in_err-block.ensures)
     ∙ returns-in_err-block-clause-number c p e))
 
 pub returns-clause-kind : goal.returns-clause-kind

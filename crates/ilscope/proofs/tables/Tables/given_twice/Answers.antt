@@ -1,7 +1,7 @@
 use Rattle.std.proofs.Common.{◌≡◌, ◌∙◌, ap, ℕ, List, map, subst}
 use Rattle.ilsource.specs.Names.{folded, text_of}
 use Rattle.ilsource.specs.Trees.{Tree}
-use Rattle.ilsource.specs.declared.address.Address.{Address}
+use Rattle.ilsource.specs.declared.address.DirectAddress.{DirectAddress}
 use Rattle.ilsource.specs.declared.configuration.InstanceDeclaration.{InstanceDeclaration}
 use Rattle.ilsource.specs.declared.name.Name.{Name}
 use Rattle.ilscope.specs.Configured.{addresses_of, instance_declarations}
@@ -35,7 +35,7 @@ returns c =
     c.in_ok-instance.ensures.twice
     in
     let addresses : IsLeastOf (OfCause Twice (IsAddressTwice (addresses_of c.args.self.now))) address =
-    subst (λ (all : List Address). IsLeastOf (OfCause Twice (IsAddressTwice all)) address)
+    subst (λ (all : List DirectAddress). IsLeastOf (OfCause Twice (IsAddressTwice all)) address)
     (c.as_slice-3.ensures.value ∙ c.in_ok-addresses.ensures) c.in_ok-address.ensures
     in
     rw c.lesser_of.ensures

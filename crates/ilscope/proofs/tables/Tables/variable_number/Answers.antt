@@ -6,7 +6,7 @@ use Rattle.ilsource.specs.Trees.{Tree}
 use Rattle.ilscope.specs.Declarations.{DeclaredProgram, declared_programs}
 use Rattle.ilscope.specs.ScopeSteps.{variable_names}
 use Rattle.ilscope.specs.Tables.{variable_number}
-use Rattle.ilscope.specs.declared.variable.Variable.{Variable}
+use Rattle.ilscope.specs.declared.variable.DeclaredVariable.{DeclaredVariable}
 use Rattle.ilscope.proofs.Declared.{as_many, none_is, number_at}
 use Rattle.ilscope.proofs.tables.Tables.variable_number.Goals as goal
 
@@ -41,5 +41,5 @@ returns-clause-value c p e =
 pub returns-clause-none : goal.returns-clause-none
 returns-clause-none c p e =
     let spelled = folded c.args.self.now.text in
-    none_is (λ (v : Variable). spelled v.name) p.variables (spelled c.args.name) c.get.result
+    none_is (λ (v : DeclaredVariable). spelled v.name) p.variables (spelled c.args.name) c.get.result
     (returns-clause-value c p e)

@@ -9,7 +9,7 @@ use Rattle.ilsource.specs.declared.symbol.Symbol.{Symbol}
 use Rattle.ilscope.specs.Declarations.{DeclaredProgram}
 use Rattle.ilsyms.specs.CountingSteps.{AreCounted}
 use Rattle.ilsyms.specs.InstanceSteps.{instances_of}
-use Rattle.ilsyms.specs.Tasks.{ProgramInstance}
+use Rattle.ilsyms.specs.Tasks.{NamedProgram}
 use Rattle.ilsyms.specs.declared.tasks.TaskInstance.{TaskInstance}
 use Rattle.ilsyms.specs.Variables.{lines_of, uses_of}
 use Rattle.ilsyms.proofs.CountedUses.{none_counted}
@@ -115,7 +115,7 @@ returns c =
     let given = c.args.instances.now in
     let many = as_many tree given c.requires in
     let last = c.loop-instance-test.false in
-    subst (λ (is : List ProgramInstance).
+    subst (λ (is : List NamedProgram).
     AreCounted (uses_of (lines_of is)) c.loop-instance.counted.constants c.loop-instance.counted.excess)
     (take_all c.loop-instance.instance-index (instances_of tree given) (omega (arith, many, last)))
     c.loop-instance.invariant.counted

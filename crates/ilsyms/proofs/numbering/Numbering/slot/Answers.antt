@@ -1,7 +1,7 @@
 use Rattle.std.proofs.Common.{◌<◌, ◌^◌, arith, sym, ◌∙◌, length, subst}
 use Rattle.std.specs.Prelude.{bytes_eq}
 use Rattle.ilsource.specs.Names.{folded}
-use Rattle.ilscope.specs.declared.variable.Variable.{Variable}
+use Rattle.ilscope.specs.declared.variable.DeclaredVariable.{DeclaredVariable}
 use Rattle.ilplan.specs.declared.slot.Slot.{Slot}
 use Rattle.ilscope.specs.Configured.{global_number}
 use Rattle.ilsyms.specs.Meaning.{is_global}
@@ -14,7 +14,7 @@ pub overflow_add-result : goal.overflow_add-result
 overflow_add-result c =
     let inside = c.self.inside in
     let spelled = folded inside.scope.now.tree.text in
-    let below = first_below (λ (x : Variable). bytes_eq (spelled c.args.name) (spelled x.name))
+    let below = first_below (λ (x : DeclaredVariable). bytes_eq (spelled c.args.name) (spelled x.name))
     inside.program.now.variables
     c.in-Some.own
     (sym (c.variable_number.ensures.value inside.program.now c.self.invariant.0) ∙ c.in-Some.is)
@@ -25,7 +25,7 @@ pub overflow_cast-result : goal.overflow_cast-result
 overflow_cast-result c =
     let inside = c.self.inside in
     let spelled = folded inside.scope.now.tree.text in
-    let below = first_below (λ (x : Variable). bytes_eq (spelled c.args.name) (spelled x.name))
+    let below = first_below (λ (x : DeclaredVariable). bytes_eq (spelled c.args.name) (spelled x.name))
     inside.program.now.variables
     c.in-Some.own
     (sym (c.variable_number.ensures.value inside.program.now c.self.invariant.0) ∙ c.in-Some.is)

@@ -1,7 +1,7 @@
 use Rattle.std.proofs.Common.{◌≡◌, Some, None, refl, sym, ◌∙◌, subst}
 use Rattle.ilmachine.specs.Scans.{Scan}
 use Rattle.plantevents.specs.declared.event.Event.TheVariants as events
-use Rattle.plant.specs.declared.refusal.Refusal.TheVariants.{Stranger}
+use Rattle.plant.specs.declared.refusal.CallRefusal.TheVariants.{Stranger}
 use Rattle.plant.specs.Shown.{Shown}
 use Rattle.plantdrive.specs.declared.step.Step.TheVariants as steps
 use Rattle.plantdrive.specs.declared.step.StepReply.TheVariants.{Noted}

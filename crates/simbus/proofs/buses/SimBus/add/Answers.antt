@@ -2,7 +2,7 @@ use Rattle.std.proofs.Common.{◌≡◌, ◌+◌, ◌-◌, ◌<◌, List, [], �
 use Rattle.std.specs.Prelude.{reverse}
 use Rattle.transact.specs.declared.marks.Sent.{Sent}
 use Rattle.simbus.specs.Histories.{Setup}
-use Rattle.simbus.specs.Kept.{setup_of, IsKept}
+use Rattle.simbus.specs.Kept.{setup_of, IsEquipmentOf}
 use Rattle.simbus.specs.Simulated.{Simulated}
 use Rattle.simbus.proofs.Keeping.{setup_stays, kept_sent, sent_more}
 use Rattle.simbus.proofs.buses.SimBus.add.Goals as goal
@@ -10,7 +10,7 @@ use Rattle.simbus.proofs.buses.SimBus.add.Goals as goal
 pub invariant_of-self : goal.invariant_of-self
 invariant_of-self c =
     let s : Sent = record { frame = c.args.frame.now; priority = c.args.priority; mark = c.args.mark } in
-    let kept : IsKept (setup_of c.self.inside.equipment)
+    let kept : IsEquipmentOf (setup_of c.self.inside.equipment)
     (s ∷ reverse c.self.inside.sent.items) c.see.new.self = c.see.ensures _ _ s refl refl c.self.invariant.kept in
     let items : c.push.new.self.items
     ≡ c.self.inside.sent.items ++ s ∷ [] = rw c.unwrap.ensures at c.push.ensures.items in
@@ -29,7 +29,7 @@ invariant_of-self c =
 pub returns : goal.returns
 returns c =
     let s : Sent = record { frame = c.args.frame.now; priority = c.args.priority; mark = c.args.mark } in
-    let kept : IsKept (setup_of c.self.inside.equipment)
+    let kept : IsEquipmentOf (setup_of c.self.inside.equipment)
     (s ∷ reverse c.self.inside.sent.items) c.see.new.self = c.see.ensures _ _ s refl refl c.self.invariant.kept in
     let items : c.push.new.self.items
     ≡ c.self.inside.sent.items ++ s ∷ [] = rw c.unwrap.ensures at c.push.ensures.items in

@@ -4,24 +4,24 @@ ghost use Rattle.std.specs.Prelude.{◌≡◌, ◌==◌, count_by, length, not, 
 
 /// Where something stands in a text, for a reader: both numbers count from 1.
 #[derive(Clone, Copy, PartialEq, Eq)]
-pub struct Place {
+pub struct LineColumn {
     /// One more than the line feeds before it.
     pub line: usize,
     /// One more than the bytes of its line before it.
     pub col: usize,
 }
 
-impl Place {
+impl LineColumn {
     ghost use Rattle.std.specs.Prelude.{◌≡◌};
     ghost use Rattle.ilsource.specs.Places.{line_at, col_at};
 
     /// The place of the byte `at` of `text`; what is past the end stands at the end.
-    pub fn of(text: &[u8], at: usize) -> Place
+    pub fn of(text: &[u8], at: usize) -> LineColumn
         ensures line { result.line ≡ line_at text.now at }
         ensures col { result.col ≡ col_at text.now at }
     {
         let (before, _) = text.split_at(at.min(text.len()));
-        Place {
+        LineColumn {
             line: 1 + line_feeds(before),
             col: 1 + bytes_of_last_line(before),
         }
