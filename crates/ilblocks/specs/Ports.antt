@@ -1,5 +1,5 @@
 -- The ports of function blocks (IEC 61131-3, 2.5.2.3; profile for request blocks).
-use Rattle.std.specs.Prelude.{ℕ, ℤ, pos, negsuc, ◌-◌, ◌≤ℤ◌, int_le, List, map, Bool, true, false, T}
+use Rattle.std.specs.Prelude.{ℕ, ℤ, pos, negsuc, ◌-◌, ◌≤ℤ◌, int_le, List, [], ◌∷◌, map, Bool, true, false, T}
 use Rattle.std.specs.Prelude.{Option, Some, None, slice_get, codes, option_and_then}
 use Rattle.std.specs.List.{position}
 use Rattle.std.specs.Str.{str_eq_ignore_ascii_case}
@@ -13,25 +13,96 @@ use Rattle.ilblocks.specs.declared.port.Direction.{Direction}
 use Rattle.ilblocks.specs.declared.port.Direction.TheVariants.{Input, Output}
 use Rattle.ilblocks.specs.declared.port.Port.{Port}
 use Rattle.ilblocks.specs.declared.port.PortName.{PortName}
-use Rattle.ilblocks.specs.declared.port.PortName.TheVariants as port_names
+use Rattle.ilblocks.specs.declared.port.PortName.TheVariants as names
 use Rattle.ilblocks.specs.declared.port.PortValues.{PortValues}
 use Rattle.ilblocks.specs.declared.port.PortValues.TheVariants.{Truth, Int, UpTo, Bus}
-use Rattle.ilblocks.specs.declared.port.TheConstants as tables
 
--- the ports of a kind, in the order of their numbers, by its table
+-- a port that programs store to, and one that the block stores to
+abbrev pub input : PortName → PortValues → Port
+input name values = record { name = name; direction = Input; values = values }
+
+abbrev pub output : PortName → PortValues → Port
+output name values = record { name = name; direction = Output; values = values }
+
+-- the ports of a kind, in the order of their numbers: R_TRIG, CTU and TON (IEC 61131-3, tables 35 to 37), then the
+-- request blocks (profile); a time is in milliseconds, ADR the number of an address, CMD the index of a command
 abbrev pub ports_of : BlockKind → List Port
-ports_of kinds.RTrig = tables.R_TRIG
-ports_of kinds.Ctu = tables.CTU
-ports_of kinds.Ton = tables.TON
-ports_of kinds.GearLevel = tables.GEAR_LEVEL
-ports_of kinds.GearDo = tables.GEAR_DO
-ports_of kinds.GearSet = tables.GEAR_SET
-ports_of kinds.GearPair = tables.GEAR_PAIR
-ports_of kinds.GearAsk = tables.GEAR_ASK
-ports_of kinds.GearRead = tables.GEAR_READ
-ports_of kinds.DevDo = tables.DEV_DO
-ports_of kinds.DevScheme = tables.DEV_SCHEME
-ports_of kinds.DevAsk = tables.DEV_ASK
+ports_of kinds.RTrig =
+    input names.Clk Truth
+    ∷ output names.Q Truth
+    ∷ []
+ports_of kinds.Ctu =
+    input names.Cu Truth
+    ∷ input names.R Truth
+    ∷ input names.Pv Int
+    ∷ output names.Q Truth
+    ∷ output names.Cv (UpTo 32767)
+    ∷ []
+ports_of kinds.Ton =
+    input names.In Truth
+    ∷ input names.Pt (UpTo 4294967295)
+    ∷ output names.Q Truth
+    ∷ output names.Et (UpTo 4294967295)
+    ∷ []
+ports_of kinds.GearLevel =
+    input names.Req Truth
+    ∷ input names.Bus Bus
+    ∷ input names.Adr (UpTo 80)
+    ∷ input names.Level (UpTo 255)
+    ∷ []
+ports_of kinds.GearDo =
+    input names.Req Truth
+    ∷ input names.Bus Bus
+    ∷ input names.Adr (UpTo 80)
+    ∷ input names.Cmd (UpTo 25)
+    ∷ []
+ports_of kinds.GearSet =
+    input names.Req Truth
+    ∷ input names.Bus Bus
+    ∷ input names.Adr (UpTo 80)
+    ∷ input names.Cmd (UpTo 22)
+    ∷ input names.Data (UpTo 255)
+    ∷ []
+ports_of kinds.GearPair =
+    input names.Req Truth
+    ∷ input names.Bus Bus
+    ∷ input names.Adr (UpTo 80)
+    ∷ input names.Cmd (UpTo 49)
+    ∷ []
+ports_of kinds.GearAsk =
+    input names.Req Truth
+    ∷ input names.Bus Bus
+    ∷ input names.Adr (UpTo 63)
+    ∷ input names.Cmd (UpTo 42)
+    ∷ []
+ports_of kinds.GearRead =
+    input names.Req Truth
+    ∷ input names.Bus Bus
+    ∷ input names.Adr (UpTo 63)
+    ∷ input names.Bank (UpTo 255)
+    ∷ input names.Offset (UpTo 255)
+    ∷ []
+ports_of kinds.DevDo =
+    input names.Req Truth
+    ∷ input names.Bus Bus
+    ∷ input names.Adr (UpTo 63)
+    ∷ input names.Inst (UpTo 31)
+    ∷ input names.Cmd (UpTo 1)
+    ∷ []
+ports_of kinds.DevScheme =
+    input names.Req Truth
+    ∷ input names.Bus Bus
+    ∷ input names.Adr (UpTo 63)
+    ∷ input names.Inst (UpTo 31)
+    ∷ input names.Scheme (UpTo 4)
+    ∷ []
+ports_of kinds.DevAsk =
+    input names.Req Truth
+    ∷ input names.Bus Bus
+    ∷ input names.Adr (UpTo 63)
+    ∷ input names.Inst (UpTo 31)
+    ∷ input names.Cmd (UpTo 2)
+    ∷ []
 
 -- whether a call may make a request
 abbrev pub makes_requests : BlockKind → Bool
@@ -75,25 +146,25 @@ input_type buses kind port =
 
 -- how a port's name is written
 abbrev pub spelling : PortName → List ℕ
-spelling port_names.Clk = codes "CLK"
-spelling port_names.Q = codes "Q"
-spelling port_names.Cu = codes "CU"
-spelling port_names.R = codes "R"
-spelling port_names.Pv = codes "PV"
-spelling port_names.Cv = codes "CV"
-spelling port_names.In = codes "IN"
-spelling port_names.Pt = codes "PT"
-spelling port_names.Et = codes "ET"
-spelling port_names.Req = codes "REQ"
-spelling port_names.Bus = codes "BUS"
-spelling port_names.Adr = codes "ADR"
-spelling port_names.Level = codes "LEVEL"
-spelling port_names.Cmd = codes "CMD"
-spelling port_names.Data = codes "DATA"
-spelling port_names.Bank = codes "BANK"
-spelling port_names.Offset = codes "OFFSET"
-spelling port_names.Inst = codes "INST"
-spelling port_names.Scheme = codes "SCHEME"
+spelling names.Clk = codes "CLK"
+spelling names.Q = codes "Q"
+spelling names.Cu = codes "CU"
+spelling names.R = codes "R"
+spelling names.Pv = codes "PV"
+spelling names.Cv = codes "CV"
+spelling names.In = codes "IN"
+spelling names.Pt = codes "PT"
+spelling names.Et = codes "ET"
+spelling names.Req = codes "REQ"
+spelling names.Bus = codes "BUS"
+spelling names.Adr = codes "ADR"
+spelling names.Level = codes "LEVEL"
+spelling names.Cmd = codes "CMD"
+spelling names.Data = codes "DATA"
+spelling names.Bank = codes "BANK"
+spelling names.Offset = codes "OFFSET"
+spelling names.Inst = codes "INST"
+spelling names.Scheme = codes "SCHEME"
 
 -- the name is that of the port, in any letter case (IEC 61131-3, 2.1.2)
 abbrev pub is_named : List ℕ → Port → Bool

@@ -29,13 +29,13 @@ pub enum BlockKind {
 
 impl BlockKind {
     ghost use Rattle.std.specs.Prelude.{◌≡◌, ◌≤◌, length};
-    ghost use Rattle.ilblocks.specs.Ports.{ports_of, makes_requests, port_named};
+    ghost use Rattle.ilblocks.specs.Ports.{ports_of, most_ports, makes_requests, port_named};
     ghost use Rattle.ilblocks.specs.Ports.{port_type, input_type};
 
     /// The ports, in the order of their numbers: two to five.
     pub fn ports(self) -> &'static [Port]
         ensures value { result.now ≡ ports_of self }
-        ensures few { length (ports_of self) ≤ 5 }
+        ensures few { length (ports_of self) ≤ most_ports }
     {
         match self {
             BlockKind::RTrig => &R_TRIG,

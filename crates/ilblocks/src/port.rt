@@ -1,5 +1,7 @@
-//! Ports, and the table of those of each kind (IEC 61131-3, tables 35 to 37; profile).
+//! Ports, and the table of those of each kind, a row each, in the order of their numbers (IEC
+//! 61131-3, tables 35 to 37; profile). `Kind::ports` is proved to give the rows of the definition.
 
+use PortValues::{Bus, Int, Truth, UpTo};
 use iltypes::{IlType, Range, Value};
 
 /// The greatest number of ports of a kind.
@@ -140,310 +142,121 @@ impl Port {
     }
 }
 
-/// R_TRIG.
-pub const R_TRIG: [Port; 2] = [
-    Port {
-        name: PortName::Clk,
-        direction: Direction::Input,
-        values: PortValues::Truth,
-    },
-    Port {
-        name: PortName::Q,
-        direction: Direction::Output,
-        values: PortValues::Truth,
-    },
-];
+/// A port that programs store to.
+macro_rules! input {
+    ($name:ident, $values:expr) => {
+        Port {
+            name: PortName::$name,
+            direction: Direction::Input,
+            values: $values,
+        }
+    };
+}
 
-/// CTU.
+/// A port that the block stores to.
+macro_rules! output {
+    ($name:ident, $values:expr) => {
+        Port {
+            name: PortName::$name,
+            direction: Direction::Output,
+            values: $values,
+        }
+    };
+}
+
+/// R_TRIG (IEC 61131-3, table 35).
+pub const R_TRIG: [Port; 2] = [input!(Clk, Truth), output!(Q, Truth)];
+
+/// CTU (table 36).
 pub const CTU: [Port; 5] = [
-    Port {
-        name: PortName::Cu,
-        direction: Direction::Input,
-        values: PortValues::Truth,
-    },
-    Port {
-        name: PortName::R,
-        direction: Direction::Input,
-        values: PortValues::Truth,
-    },
-    Port {
-        name: PortName::Pv,
-        direction: Direction::Input,
-        values: PortValues::Int,
-    },
-    Port {
-        name: PortName::Q,
-        direction: Direction::Output,
-        values: PortValues::Truth,
-    },
-    Port {
-        name: PortName::Cv,
-        direction: Direction::Output,
-        values: PortValues::UpTo(32_767),
-    },
+    input!(Cu, Truth),
+    input!(R, Truth),
+    input!(Pv, Int),
+    output!(Q, Truth),
+    output!(Cv, UpTo(32_767)),
 ];
 
-/// TON; times are in milliseconds.
+/// TON (table 37); times are in milliseconds.
 pub const TON: [Port; 4] = [
-    Port {
-        name: PortName::In,
-        direction: Direction::Input,
-        values: PortValues::Truth,
-    },
-    Port {
-        name: PortName::Pt,
-        direction: Direction::Input,
-        values: PortValues::UpTo(4_294_967_295),
-    },
-    Port {
-        name: PortName::Q,
-        direction: Direction::Output,
-        values: PortValues::Truth,
-    },
-    Port {
-        name: PortName::Et,
-        direction: Direction::Output,
-        values: PortValues::UpTo(4_294_967_295),
-    },
+    input!(In, Truth),
+    input!(Pt, UpTo(4_294_967_295)),
+    output!(Q, Truth),
+    output!(Et, UpTo(4_294_967_295)),
 ];
 
-/// GEAR_LEVEL.
+/// GEAR_LEVEL (profile, as all that follow).
 pub const GEAR_LEVEL: [Port; 4] = [
-    Port {
-        name: PortName::Req,
-        direction: Direction::Input,
-        values: PortValues::Truth,
-    },
-    Port {
-        name: PortName::Bus,
-        direction: Direction::Input,
-        values: PortValues::Bus,
-    },
-    Port {
-        name: PortName::Adr,
-        direction: Direction::Input,
-        values: PortValues::UpTo(80),
-    },
-    Port {
-        name: PortName::Level,
-        direction: Direction::Input,
-        values: PortValues::UpTo(255),
-    },
+    input!(Req, Truth),
+    input!(Bus, Bus),
+    input!(Adr, UpTo(80)),
+    input!(Level, UpTo(255)),
 ];
 
 /// GEAR_DO.
 pub const GEAR_DO: [Port; 4] = [
-    Port {
-        name: PortName::Req,
-        direction: Direction::Input,
-        values: PortValues::Truth,
-    },
-    Port {
-        name: PortName::Bus,
-        direction: Direction::Input,
-        values: PortValues::Bus,
-    },
-    Port {
-        name: PortName::Adr,
-        direction: Direction::Input,
-        values: PortValues::UpTo(80),
-    },
-    Port {
-        name: PortName::Cmd,
-        direction: Direction::Input,
-        values: PortValues::UpTo(25),
-    },
+    input!(Req, Truth),
+    input!(Bus, Bus),
+    input!(Adr, UpTo(80)),
+    input!(Cmd, UpTo(25)),
 ];
 
 /// GEAR_SET.
 pub const GEAR_SET: [Port; 5] = [
-    Port {
-        name: PortName::Req,
-        direction: Direction::Input,
-        values: PortValues::Truth,
-    },
-    Port {
-        name: PortName::Bus,
-        direction: Direction::Input,
-        values: PortValues::Bus,
-    },
-    Port {
-        name: PortName::Adr,
-        direction: Direction::Input,
-        values: PortValues::UpTo(80),
-    },
-    Port {
-        name: PortName::Cmd,
-        direction: Direction::Input,
-        values: PortValues::UpTo(22),
-    },
-    Port {
-        name: PortName::Data,
-        direction: Direction::Input,
-        values: PortValues::UpTo(255),
-    },
+    input!(Req, Truth),
+    input!(Bus, Bus),
+    input!(Adr, UpTo(80)),
+    input!(Cmd, UpTo(22)),
+    input!(Data, UpTo(255)),
 ];
 
 /// GEAR_PAIR.
 pub const GEAR_PAIR: [Port; 4] = [
-    Port {
-        name: PortName::Req,
-        direction: Direction::Input,
-        values: PortValues::Truth,
-    },
-    Port {
-        name: PortName::Bus,
-        direction: Direction::Input,
-        values: PortValues::Bus,
-    },
-    Port {
-        name: PortName::Adr,
-        direction: Direction::Input,
-        values: PortValues::UpTo(80),
-    },
-    Port {
-        name: PortName::Cmd,
-        direction: Direction::Input,
-        values: PortValues::UpTo(49),
-    },
+    input!(Req, Truth),
+    input!(Bus, Bus),
+    input!(Adr, UpTo(80)),
+    input!(Cmd, UpTo(49)),
 ];
 
 /// GEAR_ASK.
 pub const GEAR_ASK: [Port; 4] = [
-    Port {
-        name: PortName::Req,
-        direction: Direction::Input,
-        values: PortValues::Truth,
-    },
-    Port {
-        name: PortName::Bus,
-        direction: Direction::Input,
-        values: PortValues::Bus,
-    },
-    Port {
-        name: PortName::Adr,
-        direction: Direction::Input,
-        values: PortValues::UpTo(63),
-    },
-    Port {
-        name: PortName::Cmd,
-        direction: Direction::Input,
-        values: PortValues::UpTo(42),
-    },
+    input!(Req, Truth),
+    input!(Bus, Bus),
+    input!(Adr, UpTo(63)),
+    input!(Cmd, UpTo(42)),
 ];
 
 /// GEAR_READ.
 pub const GEAR_READ: [Port; 5] = [
-    Port {
-        name: PortName::Req,
-        direction: Direction::Input,
-        values: PortValues::Truth,
-    },
-    Port {
-        name: PortName::Bus,
-        direction: Direction::Input,
-        values: PortValues::Bus,
-    },
-    Port {
-        name: PortName::Adr,
-        direction: Direction::Input,
-        values: PortValues::UpTo(63),
-    },
-    Port {
-        name: PortName::Bank,
-        direction: Direction::Input,
-        values: PortValues::UpTo(255),
-    },
-    Port {
-        name: PortName::Offset,
-        direction: Direction::Input,
-        values: PortValues::UpTo(255),
-    },
+    input!(Req, Truth),
+    input!(Bus, Bus),
+    input!(Adr, UpTo(63)),
+    input!(Bank, UpTo(255)),
+    input!(Offset, UpTo(255)),
 ];
 
 /// DEV_DO.
 pub const DEV_DO: [Port; 5] = [
-    Port {
-        name: PortName::Req,
-        direction: Direction::Input,
-        values: PortValues::Truth,
-    },
-    Port {
-        name: PortName::Bus,
-        direction: Direction::Input,
-        values: PortValues::Bus,
-    },
-    Port {
-        name: PortName::Adr,
-        direction: Direction::Input,
-        values: PortValues::UpTo(63),
-    },
-    Port {
-        name: PortName::Inst,
-        direction: Direction::Input,
-        values: PortValues::UpTo(31),
-    },
-    Port {
-        name: PortName::Cmd,
-        direction: Direction::Input,
-        values: PortValues::UpTo(1),
-    },
+    input!(Req, Truth),
+    input!(Bus, Bus),
+    input!(Adr, UpTo(63)),
+    input!(Inst, UpTo(31)),
+    input!(Cmd, UpTo(1)),
 ];
 
 /// DEV_SCHEME.
 pub const DEV_SCHEME: [Port; 5] = [
-    Port {
-        name: PortName::Req,
-        direction: Direction::Input,
-        values: PortValues::Truth,
-    },
-    Port {
-        name: PortName::Bus,
-        direction: Direction::Input,
-        values: PortValues::Bus,
-    },
-    Port {
-        name: PortName::Adr,
-        direction: Direction::Input,
-        values: PortValues::UpTo(63),
-    },
-    Port {
-        name: PortName::Inst,
-        direction: Direction::Input,
-        values: PortValues::UpTo(31),
-    },
-    Port {
-        name: PortName::Scheme,
-        direction: Direction::Input,
-        values: PortValues::UpTo(4),
-    },
+    input!(Req, Truth),
+    input!(Bus, Bus),
+    input!(Adr, UpTo(63)),
+    input!(Inst, UpTo(31)),
+    input!(Scheme, UpTo(4)),
 ];
 
 /// DEV_ASK.
 pub const DEV_ASK: [Port; 5] = [
-    Port {
-        name: PortName::Req,
-        direction: Direction::Input,
-        values: PortValues::Truth,
-    },
-    Port {
-        name: PortName::Bus,
-        direction: Direction::Input,
-        values: PortValues::Bus,
-    },
-    Port {
-        name: PortName::Adr,
-        direction: Direction::Input,
-        values: PortValues::UpTo(63),
-    },
-    Port {
-        name: PortName::Inst,
-        direction: Direction::Input,
-        values: PortValues::UpTo(31),
-    },
-    Port {
-        name: PortName::Cmd,
-        direction: Direction::Input,
-        values: PortValues::UpTo(2),
-    },
+    input!(Req, Truth),
+    input!(Bus, Bus),
+    input!(Adr, UpTo(63)),
+    input!(Inst, UpTo(31)),
+    input!(Cmd, UpTo(2)),
 ];
