@@ -22,11 +22,9 @@ use Rattle.iltokens.specs.declared.lexed.What.TheVariants as whats
 use Rattle.iltext.specs.declared.token.TokenKind.{TokenKind}
 use Rattle.iltext.specs.declared.token.TokenKind.TheVariants as kinds
 use Rattle.iltext.specs.declared.token.Token.{Token}
-use Rattle.iltext.specs.declared.block_kinds.TheConstants.{BLOCKS}
-use Rattle.iltext.specs.Roles.{lookup}
 use Rattle.iltext.specs.Terminals.{word, delimiter, name, spaced}
 use Rattle.iltext.specs.Declarations.{integer_word, integer, simple_word, simple, interval, range, specification}
-use Rattle.iltext.specs.Declarations.{initial, typing, type_declaration, block, instances, declared}
+use Rattle.iltext.specs.Declarations.{initial, typing, type_declaration, block_of_word, block, instances, declared}
 use Rattle.iltext.specs.Declarations.{next_name, more_names, names_after, names, declaration, declarations, vars}
 use Rattle.iltext.specs.Declarations.{external, externals, var_external, variables}
 use Rattle.iltext.proofs.Delimiters.{Anything, token_of, Firm-word, Firm-delimiter, apart_word, apart_delimiter}
@@ -158,7 +156,7 @@ unfolding instances
 Firm-instances = Firm-map _ (Firm-seq (Firm-spaced Firm-block) (λ t e. delimiter_no_end delimiters.Semicolon refl t e)
     (Firm-spaced (Firm-delimiter delimiters.Semicolon)))
 
-word_apart : (w : Keyword) → is_in (simple_word w) || is_in (integer_word w) ≡ true → is_in (lookup BLOCKS w) ≡ false
+word_apart : (w : Keyword) → is_in (simple_word w) || is_in (integer_word w) ≡ true → is_in (block_of_word w) ≡ false
 word_apart words.Bool e = refl
 word_apart words.Time e = refl
 word_apart words.Sint e = refl

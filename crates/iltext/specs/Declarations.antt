@@ -4,6 +4,7 @@ use Rattle.std.specs.Prelude.{ℤ, List, [], ◌∷◌, Option, Some, None}
 use Rattle.iloperators.specs.declared.function.IntegerType.{IntegerType}
 use Rattle.iloperators.specs.declared.function.IntegerType.TheVariants as integers
 use Rattle.ilblocks.specs.declared.kind.BlockKind.{BlockKind}
+use Rattle.ilblocks.specs.declared.kind.BlockKind.TheVariants as blocks
 use Rattle.ilgrammar.specs.Items.{Item, one, map, seq, lead, select, opt, alt, many}
 use Rattle.ilsource.specs.declared.name.Name.{Name}
 use Rattle.ilsource.specs.declared.declaration.Constant.{Constant}
@@ -17,11 +18,9 @@ use Rattle.iltokens.specs.declared.keyword.Keyword.{Keyword}
 use Rattle.iltokens.specs.declared.keyword.Keyword.TheVariants as words
 use Rattle.iltokens.specs.declared.lexed.Delimiter.TheVariants as delimiters
 use Rattle.iltokens.specs.declared.lexed.What.TheVariants as whats
-use Rattle.iltext.specs.declared.block_kinds.TheConstants.{BLOCKS}
 use Rattle.iltext.specs.declared.token.TokenKind.{TokenKind}
 use Rattle.iltext.specs.declared.token.TokenKind.TheVariants as kinds
 use Rattle.iltext.specs.declared.token.Token.{Token}
-use Rattle.iltext.specs.Roles.{lookup}
 use Rattle.iltext.specs.Terminals.{word, delimiter, name, number, constant, spaced}
 
 -- ---- types
@@ -104,11 +103,27 @@ names_after first = map (λ names. first ∷ names) more_names
 unfoldable pub names : Item Token (List Name)
 names = select (spaced name) names_after
 
+-- the kind of function block that a word is (2.5.2.3, and those of requests by the profile)
+abbrev pub block_of_word : Keyword → Option BlockKind
+block_of_word words.RTrig = Some blocks.RTrig
+block_of_word words.Ctu = Some blocks.Ctu
+block_of_word words.Ton = Some blocks.Ton
+block_of_word words.GearLevel = Some blocks.GearLevel
+block_of_word words.GearDo = Some blocks.GearDo
+block_of_word words.GearSet = Some blocks.GearSet
+block_of_word words.GearPair = Some blocks.GearPair
+block_of_word words.GearAsk = Some blocks.GearAsk
+block_of_word words.GearRead = Some blocks.GearRead
+block_of_word words.DevDo = Some blocks.DevDo
+block_of_word words.DevScheme = Some blocks.DevScheme
+block_of_word words.DevAsk = Some blocks.DevAsk
+block_of_word _ = None
+
 abbrev pub block_at : TokenKind → Option BlockKind
-block_at (kinds.Good (whats.Keyword w)) = lookup BLOCKS w
+block_at (kinds.Good (whats.Keyword w)) = block_of_word w
 block_at _ = None
 
--- a kind of function block, by the table of its words
+-- the word of a kind of function block
 unfoldable pub block : Item Token BlockKind
 block = one (λ t. block_at t.kind)
 

@@ -3,36 +3,40 @@
 ghost use Rattle.std.specs.Prelude.{◌≡◌};
 ghost use Rattle.ilgrammar.specs.Items.{begins};
 ghost use Rattle.ilgrammar.specs.Results.{Gives};
-ghost use Rattle.iltext.specs.Declarations.{block_at, block, instances};
+ghost use Rattle.iltext.specs.Declarations.{block_of_word, block_at, block, instances};
 
-use crate::roles::lookup;
 use crate::token::{Token, TokenKind};
 use ilblocks::BlockKind;
 use ilgrammar::ReadError;
 use iltokens::{Keyword, What};
 
-/// The kind of block that each word is.
-pub const BLOCKS: [(Keyword, BlockKind); 12] = [
-    (Keyword::RTrig, BlockKind::RTrig),
-    (Keyword::Ctu, BlockKind::Ctu),
-    (Keyword::Ton, BlockKind::Ton),
-    (Keyword::GearLevel, BlockKind::GearLevel),
-    (Keyword::GearDo, BlockKind::GearDo),
-    (Keyword::GearSet, BlockKind::GearSet),
-    (Keyword::GearPair, BlockKind::GearPair),
-    (Keyword::GearAsk, BlockKind::GearAsk),
-    (Keyword::GearRead, BlockKind::GearRead),
-    (Keyword::DevDo, BlockKind::DevDo),
-    (Keyword::DevScheme, BlockKind::DevScheme),
-    (Keyword::DevAsk, BlockKind::DevAsk),
-];
+/// The kind of block that a word is.
+fn block_of_word(word: Keyword) -> Option<BlockKind>
+    ensures { result ≡ block_of_word word }
+{
+    match word {
+        Keyword::RTrig => Some(BlockKind::RTrig),
+        Keyword::Ctu => Some(BlockKind::Ctu),
+        Keyword::Ton => Some(BlockKind::Ton),
+        Keyword::GearLevel => Some(BlockKind::GearLevel),
+        Keyword::GearDo => Some(BlockKind::GearDo),
+        Keyword::GearSet => Some(BlockKind::GearSet),
+        Keyword::GearPair => Some(BlockKind::GearPair),
+        Keyword::GearAsk => Some(BlockKind::GearAsk),
+        Keyword::GearRead => Some(BlockKind::GearRead),
+        Keyword::DevDo => Some(BlockKind::DevDo),
+        Keyword::DevScheme => Some(BlockKind::DevScheme),
+        Keyword::DevAsk => Some(BlockKind::DevAsk),
+        _ => None,
+    }
+}
 
 /// The kind of block that a token is the word of.
 fn kind_of(kind: TokenKind) -> Option<BlockKind>
     ensures { result ≡ block_at kind }
 {
     match kind {
-        TokenKind::Good(What::Keyword(word)) => lookup(&BLOCKS, word),
+        TokenKind::Good(What::Keyword(word)) => block_of_word(word),
         _ => None,
     }
 }

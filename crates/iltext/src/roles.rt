@@ -1,7 +1,7 @@
 //! What operators do, by their words (IEC 61131-3, 3.2.2 and 2.5.1.5).
 
 ghost use Rattle.std.specs.Prelude.{◌≡◌, IfSome, IsTrue};
-ghost use Rattle.iltext.specs.Roles.{lookup, role_of_word, role_of};
+ghost use Rattle.iltext.specs.Roles.{converts_to, role_of_word, role_of};
 ghost use Rattle.iltext.specs.Roles.{may_nest, inner_role_of, is_inner};
 
 use crate::token::TokenKind;
@@ -33,204 +33,43 @@ pub enum OperatorRole {
     Call(Condition),
 }
 
-/// What each word does as an operator.
-pub const ROLES: [(Keyword, OperatorRole); 67] = [
-    // Loads and stores, with the modifier N.
-    (Keyword::Ld, OperatorRole::Load { negated: false }),
-    (Keyword::Ldn, OperatorRole::Load { negated: true }),
-    (Keyword::St, OperatorRole::Store { negated: false }),
-    (Keyword::Stn, OperatorRole::Store { negated: true }),
-    (Keyword::S, OperatorRole::Set),
-    (Keyword::R, OperatorRole::Reset),
-    // Jumps and returns, with the modifiers C and CN.
-    (Keyword::Jmp, OperatorRole::Jump(Condition::Always)),
-    (Keyword::Jmpc, OperatorRole::Jump(Condition::IfTrue)),
-    (Keyword::Jmpcn, OperatorRole::Jump(Condition::IfFalse)),
-    (Keyword::Ret, OperatorRole::Return(Condition::Always)),
-    (Keyword::Retc, OperatorRole::Return(Condition::IfTrue)),
-    (Keyword::Retcn, OperatorRole::Return(Condition::IfFalse)),
-    // Calls, with the modifiers C and CN.
-    (Keyword::Cal, OperatorRole::Call(Condition::Always)),
-    (Keyword::Calc, OperatorRole::Call(Condition::IfTrue)),
-    (Keyword::Calcn, OperatorRole::Call(Condition::IfFalse)),
-    // Truth values.
-    (
-        Keyword::And,
-        OperatorRole::Apply(Operator::And { negated: false }),
-    ),
-    (
-        Keyword::Andn,
-        OperatorRole::Apply(Operator::And { negated: true }),
-    ),
-    (
-        Keyword::Or,
-        OperatorRole::Apply(Operator::Or { negated: false }),
-    ),
-    (
-        Keyword::Orn,
-        OperatorRole::Apply(Operator::Or { negated: true }),
-    ),
-    (
-        Keyword::Xor,
-        OperatorRole::Apply(Operator::Xor { negated: false }),
-    ),
-    (
-        Keyword::Xorn,
-        OperatorRole::Apply(Operator::Xor { negated: true }),
-    ),
-    (Keyword::Not, OperatorRole::Transform(Function::Not)),
-    // Numbers.
-    (Keyword::Add, OperatorRole::Apply(Operator::Add)),
-    (Keyword::Sub, OperatorRole::Apply(Operator::Sub)),
-    (Keyword::Mul, OperatorRole::Apply(Operator::Mul)),
-    (Keyword::Div, OperatorRole::Apply(Operator::Div)),
-    (Keyword::Mod, OperatorRole::Apply(Operator::Mod)),
-    // Comparisons.
-    (Keyword::Gt, OperatorRole::Apply(Operator::Gt)),
-    (Keyword::Ge, OperatorRole::Apply(Operator::Ge)),
-    (Keyword::Eq, OperatorRole::Apply(Operator::Eq)),
-    (Keyword::Ne, OperatorRole::Apply(Operator::Ne)),
-    (Keyword::Le, OperatorRole::Apply(Operator::Le)),
-    (Keyword::Lt, OperatorRole::Apply(Operator::Lt)),
-    // Functions.
-    (Keyword::Min, OperatorRole::Apply(Operator::Min)),
-    (Keyword::Max, OperatorRole::Apply(Operator::Max)),
-    (Keyword::Limit, OperatorRole::Limit),
-    (Keyword::Abs, OperatorRole::Transform(Function::Abs)),
-    // Conversions.
-    (
-        Keyword::SintToInt,
-        OperatorRole::Transform(Function::Convert(IntegerType::Int)),
-    ),
-    (
-        Keyword::SintToDint,
-        OperatorRole::Transform(Function::Convert(IntegerType::Dint)),
-    ),
-    (
-        Keyword::SintToUsint,
-        OperatorRole::Transform(Function::Convert(IntegerType::Usint)),
-    ),
-    (
-        Keyword::SintToUint,
-        OperatorRole::Transform(Function::Convert(IntegerType::Uint)),
-    ),
-    (
-        Keyword::SintToUdint,
-        OperatorRole::Transform(Function::Convert(IntegerType::Udint)),
-    ),
-    (
-        Keyword::IntToSint,
-        OperatorRole::Transform(Function::Convert(IntegerType::Sint)),
-    ),
-    (
-        Keyword::IntToDint,
-        OperatorRole::Transform(Function::Convert(IntegerType::Dint)),
-    ),
-    (
-        Keyword::IntToUsint,
-        OperatorRole::Transform(Function::Convert(IntegerType::Usint)),
-    ),
-    (
-        Keyword::IntToUint,
-        OperatorRole::Transform(Function::Convert(IntegerType::Uint)),
-    ),
-    (
-        Keyword::IntToUdint,
-        OperatorRole::Transform(Function::Convert(IntegerType::Udint)),
-    ),
-    (
-        Keyword::DintToSint,
-        OperatorRole::Transform(Function::Convert(IntegerType::Sint)),
-    ),
-    (
-        Keyword::DintToInt,
-        OperatorRole::Transform(Function::Convert(IntegerType::Int)),
-    ),
-    (
-        Keyword::DintToUsint,
-        OperatorRole::Transform(Function::Convert(IntegerType::Usint)),
-    ),
-    (
-        Keyword::DintToUint,
-        OperatorRole::Transform(Function::Convert(IntegerType::Uint)),
-    ),
-    (
-        Keyword::DintToUdint,
-        OperatorRole::Transform(Function::Convert(IntegerType::Udint)),
-    ),
-    (
-        Keyword::UsintToSint,
-        OperatorRole::Transform(Function::Convert(IntegerType::Sint)),
-    ),
-    (
-        Keyword::UsintToInt,
-        OperatorRole::Transform(Function::Convert(IntegerType::Int)),
-    ),
-    (
-        Keyword::UsintToDint,
-        OperatorRole::Transform(Function::Convert(IntegerType::Dint)),
-    ),
-    (
-        Keyword::UsintToUint,
-        OperatorRole::Transform(Function::Convert(IntegerType::Uint)),
-    ),
-    (
-        Keyword::UsintToUdint,
-        OperatorRole::Transform(Function::Convert(IntegerType::Udint)),
-    ),
-    (
-        Keyword::UintToSint,
-        OperatorRole::Transform(Function::Convert(IntegerType::Sint)),
-    ),
-    (
-        Keyword::UintToInt,
-        OperatorRole::Transform(Function::Convert(IntegerType::Int)),
-    ),
-    (
-        Keyword::UintToDint,
-        OperatorRole::Transform(Function::Convert(IntegerType::Dint)),
-    ),
-    (
-        Keyword::UintToUsint,
-        OperatorRole::Transform(Function::Convert(IntegerType::Usint)),
-    ),
-    (
-        Keyword::UintToUdint,
-        OperatorRole::Transform(Function::Convert(IntegerType::Udint)),
-    ),
-    (
-        Keyword::UdintToSint,
-        OperatorRole::Transform(Function::Convert(IntegerType::Sint)),
-    ),
-    (
-        Keyword::UdintToInt,
-        OperatorRole::Transform(Function::Convert(IntegerType::Int)),
-    ),
-    (
-        Keyword::UdintToDint,
-        OperatorRole::Transform(Function::Convert(IntegerType::Dint)),
-    ),
-    (
-        Keyword::UdintToUsint,
-        OperatorRole::Transform(Function::Convert(IntegerType::Usint)),
-    ),
-    (
-        Keyword::UdintToUint,
-        OperatorRole::Transform(Function::Convert(IntegerType::Uint)),
-    ),
-];
-
-/// What a table has for a word.
-pub fn lookup<T: Copy>(mut table: &[(Keyword, T)], word: Keyword) -> Option<T>
-    ensures { result ≡ lookup table.entry.now word }
+/// The type that a conversion of integers gives (2.5.1.5.1).
+fn converts_to(word: Keyword) -> Option<IntegerType>
+    ensures { result ≡ converts_to word }
 {
-    'table: while let [entry, rest @ ..] = table {
-        if entry.0 == word {
-            return Some(entry.1);
-        }
-        table = rest;
+    match word {
+        Keyword::SintToInt => Some(IntegerType::Int),
+        Keyword::SintToDint => Some(IntegerType::Dint),
+        Keyword::SintToUsint => Some(IntegerType::Usint),
+        Keyword::SintToUint => Some(IntegerType::Uint),
+        Keyword::SintToUdint => Some(IntegerType::Udint),
+        Keyword::IntToSint => Some(IntegerType::Sint),
+        Keyword::IntToDint => Some(IntegerType::Dint),
+        Keyword::IntToUsint => Some(IntegerType::Usint),
+        Keyword::IntToUint => Some(IntegerType::Uint),
+        Keyword::IntToUdint => Some(IntegerType::Udint),
+        Keyword::DintToSint => Some(IntegerType::Sint),
+        Keyword::DintToInt => Some(IntegerType::Int),
+        Keyword::DintToUsint => Some(IntegerType::Usint),
+        Keyword::DintToUint => Some(IntegerType::Uint),
+        Keyword::DintToUdint => Some(IntegerType::Udint),
+        Keyword::UsintToSint => Some(IntegerType::Sint),
+        Keyword::UsintToInt => Some(IntegerType::Int),
+        Keyword::UsintToDint => Some(IntegerType::Dint),
+        Keyword::UsintToUint => Some(IntegerType::Uint),
+        Keyword::UsintToUdint => Some(IntegerType::Udint),
+        Keyword::UintToSint => Some(IntegerType::Sint),
+        Keyword::UintToInt => Some(IntegerType::Int),
+        Keyword::UintToDint => Some(IntegerType::Dint),
+        Keyword::UintToUsint => Some(IntegerType::Usint),
+        Keyword::UintToUdint => Some(IntegerType::Udint),
+        Keyword::UdintToSint => Some(IntegerType::Sint),
+        Keyword::UdintToInt => Some(IntegerType::Int),
+        Keyword::UdintToDint => Some(IntegerType::Dint),
+        Keyword::UdintToUsint => Some(IntegerType::Usint),
+        Keyword::UdintToUint => Some(IntegerType::Uint),
+        _ => None,
     }
-    None
 }
 
 /// What a word does as an operator.
@@ -238,7 +77,55 @@ pub fn lookup<T: Copy>(mut table: &[(Keyword, T)], word: Keyword) -> Option<T>
 fn role_of_word(word: Keyword) -> Option<OperatorRole>
     ensures { result ≡ role_of_word word }
 {
-    lookup(&ROLES, word)
+    let role = match word {
+        // Loads and stores, with the modifier N.
+        Keyword::Ld => OperatorRole::Load { negated: false },
+        Keyword::Ldn => OperatorRole::Load { negated: true },
+        Keyword::St => OperatorRole::Store { negated: false },
+        Keyword::Stn => OperatorRole::Store { negated: true },
+        Keyword::S => OperatorRole::Set,
+        Keyword::R => OperatorRole::Reset,
+        // Jumps and returns, with the modifiers C and CN.
+        Keyword::Jmp => OperatorRole::Jump(Condition::Always),
+        Keyword::Jmpc => OperatorRole::Jump(Condition::IfTrue),
+        Keyword::Jmpcn => OperatorRole::Jump(Condition::IfFalse),
+        Keyword::Ret => OperatorRole::Return(Condition::Always),
+        Keyword::Retc => OperatorRole::Return(Condition::IfTrue),
+        Keyword::Retcn => OperatorRole::Return(Condition::IfFalse),
+        // Calls, with the modifiers C and CN.
+        Keyword::Cal => OperatorRole::Call(Condition::Always),
+        Keyword::Calc => OperatorRole::Call(Condition::IfTrue),
+        Keyword::Calcn => OperatorRole::Call(Condition::IfFalse),
+        // Truth values.
+        Keyword::And => OperatorRole::Apply(Operator::And { negated: false }),
+        Keyword::Andn => OperatorRole::Apply(Operator::And { negated: true }),
+        Keyword::Or => OperatorRole::Apply(Operator::Or { negated: false }),
+        Keyword::Orn => OperatorRole::Apply(Operator::Or { negated: true }),
+        Keyword::Xor => OperatorRole::Apply(Operator::Xor { negated: false }),
+        Keyword::Xorn => OperatorRole::Apply(Operator::Xor { negated: true }),
+        Keyword::Not => OperatorRole::Transform(Function::Not),
+        // Numbers.
+        Keyword::Add => OperatorRole::Apply(Operator::Add),
+        Keyword::Sub => OperatorRole::Apply(Operator::Sub),
+        Keyword::Mul => OperatorRole::Apply(Operator::Mul),
+        Keyword::Div => OperatorRole::Apply(Operator::Div),
+        Keyword::Mod => OperatorRole::Apply(Operator::Mod),
+        // Comparisons.
+        Keyword::Gt => OperatorRole::Apply(Operator::Gt),
+        Keyword::Ge => OperatorRole::Apply(Operator::Ge),
+        Keyword::Eq => OperatorRole::Apply(Operator::Eq),
+        Keyword::Ne => OperatorRole::Apply(Operator::Ne),
+        Keyword::Le => OperatorRole::Apply(Operator::Le),
+        Keyword::Lt => OperatorRole::Apply(Operator::Lt),
+        // Functions.
+        Keyword::Min => OperatorRole::Apply(Operator::Min),
+        Keyword::Max => OperatorRole::Apply(Operator::Max),
+        Keyword::Limit => OperatorRole::Limit,
+        Keyword::Abs => OperatorRole::Transform(Function::Abs),
+        // Conversions, and no other word.
+        _ => OperatorRole::Transform(Function::Convert(converts_to(word)?)),
+    };
+    Some(role)
 }
 
 /// What a token does as an operator.

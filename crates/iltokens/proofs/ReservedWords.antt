@@ -1,17 +1,15 @@
 -- The reserved words are found in their table, each by its spelling, and no text is spelled as two of them.
-use Rattle.std.proofs.Common.{◌≡◌, ℕ, zero, suc, ◌-◌, ◌<◌, Bool, true, false, cond, List, [], ◌∷◌, ◌++◌, length, map}
-use Rattle.std.proofs.Common.{take, Option, Some, None, MatchOption, refl, sym, ap, subst, ◌∙◌, arith, length-append}
-use Rattle.std.specs.Prelude.{slice_index_or}
-use Rattle.std.specs.List.{Contains}
+use Rattle.std.proofs.Common.{◌≡◌, ℕ, ◌-◌, Bool, true, false, cond, List, [], ◌∷◌, ◌++◌, length, map}
+use Rattle.std.proofs.Common.{take, Option, Some, None, MatchOption, refl, sym, ap, ◌∙◌, arith, length-append}
 use Rattle.std.specs.Char.{to_ascii_lowercase}
 use Rattle.std.specs.Str.{str_eq_ignore_ascii_case}
-use Rattle.std.proofs.lemmas.List.Elements.{Contains-append_right}
 use Rattle.std.proofs.lemmas.Slice.Eq.{bytes_eq-Decides}
 use Rattle.std.proofs.Math.Seq.{take-append_seam}
 use Rattle.iltokens.specs.declared.keyword.Keyword.{Keyword}
+use Rattle.iltokens.specs.declared.keyword.Keyword.TheVariants as words
 use Rattle.iltokens.specs.declared.lexed.What.TheVariants as whats
-use Rattle.iltokens.specs.Keywords.{reserved_words, IsSpelled}
-use Rattle.iltokens.specs.KeywordSteps.{lookup, keyword}
+use Rattle.iltokens.specs.Keywords.{spelling_of, IsSpelled}
+use Rattle.iltokens.specs.KeywordSteps.{reserved_words, lookup, keyword}
 use Rattle.iltokens.specs.FrontSteps.{kind_of_word, word_kind}
 use Rattle.iltokens.specs.Longest.{IsWithin}
 use Rattle.iltokens.specs.Spellings.{IsName, Spells}
@@ -21,23 +19,28 @@ Row = List ℕ × Keyword
 
 -- ---- what the table has is spelled
 
-row_found : (ks : List Row) (text : List ℕ) (w : Keyword) → lookup ks text ≡ Some w
-    → (s : List ℕ) × Contains ks (s, w) × (map to_ascii_lowercase text ≡ map to_ascii_lowercase s)
-row_found [] text w e = absurd cc
-row_found (k ∷ ks) text w e = go (str_eq_ignore_ascii_case k.0 text) refl e (row_found ks text w)
+-- each row has the spelling of its word
+abbrev AreSpelled : List Row → Type 0
+AreSpelled ks = map (λ (k : Row). k.0) ks ≡ map (λ (k : Row). spelling_of k.1) ks
+
+each_spelled : AreSpelled reserved_words
+unfolding reserved_words
+each_spelled = refl
+
+row_found : (ks : List Row) (text : List ℕ) (w : Keyword) → AreSpelled ks → lookup ks text ≡ Some w → IsSpelled text w
+unfolding IsSpelled
+row_found [] text w are e = absurd cc
+row_found (k ∷ ks) text w are e =
+    go (str_eq_ignore_ascii_case k.0 text) refl e (row_found ks text w (cc))
   where
     go : (b : Bool) → str_eq_ignore_ascii_case k.0 text ≡ b → cond b (Some k.1) (lookup ks text) ≡ Some w
-        → (lookup ks text ≡ Some w → (s : List ℕ) × Contains ks (s, w) ×
-        (map to_ascii_lowercase text ≡ map to_ascii_lowercase s))
-        → (s : List ℕ) × Contains (k ∷ ks) (s, w) × (map to_ascii_lowercase text ≡ map to_ascii_lowercase s)
+        → (lookup ks text ≡ Some w → IsSpelled text w) → IsSpelled text w
     go true is e ih =
-        let same : k.1 ≡ w = cc in (
-          k.0,
-          (0, omega arith, ap (λ (z : Keyword). (k.0, z)) same),
-          sym
-              ((bytes_eq-Decides (map to_ascii_lowercase k.0) (map to_ascii_lowercase text)).0 is),
-        )
-    go false is e ih = let f = ih e in (f.0, Contains-append_right (k ∷ []) ks (f.0, w) f.1, f.2)
+        let same : k.1 ≡ w = cc in
+        let spelled : k.0 ≡ spelling_of k.1 = cc in
+        sym ((bytes_eq-Decides (map to_ascii_lowercase k.0) (map to_ascii_lowercase text)).0 is)
+        ∙ ap (map to_ascii_lowercase) (spelled ∙ ap spelling_of same)
+    go false is e ih = ih e
 
 -- ---- what is spelled is found
 
@@ -46,30 +49,20 @@ alike_found : (ks : List Row) (text s : List ℕ) → map to_ascii_lowercase tex
 alike_found [] text s e = refl
 alike_found (k ∷ ks) text s e = rw (e, alike_found ks text s e) refl
 
--- each spelling of the table is found first with its own word
-each_found : map (λ (k : Row). lookup reserved_words k.0) reserved_words ≡ map (λ (k : Row). Some k.1) reserved_words
+-- each word is found by its spelling
+each_found : (w : Keyword) → lookup reserved_words (spelling_of w) ≡ Some w
 unfolding reserved_words
-each_found = refl
-
-at_index : (f g : Row → Option Keyword) (ks : List Row) (i : ℕ) (k : Row) → map f ks ≡ map g ks → i < length ks
-    → slice_index_or ks i k ≡ k → f k ≡ g k
-at_index f g [] i k e lt is = absurd (omega arith)
-at_index f g (j ∷ ks) zero k e lt is = let same : f j ≡ g j = cc in subst (λ (z : Row). f z ≡ g z) is same
-at_index f g (j ∷ ks) (suc i) k e lt is = at_index f g ks i k (cc) (omega arith) is
+each_found words.Ld = refl
+each_found _ = refl
 
 pub is_found : (text : List ℕ) (w : Keyword) → IsSpelled text w → keyword text ≡ Some w
-unfolding keyword
-is_found text w h =
-    alike_found reserved_words text h.spelling h.alike
-    ∙ at_index (λ k. lookup reserved_words k.0) (λ k. Some k.1) reserved_words h.listed.0
-    (h.spelling, w) each_found h.listed.1 h.listed.2
+unfolding keyword IsSpelled
+is_found text w h = alike_found reserved_words text (spelling_of w) h ∙ each_found w
 
 pub decided : (text : List ℕ) (o : Option Keyword) → o ≡ keyword text
     → MatchOption o ((w : Keyword) → IsSpelled text w → ⊥) (λ w. IsSpelled text w)
 unfolding keyword
-decided text (Some w) e =
-    let f = row_found reserved_words text w (sym e) in
-    record { spelling = f.0; listed = f.1; alike = f.2 }
+decided text (Some w) e = row_found reserved_words text w each_spelled (sym e)
 decided text None e = λ w h. let found : keyword text ≡ Some w = is_found text w h in let bad = e ∙ found in cc
 
 -- ---- what a word is

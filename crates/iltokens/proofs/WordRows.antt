@@ -9,8 +9,7 @@ use Rattle.std.specs.Str.{str_eq_ignore_ascii_case}
 use Rattle.std.specs.Option.{option_or}
 use Rattle.std.proofs.lemmas.Slice.Eq.{bytes_eq-Decides}
 use Rattle.iltokens.specs.declared.keyword.Keyword.{Keyword}
-use Rattle.iltokens.specs.Keywords.{all_words}
-use Rattle.iltokens.specs.KeywordSteps.{row_view, lookup, begins, all_begin, rows_begin, AreByLetter}
+use Rattle.iltokens.specs.KeywordSteps.{all_words, row_view, lookup, begins, all_begin, rows_begin, AreByLetter}
 
 abbrev Row : Type 0
 Row = List ℕ × Keyword

@@ -1,11 +1,19 @@
 -- Looking a word up, as the private functions do.
-use Rattle.std.specs.Prelude.{◌≡◌, ℕ, suc, List, [], ◌∷◌, length, map, Option, Some, None}
+use Rattle.std.specs.Prelude.{◌≡◌, ℕ, suc, List, [], ◌∷◌, length, map, flat_map, Option, Some, None}
 use Rattle.std.specs.Prelude.{Bool, true, false, ◌&&◌, ◌==◌, if◌then◌else◌}
 use Rattle.std.specs.Borrow.{Bor}
 use Rattle.std.specs.Char.{to_ascii_lowercase}
 use Rattle.std.specs.Str.{str_eq_ignore_ascii_case}
 use Rattle.iltokens.specs.declared.keyword.Keyword.{Keyword}
-use Rattle.iltokens.specs.Keywords.{reserved_words}
+use Rattle.iltokens.specs.declared.keyword.TheConstants.{RESERVED_WORDS}
+
+-- the words of all rows of a table
+abbrev pub all_words : List (List (List ℕ × Keyword)) → List (List ℕ × Keyword)
+all_words rows = flat_map (λ row. row) rows
+
+-- the code's table of reserved words, each after its spelling
+unfoldable pub reserved_words : List (List ℕ × Keyword)
+reserved_words = all_words (map (λ row. map (λ k. (k.0.now, k.1)) row.now) RESERVED_WORDS.now)
 
 -- the first word of a table that is spelled like the text
 abbrev pub lookup : List (List ℕ × Keyword) → List ℕ → Option Keyword

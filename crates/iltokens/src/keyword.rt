@@ -3,8 +3,8 @@
 ghost use Rattle.std.specs.Prelude.{◌≡◌, MatchOption, map};
 ghost use Rattle.std.specs.Str.{str_eq_ignore_ascii_case};
 ghost use Rattle.iltokens.specs.declared.keyword.Keyword.{Keyword};
-ghost use Rattle.iltokens.specs.Keywords.{all_words, IsSpelled};
-ghost use Rattle.iltokens.specs.KeywordSteps.{lookup, keyword, row_view, AreByLetter};
+ghost use Rattle.iltokens.specs.Keywords.{IsSpelled};
+ghost use Rattle.iltokens.specs.KeywordSteps.{all_words, lookup, keyword, row_view, AreByLetter};
 
 /// A reserved word, in any letter case. None is a name.
 #[derive(Clone, Copy, PartialEq, Eq)]

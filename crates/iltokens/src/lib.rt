@@ -4,7 +4,7 @@
 //! gives the longest token after them as a [`Lexed`], or the end, or the fault that stands there.
 //! What a token is, is a [`What`]: reserved words, names, numbers, durations, addresses, delimiters
 //! and line ends. Read `StandsNext` first (specs/Tokens.antt), then what each kind spells
-//! (specs/Spellings.antt) and the table of reserved words ([`reserved`], specs/Keywords.antt).
+//! (specs/Spellings.antt) and each reserved word ([`reserved`], specs/Keywords.antt).
 
 #![tactic(auto)]
 

@@ -1,7 +1,6 @@
 use Rattle.std.proofs.Common.{rules, arith}
 use Rattle.std.proofs.lemmas.Grind.{common_steps}
-use Rattle.iltokens.specs.Keywords.{reserved_words}
-use Rattle.iltokens.specs.KeywordSteps.{keyword}
+use Rattle.iltokens.specs.KeywordSteps.{reserved_words, keyword}
 use Rattle.iltokens.proofs.keyword.word_of.Goals as goal
 
 pub returns : goal.returns
