@@ -30,7 +30,7 @@ impl Model for Constants {
 }
 
 impl Constants {
-    ghost use Rattle.std.specs.Prelude.{◌≡◌, [], OnOk, length};
+    ghost use Rattle.std.specs.Prelude.{◌≡◌, [], OnErr, OnOk, length};
     ghost use Rattle.std.specs.List.{position_or_len};
     ghost use Rattle.ilplan.specs.Constants.{same_value, with_constant};
 
@@ -45,7 +45,8 @@ impl Constants {
 
     /// Adds a value, where it is new, with the next number.
     pub fn add(&mut self, value: Value) -> Result<(), AllocError>
-        ensures { OnOk result (self.new ≡ with_constant self.old value) }
+        ensures ok { OnOk result (self.new ≡ with_constant self.old value) }
+        ensures err { OnErr result (self.new ≡ self.old) }
     {
         self.values.insert(value)?;
         Ok(())

@@ -1,6 +1,6 @@
 //! What a word changes of what is known, on each way from it.
 
-ghost use Rattle.std.specs.Prelude.{◌≡◌, OnOk};
+ghost use Rattle.std.specs.Prelude.{◌≡◌, OnErr, OnOk};
 ghost use Rattle.ilranges.specs.Changes.{changed};
 
 use crate::entry::Entry;
@@ -39,7 +39,8 @@ pub struct Changes {
 impl Change {
     /// Changes what is known.
     pub fn apply(self, entry: &mut Entry) -> Result<(), AllocError>
-        ensures { OnOk result (entry.new ≡ changed entry.old self) }
+        ensures ok { OnOk result (entry.new ≡ changed entry.old self) }
+        ensures err { OnErr result (entry.new ≡ entry.old) }
     {
         match self {
             Change::Give(known, mark) => {

@@ -1,6 +1,6 @@
 //! What is known before a word.
 
-ghost use Rattle.std.specs.Prelude.{◌≡◌, [], IfOk, OnOk};
+ghost use Rattle.std.specs.Prelude.{◌≡◌, [], IfOk, OnErr, OnOk};
 ghost use Rattle.ilranges.specs.JoinSteps.{IsResultMeeting};
 
 use crate::known::Known;
@@ -69,7 +69,8 @@ impl Entry {
         requires meeting { MayMeet self.old other.now }
         requires closed { self.old.nesting ≡ [] }
         requires closed_there { other.now.nesting ≡ [] }
-        ensures { OnOk result (IsMeeting self.old other.now self.new) }
+        ensures ok { OnOk result (IsMeeting self.old other.now self.new) }
+        ensures err { OnErr result (self.new ≡ self.old) }
     {
         self.slots.join(&other.slots)?;
         self.result = join_results(self.result, other.result);

@@ -1,6 +1,7 @@
 //! Parentheses that are open, as far as they are known.
 
-ghost use Rattle.std.specs.Prelude.{◌≡◌, [], ◌∷◌, drop, length, slice_get, IfOk, OnOk};
+ghost use Rattle.std.specs.Prelude.{◌≡◌, [], ◌∷◌, drop, length, slice_get, IfOk, OnErr};
+ghost use Rattle.std.specs.Prelude.{OnOk};
 
 use crate::known::Known;
 use iloperators::Operator;
@@ -56,7 +57,8 @@ impl OpenParentheses {
 
     /// One more is open.
     pub fn open(&mut self, opened: KnownOpened) -> Result<(), AllocError>
-        ensures { OnOk result (self.new ≡ opened ∷ self.old) }
+        ensures ok { OnOk result (self.new ≡ opened ∷ self.old) }
+        ensures err { OnErr result (self.new ≡ self.old) }
     {
         self.items.push(opened)?;
         Ok(())

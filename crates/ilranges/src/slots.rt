@@ -1,6 +1,6 @@
 //! What is known of each slot, in parts that entries share.
 
-ghost use Rattle.std.specs.Prelude.{◌≡◌, map, slice_get, slice_set, IfOk, OnOk};
+ghost use Rattle.std.specs.Prelude.{◌≡◌, map, slice_get, slice_set, IfOk, OnErr, OnOk};
 ghost use Rattle.std.specs.List.{AllZip};
 
 use crate::chunk::Chunk;
@@ -64,7 +64,8 @@ impl Slots {
 
     /// The slot, where there is one, is known so from now on.
     pub fn set(&mut self, slot: usize, known: Known) -> Result<(), AllocError>
-        ensures { OnOk result (self.new ≡ slice_set self.old slot known) }
+        ensures ok { OnOk result (self.new ≡ slice_set self.old slot known) }
+        ensures err { OnErr result (self.new ≡ self.old) }
     {
         if slot < self.len {
             self.chunks[slot / 64].set(slot % 64, known)
@@ -87,7 +88,8 @@ impl Slots {
     /// What is known of each slot on either way, where two ways meet.
     pub fn join(&mut self, other: &Slots) -> Result<(), AllocError>
         requires { AllZip IsHeld self.old other.now }
-        ensures { OnOk result (AreJoins self.old other.now self.new) }
+        ensures ok { OnOk result (AreJoins self.old other.now self.new) }
+        ensures err { OnErr result (self.new ≡ self.old) }
     {
         self.chunks = join_each(self.alloc, &self.chunks, &other.chunks)?;
         Ok(())

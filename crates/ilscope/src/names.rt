@@ -21,7 +21,7 @@ impl<T> Model for Names<T> {
 
 impl<T: Copy> Names<T> {
     ghost use Rattle.std.specs.Prelude.{◌≡◌, ◌↔◌, [], ◌∷◌, ◌++◌, bytes_eq};
-    ghost use Rattle.std.specs.Prelude.{None, OnOk, IfOk, IsNone, IsTrue};
+    ghost use Rattle.std.specs.Prelude.{None, OnErr, OnOk, IfOk, IsNone, IsTrue};
     ghost use Rattle.std.specs.Map.{lookup};
     ghost use Rattle.ilscope.specs.Kept.{with_new};
 
@@ -47,6 +47,7 @@ impl<T: Copy> Names<T> {
         ensures kept { OnOk result (self.new ≡ with_new self.old key.now value) }
         ensures new { IfOk result (λ new.
             IsTrue new ↔ IsNone (lookup (bytes_eq key.now) self.old)) }
+        ensures err { OnErr result (self.new ≡ self.old) }
     {
         if self.get(key).is_some() {
             return Ok(false);
@@ -58,7 +59,8 @@ impl<T: Copy> Names<T> {
     /// Keeps `value` under the name `key`, which is new.
     fn push(&mut self, alloc: Global, key: &[u8], value: T) -> Result<(), AllocError>
         requires { lookup (bytes_eq key.now) self.old ≡ None }
-        ensures { OnOk result (self.new ≡ self.old ++ (key.now, value) ∷ []) }
+        ensures ok { OnOk result (self.new ≡ self.old ++ (key.now, value) ∷ []) }
+        ensures err { OnErr result (self.new ≡ self.old) }
     {
         self.entries.insert(Vec::from_slice(alloc, key)?, value)?;
         Ok(())

@@ -47,13 +47,15 @@ impl<N: Drop> Arguments<N> {
 }
 
 impl<N: Copy> Arguments<N> {
-    ghost use Rattle.std.specs.Prelude.{◌≡◌, ◌++◌, flat_map, OnOk};
+    ghost use Rattle.std.specs.Prelude.{◌≡◌, ◌++◌, flat_map, take, vec_len, OnErr, OnOk};
     ghost use Rattle.iltrees.specs.Uses.{uses_of_argument};
 
-    /// Adds what the arguments use, of a call at this place.
+    /// Adds what the arguments use, of a call at this place. Out of memory, some of it may have
+    /// been added.
     pub(crate) fn push_uses(&self, at: usize, uses: &mut Vec<Use<N>>) -> Result<(), AllocError>
-        ensures { OnOk result
+        ensures ok { OnOk result
             (uses.new.items ≡ uses.old.items ++ flat_map (uses_of_argument at) self.now) }
+        ensures first { OnErr result (take (vec_len uses.old) uses.new.items ≡ uses.old.items) }
     {
         for argument in self.as_slice() {
             push_use(uses, at, Purpose::Pass, Operand::Name(argument.port))?;

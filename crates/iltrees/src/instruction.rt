@@ -1,6 +1,7 @@
 //! Instructions and lines (IEC 61131-3, 3.2).
 
-ghost use Rattle.std.specs.Prelude.{◌≡◌, [], ◌∷◌, ◌++◌, replicate, OnOk};
+ghost use Rattle.std.specs.Prelude.{◌≡◌, [], ◌∷◌, ◌++◌, replicate, take, vec_len};
+ghost use Rattle.std.specs.Prelude.{OnErr, OnOk};
 ghost use Rattle.iltrees.specs.Uses.{write_at};
 
 use crate::arguments::Arguments;
@@ -86,9 +87,12 @@ impl<N: Drop, L: Drop> Instruction<N, L> {
         }
     }
 
-    /// Adds the place of each word, of an instruction at this place.
+    /// Adds the place of each word, of an instruction at this place. Out of memory, some of them
+    /// may have been added.
     fn push_places(&self, at: usize, places: &mut Vec<usize>) -> Result<(), AllocError>
-        ensures { OnOk result (places.new.items ≡ places.old.items ++ places_of at self.now) }
+        ensures ok { OnOk result (places.new.items ≡ places.old.items ++ places_of at self.now) }
+        ensures first { OnErr result
+            (take (vec_len places.old) places.new.items ≡ places.old.items) }
     {
         match self {
             Instruction::Deferred { nested, close, .. } => {
@@ -114,9 +118,10 @@ impl<N: Drop, L: Drop> Instruction<N, L> {
     }
 }
 
-/// Adds the same place as often as `times` says.
+/// Adds the same place as often as `times` says. Out of memory, some of them may have been added.
 fn push_same(places: &mut Vec<usize>, at: usize, times: usize) -> Result<(), AllocError>
-    ensures { OnOk result (places.new.items ≡ places.old.items ++ replicate times at) }
+    ensures ok { OnOk result (places.new.items ≡ places.old.items ++ replicate times at) }
+    ensures first { OnErr result (take (vec_len places.old) places.new.items ≡ places.old.items) }
 {
     for _ in 0..times {
         places.push(at)?;
@@ -126,7 +131,8 @@ fn push_same(places: &mut Vec<usize>, at: usize, times: usize) -> Result<(), All
 
 /// Adds that a variable is written.
 fn push_write<N: Drop>(uses: &mut Vec<Use<N>>, at: usize, variable: N) -> Result<(), AllocError>
-    ensures { OnOk result (uses.new.items ≡ uses.old.items ++ write_at at variable ∷ []) }
+    ensures ok { OnOk result (uses.new.items ≡ uses.old.items ++ write_at at variable ∷ []) }
+    ensures err { OnErr result (uses.new.items ≡ uses.old.items) }
 {
     push_use(uses, at, Purpose::Write, Operand::Name(variable))
 }
@@ -134,9 +140,11 @@ fn push_write<N: Drop>(uses: &mut Vec<Use<N>>, at: usize, variable: N) -> Result
 impl<N: Copy, L: Drop> Instruction<N, L> {
     ghost use Rattle.iltrees.specs.Uses.{uses_of};
 
-    /// Adds what the instruction uses, at this place.
+    /// Adds what the instruction uses, at this place. Out of memory, some of it may have
+    /// been added.
     fn push_uses(&self, at: usize, uses: &mut Vec<Use<N>>) -> Result<(), AllocError>
-        ensures { OnOk result (uses.new.items ≡ uses.old.items ++ uses_of at self.now) }
+        ensures ok { OnOk result (uses.new.items ≡ uses.old.items ++ uses_of at self.now) }
+        ensures first { OnErr result (take (vec_len uses.old) uses.new.items ≡ uses.old.items) }
     {
         match self {
             Instruction::Load { operand, .. } => push_use(uses, at, Purpose::Read, *operand),
@@ -179,10 +187,18 @@ impl<N: Drop, L: Drop> Line<N, L> {
 
     /// Adds the place in the text of each word of code that the line is.
     pub fn push_places(&self, places: &mut Vec<usize>) -> Result<(), AllocError>
-        ensures { OnOk result (places.new.items ≡ places.old.items ++ places_in self.now) }
+        ensures ok { OnOk result (places.new.items ≡ places.old.items ++ places_in self.now) }
+        ensures err { OnErr result (places.new.items ≡ places.old.items) }
     {
+        let before = places.len();
         match &self.instruction {
-            Some(instruction) => instruction.push_places(self.at, places),
+            Some(instruction) => {
+                let added = instruction.push_places(self.at, places);
+                if added.is_err() {
+                    places.truncate(before);
+                }
+                added
+            }
             None => Ok(()),
         }
     }
@@ -193,10 +209,18 @@ impl<N: Copy, L: Drop> Line<N, L> {
 
     /// Adds what the line uses, in the order of the text.
     pub fn push_uses(&self, uses: &mut Vec<Use<N>>) -> Result<(), AllocError>
-        ensures { OnOk result (uses.new.items ≡ uses.old.items ++ uses_in self.now) }
+        ensures ok { OnOk result (uses.new.items ≡ uses.old.items ++ uses_in self.now) }
+        ensures err { OnErr result (uses.new.items ≡ uses.old.items) }
     {
+        let before = uses.len();
         match &self.instruction {
-            Some(instruction) => instruction.push_uses(self.at, uses),
+            Some(instruction) => {
+                let added = instruction.push_uses(self.at, uses);
+                if added.is_err() {
+                    uses.truncate(before);
+                }
+                added
+            }
             None => Ok(()),
         }
     }

@@ -53,7 +53,8 @@ impl<N: Drop> Model for Nested<N> {
 }
 
 impl<N: Drop> Nested<N> {
-    ghost use Rattle.std.specs.Prelude.{◌≡◌, ◌++◌, map, IfOk, OnOk};
+    ghost use Rattle.std.specs.Prelude.{◌≡◌, ◌++◌, map, take, vec_len, IfOk};
+    ghost use Rattle.std.specs.Prelude.{OnErr, OnOk};
     ghost use Rattle.iltrees.specs.Trees.{Tree, Load, Apply, pieces_of};
     ghost use Rattle.iltrees.specs.Words.{place_of};
 
@@ -103,10 +104,12 @@ impl<N: Drop> Nested<N> {
         &self.pieces
     }
 
-    /// Adds the place of each piece.
+    /// Adds the place of each piece. Out of memory, some of them may have been added.
     pub(crate) fn push_places(&self, places: &mut Vec<usize>) -> Result<(), AllocError>
-        ensures { OnOk result
+        ensures ok { OnOk result
             (places.new.items ≡ places.old.items ++ map place_of (pieces_of self.now)) }
+        ensures first { OnErr result
+            (take (vec_len places.old) places.new.items ≡ places.old.items) }
     {
         for piece in self.pieces() {
             places.push(piece.at)?;
@@ -116,12 +119,13 @@ impl<N: Drop> Nested<N> {
 }
 
 impl<N: Copy> Piece<N> {
-    ghost use Rattle.std.specs.Prelude.{◌≡◌, ◌++◌, OnOk};
+    ghost use Rattle.std.specs.Prelude.{◌≡◌, ◌++◌, OnErr, OnOk};
     ghost use Rattle.iltrees.specs.Uses.{uses_of_piece};
 
     /// Adds what the piece uses.
     fn push_uses(&self, uses: &mut Vec<Use<N>>) -> Result<(), AllocError>
-        ensures { OnOk result (uses.new.items ≡ uses.old.items ++ uses_of_piece self.now) }
+        ensures ok { OnOk result (uses.new.items ≡ uses.old.items ++ uses_of_piece self.now) }
+        ensures err { OnErr result (uses.new.items ≡ uses.old.items) }
     {
         match self.action {
             Action::Load { operand, .. } => push_use(uses, self.at, Purpose::Read, operand),
@@ -132,14 +136,15 @@ impl<N: Copy> Piece<N> {
 }
 
 impl<N: Copy> Nested<N> {
-    ghost use Rattle.std.specs.Prelude.{◌≡◌, ◌++◌, flat_map, OnOk};
+    ghost use Rattle.std.specs.Prelude.{◌≡◌, ◌++◌, flat_map, take, vec_len, OnErr, OnOk};
     ghost use Rattle.iltrees.specs.Trees.{pieces_of};
     ghost use Rattle.iltrees.specs.Uses.{uses_of_piece};
 
-    /// Adds what the pieces use.
+    /// Adds what the pieces use. Out of memory, some of it may have been added.
     pub(crate) fn push_uses(&self, uses: &mut Vec<Use<N>>) -> Result<(), AllocError>
-        ensures { OnOk result
+        ensures ok { OnOk result
             (uses.new.items ≡ uses.old.items ++ flat_map uses_of_piece (pieces_of self.now)) }
+        ensures first { OnErr result (take (vec_len uses.old) uses.new.items ≡ uses.old.items) }
     {
         for piece in self.pieces() {
             piece.push_uses(uses)?;

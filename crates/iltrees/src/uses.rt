@@ -1,6 +1,6 @@
 //! What lines use.
 
-ghost use Rattle.std.specs.Prelude.{◌≡◌, [], ◌∷◌, ◌++◌, OnOk};
+ghost use Rattle.std.specs.Prelude.{◌≡◌, [], ◌∷◌, ◌++◌, OnErr, OnOk};
 ghost use Rattle.iltrees.specs.Uses.{use_at};
 
 use crate::operand::Operand;
@@ -36,7 +36,8 @@ pub(crate) fn push_use<N: Drop>(
     purpose: Purpose,
     operand: Operand<N>,
 ) -> Result<(), AllocError>
-    ensures { OnOk result (uses.new.items ≡ uses.old.items ++ use_at at purpose operand ∷ []) }
+    ensures ok { OnOk result (uses.new.items ≡ uses.old.items ++ use_at at purpose operand ∷ []) }
+    ensures err { OnErr result (uses.new.items ≡ uses.old.items) }
 {
     uses.push(Use {
         at,

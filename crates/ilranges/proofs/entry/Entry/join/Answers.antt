@@ -8,12 +8,12 @@ pub join-requires : goal.join-requires
 join-requires c =
     all_held _ _ c.requires.meeting.wider.slots c.requires.meeting.from_one.slots c.requires.meeting.from_other.slots
 
-pub returns-then-ne : goal.returns-then-ne
-returns-then-ne c =
-    meeting_of _ _ _ c.requires.closed c.requires.closed_there refl c.in_ok-join.ensures c.join_results-self.ensures
+pub returns-then-ne-clause-ok : goal.returns-then-ne-clause-ok
+returns-then-ne-clause-ok c =
+    meeting_of _ _ _ c.requires.closed c.requires.closed_there refl c.in_ok-join.ensures.ok c.join_results-self.ensures
     (marks_differ _ _ (marks_apart c.args.self.now.mark c.args.other.now.mark c.ne.result c.ne.ensures c.if-ne.true))
 
-pub returns-else-ne : goal.returns-else-ne
-returns-else-ne c =
-    meeting_of _ _ _ c.requires.closed c.requires.closed_there refl c.in_ok-join.ensures c.join_results-self.ensures
+pub returns-else-ne-clause-ok : goal.returns-else-ne-clause-ok
+returns-else-ne-clause-ok c =
+    meeting_of _ _ _ c.requires.closed c.requires.closed_there refl c.in_ok-join.ensures.ok c.join_results-self.ensures
     (marks_agree _ _ (marks_same c.args.self.now.mark c.args.other.now.mark c.ne.result c.ne.ensures c.if-ne.false))

@@ -23,8 +23,8 @@ invariant_of-self c =
     let s = joins_alike _ _ _ h in
     (chunks_alike _ _ s c.self.invariant.0, c.self.invariant.1 ∙ whole_alike _ _ s)
 
-pub returns : goal.returns
-returns c =
+pub returns-clause-ok : goal.returns-clause-ok
+returns-clause-ok c =
     let v : whole c.self.inside.chunks.items ≡ c.args.self.now = c.self.view_is in
     let u : whole c.other.inside.chunks.items ≡ c.args.other.now = c.other.view_is in
     let h : Each AreJoins c.self.inside.chunks.items c.other.inside.chunks.items c.in_ok-self-inside.field-0.items =

@@ -1,6 +1,7 @@
 use Rattle.std.proofs.Common.{arith, ◌≡◌, ◌<◌, length, sym, ap, ◌∙◌}
 use Rattle.std.specs.Prelude.{slice_set, ◌/◌, ◌%◌}
-use Rattle.std.proofs.lemmas.Result.{on_ok_weaker}
+use Rattle.std.proofs.lemmas.List.{set-get_or}
+use Rattle.std.proofs.lemmas.Result.{on_ok_weaker, on_err_weaker}
 use Rattle.ilranges.specs.ChunkSteps.{whole}
 use Rattle.ilranges.proofs.Parts.{place_of, place_read, either_long, alike_set, chunks_alike, whole_alike}
 use Rattle.ilranges.proofs.slots.Slots.set.Goals as goal
@@ -31,8 +32,8 @@ invariant_of-self c =
     let s = alike_set _ _ p.chunk c.set.new.self p.is m in
     (chunks_alike _ _ s c.self.invariant.0, c.self.invariant.1 ∙ whole_alike _ _ s)
 
-pub returns-then-slot-self : goal.returns-then-slot-self
-returns-then-slot-self c =
+pub returns-then-slot-self-clause-ok : goal.returns-then-slot-self-clause-ok
+returns-then-slot-self-clause-ok c =
     let v : whole c.self.inside.chunks.items ≡ c.args.self.now = c.self.view_is in
     let l : c.args.slot < length (whole c.self.inside.chunks.items) = omega
     (arith, c.if-slot-self.true, c.self.invariant.1) in
@@ -45,3 +46,13 @@ returns-then-slot-self c =
     (f ∙ ap (λ y. slice_set y (c.args.slot % 64) c.args.known) (sym e))
     ∙ (sym (p.with_other c.args.known) ∙ ap (λ y. slice_set y c.args.slot c.args.known) v))
     c.set.ensures.ok
+
+pub returns-then-slot-self-clause-err : goal.returns-then-slot-self-clause-err
+returns-then-slot-self-clause-err c =
+    let parts = c.self.inside.chunks.items in
+    let was = c.index_mut.result.now in
+    on_err_weaker c.set.result
+    (λ (f : c.set.new.self ≡ was).
+    ap (λ x. whole (slice_set parts (c.args.slot / 64) x)) (f ∙ c.index_mut.ensures.value)
+    ∙ (ap whole (set-get_or parts (c.args.slot / 64) was) ∙ c.self.view_is))
+    c.set.ensures.err

@@ -4,8 +4,8 @@ use Rattle.std.specs.Map.{lookup}
 use Rattle.ilscope.proofs.Kept.{kept, kept-insert_entry}
 use Rattle.ilscope.proofs.names.Names.push.Goals as goal
 
-pub returns : goal.returns
-returns g c =
+pub returns-clause-ok : goal.returns-clause-ok
+returns-clause-ok g c =
     let absent : lookup (bytes_eq c.in_ok-from_slice.field-0.items)
     (kept (λ k. k.items) c.self.inside.entries.entries) ≡ None =
     rw (c.in_ok-from_slice.ensures.items, c.self.view_is) c.requires

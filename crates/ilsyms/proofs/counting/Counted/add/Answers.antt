@@ -13,13 +13,13 @@ returns-in_default c before counted =
 pub returns-then-known-len : goal.returns-then-known-len
 returns-then-known-len c before counted =
     last_constant before c.args.self.now.constants c.add.new.self c.args.self.now.excess c.args.used
-    c.in-Constant.value counted (let e = c.in-Constant.is in rw e refl) c.in_ok-add.ensures
+    c.in-Constant.value counted (let e = c.in-Constant.is in rw e refl) c.in_ok-add.ensures.ok
     (sym c.len-known.ensures.value ∙ c.if-known-eq-MOST_CONSTANTS.true) (omega arith)
 
 pub returns-else-known-eq-MOST_CONSTANTS : goal.returns-else-known-eq-MOST_CONSTANTS
 returns-else-known-eq-MOST_CONSTANTS c before counted =
     other_constant before c.args.self.now.constants c.add.new.self c.args.self.now.excess c.args.used
-    c.in-Constant.value counted (let e = c.in-Constant.is in rw e refl) c.in_ok-add.ensures
+    c.in-Constant.value counted (let e = c.in-Constant.is in rw e refl) c.in_ok-add.ensures.ok
     (λ h. let full = h.0 in let longer = h.1 in
     elim c.else-known-eq-MOST_CONSTANTS.branch [
       | else-known-eq-MOST_CONSTANTS-via-then-known-eq-MOST_CONSTANTS+else-known-len w ↦
