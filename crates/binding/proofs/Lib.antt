@@ -1,4 +1,3 @@
-pub mod BindingJudged
 pub mod BindingReading
 pub mod BoundSources
 pub mod Spelled

@@ -1,10 +1,8 @@
 -- How faults are printed (profile).
-use Rattle.std.specs.Prelude.{ℕ, List, ◌++◌, codes}
-use Rattle.std.specs.Fmt.{decimal}
-use Rattle.binding.specs.declared.fault.BindFault.{BindFault}
-use Rattle.binding.specs.declared.fault.BindFault.TheVariants.{Memory, At}
+use Rattle.std.specs.Prelude.{ℕ, List, codes}
+use Rattle.wordlines.specs.LineFaults.{printed_fault}
+use Rattle.binding.specs.Bindings.{BindFault}
 
--- the line, counted from 1
+-- a fault of a binding
 abbrev pub printed_bind_fault : BindFault → List ℕ
-printed_bind_fault Memory = codes "no memory"
-printed_bind_fault (At line cause) = codes "bind fault at " ++ decimal line
+printed_bind_fault fault = printed_fault (codes "bind") fault

@@ -1,20 +1,20 @@
 //! Bindings, and how they are read.
 
-ghost use Rattle.std.specs.Prelude.{◌≡◌, ◌≤◌, length, All, Contains, Option, Some, MatchOption};
+ghost use Rattle.std.specs.Prelude.{◌≡◌, ◌↔◌, ℕ, All, Contains, Option, Some, MatchOption, Err};
 ghost use Rattle.std.specs.Prelude.{IfErr, IfOk};
-ghost use Rattle.limits.specs.Limits.{most_bytes};
 ghost use Rattle.wordlines.specs.WordLines.{IsSkipped};
+ghost use Rattle.wordlines.specs.LineFiles.{AddsKept};
 ghost use Rattle.wordlines.specs.LineRules.{Leads};
-ghost use Rattle.binding.specs.Bindings.{binding_rules, BindsSource, IsJudged};
+ghost use Rattle.binding.specs.Bindings.{binding_rules, IsBound, IsJudged, IsTooLong};
 ghost use Rattle.binding.specs.Wirings.{Wiring, IsAt};
 
-use crate::fault::{BindCause, BindFault};
+use crate::fault::BindFault;
 use crate::lines::{BindingLine, line_of};
 use crate::sources::BoundSource;
 use dalievent::EventSource;
 use std::alloc::Global;
 use std::marker::Model;
-use wordlines::{first_line, is_skipped};
+use wordlines::{LineCause, LineFault, LineState, read_lines};
 
 /// What a controller is connected to: its buses, and the sources of events that it listens to.
 #[derive(Drop)]
@@ -93,20 +93,14 @@ impl Binding {
         ensures binding { (wiring : Wiring) → result ≡ Ok wiring → IsBinding bytes.now wiring }
         ensures is_given { (wiring : Wiring) → IsBinding bytes.now wiring
             → GivesIfRoom result (Ok wiring) }
-        ensures bad_line { (line : ℕ) → result ≡ Err (BindFault.At line BindCause.BadLine)
+        ensures bad_line { (line : ℕ) → result ≡ Err (LineFault.At line LineCause.BadLine)
             → IsBadBinding bytes.now line }
         ensures bad_is_reported { (line : ℕ) → IsBadBinding bytes.now line
-            → GivesIfRoom result (Err (BindFault.At line BindCause.BadLine)) }
-        ensures too_long { (line : ℕ) → (result ≡ Err (BindFault.At line BindCause.TooLong))
+            → GivesIfRoom result (Err (LineFault.At line LineCause.BadLine)) }
+        ensures too_long { (line : ℕ) → (result ≡ Err (LineFault.At line LineCause.TooLong))
             ↔ IsTooLong bytes.now line }
-        ensures memory { result ≡ Err BindFault.Memory → BindsSome (lines bytes.now) }
+        ensures memory { result ≡ Err LineFault.Memory → BindsSome (lines bytes.now) }
     {
-        if limits::is_too_long(bytes) {
-            return Err(BindFault::At {
-                line: 1,
-                cause: BindCause::TooLong,
-            });
-        }
         binding_of(alloc, bytes)
     }
 
@@ -115,7 +109,7 @@ impl Binding {
         requires { IsInRange bound }
         ensures more { IfOk result (λ more. MatchOption more (¬ HasPlaceFor bound self)
             (λ wiring. HasPlaceFor bound self × (wiring ≡ with_source bound self))) }
-        ensures memory { IfErr result (λ fault. (fault ≡ BindFault.Memory)
+        ensures memory { IfErr result (λ fault. (fault ≡ LineFault.Memory)
             × HasPlaceFor bound self) }
     {
         if bound.bus >= self.buses || bound_at(&self.sources, bound.bus, bound.number).is_some() {
@@ -135,32 +129,57 @@ fn bound_at(sources: &[BoundSource], bus: u8, number: u8) -> Option<&BoundSource
     sources.iter().find(|bound| bound.is_at(bus, number))
 }
 
+/// What the lines of a binding that were read say.
+#[derive(Drop)]
+struct Said {
+    alloc: Global,
+    /// None until a line says the number of buses.
+    binding: Option<Binding>,
+}
+
+impl Model for Said {
+    ghost use Rattle.std.specs.Prelude.{Option};
+    ghost use Rattle.binding.specs.Wirings.{Wiring};
+
+    ghost Value = { Option Wiring };
+
+    ghost view = { λ said. said.binding };
+}
+
+impl LineState<Binding> for Said {
+    ghost use Rattle.binding.specs.declared.lines.BindingLine.{BindingLine};
+    ghost use Rattle.binding.specs.Bindings.{binding_rules, IsBound};
+
+    ghost Entry = { BindingLine };
+
+    ghost rules = { binding_rules };
+
+    ghost IsKept = { IsBound };
+
+    fn after(self, line: &[u8]) -> Result<Option<Self>, BindFault> {
+        let Said { alloc, binding } = self;
+        match binding_after(alloc, binding, line)? {
+            Some(next) => Ok(Some(Said {
+                alloc,
+                binding: Some(next),
+            })),
+            None => Ok(None),
+        }
+    }
+}
+
 /// The binding that lines say, or the line at fault.
 fn binding_of(alloc: Global, bytes: &[u8]) -> Result<Binding, BindFault>
-    requires { length bytes.now ≤ most_bytes }
-    ensures { IsJudged bytes.now result }
+    ensures judged { IsJudged bytes.now result }
+    ensures too_long { (line : ℕ) → (result ≡ Err (LineFault.At line LineCause.TooLong))
+        ↔ IsTooLong bytes.now line }
 {
-    let mut before = None;
-    let mut rest = bytes;
-    let mut line = 1;
-    'lines: while !rest.is_empty() {
-        let (content, after) = first_line(rest);
-        if !is_skipped(content) {
-            let Some(binding) = binding_after(alloc, before, content)? else {
-                return Err(BindFault::At {
-                    line,
-                    cause: BindCause::BadLine,
-                });
-            };
-            before = Some(binding);
-        }
-        rest = after;
-        line += 1;
-    }
-    before.ok_or(BindFault::At {
-        line: 1,
-        cause: BindCause::BadLine,
-    })
+    let start = Said {
+        alloc,
+        binding: None,
+    };
+    let said = read_lines(start, bytes)?;
+    said.binding.ok_or(LineFault::bad_line(1))
 }
 
 /// The binding that a line and those before it say, where it may stand after them.
@@ -173,8 +192,8 @@ fn binding_after(
     ensures leads { IfOk result (λ after. MatchOption after
         ((next : Option Wiring) → ¬ Leads binding_rules before line.now next)
         (λ wiring. Leads binding_rules before line.now (Some wiring))) }
-    ensures memory { IfErr result (λ fault. (fault ≡ BindFault.Memory)
-        × BindsSource before line.now) }
+    ensures memory { IfErr result (λ fault. (fault ≡ LineFault.Memory)
+        × AddsKept binding_rules IsBound before line.now) }
 {
     match (line_of(line), before) {
         (Some(BindingLine::Buses(buses)), None) => Ok(Some(Binding {

@@ -16,5 +16,6 @@ mod lines;
 mod sources;
 
 pub use binding::Binding;
-pub use fault::{BindCause, BindFault};
+pub use fault::BindFault;
 pub use sources::BoundSource;
+pub use wordlines::LineCause as BindCause;

@@ -1,10 +1,9 @@
 -- A binding's fault as a stop.
 use Rattle.std.proofs.Common.{◌≡◌, ◌↔◌, Result, Err, ℕ, List, Some}
 use Rattle.std.specs.Str.Lines.{lines}
-use Rattle.binding.specs.declared.fault.BindCause.TheVariants.{BadLine, TooLong}
-use Rattle.binding.specs.declared.fault.BindFault.{BindFault}
-use Rattle.binding.specs.declared.fault.BindFault.TheVariants as bind_faults
-use Rattle.binding.specs.Bindings.{IsBadBinding, IsTooLong, BindsSome}
+use Rattle.wordlines.specs.declared.fault.LineCause.TheVariants.{BadLine, TooLong}
+use Rattle.wordlines.specs.declared.fault.LineFault.TheVariants as bind_faults
+use Rattle.binding.specs.Bindings.{BindFault, IsBadBinding, IsTooLong, BindsSome}
 use Rattle.commands.specs.declared.stop.Stop.{Stop}
 use Rattle.commands.specs.Connected.{IsBindingStop}
 use Rattle.commands.specs.Stops.{of_binding}

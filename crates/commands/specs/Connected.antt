@@ -1,8 +1,8 @@
 -- What the controller is connected to: what the binding's file says, and one bus without such a file (profile).
 use Rattle.std.specs.Prelude.{◌≡◌, ℕ, List, Option, Some, None}
 use Rattle.std.specs.Str.Lines.{lines}
-use Rattle.binding.specs.declared.fault.BindCause.TheVariants.{BadLine, TooLong}
-use Rattle.binding.specs.declared.fault.BindFault.TheVariants as bind_faults
+use Rattle.wordlines.specs.declared.fault.LineCause.TheVariants.{BadLine, TooLong}
+use Rattle.wordlines.specs.declared.fault.LineFault.TheVariants as bind_faults
 use Rattle.binding.specs.Bindings.{IsBinding, IsBadBinding, IsTooLong, BindsSome}
 use Rattle.binding.specs.Wirings.{Wiring, one_bus}
 use Rattle.commands.specs.declared.stop.Stop.{Stop}

@@ -2,7 +2,7 @@
 use Rattle.std.specs.Prelude.{ℕ}
 use Rattle.clap.specs.declared.error.ErrorKind.{ErrorKind}
 use Rattle.clap.specs.declared.error.ErrorKind.TheVariants as kinds
-use Rattle.scenario.specs.declared.fault.ScenarioFault.TheVariants as scenario_faults
+use Rattle.wordlines.specs.declared.fault.LineFault.TheVariants as scenario_faults
 use Rattle.plantplay.specs.declared.playing.Ending.{Ending}
 use Rattle.plantplay.specs.declared.playing.Ending.TheVariants as endings
 use Rattle.commands.specs.declared.exit_status.ExitStatus.{ExitStatus}

@@ -1,7 +1,7 @@
 -- What stands against running a text, by the fault that it comes from, and the line that is printed of it (profile).
 use Rattle.std.specs.Prelude.{ℕ, List, ◌++◌, codes}
-use Rattle.binding.specs.declared.fault.BindFault.{BindFault}
-use Rattle.binding.specs.declared.fault.BindFault.TheVariants as bind_faults
+use Rattle.binding.specs.Bindings.{BindFault}
+use Rattle.wordlines.specs.declared.fault.LineFault.TheVariants as bind_faults
 use Rattle.binding.specs.Printed.{printed_bind_fault}
 use Rattle.plantload.specs.declared.fault.LoadFault.{LoadFault}
 use Rattle.plantload.specs.declared.fault.LoadFault.TheVariants as load_faults

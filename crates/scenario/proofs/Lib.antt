@@ -1,5 +1,4 @@
 pub mod Declarations
-pub mod Judgement
 pub mod KnownStatements
 pub mod Orders
 pub mod ScenarioReading

@@ -1,14 +1,13 @@
 -- Which bytes are a scenario, with its statements in order, and which line is at fault where they aren't one (profile).
-use Rattle.std.specs.Prelude.{◌≡◌, ℕ, ◌<◌, ◌≤◌, ◌⊎◌, List, [], ◌∷◌, ◌++◌, length, Some, Result, Ok, Err}
+use Rattle.std.specs.Prelude.{◌≡◌, ℕ, List, [], ◌∷◌, ◌++◌, Some, Result, ⊤}
 use Rattle.std.specs.Str.Lines.{lines}
-use Rattle.limits.specs.Limits.{most_bytes}
-use Rattle.wordlines.specs.LineRules.{LineRules, Adds, AllLead, IsFirstBad}
+use Rattle.wordlines.specs.LineFiles.{LeadTo, AreBadAt, KeepSome, IsReport}
+use Rattle.wordlines.specs.LineRules.{LineRules}
+pub use Rattle.wordlines.specs.LineFiles.{GivesIfRoom, IsTooLong}
+use Rattle.wordlines.specs.declared.fault.LineFault.{LineFault}
 use Rattle.scenario.specs.Saying.{said}
 use Rattle.scenario.specs.Following.{Follows}
 use Rattle.scenario.specs.declared.statements.Statement.{Statement}
-use Rattle.scenario.specs.declared.fault.ScenarioCause.TheVariants.{BadLine, TooLong}
-use Rattle.scenario.specs.declared.fault.ScenarioFault.{ScenarioFault}
-use Rattle.scenario.specs.declared.fault.ScenarioFault.TheVariants.{Memory, At}
 
 -- the rules of the lines of a scenario: the state is the statements so far
 abbrev pub scenario_rules : LineRules Statement (List Statement)
@@ -19,38 +18,25 @@ scenario_rules = record {
 }
 
 -- the bytes are a scenario of these statements
-pub record IsScenario (bytes : List ℕ) (statements : List Statement) : Type 0 where
-  pub short : length bytes ≤ most_bytes
-  pub lead : AllLead scenario_rules [] (lines bytes) statements
+abbrev pub IsScenario : List ℕ → List Statement → Type 0
+IsScenario bytes statements = LeadTo scenario_rules [] bytes statements
 
 -- the bytes are no scenario, and this is the first bad line
-pub record IsBadScenario (bytes : List ℕ) (line : ℕ) : Type 0 where
-  pub short : length bytes ≤ most_bytes
-  pub bad : IsFirstBad scenario_rules [] (lines bytes) line
+abbrev pub IsBadScenario : List ℕ → ℕ → Type 0
+IsBadScenario bytes line = AreBadAt scenario_rules [] bytes line
+
+-- each statement is kept
+abbrev pub IsKept : Statement → Type 0
+IsKept statement = ⊤
 
 -- some line adds a statement to those of the lines before it
-pub record AddsSome (all : List (List ℕ)) : Type 0 where
-  pub before : List (List ℕ)
-  pub line : List ℕ
-  pub after : List (List ℕ)
-  pub is : all ≡ before ++ line ∷ after
-  pub statements : List Statement
-  pub good : AllLead scenario_rules [] before statements
-  pub statement : Statement
-  pub adds : Adds scenario_rules statements line statement
+abbrev pub AddsSome : List (List ℕ) → Type 0
+AddsSome all = KeepSome scenario_rules [] IsKept all
 
--- the bytes are too many, which is reported at line 1
-pub record IsTooLong (bytes : List ℕ) (line : ℕ) : Type 0 where
-  pub long : most_bytes < length bytes
-  pub first : line ≡ 1
+abbrev pub ScenarioFault : Type 0
+ScenarioFault = LineFault (List Statement)
 
--- what the bytes come to: a scenario, a fault with its line, or where a statement is to be kept out of memory
+-- what is reported of bytes: a scenario, the first bad line, that they are too many, or, where a statement is to be
+-- kept, that memory was refused
 abbrev pub IsJudged : List ℕ → Result (List Statement) ScenarioFault → Type 0
-IsJudged bytes (Ok statements) = IsScenario bytes statements
-IsJudged bytes (Err Memory) = AddsSome (lines bytes)
-IsJudged bytes (Err (At line BadLine)) = IsBadScenario bytes line
-IsJudged bytes (Err (At line TooLong)) = IsTooLong bytes line
-
--- this is the outcome, or memory was refused
-abbrev pub GivesIfRoom : Result (List Statement) ScenarioFault → Result (List Statement) ScenarioFault → Type 0
-GivesIfRoom result outcome = (result ≡ outcome) ⊎ (result ≡ Err Memory)
+IsJudged bytes result = IsReport (IsScenario bytes) (IsBadScenario bytes) (AddsSome (lines bytes)) bytes result

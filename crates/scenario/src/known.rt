@@ -48,7 +48,7 @@ impl Known {
     ghost use Rattle.std.specs.List.{list_any};
     ghost use Rattle.scenario.specs.Following.{IsKnown};
     ghost use Rattle.scenario.specs.Known.{declares};
-    ghost use Rattle.scenario.specs.declared.fault.ScenarioFault.TheVariants.{Memory};
+    ghost use Rattle.wordlines.specs.declared.fault.LineFault.TheVariants.{Memory};
 
     /// No statements.
     pub(crate) fn new(alloc: Global) -> Known

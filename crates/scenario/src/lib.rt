@@ -15,7 +15,8 @@ mod lines;
 mod scenario;
 mod statements;
 
-pub use fault::{ScenarioCause, ScenarioFault};
+pub use fault::ScenarioFault;
 pub use happenings::{Happening, Happenings};
 pub use scenario::{Scenario, parse};
 pub use statements::{FrameFate, Statement};
+pub use wordlines::LineCause as ScenarioCause;

@@ -1,8 +1,7 @@
 //! Scenarios, and the faults of their lines.
 
-ghost use Rattle.std.specs.Prelude.{◌≡◌, ◌≤◌, ◌↔◌, ℕ, List, length, MatchOption};
+ghost use Rattle.std.specs.Prelude.{◌≡◌, ◌↔◌, ℕ, List, MatchOption, Err};
 ghost use Rattle.std.specs.Str.Lines.{lines};
-ghost use Rattle.limits.specs.Limits.{most_bytes};
 ghost use Rattle.wordlines.specs.WordLines.{IsSkipped};
 ghost use Rattle.wordlines.specs.LineRules.{Adds};
 ghost use Rattle.scenario.specs.declared.statements.Statement.{Statement};
@@ -10,7 +9,7 @@ ghost use Rattle.scenario.specs.Following.{clock};
 ghost use Rattle.scenario.specs.Scenarios.{scenario_rules, AddsSome, GivesIfRoom};
 ghost use Rattle.scenario.specs.Scenarios.{IsBadScenario, IsJudged, IsScenario, IsTooLong};
 
-use crate::fault::{ScenarioCause, ScenarioFault};
+use crate::fault::ScenarioFault;
 use crate::follow::may_follow;
 use crate::happenings::Happenings;
 use crate::known::Known;
@@ -18,7 +17,7 @@ use crate::lines::statement_of;
 use crate::statements::Statement;
 use std::alloc::Global;
 use std::marker::Model;
-use wordlines::{first_line, is_skipped};
+use wordlines::{LineCause, LineFault, LineState, read_lines};
 
 /// What happens on simulated buses: statements in order.
 #[derive(Drop)]
@@ -71,50 +70,73 @@ pub fn parse(alloc: Global, bytes: &[u8]) -> Result<Scenario, ScenarioFault>
         → IsScenario bytes.now statements }
     ensures is_given { (statements : List Statement) → IsScenario bytes.now statements
         → GivesIfRoom result (Ok statements) }
-    ensures bad_line { (line : ℕ) → result ≡ Err (ScenarioFault.At line ScenarioCause.BadLine)
+    ensures bad_line { (line : ℕ) → result ≡ Err (LineFault.At line LineCause.BadLine)
         → IsBadScenario bytes.now line }
     ensures bad_is_reported { (line : ℕ) → IsBadScenario bytes.now line
-        → GivesIfRoom result (Err (ScenarioFault.At line ScenarioCause.BadLine)) }
-    ensures memory { result ≡ Err ScenarioFault.Memory → AddsSome (lines bytes.now) }
-    ensures too_long { (line : ℕ) → (result ≡ Err (ScenarioFault.At line ScenarioCause.TooLong))
+        → GivesIfRoom result (Err (LineFault.At line LineCause.BadLine)) }
+    ensures memory { result ≡ Err LineFault.Memory → AddsSome (lines bytes.now) }
+    ensures too_long { (line : ℕ) → (result ≡ Err (LineFault.At line LineCause.TooLong))
         ↔ IsTooLong bytes.now line }
 {
-    if limits::is_too_long(bytes) {
-        return Err(ScenarioFault::At {
-            line: 1,
-            cause: ScenarioCause::TooLong,
-        });
-    }
     statements_of(alloc, bytes)
 }
 
 /// The scenario that lines say, or the first bad line.
 fn statements_of(alloc: Global, bytes: &[u8]) -> Result<Scenario, ScenarioFault>
-    requires { length bytes.now ≤ most_bytes }
-    ensures { IsJudged bytes.now result }
+    ensures judged { IsJudged bytes.now result }
+    ensures too_long { (line : ℕ) → (result ≡ Err (LineFault.At line LineCause.TooLong))
+        ↔ IsTooLong bytes.now line }
 {
-    let mut known = Known::new(alloc);
-    let mut clock = None;
-    let mut rest = bytes;
-    let mut line = 1;
-    'lines: while !rest.is_empty() {
-        let (content, after) = first_line(rest);
-        if !is_skipped(content) {
-            let Some(statement) = next_statement(&known, clock, content) else {
-                return Err(ScenarioFault::At {
-                    line,
-                    cause: ScenarioCause::BadLine,
-                });
-            };
-            clock = statement.clock_after(clock);
-            known = known.with(statement)?;
-        }
-        rest = after;
-        line += 1;
-    }
+    let start = Read {
+        known: Known::new(alloc),
+        now: None,
+    };
+    let read = read_lines(start, bytes)?;
     Ok(Scenario {
-        statements: known.into_statements(),
+        statements: read.known.into_statements(),
     })
+}
+
+/// What the lines of a scenario that were read say.
+#[derive(Drop)]
+struct Read {
+    known: Known,
+    /// The moment to which the clock came.
+    now: Option<u64>,
+}
+
+impl Model for Read {
+    ghost use Rattle.std.specs.Prelude.{◌≡◌, List, []};
+    ghost use Rattle.scenario.specs.Following.{FollowOneAnother, clock};
+    ghost use Rattle.scenario.specs.declared.statements.Statement.{Statement};
+
+    ghost Value = { List Statement };
+
+    ghost view = { λ read. read.known };
+
+    ghost invariant = { λ read. (read.now ≡ clock read.known)
+        × FollowOneAnother [] read.known };
+}
+
+impl LineState<Scenario> for Read {
+    ghost use Rattle.scenario.specs.Scenarios.{scenario_rules, IsKept};
+    ghost use Rattle.scenario.specs.declared.statements.Statement.{Statement};
+
+    ghost Entry = { Statement };
+
+    ghost rules = { scenario_rules };
+
+    ghost IsKept = { IsKept };
+
+    fn after(self, line: &[u8]) -> Result<Option<Self>, ScenarioFault> {
+        let Read { known, now } = self;
+        let Some(statement) = next_statement(&known, now, line) else {
+            return Ok(None);
+        };
+        let known = known.with(statement)?;
+        let now = statement.clock_after(now);
+        Ok(Some(Read { known, now }))
+    }
 }
 
 /// The statement that a line adds to those before it, at which the clock came to `now`.

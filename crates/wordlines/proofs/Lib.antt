@@ -1,3 +1,4 @@
 pub mod CutParts
+pub mod LineFiles
 pub mod LineReading
 pub mod SpelledNumbers

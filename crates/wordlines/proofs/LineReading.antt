@@ -1,19 +1,17 @@
 -- Files that are read line by line, whatever their rules: the lines lead to one state at most, the first bad line is
 -- one, and where the lines lead on there is none; and what reading one line more adds to what was read.
 use Rattle.std.proofs.Common.{◌≡◌, ℕ, zero, suc, ◌+◌, List, [], ◌∷◌, ◌++◌, length, refl, ap, sym, subst, ◌∙◌, inl, inr}
-use Rattle.std.proofs.Common.{arith, append_assoc, append-nil, length-append}
-use Rattle.std.proofs.Math.Decide.{dec_le}
-use Rattle.std.proofs.Math.Nat.{lt_of_not-le}
-use Rattle.std.specs.Prelude.{◌<◌, ◌≤◌, ◌↔◌, Bool, false, IsTrue}
+use Rattle.std.proofs.Common.{arith, append_assoc, length-append}
 use Rattle.std.specs.Str.Lines.{lines}
 use Rattle.wordlines.specs.WordLines.{words, IsSkipped}
-use Rattle.wordlines.specs.LineRules.{LineRules, Adds, Leads, AllLead, IsFirstBad}
+use Rattle.wordlines.specs.LineRules.{LineRules, Leads, AllLead, IsFirstBad}
+use Rattle.wordlines.specs.LineFiles.{LeadTo, AreBadAt}
 
 -- words say one entry at most
 abbrev pub SayOne : {Entry State : Type 0} → LineRules Entry State → Type 0
 SayOne {Entry} {State} rules = (said : List (List ℕ)) (e f : Entry) → rules.Says said e → rules.Says said f → e ≡ f
 
-module _ (Entry State : Type 0) (rules : LineRules Entry State) where
+module _ {Entry State : Type 0} (rules : LineRules Entry State) where
   -- one more line
   lead-push : (state : State) (before : List (List ℕ)) (line : List ℕ) (here next : State)
       → AllLead rules state before here
@@ -75,20 +73,25 @@ module _ (Entry State : Type 0) (rules : LineRules Entry State) where
         let next = leads_one state line h.0 t.0 h.1 t.1 in
         bad_not_led t.0 more k last (subst (λ (s : State). BadFrom s more k) next h.2) t.2
 
+    -- the lines of a file lead to one state
+    pub led_one : (start : State) (bytes : List ℕ) (a b : State) → LeadTo rules start bytes a
+        → LeadTo rules start bytes b → a ≡ b
+    led_one start bytes a b f g = all_lead_one start (lines bytes) a b f.lead g.lead
+
     -- the first bad line is one
-    pub first_bad_one : (start : State) (all : List (List ℕ)) (j k : ℕ) → IsFirstBad rules start all j
-        → IsFirstBad rules start all k → j ≡ k
-    first_bad_one start all j k f g =
-        let places = bad_one start all (length f.before) (length g.before) (first_bad_from start all j f)
-        (first_bad_from start all k g) in
-        omega (arith, places, f.counted, g.counted)
+    pub bad_line_one : (start : State) (bytes : List ℕ) (j k : ℕ) → AreBadAt rules start bytes j
+        → AreBadAt rules start bytes k → j ≡ k
+    bad_line_one start bytes j k f g =
+        let places = bad_one start (lines bytes) (length f.bad.before) (length g.bad.before)
+        (first_bad_from start (lines bytes) j f.bad) (first_bad_from start (lines bytes) k g.bad) in
+        omega (arith, places, f.bad.counted, g.bad.counted)
 
     -- where the lines lead on, none is bad
-    pub led_not_bad : (start : State) (all : List (List ℕ)) (number : ℕ) (last : State)
-        → IsFirstBad rules start all number
-        → ¬ AllLead rules start all last
-    led_not_bad start all number last f t =
-        bad_not_led start all (length f.before) last (first_bad_from start all number f) t
+    pub led_not_bad : (start : State) (bytes : List ℕ) (number : ℕ) (last : State) → AreBadAt rules start bytes number
+        → ¬ LeadTo rules start bytes last
+    led_not_bad start bytes number last f t =
+        bad_not_led start (lines bytes) (length f.bad.before) last (first_bad_from start (lines bytes) number f.bad)
+        t.lead
 
   -- the lines before those of the rest led to this state, and the next line has this number
   pub record IsRead (start : State) (bytes rest : List ℕ) (state : State) (number : ℕ) : Type 0 where
@@ -97,53 +100,23 @@ module _ (Entry State : Type 0) (rules : LineRules Entry State) where
     pub good : AllLead rules start before state
     pub counted : number ≡ length before + 1
 
-  pub none_read : (start : State) (bytes : List ℕ) → IsRead start bytes bytes start 1
-  none_read start bytes = record { before = []; is = refl; good = refl; counted = refl }
-
-  pub line_read : (start : State) (bytes rest after : List ℕ) (state next : State) (number : ℕ) (line : List ℕ)
-      → IsRead start bytes rest state number
-      → lines rest ≡ line ∷ lines after → Leads rules state line next → IsRead start bytes after next (number + 1)
-  line_read start bytes rest after state next number line r first leads =
+  -- one line more, which leads on
+  pub led_read : (start : State) (bytes rest after : List ℕ) (state next now : State) (number : ℕ) (line : List ℕ)
+      → IsRead start bytes rest state number → lines rest ≡ line ∷ lines after → Leads rules state line next
+      → now ≡ next → IsRead start bytes after now (number + 1)
+  led_read start bytes rest after state next now number line r first leads so =
       record {
         before = r.before ++ line ∷ [];
         is = r.is ∙ (ap (λ (ls : List (List ℕ)). r.before ++ ls) first
             ∙ sym (append_assoc r.before (line ∷ []) (lines after)));
-        good = lead-push start r.before line state next r.good leads;
+        good = lead-push start r.before line state now r.good
+            (subst (λ (s : State). Leads rules state line s) (sym so) leads);
         counted = omega (arith, length-append r.before (line ∷ []), r.counted);
       }
 
-  -- no entry, and the line isn't skipped: it is the first bad one
-  pub no_leads : (state : State) (line : List ℕ) → ¬ IsSkipped line → ((entry : Entry) → ¬ Adds rules state line entry)
-      → (next : State)
-      → ¬ Leads rules state line next
-  no_leads state line read nothing next (inl s) = read s.0
-  no_leads state line read nothing next (inr s) = nothing s.0 s.1
-
-  pub bad_read : (start : State) (bytes rest after : List ℕ) (state : State) (number : ℕ) (line : List ℕ)
-      → IsRead start bytes rest state number
-      → lines rest ≡ line ∷ lines after → ((next : State) → ¬ Leads rules state line next)
-      → IsFirstBad rules start (lines bytes) number
-  bad_read start bytes rest after state number line r first bad =
-      record {
-        before = r.before;
-        line = line;
-        after = lines after;
-        is = r.is ∙ ap (λ (ls : List (List ℕ)). r.before ++ ls) first;
-        state = state;
-        good = r.good;
-        bad = bad;
-        counted = r.counted;
-      }
-
-  pub all_read : (start : State) (bytes : List ℕ) (state : State) (number : ℕ) → IsRead start bytes [] state number
-      → AllLead rules start (lines bytes) state
-  all_read start bytes state number r =
-      subst (λ (ls : List (List ℕ)). AllLead rules start ls state) (sym (r.is ∙ append-nil r.before)) r.good
-
--- a file that isn't too long is short
-pub short_of : (is_long : Bool) (most count : ℕ) → IsTrue is_long ↔ (most < count) → is_long ≡ false → count ≤ most
-short_of is_long most count known isnt =
-    elim (dec_le count most) [
-      | yes short ↦ short
-      | no long ↦ let so = known.1 (lt_of_not-le long) in absurd (cc)
-    ]
+  -- one that is skipped
+  pub skipped_read : (start : State) (bytes rest after : List ℕ) (state next : State) (number : ℕ) (line : List ℕ)
+      → IsRead start bytes rest state number → lines rest ≡ line ∷ lines after → IsSkipped line → next ≡ state
+      → IsRead start bytes after next (number + 1)
+  skipped_read start bytes rest after state next number line r first skipped same =
+      led_read start bytes rest after state next next number line r first (inl (skipped, same)) refl

@@ -1,2 +1,4 @@
+pub mod LineFaults
+pub mod LineFiles
 pub mod LineRules
 pub mod WordLines
