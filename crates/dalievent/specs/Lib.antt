@@ -1,1 +1,2 @@
 pub mod EventSchemes
+pub mod Messages

@@ -17,7 +17,7 @@ use Rattle.ilimage.specs.Images.{ImageVariable, Global, Own}
 use Rattle.plantevents.specs.declared.event.Event.{Event}
 use Rattle.plantevents.specs.declared.event.Event.TheVariants.{Heard}
 use Rattle.plantevents.specs.Plants.{Plant, location}
-use Rattle.plantevents.specs.Messages.{is_message, information}
+use Rattle.dalievent.specs.Messages.{is_message, information}
 use Rattle.plantevents.specs.Histories.{message_count}
 use Rattle.plantevents.specs.Variables.{whole, write_of, heard_write, speaker, information_by, count_by}
 use Rattle.plant.specs.KeptSteps.{CountsFollow, source_in, no_source}

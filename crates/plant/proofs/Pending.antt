@@ -9,7 +9,7 @@ use Rattle.plantevents.specs.declared.activator.Activator.{Activator}
 use Rattle.plantevents.specs.declared.activator.Activator.TheVariants.{Interval, Messages}
 use Rattle.plantevents.specs.declared.event.Event.{Event}
 use Rattle.plantevents.specs.declared.event.Event.TheVariants.{Tick, Heard, Take, Commit, Hand, Done, Down}
-use Rattle.plantevents.specs.Messages.{first_message}
+use Rattle.dalievent.specs.Messages.{first_message}
 use Rattle.plantevents.specs.Members.{Has}
 use Rattle.plantevents.specs.Readiness.{activates, pending, pending_event, most_pending}
 use Rattle.plantevents.proofs.Having.{has_drop, has_append}

@@ -10,7 +10,7 @@ use Rattle.ilplan.specs.declared.global.Location.{Location}
 use Rattle.ilplan.specs.declared.global.Location.TheVariants.{Information, Count}
 use Rattle.ilplan.specs.Plans.{Planned, Suits}
 use Rattle.ilimage.specs.Images.{ImageVariable, Global, Own}
-use Rattle.plantevents.specs.Messages.{is_message, information}
+use Rattle.dalievent.specs.Messages.{is_message, information}
 use Rattle.plantevents.specs.Variables.{whole}
 use Rattle.plant.specs.KeptSteps.{source_in}
 

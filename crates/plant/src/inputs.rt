@@ -10,7 +10,6 @@ ghost use Rattle.ilimage.specs.Snapshots.{MayHave};
 ghost use Rattle.plantevents.specs.Variables.{newest};
 ghost use Rattle.plant.specs.InputSteps.{is_bound_at, written_by, input_at, IsWrittenAs};
 
-use crate::messages::information_from;
 use binding::BoundSource;
 use daliframe::Frame24;
 use ilimage::Image;
@@ -50,7 +49,7 @@ fn message_value(
     if own != bus {
         return None;
     }
-    let information = information_from(sources[i].source, frame)?;
+    let information = sources[i].source.information(frame)?;
     match location {
         Location::Count { .. } => Some(Value::Int(i64::from(counts[i]))),
         _ => Some(Value::Int(i64::from(information))),

@@ -4,7 +4,6 @@ pub mod Dropping
 pub mod Handing
 pub mod Having
 pub mod LegalRows
-pub mod Messages
 pub mod Owing
 pub mod Parting
 pub mod Pending

@@ -15,7 +15,7 @@ use Rattle.plantevents.specs.declared.activator.Activator.{Activator}
 use Rattle.plantevents.specs.declared.activator.Activator.TheVariants.{Messages}
 use Rattle.plantevents.specs.declared.event.Event.{Event}
 use Rattle.plantevents.specs.declared.event.Event.TheVariants.{Tick, Heard, Take, Commit, Hand, Done, Down}
-use Rattle.plantevents.specs.Messages.{is_message, information}
+use Rattle.dalievent.specs.Messages.{is_message, information}
 use Rattle.plantevents.specs.Plants.{Plant, location, source_at, task_at, trigger_by, trigger_of, activator_by}
 use Rattle.plantevents.specs.Plants.{activator, messages_at}
 use Rattle.plantevents.specs.Histories.{message_count}

@@ -9,7 +9,7 @@ use Rattle.ilimage.specs.Snapshots.{ScanStart}
 use Rattle.plantevents.specs.declared.event.Origin.{Origin}
 use Rattle.plantevents.specs.declared.event.Event.{Event}
 use Rattle.plantevents.specs.declared.event.Event.TheVariants.{Tick, Heard, Take, Commit, Hand, Done, Down}
-use Rattle.plantevents.specs.Messages.{is_message}
+use Rattle.dalievent.specs.Messages.{is_message}
 
 -- the moment of the last tick, else 0
 abbrev pub moment : List Event → ℕ

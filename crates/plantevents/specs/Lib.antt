@@ -6,7 +6,6 @@ pub mod Histories
 pub mod Legal
 pub mod LegalRows
 pub mod Members
-pub mod Messages
 pub mod Parts
 pub mod Plants
 pub mod Readiness

@@ -8,7 +8,7 @@ use Rattle.plantevents.specs.declared.activator.PendingEvent.{PendingEvent}
 use Rattle.plantevents.specs.declared.event.Event.{Event}
 use Rattle.plantevents.specs.declared.event.Event.TheVariants.{Heard}
 use Rattle.plantevents.specs.declared.role.Role.{Role}
-use Rattle.plantevents.specs.Messages.{is_message}
+use Rattle.dalievent.specs.Messages.{is_message}
 use Rattle.plantevents.specs.Plants.{Plant, location, output_at}
 use Rattle.plantevents.specs.Variables.{value, whole}
 use Rattle.plantevents.specs.Waiting.{OwedLevel, Handout, handed_level, level_class, owed, waiting}

@@ -8,7 +8,7 @@ use Rattle.plantevents.specs.declared.activator.Activator.{Activator}
 use Rattle.plantevents.specs.declared.activator.Activator.TheVariants.{Interval, Messages}
 use Rattle.plantevents.specs.declared.event.Event.{Event}
 use Rattle.plantevents.specs.declared.event.Event.TheVariants.{Heard, Take}
-use Rattle.plantevents.specs.Messages.{is_message, information}
+use Rattle.dalievent.specs.Messages.{is_message, information}
 use Rattle.plantevents.specs.Histories.{moment, message_count}
 
 abbrev pub is_take : ℕ → Event → Bool

@@ -22,7 +22,7 @@ use Rattle.plantevents.specs.declared.event.Origin.{Origin}
 use Rattle.plantevents.specs.declared.event.Origin.TheVariants.{Queued, Output}
 use Rattle.plantevents.specs.declared.event.Event.{Event}
 use Rattle.plantevents.specs.declared.event.Event.TheVariants.{Heard, Commit, Done}
-use Rattle.plantevents.specs.Messages.{is_message, information}
+use Rattle.dalievent.specs.Messages.{is_message, information}
 use Rattle.plantevents.specs.Plants.{Plant, location, source_at, activator, trigger_of, opening, layout}
 use Rattle.plantevents.specs.Histories.{OpenScan, OpenHand, moment, message_count, scan, is_of, hand}
 use Rattle.plantevents.specs.Readiness.{pending}

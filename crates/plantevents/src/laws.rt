@@ -3,10 +3,7 @@
 ghost use Rattle.std.specs.Prelude.{◌≡◌, ◌↔◌, ◌⊎◌, ℕ, ◌≤◌, true, List, [], Option, Some};
 ghost use Rattle.std.specs.Prelude.{map, drop, length, slice_get, ◌+◌};
 ghost use Rattle.iltypes.specs.declared.value.Value.{Value};
-ghost use Rattle.dalievent.specs.declared.messages.EventMessage.{EventMessage};
 ghost use Rattle.dalievent.specs.declared.messages.EventSource.{EventSource};
-ghost use Rattle.dalievent.specs.EventSchemes.{Solves, IsFrom};
-ghost use Rattle.binding.specs.Wirings.{HasPartsInRange};
 ghost use Rattle.ilimage.specs.Snapshots.{ScanStart};
 ghost use Rattle.ilimage.specs.Images.{Layout, TaskLayout, ImageVariable};
 ghost use Rattle.ilverify.specs.Verdicts.{Accepted};
@@ -29,7 +26,6 @@ ghost use Rattle.plantevents.specs.Waiting.{owed, handouts, classes};
 ghost use Rattle.plantevents.specs.Fronts.{IsSince, IsScanned};
 ghost use Rattle.plantevents.specs.Acceptances.{accepted_requests, handed_count, asked_count};
 ghost use Rattle.plantevents.specs.Writes.{IsWrittenFrom, IsNotWritten, HasLast, HasFirst};
-ghost use Rattle.plantevents.specs.Messages.{is_message, information};
 ghost use Rattle.plantevents.specs.Members.{Has, IsPendingEvent, IsOwed, IsFirstOwed};
 ghost use Rattle.plantevents.specs.Members.{HasNothing, IsNextHandout, IsInPart};
 ghost use Rattle.plantevents.specs.Legal.{AreLegal, IsTake};
@@ -75,17 +71,6 @@ pub fn what_a_scan_writes()
 /// The value of a variable is what was written to it last, or its initial value where nothing was.
 pub fn the_last_write_counts()
     ensures { (p : Plant) (v : ImageVariable) (h : List Event) → HasLast p v h ⊎ HasFirst p v h }
-{}
-
-/// The frames of a source are those that solve the equation of its scheme with its parts, and their
-/// information is the equation's.
-pub fn messages_solve_their_equation()
-    ensures some { (s : EventSource) (f : ℕ) → HasPartsInRange s → is_message s f ≡ true
-        → (e : EventMessage) × Solves e f × IsFrom s e }
-    ensures all { (s : EventSource) (e : EventMessage) (f : ℕ)
-        → Solves e f → IsFrom s e → is_message s f ≡ true }
-    ensures information { (s : EventSource) (e : EventMessage) (f : ℕ)
-        → Solves e f → IsFrom s e → information s f ≡ e.info }
 {}
 
 /// A pending event of an event task is a message of its trigger's source, and has the information

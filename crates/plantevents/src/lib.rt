@@ -5,6 +5,10 @@
 //! and which histories are legal is `AreLegal` (specs/Legal.antt, to be read first): it asks what
 //! a variable's value is, what waits for a bus, which tasks are ready and since when, each by the
 //! newest event. The functions of `laws` say what these questions mean, asked of a whole history.
+//!
+//! ```text
+//! let event = Event::Heard { bus: 0, frame };
+//! ```
 #![tactic(auto)]
 
 mod activator;
@@ -17,10 +21,9 @@ mod role;
 pub use activator::{Activator, PendingEvent};
 pub use event::{Event, Origin};
 pub use laws::{
-    each_event_is_in_one_part, messages_solve_their_equation, one_take_is_legal,
-    requests_are_accepted_or_dropped, since_is_least, slots_are_those_of_the_plan,
-    the_last_write_counts, what_a_part_shows, what_a_scan_writes, what_is_handed_out, what_is_owed,
-    what_is_pending, what_is_scanned, what_waits,
+    each_event_is_in_one_part, one_take_is_legal, requests_are_accepted_or_dropped, since_is_least,
+    slots_are_those_of_the_plan, the_last_write_counts, what_a_part_shows, what_a_scan_writes,
+    what_is_handed_out, what_is_owed, what_is_pending, what_is_scanned, what_waits,
 };
 pub use noted::{NotedResult, NotedSnapshot};
 pub use role::Role;

@@ -2,7 +2,7 @@
 use Rattle.std.specs.Prelude.{◌≡◌, ℕ, ◌<◌, ◌⊎◌, Bool, not, ◌&&◌, List, slice_index_or, Option, Some, None}
 use Rattle.plantevents.specs.declared.activator.Activator.{Activator}
 use Rattle.plantevents.specs.declared.activator.Activator.TheVariants.{Messages}
-use Rattle.plantevents.specs.Messages.{information}
+use Rattle.dalievent.specs.Messages.{information}
 use Rattle.plantevents.specs.Choices.{Rank, Precedes}
 use Rattle.plantevents.specs.Readiness.{ready_by}
 use Rattle.taskset.specs.declared.setup.TaskSetup.{TaskSetup}

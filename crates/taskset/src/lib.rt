@@ -4,6 +4,11 @@
 //! nobody keeps here: [`Tasks::tick`], [`Tasks::heard`], [`Tasks::took`] and [`Tasks::ended`].
 //! [`Tasks::next`] is the task that is to be taken. `Follows` in specs/TaskSets.antt is the
 //! definition to read first: the states are what the definitions of `plantevents` say of a history.
+//!
+//! ```text
+//! tasks.heard(place, bus, frame);
+//! if let Some(task) = tasks.next() { let event = tasks.took(place + 1, task); }
+//! ```
 #![tactic(auto)]
 
 mod activation;

@@ -1,5 +1,5 @@
-use Rattle.plantevents.proofs.Messages.{message_of, is_message_of, information_is}
-use Rattle.plantevents.proofs.laws.messages_solve_their_equation.Goals as goal
+use Rattle.dalievent.proofs.SourceMessages.{message_of, is_message_of, information_is}
+use Rattle.dalievent.proofs.laws.messages_solve_their_equation.Goals as goal
 
 pub returns-clause-some : goal.returns-clause-some
 returns-clause-some c = message_of

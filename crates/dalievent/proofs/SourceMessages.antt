@@ -4,9 +4,8 @@ use Rattle.std.proofs.lemmas.Bool.{le-leb, leb-true, lt-ltb, ltb-true}
 use Rattle.std.specs.Prelude.{nat_lt, nat_le}
 use Rattle.dalievent.specs.declared.messages.EventMessage.{EventMessage}
 use Rattle.dalievent.specs.declared.messages.EventSource.{EventSource}
-use Rattle.dalievent.specs.EventSchemes.{scheme_bits, Solves, IsFrom}
-use Rattle.binding.specs.Wirings.{HasPartsInRange}
-use Rattle.plantevents.specs.Messages.{first_message, is_message, information}
+use Rattle.dalievent.specs.EventSchemes.{scheme_bits, a_limit, Solves, IsFrom}
+use Rattle.dalievent.specs.Messages.{first_message, is_message, information}
 
 parts : (x y : Bool) → (x && y) ≡ true → (x ≡ true) × (y ≡ true)
 parts true true e = (refl, refl)
@@ -18,12 +17,12 @@ within s f is =
     let p = parts (nat_le (first_message s) f) (nat_lt f (first_message s + 2 ^ 10)) is in
     (leb-true (first_message s) f p.0, ltb-true f (first_message s + 2 ^ 10) p.1)
 
-pub message_of : (s : EventSource) (f : ℕ) → HasPartsInRange s → is_message s f ≡ true
+pub message_of : (s : EventSource) (f : ℕ) → s.a < a_limit s.scheme → s.b < 32 → is_message s f ≡ true
     → (e : EventMessage) × Solves e f × IsFrom s e
-message_of s f ranges is =
+message_of s f a b is =
     let w = within s f is in (
       record { scheme = s.scheme; a = s.a; b = s.b; info = f - first_message s },
-      (ranges.a, ranges.b, (let l = w.0 in let u = w.1 in omega arith), (let l = w.0 in omega arith)),
+      (a, b, (let l = w.0 in let u = w.1 in omega arith), (let l = w.0 in omega arith)),
       (refl, refl, refl),
     )
 
