@@ -19,20 +19,13 @@ pub struct Plan {
 }
 
 impl Model for Plan {
-    ghost use Rattle.std.specs.Prelude.{List};
-    ghost use Rattle.ilplan.specs.declared.place.Place.{Place};
-    ghost use Rattle.std.specs.Coded.{codes, code_by};
-    ghost use Rattle.iltrees.specs.declared.nested.Piece.{Piece};
-    ghost use Rattle.iltrees.specs.Trees.{pieces_of};
-    ghost use Rattle.iltrees.specs.TreeSteps.{tree_of, tree_again};
+    ghost use Rattle.std.specs.Coded.{codes};
+    ghost use Rattle.ilplan.specs.contracts.task.Task as task;
     ghost use Rattle.ilplan.specs.Plans.{Planned, IsLawful, plan_of};
 
     ghost Value = { Planned };
 
-    ghost coded = { Prim.hlevel (
-      codes,
-      code_by (List (Piece Place)) (Prim.hlevel codes) pieces_of tree_of tree_again,
-    ) };
+    ghost coded = { Prim.hlevel (codes, task.the_row.coded) };
 
     ghost view = { λ p. plan_of p.text.items p.buses p.sources.items p.globals.items
         p.tasks.items };

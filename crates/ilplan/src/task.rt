@@ -25,21 +25,15 @@ pub struct Task {
 }
 
 impl Model for Task {
-    ghost use Rattle.std.specs.Prelude.{string_bytes, length, List};
-    ghost use Rattle.ilplan.specs.declared.place.Place.{Place};
-    ghost use Rattle.std.specs.Coded.{codes, code_by};
-    ghost use Rattle.iltrees.specs.declared.nested.Piece.{Piece};
-    ghost use Rattle.iltrees.specs.Trees.{pieces_of};
-    ghost use Rattle.iltrees.specs.TreeSteps.{tree_of, tree_again};
+    ghost use Rattle.std.specs.Prelude.{string_bytes, length};
+    ghost use Rattle.std.specs.Coded.{codes};
+    ghost use Rattle.ilplan.specs.contracts.instance.ProgramInstance as instance;
     ghost use Rattle.ilplan.specs.Plans.{PlannedTask, KeepsLimits, task_of};
     ghost use Rattle.ilplan.specs.StoreSteps.{AreStored};
 
     ghost Value = { PlannedTask };
 
-    ghost coded = { Prim.hlevel (
-      codes,
-      code_by (List (Piece Place)) (Prim.hlevel codes) pieces_of tree_of tree_again,
-    ) };
+    ghost coded = { Prim.hlevel (codes, instance.the_row.coded) };
 
     ghost view = { λ t. task_of (string_bytes t.name) t.activation t.priority t.slots.items
         t.blocks.items t.constants t.instances.items };

@@ -5,12 +5,12 @@ use Rattle.std.proofs.Common.{IsTrue, refl, sym, ap, subst, arith}
 use Rattle.std.specs.Prelude.{IsNone, IfSome, ◌↔◌, ◌&&◌, int_le, unsigned_abs, if◌then◌else◌}
 use Rattle.std.specs.Int.{w64}
 use Rattle.std.proofs.lemmas.Int.{ints}
-use Rattle.std.proofs.Math.Dec.{T_prop}
 use Rattle.iltypes.specs.declared.range.Range.{Range}
 use Rattle.iltypes.specs.declared.value.Value.{Value}
 use Rattle.iltypes.specs.declared.value.Value.TheVariants as values
 use Rattle.iltypes.specs.Ranges.{Holds, IsWithin}
 use Rattle.iltypes.specs.Arithmetic.{IsMagnitude, IsLeast, Leaves}
+use Rattle.iltypes.proofs.Equality.{same_limits}
 use Rattle.iltypes.proofs.Limits.{holds_low, holds_high}
 use Rattle.iloperators.specs.declared.function.Function.{Function}
 use Rattle.iloperators.specs.declared.function.Function.TheVariants as functions
@@ -162,24 +162,9 @@ convert_refused type found allowed low high out = record {
 
 -- ---- the cause is one
 
-order_prop : (x y : ℤ) → IsProp (x ≤ℤ y)
-order_prop x y = hlevel T_prop
-
-abbrev made : (lo hi : ℤ) → lo ≤ℤ hi → Range
-made lo hi h = record { lo = lo; hi = hi; ordered = h }
-
-made_same : (a b lo hi : ℤ) (h : a ≤ℤ b) (k : lo ≤ℤ hi) → a ≡ lo → b ≡ hi → made a b h ≡ made lo hi k
-made_same a b lo hi h k p q =
-    subst (λ (x : ℤ). (j : x ≤ℤ hi) → made a b h ≡ made x hi j) p
-    (subst (λ (y : ℤ). (j : a ≤ℤ y) → made a b h ≡ made a y j) q (λ j. ap (made a b) (order_prop a b h j))) k
-
--- ranges of equal limits are the same
-pub same_range : (a b : Range) → a.lo ≡ b.lo → a.hi ≡ b.hi → a ≡ b
-same_range a b p q = made_same a.lo a.hi b.lo b.hi a.ordered b.ordered p q
-
 pub constant_known : (n : ℤ) (range : Range) → range.lo ≡ n → range.hi ≡ n
     → knowns.Int range ≡ known_of_value (values.Int n)
-constant_known n range p q = ap (λ (r : Range). knowns.Int r) (same_range range (only n) p q)
+constant_known n range p q = ap (λ (r : Range). knowns.Int r) (same_limits range (only n) (p, q))
 
 pub same_outside : (function : Function) (operand : Known) (f a g b : Range)
     → ArisesAtFunction function operand (causes.OutOfRange f a)
@@ -189,7 +174,7 @@ same_outside (functions.Convert type) operand f a g b p q =
     let s = p.operand_is in
     let t = q.operand_is in
     let found : f ≡ g = cc in
-    let allowed = same_range a b (p.low ∙ sym q.low) (p.high ∙ sym q.high) in
+    let allowed = same_limits a b (p.low ∙ sym q.low, p.high ∙ sym q.high) in
     cc
 same_outside functions.Not operand f a g b p q = absurd p
 same_outside functions.Abs operand f a g b p q = absurd p

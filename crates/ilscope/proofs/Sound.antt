@@ -53,7 +53,7 @@ use Rattle.ilscope.specs.declared.global.DeclaredGlobal.{DeclaredGlobal}
 use Rattle.ilscope.proofs.Subranges.{le_to}
 use Rattle.ilscope.proofs.Typed.{declared_typed_globals, has_zero}
 
-not_below : (a b : ℤ) → ¬ (a <ℤ b) → b ≤ℤ a
+pub not_below : (a b : ℤ) → ¬ (a <ℤ b) → b ≤ℤ a
 not_below a b h = by_lt_z a b (λ l. absurd (h l)) (λ k. k)
 
 -- ---- the type of a declaration

@@ -16,20 +16,13 @@ pub struct ProgramScope<'a> {
 }
 
 impl<'a> Model for ProgramScope<'a> {
-    ghost use Rattle.std.specs.Prelude.{List};
-    ghost use Rattle.std.specs.Coded.{codes, code_by};
-    ghost use Rattle.iltrees.specs.declared.nested.Piece.{Piece};
-    ghost use Rattle.iltrees.specs.Trees.{pieces_of};
-    ghost use Rattle.iltrees.specs.TreeSteps.{tree_of, tree_again};
-    ghost use Rattle.ilsource.specs.declared.symbol.Symbol.{Symbol};
+    ghost use Rattle.std.specs.Coded.{codes};
+    ghost use Rattle.ilsource.specs.contracts.program.Program as inner;
     ghost use Rattle.ilscope.specs.Declarations.{DeclaredProgram};
 
     ghost Value = { DeclaredProgram };
 
-    ghost coded = { Prim.hlevel (
-      codes,
-      code_by (List (Piece Symbol)) (Prim.hlevel codes) pieces_of tree_of tree_again,
-    ) };
+    ghost coded = { Prim.hlevel (codes, inner.the_row.coded) };
 
     ghost view = { λ p. record {
       program = p.program.now;

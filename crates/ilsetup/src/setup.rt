@@ -14,20 +14,13 @@ pub struct Setup {
 }
 
 impl Model for Setup {
-    ghost use Rattle.std.specs.Prelude.{List};
-    ghost use Rattle.std.specs.Coded.{codes, code_by};
-    ghost use Rattle.ilplan.specs.declared.place.Place.{Place};
-    ghost use Rattle.iltrees.specs.declared.nested.Piece.{Piece};
-    ghost use Rattle.iltrees.specs.Trees.{pieces_of};
-    ghost use Rattle.iltrees.specs.TreeSteps.{tree_of, tree_again};
+    ghost use Rattle.std.specs.Coded.{codes};
+    ghost use Rattle.ilplan.specs.contracts.plan.Plan as inner;
     ghost use Rattle.ilsetup.specs.Loaded.{AreCodes, Loaded, accepted_of};
 
     ghost Value = { Loaded };
 
-    ghost coded = { Prim.hlevel (
-      codes,
-      code_by (List (Piece Place)) (Prim.hlevel codes) pieces_of tree_of tree_again,
-    ) };
+    ghost coded = { Prim.hlevel (codes, inner.the_row.coded) };
 
     ghost view = { λ s. record { plan = s.plan; codes = accepted_of s.verified.items } };
 

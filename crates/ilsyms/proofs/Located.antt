@@ -4,7 +4,7 @@ use Rattle.std.proofs.Common.{◌≡◌, ℕ, suc, ◌+◌, ◌-◌, ◌<◌, �
 use Rattle.std.proofs.Common.{sym, ap, ◌∙◌, subst, inl, inr, arith, length, get_or, map}
 use Rattle.std.proofs.Math.ListN.{length-map}
 use Rattle.std.proofs.lemmas.Bool.{lt-ltb, le-ltb, ltb-true, ltb-false}
-use Rattle.std.proofs.lemmas.Int.{ints, by_lt_z}
+use Rattle.std.proofs.lemmas.Int.{ints}
 use Rattle.std.proofs.lemmas.List.{get_or-map}
 use Rattle.std.proofs.lemmas.List.Elements.{All-map}
 use Rattle.std.specs.Prelude.{Option, Some, None, IfSome, All, AllPairs, Any, option_map, nat_lt, if◌then◌else◌, ◌<ℤ◌}
@@ -19,16 +19,13 @@ use Rattle.ilsource.specs.declared.address.DirectAddress.{DirectAddress}
 use Rattle.ilscope.specs.Configured.{globals_of}
 use Rattle.ilscope.specs.Faults.{IsBound, IsOtherArea, IsThere, LacksWord, SameAddress, SomeOf, greatest_at}
 use Rattle.ilscope.specs.declared.global.DeclaredGlobal.{DeclaredGlobal}
-use Rattle.ilscope.proofs.Sound.{AreAtOthers, IsSoundAt, IsSoundGlobal, globals_apart, globals_sound}
+use Rattle.ilscope.proofs.Sound.{AreAtOthers, IsSoundAt, IsSoundGlobal, globals_apart, globals_sound, not_below}
 use Rattle.ilplan.specs.declared.global.Location.{Location}
 use Rattle.ilplan.specs.declared.global.Location.TheVariants.{Level, GearAnswer, DeviceAnswer, Information, Count}
 use Rattle.ilplan.specs.declared.global.Location.TheVariants.{Trigger}
 use Rattle.ilplan.specs.Plans.{AreApart, AreLevels, HasUpTo, IsAddressIn, IsLocatedIn, Suits}
 use Rattle.ilsyms.specs.Faults.{IsWellNamed}
 use Rattle.ilsyms.specs.Resolved.{location, planned_global}
-
-not_below : (a b : ℤ) → ¬ (a <ℤ b) → b ≤ℤ a
-not_below a b h = by_lt_z a b (λ l. absurd (h l)) (λ k. k)
 
 any_of : {X : Type 0} (P : X → Type 0) (xs : List X) → SomeOf P xs → Any P xs
 any_of P [] s = elim s [ ]

@@ -6,7 +6,6 @@ use Rattle.std.specs.List.{enumerate_from}
 use Rattle.std.specs.Option.{option_map_or}
 use Rattle.std.proofs.Math.ListN.{length-map}
 use Rattle.std.proofs.lemmas.List.{map-append}
-use Rattle.std.proofs.lemmas.Int.{by_lt_z}
 use Rattle.std.proofs.lemmas.Option.{slice_get-map, get_or_from_slice_get}
 use Rattle.ilsource.specs.Configurations.{Configured}
 use Rattle.ilsource.specs.declared.configuration.TaskDeclaration.{TaskDeclaration}
@@ -130,7 +129,3 @@ pub planned_at : (tree : Tree) (number : ℕ) (t : SourceTask) (task : PlannedTa
     → slice_get (tasks_of tree) number ≡ Some t → task ≡ planned_task tree t
     → option_map (planned_task tree) (slice_get (tasks_of tree) number) ≡ Some task
 planned_at tree number t task at e = ap (option_map (planned_task tree)) at ∙ ap (λ p. Some p) (sym e)
-
--- a priority that is not at fault
-pub not_below : (a b : ℤ) → ¬ (a <ℤ b) → b ≤ℤ a
-not_below a b h = by_lt_z a b (λ l. absurd (h l)) (λ k. k)

@@ -25,7 +25,8 @@ made_same a b lo hi h k p q =
     subst (λ (x : ℤ). (j : x ≤ℤ hi) → made a b h ≡ made x hi j) p
     (subst (λ (y : ℤ). (j : a ≤ℤ y) → made a b h ≡ made a y j) q (λ j. ap (made a b) (order_prop a b h j))) k
 
-same_limits : (a b : Range) → (a.lo ≡ b.lo) × (a.hi ≡ b.hi) → a ≡ b
+-- ranges of equal limits are the same
+pub same_limits : (a b : Range) → (a.lo ≡ b.lo) × (a.hi ≡ b.hi) → a ≡ b
 same_limits a b e = made_same a.lo a.hi b.lo b.hi a.ordered b.ordered e.0 e.1
 
 same_range : (a b : Range) → Decides (range_eq.eq-value.it a b) (a ≡ b)

@@ -2,7 +2,7 @@
 use Rattle.std.proofs.Common.{◌≡◌, Bool, true, false, cond, List, [], ◌∷◌, Option, Some, None, refl, sym, ap, ◌∙◌}
 use Rattle.std.proofs.Common.{subst, arith}
 use Rattle.std.proofs.lemmas.Int.{ints}
-use Rattle.ilranges.proofs.Functions.{same_range}
+use Rattle.iltypes.proofs.Equality.{same_limits}
 use Rattle.ilranges.proofs.Marking.{mark_self}
 use Rattle.ilranges.proofs.OrderLaws.{known_self}
 use Rattle.std.specs.Prelude.{IsTrue}
@@ -96,7 +96,7 @@ into_trans a b c h g = record {
 -- ---- entries that hold each other are equal
 
 within_same : (r s : Range) → IsWithin r s → IsWithin s r → r ≡ s
-within_same r s h g = same_range r s (omega (arith, ints)) (omega (arith, ints))
+within_same r s h g = same_limits r s (omega (arith, ints), omega (arith, ints))
 
 same_known : (a b : Known) → IsKnownWithin a b → IsKnownWithin b a → a ≡ b
 same_known knowns.Bool knowns.Bool h g = refl

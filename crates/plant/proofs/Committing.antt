@@ -162,9 +162,6 @@ open_committed p k w t task result says coded open_scan is_task limits run =
 
 -- ---- the places that are kept
 
-same_eqb : (b : ℕ) → eqb b b ≡ true
-same_eqb b = eq-eqb b b refl
-
 one_scan_less : (workers w n : ℕ) (result : Scan) (running : OpenScan) (h : List Event) → w < workers
     → scan w h ≡ Some running
     → count_below (λ v. is_some (scan v (Commit w n result ∷ h))) workers + 1
@@ -172,7 +169,7 @@ one_scan_less : (workers w n : ℕ) (result : Scan) (running : OpenScan) (h : Li
 one_scan_less workers w n result running h lt busy =
     count_less (λ v. is_some (scan v h)) (λ v. is_some (scan v (Commit w n result ∷ h))) workers w lt
     (ap (λ (o : Option OpenScan). is_some o) busy)
-    (ap (λ (b : Bool). is_some (if b then None else scan w h)) (same_eqb w))
+    (ap (λ (b : Bool). is_some (if b then None else scan w h)) (eq-eqb w w refl))
     (λ v ne. ap (λ (b : Bool). is_some (if b then None else scan v h)) (ne_eqb w v (λ e. ne (sym e))))
 
 pub scan_kept : (p : Shown) (k : KeptPlant) (w n : ℕ) (result : Scan) → Says p k

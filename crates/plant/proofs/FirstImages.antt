@@ -4,29 +4,26 @@ use Rattle.std.proofs.Common.{Option, Some, None, Result, Ok, Err, refl, sym, ap
 use Rattle.std.proofs.lemmas.List.Elements.{All-nil, All-cons, All-map, All-push}
 use Rattle.std.proofs.lemmas.Option.{slice_get-map, slice_get_within, slice_get-get_or, get_or_from_slice_get}
 use Rattle.std.proofs.lemmas.List.{append_assoc, drop_more}
-use Rattle.std.specs.Prelude.{IfOk, IfSome, All, slice_get, filter_map, option_map, option_to_list}
+use Rattle.std.specs.Prelude.{IfOk, IfSome, All, slice_get, option_map, option_to_list}
 use Rattle.std.specs.List.{AllByRecursion, cons_option}
 use Rattle.iltypes.specs.declared.value.IlType.{IlType}
 use Rattle.iltypes.specs.declared.value.Value.{Value}
 use Rattle.iltypes.specs.Values.{AreOf}
-use Rattle.ilsource.specs.declared.name.Name.{Name}
 use Rattle.ilplan.specs.declared.global.Global.{Global as GlobalVariable}
 use Rattle.ilplan.specs.declared.slot.Slot.{Slot}
 use Rattle.ilplan.specs.declared.slot.SlotOwner as slots
 use Rattle.ilplan.specs.declared.slot.SlotOwner.TheVariants as slot
 use Rattle.ilplan.specs.Plans as plans
-use Rattle.ilplan.specs.Plans.{PlannedTask, Planned, stores, Precedes, AreOrdered, IsDeclared, type_and_initial}
-use Rattle.ilplan.specs.Plans.{types_of, initials_of, KeepsLimits, IsTaskOf}
+use Rattle.ilplan.specs.Plans.{PlannedTask, Planned, Precedes, AreOrdered, IsDeclared, type_and_initial}
+use Rattle.ilplan.specs.Plans.{types_of, KeepsLimits, IsTaskOf}
 use Rattle.ilverify.specs.Verdicts.{Accepted}
 use Rattle.ilimage.specs.declared.external.External.{External}
 use Rattle.ilimage.specs.Images.{IsImage, image_of}
 use Rattle.ilimage.specs.Images.{AreTyped, AreApart, IsLawfulTask, TaskImage, first_task}
 use Rattle.ilsetup.specs.Loaded.{Loaded, IsCodeOf}
 use Rattle.plantevents.specs.Plants.{external_in, externals_from, externals_of, own_by, own_initials, first_tasks}
+use Rattle.plantevents.proofs.Slots.{variables, owns, external_of, first_global, first_own, owns_global, owns_own}
 use Rattle.plant.specs.OpeningSteps.{global_types, IsFirstImage, AreLawfulTasks}
-
-abbrev variables : List Slot → List slots.SlotOwner
-variables slots = map (λ s. s.variable) slots
 
 abbrev types : List Slot → List IlType
 types slots = map (λ s. s.value_type) slots
@@ -34,52 +31,8 @@ types slots = map (λ s. s.value_type) slots
 abbrev initials : List Slot → List Value
 initials slots = map (λ s. s.initial) slots
 
-abbrev owns : List Slot → List Value
-owns slots = filter_map (λ s. own_by s.variable s.initial) slots
-
 abbrev type_list : List GlobalVariable → List IlType
 type_list globals = map (λ (g : GlobalVariable). g.value_type) globals
-
-abbrev external_of : PlannedTask → ℕ → ℕ → External
-external_of task n global = record { global = global; stored = stores task n }
-
--- ---- a slot and those behind it
-
-no_external : (task : PlannedTask) (n : ℕ) (instance name : Name) (v : slots.SlotOwner)
-    → Precedes (slot.Own instance name) v → external_in task n v ≡ None
-no_external task n instance name (slot.Global global) own = absurd own
-no_external task n instance name (slot.Own other x) own = refl
-
--- behind an own variable there is no global one
-none_global : (task : PlannedTask) (n : ℕ) (instance name : Name) (more : List Slot)
-    → AllByRecursion (Precedes (slot.Own instance name)) (variables more) → externals_from task n more ≡ []
-none_global task n instance name [] own = refl
-none_global task n instance name (s ∷ more) own =
-    ap (λ o. option_to_list o ++ externals_from task (n + 1) more) (no_external task n instance name s.variable own.0)
-    ∙ none_global task (n + 1) instance name more own.1
-
-first_global : (task : PlannedTask) (n : ℕ) (x : Slot) (more : List Slot) (global : ℕ) → x.variable ≡ slot.Global global
-    → externals_from task n (x ∷ more) ≡ external_of task n global ∷ externals_from task (n + 1) more
-first_global task n x more global is =
-    ap (λ v. option_to_list (external_in task n v) ++ externals_from task (n + 1) more) is
-
--- from an own variable on there is none
-first_own : (task : PlannedTask) (n : ℕ) (x : Slot) (more : List Slot) (instance name : Name)
-    → AreOrdered (variables (x ∷ more)) → x.variable ≡ slot.Own instance name
-    → (externals_from task n (x ∷ more) ≡ []) × (externals_from task (n + 1) more ≡ [])
-first_own task n x more instance name ordered is =
-    let behind = subst (λ (v : slots.SlotOwner). AllByRecursion (Precedes v) (variables more)) is ordered.0 in
-    let none = none_global task (n + 1) instance name more behind in (
-      ap (λ v. option_to_list (external_in task n v) ++ externals_from task (n + 1) more) is ∙ none,
-      none,
-    )
-
-owns_global : (x : Slot) (more : List Slot) (global : ℕ) → x.variable ≡ slot.Global global → owns (x ∷ more) ≡ owns more
-owns_global x more global is = ap (λ v. cons_option (own_by v x.initial) (owns more)) is
-
-owns_own : (x : Slot) (more : List Slot) (instance name : Name) → x.variable ≡ slot.Own instance name
-    → owns (x ∷ more) ≡ x.initial ∷ owns more
-owns_own x more instance name is = ap (λ v. cons_option (own_by v x.initial) (owns more)) is
 
 -- ---- each global variable that a task names has its slot's type
 

@@ -1,8 +1,7 @@
 -- What is kept follows the history with one event more.
-use Rattle.std.proofs.Common.{◌≡◌, ◌≢◌, ⊎_elim, ℕ, eqb, ◌+◌, ◌<◌, ◌≤◌, Bool, true, false, not, List, []}
+use Rattle.std.proofs.Common.{◌≡◌, ◌≢◌, ℕ, eqb, ◌+◌, ◌<◌, ◌≤◌, Bool, true, false, not, List, []}
 use Rattle.std.proofs.Common.{◌∷◌, length, refl, sym, ap, ◌∙◌, ◌-◌, length-set, subst, arith}
-use Rattle.std.proofs.lemmas.Bool.{ne_eqb}
-use Rattle.std.proofs.lemmas.Bool.Decides.{eqb_tells}
+use Rattle.std.proofs.lemmas.Bool.{eq-eqb, ne_eqb}
 use Rattle.std.specs.Prelude.{if◌then◌else◌, slice_index_or}
 use Rattle.plantevents.specs.declared.event.Event.{Event}
 use Rattle.plantevents.specs.declared.event.Event.TheVariants.{Tick, Heard, Take, Commit, Hand, Done, Down}
@@ -47,10 +46,6 @@ tick_says p k m tasks after says may room used follows = record {
       (rw (l, e) room) used says.within;
 }
 
-same_eqb : (b : ℕ) → eqb b b ≡ true
-same_eqb b = ⊎_elim (λ (k : (eqb b b ≡ true) × (b ≡ b)). k.0) (λ (k : (eqb b b ≡ false) × (b ≢ b)). absurd (k.1 refl))
-    (eqb_tells b b)
-
 -- one bus fewer is up
 one_up_less : (p : Shown) (b : ℕ) → IsUp p.plant p.history b
     → count_below (λ c. not (is_down c (Down b ∷ p.history))) p.plant.plan.buses + 1
@@ -58,7 +53,7 @@ one_up_less : (p : Shown) (b : ℕ) → IsUp p.plant p.history b
 one_up_less p b up =
     count_less (λ c. not (is_down c p.history)) (λ c. not (is_down c (Down b ∷ p.history))) p.plant.plan.buses b
     up.known
-    (ap not up.up) (ap (λ s. not (if s then true else is_down b p.history)) (same_eqb b))
+    (ap not up.up) (ap (λ s. not (if s then true else is_down b p.history)) (eq-eqb b b refl))
     (λ c ne. ap (λ s. not (if s then true else is_down c p.history)) (ne_eqb b c (λ e. ne (sym e))))
 
 some_kept : (p : Shown) (b : ℕ) → IsUp p.plant p.history b → 1 ≤ kept p

@@ -1,7 +1,7 @@
 -- What is kept once a transaction was handed out.
 use Rattle.std.proofs.Common.{◌≡◌, ◌≢◌, ⊎_elim, eqb, ℕ, ◌+◌, ◌<◌, ◌≤◌, Bool, true, false, ◌&&◌, List, [], ◌∷◌}
 use Rattle.std.proofs.Common.{length, drop, Option, Some, None, refl, sym, ap, ◌∙◌, subst, length-set, arith}
-use Rattle.std.proofs.lemmas.Bool.{ne_eqb, and_left}
+use Rattle.std.proofs.lemmas.Bool.{eq-eqb, ne_eqb, and_left}
 use Rattle.std.proofs.lemmas.Bool.Decides.{eqb_tells}
 use Rattle.std.proofs.lemmas.List.{get_or-set_same, get_or-set_other}
 use Rattle.std.specs.Prelude.{if◌then◌else◌, slice_set, slice_index_or}
@@ -25,16 +25,12 @@ use Rattle.plant.specs.HandingSteps.{IsAfterHand}
 use Rattle.plant.proofs.Counting.{count_less}
 use Rattle.plant.proofs.Refusing.{not_below}
 
-same_eqb : (b : ℕ) → eqb b b ≡ true
-same_eqb b = ⊎_elim (λ (k : (eqb b b ≡ true) × (b ≡ b)). k.0) (λ (k : (eqb b b ≡ false) × (b ≢ b)). absurd (k.1 refl))
-    (eqb_tells b b)
-
 -- ---- of the bus
 
 turned : (a b : ℕ) → eqb a b ≡ eqb b a
 turned a b =
     ⊎_elim
-    (λ (k : (eqb a b ≡ true) × (a ≡ b)). k.0 ∙ (sym (same_eqb a) ∙ ap (λ n. eqb n a) k.1))
+    (λ (k : (eqb a b ≡ true) × (a ≡ b)). k.0 ∙ (sym (eq-eqb a a refl) ∙ ap (λ n. eqb n a) k.1))
     (λ (k : (eqb a b ≡ false) × (a ≢ b)). k.0 ∙ sym (ne_eqb b a (λ e. k.1 (sym e))))
     (eqb_tells a b)
 
@@ -45,7 +41,7 @@ queue_is class c (Queued request) = turned (class_number c) (class_number class)
 queue_is class c (Output address level) = refl
 
 here_is : (b : ℕ) (t : Bool) → (eqb b b && t) ≡ t
-here_is b t = ap (λ s. s && t) (same_eqb b)
+here_is b t = ap (λ s. s && t) (eq-eqb b b refl)
 
 long_after : (origin : Origin) (levels : List ℕ) → length (levels_after origin levels) ≡ length levels
 long_after (Queued request) levels = refl
@@ -76,7 +72,7 @@ bus_handed p b h place next before after is fits at follows =
       down_so = is.down_same ∙ follows.down_so;
       handed = is.handed
           ∙ (ap (λ n. Some (hand_of n next)) at
-          ∙ sym (ap (λ (s : Bool). if s then Some (hand_of (length h) next) else hand b h) (same_eqb b)));
+          ∙ sym (ap (λ (s : Bool). if s then Some (hand_of (length h) next) else hand b h) (eq-eqb b b refl)));
       waits = λ c. is.waits c
           ∙ (ap (λ q. if is_taken next c then drop 1 q else q) (follows.waits c)
           ∙ ap (λ (s : Bool). if s then drop 1 (waiting p b (class_number c) h) else waiting p b (class_number c) h)
@@ -168,7 +164,7 @@ one_report_more : (buses b : ℕ) (s : Origin) (t : FrameList) (h : List Event) 
     → count_below (λ c. is_unreported c h) buses + 1 ≡ count_below (λ c. is_unreported c (Hand b s t ∷ h)) buses
 one_report_more buses b s t h lt idle up =
     count_less (λ c. is_unreported c (Hand b s t ∷ h)) (λ c. is_unreported c h) buses b lt
-    (ap (λ (same : Bool). if same then true else is_unreported b h) (same_eqb b))
+    (ap (λ (same : Bool). if same then true else is_unreported b h) (eq-eqb b b refl))
     (done_with b h idle up)
     (λ c ne. sym (ap (λ (same : Bool). if same then true else is_unreported c h) (ne_eqb b c (λ e. ne (sym e)))))
 

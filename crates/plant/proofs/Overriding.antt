@@ -1,8 +1,7 @@
 -- The values under the overrides of an event task are those of its pending event.
 use Rattle.std.proofs.Common.{◌≡◌, ◌≢◌, ⊎_elim, ℕ, ◌+◌, ◌<◌, ◌≤◌, Bool, true, false, eqb, List, [], ◌∷◌, ◌++◌}
 use Rattle.std.proofs.Common.{length, Option, Some, None, refl, sym, ap, ◌∙◌, subst, arith, below_more, append-nil}
-use Rattle.std.proofs.lemmas.Bool.{cases_lt, ne_eqb}
-use Rattle.std.proofs.lemmas.Bool.Decides.{eqb_tells}
+use Rattle.std.proofs.lemmas.Bool.{eq-eqb, cases_lt, ne_eqb}
 use Rattle.std.proofs.lemmas.Option.{slice_get_past}
 use Rattle.std.proofs.lemmas.List.Elements.{All-push}
 use Rattle.std.specs.Prelude.{All, IfSome, if◌then◌else◌, option_map, option_to_list}
@@ -33,15 +32,11 @@ one_given items k None g v =
     ap (λ (xs : List Override). overridden xs g v) (append-nil items) ∙ sym (same_if (eqb k g) (overridden items g v))
 one_given items k (Some y) g v = overridden_push items (given_to k y) g v
 
-same_eqb : (b : ℕ) → eqb b b ≡ true
-same_eqb b = ⊎_elim (λ (k : (eqb b b ≡ true) × (b ≡ b)). k.0) (λ (k : (eqb b b ≡ false) × (b ≢ b)). absurd (k.1 refl))
-    (eqb_tells b b)
-
 here : (items : List Override) (k : ℕ) (value v : Option Value)
     → overridden (items ++ option_to_list (option_map (given_to k) value)) k v ≡ newest value (overridden items k v)
 here items k value v =
     one_given items k value k v
-    ∙ ap (λ t. if t then newest value (overridden items k v) else overridden items k v) (same_eqb k)
+    ∙ ap (λ t. if t then newest value (overridden items k v) else overridden items k v) (eq-eqb k k refl)
 
 elsewhere : (items : List Override) (k : ℕ) (value : Option Value) (g : ℕ) (v : Option Value) → g ≢ k
     → overridden (items ++ option_to_list (option_map (given_to k) value)) g v ≡ overridden items g v

@@ -1,8 +1,7 @@
 -- What is kept once a transaction was reported.
-use Rattle.std.proofs.Common.{◌≡◌, ◌≢◌, ⊎_elim, ℕ, eqb, ◌+◌, ◌-◌, ◌<◌, ◌≤◌, Bool, true, false, List, [], ◌∷◌}
+use Rattle.std.proofs.Common.{◌≡◌, ◌≢◌, ℕ, eqb, ◌+◌, ◌-◌, ◌<◌, ◌≤◌, Bool, true, false, List, [], ◌∷◌}
 use Rattle.std.proofs.Common.{length, Option, Some, None, refl, sym, ap, ◌∙◌, subst, arith}
-use Rattle.std.proofs.lemmas.Bool.{ne_eqb}
-use Rattle.std.proofs.lemmas.Bool.Decides.{eqb_tells}
+use Rattle.std.proofs.lemmas.Bool.{eq-eqb, ne_eqb}
 use Rattle.std.specs.Prelude.{if◌then◌else◌}
 use Rattle.gearcmd.specs.FrameLists.{FrameList}
 use Rattle.transact.specs.Attempts.{ReportParts, IsReportParts}
@@ -17,10 +16,6 @@ use Rattle.plant.specs.Matches.{IsOpenTransaction}
 use Rattle.plant.specs.KeptSteps.{KeptPlant, KeptBus, bus_at, BusesFollow, ImageFollows, Says}
 use Rattle.plant.proofs.Counting.{count_less}
 use Rattle.plant.proofs.Reports.{hand_short, report_short, frames_few}
-
-same_eqb : (b : ℕ) → eqb b b ≡ true
-same_eqb b = ⊎_elim (λ (k : (eqb b b ≡ true) × (b ≡ b)). k.0) (λ (k : (eqb b b ≡ false) × (b ≢ b)). absurd (k.1 refl))
-    (eqb_tells b b)
 
 -- ---- what is open was not reported
 
@@ -59,7 +54,7 @@ one_report_less : (p : Shown) (b n : ℕ) (r : ReportParts) → IsDone p.plant p
 one_report_less p b n r done =
     count_less (λ c. is_unreported c p.history) (λ c. is_unreported c (Done b n r ∷ p.history)) p.plant.plan.buses b
     done.known (open_unreported b p.history done.handed done.is_open)
-    (ap (λ (s : Bool). if s then false else is_unreported b p.history) (same_eqb b))
+    (ap (λ (s : Bool). if s then false else is_unreported b p.history) (eq-eqb b b refl))
     (λ c ne. ap (λ (s : Bool). if s then false else is_unreported c p.history) (ne_eqb b c (λ e. ne (sym e))))
 
 some_kept : (p : Shown) (b n : ℕ) (r : ReportParts) → IsDone p.plant p.history b n r → 1 ≤ kept p

@@ -1,8 +1,7 @@
 -- What is kept once a task was taken, and the snapshot that is taken.
-use Rattle.std.proofs.Common.{◌≡◌, ◌≢◌, ⊎_elim, eqb, ℕ, zero, suc, ◌+◌, ◌<◌, ◌≤◌, Bool, true, false, List, [], ◌∷◌}
+use Rattle.std.proofs.Common.{◌≡◌, ◌≢◌, eqb, ℕ, zero, suc, ◌+◌, ◌<◌, ◌≤◌, Bool, true, false, List, [], ◌∷◌}
 use Rattle.std.proofs.Common.{map, length, Option, Some, None, refl, sym, ap, ◌∙◌, arith}
-use Rattle.std.proofs.lemmas.Bool.{ne_eqb}
-use Rattle.std.proofs.lemmas.Bool.Decides.{eqb_tells}
+use Rattle.std.proofs.lemmas.Bool.{eq-eqb, ne_eqb}
 use Rattle.std.specs.Prelude.{Result, Ok, Err, IfOk}
 use Rattle.std.specs.Prelude.{if◌then◌else◌, is_some, slice_get, option_map, slice_index_or}
 use Rattle.std.specs.Option.{option_and_then}
@@ -136,16 +135,12 @@ snapshot_is p t h image given s follows taken verified values instances at = rec
 
 -- ---- the place that is kept for the Commit
 
-same_eqb : (b : ℕ) → eqb b b ≡ true
-same_eqb b = ⊎_elim (λ (k : (eqb b b ≡ true) × (b ≡ b)). k.0) (λ (k : (eqb b b ≡ false) × (b ≢ b)). absurd (k.1 refl))
-    (eqb_tells b b)
-
 one_scan_more : (workers w t : ℕ) (s : ScanStart) (h : List Event) → w < workers → scan w h ≡ None
     → count_below (λ v. is_some (scan v h)) workers + 1 ≡ count_below (λ v. is_some (scan v (Take w t s ∷ h))) workers
 one_scan_more workers w t s h lt idle =
     count_less (λ v. is_some (scan v (Take w t s ∷ h))) (λ v. is_some (scan v h)) workers w lt
     (ap (λ b. is_some (if b then Some (record { place = length h; task = t; snapshot = s }) else scan w h))
-    (same_eqb w))
+    (eq-eqb w w refl))
     (ap (λ (o : Option OpenScan). is_some o) idle)
     (λ v ne. sym (ap (λ b. is_some (if b then Some (record { place = length h; task = t; snapshot = s }) else scan v h))
     (ne_eqb w v (λ e. ne (sym e)))))

@@ -28,7 +28,7 @@ within xs k x is =
     (cases_lt k (length xs))
 
 -- what is mapped to something is something
-mapped : {X Y : Type 0} → (f : X → Y) (o : Option X) (y : Y) → option_map f o ≡ Some y → (x : X) × (o ≡ Some x) × (y ≡ f x)
+pub mapped : {X Y : Type 0} → (f : X → Y) (o : Option X) (y : Y) → option_map f o ≡ Some y → (x : X) × (o ≡ Some x) × (y ≡ f x)
 mapped f (Some x) y is = let same : f x ≡ y = cc in (x, refl, sym same)
 mapped f None y is = absurd (cc)
 

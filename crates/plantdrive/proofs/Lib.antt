@@ -1,5 +1,5 @@
 mod Accepting
-mod Desks
+pub mod Desks
 mod Empty
 mod Histories
 mod Meaning

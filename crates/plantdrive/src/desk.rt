@@ -28,21 +28,14 @@ pub(crate) struct Desk {
 }
 
 impl Model for Desk {
-    ghost use Rattle.std.specs.Prelude.{List};
-    ghost use Rattle.std.specs.Coded.{codes, code_by};
-    ghost use Rattle.ilplan.specs.declared.place.Place.{Place};
-    ghost use Rattle.iltrees.specs.declared.nested.Piece.{Piece};
-    ghost use Rattle.iltrees.specs.Trees.{pieces_of};
-    ghost use Rattle.iltrees.specs.TreeSteps.{tree_of, tree_again};
+    ghost use Rattle.std.specs.Coded.{codes};
+    ghost use Rattle.ilplan.specs.contracts.plan.Plan as inner;
     ghost use Rattle.plant.specs.Shown.{Shown};
     ghost use Rattle.plantdrive.specs.DeskSteps.{OrdersFollow, SendingsFollow};
 
     ghost Value = { Shown };
 
-    ghost coded = { Prim.hlevel (
-      codes,
-      code_by (List (Piece Place)) (Prim.hlevel codes) pieces_of tree_of tree_again,
-    ) };
+    ghost coded = { Prim.hlevel (codes, inner.the_row.coded) };
 
     ghost view = { λ d. d.plant };
 

@@ -20,13 +20,13 @@ use Rattle.plantevents.specs.Slots.{own_number, IsSlotOf}
 
 -- ---- global variables come first
 
-abbrev variables : List Slot → List slots.SlotOwner
+abbrev pub variables : List Slot → List slots.SlotOwner
 variables slots = map (λ s. s.variable) slots
 
-abbrev owns : List Slot → List Value
+abbrev pub owns : List Slot → List Value
 owns slots = filter_map (λ s. own_by s.variable s.initial) slots
 
-abbrev external_of : PlannedTask → ℕ → ℕ → External
+abbrev pub external_of : PlannedTask → ℕ → ℕ → External
 external_of task n global = record { global = global; stored = stores task n }
 
 all_at : (P : slots.SlotOwner → Type 0) (more : List Slot) (i : ℕ) (s : Slot) → AllByRecursion P (variables more)
@@ -50,12 +50,12 @@ none_global task n instance name (s ∷ more) own =
     ∙ none_global task (n + 1) instance name more own.1
 
 -- the first variable of some, with the others behind it
-first_global : (task : PlannedTask) (n : ℕ) (x : Slot) (more : List Slot) (global : ℕ) → x.variable ≡ slot.Global global
+pub first_global : (task : PlannedTask) (n : ℕ) (x : Slot) (more : List Slot) (global : ℕ) → x.variable ≡ slot.Global global
     → externals_from task n (x ∷ more) ≡ external_of task n global ∷ externals_from task (n + 1) more
 first_global task n x more global is = ap (λ v. option_to_list (external_in task n v)
     ++ externals_from task (n + 1) more) is
 
-first_own : (task : PlannedTask) (n : ℕ) (x : Slot) (more : List Slot) (instance name : Name)
+pub first_own : (task : PlannedTask) (n : ℕ) (x : Slot) (more : List Slot) (instance name : Name)
     → AreOrdered (variables (x ∷ more)) → x.variable ≡ slot.Own instance name
     → (externals_from task n (x ∷ more) ≡ []) × (externals_from task (n + 1) more ≡ [])
 first_own task n x more instance name ordered is =
@@ -65,10 +65,10 @@ first_own task n x more instance name ordered is =
       none,
     )
 
-owns_global : (x : Slot) (more : List Slot) (global : ℕ) → x.variable ≡ slot.Global global → owns (x ∷ more) ≡ owns more
+pub owns_global : (x : Slot) (more : List Slot) (global : ℕ) → x.variable ≡ slot.Global global → owns (x ∷ more) ≡ owns more
 owns_global x more global is = ap (λ v. cons_option (own_by v x.initial) (owns more)) is
 
-owns_own : (x : Slot) (more : List Slot) (instance name : Name) → x.variable ≡ slot.Own instance name
+pub owns_own : (x : Slot) (more : List Slot) (instance name : Name) → x.variable ≡ slot.Own instance name
     → owns (x ∷ more) ≡ x.initial ∷ owns more
 owns_own x more instance name is = ap (λ v. cons_option (own_by v x.initial) (owns more)) is
 

@@ -18,20 +18,14 @@ pub struct RefusedTask {
 }
 
 impl Model for RefusedTask {
-    ghost use Rattle.std.specs.Prelude.{◌<◌, length, List};
-    ghost use Rattle.std.specs.Coded.{codes, code_by};
-    ghost use Rattle.ilplan.specs.declared.place.Place.{Place};
-    ghost use Rattle.iltrees.specs.declared.nested.Piece.{Piece};
-    ghost use Rattle.iltrees.specs.Trees.{pieces_of};
-    ghost use Rattle.iltrees.specs.TreeSteps.{tree_of, tree_again};
+    ghost use Rattle.std.specs.Prelude.{◌<◌, length};
+    ghost use Rattle.std.specs.Coded.{codes};
+    ghost use Rattle.ilplan.specs.contracts.plan.Plan as inner;
     ghost use Rattle.plantload.specs.RefusedTasks.{Refused, refused_of};
 
     ghost Value = { Refused };
 
-    ghost coded = { Prim.hlevel (
-      codes,
-      code_by (List (Piece Place)) (Prim.hlevel codes) pieces_of tree_of tree_again,
-    ) };
+    ghost coded = { Prim.hlevel (codes, inner.the_row.coded) };
 
     ghost view = { λ r. refused_of r.plan r.task r.refusal };
 

@@ -8,6 +8,7 @@ use Rattle.scenario.specs.declared.statements.Statement.{Statement}
 use Rattle.simbus.specs.Simulated.{Simulated}
 use Rattle.ilsetup.specs.Loaded.{Loaded}
 use Rattle.plant.specs.Shown.{Shown, opened}
+use Rattle.plantdrive.proofs.Desks.{mapped}
 use Rattle.plantplay.specs.declared.connection.Connection.{Connection}
 use Rattle.plantplay.specs.declared.installation.Installation.{Installation}
 use Rattle.plantplay.specs.Installations.{IsInstallation, connection_of, connections_of, sim_log}
@@ -36,10 +37,6 @@ at_place scenario (suc n) b c is =
     (λ (k : (b ≡ length (connections_of scenario n)) × (c ≡ connection_of scenario n)).
     k.1 ∙ ap (connection_of scenario) (sym (k.0 ∙ count_of scenario n)))
     (one_more (connections_of scenario n) (connection_of scenario n) b c is)
-
-mapped : {X Y : Type 0} → (f : X → Y) (o : Option X) (y : Y) → option_map f o ≡ Some y → (x : X) × (o ≡ Some x) × (y ≡ f x)
-mapped f (Some x) y is = let same : f x ≡ y = cc in (x, refl, sym same)
-mapped f None y is = absurd (cc)
 
 line_at_place : (scenario : List Statement) (n b : ℕ) (line : Line)
     → slice_get (lines_of sim_log (connections_of scenario n)) b ≡ Some line

@@ -4,11 +4,11 @@ use Rattle.ilplan.specs.Printed.{printed_name}
 use Rattle.ilsource.specs.declared.configuration.TaskDeclaration.{TaskDeclaration}
 use Rattle.ilsource.specs.Names.{text_of}
 use Rattle.ilsource.specs.Trees.{Tree}
+use Rattle.ilscope.proofs.Sound.{not_below}
 use Rattle.ilsyms.specs.InstanceSteps.{instances_of, task_with}
 use Rattle.ilsyms.specs.Tasks.{declared_task, tasks_of}
 use Rattle.ilsyms.proofs.Limits.{not_bad}
 use Rattle.ilsyms.proofs.PlannedTasks.{they_are, they_are_there, task_declared, task_below, planned_at, if_ok}
-use Rattle.ilsyms.proofs.PlannedTasks.{not_below}
 use Rattle.ilsyms.proofs.plans.plan_declared.Goals as goal
 
 pub task_declared-declared-requires : goal.task_declared-declared-requires
