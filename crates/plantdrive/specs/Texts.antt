@@ -16,7 +16,7 @@ use Rattle.plantdrive.specs.declared.step.Step.{Step}
 use Rattle.plantdrive.specs.declared.step.StepReply.{StepReply}
 use Rattle.plantdrive.specs.declared.text.DriveFault.{DriveFault}
 use Rattle.plantdrive.specs.declared.text.DriveFault.TheVariants.{Load, Open}
-use Rattle.plantdrive.specs.Runs.{Run}
+use Rattle.plantdrive.specs.Runs.{Run, IsHistoryOf}
 
 -- the scan that worker w took from place n came to what its task means, by the source program, of the snapshot that it
 -- took
@@ -35,12 +35,14 @@ AreAsMeant tree buses h =
     → IsAsMeant tree buses front w n result
 
 -- the bytes are those of a source program, whose plan with its verified codes was opened; these replies to these steps
--- lead to q; its history is legal; and each scan came to what the source program means
+-- lead to q; its history is that of the steps that were accepted, and legal; and each scan came to what the source
+-- program means
 pub record IsDriven (wiring : Wiring) (bytes : List ℕ) (workers limit : ℕ) (steps : List Step)
     (replies : List StepReply) (q : Shown) : Type 0 where
   pub setup : Loaded
   pub loaded : IsSetup wiring bytes setup
   pub run : Run (opened setup workers limit) steps replies q
+  pub history : IsHistoryOf (opened setup workers limit) steps replies q
   pub legal : AreLegal q.plant q.history
   pub meant : AreAsMeant loaded.plan.tree wiring.buses q.history
 

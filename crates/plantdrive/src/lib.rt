@@ -2,6 +2,10 @@
 //! same from the bytes of a text ([`drive_text`]), and the next transaction of a bus sent on its
 //! line ([`send_next`]). What a step does is `Answered`, and what steps do one after another is
 //! `Run` (specs/Runs.antt), the definition to read first.
+//!
+//! ```text
+//! let driven = drive(alloc, setup, 1, 1_000, &[Step::Tick { moment: 0 }])?;
+//! ```
 #![tactic(auto)]
 
 mod desk;

@@ -16,6 +16,7 @@ returns-clause-driven c =
       setup = setup;
       loaded = loaded;
       run = run;
+      history = c.in_ok-driven.ensures.history;
       legal = legal;
       meant = scans_meant driven.plant.plant loaded.plan.tree wiring c.load.ensures.same_meaning
           (ap (λ (x : Plant). x.plan) same ∙ loaded.plan.resolved) driven.plant.history legal;
