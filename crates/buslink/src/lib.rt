@@ -4,6 +4,10 @@
 //! a loss, and gives its report. The definitions to read first are `BusLog` and `after_report`:
 //! what was sent is what the report says, frame for frame (IEC 62386-101 for frames and priorities,
 //! profile for retries).
+//!
+//! ```text
+//! let report = perform(&mut bus, &transaction)?; // its attempts, as the bus saw them
+//! ```
 #![tactic(auto)]
 
 mod buses;

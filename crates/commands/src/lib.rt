@@ -8,6 +8,10 @@
 //! `IsStepped` (specs/Answered.antt), what `step` answers; the outermost one is `IsServed`
 //! (specs/Served.antt). No contract can say which bytes the machine's disk gives, or what becomes
 //! of those that its terminal takes. `run(&rt)` does all of it over a runtime.
+//!
+//! ```text
+//! let status = commands::run(&rt); // of the words, files and terminal of a runtime
+//! ```
 #![tactic(auto)]
 
 mod answers;

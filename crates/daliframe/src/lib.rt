@@ -3,6 +3,10 @@
 //! addresses, levels, opcodes and the classes of these. They meet the bit equations of
 //! `specs/Addresses.antt` and `specs/Frames.antt` and the sets of opcodes of `specs/Opcodes.antt`
 //! (IEC 62386-101, -102 and -103).
+//!
+//! ```text
+//! let frame = Frame16::level(Address::from_number(5)?, 200); // 0x0AC8: lamp 5 to level 200
+//! ```
 #![tactic(auto)]
 
 mod addressing;

@@ -4,6 +4,10 @@
 //! control gear. The definition to read first is `frames_of` in `specs/Requests.antt`, over the
 //! tables of `specs/Commands.antt`; `specs/FrameLists.antt` has the lists of frames that are legal
 //! (IEC 62386-102; profile for control devices and classes).
+//!
+//! ```text
+//! let frames = request.frames(); // of SET FADE TIME: DTR0 with the time, then the command twice
+//! ```
 #![tactic(auto)]
 
 mod blocks;

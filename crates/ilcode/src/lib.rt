@@ -6,6 +6,13 @@
 //! (specs/Listings.antt, to be read first). What a word does is `step` (specs/Steps.antt), and how
 //! words follow one another is `IsNext` (specs/Paths.antt): the machine meets the first, the
 //! verifier both.
+//!
+//! ```text
+//! match code.instructions()[place] {
+//!     Word::Load { negated, operand } => ..,
+//!     Word::Jump { condition, target } => ..,
+//! }
+//! ```
 #![tactic(auto)]
 
 mod code;

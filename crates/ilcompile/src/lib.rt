@@ -5,6 +5,10 @@
 //! (specs/Layout.antt), and its runs end with exactly the values that a scan of the task leaves:
 //! `IsMeant` (specs/Meant.antt) is the definition to read first. The only error is that the
 //! allocator is out of memory.
+//!
+//! ```text
+//! let code = compile(alloc, &plan, task)?;
+//! ```
 #![tactic(auto)]
 
 mod compiler;

@@ -5,6 +5,10 @@
 //! what is a front of it and how it is read; where a fault stands (specs/Stops.antt); and
 //! [`ReadError`], which a function that reads an item returns (specs/Results.antt). The laws
 //! (proofs/) say that reading is exact both ways, for any type of tokens.
+//!
+//! ```text
+//! fn range<'a>(tokens: &'a [Token]) -> Result<((i64, i64), &'a [Token]), ReadError<'a, Token>>
+//! ```
 
 #![tactic(auto)]
 

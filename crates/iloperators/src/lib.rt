@@ -6,6 +6,10 @@
 //! (specs/Operators.antt, to be read first), `value_of_function` and `holds`, which source, plan,
 //! code and machine cite alike. `apply` computes where there is a value, with
 //! no test; `has_value` is the test, and `try_apply` both.
+//!
+//! ```text
+//! let sum = Operator::Add.try_apply(left, right)?; // none where it leaves 64 bits
+//! ```
 #![tactic(auto)]
 
 mod comparison;

@@ -5,6 +5,11 @@
 //! of an instance are those of `iltrees`, over [`Place`]s. What holds of each task is `KeepsLimits`
 //! (specs/Plans.antt), and what a scan of it means is `plan_scan` (specs/PlanMeaning.antt), to be
 //! read first.
+//!
+//! ```text
+//! let task = plan.task(0);
+//! for slot in task.slots() { /* its type and its initial value */ }
+//! ```
 #![tactic(auto)]
 
 mod activation;

@@ -5,6 +5,10 @@
 //! the [`Symbol`]s of a text. A [`Name`] is a word of the text, and [`LineColumn`] gives line and
 //! column of a byte. Contracts see a `Source` as a record of specs/Trees.antt, to be read first;
 //! specs/Names.antt says when two names are the same.
+//!
+//! ```text
+//! let LineColumn { line, col } = LineColumn::of(source.text(), name.from);
+//! ```
 
 #![tactic(auto)]
 

@@ -5,6 +5,10 @@
 //! task of a source program (specs/Tasks.antt) means `source_scan` (specs/Meaning.antt, to be read
 //! first), over names. The plan is `plan_of_tree` (specs/Resolved.antt), whose scans leave the
 //! same, and what stands against it is `IsFault` (specs/Faults.antt).
+//!
+//! ```text
+//! let plan = resolve(alloc, &source, &binding)?; // or: name fault 4 at 7:5
+//! ```
 #![tactic(auto)]
 
 mod arguments;

@@ -6,6 +6,10 @@
 //! (specs/Texts.antt, Declarations.antt, Configurations.antt and Instructions.antt), whose reading
 //! is exact by the laws of `ilgrammar`; a fault stands at the first token that goes on as no text
 //! (specs/Faults.antt).
+//!
+//! ```text
+//! let source = parse(alloc, text)?; // or: text fault 3 at 12:8
+//! ```
 
 #![tactic(auto)]
 

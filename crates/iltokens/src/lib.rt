@@ -5,6 +5,10 @@
 //! What a token is, is a [`What`]: reserved words, names, numbers, durations, addresses, delimiters
 //! and line ends. Read `StandsNext` first (specs/Tokens.antt), then what each kind spells
 //! (specs/Spellings.antt) and each reserved word ([`reserved`], specs/Keywords.antt).
+//!
+//! ```text
+//! let Lexed::Token { what, from, to } = token(text, at) else { return };
+//! ```
 
 #![tactic(auto)]
 

@@ -5,6 +5,12 @@
 //! names and labels, the other with numbers. Read specs/Meaning.antt first: the value of a tree and
 //! what an instruction does; then specs/Passes.antt: what a program's lines leave. The law
 //! `renaming_keeps_the_meaning` says all that resolving names has to show.
+//!
+//! ```text
+//! for line in program.lines() {
+//!     words = words.saturating_add(line.words());
+//! }
+//! ```
 #![tactic(auto)]
 
 mod arguments;

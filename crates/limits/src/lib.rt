@@ -4,6 +4,10 @@
 //! numbers that contracts cite stand in specs/Limits.antt as literals, apart from the constants, so
 //! that a constant that is changed is refused wherever a contract speaks of its limit:
 //! `is_too_long(text)` is the question that texts, bindings and scenarios ask first.
+//!
+//! ```text
+//! if is_too_long(text) { /* text fault 2 */ }
+//! ```
 #![tactic(auto)]
 
 ghost use Rattle.std.specs.Prelude.{◌↔◌, ◌<◌, length, IsTrue};

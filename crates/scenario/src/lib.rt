@@ -5,6 +5,11 @@
 //! the lines; [`Scenario::happenings`] gives its ticks and events in order. The definition to read
 //! first is `IsScenario` (specs/Scenarios.antt); what a line says stands in specs/Saying.antt,
 //! which statement may follow which in specs/Following.antt.
+//!
+//! ```text
+//! let scenario = parse(alloc, bytes)?;
+//! let mut happenings = scenario.happenings();
+//! ```
 #![tactic(auto)]
 
 mod fault;

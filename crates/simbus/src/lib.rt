@@ -6,6 +6,11 @@
 //! (IEC 62386-102, clauses 9 to 11, and profile for control devices and scripts).
 //! `specs/Simulated.antt` says what a bus is to its callers, and `specs/Setups.antt` what a
 //! scenario says of one.
+//!
+//! ```text
+//! let mut bus = SimBus::new(alloc, BusSetup::of(alloc, &scenario, number)?)?;
+//! let report = perform(&mut bus, &transaction)?;
+//! ```
 #![tactic(auto)]
 
 mod answers;

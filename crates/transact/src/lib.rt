@@ -3,6 +3,11 @@
 //! marks that its frames got go in; a report of its attempts comes out exactly where they spell
 //! one, with its outcome. The definition to read first is `Spells` in `specs/Attempts.antt` (IEC
 //! 62386-101 and -102, and profile for priorities and retries).
+//!
+//! ```text
+//! let transaction = Transaction::of(&request, TaskKind::Event);
+//! let report = Report::of(&transaction, &[Mark::Lost, Mark::Quiet])?; // sent twice, and done
+//! ```
 #![tactic(auto)]
 
 mod marks;

@@ -6,6 +6,11 @@
 //! ([`Words`]) and the numbers that words spell. Read specs/LineRules.antt first, which says what
 //! the rules of a kind of file are; what is reported of bytes stands in specs/LineFiles.antt, and
 //! what words are in specs/WordLines.antt.
+//!
+//! ```text
+//! let said = read_lines(start, bytes)?; // or: bind fault at 3
+//! let bus = number_of(Words::of(line).next()?, 15)?;
+//! ```
 #![tactic(auto)]
 
 mod cuts;
