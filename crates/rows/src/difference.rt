@@ -16,6 +16,18 @@ pub enum Difference {
     Complained(String),
 }
 
+impl Difference {
+    /// Its kind, in one word.
+    pub fn kind(&self) -> &'static str {
+        match self {
+            Difference::Line => "line",
+            Difference::Status(_) => "status",
+            Difference::Printed(_) => "printed",
+            Difference::Complained(_) => "complained",
+        }
+    }
+}
+
 impl fmt::Display for Difference {
     fn fmt<W: fmt::Write>(&self, f: &mut fmt::Formatter<W>) -> fmt::Result {
         match self {
@@ -39,6 +51,8 @@ pub enum Stop {
         line: String,
         why: Difference,
     },
+    /// A row of this name holds, though it is wrong.
+    Held(String),
 }
 
 impl From<AllocError> for Stop {
@@ -58,6 +72,7 @@ impl fmt::Display for Stop {
         match self {
             Stop::Memory => write!(f, "no memory"),
             Stop::File(error) => write!(f, "a file of rows isn't read: {error}"),
+            Stop::Held(row) => write!(f, "the wrong row '{row}' holds"),
             Stop::Row { row, line, why } => write!(f, "row '{row}', at '{line}': {why}"),
         }
     }

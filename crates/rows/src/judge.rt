@@ -92,8 +92,12 @@ impl Judge {
         }
     }
 
-    /// Begins a row.
-    fn begin_row(&mut self, name: &str) -> Result<(), Stop> {
+    /// Begins a row of this name.
+    ///
+    /// # Errors
+    ///
+    /// The row before it doesn't hold.
+    pub fn begin_row(&mut self, name: &str) -> Result<(), Stop> {
         self.end_part()?;
         self.rows = self.rows.saturating_add(1);
         self.row = String::from_str(self.alloc, name)?;

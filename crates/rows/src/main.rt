@@ -1,26 +1,29 @@
 //! The program `rows`: runs worked rows of the command line, each in memory.
 //!
 //! What crosses the boundary: files of rows, whose names are the words of the command line, and one
-//! line, how many rows hold, or the first one that doesn't. README.md has their format; `judge`
-//! reads a row and compares, `machine` is the runtime that a row's commands run over. Nothing is
-//! proved of the rows themselves, and a row more costs no proof: `rows texts.rows` is a call.
+//! line: how many rows hold and how many wrong ones don't, or the first one that is otherwise.
+//! README.md has their format; `judge` reads a row and compares, `wrong` has the rows that must not
+//! hold, and `machine` is the runtime that a row's commands run over. Nothing is proved of the rows
+//! themselves, and a row more costs no proof: `rows texts.rows` is a call.
 #![tactic(auto)]
 
 mod body;
 mod difference;
 mod judge;
 mod machine;
+mod wrong;
 
 use difference::Stop;
 use judge::Judge;
 use std::process::ExitCode;
 use std::rt::{Env, Files};
 use std::{env, fs, io};
+use wrong::refuse_rows;
 
 fn main(rt: HostRuntime) -> io::Result<ExitCode> {
     match judge_files(&rt) {
-        Ok(rows) => {
-            println!(rt; "{rows} rows hold")?;
+        Ok((rows, wrong)) => {
+            println!(rt; "{rows} rows hold, and {wrong} wrong rows don't")?;
             Ok(ExitCode::SUCCESS)
         }
         Err(stop) => {
@@ -30,18 +33,24 @@ fn main(rt: HostRuntime) -> io::Result<ExitCode> {
     }
 }
 
-/// How many rows there are in the files that the command line names, where all of them hold.
+/// How many rows there are in the files that the command line names, where all of them hold, and
+/// how many wrong ones in the files whose names begin with `wrong`, where none of these does.
 ///
 /// # Errors
 ///
-/// A file that isn't read, or the first row that doesn't hold.
-fn judge_files<R: Files + Env + AllocGlobal>(rt: &R) -> Result<u32, Stop> {
+/// A file that isn't read, or the first row that doesn't hold, or that holds though it is wrong.
+fn judge_files<R: Files + Env + AllocGlobal>(rt: &R) -> Result<(u32, u32), Stop> {
     let mut judge = Judge::new(rt.alloc());
+    let mut wrong: u32 = 0;
     for path in env::args(rt)?.skip(1) {
         let text = fs::read_to_string(rt, path.as_str())?;
-        judge_lines(&mut judge, &text)?;
+        if path.as_str().starts_with("wrong") {
+            wrong = wrong.saturating_add(refuse_rows(rt.alloc(), &text)?);
+        } else {
+            judge_lines(&mut judge, &text)?;
+        }
     }
-    Ok(judge.rows())
+    Ok((judge.rows(), wrong))
 }
 
 /// Judges the rows of a file.

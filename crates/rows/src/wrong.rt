@@ -1,0 +1,65 @@
+//! Rows that must not hold: without them a judge who compares nothing would find no difference.
+//!
+//! Such a row is named for what the judge must say of it: the kind of the difference, ` at `, and
+//! the line that shows it, as `status at status 1`.
+
+use crate::difference::Stop;
+use crate::judge::Judge;
+use std::alloc::Global;
+
+/// How many rows a file has, where each is refused for what its name says.
+///
+/// # Errors
+///
+/// The first row that holds, or that is refused for something else.
+pub fn refuse_rows(alloc: Global, text: &str) -> Result<u32, Stop> {
+    let mut rows: u32 = 0;
+    for row in text.split("\n== ").skip(1) {
+        refuse_row(alloc, row)?;
+        rows = rows.saturating_add(1);
+    }
+    Ok(rows)
+}
+
+/// Has a row judged by itself, by the lines from its name on.
+fn refuse_row(alloc: Global, row: &str) -> Result<(), Stop> {
+    let name = match row.split_once('\n') {
+        Some((name, _)) => name,
+        None => row,
+    };
+    let stop = match judge_row(alloc, row) {
+        Ok(()) => return Err(Stop::Held(String::from_str(alloc, name)?)),
+        Err(stop) => stop,
+    };
+    if is_named(name, &stop) {
+        Ok(())
+    } else {
+        Err(stop)
+    }
+}
+
+/// Judges one row, whose first line is its name.
+fn judge_row(alloc: Global, row: &str) -> Result<(), Stop> {
+    let mut judge = Judge::new(alloc);
+    let mut is_name = true;
+    for line in row.split('\n') {
+        if is_name {
+            judge.begin_row(line)?;
+            is_name = false;
+        } else {
+            judge.take_line(line)?;
+        }
+    }
+    judge.end_part()
+}
+
+/// Whether a row is named for why it was refused.
+fn is_named(name: &str, stop: &Stop) -> bool {
+    let Stop::Row { line, why, .. } = stop else {
+        return false;
+    };
+    match name.split_once(" at ") {
+        Some((kind, place)) => kind == why.kind() && place == line.as_str(),
+        None => false,
+    }
+}
