@@ -1,5 +1,4 @@
 pub mod Blocks
-pub mod Equality
 pub mod Inputs
 pub mod Parts
 pub mod Ports

@@ -9,7 +9,7 @@ use iltypes::Value;
 use std::marker::Model;
 
 /// The ports of a block instance, and what it remembers of its last call.
-#[derive(Clone, Drop, PartialEq, Eq)]
+#[derive(Clone, Drop)]
 pub struct BlockState {
     ports: ArrayVec<Value, MOST_PORTS>,
     before: bool,
@@ -31,7 +31,7 @@ impl Model for BlockState {
 }
 
 impl BlockState {
-    ghost use Rattle.std.specs.Prelude.{◌≡◌, ◌↔◌, ℕ, ◌<◌, ◌^◌, IsTrue, slice_set};
+    ghost use Rattle.std.specs.Prelude.{◌≡◌, ℕ, ◌<◌, ◌^◌, slice_set};
     ghost use Rattle.ilblocks.specs.Calls.{IsBlockOf, at_first, truth, number, natural, rises};
 
     /// An instance before its first call.
@@ -48,13 +48,6 @@ impl BlockState {
             before: false,
             start: 0,
         }
-    }
-
-    /// Whether both instances keep the same.
-    pub fn is_same(&self, other: &BlockState) -> bool
-        ensures { IsTrue result ↔ (self.now ≡ other.now) }
-    {
-        self == other
     }
 
     /// The value of each port.

@@ -36,7 +36,7 @@ impl Model for Code {
 }
 
 impl Code {
-    ghost use Rattle.std.specs.Prelude.{◌≡◌, ◌↔◌, IsTrue};
+    ghost use Rattle.std.specs.Prelude.{◌≡◌};
     ghost use Rattle.ilcode.specs.Listings.{Listing, IsLawful, listing_of};
     ghost use Rattle.ilcode.specs.Steps.{is_target};
 
@@ -65,19 +65,6 @@ impl Code {
             instructions,
             lines,
         }
-    }
-
-    /// Whether both codes have the same parts.
-    pub fn is_same(&self, other: &Code) -> bool
-        ensures { IsTrue result ↔ (self.now ≡ other.now) }
-    {
-        self.buses == other.buses
-            && self.constants == other.constants
-            && self.slots == other.slots
-            && self.kinds == other.kinds
-            && self.starts == other.starts
-            && self.instructions == other.instructions
-            && self.lines == other.lines
     }
 
     /// The number of buses, 1 to 16.

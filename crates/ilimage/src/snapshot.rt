@@ -34,7 +34,7 @@ impl Model for Snapshot {
 }
 
 impl Snapshot {
-    ghost use Rattle.std.specs.Prelude.{◌≡◌, ◌↔◌, IfOk, IsTrue, slice_set};
+    ghost use Rattle.std.specs.Prelude.{◌≡◌, IfOk, slice_set};
     ghost use Rattle.std.specs.List.{AllZip};
     ghost use Rattle.std.specs.Arc.{arc_value};
     ghost use Rattle.iltypes.specs.Values.{AreOf};
@@ -122,16 +122,6 @@ impl Snapshot {
             self.old.moment }
     {
         self.values[slot] = value;
-    }
-
-    /// Whether both are the same snapshot: the same moment, values, block instances and code.
-    pub fn is_same(&self, other: &Snapshot) -> bool
-        ensures { IsTrue result ↔ (self.now ≡ other.now) }
-    {
-        self.moment == other.moment
-            && self.values == other.values
-            && self.blocks == other.blocks
-            && self.verified.is_same(&other.verified)
     }
 
     /// The verified code.

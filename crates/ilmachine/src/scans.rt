@@ -71,6 +71,13 @@ impl Work {
             state,
         })
     }
+
+    /// What the scan begins from.
+    pub fn snapshot(&self) -> &Snapshot
+        ensures value { result.now ≡ self.now.snapshot }
+    {
+        &self.snapshot
+    }
 }
 
 impl ScanResult {

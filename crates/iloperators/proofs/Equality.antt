@@ -1,17 +1,8 @@
--- Operators, functions and conditions are equal as Rust compares them exactly where they are the same.
+-- Operators are equal as Rust compares them exactly where they are the same.
 use Rattle.std.proofs.Common.{◌≡◌, ap, refl}
 use Rattle.std.specs.Bool.{Decides}
 use Rattle.std.specs.Cmp.{booleans_Decides}
 use Rattle.std.proofs.lemmas.Bool.Decides.{Decides-like}
-use Rattle.iloperators.specs.declared.condition.Condition.{Condition}
-use Rattle.iloperators.specs.declared.condition.Condition.TheVariants.{Always, IfTrue, IfFalse}
-use Rattle.iloperators.specs.contracts.condition.ConditionPartialEq.TheImpl as condition_eq
-use Rattle.iloperators.specs.declared.function.Function.{Function}
-use Rattle.iloperators.specs.declared.function.Function.TheVariants.{Not, Abs, Convert}
-use Rattle.iloperators.specs.contracts.function.FunctionPartialEq.TheImpl as function_eq
-use Rattle.iloperators.specs.declared.function.IntegerType.{IntegerType}
-use Rattle.iloperators.specs.declared.function.IntegerType.TheVariants as integers
-use Rattle.iloperators.specs.contracts.function.IntegerTypePartialEq.TheImpl as integer_eq
 use Rattle.iloperators.specs.declared.operator.Operator.{Operator}
 use Rattle.iloperators.specs.declared.operator.Operator.TheVariants as operators
 use Rattle.iloperators.specs.contracts.operator.OperatorPartialEq.TheImpl as operator_eq
@@ -37,24 +28,3 @@ same_operator operators.Lt operators.Lt = (λ e. refl, λ e. refl)
 same_operator operators.Min operators.Min = (λ e. refl, λ e. refl)
 same_operator operators.Max operators.Max = (λ e. refl, λ e. refl)
 same_operator a b = (λ e. cc, λ e. cc)
-
-same_integer : (a b : IntegerType) → Decides (integer_eq.eq-value.it a b) (a ≡ b)
-same_integer integers.Sint integers.Sint = (λ e. refl, λ e. refl)
-same_integer integers.Int integers.Int = (λ e. refl, λ e. refl)
-same_integer integers.Dint integers.Dint = (λ e. refl, λ e. refl)
-same_integer integers.Usint integers.Usint = (λ e. refl, λ e. refl)
-same_integer integers.Uint integers.Uint = (λ e. refl, λ e. refl)
-same_integer integers.Udint integers.Udint = (λ e. refl, λ e. refl)
-same_integer a b = (λ e. cc, λ e. cc)
-
-pub same_function : (a b : Function) → Decides (function_eq.eq-value.it a b) (a ≡ b)
-same_function Not Not = (λ e. refl, λ e. refl)
-same_function Abs Abs = (λ e. refl, λ e. refl)
-same_function (Convert a) (Convert b) = Decides-like _ (λ e. ap Convert e) (λ e. cc) (same_integer a b)
-same_function a b = (λ e. cc, λ e. cc)
-
-pub same_condition : (a b : Condition) → Decides (condition_eq.eq-value.it a b) (a ≡ b)
-same_condition Always Always = (λ e. refl, λ e. refl)
-same_condition IfTrue IfTrue = (λ e. refl, λ e. refl)
-same_condition IfFalse IfFalse = (λ e. refl, λ e. refl)
-same_condition a b = (λ e. cc, λ e. cc)

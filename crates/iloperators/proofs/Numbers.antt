@@ -10,7 +10,8 @@ use Rattle.iltypes.specs.Ranges.{Holds}
 use Rattle.iltypes.specs.declared.range.Range.{Range}
 use Rattle.iltypes.specs.declared.value.Value.{Value}
 use Rattle.iltypes.specs.declared.value.Value.TheVariants as values
-use Rattle.iloperators.specs.Operators.{fits, number, quotient, rest, remainder}
+use Rattle.iltypes.specs.Arithmetic.{remainder}
+use Rattle.iloperators.specs.Operators.{fits, number, quotient, modulo}
 use Rattle.iloperators.specs.Functions.{least_of, greatest_of, converted}
 use Rattle.iloperators.specs.declared.function.IntegerType.{IntegerType}
 
@@ -25,24 +26,24 @@ number_is z h = kept (fits z) (values.Int z) h
 left_over : (q r a : ℤ) → q +ℤ r ≡ a → a -ℤ q ≡ r
 left_over q r a e = omega (arith, ints)
 
-rest_is : (left right : ℤ) → rest left right ≡ int_rem left right
+rest_is : (left right : ℤ) → remainder left right ≡ int_rem left right
 rest_is left right = left_over (int_div left right *ℤ right) (int_rem left right) left (quot-rem left right)
 
-rest_value : (left right : ℤ) → IsSome (number (rest left right))
-    → number (rest left right) ≡ Some (values.Int (int_rem left right))
-rest_value left right h = number_is (rest left right) h ∙ ap (λ (z : ℤ). Some (values.Int z)) (rest_is left right)
+rest_value : (left right : ℤ) → IsSome (number (remainder left right))
+    → number (remainder left right) ≡ Some (values.Int (int_rem left right))
+rest_value left right h = number_is (remainder left right) h ∙ ap (λ (z : ℤ). Some (values.Int z)) (rest_is left right)
 
 -- what MOD gives is what `%` gives
-pub remainder_is : (left right : ℤ) → IsSome (remainder left right)
-    → remainder left right ≡ Some (values.Int (int_rem left right))
+pub remainder_is : (left right : ℤ) → IsSome (modulo left right)
+    → modulo left right ≡ Some (values.Int (int_rem left right))
 remainder_is left (pos zero) h = cc
 remainder_is left (pos (suc n)) h = rest_value left (pos (suc n)) h
 remainder_is left (negsuc n) h = rest_value left (negsuc n) h
 
 -- the same of numbers that went through their bits
 pub rest_given : (left right left_over : ℤ) → FitsSigned w64 left → FitsSigned w64 right → FitsSigned w64 left_over
-    → IsSome (remainder left right) → left_over ≡ int_rem (to_z w64 (of_z w64 left)) (to_z w64 (of_z w64 right))
-    → remainder left right ≡ Some (values.Int (to_z w64 (of_z w64 left_over)))
+    → IsSome (modulo left right) → left_over ≡ int_rem (to_z w64 (of_z w64 left)) (to_z w64 (of_z w64 right))
+    → modulo left right ≡ Some (values.Int (to_z w64 (of_z w64 left_over)))
 rest_given left right left_over a b c h e =
     let l = to_z-of_z w64 left a in
     let r = to_z-of_z w64 right b in
@@ -90,7 +91,7 @@ quotient_checked o left (negsuc n) f h =
 
 -- what is left is smaller than the divisor, so it fits
 rest_fits : (left right : ℤ) → 0 < unsigned_abs right → unsigned_abs right ≤ 9223372036854775808
-    → IsSome (number (rest left right))
+    → IsSome (number (remainder left right))
 rest_fits left right h k =
     let below = rem_below left right h in
     let e = rest_is left right in
@@ -100,7 +101,7 @@ rest_fits left right h k =
 
 -- MOD has a value at each divisor but 0
 pub has_remainder : (left right : ℤ) → FitsSigned w64 right
-    → IsTrue (not (nat_eq (of_z w64 right) 0)) ↔ IsSome (remainder left right)
+    → IsTrue (not (nat_eq (of_z w64 right) 0)) ↔ IsSome (modulo left right)
 has_remainder left (pos zero) f = (λ e. e, λ e. e)
 has_remainder left (pos (suc n)) f =
     let below : suc n < 9223372036854775808 = f.sfits in

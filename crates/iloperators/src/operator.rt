@@ -1,7 +1,7 @@
 //! Operators on the current result and an operand.
 
 ghost use Rattle.std.specs.Prelude.{◌≡◌, ◌↔◌, IsTrue, IsSome, Some};
-ghost use Rattle.iloperators.specs.Operators.{value_of_operator, remainder, may_defer};
+ghost use Rattle.iloperators.specs.Operators.{value_of_operator, modulo, may_defer};
 
 use iltypes::{Value, opposite_if};
 
@@ -131,8 +131,8 @@ impl Operator {
 /// the quotient doesn't fit.
 #[tactic(auto, using(crate::proofs::Numbers::rest_given))]
 fn rest(left: i64, right: i64) -> i64
-    requires { IsSome (remainder left right) }
-    ensures { remainder left right ≡ Some (Value.Int result) }
+    requires { IsSome (modulo left right) }
+    ensures { modulo left right ≡ Some (Value.Int result) }
 {
     left.wrapping_rem(right)
 }

@@ -8,7 +8,7 @@ use Rattle.iltypes.specs.declared.value.Value.TheVariants as values
 use Rattle.iltypes.proofs.Limits.{holds_low}
 use Rattle.iloperators.specs.declared.operator.Operator.{Operator}
 use Rattle.iloperators.specs.declared.operator.Operator.TheVariants as operators
-use Rattle.iloperators.specs.Operators.{value_of_operator, quotient, remainder}
+use Rattle.iloperators.specs.Operators.{value_of_operator, quotient, modulo}
 use Rattle.ilranges.specs.declared.cause.Cause.{Cause}
 use Rattle.ilranges.specs.declared.cause.Cause.TheVariants as causes
 use Rattle.ilranges.specs.declared.known.Known.{Known}
@@ -63,7 +63,7 @@ example (knowns.Int r) = (values.Int r.lo, holds_low r)
 
 zero_none : (operator : Operator) (x y : Value) → DividesByZero operator y → IsNone (value_of_operator operator x y)
 zero_none operators.Div (values.Int x) (values.Int y) h = subst (λ (z : ℤ). IsNone (quotient x z)) (sym h) refl
-zero_none operators.Mod (values.Int x) (values.Int y) h = subst (λ (z : ℤ). IsNone (remainder x z)) (sym h) refl
+zero_none operators.Mod (values.Int x) (values.Int y) h = subst (λ (z : ℤ). IsNone (modulo x z)) (sym h) refl
 zero_none operators.Div (values.Bool x) (values.Int y) h = refl
 zero_none operators.Mod (values.Bool x) (values.Int y) h = refl
 zero_none _ x y h = absurd h

@@ -15,7 +15,8 @@ use Rattle.iloperators.specs.declared.operator.Operator.{Operator}
 use Rattle.iloperators.specs.declared.operator.Operator.TheVariants as operators
 use Rattle.iloperators.specs.Comparisons.{compares, turned}
 use Rattle.iloperators.specs.Functions.{modified, value_of_function}
-use Rattle.iloperators.specs.Operators.{both, value_of_operator, number, fits, rest}
+use Rattle.iltypes.specs.Arithmetic.{remainder}
+use Rattle.iloperators.specs.Operators.{both, value_of_operator, number, fits}
 use Rattle.iloperators.proofs.Comparisons.{has_outcome, has_opposite_outcome}
 use Rattle.ilblocks.specs.Stores.{Store}
 use Rattle.ilcode.specs.declared.word.WordOperand.{WordOperand}
@@ -122,9 +123,9 @@ is_comparison operators.Div x (negsuc n) outcome e =
     absurd (number_is_no_truth (int_div x (negsuc n)) outcome e)
 is_comparison operators.Mod x (pos zero) outcome e = absurd (cc)
 is_comparison operators.Mod x (pos (suc n)) outcome e =
-    absurd (number_is_no_truth (rest x (pos (suc n))) outcome e)
+    absurd (number_is_no_truth (remainder x (pos (suc n))) outcome e)
 is_comparison operators.Mod x (negsuc n) outcome e =
-    absurd (number_is_no_truth (rest x (negsuc n)) outcome e)
+    absurd (number_is_no_truth (remainder x (negsuc n)) outcome e)
 is_comparison _ x y outcome e = absurd (cc)
 
 -- the opposite of a test's outcome is that of the turned test

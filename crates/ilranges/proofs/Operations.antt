@@ -13,7 +13,7 @@ use Rattle.iltypes.proofs.Limits.{result}
 use Rattle.iltypes.proofs.Fitting.{fits_between}
 use Rattle.iloperators.specs.declared.operator.Operator.{Operator}
 use Rattle.iloperators.specs.declared.operator.Operator.TheVariants as operators
-use Rattle.iloperators.specs.Operators.{value_of_operator, quotient, remainder, rest, fits, number}
+use Rattle.iloperators.specs.Operators.{value_of_operator, quotient, modulo, fits, number}
 use Rattle.ilranges.specs.declared.cause.Cause.{Cause}
 use Rattle.ilranges.specs.declared.cause.Cause.TheVariants as causes
 use Rattle.ilranges.specs.declared.known.Known.TheVariants as knowns
@@ -181,7 +181,7 @@ quotient_is x (pos zero) n = absurd (n refl)
 quotient_is x (pos (suc k)) n = refl
 quotient_is x (negsuc k) n = refl
 
-remainder_is : (x y : ℤ) → ¬ (y ≡ pos 0) → remainder x y ≡ number (rest x y)
+remainder_is : (x y : ℤ) → ¬ (y ≡ pos 0) → modulo x y ≡ number (arithmetic.remainder x y)
 remainder_is x (pos zero) n = absurd (n refl)
 remainder_is x (pos (suc k)) n = refl
 remainder_is x (negsuc k) n = refl

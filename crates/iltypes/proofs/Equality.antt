@@ -1,18 +1,14 @@
--- Ranges, types and values are equal as Rust compares them exactly where they are the same.
+-- Ranges and types are equal as Rust compares them exactly where they are the same.
 use Rattle.std.proofs.Common.{◌≡◌, ℤ, ap, refl, subst}
 use Rattle.std.proofs.Math.Dec.{T_prop}
 use Rattle.std.specs.Bool.{Decides}
-use Rattle.std.specs.Cmp.{booleans_Decides}
 use Rattle.std.specs.Prelude.{◌≤ℤ◌}
 use Rattle.std.proofs.lemmas.Bool.Decides.{Decides-int_eq, Decides-and, Decides-like}
 use Rattle.iltypes.specs.contracts.range.RangePartialEq.TheImpl as range_eq
 use Rattle.iltypes.specs.contracts.value.IlTypePartialEq.TheImpl as type_eq
-use Rattle.iltypes.specs.contracts.value.ValuePartialEq.TheImpl as value_eq
 use Rattle.iltypes.specs.declared.range.Range.{Range}
 use Rattle.iltypes.specs.declared.value.IlType.{IlType}
 use Rattle.iltypes.specs.declared.value.IlType.TheVariants as types
-use Rattle.iltypes.specs.declared.value.Value.{Value}
-use Rattle.iltypes.specs.declared.value.Value.TheVariants as values
 
 order_prop : (x y : ℤ) → IsProp (x ≤ℤ y)
 order_prop x y = hlevel T_prop
@@ -39,10 +35,3 @@ same_type types.Bool types.Bool = (λ e. refl, λ e. refl)
 same_type (types.Int a) (types.Int b) = Decides-like _ (λ e. ap types.Int e) (λ e. cc) (same_range a b)
 same_type types.Bool (types.Int b) = (λ e. cc, λ e. cc)
 same_type (types.Int a) types.Bool = (λ e. cc, λ e. cc)
-
-pub same_value : (a b : Value) → Decides (value_eq.eq-value.it a b) (a ≡ b)
-same_value (values.Bool a) (values.Bool b) =
-    Decides-like _ (λ e. ap values.Bool e) (λ e. cc) (booleans_Decides a b)
-same_value (values.Int a) (values.Int b) = Decides-like _ (λ e. ap values.Int e) (λ e. cc) (Decides-int_eq a b)
-same_value (values.Bool a) (values.Int b) = (λ e. cc, λ e. cc)
-same_value (values.Int a) (values.Bool b) = (λ e. cc, λ e. cc)

@@ -27,7 +27,8 @@ use Rattle.plantevents.specs.Legal.{AreLegal, IsCommit, IsResult}
 use Rattle.taskset.specs.TaskSets.{TaskSet, Follows}
 use Rattle.plant.specs.Shown.{Shown, grown, kept, count_below}
 use Rattle.plant.specs.KeptSteps.{KeptPlant, KeptBus, BusesFollow, ImageFollows, ScansFollow, Says}
-use Rattle.plant.specs.CommitSteps.{IsOutcomeOf, IsOpenScanOf, IsScanOfTask}
+use Rattle.plant.specs.Matches.{IsOwnScan}
+use Rattle.plant.specs.CommitSteps.{IsOpenScanOf, IsScanOfTask}
 use Rattle.plant.proofs.Counting.{count_less}
 
 -- ---- the task of a scan that is open
@@ -64,8 +65,8 @@ open_of_task p w running (Down b ∷ h) legal is = open_of_task p w running h le
 -- what a worker's place among the scans says
 pub open_is : (p : Shown) (k : KeptPlant) (w : ℕ) (running : OpenScan) (here : Option OpenScan) (result : Scan)
     → Says p k → w < p.plant.workers → here ≡ get_or k.scans w here → here ≡ Some running
-    → IsOutcomeOf running result → IsOpenScanOf p w result running.task
-open_is p k w running here result says known read is came =
+    → IsOwnScan p w result → result.number ≡ running.place → IsOpenScanOf p w result running.task
+open_is p k w running here result says known read is own number =
     let many = says.each_worker.0 in
     let inside : w < length k.scans = omega arith in
     let there : scan w p.history ≡ Some running =
@@ -75,8 +76,8 @@ open_is p k w running here result says known read is came =
         known = known;
         running = running;
         is_open = there;
-        number = came.number;
-        snapshot = came.snapshot;
+        number = number;
+        snapshot = own running there number;
       };
       task = refl;
     }

@@ -13,6 +13,7 @@ pub mod LocatedLevels
 pub mod Offered
 pub mod Overriding
 pub mod OwedLevels
+pub mod Owning
 pub mod Pending
 pub mod Refusing
 pub mod Reporting

@@ -4,15 +4,9 @@ use Rattle.limits.specs.Limits.{most_requests}
 use Rattle.ilimage.specs.Images.{verified_of}
 use Rattle.ilmachine.specs.Scans.{Scan}
 use Rattle.plantevents.specs.Plants.{layout}
-use Rattle.plantevents.specs.Histories.{OpenScan}
 use Rattle.plantevents.specs.Legal.{IsCommit}
 use Rattle.plant.specs.Shown.{Shown}
 use Rattle.plant.specs.Matches.{IsOpenScan}
-
--- the scan that is open came to this one: it has its number and its snapshot
-pub record IsOutcomeOf (running : OpenScan) (result : Scan) : Type 0 where
-  pub number : result.number ≡ running.place
-  pub snapshot : result.snapshot ≡ running.snapshot
 
 -- the worker has this scan of task t open
 pub record IsOpenScanOf (p : Shown) (w : ℕ) (result : Scan) (t : ℕ) : Type 0 where

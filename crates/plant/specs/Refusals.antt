@@ -10,8 +10,8 @@ use Rattle.plantevents.specs.Choices.{is_free}
 use Rattle.plantevents.specs.Waiting.{handouts}
 use Rattle.plant.specs.declared.refusal.CallRefusal.{CallRefusal}
 use Rattle.plant.specs.declared.refusal.CallRefusal.TheVariants.{ClockBack, NothingReady, Stranger, Busy, BusDown, Full}
-use Rattle.plant.specs.declared.refusal.TakeError.{TakeError}
-use Rattle.plant.specs.declared.refusal.TakeError.TheVariants.{Memory, Refused}
+use Rattle.plant.specs.declared.refusal.CallError.{CallError}
+use Rattle.plant.specs.declared.refusal.CallError.TheVariants.{Memory, Refused}
 use Rattle.plant.specs.Shown.{Shown, is_reserved, is_full}
 
 -- a case with its refusal
@@ -79,7 +79,7 @@ GivesFirst cases (Ok x) = first_refusal cases ≡ None
 GivesFirst cases (Err refusal) = first_refusal cases ≡ Some refusal
 
 -- of a call that may also be out of memory, where no case holds
-abbrev pub GivesFirstOrMemory : {A : Type 0} → List Case → Result A TakeError → Type 0
+abbrev pub GivesFirstOrMemory : {A : Type 0} → List Case → Result A CallError → Type 0
 GivesFirstOrMemory cases (Ok x) = first_refusal cases ≡ None
 GivesFirstOrMemory cases (Err Memory) = first_refusal cases ≡ None
 GivesFirstOrMemory cases (Err (Refused refusal)) = first_refusal cases ≡ Some refusal

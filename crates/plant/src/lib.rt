@@ -34,4 +34,4 @@ mod writes;
 
 pub use open_fault::OpenFault;
 pub use plant::{Handed, LEAST_LIMIT, MOST_LIMIT, MOST_WORKERS, Order, Plant};
-pub use refusal::{CallRefusal, TakeError};
+pub use refusal::{CallError, CallRefusal};

@@ -169,13 +169,6 @@ impl Plant {
         self.limit = limit;
     }
 
-    /// Whether no place is left for an event and the one that it keeps.
-    fn is_full(&self) -> bool
-        ensures value { result ≡ is_full self.now }
-    {
-        self.limit < self.length + self.kept + 2
-    }
-
     /// Keeps a place of the history back for a tick, until it is used.
     pub fn may_tick(&mut self) -> Result<(), CallRefusal>
         ensures refused { GivesFirst (may_tick_cases self.old) result }
@@ -190,8 +183,8 @@ impl Plant {
         Ok(())
     }
 
-    /// Whether a tick to this moment is possible.
-    fn allows_tick(&self, moment: u64) -> Result<(), CallRefusal>
+    /// Whether a tick to this moment is possible, and else why not.
+    pub fn allows_tick(&self, moment: u64) -> Result<(), CallRefusal>
         ensures refused { GivesFirst (tick_cases self.now moment) result }
         ensures allowed { OnOk result ((last_moment self.now.history ≤ moment)
             × (is_full_for roles.Clock self.now ≡ false)) }
@@ -261,8 +254,8 @@ impl Plant {
         Ok(())
     }
 
-    /// Whether a frame of a bus may be heard.
-    fn allows_frame(&self, bus: u8) -> Result<(), CallRefusal>
+    /// Whether a frame of a bus may be heard, and else why not.
+    pub fn allows_frame(&self, bus: u8) -> Result<(), CallRefusal>
         ensures refused { GivesFirst (heard_cases self.now bus) result }
         ensures up { OnOk result (IsUp self.now.plant self.now.history bus) }
         ensures room { OnOk result (is_full_for (roles.Bus bus) self.now ≡ false) }

@@ -19,33 +19,33 @@ pub enum CallRefusal {
     Full,
 }
 
-/// Why no task was taken. The plant is unchanged.
+/// Why a call that takes memory was not accepted. The plant is unchanged.
 #[derive(Clone, Copy, PartialEq, Eq, Debug)]
-pub enum TakeError {
+pub enum CallError {
     /// 1: the allocator is out of memory.
     Memory,
     /// The call was refused.
     Refused(CallRefusal),
 }
 
-impl From<CallRefusal> for TakeError {
+impl From<CallRefusal> for CallError {
     ghost use Rattle.std.specs.Prelude.{◌≡◌};
-    ghost use Rattle.plant.specs.declared.refusal.TakeError.TheVariants.{Refused};
+    ghost use Rattle.plant.specs.declared.refusal.CallError.TheVariants.{Refused};
 
     ghost from_gives = { λ refusal error. error ≡ Refused refusal };
 
     fn from(refusal: CallRefusal) -> Self {
-        TakeError::Refused(refusal)
+        CallError::Refused(refusal)
     }
 }
 
-impl From<AllocError> for TakeError {
+impl From<AllocError> for CallError {
     ghost use Rattle.std.specs.Prelude.{◌≡◌};
-    ghost use Rattle.plant.specs.declared.refusal.TakeError.TheVariants.{Memory};
+    ghost use Rattle.plant.specs.declared.refusal.CallError.TheVariants.{Memory};
 
     ghost from_gives = { λ _ error. error ≡ Memory };
 
     fn from(_refused: AllocError) -> Self {
-        TakeError::Memory
+        CallError::Memory
     }
 }

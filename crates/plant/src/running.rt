@@ -1,17 +1,14 @@
 //! Scans that are open.
 
 ghost use Rattle.std.specs.Prelude.{◌≡◌, ℕ, ◌+◌, ◌<◌, ◌^◌, ◌∷◌, List, IfOk, length, slice_index_or};
-ghost use Rattle.std.specs.Prelude.{◌↔◌, IsTrue};
 ghost use Rattle.ilimage.specs.Snapshots.{ScanStart};
 ghost use Rattle.ilmachine.specs.Scans.{Scan};
 ghost use Rattle.plantevents.specs.declared.event.Event.{Event};
 ghost use Rattle.plantevents.specs.declared.event.Event.TheVariants.{Take, Commit};
 ghost use Rattle.plantevents.specs.Plants.{Plant as Made};
-ghost use Rattle.plant.specs.CommitSteps.{IsOutcomeOf};
 ghost use Rattle.plant.specs.KeptSteps.{AreIdle, ScansFollow, TakesFollow};
 
-use ilimage::Snapshot;
-use ilmachine::ScanResult;
+use plantevents::NotedSnapshot;
 use std::alloc::{AllocError, Global};
 use std::marker::Model;
 
@@ -22,8 +19,8 @@ pub(crate) struct RunningScan {
     pub place: u64,
     /// The number of its task.
     pub task: usize,
-    /// What it began from.
-    pub snapshot: Snapshot,
+    /// What it began from, for contracts alone.
+    pub snapshot: NotedSnapshot,
 }
 
 impl Model for RunningScan {
@@ -35,11 +32,11 @@ impl Model for RunningScan {
 }
 
 impl RunningScan {
-    /// Whether the scan that is open came to this one: it has its number and its snapshot.
-    pub fn came_to(&self, scan: &ScanResult) -> bool
-        ensures { IsTrue result ↔ IsOutcomeOf self.now scan.now }
+    /// The place of its Take in the history, which is the number of the scan.
+    pub fn place(&self) -> u64
+        ensures value { result ≡ self.now.place }
     {
-        self.place == scan.number() && scan.snapshot().is_same(&self.snapshot)
+        self.place
     }
 
     /// The number of its task.

@@ -3,8 +3,8 @@ use Rattle.std.proofs.Common.{◌≡◌, ℕ, ◌∷◌, None, Some, Result, Ok,
 use Rattle.plantevents.specs.declared.event.Event.{Event}
 use Rattle.plantevents.specs.Legal.{AreLegal}
 use Rattle.plant.specs.declared.refusal.CallRefusal.{CallRefusal}
-use Rattle.plant.specs.declared.refusal.TakeError.{TakeError}
-use Rattle.plant.specs.declared.refusal.TakeError.TheVariants as errors
+use Rattle.plant.specs.declared.refusal.CallError.{CallError}
+use Rattle.plant.specs.declared.refusal.CallError.TheVariants as errors
 use Rattle.plant.specs.Refusals.{GivesFirstOrMemory, take_cases}
 use Rattle.plant.specs.Shown.{Shown, grown}
 use Rattle.plantdrive.specs.declared.step.Step.{Step}
@@ -29,18 +29,18 @@ accepted_at p s q step reply e view nothing of is legal =
     subst (λ (x : Shown). IsAccepted x step reply q) view (accepted p step reply q e nothing of is legal)
 
 -- a Take that is refused, or out of memory
-not_taken : {A : Type 0} → (p q : Shown) (w : ℕ) (r : Result A TakeError) (error : TakeError) → r ≡ Err error
+not_taken : {A : Type 0} → (p q : Shown) (w : ℕ) (r : Result A CallError) (error : CallError) → r ≡ Err error
     → GivesFirstOrMemory (take_cases p w) r → q ≡ p → Answered p (Take w) (reply_of error) q
 not_taken p q w (Ok order) error is given same = absurd (cc)
 not_taken p q w (Err (errors.Refused refusal)) error is given same =
     let e : errors.Refused refusal ≡ error = cc in
-    subst (λ (x : TakeError). Answered p (Take w) (reply_of x) q) e (given, same)
+    subst (λ (x : CallError). Answered p (Take w) (reply_of x) q) e (given, same)
 not_taken p q w (Err errors.Memory) error is given same =
     let e : errors.Memory ≡ error = cc in
-    subst (λ (x : TakeError). Answered p (Take w) (reply_of x) q) e
+    subst (λ (x : CallError). Answered p (Take w) (reply_of x) q) e
     (tt, none_answered (take_cases p w) given, same)
 
-pub not_taken_at : {A : Type 0} → (p s q : Shown) (w : ℕ) (r : Result A TakeError) (error : TakeError)
+pub not_taken_at : {A : Type 0} → (p s q : Shown) (w : ℕ) (r : Result A CallError) (error : CallError)
     (reply : StepReply) → p ≡ s → r ≡ Err error → GivesFirstOrMemory (take_cases p w) r → q ≡ p
     → reply ≡ reply_of error → Answered s (Take w) reply q
 not_taken_at p s q w r error reply view is given same said =

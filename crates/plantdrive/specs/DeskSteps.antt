@@ -5,8 +5,8 @@ use Rattle.ilmachine.specs.Scans.{Task, task_of}
 use Rattle.plantevents.specs.declared.event.Event.{Event}
 use Rattle.plantevents.specs.Plants.{Plant}
 use Rattle.plantevents.specs.Histories.{OpenScan, OpenHand, scan, hand}
-use Rattle.plant.specs.declared.refusal.TakeError.{TakeError}
-use Rattle.plant.specs.declared.refusal.TakeError.TheVariants as errors
+use Rattle.plant.specs.declared.refusal.CallError.{CallError}
+use Rattle.plant.specs.declared.refusal.CallError.TheVariants as errors
 use Rattle.plantdrive.specs.declared.step.StepReply.{StepReply}
 use Rattle.plantdrive.specs.declared.step.StepReply.TheVariants.{Refused, Memory}
 
@@ -39,6 +39,6 @@ SendingsFollow p h sendings =
     × ((b : ℕ) → b < p.plan.buses → slice_index_or sendings b None ≡ option_map sending_of (hand b h))
 
 -- the reply where no task is taken
-abbrev pub reply_of : TakeError → StepReply
+abbrev pub reply_of : CallError → StepReply
 reply_of (errors.Refused refusal) = Refused refusal
 reply_of errors.Memory = Memory

@@ -1,7 +1,7 @@
 //! Steps and their replies.
 
 use daliframe::Frame24;
-use plant::{CallRefusal, TakeError};
+use plant::{CallError, CallRefusal};
 use plantevents::Origin;
 use transact::{Mark, Transaction};
 
@@ -63,16 +63,16 @@ pub enum StepReply {
     Memory,
 }
 
-impl From<TakeError> for StepReply {
+impl From<CallError> for StepReply {
     ghost use Rattle.std.specs.Prelude.{◌≡◌};
     ghost use Rattle.plantdrive.specs.DeskSteps.{reply_of};
 
     ghost from_gives = { λ error reply. reply ≡ reply_of error };
 
-    fn from(error: TakeError) -> Self {
+    fn from(error: CallError) -> Self {
         match error {
-            TakeError::Refused(refusal) => StepReply::Refused(refusal),
-            TakeError::Memory => StepReply::Memory,
+            CallError::Refused(refusal) => StepReply::Refused(refusal),
+            CallError::Memory => StepReply::Memory,
         }
     }
 }

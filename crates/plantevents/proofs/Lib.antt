@@ -3,6 +3,8 @@ pub mod Dropped
 pub mod Dropping
 pub mod Handing
 pub mod Having
+pub mod Legality
+pub mod Linking
 pub mod LegalRows
 pub mod Owing
 pub mod Parting

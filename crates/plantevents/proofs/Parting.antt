@@ -1,12 +1,13 @@
 -- An event is in the part of the role that it comes from, and in no other.
-use Rattle.std.proofs.Common.{◌≡◌, ◌≢◌, ⊎_elim, ℕ, zero, Bool, true, false, eqb, eq-eqb, List, [], ◌∷◌, ◌++◌, length}
+use Rattle.std.proofs.Common.{◌≡◌, ◌≢◌, ◌⊎◌, inl, inr, ⊎_elim, ℕ, zero, Bool, true, false, true≢false, eqb, eq-eqb}
+use Rattle.std.proofs.Common.{List, [], ◌∷◌, ◌++◌, length}
 use Rattle.std.proofs.Common.{Some, refl, sym, ap, ◌∙◌, subst}
 use Rattle.std.proofs.lemmas.Bool.Decides.{eqb_tells}
 use Rattle.std.specs.Prelude.{if◌then◌else◌}
 use Rattle.plantevents.specs.declared.role.Role.{Role}
 use Rattle.plantevents.specs.declared.role.Role.TheVariants.{Worker, Bus, Clock}
 use Rattle.plantevents.specs.declared.event.Event.{Event}
-use Rattle.plantevents.specs.Parts.{Placed, role_of, is_same_role, part}
+use Rattle.plantevents.specs.Parts.{Placed, placed, role_of, is_same_role, part}
 use Rattle.plantevents.specs.Members.{Has, IsInPart}
 use Rattle.plantevents.proofs.Having.{has_cases, has_later, has_none}
 
@@ -30,8 +31,35 @@ role_itself (Worker w) = eq-eqb w w refl
 role_itself (Bus b) = eq-eqb b b refl
 role_itself Clock = refl
 
+-- ---- the part of an event more
+
+pub part_mine : (e : Event) (h : List Event)
+    → part (role_of e) (e ∷ h) ≡ placed (length h) e ∷ part (role_of e) h
+part_mine e h =
+    ap (λ (b : Bool). if b then placed (length h) e ∷ part (role_of e) h else part (role_of e) h)
+    (role_itself (role_of e))
+
+pub part_other : (r : Role) (e : Event) (h : List Event) → is_same_role (role_of e) r ≡ false
+    → part r (e ∷ h) ≡ part r h
+part_other r e h is = ap (λ (b : Bool). if b then placed (length h) e ∷ part r h else part r h) is
+
+-- the test of roles tells
+pub role_tells : (r q : Role) → ((is_same_role r q ≡ true) × (r ≡ q)) ⊎ ((is_same_role r q ≡ false) × (r ≢ q))
+role_tells r q =
+    elim (is_same_role r q) as (λ (b : Bool). is_same_role r q ≡ b
+    → ((b ≡ true) × (r ≡ q)) ⊎ ((b ≡ false) × (r ≢ q))) [
+      | true ↦ λ is. inl (refl, same_role r q is)
+      | false ↦ λ is. inr (
+        refl,
+        λ (e : r ≡ q).
+            absurd (true≢false (sym (role_itself q) ∙ ap (λ (x : Role). is_same_role x q) (sym e) ∙ is)),
+      )
+    ] refl
+
+-- ---- members
+
 abbrev at : Event → List Event → Placed
-at e h = record { place = length h; event = e }
+at e h = placed (length h) e
 
 here : (role : Role) (e : Event) (h : List Event) (x : Placed) → role_of e ≡ role → at e h ≡ x → IsInPart role (e ∷ h) x
 here role e h x from is =

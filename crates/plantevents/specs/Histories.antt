@@ -106,3 +106,15 @@ abbrev pub heard_in : ℕ → List Event → List ℕ
 heard_in b [] = []
 heard_in b (Heard c f ∷ h) = if c == b then heard_in b h ++ f ∷ [] else heard_in b h
 heard_in b (e ∷ h) = heard_in b h
+
+-- the moments that the clock gave, first to last
+abbrev pub given_in : List Event → List ℕ
+given_in [] = []
+given_in (Tick m ∷ h) = given_in h ++ m ∷ []
+given_in (e ∷ h) = given_in h
+
+-- how often bus b went down
+abbrev pub downs_in : ℕ → List Event → ℕ
+downs_in b [] = 0
+downs_in b (Down c ∷ h) = if c == b then downs_in b h + 1 else downs_in b h
+downs_in b (e ∷ h) = downs_in b h

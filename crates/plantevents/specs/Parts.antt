@@ -1,5 +1,7 @@
 -- The parts of a history: the events of each scan worker, of each bus, and of the clock.
-use Rattle.std.specs.Prelude.{ℕ, ◌==◌, Bool, true, false, if◌then◌else◌, List, [], ◌∷◌, length, Option, Some, None}
+use Rattle.std.specs.Prelude.{ℕ, ◌+◌, ◌==◌, Bool, true, false, if◌then◌else◌, List, [], ◌∷◌, ◌++◌, length}
+use Rattle.std.specs.Prelude.{Option, Some, None}
+use Rattle.transact.specs.declared.marks.Sent.{Sent}
 use Rattle.plantevents.specs.declared.role.Role.{Role}
 use Rattle.plantevents.specs.declared.role.Role.TheVariants.{Worker, Bus, Clock}
 use Rattle.plantevents.specs.declared.event.Event.{Event}
@@ -27,11 +29,13 @@ pub record Placed : Type 0 where
   pub place : ℕ
   pub event : Event
 
+abbrev pub placed : ℕ → Event → Placed
+placed n e = record { place = n; event = e }
+
 -- the events of a role, each with its place, the newest first
 abbrev pub part : Role → List Event → List Placed
 part role [] = []
-part role (e ∷ h) =
-    if is_same_role (role_of e) role then record { place = length h; event = e } ∷ part role h else part role h
+part role (e ∷ h) = if is_same_role (role_of e) role then placed (length h) e ∷ part role h else part role h
 
 -- ---- what a part shows, by itself
 
@@ -72,3 +76,41 @@ down_by e before = before
 abbrev pub shown_down : List Placed → Bool
 shown_down [] = false
 shown_down (newest ∷ older) = down_by newest.event (shown_down older)
+
+-- ---- what went over the links, as a part shows it
+
+-- the frames in the reports of a bus, first to last
+abbrev pub sent_by : Event → List Sent → List Sent
+sent_by (Done b n r) before = before ++ r.attempts
+sent_by e before = before
+
+abbrev pub shown_sent : List Placed → List Sent
+shown_sent [] = []
+shown_sent (newest ∷ older) = sent_by newest.event (shown_sent older)
+
+-- the 24-bit frames that were heard on a bus, first to last
+abbrev pub heard_by : Event → List ℕ → List ℕ
+heard_by (Heard b f) before = before ++ f ∷ []
+heard_by e before = before
+
+abbrev pub shown_heard : List Placed → List ℕ
+shown_heard [] = []
+shown_heard (newest ∷ older) = heard_by newest.event (shown_heard older)
+
+-- the moments that the clock gave, first to last
+abbrev pub given_by : Event → List ℕ → List ℕ
+given_by (Tick m) before = before ++ m ∷ []
+given_by e before = before
+
+abbrev pub shown_given : List Placed → List ℕ
+shown_given [] = []
+shown_given (newest ∷ older) = given_by newest.event (shown_given older)
+
+-- how often a bus went down
+abbrev pub downs_by : Event → ℕ → ℕ
+downs_by (Down b) before = before + 1
+downs_by e before = before
+
+abbrev pub shown_downs : List Placed → ℕ
+shown_downs [] = 0
+shown_downs (newest ∷ older) = downs_by newest.event (shown_downs older)

@@ -1,11 +1,13 @@
 //! What the questions mean, asked of a whole history.
 
 ghost use Rattle.std.specs.Prelude.{◌≡◌, ◌↔◌, ◌⊎◌, ℕ, ◌≤◌, true, List, [], Option, Some};
-ghost use Rattle.std.specs.Prelude.{map, drop, length, slice_get, ◌+◌};
+ghost use Rattle.std.specs.Prelude.{map, drop, length, slice_get, ◌+◌, ◌++◌, ◌∷◌};
 ghost use Rattle.iltypes.specs.declared.value.Value.{Value};
 ghost use Rattle.dalievent.specs.declared.messages.EventSource.{EventSource};
+ghost use Rattle.gearcmd.specs.FrameLists.{FrameList, IsLegal};
 ghost use Rattle.ilimage.specs.Snapshots.{ScanStart};
 ghost use Rattle.ilimage.specs.Images.{Layout, TaskLayout, ImageVariable};
+ghost use Rattle.ilmachine.specs.Scans.{Scan};
 ghost use Rattle.ilverify.specs.Verdicts.{Accepted};
 ghost use Rattle.ilplan.specs.Plans.{PlannedTask, AreOrdered};
 ghost use Rattle.ilplan.specs.declared.slot.Slot.{Slot};
@@ -14,11 +16,14 @@ ghost use Rattle.plantevents.specs.declared.activator.PendingEvent.{PendingEvent
 ghost use Rattle.plantevents.specs.declared.activator.Activator.{Activator};
 ghost use Rattle.plantevents.specs.declared.activator.Activator.TheVariants.{Messages};
 ghost use Rattle.plantevents.specs.declared.event.Event.{Event};
+ghost use Rattle.plantevents.specs.declared.event.Event.TheVariants.{Commit, Hand};
+ghost use Rattle.plantevents.specs.declared.event.Origin.{Origin as OriginOf};
 ghost use Rattle.plantevents.specs.declared.role.Role.{Role};
 ghost use Rattle.plantevents.specs.declared.role.Role.TheVariants.{Worker, Bus, Clock};
 ghost use Rattle.plantevents.specs.Plants.{Plant, task_at, source_at, trigger_of, activator};
 ghost use Rattle.plantevents.specs.Slots.{IsSlotOf};
 ghost use Rattle.plantevents.specs.Histories.{moment, scans, scan, is_scanned, hand, is_down};
+ghost use Rattle.plantevents.specs.Histories.{sent_in, heard_in, downs_in, given_in, frames, heards};
 ghost use Rattle.plantevents.specs.Readiness.{ready, since, pending, lost, most_pending};
 ghost use Rattle.plantevents.specs.Arrivals.{arrivals};
 ghost use Rattle.plantevents.specs.Waiting.{OwedLevel, Handout, waiting, dropped};
@@ -28,9 +33,10 @@ ghost use Rattle.plantevents.specs.Acceptances.{accepted_requests, handed_count,
 ghost use Rattle.plantevents.specs.Writes.{IsWrittenFrom, IsNotWritten, HasLast, HasFirst};
 ghost use Rattle.plantevents.specs.Members.{Has, IsPendingEvent, IsOwed, IsFirstOwed};
 ghost use Rattle.plantevents.specs.Members.{HasNothing, IsNextHandout, IsInPart};
-ghost use Rattle.plantevents.specs.Legal.{AreLegal, IsTake};
+ghost use Rattle.plantevents.specs.Legal.{AreLegal, IsTake, IsCommit};
 ghost use Rattle.plantevents.specs.Parts.{Placed, part};
 ghost use Rattle.plantevents.specs.Parts.{shown_moment, shown_scan, shown_hand, shown_down};
+ghost use Rattle.plantevents.specs.Parts.{shown_sent, shown_heard, shown_downs, shown_given};
 
 /// `since` is the least length from which on a task that is ready was ready without a break.
 pub fn since_is_least()
@@ -58,6 +64,30 @@ pub fn what_a_part_shows()
     ensures worker { (w : ℕ) (h : List Event) → scan w h ≡ shown_scan (part (Worker w) h) }
     ensures hand { (b : ℕ) (h : List Event) → hand b h ≡ shown_hand (part (Bus b) h) }
     ensures down { (b : ℕ) (h : List Event) → is_down b h ≡ shown_down (part (Bus b) h) }
+{}
+
+/// What a part shows of the links is so in the whole history: the frames that a bus sent by its
+/// reports, those that were heard there, how often it went down, and the moments of the clock.
+pub fn what_a_part_shows_of_links()
+    ensures sent { (b : ℕ) (h : List Event) → sent_in b h ≡ shown_sent (part (Bus b) h) }
+    ensures heard { (b : ℕ) (h : List Event) → heard_in b h ≡ shown_heard (part (Bus b) h) }
+    ensures downs { (b : ℕ) (h : List Event) → downs_in b h ≡ shown_downs (part (Bus b) h) }
+    ensures given { (h : List Event) → given_in h ≡ shown_given (part Clock h) }
+{}
+
+/// A history counts what it says that went over the links.
+pub fn what_is_counted()
+    ensures frames { (b : ℕ) (h : List Event) → frames b h ≡ length (sent_in b h) }
+    ensures heards { (b : ℕ) (h : List Event) → heards b h ≡ length (heard_in b h) }
+{}
+
+/// In a legal history each scan that was committed came to what its task means of the snapshot that
+/// it took, and each transaction that was handed out is legal.
+pub fn what_is_in_a_legal_history()
+    ensures commits { (p : Plant) (later front : List Event) (w n : ℕ) (r : Scan)
+        → AreLegal p (later ++ Commit w n r ∷ front) → IsCommit p front w n r }
+    ensures hands { (p : Plant) (later front : List Event) (b : ℕ) (s : OriginOf) (t : FrameList)
+        → AreLegal p (later ++ Hand b s t ∷ front) → IsLegal t.frames t.first_priority }
 {}
 
 /// What a scan writes to a variable is the value of the slot from which the process image says that

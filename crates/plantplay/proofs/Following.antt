@@ -15,7 +15,8 @@ use Rattle.plantplay.specs.declared.connection.Connection.{Connection}
 use Rattle.plantplay.specs.declared.halt.Halt.{Halt}
 use Rattle.plantplay.specs.declared.halt.Halt.TheVariants.{Limit}
 use Rattle.plantplay.specs.Installations.{sim_log}
-use Rattle.plantplay.specs.Playing.{Line, IsAtRest, CannotGoOn, IsQuiet, IsWhole, given_in, lines_of}
+use Rattle.plantevents.specs.Histories.{given_in}
+use Rattle.plantplay.specs.Playing.{Line, IsAtRest, CannotGoOn, IsQuiet, IsWhole, lines_of}
 use Rattle.plantplay.specs.PlaySteps.{IsQuietOrSame, Stops, given_after, ticks_to_come}
 
 pub given_on : (happening : Happening) (given : List ℕ) (more : List Happening)

@@ -13,10 +13,10 @@ use Rattle.plantevents.specs.declared.event.Event.{Event}
 use Rattle.plantevents.specs.declared.event.Event.TheVariants.{Heard, Hand, Done, Down}
 use Rattle.plantevents.specs.declared.event.Origin.{Origin}
 use Rattle.plantevents.specs.declared.role.Role.TheVariants.{Bus}
-use Rattle.plantevents.specs.Histories.{scan, hand, is_down, sent_in, heard_in}
+use Rattle.plantevents.specs.Histories.{scan, hand, is_down, sent_in, heard_in, given_in}
 use Rattle.plant.specs.Shown.{Shown, grown, reserving}
 use Rattle.plantdrive.specs.Sending.{IsSent}
-use Rattle.plantplay.specs.Playing.{Line, Agrees, IsLater, given_in}
+use Rattle.plantplay.specs.Playing.{Line, Agrees, IsLater}
 use Rattle.plantplay.specs.PlaySteps.{IsSameOn, IsServed, IsSameLine}
 
 -- ---- the events of a bus

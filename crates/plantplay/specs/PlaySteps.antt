@@ -23,7 +23,7 @@ use Rattle.std.specs.Prelude.{Some}
 use Rattle.std.specs.Prelude.{Result, Ok, Err, ⊤}
 use Rattle.buslink.specs.declared.faults.Fault.{Fault}
 use Rattle.plantevents.specs.declared.event.Event.{Event}
-use Rattle.plantevents.specs.Histories.{scan, hand, is_down, sent_in, heard_in}
+use Rattle.plantevents.specs.Histories.{scan, hand, is_down, sent_in, heard_in, given_in}
 use Rattle.plant.specs.declared.refusal.CallRefusal.{CallRefusal}
 use Rattle.plant.specs.declared.refusal.CallRefusal.TheVariants.{Full}
 use Rattle.plant.specs.Shown.{Shown}
@@ -32,7 +32,7 @@ use Rattle.scenario.specs.declared.happenings.Happening.{Happening}
 use Rattle.scenario.specs.declared.happenings.Happening.TheVariants.{Tick}
 use Rattle.plantplay.specs.declared.halt.Halt.{Halt}
 use Rattle.plantplay.specs.declared.halt.Halt.TheVariants.{Limit, Memory, Unwritten}
-use Rattle.plantplay.specs.Playing.{Line, Agrees, IsLater, IsQuiet, CannotGoOn, given_in}
+use Rattle.plantplay.specs.Playing.{Line, Agrees, IsLater, IsQuiet, CannotGoOn}
 
 -- nothing happened on bus b from h to g
 pub record IsSameOn (b : ℕ) (h g : List Event) : Type 0 where

@@ -5,8 +5,7 @@ use Rattle.std.specs.Prelude.{None, ⊤}
 use Rattle.std.specs.List.{list_any}
 use Rattle.buslink.specs.BusLog.{BusLog}
 use Rattle.plantevents.specs.declared.event.Event.{Event}
-use Rattle.plantevents.specs.declared.event.Event.TheVariants.{Tick}
-use Rattle.plantevents.specs.Histories.{moment, scan, hand, is_down, sent_in, heard_in}
+use Rattle.plantevents.specs.Histories.{moment, scan, hand, is_down, sent_in, heard_in, given_in}
 use Rattle.plantevents.specs.Waiting.{handouts}
 use Rattle.plant.specs.Shown.{Shown, is_full}
 use Rattle.plant.specs.Refusals.{none_free}
@@ -57,12 +56,6 @@ pub record IsLater (p q : Shown) : Type 0 where
 pub record IsPlay (p : Shown) (before : List Line) (q : Shown) (after : List Line) : Type 0 where
   pub later : IsLater p q
   pub rest : IsAtRest p before → IsAtRest q after
-
--- the moments that the clock gave, first to last
-abbrev pub given_in : List Event → List ℕ
-given_in [] = []
-given_in (Tick moment ∷ h) = given_in h ++ moment ∷ []
-given_in (e ∷ h) = given_in h
 
 -- nothing is left to do: no task is ready without an open scan, and no bus that is up may be handed anything
 pub record IsQuiet (p : Shown) : Type 0 where

@@ -2,7 +2,8 @@
 
 ghost use Rattle.std.specs.Prelude.{◌≡◌, ◌<◌, OnOk, length};
 ghost use Rattle.std.specs.List.{list_any};
-ghost use Rattle.plantplay.specs.Playing.{IsAtRest, IsPlay, IsQuiet, given_in, lines_of};
+ghost use Rattle.plantevents.specs.Histories.{given_in};
+ghost use Rattle.plantplay.specs.Playing.{IsAtRest, IsPlay, IsQuiet, lines_of};
 ghost use Rattle.plantplay.specs.PlaySteps.{HasNothingAt, HaveNothing, Stops, Tells, buses_of};
 
 use crate::connection::Connection;

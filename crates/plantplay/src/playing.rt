@@ -3,7 +3,8 @@
 ghost use Rattle.std.specs.Prelude.{◌≡◌, ◌∷◌, ◌++◌, [], IfOk, OnOk};
 ghost use Rattle.scenario.specs.Happenings.{happenings};
 ghost use Rattle.plantevents.specs.Legal.{AreLegal};
-ghost use Rattle.plantplay.specs.Playing.{IsAtRest, IsEnding, IsPlay, given_in, lines_of};
+ghost use Rattle.plantevents.specs.Histories.{given_in};
+ghost use Rattle.plantplay.specs.Playing.{IsAtRest, IsEnding, IsPlay, lines_of};
 ghost use Rattle.plantplay.specs.PlaySteps.{IsQuietOrSame, Stops, given_after, ticks_to_come};
 ghost use Rattle.plantplay.specs.Installations.{sim_log};
 

@@ -2,14 +2,15 @@
 
 ghost use Rattle.std.specs.Prelude.{◌≡◌, ◌<◌, length};
 ghost use Rattle.plant.specs.Refusals.{take_cases};
-ghost use Rattle.plantplay.specs.Playing.{IsPlay, given_in, lines_of};
+ghost use Rattle.plantevents.specs.Histories.{given_in};
+ghost use Rattle.plantplay.specs.Playing.{IsPlay, lines_of};
 ghost use Rattle.plantplay.specs.PlaySteps.{HasNothing, Stops, Tells};
 
 use crate::Installation;
 use crate::halt::Halt;
 use buslink::Bus;
 use ilmachine::scan_into;
-use plant::{CallRefusal, TakeError};
+use plant::{CallError, CallRefusal};
 use std::alloc::Global;
 use std::io;
 use std::io::Write;
@@ -49,9 +50,9 @@ impl<B: Bus> Installation<B> {
     {
         let order = match self.plant.take(alloc, WORKER) {
             Ok(order) => order,
-            Err(TakeError::Memory) => return Err(Halt::Memory),
-            Err(TakeError::Refused(CallRefusal::Full)) => return Err(Halt::Limit),
-            Err(TakeError::Refused(_)) => return Ok(false),
+            Err(CallError::Memory) => return Err(Halt::Memory),
+            Err(CallError::Refused(CallRefusal::Full)) => return Err(Halt::Limit),
+            Err(CallError::Refused(_)) => return Ok(false),
         };
         let task = order.task;
         let made = scan_into(order.work);

@@ -43,6 +43,25 @@ const ASKING: &str = "PROGRAM sw\n\
     PROGRAM one WITH push : sw;\nPROGRAM two WITH each_second : ask;\n\
     END_CONFIGURATION\n";
 
+/// 16 tasks of one priority, which are ready from the beginning.
+const MANY: &str = "PROGRAM p\nVAR x : BOOL; END_VAR\nLDN x\nST x\nEND_PROGRAM\n\
+    CONFIGURATION many\n\
+    TASK t0 (INTERVAL := T#1s, PRIORITY := 1);\nTASK t1 (INTERVAL := T#1s, PRIORITY := 1);\n\
+    TASK t2 (INTERVAL := T#1s, PRIORITY := 1);\nTASK t3 (INTERVAL := T#1s, PRIORITY := 1);\n\
+    TASK t4 (INTERVAL := T#1s, PRIORITY := 1);\nTASK t5 (INTERVAL := T#1s, PRIORITY := 1);\n\
+    TASK t6 (INTERVAL := T#1s, PRIORITY := 1);\nTASK t7 (INTERVAL := T#1s, PRIORITY := 1);\n\
+    TASK t8 (INTERVAL := T#1s, PRIORITY := 1);\nTASK t9 (INTERVAL := T#1s, PRIORITY := 1);\n\
+    TASK t10 (INTERVAL := T#1s, PRIORITY := 1);\nTASK t11 (INTERVAL := T#1s, PRIORITY := 1);\n\
+    TASK t12 (INTERVAL := T#1s, PRIORITY := 1);\nTASK t13 (INTERVAL := T#1s, PRIORITY := 1);\n\
+    TASK t14 (INTERVAL := T#1s, PRIORITY := 1);\nTASK t15 (INTERVAL := T#1s, PRIORITY := 1);\n\
+    PROGRAM i0 WITH t0 : p;\nPROGRAM i1 WITH t1 : p;\nPROGRAM i2 WITH t2 : p;\n\
+    PROGRAM i3 WITH t3 : p;\nPROGRAM i4 WITH t4 : p;\nPROGRAM i5 WITH t5 : p;\n\
+    PROGRAM i6 WITH t6 : p;\nPROGRAM i7 WITH t7 : p;\nPROGRAM i8 WITH t8 : p;\n\
+    PROGRAM i9 WITH t9 : p;\nPROGRAM i10 WITH t10 : p;\nPROGRAM i11 WITH t11 : p;\n\
+    PROGRAM i12 WITH t12 : p;\nPROGRAM i13 WITH t13 : p;\nPROGRAM i14 WITH t14 : p;\n\
+    PROGRAM i15 WITH t15 : p;\n\
+    END_CONFIGURATION\n";
+
 const WIRES: &str = "buses 1\nsource 0.3 device-instance 5 2\n";
 
 /// A step as a table has it. A turn is a take and a commit, and a push is the button's.
@@ -83,7 +102,7 @@ struct Row {
     calls: &'static [(u32, Call, Answer)],
 }
 
-const ROWS: [Row; 9] = [
+const ROWS: [Row; 10] = [
     Row {
         name: "a button lights a lamp, with each refusal on the way",
         text: HOUSE,
@@ -242,6 +261,49 @@ const ROWS: [Row; 9] = [
             (1, Done(0, &[Mark::Quiet]), Refused(Stranger)),
             (96, Tick(7), Noted),
             (1, Tick(7), Refused(Full)),
+        ],
+    },
+    Row {
+        name: "16 workers scan at once, and the last to take is the first to commit",
+        text: MANY,
+        workers: 16,
+        limit: 1_000_000,
+        calls: &[
+            (1, Take(15), Taken(0)),
+            (1, Take(14), Taken(1)),
+            (1, Take(13), Taken(2)),
+            (1, Take(12), Taken(3)),
+            (1, Take(11), Taken(4)),
+            (1, Take(10), Taken(5)),
+            (1, Take(9), Taken(6)),
+            (1, Take(8), Taken(7)),
+            (1, Take(7), Taken(8)),
+            (1, Take(6), Taken(9)),
+            (1, Take(5), Taken(10)),
+            (1, Take(4), Taken(11)),
+            (1, Take(3), Taken(12)),
+            (1, Take(2), Taken(13)),
+            (1, Take(1), Taken(14)),
+            (1, Take(0), Taken(15)),
+            (1, Take(0), Refused(Busy)),
+            (1, Commit(0), Noted),
+            (1, Commit(1), Noted),
+            (1, Commit(2), Noted),
+            (1, Commit(3), Noted),
+            (1, Commit(4), Noted),
+            (1, Commit(5), Noted),
+            (1, Commit(6), Noted),
+            (1, Commit(7), Noted),
+            (1, Commit(8), Noted),
+            (1, Commit(9), Noted),
+            (1, Commit(10), Noted),
+            (1, Commit(11), Noted),
+            (1, Commit(12), Noted),
+            (1, Commit(13), Noted),
+            (1, Commit(14), Noted),
+            (1, Commit(15), Noted),
+            (1, Commit(0), Refused(Stranger)),
+            (1, Take(0), Refused(NothingReady)),
         ],
     },
 ];

@@ -1,8 +1,8 @@
 //! Tests of the plant with code: what neither a proof nor a row of the command line can see.
 //!
 //! Nothing crosses the boundary. The tests stand on public items of the crates alone: steps of a
-//! text's plant with several workers (`drives`, `workers`), calls near their limits (`near_limits`), and
-//! each allocation failing (`memory`). `rt test` runs them.
+//! text's plant with several workers (`drives`), calls near their limits (`near_limits`), and each
+//! allocation failing (`memory`). `rt test` runs them.
 #![tactic(auto)]
 
 #[cfg(test)]
@@ -11,5 +11,3 @@ mod drives;
 mod memory;
 #[cfg(test)]
 mod near_limits;
-#[cfg(test)]
-mod workers;

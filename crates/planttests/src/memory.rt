@@ -3,7 +3,7 @@
 
 use crate::near_limits::{HALL, plant_of, setup_of};
 use ilsetup::Setup;
-use plant::{OpenFault, Plant, TakeError};
+use plant::{CallError, OpenFault, Plant};
 use plantload::LoadFault;
 use std::alloc::Global;
 use std::test::Fail;
@@ -33,8 +33,8 @@ fn open_twice(alloc: Global) -> Result<Plant, Fail> {
 fn is_taken(plant: &mut Plant, alloc: Global) -> bool {
     match plant.take(alloc, 0) {
         Ok(order) => order.task == EACH_SECOND,
-        Err(TakeError::Refused(_)) => false,
-        Err(TakeError::Memory) => {
+        Err(CallError::Refused(_)) => false,
+        Err(CallError::Memory) => {
             plant.len() == 0
                 && match plant.take(alloc, 0) {
                     Ok(order) => order.task == EACH_SECOND,

@@ -3,7 +3,7 @@
 ghost use Rattle.std.specs.Prelude.{◌≡◌, None, OnOk, OnErr, IfErr, IfSome};
 ghost use Rattle.plantevents.specs.declared.event.Event.TheVariants as event;
 ghost use Rattle.plant.specs.Shown.{grown};
-ghost use Rattle.plant.specs.Matches.{IsOpenScan};
+ghost use Rattle.plant.specs.Matches.{IsOpenScan, IsOwnScan};
 ghost use Rattle.plant.specs.CommitSteps.{IsOpenScanOf, IsScanOfTask};
 
 use super::Plant;
@@ -17,6 +17,7 @@ use plantevents::{Event, NotedResult};
 impl Plant {
     /// The task of this scan, if the worker has it open.
     fn open_task(&self, worker: usize, scan: &ScanResult) -> Option<usize>
+        requires own { IsOwnScan self.now worker scan.now }
         ensures open { IfSome result (IsOpenScanOf self.now worker scan.now) }
         ensures none { result ≡ None → ¬ IsOpenScan self.now worker scan.now }
     {
@@ -26,7 +27,7 @@ impl Plant {
         let Some(running) = &self.scans[worker] else {
             return None;
         };
-        if running.came_to(scan) {
+        if running.place() == scan.number() {
             Some(running.task())
         } else {
             None
@@ -36,6 +37,7 @@ impl Plant {
     /// The task of this scan, if the worker has it open and so may commit it: the scan is what the
     /// task means.
     fn task_of(&self, worker: usize, scan: &ScanResult) -> Option<usize>
+        requires own { IsOwnScan self.now worker scan.now }
         ensures open { IfSome result (λ task. IsOpenScan self.now worker scan.now) }
         ensures allowed { IfSome result (IsScanOfTask self.now worker scan.now) }
         ensures none { result ≡ None → ¬ IsOpenScan self.now worker scan.now }
@@ -55,6 +57,7 @@ impl Plant {
     /// There is no such worker, or this is not the scan that it has open. The scan comes back, and
     /// the plant is unchanged.
     pub fn commit(&mut self, worker: usize, scan: ScanResult) -> Result<(), ScanResult>
+        requires own { IsOwnScan self.old worker scan }
         ensures open { OnOk result (IsOpenScan self.old worker scan) }
         ensures grown { OnOk result
             (self.new ≡ grown self.old (event.Commit worker scan.number scan)) }

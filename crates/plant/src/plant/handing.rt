@@ -109,6 +109,16 @@ impl Plant {
         Ok(next)
     }
 
+    /// Whether a bus may be handed a transaction, and else why not.
+    pub fn allows_hand(&self, bus: u8) -> Result<(), CallRefusal>
+        ensures refused { GivesFirst (hand_cases self.now bus) result }
+    {
+        match self.handout_for(bus) {
+            Ok(_) => Ok(()),
+            Err(refusal) => Err(refusal),
+        }
+    }
+
     /// Hands a bus what is to be sent next: of the least class that has anything the request that
     /// has waited longest; else, of that class, the owed level of the least address. It takes no
     /// memory.

@@ -1,20 +1,21 @@
 //! What is read of a plant.
 
-ghost use Rattle.std.specs.Prelude.{◌≡◌, ◌+◌, ◌≤◌, ◌<◌, length, Some};
+ghost use Rattle.std.specs.Prelude.{◌≡◌, ◌+◌, ◌≤◌, ◌<◌, length, option_map, Some};
 ghost use Rattle.ilimage.specs.Images.{Global as GlobalVariable};
 ghost use Rattle.busqueue.specs.Queues.{class_number};
 ghost use Rattle.plantevents.specs.Plants.{activator};
-ghost use Rattle.plantevents.specs.Histories.{frames, heards, scans};
+ghost use Rattle.plantevents.specs.Histories.{frames, hand, heards, is_down, scan, scans};
 ghost use Rattle.plantevents.specs.Readiness.{lost};
 ghost use Rattle.plantevents.specs.Variables.{value};
 ghost use Rattle.plantevents.specs.Waiting.{dropped};
 ghost use Rattle.plantevents.specs.Legal.{AreLegal};
-ghost use Rattle.plant.specs.Shown.{kept};
+ghost use Rattle.plant.specs.Shown.{is_full, is_reserved, kept};
 
 use super::Plant;
 use busqueue::Class;
 use ilsetup::Setup;
 use iltypes::Value;
+use plantevents::Role;
 
 impl Plant {
     /// The plan with its verified codes.
@@ -47,8 +48,64 @@ impl Plant {
 
         // With what is kept for events to come they are no more than the limit.
         ensures within { length self.now.history + kept self.now ≤ self.now.limit }
+
+        // A place may be kept back for each bus.
+        ensures places { length self.now.reserved.buses ≡ self.now.plant.plan.buses }
     {
         self.length
+    }
+
+    /// Whether no place of the history is left for an event and the one that it keeps.
+    pub fn is_full(&self) -> bool
+        ensures value { result ≡ is_full self.now }
+    {
+        self.limit < self.length + self.kept + 2
+    }
+
+    /// Whether a place of the history is kept back for a role: for the clock's next tick, or for
+    /// the next frame of a bus.
+    pub fn keeps(&self, role: Role) -> bool
+        ensures value { result ≡ is_reserved role self.now }
+    {
+        match role {
+            Role::Clock => self.clock_place,
+            Role::Bus(bus) => match self.bus_places.get(usize::from(bus)) {
+                Some(place) => *place,
+                None => false,
+            },
+            Role::Worker(_) => false,
+        }
+    }
+
+    /// Whether a bus went down.
+    pub fn is_down(&self, bus: u8) -> bool
+        requires { bus < self.now.plant.plan.buses }
+        ensures value { result ≡ is_down bus self.now.history }
+    {
+        self.buses[usize::from(bus)].is_down
+    }
+
+    /// The number and the task of the scan that a worker has open.
+    pub fn open_scan(&self, worker: usize) -> Option<(u64, usize)>
+        requires { worker < self.now.plant.workers }
+        ensures value { result
+            ≡ option_map (λ running. (running.place, running.task)) (scan worker self.now.history) }
+    {
+        match &self.scans[worker] {
+            Some(running) => Some((running.place(), running.task())),
+            None => None,
+        }
+    }
+
+    /// The number of the transaction that a bus has open.
+    pub fn open_hand(&self, bus: u8) -> Option<u64>
+        requires { bus < self.now.plant.plan.buses }
+        ensures value { result ≡ option_map (λ handed. handed.place) (hand bus self.now.history) }
+    {
+        match &self.buses[usize::from(bus)].hand {
+            Some(open) => Some(open.place),
+            None => None,
+        }
     }
 
     /// The value of a global variable: what was written to it last, else its initial value.

@@ -17,12 +17,12 @@ ghost use Rattle.plant.specs.TakingSteps.{IsInType, taken_at};
 
 use super::Plant;
 use crate::overrides::overrides;
-use crate::refusal::{CallRefusal, TakeError};
+use crate::refusal::{CallError, CallRefusal};
 use crate::running::{RunningScan, note_scan, note_take};
 use crate::setups::{trigger_of, trigger_place};
 use ilimage::{Override, Snapshot};
 use ilmachine::Work;
-use plantevents::{Event, NotedSnapshot, one_take_is_legal};
+use plantevents::{Event, NotedSnapshot};
 use std::alloc::{AllocError, Global};
 
 /// A task that a scan worker has taken.
@@ -68,6 +68,14 @@ impl Plant {
         Ok(task)
     }
 
+    /// Whether a worker may take a task, and else why not.
+    pub fn allows_take(&self, worker: usize) -> Result<(), CallRefusal>
+        ensures refused { GivesFirst (take_cases self.now worker) result }
+    {
+        self.task_for(worker)?;
+        Ok(())
+    }
+
     /// What an event task takes in place of the image's values.
     fn overrides_for(&self, alloc: Global, task: usize) -> Result<Vec<Override>, AllocError>
         requires { task < length self.now.plant.plan.tasks }
@@ -105,7 +113,7 @@ impl Plant {
     ///
     /// There is no such worker, it has a scan open, no task is ready, or the history is full: the
     /// first of these. Else the allocator may be out of memory. The plant is unchanged then.
-    pub fn take(&mut self, alloc: Global, worker: usize) -> Result<Order, TakeError>
+    pub fn take(&mut self, alloc: Global, worker: usize) -> Result<Order, CallError>
         ensures refused { GivesFirstOrMemory (take_cases self.old worker) result }
         ensures number { IfOk result (λ order. (order.number ≡ length self.old.history)
             × (order.work.number ≡ length self.old.history)) }
@@ -117,17 +125,16 @@ impl Plant {
     {
         let task = self.task_for(worker)?;
         let number = self.length;
-        let given = self.snapshot_of(alloc, task)?;
-        let kept = self.snapshot_of(alloc, task)?;
-        let noted = NotedSnapshot::of(&given);
-        let work = Work::new(number, given)?;
-        one_take_is_legal();
+        let snapshot = self.snapshot_of(alloc, task)?;
+        let noted = NotedSnapshot::of(&snapshot);
+        let began = NotedSnapshot::of(&snapshot);
+        let work = Work::new(number, snapshot)?;
         let _ = self.tasks.took(number, task);
         note_take(&mut self.takes, task);
         let running = RunningScan {
             place: number,
             task,
-            snapshot: kept,
+            snapshot: began,
         };
         note_scan(&mut self.scans, worker, running);
         self.history.push(&Event::Take {

@@ -20,18 +20,15 @@ pub invariant_of-self : goal.invariant_of-self
 invariant_of-self c =
     let p = c.self.inside in let says = c.self.invariant in let plant = plant_of p.setup p.workers in
     let h = p.history.items in let w = c.args.worker in let t = c.in_ok-task.task in
-    let given = c.in_ok-given.given in let kept = c.in_ok-kept.kept in
+    let snapshot = c.in_ok-snapshot.snapshot in
     let idle = subst (λ (p : Shown). (w < p.plant.workers) × (scan w p.history ≡ None) × (is_full p ≡ false))
     (sym c.self.view_is) c.in_ok-task.ensures.idle in
     let next = subst (λ (p : Shown). IsNextTask p.plant p.history t) (sym c.self.view_is) c.in_ok-task.ensures.next in
-    let snapshot = subst (λ (p : Shown). IsSnapshot p.plant t p.history given) (sym c.self.view_is)
-    c.in_ok-given.ensures in
-    let other = subst (λ (p : Shown). IsSnapshot p.plant t p.history kept) (sym c.self.view_is) c.in_ok-kept.ensures in
-    let may : IsTake plant h w t given = record { known = idle.0; idle = idle.1; next = next; snapshot = snapshot } in
-    let again : IsTake plant h w t kept = record { known = idle.0; idle = idle.1; next = next; snapshot = other } in
-    let same = (c.one_take_is_legal.ensures plant h w t t kept given again may).1 in
-    let opened = subst (λ (s : ScanStart). ScansFollow plant (Take w t s ∷ h) c.note_scan.new.scans.items) same
-    (c.note_scan.ensures plant h says.each_worker says.place) in
-    rw (c.push.ensures, c.of-noted.ensures) (take_says _ _ w t given _ _ _ says may idle.2
-    (c.took.ensures.follows plant w given h says.each_task says.place)
-    (c.note_take.ensures plant w given h says.each_take) opened)
+    let taken = subst (λ (p : Shown). IsSnapshot p.plant t p.history snapshot) (sym c.self.view_is)
+    c.in_ok-snapshot.ensures in
+    let may : IsTake plant h w t snapshot = record { known = idle.0; idle = idle.1; next = next; snapshot = taken } in
+    let opened = subst (λ (s : ScanStart). ScansFollow plant (Take w t s ∷ h) c.note_scan.new.scans.items)
+    c.of-began.ensures (c.note_scan.ensures plant h says.each_worker says.place) in
+    rw (c.push.ensures, c.of-noted.ensures) (take_says _ _ w t snapshot _ _ _ says may idle.2
+    (c.took.ensures.follows plant w snapshot h says.each_task says.place)
+    (c.note_take.ensures plant w snapshot h says.each_take) opened)

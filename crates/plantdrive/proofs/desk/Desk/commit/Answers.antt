@@ -3,6 +3,7 @@ use Rattle.ilmachine.specs.Scans.{Scan}
 use Rattle.plantevents.specs.declared.event.Event.TheVariants as events
 use Rattle.plant.specs.declared.refusal.CallRefusal.TheVariants.{Stranger}
 use Rattle.plant.specs.Shown.{Shown}
+use Rattle.plant.proofs.Owning.{open_is_own}
 use Rattle.plantdrive.specs.declared.step.Step.TheVariants as steps
 use Rattle.plantdrive.specs.declared.step.StepReply.TheVariants.{Noted}
 use Rattle.plantdrive.specs.DeskSteps.{OrdersFollow}
@@ -18,6 +19,14 @@ returns-in-None c =
 
 pub invariant_of-self : goal.invariant_of-self
 invariant_of-self c = rw (c.take_order.ensures.none c.in-None.is) c.self.invariant
+
+pub commit-requires : goal.commit-requires
+commit-requires c =
+    let p = c.self.inside.plant in let orders = c.self.inside.orders.items in let w = c.args.worker in
+    record {
+      own = open_is_own p w c.scan_into.result (has_scan p orders w c.in-Some.work c.scan_into.result c.self.invariant.0
+          (sym c.take_order.ensures.order ∙ c.in-Some.is) c.scan_into.ensures.number c.scan_into.ensures.snapshot);
+    }
 
 pub returns : goal.returns
 returns c =

@@ -1,5 +1,6 @@
 use Rattle.std.proofs.Common.{◌≡◌, length}
-use Rattle.plantplay.specs.Playing.{IsPlay, given_in, lines_of}
+use Rattle.plantevents.specs.Histories.{given_in}
+use Rattle.plantplay.specs.Playing.{IsPlay, lines_of}
 use Rattle.plantplay.proofs.installation.Installation.hear_all.Given as goal
 
 abbrev pub invariant-loop-place : goal.invariant-loop-place

@@ -1,5 +1,6 @@
 use Rattle.std.proofs.Common.{◌≡◌}
-use Rattle.plantplay.specs.Playing.{IsPlay, given_in, lines_of}
+use Rattle.plantevents.specs.Histories.{given_in}
+use Rattle.plantplay.specs.Playing.{IsPlay, lines_of}
 use Rattle.plantplay.specs.PlaySteps.{HasTurned}
 use Rattle.plantplay.proofs.installation.Installation.scan_all.Given as goal
 

@@ -1,7 +1,18 @@
 use Rattle.std.proofs.Common.{◌∙◌}
+use Rattle.plant.proofs.Owning.{open_is_own}
 use Rattle.plantplay.specs.Playing.{lines_of}
 use Rattle.plantplay.proofs.Resting.{play_scanned, scan_is_open}
 use Rattle.plantplay.proofs.installation.Installation.scan_next.Goals as goal
+
+pub commit-requires : goal.commit-requires
+commit-requires g c =
+    let order = c.in-Ok.order in let made = c.scan_into-made.result in
+    record {
+      own = open_is_own c.take.new.self 0 made
+          (scan_is_open c.args.self.now.plant c.take.new.self order.task order.work.snapshot made
+          c.in-Ok.ensures.taken.known c.in-Ok.ensures.grown
+          (c.scan_into-made.ensures.number ∙ c.in-Ok.ensures.number.1) c.scan_into-made.ensures.snapshot);
+    }
 
 pub unreachable-requires : goal.unreachable-requires
 unreachable-requires g c =

@@ -1,7 +1,8 @@
 use Rattle.std.proofs.Common.{ℕ, List, ◌++◌, length, inr, refl, sym, ap, ◌∙◌, arith}
 use Rattle.scenario.specs.declared.happenings.Happening.{Happening}
 use Rattle.plantplay.specs.Installations.{sim_log}
-use Rattle.plantplay.specs.Playing.{given_in, lines_of}
+use Rattle.plantevents.specs.Histories.{given_in}
+use Rattle.plantplay.specs.Playing.{lines_of}
 use Rattle.plantplay.specs.PlaySteps.{ticks_to_come}
 use Rattle.plantplay.proofs.Following.{few_happenings, given_on, quiet_on}
 use Rattle.plantplay.proofs.Resting.{play_nothing, play_then}

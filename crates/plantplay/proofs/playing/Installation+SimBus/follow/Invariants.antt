@@ -1,6 +1,7 @@
 use Rattle.std.proofs.Common.{◌≡◌, ◌+◌, ◌≤◌, ◌++◌, length}
 use Rattle.scenario.specs.Happenings.{happenings}
-use Rattle.plantplay.specs.Playing.{IsAtRest, IsPlay, given_in, lines_of}
+use Rattle.plantevents.specs.Histories.{given_in}
+use Rattle.plantplay.specs.Playing.{IsAtRest, IsPlay, lines_of}
 use Rattle.plantplay.specs.PlaySteps.{IsQuietOrSame, ticks_to_come}
 use Rattle.plantplay.specs.Installations.{sim_log}
 use Rattle.plantplay.proofs.playing.Installation+SimBus.follow.Given as goal

@@ -1,0 +1,4 @@
+pub mod Eaching
+pub mod Filing
+pub mod Roles
+pub mod Seating

@@ -1,0 +1,74 @@
+//! Receipts.
+
+ghost use Rattle.std.specs.Prelude.{◌≡◌, reverse};
+ghost use Rattle.plantevents.specs.Parts.{placed};
+
+use memo::Memo;
+use plantevents::Event;
+use std::marker::Model;
+
+/// An event and its place in the history.
+#[derive(Drop)]
+pub struct Receipt {
+    index: u64,
+    event: Event,
+}
+
+impl Model for Receipt {
+    ghost use Rattle.plantevents.specs.Parts.{Placed};
+    ghost use Rattle.plantevents.specs.Parts.{placed};
+
+    ghost Value = { Placed };
+
+    ghost view = { λ r. placed r.index r.event };
+}
+
+impl Receipt {
+    /// An event with its place.
+    pub(crate) fn of(index: u64, event: Event) -> Receipt
+        ensures { result ≡ placed index event }
+    {
+        Receipt { index, event }
+    }
+
+    /// The place of the event.
+    pub fn index(&self) -> u64
+        ensures value { result ≡ self.now.place }
+    {
+        self.index
+    }
+
+    /// The event.
+    pub fn event(&self) -> &Event
+        ensures value { result.now ≡ self.now.event }
+    {
+        &self.event
+    }
+}
+
+/// What a cell holds, for contracts alone: the receipts of a role up to the event of this cell, the
+/// newest first.
+#[derive(Drop)]
+pub struct NotedPart {
+    receipts: Memo<Vec<Receipt>>,
+}
+
+impl Model for NotedPart {
+    ghost use Rattle.std.specs.Prelude.{List, reverse};
+    ghost use Rattle.plantevents.specs.Parts.{Placed};
+
+    ghost Value = { List Placed };
+
+    ghost view = { λ n. reverse n.receipts.value.items };
+}
+
+impl NotedPart {
+    /// The receipts, noted.
+    pub(crate) fn of(receipts: &Vec<Receipt>) -> NotedPart
+        ensures { result ≡ reverse receipts.now.items }
+    {
+        NotedPart {
+            receipts: Memo::of(receipts),
+        }
+    }
+}

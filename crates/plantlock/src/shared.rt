@@ -1,0 +1,301 @@
+//! The plant under its one lock.
+
+ghost use Rattle.std.specs.Prelude.{◌≡◌, ℕ, ◌<◌, ◌≤◌, None, true, false, OnOk, OnErr, IfOk, IfErr};
+ghost use Rattle.std.specs.Prelude.{IsOk, Some, length, slice_get, slice_index_or};
+ghost use Rattle.plantevents.specs.declared.event.Event.TheVariants as event;
+ghost use Rattle.plantevents.specs.declared.role.Role.TheVariants as roles;
+ghost use Rattle.plantevents.specs.Legal.{AreLegal};
+ghost use Rattle.plantevents.specs.Parts.{shown_moment, shown_down};
+ghost use Rattle.plantlock.specs.Answers.{IsOwn, ShowsScan, ShowsTransaction};
+ghost use Rattle.plantlock.specs.Opened.{AreFreshShares, HaveAllParts};
+ghost use Rattle.plantlock.specs.Receipts.{ShareParts, HasPart, HaveParts, IsNoted, IsReserved};
+ghost use Rattle.plantlock.specs.Receipts.{IsSame, whole};
+ghost use Rattle.plantlock.specs.Tied.{AreUnused, IsFront};
+
+use crate::basis::Basis;
+use crate::receipt::NotedPart;
+use crate::share::Share;
+use crate::shares::Shares;
+use crate::tied::TiedPlant;
+use daliframe::Frame24;
+use ilmachine::ScanResult;
+use plant::{CallError, CallRefusal, Handed, Order, Plant};
+use seats::{Seated, Tallies};
+use std::alloc::{AllocError, Global};
+use std::sync::{Mutex, OnceLock, OnceToken, Wait};
+use transact::Report;
+
+/// The seats of all roles.
+const SEATS: usize = 81;
+
+/// The lock round the plant.
+#[derive(Drop)]
+pub struct Shared<'a, J: Basis, T: Seated, K: Tallies<T>> {
+    tied: Mutex<TiedPlant<'a, J, T, K>>,
+}
+
+/// The plant after the lock was opened for good, and the Shares.
+#[derive(Drop)]
+pub struct Final<'a, J: Basis, T: Seated> {
+    pub plant: Plant,
+    pub shares: Shares<'a, J, T>,
+}
+
+/// For each seat that there is no newest cell.
+fn no_tokens<'a>(alloc: Global) -> Result<Vec<Option<OnceToken<'a, NotedPart>>>, AllocError>
+    ensures { IfOk result (λ v. (length v.items ≡ 81)
+        × ((k : ℕ) → k < 81 → slice_index_or v.items k None ≡ None)) }
+{
+    let mut tokens = Vec::new(alloc);
+    for _seat in 0..SEATS {
+        tokens.push(None)?;
+    }
+    Ok(tokens)
+}
+
+/// What one of the Shares has is its part of the history.
+fn meet_at<'a, J: Basis, T: Seated, K: Tallies<T>>(
+    tied: &mut TiedPlant<'a, J, T, K>,
+    shares: &mut Vec<Share<'a, J, T>>,
+    k: usize,
+)
+    requires { k < length shares.old.items }
+    ensures part { (share : ShareParts) → slice_get shares.old.items k ≡ Some share
+        → HasPart share tied.old.history }
+    ensures shares { shares.new.items ≡ shares.old.items }
+    ensures tied { tied.new ≡ tied.old }
+{
+    tied.meet(&mut shares[k]);
+}
+
+/// What each of the Shares has is its part of the history.
+fn meet_all<'a, J: Basis, T: Seated, K: Tallies<T>>(
+    tied: &mut TiedPlant<'a, J, T, K>,
+    shares: &mut Vec<Share<'a, J, T>>,
+)
+    ensures parts { HaveParts shares.old.items tied.old.history }
+    ensures shares { shares.new.items ≡ shares.old.items }
+    ensures tied { tied.new ≡ tied.old }
+{
+    for k in 0..shares.len() {
+        meet_at(tied, shares, k);
+    }
+}
+
+impl<'a, J: Basis, T: Seated, K: Tallies<T>> Shared<'a, J, T, K> {
+    /// The plant under a lock, and the Share of each role. The cells are as many as the plant's limit
+    /// at least, and each was never written. The books and the ties are those of all 81 seats, none
+    /// with an amount.
+    ///
+    /// # Errors
+    ///
+    /// The allocator is out of memory. The plant comes back.
+    pub fn new(
+        alloc: Global,
+        plant: Plant,
+        cells: &'a [OnceLock<NotedPart>],
+        books: K,
+        ties: Vec<T>,
+    ) -> Result<(Shared<'a, J, T, K>, Shares<'a, J, T>), Plant>
+        requires start { plant ≡ J.start }
+        requires cells { cells.now ≡ J.cells }
+        requires enough { J.start.limit ≤ length J.cells }
+        requires workers { J.start.plant.workers ≤ 16 }
+        requires buses { J.start.plant.plan.buses ≤ 64 }
+        requires unused { AreUnused T.seat T.amount 0 ties.items }
+        ensures fresh { IfOk result (λ made. AreFreshShares J.start made.1) }
+        ensures err { IfErr result (λ back. back ≡ plant) }
+    {
+        let mut books = books;
+        let Ok(newest) = no_tokens(alloc) else {
+            return Err(plant);
+        };
+        let Ok(shares) = Shares::of(alloc, &plant, &mut books, ties) else {
+            return Err(plant);
+        };
+        let tied = TiedPlant::new(plant, cells, books, newest);
+        Ok((
+            Shared {
+                tied: Mutex::new(tied),
+            },
+            shares,
+        ))
+    }
+
+    /// Keeps a place of the history back for a tick, until it is used.
+    pub fn may_tick<R: Wait>(&self, rt: &R, share: &mut Share<'a, J, T>) -> Result<(), CallError>
+        requires role { share.old.role ≡ roles.Clock }
+        ensures reserved { OnOk result (IsReserved share.old share.new) }
+        ensures err { OnErr result (IsSame share.old share.new) }
+    {
+        self.tied.lock(rt).may_tick(share)
+    }
+
+    /// Keeps a place of the history back for a frame of a bus, until it is used.
+    pub fn may_hear<R: Wait>(
+        &self,
+        rt: &R,
+        share: &mut Share<'a, J, T>,
+        bus: u8,
+    ) -> Result<(), CallError>
+        requires role { share.old.role ≡ roles.Bus bus }
+        ensures reserved { OnOk result (IsReserved share.old share.new) }
+        ensures up { OnOk result (shown_down (whole share.old) ≡ false) }
+        ensures err { OnErr result (IsSame share.old share.new) }
+    {
+        self.tied.lock(rt).may_hear(share, bus)
+    }
+
+    /// Notes that it is this moment.
+    pub fn tick<R: Wait>(
+        &self,
+        rt: &R,
+        share: &mut Share<'a, J, T>,
+        moment: u64,
+    ) -> Result<(), CallError>
+        requires role { share.old.role ≡ roles.Clock }
+        ensures noted { OnOk result
+            ((n : ℕ) × IsNoted n (event.Tick moment) share.old share.new) }
+        ensures err { OnErr result (IsSame share.old share.new) }
+        ensures kept { share.old.reserved ≡ true → shown_moment (whole share.old) ≤ moment
+            → IsOk result }
+    {
+        self.tied.lock(rt).tick(rt, share, moment)
+    }
+
+    /// Notes a frame that was heard on a bus.
+    pub fn heard<R: Wait>(
+        &self,
+        rt: &R,
+        share: &mut Share<'a, J, T>,
+        bus: u8,
+        frame: Frame24,
+    ) -> Result<(), CallError>
+        requires role { share.old.role ≡ roles.Bus bus }
+        ensures noted { OnOk result
+            ((n : ℕ) × IsNoted n (event.Heard bus frame) share.old share.new) }
+        ensures err { OnErr result (IsSame share.old share.new) }
+        ensures kept { share.old.reserved ≡ true → shown_down (whole share.old) ≡ false
+            → IsOk result }
+    {
+        self.tied.lock(rt).heard(rt, share, bus, frame)
+    }
+
+    /// Takes the next task for a scan worker.
+    pub fn take<R: Wait>(
+        &self,
+        rt: &R,
+        alloc: Global,
+        share: &mut Share<'a, J, T>,
+        worker: usize,
+    ) -> Result<Order, CallError>
+        requires role { share.old.role ≡ roles.Worker worker }
+        ensures noted { IfOk result (λ order. IsNoted order.number
+            (event.Take worker order.task order.work.snapshot) share.old share.new) }
+        ensures number { IfOk result (λ order. order.work.number ≡ order.number) }
+        ensures err { OnErr result (IsSame share.old share.new) }
+    {
+        self.tied.lock(rt).take(rt, alloc, share, worker)
+    }
+
+    /// Commits a scan. The one that the Share shows open is not refused.
+    pub fn commit<R: Wait>(
+        &self,
+        rt: &R,
+        share: &mut Share<'a, J, T>,
+        worker: usize,
+        scan: ScanResult,
+    ) -> Result<(), ScanResult>
+        requires role { share.old.role ≡ roles.Worker worker }
+        requires own { IsOwn (whole share.old) scan }
+        ensures noted { OnOk result
+            ((n : ℕ) × IsNoted n (event.Commit worker scan.number scan) share.old share.new) }
+        ensures err { IfErr result (λ back. (share.new ≡ share.old) × (back ≡ scan)) }
+        ensures open { ShowsScan (whole share.old) scan → IsOk result }
+    {
+        self.tied.lock(rt).commit(rt, share, worker, scan)
+    }
+
+    /// Hands a bus what is to be sent next.
+    pub fn hand<R: Wait>(
+        &self,
+        rt: &R,
+        share: &mut Share<'a, J, T>,
+        bus: u8,
+    ) -> Result<Handed, CallError>
+        requires role { share.old.role ≡ roles.Bus bus }
+        ensures noted { IfOk result (λ handed. IsNoted handed.number
+            (event.Hand bus handed.origin handed.transaction) share.old share.new) }
+        ensures up { OnOk result (shown_down (whole share.old) ≡ false) }
+        ensures err { OnErr result (IsSame share.old share.new) }
+    {
+        self.tied.lock(rt).hand(rt, share, bus)
+    }
+
+    /// Notes the report of a transaction. That of the one that the Share shows open is not refused.
+    pub fn done<R: Wait>(
+        &self,
+        rt: &R,
+        share: &mut Share<'a, J, T>,
+        bus: u8,
+        number: u64,
+        report: Report,
+    ) -> Result<(), Report>
+        requires role { share.old.role ≡ roles.Bus bus }
+        ensures noted { OnOk result
+            ((n : ℕ) × IsNoted n (event.Done bus number report) share.old share.new) }
+        ensures err { IfErr result (λ back. (share.new ≡ share.old) × (back ≡ report)) }
+        ensures open { ShowsTransaction (whole share.old) number report.transaction
+            → IsOk result }
+    {
+        self.tied.lock(rt).done(rt, share, bus, number, report)
+    }
+
+    /// Closes a bus. Where the Share shows that it is not down, it is not refused.
+    pub fn down<R: Wait>(
+        &self,
+        rt: &R,
+        share: &mut Share<'a, J, T>,
+        bus: u8,
+    ) -> Result<(), CallRefusal>
+        requires role { share.old.role ≡ roles.Bus bus }
+        ensures noted { OnOk result ((n : ℕ) × IsNoted n (event.Down bus) share.old share.new) }
+        ensures err { OnErr result (share.new ≡ share.old) }
+        ensures up { shown_down (whole share.old) ≡ false → IsOk result }
+    {
+        self.tied.lock(rt).down(rt, share, bus)
+    }
+
+    /// Opens the lock for good. The history at the start is a front of the plant's, which is legal,
+    /// and the receipts of each Share, with its part of that front, are its part of the history.
+    pub fn close(self, shares: Shares<'a, J, T>) -> Final<'a, J, T>
+        ensures legal { AreLegal result.plant.plant result.plant.history }
+        ensures plant { result.plant.plant ≡ J.start.plant }
+        ensures limit { result.plant.limit ≡ J.start.limit }
+        ensures front { IsFront J.start.history result.plant.history }
+        ensures workers { result.shares.workers.items ≡ shares.entry.workers.items }
+        ensures buses { result.shares.buses.items ≡ shares.entry.buses.items }
+        ensures clock { result.shares.clock ≡ shares.entry.clock }
+        ensures parts { HaveAllParts result.shares result.plant.history }
+    {
+        let Shared { tied } = self;
+        let mut tied = tied.into_inner();
+        let Shares {
+            mut workers,
+            mut buses,
+            mut clock,
+        } = shares;
+        meet_all(&mut tied, &mut workers);
+        meet_all(&mut tied, &mut buses);
+        tied.meet(&mut clock);
+        let plant = tied.into_plant();
+        Final {
+            plant,
+            shares: Shares {
+                workers,
+                buses,
+                clock,
+            },
+        }
+    }
+}

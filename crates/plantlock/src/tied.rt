@@ -1,0 +1,201 @@
+//! The plant with what ties the Shares to it: what lies under the lock.
+
+ghost use Rattle.std.specs.Prelude.{◌≡◌, ℕ, ◌<◌, ◌≤◌, None, true, false, OnOk, OnErr, IsOk};
+ghost use Rattle.std.specs.Prelude.{length, slice_index_or};
+ghost use Rattle.plantevents.specs.declared.event.Event.TheVariants as event;
+ghost use Rattle.plantevents.specs.declared.role.Role.TheVariants as roles;
+ghost use Rattle.plantevents.specs.Legal.{AreLegal};
+ghost use Rattle.plantevents.specs.Parts.{part, shown_moment, shown_down};
+ghost use Rattle.plant.specs.Refusals.{GivesFirstOrMemory, tick_cases, may_tick_cases, heard_cases};
+ghost use Rattle.plant.specs.Shown.{grown, reserving, is_reserved};
+ghost use Rattle.plantlock.specs.Receipts.{IsNoted, IsReserved, IsSame, whole};
+ghost use Rattle.plantlock.specs.Tied.{AreCounted, IsFront};
+
+mod scanning;
+mod sending;
+
+use crate::basis::Basis;
+use crate::receipt::NotedPart;
+use crate::share::{MOST_ROOM, Share};
+use crate::ties::Ties;
+use daliframe::Frame24;
+use plant::{CallError, CallRefusal, Plant};
+use plantevents::{Event, what_a_part_shows};
+use seats::{Seated, Tallies};
+use std::marker::{Model, PhantomData};
+use std::sync::{OnceLock, OnceToken, Wait};
+
+/// The plant with what ties the Shares to it. Contracts see the plant.
+#[derive(Drop)]
+pub(crate) struct TiedPlant<'a, J: Basis, T: Seated, K: Tallies<T>> {
+    plant: Plant,
+    ties: Ties<'a, J, T, K>,
+}
+
+impl<'a, J: Basis, T: Seated, K: Tallies<T>> Model for TiedPlant<'a, J, T, K> {
+    ghost use Rattle.std.specs.Prelude.{◌≡◌};
+    ghost use Rattle.std.specs.Coded.{codes};
+    ghost use Rattle.ilplan.specs.contracts.plan.Plan as inner;
+    ghost use Rattle.plant.specs.Shown.{Shown};
+    ghost use Rattle.plantlock.specs.Tied.{AreTied};
+
+    ghost Value = { Shown };
+
+    ghost coded = { Prim.hlevel (codes, inner.the_row.coded) };
+
+    ghost view = { λ d. d.plant };
+
+    ghost invariant = { λ d. (d.ties.cells.now ≡ J.cells)
+        × AreTied J.cells J.start d.plant (K.number d.ties.numbers) d.ties.newest.items };
+}
+
+impl<'a, J: Basis, T: Seated, K: Tallies<T>> TiedPlant<'a, J, T, K> {
+    /// What lies under the lock at the start.
+    pub(crate) fn new(
+        plant: Plant,
+        cells: &'a [OnceLock<NotedPart>],
+        numbers: K,
+        newest: Vec<Option<OnceToken<'a, NotedPart>>>,
+    ) -> TiedPlant<'a, J, T, K>
+        requires start { plant ≡ J.start }
+        requires cells { cells.now ≡ J.cells }
+        requires enough { J.start.limit ≤ length J.cells }
+        requires numbers { AreCounted J.start (K.number numbers) 81 }
+        requires newest { (length newest.items ≡ 81)
+            × ((k : ℕ) → k < 81 → slice_index_or newest.items k None ≡ None) }
+        ensures { result ≡ J.start }
+    {
+        TiedPlant {
+            plant,
+            ties: Ties {
+                cells,
+                numbers,
+                newest,
+                basis: PhantomData,
+            },
+        }
+    }
+
+    /// What a Share has is its part of the history, and its place is kept back in the plant.
+    pub fn meet(&mut self, share: &mut Share<'a, J, T>)
+        ensures agree { whole share.old ≡ part share.old.role self.old.history }
+        ensures place { share.old.reserved ≡ is_reserved share.old.role self.old }
+        ensures same { (self.new ≡ self.old) × (share.new ≡ share.old) }
+    {
+        self.ties.meet(share);
+    }
+
+    /// The plant, to whose history at the start events were added.
+    pub fn into_plant(self) -> Plant
+        ensures same { result ≡ self.entry }
+        ensures legal { AreLegal result.plant result.history }
+        ensures plant { result.plant ≡ J.start.plant }
+        ensures limit { result.limit ≡ J.start.limit }
+        ensures front { IsFront J.start.history result.history }
+    {
+        let TiedPlant { plant, ties: _ } = self;
+        let _legal = plant.len();
+        plant
+    }
+
+    /// Notes that it is this moment. Where a place is kept back, and the moment is not below the
+    /// last one that the Share shows, it is not refused.
+    pub fn tick<R: Wait>(
+        &mut self,
+        rt: &R,
+        share: &mut Share<'a, J, T>,
+        moment: u64,
+    ) -> Result<(), CallError>
+        requires role { share.old.role ≡ roles.Clock }
+        ensures event { OnOk result (self.new ≡ grown self.old (event.Tick moment)) }
+        ensures noted { OnOk result
+            (IsNoted (length self.old.history) (event.Tick moment) share.old share.new) }
+        ensures refused { GivesFirstOrMemory (tick_cases self.old moment) result }
+        ensures err { OnErr result ((self.new ≡ self.old) × IsSame share.old share.new) }
+        ensures kept { share.old.reserved ≡ true → shown_moment (whole share.old) ≤ moment
+            → IsOk result }
+    {
+        what_a_part_shows();
+        self.ties.meet(share);
+        self.plant.allows_tick(moment)?;
+        if !share.is_reserved() {
+            share.make_room(MOST_ROOM)?;
+        }
+        let index = self.plant.len();
+        let _most = self.plant.limit();
+        self.plant.tick(moment)?;
+        let _within = self.plant.len();
+        self.ties.file(rt, share, index, Event::Tick { moment });
+        Ok(())
+    }
+
+    /// Keeps a place of the history back for a tick, until it is used.
+    pub fn may_tick(&mut self, share: &mut Share<'a, J, T>) -> Result<(), CallError>
+        requires role { share.old.role ≡ roles.Clock }
+        ensures place { OnOk result (self.new ≡ reserving roles.Clock self.old) }
+        ensures reserved { OnOk result (IsReserved share.old share.new) }
+        ensures refused { GivesFirstOrMemory (may_tick_cases self.old) result }
+        ensures err { OnErr result ((self.new ≡ self.old) × IsSame share.old share.new) }
+    {
+        self.ties.meet(share);
+        if !share.is_reserved() && self.plant.is_full() {
+            return Err(CallError::Refused(CallRefusal::Full));
+        }
+        share.make_place()?;
+        self.plant.may_tick()?;
+        self.ties.keep(share);
+        Ok(())
+    }
+
+    /// Keeps a place of the history back for a frame of a bus, until it is used.
+    pub fn may_hear(&mut self, share: &mut Share<'a, J, T>, bus: u8) -> Result<(), CallError>
+        requires role { share.old.role ≡ roles.Bus bus }
+        ensures place { OnOk result (self.new ≡ reserving (roles.Bus bus) self.old) }
+        ensures reserved { OnOk result (IsReserved share.old share.new) }
+        ensures up { OnOk result (shown_down (whole share.old) ≡ false) }
+        ensures refused { GivesFirstOrMemory (heard_cases self.old bus) result }
+        ensures err { OnErr result ((self.new ≡ self.old) × IsSame share.old share.new) }
+    {
+        what_a_part_shows();
+        self.ties.meet(share);
+        self.plant.allows_frame(bus)?;
+        share.make_place()?;
+        let _places = self.plant.len();
+        self.plant.may_hear(bus)?;
+        self.ties.keep(share);
+        Ok(())
+    }
+
+    /// Notes a frame that was heard on a bus. Where a place is kept back, and the Share shows that
+    /// the bus is not down, it is not refused.
+    pub fn heard<R: Wait>(
+        &mut self,
+        rt: &R,
+        share: &mut Share<'a, J, T>,
+        bus: u8,
+        frame: Frame24,
+    ) -> Result<(), CallError>
+        requires role { share.old.role ≡ roles.Bus bus }
+        ensures event { OnOk result (self.new ≡ grown self.old (event.Heard bus frame)) }
+        ensures noted { OnOk result
+            (IsNoted (length self.old.history) (event.Heard bus frame) share.old share.new) }
+        ensures refused { GivesFirstOrMemory (heard_cases self.old bus) result }
+        ensures err { OnErr result ((self.new ≡ self.old) × IsSame share.old share.new) }
+        ensures kept { share.old.reserved ≡ true → shown_down (whole share.old) ≡ false
+            → IsOk result }
+    {
+        what_a_part_shows();
+        self.ties.meet(share);
+        self.plant.allows_frame(bus)?;
+        if !share.is_reserved() {
+            share.make_room(MOST_ROOM)?;
+        }
+        let index = self.plant.len();
+        let _most = self.plant.limit();
+        self.plant.heard(bus, frame)?;
+        let _within = self.plant.len();
+        self.ties
+            .file(rt, share, index, Event::Heard { bus, frame });
+        Ok(())
+    }
+}

@@ -1,0 +1,105 @@
+//! What the lock keeps beside the plant.
+
+ghost use Rattle.std.specs.Prelude.{◌≡◌, ℕ, ◌+◌, ◌<◌, ◌≤◌, ◌^◌, ◌∷◌, true, length};
+ghost use Rattle.plantevents.specs.Plants.{Plant as Made};
+ghost use Rattle.plantevents.specs.Parts.{part, placed, role_of};
+ghost use Rattle.plantevents.specs.declared.role.Role.{Role as RoleOf};
+ghost use Rattle.plant.specs.Shown.{Shown, grown, reserving, is_reserved};
+ghost use Rattle.plantlock.specs.Receipts.{IsNoted, IsReserved, IsRole, index_of};
+ghost use Rattle.plantlock.specs.Receipts.{needs, whole, reserved_after};
+ghost use Rattle.plantlock.specs.Tied.{AreTied, HasPlace};
+
+use crate::basis::Basis;
+use crate::receipt::NotedPart;
+use crate::share::Share;
+use plantevents::{Event, Role};
+use seats::{Seated, Tallies};
+use std::marker::PhantomData;
+use std::sync::{OnceLock, OnceToken, Wait};
+
+/// The row of cells, and of each role the number that its Share has too, and what shows its newest
+/// cell.
+#[derive(Drop)]
+pub(crate) struct Ties<'a, J: Basis, T: Seated, K: Tallies<T>> {
+    pub cells: &'a [OnceLock<NotedPart>],
+    pub numbers: K,
+    pub newest: Vec<Option<OnceToken<'a, NotedPart>>>,
+    pub basis: PhantomData<(J, T)>,
+}
+
+/// Where a role stands among the 81 that have a seat.
+fn index_of(role: Role) -> usize
+    requires { (p : Made) × IsRole p role }
+    ensures value { result ≡ index_of role }
+    ensures below { result < 81 }
+{
+    match role {
+        Role::Worker(worker) => worker,
+        Role::Bus(bus) => 16 + usize::from(bus),
+        Role::Clock => 80,
+    }
+}
+
+impl<'a, J: Basis, T: Seated, K: Tallies<T>> Ties<'a, J, T, K> {
+    /// What a Share has is its part of the history.
+    pub(crate) fn meet(&mut self, share: &mut Share<'a, J, T>)
+        requires tied { (p : Shown)
+            × AreTied J.cells J.start p (K.number self.old.numbers) self.old.newest.items }
+        ensures agree { (p : Shown)
+            → AreTied J.cells J.start p (K.number self.old.numbers) self.old.newest.items
+            → (whole share.old ≡ part share.old.role p.history)
+            × (share.old.reserved ≡ is_reserved share.old.role p) }
+        ensures known { IsRole J.start.plant share.old.role }
+        ensures enough { needs share.old.role (whole share.old) share.old.reserved
+            ≤ share.old.room }
+        ensures same { share.new ≡ share.old }
+        ensures numbers { self.new.numbers ≡ self.old.numbers }
+        ensures newest { self.new.newest.items ≡ self.old.newest.items }
+        ensures cells { self.new.cells.now ≡ self.old.cells.now }
+    {
+        let index = index_of(share.role());
+        share.meet(&mut self.numbers, &self.newest[index]);
+    }
+
+    /// Keeps a place back for a role, as the plant did.
+    pub(crate) fn keep(&mut self, share: &mut Share<'a, J, T>)
+        requires tied { (p : Shown)
+            × AreTied J.cells J.start p (K.number self.old.numbers) self.old.newest.items }
+        requires room { needs share.old.role (whole share.old) true ≤ share.old.room }
+        ensures tied { (p : Shown) (role : RoleOf) → share.old.role ≡ role → HasPlace role p
+            → AreTied J.cells J.start p (K.number self.old.numbers) self.old.newest.items
+            → AreTied J.cells J.start (reserving role p) (K.number self.new.numbers) self.new.newest.items }
+        ensures cells { self.new.cells.now ≡ self.old.cells.now }
+        ensures reserved { IsReserved share.old share.new }
+    {
+        self.meet(share);
+        share.keep(&mut self.numbers);
+    }
+
+    /// Files an event that the plant took.
+    pub(crate) fn file<R: Wait>(
+        &mut self,
+        rt: &R,
+        share: &mut Share<'a, J, T>,
+        index: u64,
+        event: Event,
+    )
+        requires cells { (self.old.cells.now ≡ J.cells) × (index < length J.cells) }
+        requires small { index < 2 ^ 32 }
+        requires tied { (p : Shown) × (length p.history ≡ index)
+            × AreTied J.cells J.start p (K.number self.old.numbers) self.old.newest.items }
+        requires role { role_of event ≡ share.old.role }
+        requires room { needs share.old.role (placed index event ∷ whole share.old)
+            (reserved_after event share.old.reserved) + 1 ≤ share.old.room }
+        ensures tied { (p : Shown) → length p.history ≡ index
+            → AreTied J.cells J.start p (K.number self.old.numbers) self.old.newest.items
+            → AreTied J.cells J.start (grown p event) (K.number self.new.numbers) self.new.newest.items }
+        ensures cells { self.new.cells.now ≡ self.old.cells.now }
+        ensures noted { IsNoted index event share.old share.new }
+    {
+        let slot = index_of(share.role());
+        share.meet(&mut self.numbers, &self.newest[slot]);
+        let token = share.note(rt, self.cells, &mut self.numbers, index, event);
+        self.newest[slot] = token;
+    }
+}

@@ -1,0 +1,4 @@
+pub mod Groups
+pub mod Families
+pub mod Openings
+pub mod GroupTies

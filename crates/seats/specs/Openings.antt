@@ -1,0 +1,20 @@
+-- What there is before anything was counted.
+use Rattle.std.specs.Prelude.{ℕ, ◌/◌, ◌%◌, List, map}
+use Rattle.std.specs.List.{range_with_len}
+use Rattle.seats.specs.Families.{Seating}
+
+-- the tie of the seat that is the k-th of all
+abbrev pub fresh : ℕ → Seating
+fresh k = record { seat = (k / 9, k % 9); amount = 0 }
+
+-- the places of a group, with no amount
+abbrev pub each_place : List (ℕ × ℕ)
+each_place = map (λ k. (k, 0)) (range_with_len 0 9)
+
+-- the totals of a group
+abbrev pub no_amounts : List ℕ
+no_amounts = map (λ k. 0) (range_with_len 0 9)
+
+-- the ties of a group
+abbrev pub fresh_group : ℕ → List Seating
+fresh_group g = map (λ k. record { seat = (g, k); amount = 0 }) (range_with_len 0 9)

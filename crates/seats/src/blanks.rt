@@ -1,0 +1,134 @@
+//! Ledgers that no type stands for yet.
+
+ghost use Rattle.std.specs.Prelude.{◌≡◌, [], slice_index_or};
+ghost use Rattle.seats.specs.Openings.{no_amounts, each_place};
+ghost use Rattle.seats.specs.GroupTies.{ties_of};
+
+use crate::group::{GroupBooks, GroupHalf, GroupTie};
+use crate::names::{Names, Seat};
+use std::marker::Model;
+use std::sync::ledger::Blank;
+
+/// A new ledger for each place of a group. Contracts see their names.
+#[derive(Drop)]
+pub struct GroupBlanks {
+    b0: Blank,
+    b1: Blank,
+    b2: Blank,
+    b3: Blank,
+    b4: Blank,
+    b5: Blank,
+    b6: Blank,
+    b7: Blank,
+    b8: Blank,
+}
+
+impl Model for GroupBlanks {
+    ghost use Rattle.std.specs.Prelude.{List, ℕ, [], ◌∷◌, ◌≡◌};
+
+    ghost Value = { List ℕ };
+
+    ghost view = { λ b. b.b0.name ∷ b.b1.name ∷ b.b2.name ∷ b.b3.name ∷ b.b4.name ∷ b.b5.name ∷ b.b6.name ∷ b.b7.name ∷ b.b8.name ∷ [] };
+
+    ghost invariant = { λ b. (b.b0.parts ≡ 1) × (b.b1.parts ≡ 1) × (b.b2.parts ≡ 1) × (b.b3.parts ≡ 1) × (b.b4.parts ≡ 1) × (b.b5.parts ≡ 1) × (b.b6.parts ≡ 1) × (b.b7.parts ≡ 1) × (b.b8.parts ≡ 1) };
+}
+
+/// The tie of each place of a group.
+#[derive(Drop)]
+pub struct GroupTies<N: Names, const G: usize> {
+    pub(crate) t0: GroupTie<N, G>,
+    pub(crate) t1: GroupTie<N, G>,
+    pub(crate) t2: GroupTie<N, G>,
+    pub(crate) t3: GroupTie<N, G>,
+    pub(crate) t4: GroupTie<N, G>,
+    pub(crate) t5: GroupTie<N, G>,
+    pub(crate) t6: GroupTie<N, G>,
+    pub(crate) t7: GroupTie<N, G>,
+    pub(crate) t8: GroupTie<N, G>,
+}
+
+impl GroupBlanks {
+    /// Nine new ledgers.
+    pub fn new() -> GroupBlanks {
+        GroupBlanks {
+            b0: Blank::new(1),
+            b1: Blank::new(1),
+            b2: Blank::new(1),
+            b3: Blank::new(1),
+            b4: Blank::new(1),
+            b5: Blank::new(1),
+            b6: Blank::new(1),
+            b7: Blank::new(1),
+            b8: Blank::new(1),
+        }
+    }
+
+    /// Opens the ledgers of group `G`: the books with no amounts, and the tie of each place.
+    pub fn open<N: Names, const G: usize>(self) -> (GroupBooks<N, G>, GroupTies<N, G>)
+        requires { self ≡ slice_index_or N.names G [] }
+        ensures books { result.0 ≡ no_amounts }
+        ensures ties { ties_of result.1 ≡ each_place }
+    {
+        let GroupBlanks {
+            b0,
+            b1,
+            b2,
+            b3,
+            b4,
+            b5,
+            b6,
+            b7,
+            b8,
+        } = self;
+        let (b0, h0) = b0.open::<Seat<N, G, 0>>();
+        let (b1, h1) = b1.open::<Seat<N, G, 1>>();
+        let (b2, h2) = b2.open::<Seat<N, G, 2>>();
+        let (b3, h3) = b3.open::<Seat<N, G, 3>>();
+        let (b4, h4) = b4.open::<Seat<N, G, 4>>();
+        let (b5, h5) = b5.open::<Seat<N, G, 5>>();
+        let (b6, h6) = b6.open::<Seat<N, G, 6>>();
+        let (b7, h7) = b7.open::<Seat<N, G, 7>>();
+        let (b8, h8) = b8.open::<Seat<N, G, 8>>();
+        let books = GroupBooks {
+            b0,
+            b1,
+            b2,
+            b3,
+            b4,
+            b5,
+            b6,
+            b7,
+            b8,
+        };
+        let ties = GroupTies {
+            t0: GroupTie {
+                half: GroupHalf::H0(h0),
+            },
+            t1: GroupTie {
+                half: GroupHalf::H1(h1),
+            },
+            t2: GroupTie {
+                half: GroupHalf::H2(h2),
+            },
+            t3: GroupTie {
+                half: GroupHalf::H3(h3),
+            },
+            t4: GroupTie {
+                half: GroupHalf::H4(h4),
+            },
+            t5: GroupTie {
+                half: GroupHalf::H5(h5),
+            },
+            t6: GroupTie {
+                half: GroupHalf::H6(h6),
+            },
+            t7: GroupTie {
+                half: GroupHalf::H7(h7),
+            },
+            t8: GroupTie {
+                half: GroupHalf::H8(h8),
+            },
+        };
+        (books, ties)
+    }
+}

@@ -1,0 +1,140 @@
+//! Nine groups side by side: 81 ledgers.
+
+ghost use Rattle.std.specs.Prelude.{◌≡◌, ◌+◌, ◌-◌, ◌<◌, ◌≤◌, [], length, slice_set, slice_index_or};
+ghost use Rattle.seats.specs.Families.{number};
+
+use crate::group::{GroupBooks, GroupTie};
+use crate::names::Names;
+use crate::tallies::{Seated, Tallies};
+use std::marker::Model;
+
+/// A book for each seat. Contracts see their totals, by groups of nine.
+#[derive(Drop)]
+pub struct Books<N: Names> {
+    pub(crate) g0: GroupBooks<N, 0>,
+    pub(crate) g1: GroupBooks<N, 1>,
+    pub(crate) g2: GroupBooks<N, 2>,
+    pub(crate) g3: GroupBooks<N, 3>,
+    pub(crate) g4: GroupBooks<N, 4>,
+    pub(crate) g5: GroupBooks<N, 5>,
+    pub(crate) g6: GroupBooks<N, 6>,
+    pub(crate) g7: GroupBooks<N, 7>,
+    pub(crate) g8: GroupBooks<N, 8>,
+}
+
+impl<N: Names> Model for Books<N> {
+    ghost use Rattle.std.specs.Prelude.{List, ℕ, [], ◌∷◌};
+
+    ghost Value = { List (List ℕ) };
+
+    ghost view = { λ r. r.g0 ∷ r.g1 ∷ r.g2 ∷ r.g3 ∷ r.g4 ∷ r.g5 ∷ r.g6 ∷ r.g7 ∷ r.g8 ∷ [] };
+}
+
+/// The whole share of one of the ledgers.
+#[derive(Drop)]
+pub enum Half<N: Names> {
+    G0(GroupTie<N, 0>),
+    G1(GroupTie<N, 1>),
+    G2(GroupTie<N, 2>),
+    G3(GroupTie<N, 3>),
+    G4(GroupTie<N, 4>),
+    G5(GroupTie<N, 5>),
+    G6(GroupTie<N, 6>),
+    G7(GroupTie<N, 7>),
+    G8(GroupTie<N, 8>),
+}
+
+/// The whole share of the ledger of a seat. Contracts see the seat and the amount.
+#[derive(Drop)]
+pub struct Tie<N: Names> {
+    pub(crate) half: Half<N>,
+}
+
+impl<N: Names> Model for Tie<N> {
+    ghost use Rattle.seats.specs.Families.{Seating, seating_of};
+
+    ghost Value = { Seating };
+
+    ghost view = { λ t. seating_of t.half };
+}
+
+impl<N: Names> Seated for Tie<N> {
+    ghost seat = { λ t. t.seat };
+
+    ghost amount = { λ t. t.amount };
+}
+
+impl<N: Names> Books<N> {
+    /// The two agree, and grow together.
+    fn grow(&mut self, tie: &mut Tie<N>, by: u64)
+        ensures same { number self.old tie.old.seat ≡ tie.old.amount }
+        ensures group { tie.old.seat.0 < length self.old }
+        ensures place { tie.old.seat.1 < length (slice_index_or self.old tie.old.seat.0 []) }
+        ensures rows { self.new ≡ slice_set self.old tie.old.seat.0
+            (slice_set (slice_index_or self.old tie.old.seat.0 []) tie.old.seat.1
+            (tie.old.amount + by)) }
+        ensures tie { tie.new ≡ record tie.old { amount = tie.old.amount + by } }
+    {
+        match &mut tie.half {
+            Half::G0(tie) => self.g0.add(tie, by),
+            Half::G1(tie) => self.g1.add(tie, by),
+            Half::G2(tie) => self.g2.add(tie, by),
+            Half::G3(tie) => self.g3.add(tie, by),
+            Half::G4(tie) => self.g4.add(tie, by),
+            Half::G5(tie) => self.g5.add(tie, by),
+            Half::G6(tie) => self.g6.add(tie, by),
+            Half::G7(tie) => self.g7.add(tie, by),
+            Half::G8(tie) => self.g8.add(tie, by),
+        }
+    }
+
+    /// The two agree, and fall together.
+    fn fall(&mut self, tie: &mut Tie<N>, by: u64)
+        requires { by ≤ tie.old.amount }
+        ensures same { number self.old tie.old.seat ≡ tie.old.amount }
+        ensures group { tie.old.seat.0 < length self.old }
+        ensures place { tie.old.seat.1 < length (slice_index_or self.old tie.old.seat.0 []) }
+        ensures rows { self.new ≡ slice_set self.old tie.old.seat.0
+            (slice_set (slice_index_or self.old tie.old.seat.0 []) tie.old.seat.1
+            (tie.old.amount - by)) }
+        ensures tie { tie.new ≡ record tie.old { amount = tie.old.amount - by } }
+    {
+        match &mut tie.half {
+            Half::G0(tie) => self.g0.sub(tie, by),
+            Half::G1(tie) => self.g1.sub(tie, by),
+            Half::G2(tie) => self.g2.sub(tie, by),
+            Half::G3(tie) => self.g3.sub(tie, by),
+            Half::G4(tie) => self.g4.sub(tie, by),
+            Half::G5(tie) => self.g5.sub(tie, by),
+            Half::G6(tie) => self.g6.sub(tie, by),
+            Half::G7(tie) => self.g7.sub(tie, by),
+            Half::G8(tie) => self.g8.sub(tie, by),
+        }
+    }
+}
+
+impl<N: Names> Tallies<Tie<N>> for Books<N> {
+    ghost number = { number };
+
+    fn audit(&mut self, tie: &mut Tie<N>) {
+        match &mut tie.half {
+            Half::G0(tie) => self.g0.audit(tie),
+            Half::G1(tie) => self.g1.audit(tie),
+            Half::G2(tie) => self.g2.audit(tie),
+            Half::G3(tie) => self.g3.audit(tie),
+            Half::G4(tie) => self.g4.audit(tie),
+            Half::G5(tie) => self.g5.audit(tie),
+            Half::G6(tie) => self.g6.audit(tie),
+            Half::G7(tie) => self.g7.audit(tie),
+            Half::G8(tie) => self.g8.audit(tie),
+        }
+    }
+
+    fn add(&mut self, tie: &mut Tie<N>, by: u64) {
+        self.grow(tie, by)
+    }
+
+    fn sub(&mut self, tie: &mut Tie<N>, by: u64) {
+        self.fall(tie, by)
+    }
+}

@@ -1,0 +1,26 @@
+//! Numbers that two sides agree upon, one for each of 81 seats.
+//!
+//! What crosses the boundary: [`Books`] stand under a lock and have a number for each seat. The
+//! [`Tie`] of a seat stands in a thread, and its amount is that number: the two change together or
+//! not at all, so whoever has both at hand knows that they agree. [`Blanks`] make them.
+//!
+//! Callers take any `K: Tallies<T>` with `T: Seated` (src/tallies.rt, to be read first), and name
+//! the 81 ledgers in one call alone.
+//!
+//! ```text
+//! let (mut books, mut ties) = Blanks::new().open::<N>(alloc)?;
+//! books.add(&mut ties[3], 1);
+//! ```
+#![tactic(auto)]
+
+mod blanks;
+mod family;
+mod group;
+mod names;
+mod opening;
+mod tallies;
+
+pub use family::{Books, Tie};
+pub use names::Names;
+pub use opening::Blanks;
+pub use tallies::{Seated, Tallies};
