@@ -84,8 +84,8 @@ fn meet_all<'a, J: Basis, T: Seated, K: Tallies<T>>(
 
 impl<'a, J: Basis, T: Seated, K: Tallies<T>> Shared<'a, J, T, K> {
     /// The plant under a lock, and the Share of each role. The cells are as many as the plant's limit
-    /// at least, and each was never written. The books and the ties are those of all 81 seats, none
-    /// with an amount.
+    /// at least; whoever lends them makes them new, since a call waits without end where its cell was
+    /// written before. The books and the ties are those of all 81 seats, none with an amount.
     ///
     /// # Errors
     ///
