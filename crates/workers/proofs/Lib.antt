@@ -1,0 +1,4 @@
+pub mod Lists
+pub mod Parting
+pub mod Rounds
+pub mod Told

@@ -1,0 +1,14 @@
+use Rattle.std.proofs.Common.{map}
+use Rattle.workers.proofs.running.run.Given as goal
+
+abbrev pub ghosts-run_named-J-Basis : goal.ghosts-run_named-J-Basis
+ghosts-run_named-J-Basis g a = record { start = a.plant; cells = a.cells.now }
+
+abbrev pub ghosts-run_named-J-Links : goal.ghosts-run_named-J-Links
+ghosts-run_named-J-Links g a = record {
+  buses = map g.B.Bus.log a.lines.items;
+  clock = g.C.Clock.log a.clock;
+}
+
+abbrev pub ghosts-run_named-N-Names : goal.ghosts-run_named-N-Names
+ghosts-run_named-N-Names g a = record { names = a.blanks }

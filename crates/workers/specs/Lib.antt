@@ -1,0 +1,7 @@
+pub mod Beginnings
+pub mod Closings
+pub mod Crews
+pub mod Logs
+pub mod Started
+pub mod Starts
+pub mod Teams

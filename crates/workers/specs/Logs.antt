@@ -1,0 +1,40 @@
+-- Between two turns nothing is open, and the receipts of a Share are what went over its link.
+use Rattle.std.specs.Prelude.{◌≡◌, ℕ, ◌≤◌, List, [], ◌++◌, None, false, slice_index_or}
+use Rattle.plantevents.specs.declared.role.Role.TheVariants.{Worker, Bus, Clock}
+use Rattle.plantevents.specs.Parts.{shown_moment, shown_scan, shown_hand, shown_sent, shown_heard, shown_given}
+use Rattle.buslink.specs.BusLog.{BusLog}
+use Rattle.buslink.specs.ClockLog.{ClockLog, IsNotBefore}
+use Rattle.plantlock.specs.Receipts.{ShareParts, whole}
+
+abbrev pub no_frame : BusLog
+no_frame = record { sent = []; heard = []; spare = 0; failures = 0; hears = 0; heard_none = false }
+
+abbrev pub no_moment : ClockLog
+no_moment = record { given = []; asks = 0; gave_none = false }
+
+-- the log of a bus among these
+abbrev pub log_of : List BusLog → ℕ → BusLog
+log_of logs bus = slice_index_or logs bus no_frame
+
+-- the Share of this scan worker, which has no scan open
+pub record IsWorker (worker : ℕ) (s : ShareParts) : Type 0 where
+  pub role : s.role ≡ Worker worker
+  pub idle : shown_scan (whole s) ≡ None
+
+-- The Share of this bus, which has no transaction open: what the bus sent and heard since the first log is what the
+-- part says.
+pub record IsServed (first : BusLog) (bus : ℕ) (s : ShareParts) (log : BusLog) : Type 0 where
+  pub role : s.role ≡ Bus bus
+  pub idle : shown_hand (whole s) ≡ None
+  pub sent : log.sent ≡ first.sent ++ shown_sent (whole s)
+  pub heard : log.heard ≡ first.heard ++ shown_heard (whole s)
+
+-- a moment that the clock may give is not below the one that the part shows
+abbrev pub IsInTime : ShareParts → ClockLog → Type 0
+IsInTime s log = (m : ℕ) → IsNotBefore m log → shown_moment (whole s) ≤ m
+
+-- the Share of the clock: what the clock gave since the first log is what the part says
+pub record IsTimed (first : ClockLog) (s : ShareParts) (log : ClockLog) : Type 0 where
+  pub role : s.role ≡ Clock
+  pub given : log.given ≡ first.given ++ shown_given (whole s)
+  pub in_time : IsInTime s log

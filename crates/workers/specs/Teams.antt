@@ -1,0 +1,29 @@
+-- The links with their Shares, when nothing is under way.
+use Rattle.std.specs.Prelude.{◌≡◌, ℕ, List, length}
+use Rattle.buslink.specs.BusLog.{BusLog}
+use Rattle.buslink.specs.ClockLog.{ClockLog}
+use Rattle.plantlock.specs.Each.{Each}
+use Rattle.plantlock.specs.Receipts.{ShareParts}
+use Rattle.workers.specs.declared.bus_worker.Served.{Served}
+use Rattle.workers.specs.declared.team.Team.{Team}
+use Rattle.workers.specs.Logs.{IsServed, IsTimed, IsWorker, log_of}
+
+-- each bus by its number, where the first has the number n
+abbrev pub AreServed : {B J T : Type 0} → List BusLog → (B → BusLog) → ℕ → List (Served B J T) → Type 0
+AreServed logs log n served = Each (λ k s. IsServed (log_of logs k) k s.share (log s.line)) n served
+
+-- each scan worker by its number, where the first has the number n
+abbrev pub AreWorkers : ℕ → List ShareParts → Type 0
+AreWorkers n shares = Each IsWorker n shares
+
+-- nothing is open, and what went over the links since the first logs is what the Shares have receipts for
+pub record IsTeam {B C J T : Type 0} (logs : List BusLog) (first : ClockLog) (bus_log : B → BusLog)
+    (clock_log : C → ClockLog) (team : Team B C J T) : Type 0 where
+  pub buses : AreServed logs bus_log 0 team.buses.items
+  pub workers : AreWorkers 0 team.workers.items
+  pub timed : IsTimed first team.timed.share (clock_log team.timed.clock)
+
+-- as many of each
+pub record HasSameCounts {B C J T : Type 0} (before after : Team B C J T) : Type 0 where
+  pub buses : length after.buses.items ≡ length before.buses.items
+  pub workers : length after.workers.items ≡ length before.workers.items

@@ -1,0 +1,119 @@
+//! A turn of the worker of a bus.
+
+ghost use Rattle.workers.specs.Logs.{IsServed, log_of};
+
+use crate::gate::Gate;
+use crate::links::Links;
+use crate::turn::Turn;
+use buslink::{Bus, perform};
+use plant::{CallError, CallRefusal};
+use plantlock::{Basis, Share, Shared};
+use seats::{Seated, Tallies};
+use std::sync::Wait;
+use transact::{MOST_SENT, Outcome};
+
+/// A bus with its Share.
+#[derive(Drop)]
+pub struct Served<'a, B: Bus, J: Basis, T: Seated> {
+    pub line: B,
+    pub share: Share<'a, J, T>,
+}
+
+/// Where there was nothing to do, or the bus is down, the turn is idle.
+pub(crate) fn idle_where_refused(error: CallError) -> Result<Turn, CallError> {
+    match error {
+        CallError::Refused(CallRefusal::NothingReady | CallRefusal::BusDown) => Ok(Turn::Idle),
+        other => Err(other),
+    }
+}
+
+/// Hands a transaction out under the lock, sends it outside the lock, and reports it under the
+/// lock. Room for its frames is made before. Where the bus interface failed, the bus goes down.
+fn send_once<'a, B: Bus, J: Basis + Links, T: Seated, K: Tallies<T>, G: Gate, R: Wait>(
+    rt: &R,
+    gate: &G,
+    shared: &Shared<'a, J, T, K>,
+    bus: u8,
+    served: &mut Served<'a, B, J, T>,
+) -> Result<Turn, CallError>
+    requires served { IsServed (log_of J.buses bus) bus served.old.share (B.log served.old.line) }
+    ensures served { IsServed (log_of J.buses bus) bus served.new.share (B.log served.new.line) }
+{
+    served.line.room(MOST_SENT)?;
+    let handed = shared.hand(rt, &mut served.share, bus)?;
+    gate.before_transaction(bus);
+    let Ok(report) = perform(&mut served.line, &handed.transaction) else {
+        unreachable!()
+    };
+    let failed = matches!(report.outcome(), Outcome::Failed);
+    let Ok(()) = shared.done(rt, &mut served.share, bus, handed.number, report) else {
+        unreachable!()
+    };
+    if !failed {
+        return Ok(Turn::Worked);
+    }
+    let Ok(()) = shared.down(rt, &mut served.share, bus) else {
+        unreachable!()
+    };
+    Ok(Turn::Down)
+}
+
+/// Keeps a place back under the lock, hears outside the lock, and notes the frame under the lock.
+/// Where the bus interface failed, the bus goes down.
+fn hear_once<'a, B: Bus, J: Basis + Links, T: Seated, K: Tallies<T>, R: Wait>(
+    rt: &R,
+    shared: &Shared<'a, J, T, K>,
+    bus: u8,
+    served: &mut Served<'a, B, J, T>,
+) -> Result<Turn, CallError>
+    requires served { IsServed (log_of J.buses bus) bus served.old.share (B.log served.old.line) }
+    ensures served { IsServed (log_of J.buses bus) bus served.new.share (B.log served.new.line) }
+{
+    served.line.room(1)?;
+    shared.may_hear(rt, &mut served.share, bus)?;
+    match served.line.hear() {
+        Ok(Some(frame)) => {
+            let Ok(()) = shared.heard(rt, &mut served.share, bus, frame) else {
+                unreachable!()
+            };
+            Ok(Turn::Worked)
+        }
+        Ok(None) => Ok(Turn::Idle),
+        Err(_) => {
+            let Ok(()) = shared.down(rt, &mut served.share, bus) else {
+                unreachable!()
+            };
+            Ok(Turn::Down)
+        }
+    }
+}
+
+/// Sends what is to be sent next on a bus, and hears what came. What was sent and heard stays what
+/// the Share has receipts for, and nothing is open afterwards.
+///
+/// # Errors
+///
+/// The allocator is out of memory, or the history is full.
+pub fn bus_turn<'a, B: Bus, J: Basis + Links, T: Seated, K: Tallies<T>, G: Gate, R: Wait>(
+    rt: &R,
+    gate: &G,
+    shared: &Shared<'a, J, T, K>,
+    bus: u8,
+    served: &mut Served<'a, B, J, T>,
+) -> Result<Turn, CallError>
+    requires served { IsServed (log_of J.buses bus) bus served.old.share (B.log served.old.line) }
+    ensures served { IsServed (log_of J.buses bus) bus served.new.share (B.log served.new.line) }
+{
+    let sent = match send_once(rt, gate, shared, bus, served) {
+        Ok(turn) => turn,
+        Err(error) => idle_where_refused(error)?,
+    };
+    if matches!(sent, Turn::Down) {
+        return Ok(Turn::Down);
+    }
+    match hear_once(rt, shared, bus, served) {
+        Ok(Turn::Idle) => Ok(sent),
+        Ok(turn) => Ok(turn),
+        Err(error) => idle_where_refused(error),
+    }
+}

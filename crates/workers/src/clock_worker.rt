@@ -1,0 +1,41 @@
+//! A turn of the worker of the clock.
+
+ghost use Rattle.workers.specs.Logs.{IsTimed};
+
+use crate::links::Links;
+use buslink::Clock;
+use plant::CallError;
+use plantlock::{Basis, Share, Shared};
+use seats::{Seated, Tallies};
+use std::sync::Wait;
+
+/// The clock with its Share.
+#[derive(Drop)]
+pub struct Timed<'a, C: Clock, J: Basis, T: Seated> {
+    pub clock: C,
+    pub share: Share<'a, J, T>,
+}
+
+/// Keeps a place back under the lock, asks the clock outside the lock, and notes the moment under
+/// the lock. Answers whether the clock gave one. What it gave stays what the Share has receipts for.
+///
+/// # Errors
+///
+/// The allocator is out of memory, or the history is full. The clock wasn't asked.
+pub fn tick_once<'a, C: Clock, J: Basis + Links, T: Seated, K: Tallies<T>, R: Wait>(
+    rt: &R,
+    shared: &Shared<'a, J, T, K>,
+    timed: &mut Timed<'a, C, J, T>,
+) -> Result<bool, CallError>
+    requires timed { IsTimed J.clock timed.old.share (C.log timed.old.clock) }
+    ensures timed { IsTimed J.clock timed.new.share (C.log timed.new.clock) }
+{
+    shared.may_tick(rt, &mut timed.share)?;
+    let Some(moment) = timed.clock.now() else {
+        return Ok(false);
+    };
+    let Ok(()) = shared.tick(rt, &mut timed.share, moment) else {
+        unreachable!()
+    };
+    Ok(true)
+}

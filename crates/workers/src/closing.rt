@@ -1,0 +1,65 @@
+//! The end of a run: the lock is opened for good.
+
+ghost use Rattle.std.specs.Prelude.{◌≡◌, ◌≤◌, [], length, vec_len, vec_capacity};
+ghost use Rattle.workers.specs.Closings.{IsClosed};
+ghost use Rattle.workers.specs.Teams.{IsTeam};
+
+use crate::clock_worker::Timed;
+use crate::closed::Closed;
+use crate::ended::Ended;
+use crate::links::Links;
+use crate::pairing::take_apart;
+use crate::team::Team;
+use buslink::{Bus, Clock};
+use plantevents::{what_a_part_shows, what_a_part_shows_of_links};
+use plantlock::{Basis, Final, Share, Shared, Shares};
+use seats::{Seated, Tallies};
+
+/// Empty lists with room for the buses and their Shares.
+#[derive(Drop)]
+pub(crate) struct Bench<'a, B: Bus, J: Basis, T: Seated> {
+    pub lines: Vec<B>,
+    pub shares: Vec<Share<'a, J, T>>,
+}
+
+/// Opens the lock for good. What went over each link is what the plant's history says.
+pub(crate) fn close<'a, B: Bus, C: Clock, J: Basis + Links, T: Seated, K: Tallies<T>>(
+    shared: Shared<'a, J, T, K>,
+    team: Team<'a, B, C, J, T>,
+    bench: Bench<'a, B, J, T>,
+    ended: Ended,
+) -> Closed<B, C>
+    requires none { (bench.lines.items ≡ []) × (bench.shares.items ≡ []) }
+    requires room { (vec_len team.buses ≤ vec_capacity bench.lines)
+        × (vec_len team.buses ≤ vec_capacity bench.shares) }
+    requires workers { length team.workers.items ≡ J.start.plant.workers }
+    requires team { IsTeam J.buses J.clock B.log C.log team }
+    ensures closed { IsClosed J.start.plant J.buses J.clock B.log C.log result }
+    ensures count { length result.buses.items ≡ length team.entry.buses.items }
+    ensures ended { result.ended ≡ ended }
+{
+    what_a_part_shows();
+    what_a_part_shows_of_links();
+    let Team {
+        buses,
+        workers,
+        timed,
+    } = team;
+    let Bench {
+        mut lines,
+        mut shares,
+    } = bench;
+    take_apart(buses, &mut lines, &mut shares);
+    let Timed { clock, share } = timed;
+    let Final { plant, shares: _ } = shared.close(Shares {
+        workers,
+        buses: shares,
+        clock: share,
+    });
+    Closed {
+        plant,
+        buses: lines,
+        clock,
+        ended,
+    }
+}

@@ -1,0 +1,191 @@
+//! A run, from the plant's opening to its close.
+
+ghost use Rattle.std.specs.Prelude.{◌≡◌, ◌≤◌, [], length, map, vec_len, IfOk, IfErr, OnOk};
+ghost use Rattle.plant.specs.declared.open_fault.OpenFault.TheVariants.{Memory};
+ghost use Rattle.plant.specs.Shown.{IsWorkerCount, IsLimit, plant_of};
+ghost use Rattle.workers.specs.Closings.{IsClosed};
+ghost use Rattle.workers.specs.Starts.{AreCounts, IsStartFault};
+ghost use Rattle.workers.specs.Teams.{IsTeam, HasSameCounts};
+
+use crate::beginning::{Begun, begin};
+use crate::closed::{Closed, NotStarted};
+use crate::closing::close;
+use crate::crew::Floor;
+use crate::ended::{End, Ended};
+use crate::gate::Gate;
+use crate::links::Links;
+use crate::settling::settle;
+use crate::team::Team;
+use crate::working::{Crew, work};
+use buslink::{Bus, Clock};
+use ilsetup::Setup;
+use plant::{OpenFault, Plant};
+use plantlock::{Basis, NotedPart, Shared};
+use seats::{Blanks, Names, Seated, Tallies};
+use std::alloc::{AllocError, Global};
+use std::marker::Brand;
+use std::sync::{OnceLock, Wait};
+use std::thread::Threads;
+use std::time::Clock as Timer;
+
+/// What a run is opened with: what a text was loaded to, and the most events of its history, 100 to
+/// 1,000,000.
+#[derive(Drop)]
+pub struct Opening {
+    pub setup: Setup,
+    pub limit: u64,
+}
+
+/// So many cells, none of which was written.
+fn new_cells(alloc: Global, count: u64) -> Result<Vec<OnceLock<NotedPart>>, AllocError>
+    ensures { IfOk result (λ cells. length cells.items ≡ count) }
+{
+    let mut cells = Vec::new(alloc);
+    for _cell in 0..count {
+        cells.push(OnceLock::new())?;
+    }
+    Ok(cells)
+}
+
+/// Why it ended, once what was left is done where the clock came to its end.
+fn conclude<'a, B: Bus, C: Clock, J: Basis + Links, T: Seated, K: Tallies<T>, G: Gate, R: Wait>(
+    rt: &R,
+    alloc: Global,
+    gate: &G,
+    shared: &Shared<'a, J, T, K>,
+    end: &End,
+    team: &mut Team<'a, B, C, J, T>,
+) -> Ended
+    requires some { 1 ≤ vec_len team.old.workers }
+    requires few { vec_len team.old.buses ≤ 64 }
+    requires team { IsTeam J.buses J.clock B.log C.log team.old }
+    ensures team { IsTeam J.buses J.clock B.log C.log team.new }
+    ensures same { HasSameCounts team.old team.new }
+{
+    match end.told() {
+        Some(Ended::Asked) | None => {}
+        Some(other) => return other,
+    }
+    match settle(rt, alloc, gate, shared, team) {
+        Ok(()) => Ended::Asked,
+        Err(error) => Ended::from(error),
+    }
+}
+
+/// A run over cells and ledgers that are new.
+fn run_named<
+    'a,
+    B: Bus + Send,
+    C: Clock + Send,
+    J: Basis + Links + Send + Sync,
+    N: Names + Send + Sync,
+    G: Gate,
+    R: Threads + Wait + Timer + Sync,
+>(
+    rt: &R,
+    alloc: Global,
+    plant: Plant,
+    cells: &'a [OnceLock<NotedPart>],
+    blanks: Blanks,
+    lines: Vec<B>,
+    clock: C,
+    gate: &G,
+) -> Result<Closed<B, C>, NotStarted<B, C>>
+    requires start { (plant ≡ J.start) × (J.start.history ≡ []) }
+    requires cells { (cells.now ≡ J.cells) × (J.start.limit ≤ length J.cells) }
+    requires names { blanks ≡ N.names }
+    requires links { (J.buses ≡ map B.log lines.items) × (J.clock ≡ C.log clock) }
+    requires workers { IsWorkerCount J.start.plant.workers }
+    requires buses { (vec_len lines ≡ J.start.plant.plan.buses) × (vec_len lines ≤ 64) }
+    ensures closed { IfOk result (IsClosed J.start.plant J.buses J.clock B.log C.log) }
+    ensures count { IfOk result (λ c. length c.buses.items ≡ vec_len lines) }
+    ensures err { IfErr result (λ e. (e.fault ≡ Memory) × (e.buses.items ≡ lines.items)
+        × (e.clock ≡ clock)) }
+{
+    let begun = begin::<B, C, J, N>(alloc, plant, cells, blanks, lines, clock)?;
+    let Begun {
+        shared,
+        team,
+        bench,
+        rooms,
+    } = begun;
+    let end = End::new();
+    let crew = Crew {
+        floor: Floor {
+            alloc,
+            gate,
+            shared: &shared,
+            end: &end,
+        },
+        team,
+        rooms,
+    };
+    let mut team = work(rt, crew);
+    let ended = conclude(rt, alloc, gate, &shared, &end, &mut team);
+    Ok(close(shared, team, bench, ended))
+}
+
+/// Runs a plant over its buses and its clock, in a thread for each scan worker and each bus, until
+/// the clock gives no moment more, the history is full, or memory or threads are wanting. Then
+/// nothing is open: the history is legal, and what went over each link since the start is what the
+/// history says. After the clock's end, what is left to be done is done here.
+///
+/// # Errors
+///
+/// There are not 1 to 16 scan workers, or not as many buses as the plan has; else the limit is not
+/// 100 to 1,000,000; else the allocator is out of memory. Nothing was sent, heard or asked.
+pub fn run<B: Bus + Send, C: Clock + Send, G: Gate, R: Threads + Wait + Timer + Sync>(
+    rt: &R,
+    alloc: Global,
+    opening: Opening,
+    buses: Vec<B>,
+    clock: C,
+    workers: usize,
+    gate: &G,
+) -> Result<Closed<B, C>, NotStarted<B, C>>
+    ensures closed { IfOk result (IsClosed (plant_of opening.setup workers) (map B.log buses.items)
+        (C.log clock) B.log C.log) }
+    ensures count { IfOk result (λ c. length c.buses.items ≡ vec_len buses) }
+    ensures counts { OnOk result (AreCounts opening.setup workers (vec_len buses)) }
+    ensures limit { OnOk result (IsLimit opening.limit) }
+    ensures fault { IfErr result
+        (λ e. IsStartFault opening.setup workers (vec_len buses) opening.limit e.fault) }
+    ensures err { IfErr result (λ e. (e.buses.items ≡ buses.items) × (e.clock ≡ clock)) }
+{
+    let Opening { setup, limit } = opening;
+    let _within = setup.plan().buses();
+    if buses.len() != usize::from(setup.plan().buses()) {
+        return Err(NotStarted {
+            fault: OpenFault::BadCount,
+            buses,
+            clock,
+        });
+    }
+    let plant = match Plant::open(alloc, setup, workers, limit) {
+        Ok(plant) => plant,
+        Err(fault) => {
+            return Err(NotStarted {
+                fault,
+                buses,
+                clock,
+            });
+        }
+    };
+    let Ok(cells) = new_cells(alloc, limit) else {
+        return Err(NotStarted {
+            fault: OpenFault::Memory,
+            buses,
+            clock,
+        });
+    };
+    run_named::<B, C, Brand, Brand, G, R>(
+        rt,
+        alloc,
+        plant,
+        cells.as_slice(),
+        Blanks::new(),
+        buses,
+        clock,
+        gate,
+    )
+}

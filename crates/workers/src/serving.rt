@@ -1,0 +1,113 @@
+//! The loops of the workers, until the end is told.
+
+ghost use Rattle.workers.specs.Logs.{IsServed, IsTimed, IsWorker, log_of};
+
+use crate::bus_worker::{Served, bus_turn};
+use crate::clock_worker::{Timed, tick_once};
+use crate::ended::{End, Ended};
+use crate::gate::Gate;
+use crate::links::Links;
+use crate::scan_worker::scan_turn;
+use crate::turn::Turn;
+use buslink::{Bus, Clock};
+use plantlock::{Basis, Share, Shared};
+use seats::{Seated, Tallies};
+use std::alloc::Global;
+use std::sync::Wait;
+use std::thread;
+use std::time::{Clock as Timer, Duration};
+
+/// How long an idle worker sleeps, in microseconds.
+const PAUSE: u64 = 50;
+
+/// Lets others work for a while.
+pub(crate) fn pause<R: Timer>(rt: &R) {
+    thread::sleep(rt, Duration::from_micros(PAUSE));
+}
+
+/// Serves a bus until the end is told, or the bus goes down.
+pub fn serve_bus<'a, B: Bus, J: Basis + Links, T: Seated, K: Tallies<T>, G: Gate, R: Wait + Timer>(
+    rt: &R,
+    gate: &G,
+    shared: &Shared<'a, J, T, K>,
+    end: &End,
+    bus: u8,
+    served: &mut Served<'a, B, J, T>,
+)
+    requires served { IsServed (log_of J.buses bus) bus served.old.share (B.log served.old.line) }
+    ensures served { IsServed (log_of J.buses bus) bus served.new.share (B.log served.new.line) }
+{
+    for _ in rt.forever() {
+        if end.is_told() {
+            return;
+        }
+        match bus_turn(rt, gate, shared, bus, served) {
+            Ok(Turn::Worked) => {}
+            Ok(Turn::Idle) => pause(rt),
+            Ok(Turn::Down) => return,
+            Err(error) => {
+                end.tell(rt, Ended::from(error));
+                return;
+            }
+        }
+    }
+    unreachable!()
+}
+
+/// Scans what is ready until the end is told.
+pub fn serve_tasks<'a, J: Basis, T: Seated, K: Tallies<T>, G: Gate, R: Wait + Timer>(
+    rt: &R,
+    alloc: Global,
+    gate: &G,
+    shared: &Shared<'a, J, T, K>,
+    end: &End,
+    worker: usize,
+    share: &mut Share<'a, J, T>,
+)
+    requires worker { IsWorker worker share.old }
+    ensures worker { IsWorker worker share.new }
+{
+    for _ in rt.forever() {
+        if end.is_told() {
+            return;
+        }
+        match scan_turn(rt, alloc, gate, shared, worker, share) {
+            Ok(Turn::Worked) => {}
+            Ok(_) => pause(rt),
+            Err(error) => {
+                end.tell(rt, Ended::from(error));
+                return;
+            }
+        }
+    }
+    unreachable!()
+}
+
+/// Asks the clock until it gives no moment more, and tells the end.
+pub fn serve_clock<'a, C: Clock, J: Basis + Links, T: Seated, K: Tallies<T>, R: Wait + Timer>(
+    rt: &R,
+    shared: &Shared<'a, J, T, K>,
+    end: &End,
+    timed: &mut Timed<'a, C, J, T>,
+)
+    requires timed { IsTimed J.clock timed.old.share (C.log timed.old.clock) }
+    ensures timed { IsTimed J.clock timed.new.share (C.log timed.new.clock) }
+{
+    for _ in rt.forever() {
+        if end.is_told() {
+            return;
+        }
+        match tick_once(rt, shared, timed) {
+            Ok(true) => pause(rt),
+            Ok(false) => {
+                end.tell(rt, Ended::Asked);
+                return;
+            }
+            Err(error) => {
+                end.tell(rt, Ended::from(error));
+                return;
+            }
+        }
+    }
+    unreachable!()
+}

@@ -1,0 +1,18 @@
+//! The links with their Shares.
+
+use crate::bus_worker::Served;
+use crate::clock_worker::Timed;
+use buslink::{Bus, Clock};
+use plantlock::{Basis, Share};
+use seats::Seated;
+
+/// The buses and the clock with their Shares, and the Shares of the scan workers.
+#[derive(Drop)]
+pub struct Team<'a, B: Bus, C: Clock, J: Basis, T: Seated> {
+    /// The buses, by their numbers.
+    pub buses: Vec<Served<'a, B, J, T>>,
+    /// The scan workers, by their numbers.
+    pub workers: Vec<Share<'a, J, T>>,
+    /// The clock.
+    pub timed: Timed<'a, C, J, T>,
+}
