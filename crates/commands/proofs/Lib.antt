@@ -7,5 +7,6 @@ mod OneStep
 mod Parsed
 mod PlaysOut
 mod ReportedLines
+mod RunsOut
 mod ScenarioFaults
 mod TaskNames

@@ -1,5 +1,6 @@
--- The command line (profile): `check FILE [--bind FILE]`, `step FILE TASK [--bind FILE] [--scans N] [--every MS]` and
--- `play TEXT BIND SCENARIO [--limit N]`, with the reading of words that `clap` has.
+-- The command line (profile): `check FILE [--bind FILE]`, `step FILE TASK [--bind FILE] [--scans N] [--every MS]`,
+-- `play TEXT BIND SCENARIO [--limit N]` and `run TEXT BIND SCENARIO [--limit N] [--workers W]`, with the reading of words
+-- that `clap` has.
 use Rattle.std.specs.Prelude.{◌≡◌, ℕ, ◌^◌, ◌<◌, List, [], Option, Some, None, true, pos, codes, option_map, unwrap_or}
 use Rattle.std.specs.Borrow.{Bor}
 use Rattle.std.specs.Str.Parse.{IsNumeral, digits_value, without_leading_plus}
@@ -12,8 +13,9 @@ use Rattle.commands.specs.declared.options.Files.{Files}
 use Rattle.commands.specs.declared.options.Inquiry.{Inquiry}
 use Rattle.commands.specs.declared.options.Inquiry.TheVariants.{Check, Step}
 use Rattle.commands.specs.declared.options.Invocation.{Invocation}
-use Rattle.commands.specs.declared.options.Invocation.TheVariants.{Ask, Play}
+use Rattle.commands.specs.declared.options.Invocation.TheVariants.{Ask, Play, Run}
 use Rattle.commands.specs.declared.options.PlayFiles.{PlayFiles}
+use Rattle.commands.specs.declared.options.RunSize.{RunSize}
 
 -- ---- the words that are taken
 
@@ -42,13 +44,19 @@ step_command =
     with_rule (with_rule step_files (number_option (codes "scans") 1 1000000))
     (number_option (codes "every") 0 4294967295)
 
-abbrev pub play_files : App
-play_files =
-    with_rule (with_rule (with_rule (new_app (codes "play")) (wanted (codes "TEXT"))) (wanted (codes "BIND")))
+-- a command of this name on the files of a scenario
+abbrev pub scenario_files : Text → App
+scenario_files name =
+    with_rule (with_rule (with_rule (new_app name) (wanted (codes "TEXT"))) (wanted (codes "BIND")))
     (wanted (codes "SCENARIO"))
 
 abbrev pub play_command : App
-play_command = with_rule play_files (number_option (codes "limit") 100 1000000)
+play_command = with_rule (scenario_files (codes "play")) (number_option (codes "limit") 100 1000000)
+
+abbrev pub run_command : App
+run_command =
+    with_rule (with_rule (scenario_files (codes "run")) (number_option (codes "limit") 100 1000000))
+    (number_option (codes "workers") 1 16)
 
 abbrev pub program : App
 program = on_top (λ top. record top { subcommand_required = true }) (new_app (codes "dalictl"))
@@ -56,8 +64,11 @@ program = on_top (λ top. record top { subcommand_required = true }) (new_app (c
 abbrev pub inquiry_line : App
 inquiry_line = with_subcommand (with_subcommand program check_command.top) step_command.top
 
+abbrev pub played_line : App
+played_line = with_subcommand inquiry_line play_command.top
+
 abbrev pub command_line : App
-command_line = with_subcommand inquiry_line play_command.top
+command_line = with_subcommand played_line run_command.top
 
 -- ---- what they say
 
@@ -91,18 +102,25 @@ IsOfInquiry name found (Check files) = (name ≡ codes "check") × AreFiles foun
 IsOfInquiry name found (Step files task scans every) =
     ¬ (name ≡ codes "check") × AreFiles found files × AreScans found task scans every
 
--- the files that are named for a played scenario
+-- the files that are named for a scenario that is played or run
 pub record ArePlayFiles (found : List Row) (files : PlayFiles) : Type 0 where
   pub text : files.text.now ≡ given (first_of (codes "TEXT") found)
   pub binding : files.binding.now ≡ given (first_of (codes "BIND") found)
   pub scenario : files.scenario.now ≡ given (first_of (codes "SCENARIO") found)
+
+-- how large a run may become: 100,000 events at most, and two scan workers, where nothing else is said
+pub record IsRunSize (found : List Row) (size : RunSize) : Type 0 where
+  pub limit : IsNumber 100000 (one_of (codes "limit") found) size.limit
+  pub workers : IsNumber 2 (one_of (codes "workers") found) size.workers
 
 -- what was found under a command's name is the invocation; a played history has 100,000 events at most where nothing
 -- else is said
 abbrev pub IsOfCommand : Text → List Row → Invocation → Type 0
 IsOfCommand name found (Play files limit) =
     (name ≡ codes "play") × ArePlayFiles found files × IsNumber 100000 (one_of (codes "limit") found) limit
-IsOfCommand name found (Ask inquiry) = ¬ (name ≡ codes "play") × IsOfInquiry name found inquiry
+IsOfCommand name found (Run files size) = (name ≡ codes "run") × ArePlayFiles found files × IsRunSize found size
+IsOfCommand name found (Ask inquiry) =
+    ¬ (name ≡ codes "play") × ¬ (name ≡ codes "run") × IsOfInquiry name found inquiry
 
 -- the words spell the invocation
 abbrev pub IsInvocation : List Text → Invocation → Type 0

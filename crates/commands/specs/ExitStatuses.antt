@@ -1,10 +1,12 @@
 -- How the program ends, and the exit status of each end (profile).
-use Rattle.std.specs.Prelude.{ℕ}
+use Rattle.std.specs.Prelude.{ℕ, Bool, false}
 use Rattle.clap.specs.declared.error.ErrorKind.{ErrorKind}
 use Rattle.clap.specs.declared.error.ErrorKind.TheVariants as kinds
 use Rattle.wordlines.specs.declared.fault.LineFault.TheVariants as scenario_faults
 use Rattle.plantplay.specs.declared.playing.Ending.{Ending}
 use Rattle.plantplay.specs.declared.playing.Ending.TheVariants as endings
+use Rattle.workers.specs.declared.ended.Ended.{Ended}
+use Rattle.workers.specs.declared.ended.Ended.TheVariants.{Asked}
 use Rattle.commands.specs.declared.exit_status.ExitStatus.{ExitStatus}
 use Rattle.commands.specs.declared.exit_status.ExitStatus.TheVariants.{Accepted, Refused, Misused, Failed}
 use Rattle.commands.specs.declared.play_stop.PlayStop.{PlayStop}
@@ -32,13 +34,18 @@ status_of_ending endings.Up = Accepted
 status_of_ending endings.Down = Failed
 status_of_ending endings.NoMemory = Failed
 
+-- of a run: it came to the scenario's end, and no bus went down; or anything else
+abbrev pub status_of_run : Ended → Bool → ExitStatus
+status_of_run Asked false = Accepted
+status_of_run ended is_down = Failed
+
 -- of what stands against a text: out of memory, or something is at fault
 abbrev pub status_of_stop : Stop → ExitStatus
 status_of_stop stops.Memory = Failed
 status_of_stop _ = Refused
 
--- of what stands against playing a scenario: what stands against the text, as above; the scenario is out of memory, or
--- a line of it is at fault; the installation does not start
+-- of what stands against playing or running a scenario: what stands against the text, as above; the scenario is out of
+-- memory, or a line of it is at fault; the plant does not start
 abbrev pub status_of_play_stop : PlayStop → ExitStatus
 status_of_play_stop (play_stops.Text stop) = status_of_stop stop
 status_of_play_stop (play_stops.Scenario scenario_faults.Memory) = Failed

@@ -7,6 +7,7 @@ pub mod Plays
 pub mod Printed
 pub mod Reports
 pub mod Responses
+pub mod Runs
 pub mod Served
 pub mod Stepping
 pub mod Stops

@@ -1,5 +1,5 @@
 -- What a scenario is played from, or what stands against that: the fault of the binding, else of the text, else of the
--- scenario, else why the installation does not start (profile).
+-- scenario, else why the plant does not start (profile).
 use Rattle.std.specs.Prelude.{◌≡◌, ℕ, ◌⊎◌, List, Some, Err, ⊤}
 use Rattle.binding.specs.Wirings.{Wiring}
 use Rattle.ilsetup.specs.Loaded.{Loaded}
@@ -60,11 +60,12 @@ HasSetup bytes = (setup : Loaded) × IsSetupOf bytes setup
 abbrev pub HasScenario : PlayBytes → Type 0
 HasScenario bytes = (statements : List Statement) × IsScenario bytes.scenario statements
 
--- the fault of the binding or the text, else of the scenario, else why the installation does not start
-abbrev pub IsPlayStop : PlayBytes → ℕ → PlayStop → Type 0
-IsPlayStop bytes limit (Text stop) = IsTextStop bytes stop
-IsPlayStop bytes limit (Scenario fault) = HasSetup bytes × IsJudged bytes.scenario (Err fault)
-IsPlayStop bytes limit (Start fault) = HasSetup bytes × HasScenario bytes × IsStartFault limit fault
+-- the fault of the binding or the text, else of the scenario, else why the plant does not start with so many scan workers
+-- and this limit
+abbrev pub IsPlayStop : PlayBytes → ℕ → ℕ → PlayStop → Type 0
+IsPlayStop bytes workers limit (Text stop) = IsTextStop bytes stop
+IsPlayStop bytes workers limit (Scenario fault) = HasSetup bytes × IsJudged bytes.scenario (Err fault)
+IsPlayStop bytes workers limit (Start fault) = HasSetup bytes × HasScenario bytes × IsStartFault workers limit fault
 
 -- ---- what a play leaves
 
@@ -87,16 +88,20 @@ pub record IsPlayedOut (bytes : PlayBytes) (limit : ℕ) (ending : Ending) : Typ
 -- by what stands against it, or by how the play ended
 abbrev pub IsPlayEnd : PlayBytes → ℕ → ExitStatus → Type 0
 IsPlayEnd bytes limit status =
-    ((stop : PlayStop) × IsPlayStop bytes limit stop × (status ≡ status_of_play_stop stop))
+    ((stop : PlayStop) × IsPlayStop bytes 1 limit stop × (status ≡ status_of_play_stop stop))
     ⊎ ((ending : Ending) × IsPlayedOut bytes limit ending × (status ≡ status_of_ending ending))
+
+-- the disk gave these bytes for the three files
+pub record AreGiven (gives : List ℕ → List ℕ → Type 0) (files : PlayFiles) (bytes : PlayBytes) : Type 0 where
+  pub binding : gives files.binding.now bytes.binding
+  pub text : gives files.text.now bytes.text
+  pub scenario : gives files.scenario.now bytes.scenario
 
 -- the program ends so by what the disk gave for the three files; of what is printed nothing is said
 pub record IsPlayed (gives : List ℕ → List ℕ → Type 0) (files : PlayFiles) (limit : ℕ) (status : ExitStatus) : Type 0
   where
     pub bytes : PlayBytes
-    pub binding_given : gives files.binding.now bytes.binding
-    pub text_given : gives files.text.now bytes.text
-    pub scenario_given : gives files.scenario.now bytes.scenario
+    pub given : AreGiven gives files bytes
     pub end : IsPlayEnd bytes limit status
 
 -- ---- files that are not read

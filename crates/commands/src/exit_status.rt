@@ -3,6 +3,7 @@
 use crate::stop::Stop;
 use clap::error::ErrorKind;
 use plantplay::Ending;
+use workers::Ended;
 
 /// How a call of the program ends.
 #[derive(Clone, Copy, PartialEq, Eq, Debug)]
@@ -20,7 +21,7 @@ pub enum ExitStatus {
 impl ExitStatus {
     ghost use Rattle.std.specs.Prelude.{◌≡◌};
     ghost use Rattle.commands.specs.ExitStatuses.{number_of_status, status_of_ending};
-    ghost use Rattle.commands.specs.ExitStatuses.{status_of_stop, status_of_words};
+    ghost use Rattle.commands.specs.ExitStatuses.{status_of_run, status_of_stop, status_of_words};
 
     /// The number that the program exits with.
     pub fn number(self) -> u8
@@ -52,6 +53,16 @@ impl ExitStatus {
         match ending {
             Ending::Up => ExitStatus::Accepted,
             Ending::Down | Ending::NoMemory => ExitStatus::Failed,
+        }
+    }
+
+    /// Of why a run ended, and whether a bus went down.
+    pub fn of_run(ended: Ended, is_down: bool) -> ExitStatus
+        ensures { result ≡ status_of_run ended is_down }
+    {
+        match (ended, is_down) {
+            (Ended::Asked, false) => ExitStatus::Accepted,
+            _ => ExitStatus::Failed,
         }
     }
 

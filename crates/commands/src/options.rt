@@ -5,10 +5,11 @@ ghost use Rattle.clap.specs.Words.{FailsBy, app_of, fault_of, first_of, found_of
 ghost use Rattle.clap.specs.Words.{rule_of, shape_of};
 ghost use Rattle.clap.specs.declared.builder.command.Command.TheViews.{out-Command};
 ghost use Rattle.commands.specs.CommandLine.{AreFiles, ArePlayFiles, IsNumber, IsInvocation};
-ghost use Rattle.commands.specs.CommandLine.{IsOfCommand, IsOfInquiry};
+ghost use Rattle.commands.specs.CommandLine.{IsOfCommand, IsOfInquiry, IsRunSize};
 ghost use Rattle.commands.specs.CommandLine.{check_command, command_line, given, inquiry_line};
-ghost use Rattle.commands.specs.CommandLine.{number_option, option, play_command, play_files};
-ghost use Rattle.commands.specs.CommandLine.{step_command, step_files, wanted};
+ghost use Rattle.commands.specs.CommandLine.{number_option, option, play_command, played_line};
+ghost use Rattle.commands.specs.CommandLine.{run_command, scenario_files, step_command, step_files};
+ghost use Rattle.commands.specs.CommandLine.{wanted};
 
 use clap::{Arg, ArgAction, ArgMatches, Command, Error};
 use std::alloc::{AllocError, Global};
@@ -20,6 +21,17 @@ pub enum Invocation<'a> {
     Ask(Inquiry<'a>),
     /// `play TEXT BIND SCENARIO [--limit N]`
     Play { files: PlayFiles<'a>, limit: u32 },
+    /// `run TEXT BIND SCENARIO [--limit N] [--workers W]`
+    Run { files: PlayFiles<'a>, size: RunSize },
+}
+
+/// How large a run may become.
+#[derive(Clone, Copy, PartialEq, Eq)]
+pub struct RunSize {
+    /// The most events of its history.
+    pub limit: u32,
+    /// How many scan workers it has.
+    pub workers: u32,
 }
 
 /// What the user asks of a text.
@@ -61,7 +73,7 @@ pub struct Files<'a> {
     pub binding: Option<&'a str>,
 }
 
-/// The files that a played scenario reads.
+/// The files that a scenario is played or run from.
 #[derive(Clone, Copy, PartialEq, Eq)]
 pub struct PlayFiles<'a> {
     /// The path of the text.
@@ -102,6 +114,12 @@ fn invocation_of<'a>(name: &str, found: &ArgMatches<'a>) -> Invocation<'a>
             limit: number_in(found, "limit", 100_000),
         };
     }
+    if name == "run" {
+        return Invocation::Run {
+            files: play_files_in(found),
+            size: run_size_in(found),
+        };
+    }
     Invocation::Ask(inquiry_of(name, found))
 }
 
@@ -131,7 +149,7 @@ fn files_in<'a>(found: &ArgMatches<'a>) -> Files<'a>
     }
 }
 
-/// The files that are named for a played scenario.
+/// The files that are named for a scenario that is played or run.
 fn play_files_in<'a>(found: &ArgMatches<'a>) -> PlayFiles<'a>
     ensures { ArePlayFiles (rows_of (found_of found.now)) result }
 {
@@ -139,6 +157,16 @@ fn play_files_in<'a>(found: &ArgMatches<'a>) -> PlayFiles<'a>
         text: text_in(found, "TEXT"),
         binding: text_in(found, "BIND"),
         scenario: text_in(found, "SCENARIO"),
+    }
+}
+
+/// How large a run may become: the numbers that were given, or without one its default.
+fn run_size_in(found: &ArgMatches) -> RunSize
+    ensures { IsRunSize (rows_of (found_of found.now)) result }
+{
+    RunSize {
+        limit: number_in(found, "limit", 100_000),
+        workers: number_in(found, "workers", 2),
     }
 }
 
@@ -164,6 +192,13 @@ fn number_in(found: &ArgMatches, id: &str, default: u32) -> u32
 
 fn command<'a>(alloc: Global) -> Result<Command<'a>, AllocError>
     ensures { IfOk result (λ c. app_of c ≡ command_line) }
+{
+    playing(alloc)?.subcommand(run(alloc)?)
+}
+
+fn playing<'a>(alloc: Global) -> Result<Command<'a>, AllocError>
+    ensures shape { IfOk result (λ c. app_of c ≡ played_line) }
+    ensures local { IfOk result (λ c. (out-Command c).has_globals ≡ false) }
 {
     inquiries(alloc)?.subcommand(play(alloc)?)
 }
@@ -211,15 +246,30 @@ fn play<'a>(alloc: Global) -> Result<Command<'a>, AllocError>
     ensures shape { IfOk result (λ c. app_of c ≡ play_command) }
     ensures local { IfOk result (λ c. (out-Command c).has_globals ≡ false) }
 {
-    play_files(alloc)?.arg(limit(alloc))
+    let about = "Plays a scenario on simulated buses and prints what happens";
+    scenario_files(alloc, "play", about)?.arg(limit(alloc))
 }
 
-fn play_files<'a>(alloc: Global) -> Result<Command<'a>, AllocError>
-    ensures shape { IfOk result (λ c. app_of c ≡ play_files) }
+fn run<'a>(alloc: Global) -> Result<Command<'a>, AllocError>
+    ensures shape { IfOk result (λ c. app_of c ≡ run_command) }
     ensures local { IfOk result (λ c. (out-Command c).has_globals ≡ false) }
 {
-    Command::new(alloc, "play")
-        .about("Plays a scenario on simulated buses and prints what happens")
+    let about = "Runs a scenario on simulated buses in threads and prints what it came to";
+    scenario_files(alloc, "run", about)?
+        .arg(limit(alloc))?
+        .arg(workers(alloc))
+}
+
+fn scenario_files<'a>(
+    alloc: Global,
+    name: &'a str,
+    about: &'a str,
+) -> Result<Command<'a>, AllocError>
+    ensures shape { IfOk result (λ c. app_of c ≡ scenario_files name.now) }
+    ensures local { IfOk result (λ c. (out-Command c).has_globals ≡ false) }
+{
+    Command::new(alloc, name)
+        .about(about)
         .arg(played_text(alloc))?
         .arg(played_binding(alloc))?
         .arg(played_scenario(alloc))
@@ -296,6 +346,18 @@ fn limit<'a>(alloc: Global) -> Arg<'a>
         .action(ArgAction::Set)
         .value_parser(clap::value_parser!(u32).range(100..=1_000_000))
         .help("The most events of the history, 100 to 1000000 [default: 100000]")
+}
+
+fn workers<'a>(alloc: Global) -> Arg<'a>
+    ensures rule { rule_of result ≡ number_option (codes "workers") 1 16 }
+    ensures local { result.global ≡ false }
+{
+    Arg::new(alloc, "workers")
+        .long("workers")
+        .value_name("W")
+        .action(ArgAction::Set)
+        .value_parser(clap::value_parser!(u32).range(1..=16))
+        .help("How many scan workers, 1 to 16 [default: 2]")
 }
 
 fn scans<'a>(alloc: Global) -> Arg<'a>

@@ -1,4 +1,4 @@
-//! Why a scenario isn't played.
+//! Why a scenario isn't played or run.
 
 use crate::exit_status::ExitStatus;
 use crate::stop::Stop;
@@ -6,14 +6,15 @@ use plantplay::StartFault;
 use simbus::ScenarioFault;
 use std::fmt;
 
-/// The first of what stands against playing a scenario, in the order in which it is reported.
+/// The first of what stands against playing or running a scenario, in the order in which it is
+/// reported.
 #[derive(Drop)]
 pub enum PlayStop {
     /// Of the binding or the text.
     Text(Stop),
     /// Of the scenario.
     Scenario(ScenarioFault),
-    /// The installation can't start.
+    /// The plant can't start.
     Start(StartFault),
 }
 

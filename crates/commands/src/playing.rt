@@ -1,45 +1,20 @@
 //! Playing a scenario: its files are read, and what happens is printed.
 
 ghost use Rattle.std.specs.Prelude.{IfErr, IfOk};
-ghost use Rattle.scenario.specs.Scenarios.{IsJudged};
-ghost use Rattle.commands.specs.Plays.{IsPlayEnd, IsPlayStop, IsPlayed, IsSetupOf, IsStarted};
-ghost use Rattle.commands.specs.Plays.{IsTextStop, IsUnplayed};
+ghost use Rattle.commands.specs.Plays.{IsPlayEnd, IsPlayStop, IsPlayed, IsStarted, IsUnplayed};
 
-use crate::answers::{binding_of, check};
 use crate::exit_status::ExitStatus;
 use crate::options::PlayFiles;
+use crate::pages::{Pages, read_pages, scenario_of, setup_in};
 use crate::play_stop::PlayStop;
 use crate::reading::Disk;
-use crate::serving::{Unserved, bytes_at};
-use crate::stop::Stop;
-use ilsetup::Setup;
+use crate::serving::Unserved;
 use plantdrive::scans_are_as_meant;
 use plantplay::{Installation, open, play};
-use simbus::{Scenario, ScenarioFault, SimBus, parse};
+use simbus::{Scenario, SimBus};
 use std::alloc::Global;
 use std::io;
 use std::io::{BufWriter, Write};
-use std::marker::Model;
-
-/// What the files of a played scenario hold.
-#[derive(Drop)]
-struct Pages {
-    binding: Vec<u8>,
-    text: Vec<u8>,
-    scenario: Vec<u8>,
-}
-
-impl Model for Pages {
-    ghost use Rattle.commands.specs.Plays.{PlayBytes};
-
-    ghost Value = { PlayBytes };
-
-    ghost view = { λ pages. record {
-      binding = pages.binding.items;
-      text = pages.text.items;
-      scenario = pages.scenario.items;
-    } };
-}
 
 /// Reads the files that are named, the binding before the text and that before the scenario, plays
 /// the scenario and prints what happens; the writer, which then has every line, and how the program
@@ -59,11 +34,7 @@ pub fn serve_play<'a, D: Disk, W: Write + Drop>(
     ensures unplayed { IfErr result
         (IsUnplayed (D.gives disk.now) (D.fails disk.now) files.entry) }
 {
-    let pages = Pages {
-        binding: bytes_at(alloc, disk, files.binding)?,
-        text: bytes_at(alloc, disk, files.text)?,
-        scenario: bytes_at(alloc, disk, files.scenario)?,
-    };
+    let pages = read_pages(alloc, disk, files)?;
     Ok(print(alloc, to, &pages, limit)?)
 }
 
@@ -110,35 +81,10 @@ fn start(
     limit: u32,
 ) -> Result<(Installation<SimBus>, Scenario), PlayStop>
     ensures started { IfOk result (λ made. IsStarted pages.now limit made.0 made.1) }
-    ensures stop { IfErr result (IsPlayStop pages.now limit) }
+    ensures stop { IfErr result (IsPlayStop pages.now 1 limit) }
 {
     let setup = setup_in(alloc, pages)?;
     let scenario = scenario_of(alloc, &pages.scenario)?;
     let installation = open(alloc, setup, &scenario, u64::from(limit))?;
     Ok((installation, scenario))
-}
-
-/// The setup of the text under the binding.
-///
-/// # Errors
-///
-/// The binding's fault, else what stands against the text.
-fn setup_in(alloc: Global, pages: &Pages) -> Result<Setup, Stop>
-    ensures setup { IfOk result (IsSetupOf pages.now) }
-    ensures stop { IfErr result (IsTextStop pages.now) }
-{
-    let binding = binding_of(alloc, Some(&pages.binding))?;
-    check(alloc, &binding, &pages.text)
-}
-
-/// The scenario that bytes spell.
-///
-/// # Errors
-///
-/// The first bad line, that there are too many bytes, or, where a statement is to be kept, that the
-/// allocator is out of memory.
-fn scenario_of(alloc: Global, bytes: &[u8]) -> Result<Scenario, ScenarioFault>
-    ensures { IsJudged bytes.now result }
-{
-    parse(alloc, bytes)
 }

@@ -1,18 +1,26 @@
-//! The program over a runtime: its words, its files and its terminal.
+//! The program over a runtime: its words, its files, its terminal and its threads.
 
 use crate::exit_status::ExitStatus;
 use crate::options;
 use crate::options::Invocation;
 use crate::playing::serve_play;
 use crate::reading::{HostDisk, Unread};
+use crate::running::serve_run;
 use crate::serving::{Unserved, serve};
 use std::rt::{Env, Files};
+use std::sync::Wait;
+use std::thread::Threads;
+use std::time::Clock as Timer;
 use std::{env, io};
 
-/// Reads the command line and does what it asks for.
-pub fn run<R: Files + Env + Print + Eprint + AllocGlobal>(rt: &R) -> ExitStatus {
+/// Reads the command line and does what it asks for. `threads` is the runtime whose threads the
+/// command `run` takes, and whose locks and clock; no other command asks for them.
+pub fn run<R: Files + Env + Print + Eprint + AllocGlobal, T: Threads + Wait + Timer + Sync>(
+    rt: &R,
+    threads: &T,
+) -> ExitStatus {
     match words(rt) {
-        Ok(words) => run_words(rt, words.as_slice()),
+        Ok(words) => run_words(rt, threads, words.as_slice()),
         Err(error) => match error.kind() {
             io::ErrorKind::OutOfMemory => no_memory(rt),
             io::ErrorKind::InvalidData => not_text(rt),
@@ -35,9 +43,13 @@ fn words<R: Env + AllocGlobal>(rt: &R) -> io::Result<Vec<String>> {
 }
 
 /// Does what these words ask for.
-fn run_words<R: Files + Print + Eprint + AllocGlobal>(rt: &R, words: &[String]) -> ExitStatus {
+fn run_words<R: Files + Print + Eprint + AllocGlobal, T: Threads + Wait + Timer + Sync>(
+    rt: &R,
+    threads: &T,
+    words: &[String],
+) -> ExitStatus {
     match options::read(rt.alloc(), words) {
-        Ok(invocation) => run_invocation(rt, invocation),
+        Ok(invocation) => run_invocation(rt, threads, invocation),
         Err(error) => match ExitStatus::of_words(error.kind()) {
             ExitStatus::Failed => no_memory(rt),
             status => printed(rt, error.print(rt), status),
@@ -46,8 +58,9 @@ fn run_words<R: Files + Print + Eprint + AllocGlobal>(rt: &R, words: &[String]) 
 }
 
 /// Serves an invocation from the machine's files.
-fn run_invocation<R: Files + Print + Eprint + AllocGlobal>(
+fn run_invocation<R: Files + Print + Eprint + AllocGlobal, T: Threads + Wait + Timer + Sync>(
     rt: &R,
+    threads: &T,
     invocation: Invocation,
 ) -> ExitStatus {
     let alloc = rt.alloc();
@@ -56,6 +69,7 @@ fn run_invocation<R: Files + Print + Eprint + AllocGlobal>(
     let served = match invocation {
         Invocation::Ask(inquiry) => serve(alloc, &disk, out, inquiry),
         Invocation::Play { files, limit } => serve_play(alloc, &disk, out, files, limit),
+        Invocation::Run { files, size } => serve_run(threads, alloc, &disk, out, files, size),
     };
     match served {
         Ok((_, status)) => status,

@@ -26,15 +26,14 @@ equipment_of scenario bus =
 abbrev pub sim_log : Simulated → BusLog
 sim_log bus = bus.log
 
--- the bus of a scenario with this number, on which nothing happened, and which is not down
+-- the bus of a scenario with this number, on which nothing happened
+abbrev pub bus_of : List Statement → ℕ → Simulated
+bus_of scenario bus =
+    new_bus (equipment_of scenario bus) (filter_map (reply_on bus) scenario) (filter_map (arrival_on bus) scenario)
+
+-- that bus, which is not down
 abbrev pub connection_of : List Statement → ℕ → Connection Simulated
-connection_of scenario bus =
-    record {
-      bus = bus;
-      interface = new_bus (equipment_of scenario bus) (filter_map (reply_on bus) scenario)
-          (filter_map (arrival_on bus) scenario);
-      is_down = false;
-    }
+connection_of scenario bus = record { bus = bus; interface = bus_of scenario bus; is_down = false }
 
 -- the first buses of a scenario, so many, in the order of their numbers
 abbrev pub connections_of : List Statement → ℕ → List (Connection Simulated)
@@ -49,7 +48,8 @@ pub record IsInstallation (setup : Loaded) (scenario : List Statement) (limit : 
   pub plant : installation.plant ≡ opened setup 1 limit
   pub buses : installation.connections.items ≡ connections_of scenario setup.plan.buses
 
--- why there is none: out of memory for the buses, which may be at any time, or the plant is not opened
-abbrev pub IsStartFault : ℕ → StartFault → Type 0
-IsStartFault limit Memory = ⊤
-IsStartFault limit (Plant fault) = IsOpenFault 1 limit fault
+-- why a plant with so many scan workers and this limit does not start on simulated buses: out of memory for the buses,
+-- which may be at any time, or the plant is not opened
+abbrev pub IsStartFault : ℕ → ℕ → StartFault → Type 0
+IsStartFault workers limit Memory = ⊤
+IsStartFault workers limit (Plant fault) = IsOpenFault workers limit fault

@@ -25,8 +25,12 @@ pub(crate) fn write_end<W: Write>(out: &mut W, plant: &Plant) -> io::Result<()> 
     write_lost(out, plant)
 }
 
-/// A line for each global variable, with its value.
-fn write_globals<W: Write>(out: &mut W, plant: &Plant) -> io::Result<()> {
+/// Writes a line for each global variable, with its value.
+///
+/// # Errors
+///
+/// The writer's.
+pub fn write_globals<W: Write>(out: &mut W, plant: &Plant) -> io::Result<()> {
     let plan = plant.setup().plan();
     for global in 0..plan.globals() {
         let name = plan.global_name(global);

@@ -5,8 +5,9 @@
 //!
 //! What crosses the boundary: [`Installation`], a plant with a bus interface for each of its buses;
 //! [`open`] makes one of simulated buses, and [`play`] plays a scenario on it and says how that
-//! ended. The definitions to read first are `IsEnding` and `IsAtRest` (specs/Playing.antt): what a
-//! play leaves; then `IsInstallation` (specs/Installations.antt), what it begins with.
+//! ended. [`bus_of`] and [`write_globals`], of which they are made, also serve others. The
+//! definitions to read first are `IsEnding` and `IsAtRest` (specs/Playing.antt): what a play
+//! leaves; then `IsInstallation` (specs/Installations.antt), what it begins with.
 //!
 //! ```text
 //! let mut installation = open(alloc, setup, &scenario, limit)?;
@@ -25,6 +26,7 @@ mod playing;
 mod scanning;
 mod sending;
 
+pub use ending::write_globals;
 pub use installation::Installation;
-pub use opening::{StartFault, open};
+pub use opening::{StartFault, bus_of, open};
 pub use playing::{Ending, play};

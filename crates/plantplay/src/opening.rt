@@ -3,7 +3,7 @@
 ghost use Rattle.std.specs.Prelude.{◌≡◌, ◌≤◌, IfErr, IfOk};
 ghost use Rattle.limits.specs.Limits.{most_buses};
 ghost use Rattle.plantplay.specs.Installations.{IsInstallation, IsStartFault};
-ghost use Rattle.plantplay.specs.Installations.{connection_of, connections_of, sim_log};
+ghost use Rattle.plantplay.specs.Installations.{bus_of, connection_of, connections_of, sim_log};
 ghost use Rattle.plantplay.specs.Playing.{IsAtRest, lines_of};
 
 use crate::Installation;
@@ -18,7 +18,7 @@ use std::fmt;
 /// One scan worker plays.
 const WORKERS: usize = 1;
 
-/// Why an installation can't start.
+/// Why a plant on simulated buses can't start.
 #[derive(Clone, Copy, PartialEq, Eq)]
 pub enum StartFault {
     /// The allocator had no memory for the simulated buses.
@@ -64,7 +64,7 @@ pub fn open(
     ensures installation { IfOk result (IsInstallation setup scenario.now limit) }
     ensures rest { IfOk result (λ made. IsAtRest made.plant
         (lines_of sim_log made.connections.items)) }
-    ensures fault { IfErr result (IsStartFault limit) }
+    ensures fault { IfErr result (IsStartFault 1 limit) }
 {
     let connections = connections_of(alloc, setup.plan().buses(), scenario)?;
     match Plant::open(alloc, setup, WORKERS, limit) {
@@ -91,7 +91,7 @@ fn connections_of(
     Ok(connections)
 }
 
-/// The simulated bus of a scenario with this number, on which nothing happened.
+/// The simulated bus of a scenario with this number, on which nothing happened, and its number.
 fn connection_of(
     alloc: Global,
     scenario: &Scenario,
@@ -99,6 +99,17 @@ fn connection_of(
 ) -> Result<Connection<SimBus>, AllocError>
     ensures { IfOk result (λ made. made ≡ connection_of scenario.now bus) }
 {
+    Ok(Connection::new(bus.number(), bus_of(alloc, scenario, bus)?))
+}
+
+/// The simulated bus of a scenario with this number, on which nothing happened.
+///
+/// # Errors
+///
+/// The allocator is out of memory.
+pub fn bus_of(alloc: Global, scenario: &Scenario, bus: BusNumber) -> Result<SimBus, AllocError>
+    ensures { IfOk result (λ made. made ≡ bus_of scenario.now bus) }
+{
     let setup = BusSetup::of(alloc, scenario, bus)?;
-    Ok(Connection::new(bus.number(), SimBus::new(alloc, setup)?))
+    SimBus::new(alloc, setup)
 }

@@ -5,6 +5,9 @@ use crate::difference::{Difference, Stop};
 use crate::machine::{Machine, StoredFile, Terminal};
 use commands::run;
 use std::alloc::{AllocError, Global};
+use std::sync::Wait;
+use std::thread::Threads;
+use std::time::Clock as Timer;
 use std::{io, mem};
 
 /// What the lines that come are the body of.
@@ -38,8 +41,10 @@ struct Outcome {
 
 /// What is known of the row that is read.
 #[derive(Drop)]
-pub struct Judge {
+pub struct Judge<'t, T> {
     alloc: Global,
+    /// The runtime whose threads the commands take.
+    threads: &'t T,
     rows: u32,
     /// The row's name.
     row: String,
@@ -53,11 +58,12 @@ pub struct Judge {
     body: Body,
 }
 
-impl Judge {
+impl<'t, T: Threads + Wait + Timer + Sync> Judge<'t, T> {
     /// A judge who has read nothing.
-    pub fn new(alloc: Global) -> Self {
+    pub fn new(alloc: Global, threads: &'t T) -> Self {
         Judge {
             alloc,
+            threads,
             rows: 0,
             row: String::new(alloc),
             files: Vec::new(alloc),
@@ -225,7 +231,7 @@ impl Judge {
     fn run_words(&mut self, line: &str) -> Result<(), Stop> {
         let words = words_of(self.alloc, line)?;
         let machine = Machine::new(self.alloc, &words, &self.files, self.terminal);
-        let status = run(&machine).number();
+        let status = run(&machine, self.threads).number();
         let Machine {
             printed,
             complained,

@@ -6,28 +6,39 @@
 use crate::difference::Stop;
 use crate::judge::Judge;
 use std::alloc::Global;
+use std::sync::Wait;
+use std::thread::Threads;
+use std::time::Clock as Timer;
 
 /// How many rows a file has, where each is refused for what its name says.
 ///
 /// # Errors
 ///
 /// The first row that holds, or that is refused for something else.
-pub fn refuse_rows(alloc: Global, text: &str) -> Result<u32, Stop> {
+pub fn refuse_rows<T: Threads + Wait + Timer + Sync>(
+    alloc: Global,
+    threads: &T,
+    text: &str,
+) -> Result<u32, Stop> {
     let mut rows: u32 = 0;
     for row in text.split("\n== ").skip(1) {
-        refuse_row(alloc, row)?;
+        refuse_row(alloc, threads, row)?;
         rows = rows.saturating_add(1);
     }
     Ok(rows)
 }
 
 /// Has a row judged by itself, by the lines from its name on.
-fn refuse_row(alloc: Global, row: &str) -> Result<(), Stop> {
+fn refuse_row<T: Threads + Wait + Timer + Sync>(
+    alloc: Global,
+    threads: &T,
+    row: &str,
+) -> Result<(), Stop> {
     let name = match row.split_once('\n') {
         Some((name, _)) => name,
         None => row,
     };
-    let stop = match judge_row(alloc, row) {
+    let stop = match judge_row(alloc, threads, row) {
         Ok(()) => return Err(Stop::Held(String::from_str(alloc, name)?)),
         Err(stop) => stop,
     };
@@ -39,8 +50,12 @@ fn refuse_row(alloc: Global, row: &str) -> Result<(), Stop> {
 }
 
 /// Judges one row, whose first line is its name.
-fn judge_row(alloc: Global, row: &str) -> Result<(), Stop> {
-    let mut judge = Judge::new(alloc);
+fn judge_row<T: Threads + Wait + Timer + Sync>(
+    alloc: Global,
+    threads: &T,
+    row: &str,
+) -> Result<(), Stop> {
+    let mut judge = Judge::new(alloc, threads);
     let mut is_name = true;
     for line in row.split('\n') {
         if is_name {

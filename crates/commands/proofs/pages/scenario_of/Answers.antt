@@ -1,5 +1,5 @@
 use Rattle.commands.proofs.ScenarioFaults.{judged}
-use Rattle.commands.proofs.playing.scenario_of.Goals as goal
+use Rattle.commands.proofs.pages.scenario_of.Goals as goal
 
 pub returns : goal.returns
 returns c =

@@ -1,0 +1,24 @@
+-- What a run leaves, from what it started with.
+use Rattle.std.proofs.Common.{◌≡◌, ℕ, refl, subst}
+use Rattle.ilsetup.specs.Loaded.{Loaded}
+use Rattle.simbus.specs.ScriptedTicks.{ScriptedTicks}
+use Rattle.simbus.specs.Simulated.{Simulated}
+use Rattle.plant.specs.Shown.{plant_of}
+use Rattle.plantrun.specs.Runs.{IsRun}
+use Rattle.workers.specs.declared.closed.Closed.{Closed}
+use Rattle.commands.specs.declared.options.RunSize.{RunSize}
+use Rattle.commands.specs.Plays.{PlayBytes, HasScenario, IsSetupOf}
+use Rattle.commands.specs.Runs.{IsRunOut}
+use Rattle.commands.proofs.PlaysOut.{ScansAreAsMeant}
+
+pub run_out : (bytes : PlayBytes) (size : RunSize) (setup : Loaded) (limit : ℕ) (left : Closed Simulated ScriptedTicks)
+    → ScansAreAsMeant → IsSetupOf bytes setup → HasScenario bytes → limit ≡ size.limit
+    → IsRun setup size.workers limit left → IsRunOut bytes size left
+run_out bytes size setup limit left law loaded scenario same run = record {
+  setup = setup;
+  loaded = loaded;
+  scenario = scenario;
+  run = subst (λ (most : ℕ). IsRun setup size.workers most left) same run;
+  meant =
+      law loaded.0 bytes.text setup loaded.2 (plant_of setup size.workers) left.plant.history refl run.closed.legal;
+}

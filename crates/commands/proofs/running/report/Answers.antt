@@ -1,0 +1,8 @@
+use Rattle.std.proofs.Common.{◌∙◌, ap, inr}
+use Rattle.commands.specs.ExitStatuses.{status_of_run}
+use Rattle.commands.proofs.running.report.Goals as goal
+
+pub returns-in_ok-write_run-in-Ok : goal.returns-in_ok-write_run-in-Ok
+returns-in_ok-write_run-in-Ok g c =
+    let left = c.in-Ok.left in
+    inr (left, c.in-Ok.ensures.run, c.of_run.ensures ∙ ap (status_of_run left.ended) c.has_down.ensures)

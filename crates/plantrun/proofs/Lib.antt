@@ -1,0 +1,2 @@
+mod Buses
+mod Downs

@@ -1,0 +1,2 @@
+pub mod Downs
+pub mod Runs
