@@ -1,5 +1,5 @@
 -- How many places are kept after an event.
-use Rattle.std.proofs.Common.{◌≡◌, ◌≢◌, ℕ, zero, suc, ◌+◌, ◌<◌, Bool, true, false, List, [], ◌∷◌, length}
+use Rattle.std.proofs.Common.{◌≡◌, ◌≢◌, ℕ, zero, suc, ◌+◌, ◌<◌, ◌≤◌, Bool, true, false, List, [], ◌∷◌, length}
 use Rattle.std.proofs.Common.{refl, ap, ◌∙◌, arith, ⊎_elim, eqb}
 use Rattle.std.specs.Prelude.{if◌then◌else◌, slice_set, slice_index_or}
 use Rattle.std.proofs.lemmas.Bool.Decides.{eqb_tells}
@@ -7,6 +7,10 @@ use Rattle.plant.specs.Shown.{count_below, count_true}
 
 abbrev one_if : Bool → ℕ
 one_if b = if b then 1 else 0
+
+pub one_most : (b : Bool) → one_if b ≤ 1
+one_most true = omega arith
+one_most false = omega arith
 
 -- tests that agree below n count the same
 pub count_same : (f g : ℕ → Bool) (n : ℕ) → ((i : ℕ) → i < n → g i ≡ f i) → count_below g n ≡ count_below f n
@@ -36,3 +40,27 @@ pub count_after_set : (bs : List Bool) (i : ℕ) (b : Bool) → i < length bs
 count_after_set [] i b lt = absurd (omega arith)
 count_after_set (x ∷ bs) zero b lt = omega arith
 count_after_set (x ∷ bs) (suc i) b lt = let rest = count_after_set bs i b (omega arith) in omega arith
+
+-- one number alone may pass no more
+pub count_near : (f g : ℕ → Bool) (n c : ℕ) → ((i : ℕ) → i ≢ c → g i ≡ f i) → count_below f n ≤ count_below g n + 1
+count_near f g zero c other = omega arith
+count_near f g (suc n) c other =
+    ⊎_elim
+    (λ (k : (eqb n c ≡ true) × (n ≡ c)).
+    let rest = count_same f g n (λ i lt. other i (omega (arith, k.1))) in
+    let most = one_most (f n) in omega arith)
+    (λ (k : (eqb n c ≡ false) × (n ≢ c)).
+    let rest = count_near f g n c other in
+    let here : one_if (g n) ≡ one_if (f n) = ap one_if (other n k.1) in omega arith)
+    (eqb_tells n c)
+
+-- a place of a list is not set any more, or is set
+pub count_unset : (bs : List Bool) (i : ℕ) → count_true bs ≤ count_true (slice_set bs i false) + 1
+count_unset [] i = omega arith
+count_unset (x ∷ bs) zero = let most = one_most x in omega arith
+count_unset (x ∷ bs) (suc i) = let rest = count_unset bs i in omega arith
+
+pub count_set : (bs : List Bool) (i : ℕ) → count_true bs ≤ count_true (slice_set bs i true)
+count_set [] i = omega arith
+count_set (x ∷ bs) zero = let most = one_most x in omega arith
+count_set (x ∷ bs) (suc i) = let rest = count_set bs i in omega arith

@@ -6,6 +6,7 @@ pub mod FirstHandouts
 pub mod FirstImages
 pub mod Fitting
 pub mod Found
+pub mod Fullness
 pub mod GivenInputs
 pub mod Growing
 pub mod Handing

@@ -17,6 +17,7 @@
 mod answers;
 mod bus;
 mod inputs;
+mod laws;
 mod messages;
 mod next;
 mod offers;
@@ -32,6 +33,7 @@ mod setups;
 mod shown_rows;
 mod writes;
 
+pub use laws::fullness_never_stops;
 pub use open_fault::OpenFault;
 pub use plant::{Handed, LEAST_LIMIT, MOST_LIMIT, MOST_WORKERS, Order, Plant};
 pub use refusal::{CallError, CallRefusal};

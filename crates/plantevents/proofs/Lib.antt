@@ -1,6 +1,7 @@
 pub mod Arriving
 pub mod Dropped
 pub mod Dropping
+pub mod GivenUp
 pub mod Handing
 pub mod Having
 pub mod Legality

@@ -16,7 +16,7 @@ ghost use Rattle.plantevents.specs.declared.activator.PendingEvent.{PendingEvent
 ghost use Rattle.plantevents.specs.declared.activator.Activator.{Activator};
 ghost use Rattle.plantevents.specs.declared.activator.Activator.TheVariants.{Messages};
 ghost use Rattle.plantevents.specs.declared.event.Event.{Event};
-ghost use Rattle.plantevents.specs.declared.event.Event.TheVariants.{Commit, Hand};
+ghost use Rattle.plantevents.specs.declared.event.Event.TheVariants.{Heard, Commit, Hand};
 ghost use Rattle.plantevents.specs.declared.event.Origin.{Origin as OriginOf};
 ghost use Rattle.plantevents.specs.declared.role.Role.{Role};
 ghost use Rattle.plantevents.specs.declared.role.Role.TheVariants.{Worker, Bus, Clock};
@@ -25,7 +25,7 @@ ghost use Rattle.plantevents.specs.Slots.{IsSlotOf};
 ghost use Rattle.plantevents.specs.Histories.{moment, scans, scan, is_scanned, hand, is_down};
 ghost use Rattle.plantevents.specs.Histories.{sent_in, heard_in, downs_in, given_in, frames, heards};
 ghost use Rattle.plantevents.specs.Readiness.{ready, since, pending, lost, most_pending};
-ghost use Rattle.plantevents.specs.Arrivals.{arrivals};
+ghost use Rattle.plantevents.specs.Arrivals.{arrivals, GivesUp};
 ghost use Rattle.plantevents.specs.Waiting.{OwedLevel, Handout, waiting, dropped};
 ghost use Rattle.plantevents.specs.Waiting.{owed, handouts, classes};
 ghost use Rattle.plantevents.specs.Fronts.{IsSince, IsScanned};
@@ -119,6 +119,16 @@ pub fn what_is_pending()
         (arrivals (Some (Messages bus source)) h) }
     ensures few { (a : Option Activator) (t : ℕ) (h : List Event)
         → length (pending a t h) ≤ most_pending }
+{}
+
+/// An event of an event task is given up exactly where 32 later ones of the task came before it was
+/// taken: where a message comes with which 32 came after the oldest that is left.
+pub fn what_is_given_up()
+    ensures { (p : Plant) (bus : ℕ) (source : EventSource) (t b f : ℕ) (h : List Event)
+        → activator p t ≡ Some (Messages bus source) → AreLegal p h
+        → (lost (Some (Messages bus source)) t (Heard b f ∷ h)
+        ≡ lost (Some (Messages bus source)) t h + 1)
+        ↔ GivesUp (Some (Messages bus source)) t b f h }
 {}
 
 /// Each request is accepted or dropped.
