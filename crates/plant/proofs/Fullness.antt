@@ -1,5 +1,5 @@
 -- A plant that is full stays full: an event takes a place of the history, and frees one at most.
-use Rattle.std.proofs.Common.{◌≡◌, ◌≢◌, ℕ, eqb, ◌+◌, ◌≤◌, Bool, true, false, not, List, ◌∷◌, length, Some, None}
+use Rattle.std.proofs.Common.{◌≡◌, ℕ, ◌+◌, ◌≤◌, Bool, true, false, not, ◌∷◌, length, Some, None}
 use Rattle.std.proofs.Common.{sym, ap, arith}
 use Rattle.std.proofs.lemmas.Bool.{ne_eqb}
 use Rattle.std.proofs.lemmas.Grind.{common_steps}
@@ -8,7 +8,7 @@ use Rattle.plantevents.specs.declared.event.Event.{Event}
 use Rattle.plantevents.specs.declared.event.Event.TheVariants.{Tick, Heard, Take, Commit, Hand, Done, Down}
 use Rattle.plantevents.specs.declared.role.Role.{Role}
 use Rattle.plantevents.specs.declared.role.Role.TheVariants.{Worker, Bus, Clock}
-use Rattle.plantevents.specs.Histories.{OpenScan, scan, is_down}
+use Rattle.plantevents.specs.Histories.{scan, is_down}
 use Rattle.plant.specs.Shown.{Shown, grown, reserving, kept, is_full, is_unreported}
 use Rattle.plant.proofs.Counting.{one_most, count_near, count_unset, count_set}
 
@@ -20,8 +20,8 @@ near p (Take w t s) =
     let less =
     count_near (λ v. is_some (scan v p.history)) (λ v. is_some (scan v (Take w t s ∷ p.history))) p.plant.workers w
     (λ v ne. ap (λ (same : Bool). is_some (if same
-        then Some (record { place = length p.history; task = t; snapshot = s })
-        else scan v p.history)) (ne_eqb w v (λ e. ne (sym e)))) in omega arith
+    then Some (record { place = length p.history; task = t; snapshot = s })
+    else scan v p.history)) (ne_eqb w v (λ e. ne (sym e)))) in omega arith
 near p (Commit w n r) =
     let less =
     count_near (λ v. is_some (scan v p.history)) (λ v. is_some (scan v (Commit w n r ∷ p.history))) p.plant.workers w
