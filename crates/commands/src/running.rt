@@ -70,8 +70,9 @@ fn report<W: Write, R: Threads + Wait + Timer + Sync>(
 {
     match run_pages(rt, alloc, pages, size) {
         Ok(left) => {
-            write_run(out, left.ended, &left.plant)?;
-            Ok(ExitStatus::of_run(left.ended, has_down(&left.plant)))
+            let plant = left.plant.as_plant();
+            write_run(out, left.ended, plant)?;
+            Ok(ExitStatus::of_run(left.ended, has_down(plant)))
         }
         Err(stop) => {
             writeln!(out, "{stop}")?;

@@ -10,7 +10,7 @@ use Rattle.plantplay.specs.Installations.{bus_of, sim_log}
 use Rattle.plantevents.specs.Plants.{Plant}
 use Rattle.workers.specs.declared.closed.Closed.{Closed}
 use Rattle.workers.specs.Closings.{IsClosed, IsLinked}
-use Rattle.workers.specs.Logs.{log_of, no_frame, no_moment}
+use Rattle.turns.specs.Logs.{log_of, no_frame, no_moment}
 use Rattle.workers.specs.Starts.{IsStartFault}
 use Rattle.ilsetup.specs.Loaded.{Loaded}
 use Rattle.plant.specs.declared.open_fault.OpenFault.{OpenFault}
@@ -59,8 +59,7 @@ pub closed_from_nothing : (p : Plant) (scenario : List Statement) (buses : ℕ) 
 closed_from_nothing p scenario buses items first left are none closed = record {
   plant = closed.plant;
   legal = closed.legal;
-  no_scan = closed.no_scan;
-  no_hand = closed.no_hand;
+  idle = closed.idle;
   buses = λ b bus is.
       let was : log_of (map sim_log items) (0 + b) ≡ no_frame =
       ap (λ (those : List Simulated). log_of (map sim_log those) (0 + b)) are ∙ no_log scenario buses (0 + b) in

@@ -9,7 +9,7 @@ use Rattle.plant.specs.Shown.{IsLimit, IsWorkerCount, plant_of}
 use Rattle.plantplay.specs.Installations.{bus_of, sim_log}
 use Rattle.workers.specs.declared.closed.Closed.{Closed}
 use Rattle.workers.specs.Closings.{IsClosed}
-use Rattle.workers.specs.Logs.{no_moment}
+use Rattle.turns.specs.Logs.{no_moment}
 
 -- what became of a scenario's clock
 abbrev pub tick_log : ScriptedTicks → ClockLog

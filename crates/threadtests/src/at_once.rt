@@ -132,7 +132,8 @@ fn run_row<'w, 'r, R: Threads + Wait + Timer + Sync>(
 fn holds<R: Threads + Wait + Timer + Sync>(rt: &R, alloc: Global, row: &Row) -> Result<bool, Fail> {
     let watch = Watch::new(rt, row.watched, row.holds);
     let left = run_row(rt, alloc, &watch, row)?;
-    let has_scanned = 0 < left.plant.setup().plan().tasks() && left.plant.scans(0) == row.scans;
+    let plant = left.plant.as_plant();
+    let has_scanned = 0 < plant.setup().plan().tasks() && plant.scans(0) == row.scans;
     Ok(watch.is_kept() && left.ended == Ended::Asked && has_scanned)
 }
 

@@ -1,8 +1,8 @@
 -- Between two turns nothing is open, and the receipts of a Share are what went over its link.
-use Rattle.std.specs.Prelude.{◌≡◌, ℕ, ◌≤◌, List, [], ◌++◌, None, false, slice_index_or}
+use Rattle.std.specs.Prelude.{◌≡◌, ℕ, zero, suc, ◌≤◌, List, [], ◌++◌, None, false, slice_index_or}
 use Rattle.plantevents.specs.declared.role.Role.TheVariants.{Worker, Bus, Clock}
-use Rattle.plantevents.specs.Parts.{shown_moment, shown_scan, shown_hand, shown_sent, shown_heard, shown_given}
-use Rattle.buslink.specs.BusLog.{BusLog}
+use Rattle.plantevents.specs.Parts.{shown_moment, shown_scan, shown_hand, shown_sent, shown_heard, shown_downs, shown_given}
+use Rattle.buslink.specs.BusLog.{BusLog, one_more_failure}
 use Rattle.buslink.specs.ClockLog.{ClockLog, IsNotBefore}
 use Rattle.plantlock.specs.Receipts.{ShareParts, whole}
 
@@ -16,18 +16,32 @@ no_moment = record { given = []; asks = 0; gave_none = false }
 abbrev pub log_of : List BusLog → ℕ → BusLog
 log_of logs bus = slice_index_or logs bus no_frame
 
+-- the count of failures after so many more
+abbrev pub more_failures : ℕ → ℕ → ℕ
+more_failures zero failures = failures
+more_failures (suc more) failures = one_more_failure (more_failures more failures)
+
 -- the Share of this scan worker, which has no scan open
 pub record IsWorker (worker : ℕ) (s : ShareParts) : Type 0 where
   pub role : s.role ≡ Worker worker
   pub idle : shown_scan (whole s) ≡ None
 
 -- The Share of this bus, which has no transaction open: what the bus sent and heard since the first log is what the
--- part says.
+-- part says, and it failed as often as the part says that it went down.
 pub record IsServed (first : BusLog) (bus : ℕ) (s : ShareParts) (log : BusLog) : Type 0 where
   pub role : s.role ≡ Bus bus
   pub idle : shown_hand (whole s) ≡ None
   pub sent : log.sent ≡ first.sent ++ shown_sent (whole s)
   pub heard : log.heard ≡ first.heard ++ shown_heard (whole s)
+  pub failed : log.failures ≡ more_failures (shown_downs (whole s)) first.failures
+
+-- the same, but for one failure more: the bus is to go down
+pub record HasFailed (first : BusLog) (bus : ℕ) (s : ShareParts) (log : BusLog) : Type 0 where
+  pub role : s.role ≡ Bus bus
+  pub idle : shown_hand (whole s) ≡ None
+  pub sent : log.sent ≡ first.sent ++ shown_sent (whole s)
+  pub heard : log.heard ≡ first.heard ++ shown_heard (whole s)
+  pub failed : log.failures ≡ one_more_failure (more_failures (shown_downs (whole s)) first.failures)
 
 -- a moment that the clock may give is not below the one that the part shows
 abbrev pub IsInTime : ShareParts → ClockLog → Type 0

@@ -1,6 +1,9 @@
 //! A turn of the worker of a bus.
 
-ghost use Rattle.workers.specs.Logs.{IsServed, log_of};
+ghost use Rattle.std.specs.Prelude.{◌≡◌, false};
+ghost use Rattle.plantevents.specs.Parts.{shown_down};
+ghost use Rattle.plantlock.specs.Receipts.{whole};
+ghost use Rattle.turns.specs.Logs.{HasFailed, IsServed, log_of};
 
 use crate::gate::Gate;
 use crate::links::Links;
@@ -27,6 +30,23 @@ pub(crate) fn idle_where_refused(error: CallError) -> Result<Turn, CallError> {
     }
 }
 
+/// Notes under the lock that a bus goes down, since its interface failed.
+fn go_down<'a, B: Bus, J: Basis + Links, T: Seated, K: Tallies<T>, R: Wait>(
+    rt: &R,
+    shared: &Shared<'a, J, T, K>,
+    bus: u8,
+    served: &mut Served<'a, B, J, T>,
+) -> Turn
+    requires up { shown_down (whole served.old.share) ≡ false }
+    requires failed { HasFailed (log_of J.buses bus) bus served.old.share (B.log served.old.line) }
+    ensures served { IsServed (log_of J.buses bus) bus served.new.share (B.log served.new.line) }
+{
+    let Ok(()) = shared.down(rt, &mut served.share, bus) else {
+        unreachable!()
+    };
+    Turn::Down
+}
+
 /// Hands a transaction out under the lock, sends it outside the lock, and reports it under the
 /// lock. Room for its frames is made before. Where the bus interface failed, the bus goes down.
 fn send_once<'a, B: Bus, J: Basis + Links, T: Seated, K: Tallies<T>, G: Gate, R: Wait>(
@@ -45,17 +65,14 @@ fn send_once<'a, B: Bus, J: Basis + Links, T: Seated, K: Tallies<T>, G: Gate, R:
     let Ok(report) = perform(&mut served.line, &handed.transaction) else {
         unreachable!()
     };
-    let failed = matches!(report.outcome(), Outcome::Failed);
+    let outcome = report.outcome();
     let Ok(()) = shared.done(rt, &mut served.share, bus, handed.number, report) else {
         unreachable!()
     };
-    if !failed {
-        return Ok(Turn::Worked);
+    match outcome {
+        Outcome::Done(_) | Outcome::GaveUp => Ok(Turn::Worked),
+        Outcome::Failed => Ok(go_down(rt, shared, bus, served)),
     }
-    let Ok(()) = shared.down(rt, &mut served.share, bus) else {
-        unreachable!()
-    };
-    Ok(Turn::Down)
 }
 
 /// Keeps a place back under the lock, hears outside the lock, and notes the frame under the lock.
@@ -79,12 +96,7 @@ fn hear_once<'a, B: Bus, J: Basis + Links, T: Seated, K: Tallies<T>, R: Wait>(
             Ok(Turn::Worked)
         }
         Ok(None) => Ok(Turn::Idle),
-        Err(_) => {
-            let Ok(()) = shared.down(rt, &mut served.share, bus) else {
-                unreachable!()
-            };
-            Ok(Turn::Down)
-        }
+        Err(_) => Ok(go_down(rt, shared, bus, served)),
     }
 }
 

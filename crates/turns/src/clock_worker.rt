@@ -1,6 +1,6 @@
 //! A turn of the worker of the clock.
 
-ghost use Rattle.workers.specs.Logs.{IsTimed};
+ghost use Rattle.turns.specs.Logs.{IsTimed};
 
 use crate::links::Links;
 use buslink::Clock;

@@ -15,7 +15,7 @@ pub trait Links {
 
 impl Links for Brand {
     ghost use Rattle.std.specs.Prelude.{[]};
-    ghost use Rattle.workers.specs.Logs.{no_moment};
+    ghost use Rattle.turns.specs.Logs.{no_moment};
 
     ghost buses = { [] };
 

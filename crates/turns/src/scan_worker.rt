@@ -1,6 +1,6 @@
 //! A turn of a scan worker.
 
-ghost use Rattle.workers.specs.Logs.{IsWorker};
+ghost use Rattle.turns.specs.Logs.{IsWorker};
 
 use crate::bus_worker::idle_where_refused;
 use crate::gate::Gate;

@@ -1,4 +1,3 @@
 pub mod Lists
 pub mod Parting
-pub mod Rounds
 pub mod Told

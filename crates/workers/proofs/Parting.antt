@@ -6,7 +6,8 @@ use Rattle.std.specs.List.{range_with_len}
 use Rattle.std.specs.Prelude.{map, option_map, slice_get, Some}
 use Rattle.plantevents.specs.declared.role.Role.{Role}
 use Rattle.plantevents.specs.declared.role.Role.TheVariants.{Worker, Bus, Clock}
-use Rattle.plantevents.specs.Parts.{Placed, part, shown_scan, shown_hand, shown_sent, shown_heard, shown_given, shown_moment}
+use Rattle.plantevents.specs.Parts.{Placed, part, shown_scan, shown_hand, shown_sent, shown_heard, shown_downs, shown_given}
+use Rattle.plantevents.specs.Parts.{shown_moment}
 use Rattle.buslink.specs.BusLog.{BusLog}
 use Rattle.buslink.specs.ClockLog.{ClockLog}
 use Rattle.plant.specs.Shown.{Shown}
@@ -15,7 +16,7 @@ use Rattle.plantlock.specs.Receipts.{ShareParts, IsFresh, seat_at, whole}
 use Rattle.plantlock.specs.Tied.{AreUnused}
 use Rattle.seats.specs.Families.{Seating}
 use Rattle.seats.specs.Openings.{fresh}
-use Rattle.workers.specs.Logs.{IsServed, IsTimed, IsWorker, log_of, no_frame}
+use Rattle.turns.specs.Logs.{IsServed, IsTimed, IsWorker, log_of, more_failures, no_frame}
 
 -- the part of a role is empty where nothing happened
 nothing : (start : Shown) (r : Role) (s : ShareParts) → start.history ≡ [] → IsFresh start r s → whole s ≡ []
@@ -38,6 +39,7 @@ fresh_served start b s log empty is =
       idle = ap shown_hand none;
       sent = sym (ap (λ (x : List Placed). log.sent ++ shown_sent x) none ∙ append-nil log.sent);
       heard = sym (ap (λ (x : List Placed). log.heard ++ shown_heard x) none ∙ append-nil log.heard);
+      failed = sym (ap (λ (x : List Placed). more_failures (shown_downs x) log.failures) none);
     }
 
 pub fresh_timed : (start : Shown) (s : ShareParts) (log : ClockLog) → start.history ≡ [] → IsFresh start Clock s

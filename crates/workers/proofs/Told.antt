@@ -7,14 +7,17 @@ use Rattle.buslink.specs.ClockLog.{ClockLog}
 use Rattle.plantevents.specs.declared.event.Event.{Event}
 use Rattle.plantevents.specs.declared.role.Role.{Role}
 use Rattle.plantevents.specs.declared.role.Role.TheVariants.{Worker, Bus, Clock}
-use Rattle.plantevents.specs.Histories.{scan, hand, sent_in, heard_in, given_in}
-use Rattle.plantevents.specs.Parts.{part, shown_scan, shown_hand, shown_sent, shown_heard, shown_given}
+use Rattle.plantevents.specs.Histories.{scan, hand, sent_in, heard_in, downs_in, given_in}
+use Rattle.plantevents.specs.Parts.{part, shown_scan, shown_hand, shown_sent, shown_heard, shown_downs, shown_given}
+use Rattle.plantevents.specs.Plants.{Plant}
+use Rattle.plant.specs.Shown.{Shown}
 use Rattle.plantlock.specs.Each.{Each}
 use Rattle.plantlock.specs.Receipts.{ShareParts, HasPart, HaveParts, whole}
 use Rattle.workers.specs.Closings.{IsLinked}
-use Rattle.workers.specs.Logs.{IsServed, IsTimed, IsWorker, log_of}
+use Rattle.workers.specs.Open.{HasNothingOpen}
+use Rattle.turns.specs.Logs.{IsServed, IsTimed, IsWorker, log_of, more_failures}
 use Rattle.workers.specs.Teams.{AreServed, AreWorkers}
-use Rattle.workers.specs.declared.bus_worker.Served.{Served}
+use Rattle.turns.specs.declared.bus_worker.Served.{Served}
 use Rattle.workers.proofs.Lists.{each_at}
 
 -- ---- one Share
@@ -31,12 +34,14 @@ idle_bus : (first log : BusLog) (b : ℕ) (s : ShareParts) (h : List Event) → 
 idle_bus first log b s h is has law = law ∙ ap shown_hand (sym (part_is s (Bus b) h has is.role)) ∙ is.idle
 
 linked : (first log : BusLog) (b : ℕ) (s : ShareParts) (h : List Event) → IsServed first b s log → HasPart s h
-    → sent_in b h ≡ shown_sent (part (Bus b) h) → heard_in b h ≡ shown_heard (part (Bus b) h) → IsLinked first b h log
-linked first log b s h is has sent heard =
+    → sent_in b h ≡ shown_sent (part (Bus b) h) → heard_in b h ≡ shown_heard (part (Bus b) h)
+    → downs_in b h ≡ shown_downs (part (Bus b) h) → IsLinked first b h log
+linked first log b s h is has sent heard downs =
     let all : whole s ≡ part (Bus b) h = part_is s (Bus b) h has is.role in
     record {
       sent = is.sent ∙ ap (λ x. first.sent ++ x) (ap shown_sent all ∙ sym sent);
       heard = is.heard ∙ ap (λ x. first.heard ++ x) (ap shown_heard all ∙ sym heard);
+      failed = is.failed ∙ ap (λ n. more_failures n first.failures) (ap shown_downs all ∙ sym downs);
     }
 
 pub timed : (first log : ClockLog) (s : ShareParts) (h : List Event) → IsTimed first s log → HasPart s h
@@ -72,11 +77,7 @@ to_map f [] k x at = absurd (cc)
 to_map f (y ∷ ys) zero x at = let same : y ≡ x = cc in ap (λ z. Some (f z)) same
 to_map f (y ∷ ys) (suc k) x at = to_map f ys k x at
 
-count_map : {X Y : Type 0} (f : X → Y) (xs : List X) → length (map f xs) ≡ length xs
-count_map f [] = refl
-count_map f (x ∷ xs) = ap suc (count_map f xs)
-
-pub no_scans : (h : List Event) (workers : List ShareParts) (w : ℕ) → w < length workers → AreWorkers 0 workers
+no_scans : (h : List Event) (workers : List ShareParts) (w : ℕ) → w < length workers → AreWorkers 0 workers
     → HaveParts workers h → scan w h ≡ shown_scan (part (Worker w) h) → scan w h ≡ None
 no_scans h workers w inside are have law =
     let s = there workers w inside in
@@ -87,12 +88,11 @@ has_at : {B J T : Type 0} (h : List Event) (served : List (Served B J T)) (k : �
 has_at h served k s at have =
     each_at (λ n t. HasPart t h) (map (λ t. t.share) served) k s.share have (to_map (λ t. t.share) served k s at)
 
-pub no_hands : {B J T : Type 0} (logs : List BusLog) (log : B → BusLog) (h : List Event) (served : List (Served B J T))
-    (b : ℕ) → b < length (map (λ s. s.line) served) → AreServed logs log 0 served
+no_hands : {B J T : Type 0} (logs : List BusLog) (log : B → BusLog) (h : List Event) (served : List (Served B J T))
+    (b : ℕ) → b < length served → AreServed logs log 0 served
     → HaveParts (map (λ s. s.share) served) h → hand b h ≡ shown_hand (part (Bus b) h) → hand b h ≡ None
 no_hands logs log h served b inside are have law =
-    let count = count_map (λ s. s.line) served in
-    let s = there served b (omega (arith, inside, count)) in
+    let s = there served b inside in
     idle_bus (log_of logs b) (log s.x.line) b s.x.share h
     (each_at (λ k t. IsServed (log_of logs k) k t.share (log t.line)) served b s.x are s.is) (has_at h served b s.x s.is have)
     law
@@ -101,12 +101,31 @@ pub all_linked : {B J T : Type 0} (logs : List BusLog) (log : B → BusLog) (h :
     (served : List (Served B J T)) → AreServed logs log 0 served → HaveParts (map (λ s. s.share) served) h
     → ((b : ℕ) (past : List Event) → sent_in b past ≡ shown_sent (part (Bus b) past))
     → ((b : ℕ) (past : List Event) → heard_in b past ≡ shown_heard (part (Bus b) past))
+    → ((b : ℕ) (past : List Event) → downs_in b past ≡ shown_downs (part (Bus b) past))
     → Each (λ b line. IsLinked (log_of logs b) b h (log line)) 0 (map (λ s. s.line) served)
-all_linked logs log h served are have sent heard k line at =
+all_linked logs log h served are have sent heard downs k line at =
     let s = from_map (λ t. t.line) served k line at in
     let same : k ≡ 0 + k = omega arith in
     subst (λ b. IsLinked (log_of logs b) b h (log line)) same
     (subst (λ l. IsLinked (log_of logs k) k h (log l)) s.of
     (linked (log_of logs k) (log s.x.line) k s.x.share h
     (each_at (λ n t. IsServed (log_of logs n) n t.share (log t.line)) served k s.x are s.is)
-    (has_at h served k s.x s.is have) (sent k h) (heard k h)))
+    (has_at h served k s.x s.is have) (sent k h) (heard k h) (downs k h)))
+
+-- nothing is open in a plant of which these Shares have the parts
+pub nothing_open : {B J T : Type 0} (p : Shown) (start : Plant) (logs : List BusLog) (log : B → BusLog)
+    (served : List (Served B J T)) (workers : List ShareParts) → p.plant ≡ start → length workers ≡ start.workers
+    → length served ≡ start.plan.buses → AreWorkers 0 workers → HaveParts workers p.history → AreServed logs log 0 served
+    → HaveParts (map (λ s. s.share) served) p.history
+    → ((w : ℕ) (past : List Event) → scan w past ≡ shown_scan (part (Worker w) past))
+    → ((b : ℕ) (past : List Event) → hand b past ≡ shown_hand (part (Bus b) past)) → HasNothingOpen p
+nothing_open p start logs log served workers same many count are have are_served have_served scans hands =
+    let as_many : p.plant.workers ≡ start.workers = ap (λ (x : Plant). x.workers) same in
+    let buses : p.plant.plan.buses ≡ start.plan.buses = ap (λ (x : Plant). x.plan.buses) same in
+    record {
+      no_scan = λ w below.
+          no_scans p.history workers w (omega (arith, below, as_many, many)) are have (scans w p.history);
+      no_hand = λ b below.
+          no_hands logs log p.history served b (omega (arith, below, buses, count)) are_served have_served
+          (hands b p.history);
+    }

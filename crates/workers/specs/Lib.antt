@@ -1,7 +1,7 @@
 pub mod Beginnings
 pub mod Closings
 pub mod Crews
-pub mod Logs
+pub mod Open
 pub mod Started
 pub mod Starts
 pub mod Teams

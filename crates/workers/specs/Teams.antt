@@ -4,9 +4,9 @@ use Rattle.buslink.specs.BusLog.{BusLog}
 use Rattle.buslink.specs.ClockLog.{ClockLog}
 use Rattle.plantlock.specs.Each.{Each}
 use Rattle.plantlock.specs.Receipts.{ShareParts}
-use Rattle.workers.specs.declared.bus_worker.Served.{Served}
+use Rattle.turns.specs.declared.bus_worker.Served.{Served}
 use Rattle.workers.specs.declared.team.Team.{Team}
-use Rattle.workers.specs.Logs.{IsServed, IsTimed, IsWorker, log_of}
+use Rattle.turns.specs.Logs.{IsServed, IsTimed, IsWorker, log_of}
 
 -- each bus by its number, where the first has the number n
 abbrev pub AreServed : {B J T : Type 0} → List BusLog → (B → BusLog) → ℕ → List (Served B J T) → Type 0

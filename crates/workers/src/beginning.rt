@@ -5,11 +5,8 @@ ghost use Rattle.plant.specs.declared.open_fault.OpenFault.TheVariants.{Memory};
 ghost use Rattle.plant.specs.Shown.{IsWorkerCount};
 ghost use Rattle.workers.specs.Beginnings.{IsBegun};
 
-use crate::bus_worker::Served;
-use crate::clock_worker::Timed;
 use crate::closed::NotStarted;
 use crate::closing::Bench;
-use crate::links::Links;
 use crate::pairing::put_together;
 use crate::team::Team;
 use crate::working::Rooms;
@@ -19,6 +16,7 @@ use plantlock::{Basis, NotedPart, Shared, Shares};
 use seats::{Blanks, Books, Names, Tie};
 use std::alloc::{AllocError, Global};
 use std::sync::OnceLock;
+use turns::{Links, Served, Timed};
 
 /// What a run begins with.
 #[derive(Drop)]

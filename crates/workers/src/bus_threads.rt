@@ -1,13 +1,10 @@
 //! Threads that serve buses.
 
 ghost use Rattle.std.specs.Prelude.{ℕ};
-ghost use Rattle.workers.specs.Logs.{IsServed, log_of};
+ghost use Rattle.turns.specs.Logs.{IsServed, log_of};
 ghost use Rattle.workers.specs.Started.{IsStartedBus};
 
-use crate::bus_worker::Served;
 use crate::ended::{End, Ended};
-use crate::gate::Gate;
-use crate::links::Links;
 use crate::serving::serve_bus;
 use buslink::Bus;
 use plantlock::{Basis, Shared};
@@ -15,6 +12,7 @@ use seats::{Seated, Tallies};
 use std::sync::Wait;
 use std::thread::{Promise, PromisedHandle, Scope, Threads};
 use std::time::Clock as Timer;
+use turns::{Gate, Links, Served};
 
 /// The work of a bus's worker. It is one value, so that a closure captures one.
 #[derive(Drop)]
@@ -33,7 +31,7 @@ pub(crate) struct Serves {
 }
 
 impl<'a, B: Bus, J: Basis + Links, T: Seated> Promise<Served<'a, B, J, T>> for Serves {
-    ghost use Rattle.workers.specs.Logs.{IsServed, log_of};
+    ghost use Rattle.turns.specs.Logs.{IsServed, log_of};
 
     ghost kept_by = { λ p r. IsServed (log_of J.buses p.bus) p.bus r.share (B.log r.line) };
 }

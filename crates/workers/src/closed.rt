@@ -1,13 +1,15 @@
 //! What a run leaves.
 
+use crate::closed_plant::ClosedPlant;
 use crate::ended::Ended;
 use buslink::{Bus, Clock};
-use plant::{OpenFault, Plant};
+use plant::OpenFault;
 
-/// What a run leaves: the plant with its history, the buses, the clock, and why it ended.
+/// What a run leaves: the plant with its history, in which nothing is open, the buses, the clock,
+/// and why it ended.
 #[derive(Drop)]
 pub struct Closed<B: Bus, C: Clock> {
-    pub plant: Plant,
+    pub plant: ClosedPlant,
     /// The buses, by their numbers.
     pub buses: Vec<B>,
     pub clock: C,

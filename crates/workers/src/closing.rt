@@ -4,16 +4,16 @@ ghost use Rattle.std.specs.Prelude.{◌≡◌, ◌≤◌, [], length, vec_len, v
 ghost use Rattle.workers.specs.Closings.{IsClosed};
 ghost use Rattle.workers.specs.Teams.{IsTeam};
 
-use crate::clock_worker::Timed;
 use crate::closed::Closed;
+use crate::closed_plant::ClosedPlant;
 use crate::ended::Ended;
-use crate::links::Links;
 use crate::pairing::take_apart;
 use crate::team::Team;
 use buslink::{Bus, Clock};
 use plantevents::{what_a_part_shows, what_a_part_shows_of_links};
 use plantlock::{Basis, Final, Share, Shared, Shares};
 use seats::{Seated, Tallies};
+use turns::{Links, Timed};
 
 /// Empty lists with room for the buses and their Shares.
 #[derive(Drop)]
@@ -33,6 +33,7 @@ pub(crate) fn close<'a, B: Bus, C: Clock, J: Basis + Links, T: Seated, K: Tallie
     requires room { (vec_len team.buses ≤ vec_capacity bench.lines)
         × (vec_len team.buses ≤ vec_capacity bench.shares) }
     requires workers { length team.workers.items ≡ J.start.plant.workers }
+    requires buses { length team.buses.items ≡ J.start.plant.plan.buses }
     requires team { IsTeam J.buses J.clock B.log C.log team }
     ensures closed { IsClosed J.start.plant J.buses J.clock B.log C.log result }
     ensures count { length result.buses.items ≡ length team.entry.buses.items }
@@ -57,7 +58,7 @@ pub(crate) fn close<'a, B: Bus, C: Clock, J: Basis + Links, T: Seated, K: Tallie
         clock: share,
     });
     Closed {
-        plant,
+        plant: ClosedPlant { plant },
         buses: lines,
         clock,
         ended,

@@ -5,10 +5,7 @@ ghost use Rattle.workers.specs.Crews.{AreStartedBuses, AreStartedScans};
 ghost use Rattle.workers.specs.Teams.{AreServed, AreWorkers};
 
 use crate::bus_threads::{BusTask, StartedBus, finish_bus, start_bus};
-use crate::bus_worker::Served;
 use crate::ended::End;
-use crate::gate::Gate;
-use crate::links::Links;
 use crate::scan_threads::{ScanTask, StartedScans, finish_scans, start_scans};
 use buslink::Bus;
 use plantlock::{Basis, Share, Shared};
@@ -17,6 +14,7 @@ use std::alloc::Global;
 use std::sync::Wait;
 use std::thread::{Scope, Threads};
 use std::time::Clock as Timer;
+use turns::{Gate, Links, Served};
 
 /// What all workers share.
 #[derive(Drop)]

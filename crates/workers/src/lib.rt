@@ -1,27 +1,33 @@
-//! Scan workers, a worker for each bus, and the clock's, over the plant under its lock.
+//! A run: scan workers, a worker for each bus, and the clock, over the plant under its lock.
+//!
+//! What crosses the boundary: [`run`] opens a plant on buses and a clock, lets a thread work for each
+//! scan worker and each bus until the end is told, and opens the lock for good. A [`Closed`] is what
+//! it leaves: the plant with its history, in which nothing is open, the buses, the clock, and why the
+//! run ended. The definition to read first is `IsClosed` (specs/Closings.antt).
+//!
+//! ```text
+//! let left = run(rt, alloc, Opening { setup, limit }, buses, clock, 2, &OpenGate)?;
+//! let events = left.plant.as_plant().len();
+//! ```
 #![tactic(auto)]
 
 mod beginning;
 mod bus_threads;
-mod bus_worker;
-mod clock_worker;
 mod closed;
+mod closed_plant;
 mod closing;
 mod crew;
 mod ended;
-mod gate;
-mod links;
 mod pairing;
 mod running;
 mod scan_threads;
-mod scan_worker;
 mod serving;
 mod settling;
 mod team;
-mod turn;
 mod working;
 
 pub use closed::{Closed, NotStarted};
+pub use closed_plant::ClosedPlant;
 pub use ended::Ended;
-pub use gate::{Gate, OpenGate};
 pub use running::{Opening, run};
+pub use turns::{Gate, OpenGate};

@@ -5,11 +5,10 @@ ghost use Rattle.plantevents.specs.declared.role.Role.TheVariants as roles;
 ghost use Rattle.plantlock.specs.Receipts.{AreFresh};
 ghost use Rattle.workers.specs.Teams.{AreServed};
 
-use crate::bus_worker::Served;
-use crate::links::Links;
 use buslink::Bus;
 use plantlock::{Basis, Share};
 use seats::Seated;
+use turns::{Links, Served};
 
 /// Puts each bus and its Share together. Both lists are empty afterwards, and keep their room.
 pub(crate) fn put_together<'a, B: Bus, J: Basis + Links, T: Seated>(

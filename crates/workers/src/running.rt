@@ -12,8 +12,6 @@ use crate::closed::{Closed, NotStarted};
 use crate::closing::close;
 use crate::crew::Floor;
 use crate::ended::{End, Ended};
-use crate::gate::Gate;
-use crate::links::Links;
 use crate::settling::settle;
 use crate::team::Team;
 use crate::working::{Crew, work};
@@ -27,6 +25,7 @@ use std::marker::Brand;
 use std::sync::{OnceLock, Wait};
 use std::thread::Threads;
 use std::time::Clock as Timer;
+use turns::{Gate, Links};
 
 /// What a run is opened with: what a text was loaded to, and the most events of its history, 100 to
 /// 1,000,000.

@@ -1,14 +1,8 @@
 //! The loops of the workers, until the end is told.
 
-ghost use Rattle.workers.specs.Logs.{IsServed, IsTimed, IsWorker, log_of};
+ghost use Rattle.turns.specs.Logs.{IsServed, IsTimed, IsWorker, log_of};
 
-use crate::bus_worker::{Served, bus_turn};
-use crate::clock_worker::{Timed, tick_once};
 use crate::ended::{End, Ended};
-use crate::gate::Gate;
-use crate::links::Links;
-use crate::scan_worker::scan_turn;
-use crate::turn::Turn;
 use buslink::{Bus, Clock};
 use plantlock::{Basis, Share, Shared};
 use seats::{Seated, Tallies};
@@ -16,6 +10,7 @@ use std::alloc::Global;
 use std::sync::Wait;
 use std::thread;
 use std::time::{Clock as Timer, Duration};
+use turns::{Gate, Links, Served, Timed, Turn, bus_turn, scan_turn, tick_once};
 
 /// How long an idle worker sleeps, in microseconds.
 const PAUSE: u64 = 50;

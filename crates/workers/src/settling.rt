@@ -3,18 +3,14 @@
 ghost use Rattle.std.specs.Prelude.{◌≡◌, ◌<◌, ◌≤◌, length, vec_len};
 ghost use Rattle.workers.specs.Teams.{AreServed, AreWorkers, IsTeam, HasSameCounts};
 
-use crate::bus_worker::{Served, bus_turn};
-use crate::gate::Gate;
-use crate::links::Links;
-use crate::scan_worker::scan_turn;
 use crate::team::Team;
-use crate::turn::Turn;
 use buslink::{Bus, Clock};
 use plant::CallError;
 use plantlock::{Basis, Share, Shared};
 use seats::{Seated, Tallies};
 use std::alloc::Global;
 use std::sync::Wait;
+use turns::{Gate, Links, Served, Turn, bus_turn, scan_turn};
 
 /// A turn of one bus.
 fn turn_at<'a, B: Bus, J: Basis + Links, T: Seated, K: Tallies<T>, G: Gate, R: Wait>(

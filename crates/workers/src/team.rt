@@ -1,10 +1,9 @@
 //! The links with their Shares.
 
-use crate::bus_worker::Served;
-use crate::clock_worker::Timed;
 use buslink::{Bus, Clock};
 use plantlock::{Basis, Share};
 use seats::Seated;
+use turns::{Served, Timed};
 
 /// The buses and the clock with their Shares, and the Shares of the scan workers.
 #[derive(Drop)]

@@ -6,8 +6,6 @@ ghost use Rattle.workers.specs.Teams.{IsTeam, HasSameCounts};
 
 use crate::bus_threads::StartedBus;
 use crate::crew::{Floor, finish_buses, finish_workers, start_buses, start_workers};
-use crate::gate::Gate;
-use crate::links::Links;
 use crate::scan_threads::StartedScans;
 use crate::serving::serve_clock;
 use crate::team::Team;
@@ -19,6 +17,7 @@ use std::sync::Wait;
 use std::thread;
 use std::thread::{Scope, Threads};
 use std::time::Clock as Timer;
+use turns::{Gate, Links};
 
 /// Room for the threads, made before the first begins.
 #[derive(Drop)]

@@ -1,6 +1,6 @@
 use Rattle.std.proofs.Common.{sym, true≢false}
-use Rattle.workers.proofs.Rounds.{shows_handed}
-use Rattle.workers.proofs.bus_worker.send_once.Goals as goal
+use Rattle.turns.proofs.Rounds.{shows_handed}
+use Rattle.turns.proofs.bus_worker.send_once.Goals as goal
 
 pub unreachable-requires-in_default-done : goal.unreachable-requires-in_default-done
 unreachable-requires-in_default-done g c =

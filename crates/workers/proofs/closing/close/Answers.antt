@@ -3,8 +3,8 @@ use Rattle.plantevents.specs.Legal.{AreLegal}
 use Rattle.plantlock.specs.Each.{Each}
 use Rattle.plantlock.specs.Receipts.{HasPart, HaveParts}
 use Rattle.workers.specs.Closings.{IsLinked}
-use Rattle.workers.specs.Logs.{log_of}
-use Rattle.workers.proofs.Told.{all_linked, no_hands, no_scans, timed}
+use Rattle.turns.specs.Logs.{log_of}
+use Rattle.workers.proofs.Told.{all_linked, nothing_open, timed}
 use Rattle.workers.proofs.closing.close.Goals as goal
 
 pub returns-clause-closed : goal.returns-clause-closed
@@ -21,19 +21,31 @@ returns-clause-closed g c =
     let of_buses : HaveParts (map (λ s. s.share) served) h = subst (λ xs. HaveParts xs h) shares parts.buses in
     let of_workers : HaveParts workers h = subst (λ xs. HaveParts xs h) c.close-plant.ensures.workers parts.workers in
     let lines = c.take_apart.ensures.lines in
-    let count = c.requires.workers in
     record {
       plant = c.close-plant.ensures.plant;
       legal = subst (λ p. AreLegal p h) c.close-plant.ensures.plant c.close-plant.ensures.legal;
-      no_scan = λ w below.
-          no_scans h workers w (omega (arith, below, count)) c.requires.team.workers of_workers (shows.worker w h);
-      no_hand = λ b below.
-          no_hands logs log h served b (subst (λ xs. b < length xs) lines below) c.requires.team.buses of_buses
-          (shows.hand b h);
+      idle =
+          nothing_open c.close-plant.result.plant g.J.Basis.start.plant logs log served workers
+          c.close-plant.ensures.plant c.requires.workers c.requires.buses c.requires.team.workers of_workers
+          c.requires.team.buses of_buses shows.worker shows.hand;
       buses =
           subst (λ xs. Each (λ b line. IsLinked (log_of logs b) b h (log line)) 0 xs) (sym lines)
-          (all_linked logs log h served c.requires.team.buses of_buses shows_links.sent shows_links.heard);
+          (all_linked logs log h served c.requires.team.buses of_buses shows_links.sent shows_links.heard
+          shows_links.downs);
       clock =
           timed g.J.Links.clock (g.C.Clock.log c.args.team.timed.clock) c.args.team.timed.share h c.requires.team.timed
           (subst (λ s. HasPart s h) c.close-plant.ensures.clock parts.clock) (shows_links.given h);
     }
+
+pub invariant_of-result : goal.invariant_of-result
+invariant_of-result g c =
+    let h = c.close-plant.result.plant.history in
+    let served = c.args.team.buses.items in
+    let workers = c.args.team.workers.items in
+    let parts = c.close-plant.ensures.parts in
+    let shows = c.what_a_part_shows.ensures in
+    let shares = c.close-plant.ensures.buses ∙ c.take_apart.ensures.shares in
+    nothing_open c.close-plant.result.plant g.J.Basis.start.plant g.J.Links.buses g.B.Bus.log served workers
+    c.close-plant.ensures.plant c.requires.workers c.requires.buses c.requires.team.workers
+    (subst (λ xs. HaveParts xs h) c.close-plant.ensures.workers parts.workers) c.requires.team.buses
+    (subst (λ xs. HaveParts xs h) shares parts.buses) shows.worker shows.hand

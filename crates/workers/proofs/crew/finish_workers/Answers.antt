@@ -1,7 +1,7 @@
 use Rattle.std.proofs.Common.{◌≡◌, ◌+◌, ◌<◌, ◌∙◌, length, arith, subst, sym}
 use Rattle.plantlock.specs.Each.{Each}
 use Rattle.plantlock.proofs.Eaching.{each_first, each_rest, each_push}
-use Rattle.workers.specs.Logs.{IsWorker}
+use Rattle.turns.specs.Logs.{IsWorker}
 use Rattle.workers.specs.Started.{IsStartedScans}
 use Rattle.workers.specs.Teams.{AreWorkers}
 use Rattle.workers.proofs.crew.finish_workers.Goals as goal

@@ -1,7 +1,7 @@
 use Rattle.std.proofs.Common.{◌≡◌, ◌+◌, ◌<◌, ◌∙◌, length, arith, subst, sym}
 use Rattle.plantlock.proofs.Eaching.{each_first, each_rest, each_push}
 use Rattle.workers.specs.Crews.{AreStartedBuses}
-use Rattle.workers.specs.Logs.{IsServed, log_of}
+use Rattle.turns.specs.Logs.{IsServed, log_of}
 use Rattle.workers.specs.Started.{IsStartedBus}
 use Rattle.workers.specs.Teams.{AreServed}
 use Rattle.workers.proofs.crew.start_buses.Goals as goal

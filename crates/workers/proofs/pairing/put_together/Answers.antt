@@ -3,7 +3,7 @@ use Rattle.plantevents.specs.declared.role.Role.TheVariants.{Bus}
 use Rattle.plantlock.specs.Each.{Each}
 use Rattle.plantlock.specs.Receipts.{IsFresh}
 use Rattle.plantlock.proofs.Eaching.{each_first, each_rest, each_push, each_none}
-use Rattle.workers.specs.Logs.{IsServed, log_of}
+use Rattle.turns.specs.Logs.{IsServed, log_of}
 use Rattle.workers.specs.Teams.{AreServed}
 use Rattle.workers.proofs.Parting.{fresh_served, logs_of_lines}
 use Rattle.workers.proofs.pairing.put_together.Goals as goal

@@ -3,7 +3,7 @@ use Rattle.std.specs.Prelude.{vec_len, vec_capacity}
 use Rattle.plantevents.specs.declared.role.Role.TheVariants.{Bus}
 use Rattle.plantlock.specs.Each.{Each}
 use Rattle.plantlock.specs.Receipts.{IsFresh}
-use Rattle.workers.specs.Logs.{log_of}
+use Rattle.turns.specs.Logs.{log_of}
 use Rattle.workers.specs.Teams.{AreServed}
 use Rattle.workers.proofs.pairing.put_together.Given as goal
 

@@ -1,4 +1,4 @@
-use Rattle.workers.specs.Logs.{IsServed, log_of}
+use Rattle.turns.specs.Logs.{IsServed, log_of}
 use Rattle.workers.proofs.serving.serve_bus.Given as goal
 
 abbrev pub invariant-loop : goal.invariant-loop

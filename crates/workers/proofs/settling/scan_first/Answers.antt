@@ -1,5 +1,5 @@
 use Rattle.std.proofs.Common.{◌<◌, length, arith}
-use Rattle.workers.specs.Logs.{IsWorker}
+use Rattle.turns.specs.Logs.{IsWorker}
 use Rattle.workers.proofs.Lists.{each_set, stands}
 use Rattle.workers.proofs.settling.scan_first.Goals as goal
 

@@ -1,5 +1,5 @@
 use Rattle.std.proofs.Common.{◌<◌, length, arith}
-use Rattle.workers.specs.Logs.{IsServed, log_of}
+use Rattle.turns.specs.Logs.{IsServed, log_of}
 use Rattle.workers.proofs.Lists.{each_at, each_set_at, stands}
 use Rattle.workers.proofs.settling.turn_at.Goals as goal
 
