@@ -130,10 +130,10 @@ impl Plant {
         requires limit { IsLimit limit }
         ensures { IfOk result (λ plant. plant ≡ opened setup workers limit) }
     {
+        let buses = setup.plan().buses();
         let setups = task_setups(alloc, setup.plan())?;
         let tasks = Tasks::new(alloc, &setups)?;
         let image = first_image(alloc, &setup)?;
-        let buses = setup.plan().buses();
         let counts = vec![in alloc; 0u16; setup.plan().sources().len()]?;
         let takes = vec![in alloc; 0u64; setup.plan().tasks()]?;
         let scans = idle_workers(alloc, workers)?;

@@ -1,2 +1,3 @@
 pub mod Choosing
 pub mod Following
+pub mod Listing

@@ -1,2 +1,3 @@
+pub mod ReadyLists
 pub mod TaskSets
 pub mod TaskSetSteps

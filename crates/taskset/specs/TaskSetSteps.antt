@@ -1,9 +1,9 @@
 -- What private functions say: which tasks are ready, and which goes next, by what is kept.
-use Rattle.std.specs.Prelude.{◌≡◌, ℕ, ◌<◌, ◌⊎◌, Bool, not, ◌&&◌, List, slice_index_or, Option, Some, None}
+use Rattle.std.specs.Prelude.{ℕ, Bool, not, ◌&&◌, List, slice_index_or, Option, Some, None}
 use Rattle.plantevents.specs.declared.activator.Activator.{Activator}
 use Rattle.plantevents.specs.declared.activator.Activator.TheVariants.{Messages}
 use Rattle.dalievent.specs.Messages.{information}
-use Rattle.plantevents.specs.Choices.{Rank, Precedes}
+use Rattle.plantevents.specs.Choices.{Rank}
 use Rattle.plantevents.specs.Readiness.{ready_by}
 use Rattle.taskset.specs.declared.setup.TaskSetup.{TaskSetup}
 use Rattle.taskset.specs.TaskSets.{KeptTask, task_at}
@@ -21,12 +21,6 @@ is_ready task moment = ready_by task.setup.activator moment task.last_take task.
 abbrev pub is_free_task : KeptTask → ℕ → Bool
 is_free_task task moment = is_ready task moment && not task.is_scanned
 
--- of two that are ready, the one that is declared later goes first
-abbrev pub GoesBefore : KeptTask → KeptTask → Type 0
-GoesBefore later earlier =
-    (later.setup.priority < earlier.setup.priority)
-    ⊎ ((later.setup.priority ≡ earlier.setup.priority) × (later.since < earlier.since))
-
 -- of the task of this number
 abbrev pub is_free_at : List KeptTask → ℕ → ℕ → Bool
 is_free_at tasks moment t = is_free_task (task_at tasks t) moment
@@ -34,11 +28,6 @@ is_free_at tasks moment t = is_free_task (task_at tasks t) moment
 abbrev pub rank_at : List KeptTask → ℕ → Rank
 rank_at tasks t =
     record { priority = (task_at tasks t).setup.priority; since = (task_at tasks t).since; number = t }
-
--- of two numbers this one goes first
-abbrev pub IsFirstOfTwo : (ℕ → Rank) → ℕ → ℕ → ℕ → Type 0
-IsFirstOfTwo rank one other first =
-    ((first ≡ one) × Precedes (rank one) (rank other)) ⊎ ((first ≡ other) × Precedes (rank other) (rank one))
 
 -- what stands past the end of a list
 abbrev pub no_setup : TaskSetup

@@ -14,6 +14,8 @@
 mod activation;
 mod choice;
 mod laws;
+mod noting;
+mod ready_list;
 mod setup;
 mod task_state;
 mod tasks;

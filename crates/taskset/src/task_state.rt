@@ -1,15 +1,14 @@
 //! What is kept of one task.
 ghost use Rattle.std.specs.Prelude.{◌≡◌, ℕ, ◌+◌, ◌<◌, ◌^◌, [], ◌∷◌, List, length};
-ghost use Rattle.std.specs.Prelude.{◌↔◌, IsTrue, IfOk, Some, slice_get};
+ghost use Rattle.std.specs.Prelude.{◌||◌, true, false, IfOk, Some, slice_get};
 ghost use Rattle.ilimage.specs.Snapshots.{ScanStart};
 ghost use Rattle.ilmachine.specs.Scans.{Scan};
 ghost use Rattle.plantevents.specs.declared.event.Event.{Event};
 ghost use Rattle.plantevents.specs.declared.event.Event.TheVariants.{Tick, Heard, Take, Commit};
 ghost use Rattle.plantevents.specs.Histories.{OpenScan, moment, scan};
-ghost use Rattle.plantevents.specs.Readiness.{ready};
 ghost use Rattle.taskset.specs.declared.setup.TaskSetup.{TaskSetup as Setup};
 ghost use Rattle.taskset.specs.TaskSets.{HasInterval, TaskFollows};
-ghost use Rattle.taskset.specs.TaskSetSteps.{is_ready, is_free_task, GoesBefore};
+ghost use Rattle.taskset.specs.TaskSetSteps.{is_ready};
 
 use crate::activation::activation_by;
 use crate::setup::TaskSetup;
@@ -89,42 +88,52 @@ impl TaskState {
         }
     }
 
-    /// Notes a tick at a place of the history, before which the moment was `now`.
-    pub(crate) fn tick(&mut self, place: u64, now: u64)
+    /// Notes a tick, at a place of the history: whether the task was ready before, and is after.
+    pub(crate) fn tick(&mut self, place: u64, was: bool, is: bool)
         requires small { place + 1 < 2 ^ 64 }
-        ensures { (setup : Setup) (t m : ℕ) (h : List Event)
-            → TaskFollows setup t h self.old → now ≡ moment h → place ≡ length h
+        ensures same { self.new ≡ record self.old { since = self.new.since } }
+        ensures stays { was ≡ true → self.new.since ≡ self.old.since }
+        ensures follows { (setup : Setup) (t m : ℕ) (h : List Event)
+            → TaskFollows setup t h self.old → was ≡ is_ready self.old (moment h)
+            → is ≡ is_ready self.old m → place ≡ length h
             → TaskFollows setup t (Tick m ∷ h) self.new }
     {
-        if !self.is_ready(now) {
+        if is && !was {
             self.since = place + 1;
         }
     }
 
-    /// Notes a frame that was heard on a bus.
-    pub(crate) fn heard(&mut self, place: u64, now: u64, bus: u8, frame: Frame24)
+    /// Notes a frame that was heard on a bus. The answer is whether the task was not ready, and is.
+    pub(crate) fn heard(&mut self, place: u64, bus: u8, frame: Frame24) -> bool
         requires small { place + 1 < 2 ^ 64 }
-        ensures { (setup : Setup) (t : ℕ) (h : List Event)
-            → TaskFollows setup t h self.old → now ≡ moment h → place ≡ length h
+        ensures setup { self.new.setup ≡ self.old.setup }
+        ensures stays { result ≡ false → self.new.since ≡ self.old.since }
+        ensures begins { (m : ℕ) → result ≡ true → is_ready self.old m ≡ false }
+        ensures ready { (m : ℕ) → is_ready self.new m ≡ (is_ready self.old m || result) }
+        ensures follows { (setup : Setup) (t : ℕ) (h : List Event)
+            → TaskFollows setup t h self.old → place ≡ length h
             → TaskFollows setup t (Heard bus frame ∷ h) self.new }
     {
-        if !self.is_ready(now) {
+        let Some(information) = activation_by(self.setup.activator, bus, frame) else {
+            return false;
+        };
+        let begins = self.pending.len() == 0;
+        if begins {
             self.since = place + 1;
         }
-        if let Some(information) = activation_by(self.setup.activator, bus, frame) {
-            self.count = self.count.wrapping_add(1);
-            let count = self.count;
-            let event = PendingEvent {
-                place,
-                information,
-                count,
-            };
-            // Each lost event is one of the history, so the count is never at its greatest.
-            if self.pending.len() >= MOST_PENDING {
-                self.lost = self.lost.saturating_add(1);
-            }
-            let _ = self.pending.push_back(event);
+        self.count = self.count.wrapping_add(1);
+        let count = self.count;
+        let event = PendingEvent {
+            place,
+            information,
+            count,
+        };
+        // Each lost event is one of the history, so the count is never at its greatest.
+        if self.pending.len() >= MOST_PENDING {
+            self.lost = self.lost.saturating_add(1);
         }
+        let _ = self.pending.push_back(event);
+        begins
     }
 
     /// Notes that it was taken. The answer is the pending event that this uses up.
@@ -143,26 +152,33 @@ impl TaskState {
 
     /// Notes that its scan was written.
     pub(crate) fn ended(&mut self)
-        ensures { (setup : Setup) (t w n : ℕ) (result : Scan) (running : OpenScan) (h : List Event)
+        ensures same { self.new ≡ record self.old { is_scanned = false } }
+        ensures follows { (setup : Setup) (t w n : ℕ) (result : Scan) (running : OpenScan) (h : List Event)
             → TaskFollows setup t h self.old → scan w h ≡ Some running → running.task ≡ t
             → TaskFollows setup t (Commit w n result ∷ h) self.new }
     {
         self.is_scanned = false;
     }
 
-    /// Whether it is ready at this moment, and no scan of it is open.
-    pub(crate) fn is_free(&self, now: u64) -> bool
-        ensures value { result ≡ is_free_task self.now now }
+    /// Whether a scan of it is open.
+    pub(crate) fn is_scanned(&self) -> bool
+        ensures value { result ≡ self.now.is_scanned }
     {
-        self.is_ready(now) && !self.is_scanned
+        self.is_scanned
     }
 
-    /// Whether it goes before a task that was declared earlier, where both are ready.
-    pub(crate) fn goes_before(&self, earlier: &TaskState) -> bool
-        ensures value { IsTrue result ↔ GoesBefore self.now earlier.now }
+    /// Its priority, of which 0 is the first.
+    pub(crate) fn priority(&self) -> u16
+        ensures value { result ≡ self.now.setup.priority }
     {
-        self.setup.priority < earlier.setup.priority
-            || self.setup.priority == earlier.setup.priority && self.since < earlier.since
+        self.setup.priority
+    }
+
+    /// Where it is ready, the length of the history from which on it was.
+    pub(crate) fn since(&self) -> u64
+        ensures value { result ≡ self.now.since }
+    {
+        self.since
     }
 
     /// The oldest event that is pending.

@@ -3,10 +3,11 @@ ghost use Rattle.std.specs.Prelude.{◌≡◌, ℕ, ◌+◌, ◌<◌, ◌≤◌,
 ghost use Rattle.std.specs.Prelude.{IfOk, All};
 ghost use Rattle.ilimage.specs.Snapshots.{ScanStart};
 ghost use Rattle.ilmachine.specs.Scans.{Scan};
+ghost use Rattle.limits.specs.Limits.{most_tasks};
 ghost use Rattle.plantevents.specs.declared.event.Event.{Event};
 ghost use Rattle.plantevents.specs.declared.event.Event.TheVariants.{Tick, Heard, Take, Commit};
 ghost use Rattle.plantevents.specs.Plants.{Plant, activator};
-ghost use Rattle.plantevents.specs.Histories.{OpenScan, moment, scan};
+ghost use Rattle.plantevents.specs.Histories.{OpenScan, scan};
 ghost use Rattle.plantevents.specs.Readiness.{ready, pending, lost};
 ghost use Rattle.plantevents.specs.Choices.{Chooses, is_free, rank};
 ghost use Rattle.taskset.specs.declared.setup.TaskSetup.{TaskSetup as Setup};
@@ -15,6 +16,8 @@ ghost use Rattle.taskset.specs.TaskSets.{Follows, task_at};
 ghost use Rattle.taskset.specs.TaskSetSteps.{setup_at};
 
 use crate::choice::choose;
+use crate::noting::{heard_all, tick_all};
+use crate::ready_list::{ReadyList, first_ready, leave, relist};
 use crate::setup::TaskSetup;
 use crate::task_state::TaskState;
 use daliframe::Frame24;
@@ -22,8 +25,9 @@ use plantevents::PendingEvent;
 use std::alloc::{AllocError, Global};
 use std::marker::Model;
 
-/// The tasks of a plant: for each what is pending, when it was taken, and since when it is ready.
-/// After `new` no call takes memory.
+/// The tasks of a plant: for each what is pending, when it was taken, and since when it is ready;
+/// and the list of those that are ready, in the order in which they go. After `new` no call takes
+/// memory.
 ///
 /// A place is the number of events before an event. It has 64 bits, and so has the number of events
 /// after it: the caller knows that there are fewer than 2^64.
@@ -31,26 +35,37 @@ use std::marker::Model;
 pub struct Tasks {
     moment: u64,
     states: Vec<TaskState>,
+    ready: ReadyList,
 }
 
 impl Model for Tasks {
     ghost use Rattle.taskset.specs.TaskSets.{TaskSet};
+    ghost use Rattle.taskset.specs.ReadyLists.{IsReadyList};
 
     ghost Value = { TaskSet };
 
     ghost view = { λ t. record { moment = t.moment; tasks = t.states.items } };
+
+    ghost invariant = { λ t. IsReadyList t.states.items t.moment t.ready.items };
 }
 
 impl Tasks {
     /// The tasks of a plant to which nothing has happened, in declared order, with the memory of
-    /// all that may be pending. An interval has 1 millisecond or more.
+    /// all that may be pending. An interval has 1 millisecond or more. There are at most 16, as in a
+    /// plan.
     pub fn new(alloc: Global, setups: &[TaskSetup]) -> Result<Tasks, AllocError>
+        requires few { length setups.now ≤ most_tasks }
         requires intervals { All (λ s. HasInterval s.activator) setups.now }
         ensures follows { IfOk result (λ tasks. (p : Plant)
             → AreSetups p setups.now → Follows p [] tasks) }
     {
         let states = fresh_states(alloc, setups)?;
-        Ok(Tasks { moment: 0, states })
+        let ready = first_ready(&states);
+        Ok(Tasks {
+            moment: 0,
+            states,
+            ready,
+        })
     }
 
     /// How many there are.
@@ -66,7 +81,13 @@ impl Tasks {
         ensures follows { (p : Plant) (h : List Event)
             → Follows p h self.old → place ≡ length h → Follows p (Tick moment ∷ h) self.new }
     {
-        tick_all(&mut self.states, place, self.moment);
+        tick_all(
+            &mut self.states,
+            &mut self.ready,
+            place,
+            self.moment,
+            moment,
+        );
         self.moment = moment;
     }
 
@@ -78,7 +99,7 @@ impl Tasks {
         ensures follows { (p : Plant) (h : List Event)
             → Follows p h self.old → place ≡ length h → Follows p (Heard bus frame ∷ h) self.new }
     {
-        heard_all(&mut self.states, place, self.moment, bus, frame);
+        heard_all(&mut self.states, &mut self.ready, place, bus, frame);
     }
 
     /// Whether a task is ready.
@@ -97,7 +118,7 @@ impl Tasks {
         ensures next { (p : Plant) (h : List Event) → Follows p h self.now
             → Chooses (is_free p h) (rank p h) (length p.plan.tasks) result }
     {
-        choose(&self.states, self.moment)
+        choose(self.ready.as_slice(), &self.states)
     }
 
     /// The oldest event that is pending for a task.
@@ -119,7 +140,11 @@ impl Tasks {
         ensures follows { (p : Plant) (w : ℕ) (s : ScanStart) (h : List Event)
             → Follows p h self.old → place ≡ length h → Follows p (Take w task s ∷ h) self.new }
     {
-        self.states[task].took(place, self.moment)
+        leave(&mut self.ready, task);
+        let event = self.states[task].took(place, self.moment);
+        let is = self.states[task].is_ready(self.moment);
+        relist(&mut self.ready, &self.states, task, false, is);
+        event
     }
 
     /// Notes that a worker wrote what its scan of a task came to.
@@ -154,32 +179,4 @@ fn fresh_states(alloc: Global, setups: &[TaskSetup]) -> Result<Vec<TaskState>, A
         states.push(TaskState::new(alloc, *setup)?)?;
     }
     Ok(states)
-}
-
-/// Notes a tick for each task, at this place of the history, before which the moment was `now`.
-fn tick_all(states: &mut Vec<TaskState>, place: u64, now: u64)
-    requires small { place + 1 < 2 ^ 64 }
-    ensures count { length states.new.items ≡ length states.old.items }
-    ensures follows { (t : ℕ) → t < length states.old.items
-        → (setup : Setup) (m : ℕ) (h : List Event)
-        → TaskFollows setup t h (task_at states.old.items t) → now ≡ moment h → place ≡ length h
-        → TaskFollows setup t (Tick m ∷ h) (task_at states.new.items t) }
-{
-    for i in 0..states.len() {
-        states[i].tick(place, now);
-    }
-}
-
-/// Notes a frame that was heard on a bus for each task.
-fn heard_all(states: &mut Vec<TaskState>, place: u64, now: u64, bus: u8, frame: Frame24)
-    requires small { place + 1 < 2 ^ 64 }
-    ensures count { length states.new.items ≡ length states.old.items }
-    ensures follows { (t : ℕ) → t < length states.old.items
-        → (setup : Setup) (h : List Event)
-        → TaskFollows setup t h (task_at states.old.items t) → now ≡ moment h → place ≡ length h
-        → TaskFollows setup t (Heard bus frame ∷ h) (task_at states.new.items t) }
-{
-    for i in 0..states.len() {
-        states[i].heard(place, now, bus, frame);
-    }
 }

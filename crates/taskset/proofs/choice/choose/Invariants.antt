@@ -1,10 +1,6 @@
-use Rattle.std.proofs.Common.{◌≡◌, ℕ, ◌<◌, Some}
-use Rattle.plantevents.specs.Choices.{Chooses}
-use Rattle.taskset.specs.TaskSetSteps.{is_free_at, rank_at}
+use Rattle.std.proofs.Common.{◌≡◌, true, ℕ, ◌<◌, get_or}
+use Rattle.taskset.specs.TaskSets.{task_at}
 use Rattle.taskset.proofs.choice.choose.Given as goal
 
-abbrev pub invariant-loop-i : goal.invariant-loop-i
-invariant-loop-i l = record {
-  chosen : Chooses (is_free_at l.states l.now) (rank_at l.states) l.i l.best;
-  within : (t : ℕ) → l.best ≡ Some t → t < l.i;
-}
+abbrev pub invariant-loop-task : goal.invariant-loop-task
+invariant-loop-task l = (k : ℕ) → k < l.task-index → (task_at l.states (get_or l.ready k 0)).is_scanned ≡ true

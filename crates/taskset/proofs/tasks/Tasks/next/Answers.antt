@@ -1,7 +1,8 @@
-use Rattle.std.proofs.Common.{List, length, sym, subst}
+use Rattle.std.proofs.Common.{ℕ, List, length, sym, subst}
 use Rattle.plantevents.specs.Choices.{Chooses, is_free, rank}
 use Rattle.taskset.specs.TaskSets.{KeptTask, Follows}
 use Rattle.taskset.specs.TaskSetSteps.{is_free_at, rank_at}
+use Rattle.taskset.specs.ReadyLists.{IsReadyList}
 use Rattle.taskset.proofs.Choosing.{chooses_same}
 use Rattle.taskset.proofs.Following.{free_same, rank_same}
 use Rattle.taskset.proofs.tasks.Tasks.next.Goals as goal
@@ -13,9 +14,11 @@ returns c = record {
       let tasks = c.self.inside.states.items in
       let moment = c.self.inside.moment in
       let best = c.choose.result in
+      let is = subst (λ (ts : List KeptTask). IsReadyList ts moment c.as_slice.result.now) (sym c.deref.ensures.value)
+      (subst (λ (list : List ℕ). IsReadyList tasks moment list) (sym c.as_slice.ensures.value) c.self.invariant) in
       let chosen : Chooses (is_free_at tasks moment) (rank_at tasks) (length tasks) best =
       subst (λ (ts : List KeptTask). Chooses (is_free_at ts moment) (rank_at ts) (length ts) best)
-      c.deref.ensures.value c.choose.ensures in
+      c.deref.ensures.value (c.choose.ensures.first moment is) in
       chooses_same (is_free p h) (is_free_at tasks moment) (rank p h) (rank_at tasks) _ best
       (free_same p h _ was) (rank_same p h _ was)
       (subst (λ n. Chooses (is_free_at tasks moment) (rank_at tasks) n best) was.count chosen);

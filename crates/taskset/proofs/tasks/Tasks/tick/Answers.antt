@@ -9,7 +9,7 @@ returns c = record {
         moment = refl;
         count = c.tick_all.ensures.count ∙ was.count;
         each = λ t lt.
-            c.tick_all.ensures.follows t (let n = was.count in omega arith) (setup_of p t) c.args.moment h
+            c.tick_all.ensures.follows t (let n = was.count in omega arith) (setup_of p t) h
             (was.each t lt) was.moment place;
       };
 }
