@@ -3,7 +3,10 @@
 ghost use Rattle.std.specs.Prelude.{◌≡◌, ◌≤◌, [], length, map, vec_len, vec_capacity, IfOk, IfErr};
 ghost use Rattle.plant.specs.declared.open_fault.OpenFault.TheVariants.{Memory};
 ghost use Rattle.plant.specs.Shown.{IsWorkerCount};
+ghost use Rattle.std.specs.List.{range_with_len};
+ghost use Rattle.seats.specs.Openings.{fresh};
 ghost use Rattle.workers.specs.Beginnings.{IsBegun};
+ghost use Rattle.workers.specs.Crews.{HasRooms};
 
 use crate::closed::NotStarted;
 use crate::closing::Bench;
@@ -36,6 +39,40 @@ fn room_for<X: Drop>(alloc: Global, count: usize) -> Result<Vec<X>, AllocError>
     Ok(list)
 }
 
+/// What is made before the lock: the ledgers, and room for the links with their Shares and for the
+/// threads.
+#[derive(Drop)]
+struct Furniture<'a, B: Bus, J: Basis + Links, N: Names> {
+    rooms: Rooms<'a, B, J, Tie<N>>,
+    served: Vec<Served<'a, B, J, Tie<N>>>,
+    books: Books<N>,
+    ties: Vec<Tie<N>>,
+}
+
+/// Makes what is made before the lock, for so many buses and scan workers.
+fn furnish<'a, B: Bus, J: Basis + Links, N: Names>(
+    alloc: Global,
+    blanks: Blanks,
+    buses: usize,
+    workers: usize,
+) -> Result<Furniture<'a, B, J, N>, AllocError>
+    requires names { blanks ≡ N.names }
+    ensures rooms { IfOk result (λ made. HasRooms buses workers made.rooms) }
+    ensures served { IfOk result
+        (λ made. (made.served.items ≡ []) × (buses ≤ vec_capacity made.served)) }
+    ensures ties { IfOk result (λ made. made.ties.items ≡ map fresh (range_with_len 0 81)) }
+{
+    let rooms = Rooms::new(alloc, buses, workers)?;
+    let served = room_for(alloc, buses)?;
+    let (books, ties) = blanks.open::<N>(alloc)?;
+    Ok(Furniture {
+        rooms,
+        served,
+        books,
+        ties,
+    })
+}
+
 /// The lock round the plant, and the team of its Shares.
 ///
 /// # Errors
@@ -61,31 +98,22 @@ pub(crate) fn begin<'a, B: Bus, C: Clock, J: Basis + Links, N: Names>(
 {
     let mut lines = lines;
     let count = lines.len();
-    let refused = OpenFault::Memory;
-    let Ok(rooms) = Rooms::new(alloc, count, plant.workers()) else {
+    let Ok(made) = furnish::<B, J, N>(alloc, blanks, count, plant.workers()) else {
         return Err(NotStarted {
-            fault: refused,
+            fault: OpenFault::Memory,
             buses: lines,
             clock,
         });
     };
-    let Ok(mut served) = room_for::<Served<'a, B, J, Tie<N>>>(alloc, count) else {
-        return Err(NotStarted {
-            fault: refused,
-            buses: lines,
-            clock,
-        });
-    };
-    let Ok((books, ties)) = blanks.open::<N>(alloc) else {
-        return Err(NotStarted {
-            fault: refused,
-            buses: lines,
-            clock,
-        });
-    };
+    let Furniture {
+        rooms,
+        mut served,
+        books,
+        ties,
+    } = made;
     let Ok((shared, shares)) = Shared::new(alloc, plant, cells, books, ties) else {
         return Err(NotStarted {
-            fault: refused,
+            fault: OpenFault::Memory,
             buses: lines,
             clock,
         });

@@ -1,6 +1,6 @@
 //! All workers at once: one thread for each bus and each scan worker.
 
-ghost use Rattle.std.specs.Prelude.{◌≡◌, ℕ, ◌+◌, ◌<◌, ◌≤◌, [], length, vec_len, vec_capacity};
+ghost use Rattle.std.specs.Prelude.{◌≡◌, ◌+◌, ◌<◌, ◌≤◌, [], length, vec_len, vec_capacity};
 ghost use Rattle.workers.specs.Crews.{AreStartedBuses, AreStartedScans};
 ghost use Rattle.workers.specs.Teams.{AreServed, AreWorkers};
 

@@ -7,8 +7,8 @@ use Rattle.workers.proofs.Lists.{each_so}
 use Rattle.workers.proofs.Parting.{all_unused, fresh_timed, fresh_worker}
 use Rattle.workers.proofs.beginning.begin.Goals as goal
 
-pub new-requires-2-clause-unused : goal.new-requires-2-clause-unused
-new-requires-2-clause-unused g c = all_unused c.in-Ok-open.ties.items c.in-Ok-open.ensures.ties
+pub new-requires-clause-unused : goal.new-requires-clause-unused
+new-requires-clause-unused g c = all_unused c.in-Ok.made.ties.items c.in-Ok.ensures.ties
 
 pub returns-clause-begun : goal.returns-clause-begun
 returns-clause-begun g c =
@@ -29,7 +29,7 @@ returns-clause-begun g c =
     let count = c.len-count.ensures in
     let workers = c.workers.ensures.value in
     let same = ap (λ (p : Shown). p.plant.workers) c.requires.start.0 in
-    let rooms = c.in-Ok.ensures in
+    let rooms = c.in-Ok.ensures.rooms in
     let for_buses = rooms.for_buses in
     let for_workers = rooms.for_workers in
     record {

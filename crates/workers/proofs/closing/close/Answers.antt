@@ -1,4 +1,4 @@
-use Rattle.std.proofs.Common.{◌<◌, ◌∙◌, length, map, arith, subst, sym}
+use Rattle.std.proofs.Common.{◌∙◌, map, subst, sym}
 use Rattle.plantevents.specs.Legal.{AreLegal}
 use Rattle.plantlock.specs.Each.{Each}
 use Rattle.plantlock.specs.Receipts.{HasPart, HaveParts}
