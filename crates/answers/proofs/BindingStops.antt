@@ -4,9 +4,9 @@ use Rattle.std.specs.Str.Lines.{lines}
 use Rattle.wordlines.specs.declared.fault.LineCause.TheVariants.{BadLine, TooLong}
 use Rattle.wordlines.specs.declared.fault.LineFault.TheVariants as bind_faults
 use Rattle.binding.specs.Bindings.{BindFault, IsBadBinding, IsTooLong, BindsSome}
-use Rattle.commands.specs.declared.stop.Stop.{Stop}
-use Rattle.commands.specs.Connected.{IsBindingStop}
-use Rattle.commands.specs.Stops.{of_binding}
+use Rattle.answers.specs.declared.stop.Stop.{Stop}
+use Rattle.answers.specs.Connected.{IsBindingStop}
+use Rattle.answers.specs.Stops.{of_binding}
 
 pub binding_stop : {T : Type 0} (bytes : List ℕ) (r : Result T BindFault) (fault : BindFault) (stop : Stop)
     → r ≡ Err fault

@@ -2,8 +2,8 @@
 use Rattle.std.proofs.Common.{◌≡◌, ℕ, ◌+◌, ◌*◌, List, [], ◌∷◌, ◌++◌, refl, add-one, subst}
 use Rattle.ilblocks.specs.Stores.{Lasting}
 use Rattle.ilverify.specs.Verdicts.{Accepted}
-use Rattle.commands.specs.Taking.{Taking}
-use Rattle.commands.specs.Stepping.{IsScanAt, ScansTo}
+use Rattle.answers.specs.Taking.{Taking}
+use Rattle.answers.specs.Stepping.{IsScanAt, ScansTo}
 
 pub one_more : (code its : Accepted) (every n moment : ℕ) (from : Lasting) (before : List Taking) (between : Lasting)
     (last : Taking) (to : Lasting) → ScansTo code every n from before between → its ≡ code → moment ≡ n * every

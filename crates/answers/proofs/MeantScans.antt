@@ -25,9 +25,9 @@ use Rattle.ilmachine.specs.Scans.{IsScan}
 use Rattle.ilsetup.specs.Loaded.{AreCodes, IsCodeOf, Loaded}
 use Rattle.plantload.specs.Loading.{IsPlanOfText, IsSetup}
 use Rattle.ilsetup.proofs.CodeLemmas.{code_at}
-use Rattle.commands.specs.Taking.{Taking}
-use Rattle.commands.specs.Answered.{IsFirstCalled, IsStepped, ScansMean}
-use Rattle.commands.specs.Stepping.{ScansTo, AreScansOf, HasTask, lasting_at_first, run_of}
+use Rattle.answers.specs.Taking.{Taking}
+use Rattle.answers.specs.Answered.{IsFirstCalled, IsStepped, ScansMean}
+use Rattle.answers.specs.Stepping.{ScansTo, AreScansOf, HasTask, lasting_at_first, run_of}
 
 -- one value for each type
 as_long : (values : List Value) (types : List IlType) → AreOf values types → length values ≡ length types

@@ -12,11 +12,11 @@ use Rattle.plantload.specs.Loading.{IsLoadFault, IsPlanOfText}
 use Rattle.plantload.specs.declared.fault.LoadFault.{LoadFault}
 use Rattle.plantload.specs.declared.fault.LoadFault.TheVariants as load_faults
 use Rattle.plantload.proofs.OneAnswer.{no_fault, same_fault, same_plan, same_setup, none_against}
-use Rattle.commands.specs.Taking.{Taking}
-use Rattle.commands.specs.declared.stop.Stop.{Stop}
-use Rattle.commands.specs.declared.stop.Stop.TheVariants.{Memory, Binding, Load, NoTask}
-use Rattle.commands.specs.Answered.{IsAfterName, IsChecked, IsFirstCalled, IsStep, IsStepped, NoneIsCalled}
-use Rattle.commands.specs.Stepping.{AreScansOf, IsScanAt, Run, ScansTo, lasting_at_first}
+use Rattle.answers.specs.Taking.{Taking}
+use Rattle.answers.specs.declared.stop.Stop.{Stop}
+use Rattle.answers.specs.declared.stop.Stop.TheVariants.{Memory, Binding, Load, NoTask}
+use Rattle.answers.specs.Answered.{IsAfterName, IsChecked, IsFirstCalled, IsStep, IsStepped, NoneIsCalled}
+use Rattle.answers.specs.Stepping.{AreScansOf, IsScanAt, Run, ScansTo, lasting_at_first}
 
 -- ---- scans
 

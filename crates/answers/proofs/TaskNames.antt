@@ -3,7 +3,7 @@ use Rattle.std.proofs.Common.{◌≡◌, ℕ, List, map, Option, Some, None, sym
 use Rattle.std.specs.Prelude.{slice_get, option_map, IfSome}
 use Rattle.std.specs.Char.{to_ascii_lowercase}
 use Rattle.ilplan.specs.Plans.{Planned, PlannedTask}
-use Rattle.commands.specs.Answered.{IsCalled}
+use Rattle.answers.specs.Answered.{IsCalled}
 
 -- the names are the same, without regard to letter case
 abbrev IsAlike : List ℕ → List ℕ → Type 0

@@ -16,9 +16,9 @@ use Rattle.ilsetup.specs.Loaded.{Loaded}
 use Rattle.plantload.specs.Loading.{IsLoadFault, IsPlanOfText, IsSetup}
 use Rattle.plantload.specs.declared.fault.LoadFault.{LoadFault}
 use Rattle.plantload.specs.declared.fault.LoadFault.TheVariants as load_faults
-use Rattle.commands.specs.Stepping.{AreScansOf, Run}
-use Rattle.commands.specs.declared.stop.Stop.{Stop}
-use Rattle.commands.specs.declared.stop.Stop.TheVariants.{Memory, Binding, Load, NoTask}
+use Rattle.answers.specs.Stepping.{AreScansOf, Run}
+use Rattle.answers.specs.declared.stop.Stop.{Stop}
+use Rattle.answers.specs.declared.stop.Stop.TheVariants.{Memory, Binding, Load, NoTask}
 
 -- ---- the task of a name
 

@@ -5,8 +5,8 @@ use Rattle.wordlines.specs.declared.fault.LineCause.TheVariants.{BadLine, TooLon
 use Rattle.wordlines.specs.declared.fault.LineFault.TheVariants as bind_faults
 use Rattle.binding.specs.Bindings.{IsBinding, IsBadBinding, IsTooLong, BindsSome}
 use Rattle.binding.specs.Wirings.{Wiring, one_bus}
-use Rattle.commands.specs.declared.stop.Stop.{Stop}
-use Rattle.commands.specs.declared.stop.Stop.TheVariants as stops
+use Rattle.answers.specs.declared.stop.Stop.{Stop}
+use Rattle.answers.specs.declared.stop.Stop.TheVariants as stops
 
 abbrev pub IsConnected : Option (List ℕ) → Wiring → Type 0
 IsConnected None wiring = wiring ≡ one_bus

@@ -2,13 +2,13 @@
 use Rattle.std.specs.Prelude.{ℕ, ◌⊎◌, List, Option}
 use Rattle.binding.specs.Wirings.{Wiring}
 use Rattle.plantload.specs.Loading.{IsSetup}
-use Rattle.commands.specs.declared.answers.Answer.{Answer}
-use Rattle.commands.specs.declared.answers.Answer.TheVariants as answers
-use Rattle.commands.specs.declared.options.Inquiry.{Inquiry}
-use Rattle.commands.specs.declared.options.Inquiry.TheVariants.{Check, Step}
-use Rattle.commands.specs.declared.stop.Stop.{Stop}
-use Rattle.commands.specs.Answered.{IsCheckStop, IsStepStop, IsStepped, IsStopOrMemory}
-use Rattle.commands.specs.Connected.{IsConnected, IsBindingStop}
+use Rattle.answers.specs.declared.answers.Answer.{Answer}
+use Rattle.answers.specs.declared.answers.Answer.TheVariants as answers
+use Rattle.commandline.specs.declared.options.Inquiry.{Inquiry}
+use Rattle.commandline.specs.declared.options.Inquiry.TheVariants.{Check, Step}
+use Rattle.answers.specs.declared.stop.Stop.{Stop}
+use Rattle.answers.specs.Answered.{IsCheckStop, IsStepStop, IsStepped, IsStopOrMemory}
+use Rattle.answers.specs.Connected.{IsConnected, IsBindingStop}
 
 -- what stands against an inquiry on a text
 abbrev pub IsInquiryStop : Wiring → List ℕ → Inquiry → Stop → Type 0

@@ -10,7 +10,7 @@ use Rattle.ilplan.specs.Plans.{PlannedTask, first_values, is_event, kinds_of}
 use Rattle.ilverify.specs.Verdicts.{Accepted}
 use Rattle.ilmachine.specs.Scans.{IsScan}
 use Rattle.ilsetup.specs.Loaded.{Loaded}
-use Rattle.commands.specs.Taking.{Taking}
+use Rattle.answers.specs.Taking.{Taking}
 
 -- a scan of the code from this at this moment leaves that, with its steps and its requests
 pub record IsScanAt (code : Accepted) (moment : ℕ) (from : Lasting) (taken : Taking) (to : Lasting) : Type 0 where

@@ -6,8 +6,8 @@ use Rattle.binding.specs.Printed.{printed_bind_fault}
 use Rattle.plantload.specs.declared.fault.LoadFault.{LoadFault}
 use Rattle.plantload.specs.declared.fault.LoadFault.TheVariants as load_faults
 use Rattle.plantload.specs.PrintedFaults.{printed_load_fault}
-use Rattle.commands.specs.declared.stop.Stop.{Stop}
-use Rattle.commands.specs.declared.stop.Stop.TheVariants.{Memory, Binding, Load, NoTask}
+use Rattle.answers.specs.declared.stop.Stop.{Stop}
+use Rattle.answers.specs.declared.stop.Stop.TheVariants.{Memory, Binding, Load, NoTask}
 
 -- out of memory is one, wherever it comes from
 abbrev pub of_load : LoadFault → Stop

@@ -1,7 +1,7 @@
 //! The lines that answers are printed as.
 
 ghost use Rattle.std.specs.Prelude.{Some};
-ghost use Rattle.commands.specs.Printed.{printed_task, printed_scan, printed_variable};
+ghost use Rattle.answers.specs.Printed.{printed_task, printed_scan, printed_variable};
 
 use ilplan::SlotName;
 use iltypes::Value;

@@ -4,7 +4,7 @@ ghost use Rattle.std.specs.Prelude.{◌≡◌, ◌+◌, ◌*◌, ◌^◌, ◌≤
 ghost use Rattle.std.specs.Arc.{arc_value};
 ghost use Rattle.iltypes.specs.Values.{AreOf};
 ghost use Rattle.ilblocks.specs.Stores.{blocks_at_first};
-ghost use Rattle.commands.specs.Stepping.{IsScanAt, ScansTo, lasting};
+ghost use Rattle.answers.specs.Stepping.{IsScanAt, ScansTo, lasting};
 
 use gearcmd::Request;
 use ilimage::Snapshot;
@@ -24,7 +24,7 @@ pub struct Taken {
 }
 
 impl Model for Taken {
-    ghost use Rattle.commands.specs.Taking.{Taking};
+    ghost use Rattle.answers.specs.Taking.{Taking};
 
     ghost Value = { Taking };
 

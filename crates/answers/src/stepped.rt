@@ -27,7 +27,7 @@ impl Model for Stepped {
     ghost use Rattle.iltrees.specs.declared.nested.Piece.{Piece};
     ghost use Rattle.iltrees.specs.Trees.{pieces_of};
     ghost use Rattle.iltrees.specs.TreeSteps.{tree_of, tree_again};
-    ghost use Rattle.commands.specs.Stepping.{HasTask, Run, run_of};
+    ghost use Rattle.answers.specs.Stepping.{HasTask, Run, run_of};
 
     ghost Value = { Run };
 
@@ -45,7 +45,7 @@ impl Stepped {
     ghost use Rattle.std.specs.Prelude.{◌≡◌, ◌<◌, length, slice_get, Some, option_map};
     ghost use Rattle.std.specs.Prelude.{option_and_then};
     ghost use Rattle.ilplan.specs.Plans.{instance_name, slot_at, variable_name};
-    ghost use Rattle.commands.specs.Stepping.{HasTask, Run, kind_of, run_of};
+    ghost use Rattle.answers.specs.Stepping.{HasTask, Run, kind_of, run_of};
 
     /// These scans of the task of this number.
     pub fn new(setup: Setup, task: usize, scans: Scans) -> Stepped

@@ -63,7 +63,7 @@ impl Error for Stop {}
 
 impl fmt::Display for Stop {
     ghost use Rattle.std.specs.Prelude.{Some};
-    ghost use Rattle.commands.specs.Stops.{printed_stop};
+    ghost use Rattle.answers.specs.Stops.{printed_stop};
 
     ghost output = { λ stop. Some (printed_stop stop) };
 
@@ -79,7 +79,7 @@ impl fmt::Display for Stop {
 
 impl From<AllocError> for Stop {
     ghost use Rattle.std.specs.Prelude.{◌≡◌};
-    ghost use Rattle.commands.specs.declared.stop.Stop.TheVariants.{Memory};
+    ghost use Rattle.answers.specs.declared.stop.Stop.TheVariants.{Memory};
 
     ghost from_gives = { λ _ e. e ≡ Memory };
 
@@ -90,7 +90,7 @@ impl From<AllocError> for Stop {
 
 impl<T: Drop> From<AllocFailed<T>> for Stop {
     ghost use Rattle.std.specs.Prelude.{◌≡◌};
-    ghost use Rattle.commands.specs.declared.stop.Stop.TheVariants.{Memory};
+    ghost use Rattle.answers.specs.declared.stop.Stop.TheVariants.{Memory};
 
     ghost from_gives = { λ _ e. e ≡ Memory };
 
@@ -101,7 +101,7 @@ impl<T: Drop> From<AllocFailed<T>> for Stop {
 
 impl From<LoadFault> for Stop {
     ghost use Rattle.std.specs.Prelude.{◌≡◌};
-    ghost use Rattle.commands.specs.Stops.{of_load};
+    ghost use Rattle.answers.specs.Stops.{of_load};
 
     ghost from_gives = { λ fault stop. stop ≡ of_load fault };
 
@@ -115,7 +115,7 @@ impl From<LoadFault> for Stop {
 
 impl From<BindFault> for Stop {
     ghost use Rattle.std.specs.Prelude.{◌≡◌};
-    ghost use Rattle.commands.specs.Stops.{of_binding};
+    ghost use Rattle.answers.specs.Stops.{of_binding};
 
     ghost from_gives = { λ fault stop. stop ≡ of_binding fault };
 

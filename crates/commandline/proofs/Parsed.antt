@@ -7,7 +7,7 @@ use Rattle.clap.specs.Faults.{is_simple_and_free}
 use Rattle.clap.specs.declared.error.Error.{Error}
 use Rattle.clap.specs.declared.parser.matches.ArgMatches.{ArgMatches}
 use Rattle.clap.specs.declared.parser.matches.ArgMatches.TheViews.{out-ArgMatches}
-use Rattle.commands.specs.CommandLine.{command_line}
+use Rattle.commandline.specs.CommandLine.{command_line}
 
 is_free : is_simple_and_free command_line ≡ true
 is_free = refl

@@ -9,13 +9,13 @@ use Rattle.clap.specs.Words.{with_subcommand}
 use Rattle.clap.specs.Simple.{on_top}
 use Rattle.clap.specs.declared.builder.action.ArgAction.TheVariants.{Set}
 use Rattle.clap.specs.declared.builder.value_parser.ValueParser.TheVariants as parsers
-use Rattle.commands.specs.declared.options.Files.{Files}
-use Rattle.commands.specs.declared.options.Inquiry.{Inquiry}
-use Rattle.commands.specs.declared.options.Inquiry.TheVariants.{Check, Step}
-use Rattle.commands.specs.declared.options.Invocation.{Invocation}
-use Rattle.commands.specs.declared.options.Invocation.TheVariants.{Ask, Play, Run}
-use Rattle.commands.specs.declared.options.PlayFiles.{PlayFiles}
-use Rattle.commands.specs.declared.options.RunSize.{RunSize}
+use Rattle.commandline.specs.declared.options.Files.{Files}
+use Rattle.commandline.specs.declared.options.Inquiry.{Inquiry}
+use Rattle.commandline.specs.declared.options.Inquiry.TheVariants.{Check, Step}
+use Rattle.commandline.specs.declared.options.Invocation.{Invocation}
+use Rattle.commandline.specs.declared.options.Invocation.TheVariants.{Ask, Play, Run}
+use Rattle.commandline.specs.declared.options.PlayFiles.{PlayFiles}
+use Rattle.commandline.specs.declared.options.RunSize.{RunSize}
 
 -- ---- the words that are taken
 

@@ -1,7 +1,7 @@
 -- The files that an inquiry reads.
-use Rattle.commands.specs.declared.options.Files.{Files}
-use Rattle.commands.specs.declared.options.Inquiry.{Inquiry}
-use Rattle.commands.specs.declared.options.Inquiry.TheVariants.{Check, Step}
+use Rattle.commandline.specs.declared.options.Files.{Files}
+use Rattle.commandline.specs.declared.options.Inquiry.{Inquiry}
+use Rattle.commandline.specs.declared.options.Inquiry.TheVariants.{Check, Step}
 
 -- those that the command line names, whatever the command
 abbrev pub files_of : Inquiry → Files

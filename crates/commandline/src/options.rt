@@ -4,12 +4,12 @@ ghost use Rattle.std.specs.Prelude.{◌≡◌, IfOk, codes, false, map, string_b
 ghost use Rattle.clap.specs.Words.{FailsBy, app_of, fault_of, first_of, found_of, one_of, rows_of};
 ghost use Rattle.clap.specs.Words.{rule_of, shape_of};
 ghost use Rattle.clap.specs.declared.builder.command.Command.TheViews.{out-Command};
-ghost use Rattle.commands.specs.CommandLine.{AreFiles, ArePlayFiles, IsNumber, IsInvocation};
-ghost use Rattle.commands.specs.CommandLine.{IsOfCommand, IsOfInquiry, IsRunSize};
-ghost use Rattle.commands.specs.CommandLine.{check_command, command_line, given, inquiry_line};
-ghost use Rattle.commands.specs.CommandLine.{number_option, option, play_command, played_line};
-ghost use Rattle.commands.specs.CommandLine.{run_command, scenario_files, step_command, step_files};
-ghost use Rattle.commands.specs.CommandLine.{wanted};
+ghost use Rattle.commandline.specs.CommandLine.{AreFiles, ArePlayFiles, IsNumber, IsInvocation};
+ghost use Rattle.commandline.specs.CommandLine.{IsOfCommand, IsOfInquiry, IsRunSize};
+ghost use Rattle.commandline.specs.CommandLine.{check_command, command_line, given, inquiry_line};
+ghost use Rattle.commandline.specs.CommandLine.{number_option, option, play_command, played_line};
+ghost use Rattle.commandline.specs.CommandLine.{run_command, scenario_files, step_command, step_files};
+ghost use Rattle.commandline.specs.CommandLine.{wanted};
 
 use clap::{Arg, ArgAction, ArgMatches, Command, Error};
 use std::alloc::{AllocError, Global};
@@ -52,7 +52,7 @@ pub enum Inquiry<'a> {
 
 impl<'a> Inquiry<'a> {
     ghost use Rattle.std.specs.Prelude.{◌≡◌};
-    ghost use Rattle.commands.specs.Inquiries.{files_of};
+    ghost use Rattle.commandline.specs.Inquiries.{files_of};
 
     /// The files that the command reads.
     pub fn files(self) -> Files<'a>

@@ -1,12 +1,5 @@
-mod BindingStops
 mod FileFronts
-mod Found
-mod MadeScans
-mod MeantScans
-mod OneStep
-mod Parsed
 mod PlaysOut
 mod ReportedLines
 mod RunsOut
 mod ScenarioFaults
-mod TaskNames

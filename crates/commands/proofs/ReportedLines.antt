@@ -8,11 +8,11 @@ use Rattle.iltypes.specs.declared.value.Value.{Value}
 use Rattle.ilplan.specs.declared.slot.Slot.{Slot}
 use Rattle.ilplan.specs.Plans.{Planned, PlannedTask, instance_name, variable_name}
 use Rattle.ilverify.specs.Verdicts.{Accepted}
-use Rattle.commands.specs.Printed.{printed_task, printed_request, printed_variable}
+use Rattle.answers.specs.Printed.{printed_task, printed_request, printed_variable}
 use Rattle.gearcmd.specs.declared.requests.Request.{Request}
 use Rattle.gearcmd.specs.declared.requests.TaskKind.{TaskKind}
-use Rattle.commands.specs.Taking.{Taking}
-use Rattle.commands.specs.Stepping.{kind_of}
+use Rattle.answers.specs.Taking.{Taking}
+use Rattle.answers.specs.Stepping.{kind_of}
 use Rattle.commands.specs.Reports.{ended, first_lines, first_texts, line_of, of_both, request_lines}
 
 -- a list, and then another

@@ -11,8 +11,8 @@ use Rattle.commands.specs.declared.exit_status.ExitStatus.{ExitStatus}
 use Rattle.commands.specs.declared.exit_status.ExitStatus.TheVariants.{Accepted, Refused, Misused, Failed}
 use Rattle.commands.specs.declared.play_stop.PlayStop.{PlayStop}
 use Rattle.commands.specs.declared.play_stop.PlayStop.TheVariants as play_stops
-use Rattle.commands.specs.declared.stop.Stop.{Stop}
-use Rattle.commands.specs.declared.stop.Stop.TheVariants as stops
+use Rattle.answers.specs.declared.stop.Stop.{Stop}
+use Rattle.answers.specs.declared.stop.Stop.TheVariants as stops
 
 -- the number that the program exits with
 abbrev pub number_of_status : ExitStatus → ℕ

@@ -1,14 +1,5 @@
-pub mod Answered
-pub mod CommandLine
-pub mod Connected
 pub mod ExitStatuses
-pub mod Inquiries
 pub mod Plays
-pub mod Printed
 pub mod Reports
-pub mod Responses
 pub mod Runs
 pub mod Served
-pub mod Stepping
-pub mod Stops
-pub mod Taking

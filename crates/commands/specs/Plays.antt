@@ -14,15 +14,15 @@ use Rattle.plantplay.specs.Playing.{IsAtRest, IsEnding, lines_of}
 use Rattle.plantplay.specs.declared.installation.Installation.{Installation}
 use Rattle.plantplay.specs.declared.playing.Ending.{Ending}
 use Rattle.commands.specs.declared.exit_status.ExitStatus.{ExitStatus}
-use Rattle.commands.specs.declared.options.PlayFiles.{PlayFiles}
+use Rattle.commandline.specs.declared.options.PlayFiles.{PlayFiles}
 use Rattle.commands.specs.declared.play_stop.PlayStop.{PlayStop}
 use Rattle.commands.specs.declared.play_stop.PlayStop.TheVariants.{Text, Scenario, Start}
-use Rattle.commands.specs.declared.stop.Stop.{Stop}
+use Rattle.answers.specs.declared.stop.Stop.{Stop}
 use Rattle.commands.specs.declared.reading.Unread.{Unread}
 use Rattle.commands.specs.declared.serving.Unserved.{Unserved}
 use Rattle.commands.specs.declared.serving.Unserved.TheVariants.{NotRead, NotPrinted}
-use Rattle.commands.specs.Answered.{IsCheckStop, IsStopOrMemory}
-use Rattle.commands.specs.Connected.{IsConnected, IsBindingStop}
+use Rattle.answers.specs.Answered.{IsCheckStop, IsStopOrMemory}
+use Rattle.answers.specs.Connected.{IsConnected, IsBindingStop}
 use Rattle.commands.specs.ExitStatuses.{status_of_ending, status_of_play_stop}
 
 -- the bytes of the three files

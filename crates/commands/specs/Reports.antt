@@ -9,16 +9,16 @@ use Rattle.iltypes.specs.declared.value.Value.{Value}
 use Rattle.ilplan.specs.declared.slot.SlotOwner.{SlotOwner}
 use Rattle.ilplan.specs.Plans.{Planned, instance_name, slot_at, variable_name}
 use Rattle.ilsetup.specs.Loaded.{Loaded}
-use Rattle.commands.specs.declared.answers.Answer.{Answer}
-use Rattle.commands.specs.declared.answers.Answer.TheVariants as answers
-use Rattle.commands.specs.declared.options.Inquiry.{Inquiry}
+use Rattle.answers.specs.declared.answers.Answer.{Answer}
+use Rattle.answers.specs.declared.answers.Answer.TheVariants as answers
+use Rattle.commandline.specs.declared.options.Inquiry.{Inquiry}
 use Rattle.commands.specs.declared.exit_status.ExitStatus.{ExitStatus}
 use Rattle.commands.specs.declared.exit_status.ExitStatus.TheVariants.{Accepted}
 use Rattle.commands.specs.ExitStatuses.{status_of_stop}
-use Rattle.commands.specs.Printed.{printed_task, printed_scan, printed_request, printed_variable}
-use Rattle.commands.specs.Responses.{IsAnswer}
-use Rattle.commands.specs.Stepping.{Run, kind_of}
-use Rattle.commands.specs.Stops.{printed_stop}
+use Rattle.answers.specs.Printed.{printed_task, printed_scan, printed_request, printed_variable}
+use Rattle.answers.specs.Responses.{IsAnswer}
+use Rattle.answers.specs.Stepping.{Run, kind_of}
+use Rattle.answers.specs.Stops.{printed_stop}
 
 -- the first of these texts, one after another
 abbrev pub first_texts : (ℕ → List ℕ) → ℕ → List ℕ

@@ -8,8 +8,8 @@ use Rattle.plantrun.specs.Downs.{has_down}
 use Rattle.plantrun.specs.Runs.{IsRun}
 use Rattle.workers.specs.declared.closed.Closed.{Closed}
 use Rattle.commands.specs.declared.exit_status.ExitStatus.{ExitStatus}
-use Rattle.commands.specs.declared.options.PlayFiles.{PlayFiles}
-use Rattle.commands.specs.declared.options.RunSize.{RunSize}
+use Rattle.commandline.specs.declared.options.PlayFiles.{PlayFiles}
+use Rattle.commandline.specs.declared.options.RunSize.{RunSize}
 use Rattle.commands.specs.declared.play_stop.PlayStop.{PlayStop}
 use Rattle.commands.specs.ExitStatuses.{status_of_play_stop, status_of_run}
 use Rattle.commands.specs.Plays.{PlayBytes, AreGiven, HasScenario, IsPlayStop, IsSetupOf}

@@ -1,6 +1,6 @@
 //! How the program ends.
 
-use crate::stop::Stop;
+use answers::Stop;
 use clap::error::ErrorKind;
 use plantplay::Ending;
 use workers::Ended;

@@ -4,11 +4,10 @@ ghost use Rattle.std.specs.Prelude.{IfErr, IfOk};
 ghost use Rattle.scenario.specs.Scenarios.{IsJudged};
 ghost use Rattle.commands.specs.Plays.{AreGiven, IsSetupOf, IsTextStop, IsUnplayed};
 
-use crate::answers::{binding_of, check};
-use crate::options::PlayFiles;
 use crate::reading::Disk;
 use crate::serving::{Unserved, bytes_at};
-use crate::stop::Stop;
+use answers::{Stop, binding_of, check};
+use commandline::PlayFiles;
 use ilsetup::Setup;
 use simbus::{Scenario, ScenarioFault, parse};
 use std::alloc::Global;

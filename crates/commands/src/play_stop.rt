@@ -1,7 +1,7 @@
 //! Why a scenario isn't played or run.
 
 use crate::exit_status::ExitStatus;
-use crate::stop::Stop;
+use answers::Stop;
 use plantplay::StartFault;
 use simbus::ScenarioFault;
 use std::fmt;

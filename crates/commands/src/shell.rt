@@ -1,12 +1,11 @@
 //! The program over a runtime: its words, its files, its terminal and its threads.
 
 use crate::exit_status::ExitStatus;
-use crate::options;
-use crate::options::Invocation;
 use crate::playing::serve_play;
 use crate::reading::{HostDisk, Unread};
 use crate::running::serve_run;
 use crate::serving::{Unserved, serve};
+use commandline::Invocation;
 use std::rt::{Env, Files};
 use std::sync::Wait;
 use std::thread::Threads;
@@ -48,7 +47,7 @@ fn run_words<R: Files + Print + Eprint + AllocGlobal, T: Threads + Wait + Timer 
     threads: &T,
     words: &[String],
 ) -> ExitStatus {
-    match options::read(rt.alloc(), words) {
+    match commandline::read(rt.alloc(), words) {
         Ok(invocation) => run_invocation(rt, threads, invocation),
         Err(error) => match ExitStatus::of_words(error.kind()) {
             ExitStatus::Failed => no_memory(rt),

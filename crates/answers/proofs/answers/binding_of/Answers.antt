@@ -1,6 +1,6 @@
 use Rattle.std.proofs.Common.{Err, refl}
-use Rattle.commands.proofs.BindingStops.{binding_stop}
-use Rattle.commands.proofs.answers.binding_of.Goals as goal
+use Rattle.answers.proofs.BindingStops.{binding_stop}
+use Rattle.answers.proofs.answers.binding_of.Goals as goal
 
 pub returns-in-Err-clause-stop : goal.returns-in-Err-clause-stop
 returns-in-Err-clause-stop c =

@@ -1,5 +1,5 @@
-use Rattle.commands.proofs.OneStep.{one_check}
-use Rattle.commands.proofs.answers.check.Goals as goal
+use Rattle.answers.proofs.OneStep.{one_check}
+use Rattle.answers.proofs.answers.check.Goals as goal
 
 pub returns-in_err-load-clause-one : goal.returns-in_err-load-clause-one
 returns-in_err-load-clause-one c = one_check c.args.binding.now c.args.text.now

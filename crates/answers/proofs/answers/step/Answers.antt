@@ -1,9 +1,9 @@
 use Rattle.std.proofs.Common.{subst, sym}
 use Rattle.ilplan.specs.Plans.{Planned}
-use Rattle.commands.specs.Answered.{IsFirstCalled}
-use Rattle.commands.proofs.MeantScans.{has_task, setup_is, stepped}
-use Rattle.commands.proofs.OneStep.{one_step}
-use Rattle.commands.proofs.answers.step.Goals as goal
+use Rattle.answers.specs.Answered.{IsFirstCalled}
+use Rattle.answers.proofs.MeantScans.{has_task, setup_is, stepped}
+use Rattle.answers.proofs.OneStep.{one_step}
+use Rattle.answers.proofs.answers.step.Goals as goal
 
 pub returns-in_err-plan-clause-one : goal.returns-in_err-plan-clause-one
 returns-in_err-plan-clause-one c =

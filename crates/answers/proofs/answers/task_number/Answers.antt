@@ -1,7 +1,7 @@
 use Rattle.std.proofs.Common.{ℕ, arith, refl, below_more}
-use Rattle.commands.specs.Answered.{IsCalled}
-use Rattle.commands.proofs.TaskNames.{called, uncalled}
-use Rattle.commands.proofs.answers.task_number.Goals as goal
+use Rattle.answers.specs.Answered.{IsCalled}
+use Rattle.answers.proofs.TaskNames.{called, uncalled}
+use Rattle.answers.proofs.answers.task_number.Goals as goal
 
 pub returns-then-eq_ignore_ascii_case : goal.returns-then-eq_ignore_ascii_case
 returns-then-eq_ignore_ascii_case c =

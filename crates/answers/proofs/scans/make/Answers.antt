@@ -1,7 +1,7 @@
 use Rattle.std.proofs.Common.{◌∙◌}
 use Rattle.std.specs.Arc.{arc_value}
-use Rattle.commands.proofs.MadeScans.{one_more}
-use Rattle.commands.proofs.scans.make.Goals as goal
+use Rattle.answers.proofs.MadeScans.{one_more}
+use Rattle.answers.proofs.scans.make.Goals as goal
 
 pub loop-number-preserved : goal.loop-number-preserved
 loop-number-preserved c =

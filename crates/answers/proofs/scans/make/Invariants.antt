@@ -1,8 +1,8 @@
 use Rattle.std.proofs.Common.{◌≡◌, ◌*◌}
 use Rattle.std.specs.Arc.{arc_value}
 use Rattle.ilblocks.specs.Stores.{blocks_at_first}
-use Rattle.commands.specs.Stepping.{ScansTo, lasting}
-use Rattle.commands.proofs.scans.make.Given as goal
+use Rattle.answers.specs.Stepping.{ScansTo, lasting}
+use Rattle.answers.proofs.scans.make.Given as goal
 
 abbrev pub invariant-loop-number : goal.invariant-loop-number
 invariant-loop-number l =

@@ -1,7 +1,7 @@
 use Rattle.std.proofs.Common.{codes}
 use Rattle.clap.specs.Words.{found_of}
-use Rattle.commands.proofs.Found.{text_found}
-use Rattle.commands.proofs.options.files_in.Goals as goal
+use Rattle.commandline.proofs.Found.{text_found}
+use Rattle.commandline.proofs.options.files_in.Goals as goal
 
 pub returns : goal.returns
 returns c =

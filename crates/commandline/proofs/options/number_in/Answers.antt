@@ -1,7 +1,7 @@
 use Rattle.std.specs.Str.Parse.{ParsesUnsigned, ExplainsUnsignedError, HasUnsignedDigitsIfOk}
 use Rattle.clap.specs.Words.{found_of}
-use Rattle.commands.proofs.Found.{number_given}
-use Rattle.commands.proofs.options.number_in.Goals as goal
+use Rattle.commandline.proofs.Found.{number_given}
+use Rattle.commandline.proofs.options.number_in.Goals as goal
 
 pub returns-in-Some : goal.returns-in-Some
 returns-in-Some c =

@@ -1,7 +1,7 @@
 use Rattle.std.proofs.Common.{rules, ◌≡◌, Ok, Err, map, string_bytes}
 use Rattle.clap.specs.Words.{app_of, found_of, rows_of}
-use Rattle.commands.proofs.Parsed.{named, taken}
-use Rattle.commands.proofs.options.read.Goals as goal
+use Rattle.commandline.proofs.Parsed.{named, taken}
+use Rattle.commandline.proofs.options.read.Goals as goal
 
 pub returns-clause-taken : goal.returns-clause-taken
 returns-clause-taken c =

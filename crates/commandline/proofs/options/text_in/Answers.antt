@@ -1,6 +1,6 @@
 use Rattle.clap.specs.Words.{found_of}
-use Rattle.commands.proofs.Found.{text_given}
-use Rattle.commands.proofs.options.text_in.Goals as goal
+use Rattle.commandline.proofs.Found.{text_given}
+use Rattle.commandline.proofs.options.text_in.Goals as goal
 
 pub returns-in-Some : goal.returns-in-Some
 returns-in-Some c =

@@ -1,0 +1,5 @@
+mod BindingStops
+mod MadeScans
+mod MeantScans
+mod OneStep
+mod TaskNames
