@@ -1,0 +1,26 @@
+//! Pictures of what a scenario did: time goes from left to right in columns, and lamps, buttons,
+//! tasks and buses are rows.
+//!
+//! What crosses the boundary: a [`Picture`], and bytes on a writer, as SVG ([`write_svg`]) or as
+//! lines for a terminal ([`write_text`]). What is drawn is fixed by worked rows (crates/rows); of
+//! the code it is proved that it is safe and ends, for every picture.
+//!
+//! ```text
+//! picture.buses[0].add(alloc, column, Sign::Answered(200))?;
+//! write_svg(&mut out, &picture)?;
+//! ```
+#![tactic(auto)]
+
+mod moment;
+mod parts;
+mod sheet;
+mod svg;
+mod svg_marks;
+mod svg_rows;
+mod text;
+mod text_cells;
+
+pub use moment::Moment;
+pub use parts::{Column, Mark, Picture, Row, Sign};
+pub use svg::write_svg;
+pub use text::write_text;

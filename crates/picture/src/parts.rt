@@ -1,0 +1,154 @@
+//! What a picture is made of.
+
+use crate::Moment;
+use std::alloc::{AllocError, Global};
+
+/// What a scenario did. Of rows of each kind there may be any number.
+#[derive(Drop)]
+pub struct Picture {
+    /// The steps of time, from left to right.
+    pub columns: Vec<Column>,
+    /// The levels of lamps, of groups, and of all lamps of a bus.
+    pub lamps: Vec<Row>,
+    /// What was heard of buttons and sensors.
+    pub sources: Vec<Row>,
+    /// When tasks ran.
+    pub tasks: Vec<Row>,
+    /// What was sent on buses.
+    pub buses: Vec<Row>,
+    /// What is said below, a line each.
+    pub notes: Vec<String>,
+}
+
+/// A step of time.
+#[derive(Drop)]
+pub struct Column {
+    /// The moment that begins here, where one does.
+    pub moment: Option<Moment>,
+    /// What happened, in words.
+    pub title: String,
+}
+
+/// A thing that a picture follows through time.
+#[derive(Drop)]
+pub struct Row {
+    /// What people call it.
+    pub name: String,
+    /// Where it is.
+    pub place: String,
+    /// Its level before its first mark, where it has one.
+    pub level: Option<u8>,
+    /// What happened to it, by rising columns.
+    pub marks: Vec<Mark>,
+}
+
+/// What happened in a column of a row.
+#[derive(Clone, Copy, PartialEq, Eq)]
+pub struct Mark {
+    /// The column, counted from 0.
+    pub column: usize,
+    pub sign: Sign,
+}
+
+/// A kind of mark.
+#[derive(Clone, Copy, PartialEq, Eq)]
+pub enum Sign {
+    /// From here on it has this level, 0 to 254.
+    Level(u8),
+    /// An event with this information was heard.
+    Event(u16),
+    /// An event was heard that nobody waits for.
+    Stray,
+    /// The task ran.
+    Scan,
+    /// Frames were sent, and nobody answered.
+    Sent,
+    /// Frames were sent, and the last was answered.
+    Answered(u8),
+    /// Frames were sent, and the answer was damaged.
+    Damaged,
+    /// Frames were lost in each attempt.
+    GaveUp,
+    /// The bus interface failed at a frame.
+    Failed,
+    /// The bus went down.
+    Down,
+}
+
+impl Picture {
+    /// A picture of nothing.
+    pub fn new(alloc: Global) -> Self {
+        Picture {
+            columns: Vec::new(alloc),
+            lamps: Vec::new(alloc),
+            sources: Vec::new(alloc),
+            tasks: Vec::new(alloc),
+            buses: Vec::new(alloc),
+            notes: Vec::new(alloc),
+        }
+    }
+}
+
+impl Row {
+    /// A row to which nothing happened.
+    pub fn new(alloc: Global, name: String, place: String, level: Option<u8>) -> Self {
+        Row {
+            name,
+            place,
+            level,
+            marks: Vec::new(alloc),
+        }
+    }
+
+    /// Adds what happened in a column; a column has one mark of a row, the first.
+    ///
+    /// # Errors
+    ///
+    /// The allocator is out of memory.
+    pub fn add(&mut self, column: usize, sign: Sign) -> Result<(), AllocError> {
+        if let Some(last) = self.marks.last() {
+            if last.column >= column {
+                return Ok(());
+            }
+        }
+        self.marks.push(Mark { column, sign })?;
+        Ok(())
+    }
+
+    /// The level that it has now, where it has one.
+    pub fn last_level(&self) -> Option<u8> {
+        match self.marks.last() {
+            Some(mark) => level_of(mark.sign),
+            None => self.level,
+        }
+    }
+
+    /// What happened in a column.
+    pub(crate) fn sign_at(&self, column: usize) -> Option<Sign> {
+        let place = self.marks.partition_point(|mark| mark.column < column);
+        match self.marks.get(place) {
+            Some(mark) if mark.column == column => Some(mark.sign),
+            _ => None,
+        }
+    }
+
+    /// The level before a column, where there was one.
+    pub(crate) fn level_before(&self, column: usize) -> Option<u8> {
+        let place = self.marks.partition_point(|mark| mark.column < column);
+        match place.checked_sub(1) {
+            Some(before) => match self.marks.get(before) {
+                Some(mark) => level_of(mark.sign),
+                None => None,
+            },
+            None => self.level,
+        }
+    }
+}
+
+/// The level that a mark shows.
+pub(crate) fn level_of(sign: Sign) -> Option<u8> {
+    match sign {
+        Sign::Level(level) => Some(level),
+        _ => None,
+    }
+}

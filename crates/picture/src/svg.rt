@@ -1,0 +1,232 @@
+//! A picture as SVG.
+
+use crate::sheet::{EDGE, LAMP, LINE, MOMENTS, NOTE, Sheet, TASK};
+use crate::svg_marks::{write_bus_marks, write_level_marks, write_source_marks, write_task_marks};
+use crate::svg_rows::{Plain, write_heading, write_label};
+use crate::{Column, Moment, Picture, Row};
+use std::io;
+use std::io::Write;
+
+/// The looks of what is drawn, by classes.
+const STYLE: &str = "<style>
+.h{fill:#8a8a8a;font-size:10px;letter-spacing:.08em}
+.n{fill:#222;font-weight:600}
+.p{fill:#8a8a8a;font-size:10px}
+.m{stroke:#dcdcdc}
+.k{fill:#555;font-size:11px}
+.b{stroke:#d0d0d0}
+.a{fill:#ffc93c;fill-opacity:.65}
+.e{fill:none;stroke:#c98300;stroke-width:1.5}
+.v{fill:#6b4700;font-size:10px}
+.s{fill:#2b6cb0}
+.o{fill:#fff;stroke:#2b6cb0;stroke-width:1.5}
+.i{fill:#2b6cb0;font-size:10px}
+.t{fill:#9a9a9a}
+.f{stroke:#333;stroke-width:2}
+.q{stroke:#2f855a;stroke-width:2}
+.r{fill:#2f855a;font-size:10px}
+.l{stroke:#c53030;stroke-width:2}
+.x{fill:#c53030;font-size:10px;font-weight:600}
+.i,.r,.x{paint-order:stroke;stroke:#fff;stroke-width:3px}
+.c{fill:none;pointer-events:all}
+.c:hover{fill:#2b6cb0;fill-opacity:.08}
+</style>";
+
+/// The signs that are explained, from the left edge at the line of their text.
+const SIGNS: &str = "<circle class=\"s\" cx=\"5\" cy=\"-4\" r=\"5\"/>
+<text class=\"p\" x=\"15\">event, with its information</text>
+<circle class=\"o\" cx=\"171\" cy=\"-4\" r=\"4.5\"/>
+<text class=\"p\" x=\"181\">event of no source</text>
+<circle class=\"t\" cx=\"287\" cy=\"-4\" r=\"3\"/>
+<text class=\"p\" x=\"295\">the task ran</text>
+<path class=\"f\" d=\"M370 2V-10\"/>
+<text class=\"p\" x=\"377\">frame sent</text>
+<path class=\"q\" d=\"M446 2V-10\"/>
+<text class=\"r\" x=\"450\">7</text>
+<text class=\"p\" x=\"462\">answered 7</text>
+<path class=\"l\" d=\"M531 2V-10\"/>
+<text class=\"x\" x=\"535\">?</text>
+<text class=\"p\" x=\"545\">damaged</text>
+<path class=\"l\" d=\"M602 2V-10\"/>
+<text class=\"x\" x=\"606\">×</text>
+<text class=\"p\" x=\"616\">lost</text>
+<path class=\"l\" d=\"M651 2V-10\"/>
+<text class=\"x\" x=\"655\">!</text>
+<text class=\"p\" x=\"663\">bus interface failed</text>";
+
+/// Draws a picture as SVG. Where a viewer shows titles, each column has one, with what happened.
+///
+/// # Errors
+///
+/// The writer's.
+pub fn write_svg<W: Write>(out: &mut W, picture: &Picture) -> io::Result<()> {
+    let sheet = Sheet::of(picture);
+    write_head(out, &sheet)?;
+    write_moments(out, picture, &sheet)?;
+    write_rows(out, picture, &sheet)?;
+    write_foot(out, picture, &sheet)?;
+    write_titles(out, picture, &sheet)?;
+    writeln!(out, "</svg>")
+}
+
+/// Writes what stands before all that is drawn.
+fn write_head<W: Write>(out: &mut W, sheet: &Sheet) -> io::Result<()> {
+    let width = sheet.width;
+    let height = sheet.height;
+    writeln!(
+        out,
+        "<svg xmlns=\"http://www.w3.org/2000/svg\" width=\"{width}\" height=\"{height}\" \
+         font-family=\"system-ui, 'DejaVu Sans', sans-serif\" font-size=\"12\">"
+    )?;
+    writeln!(out, "<title>What the scenario did</title>")?;
+    writeln!(out, "{STYLE}")?;
+    writeln!(out, "<rect width=\"100%\" height=\"100%\" fill=\"#fff\"/>")
+}
+
+/// Draws a line for each moment, and writes its name below where there is room.
+fn write_moments<W: Write>(out: &mut W, picture: &Picture, sheet: &Sheet) -> io::Result<()> {
+    let mut free: usize = 0;
+    for (column, step) in picture.columns.iter().enumerate() {
+        if let Some(moment) = step.moment {
+            let x = sheet.middle(column);
+            let half = moment.width().saturating_mul(7) / 2;
+            write_moment_line(out, x, sheet.bottom)?;
+            if x >= free.saturating_add(half) {
+                write_moment(out, moment, x, sheet.bottom)?;
+                free = x.saturating_add(half).saturating_add(6);
+            }
+        }
+    }
+    Ok(())
+}
+
+/// Writes the name of a moment below the rows.
+fn write_moment<W: Write>(out: &mut W, moment: Moment, x: usize, bottom: usize) -> io::Result<()> {
+    let y = bottom.saturating_add(18);
+    writeln!(
+        out,
+        "<text class=\"k\" x=\"{x}\" y=\"{y}\" text-anchor=\"middle\">{moment}</text>"
+    )
+}
+
+/// Draws the line of a moment.
+fn write_moment_line<W: Write>(out: &mut W, x: usize, bottom: usize) -> io::Result<()> {
+    let end = bottom.saturating_add(4);
+    writeln!(out, "<path class=\"m\" d=\"M{x} {EDGE}V{end}\"/>")
+}
+
+/// Draws all rows, kind by kind.
+fn write_rows<W: Write>(out: &mut W, picture: &Picture, sheet: &Sheet) -> io::Result<()> {
+    let top = write_lamps(out, &picture.lamps, sheet, EDGE)?;
+    let top = write_sources(out, &picture.sources, sheet, top)?;
+    let top = write_tasks(out, &picture.tasks, sheet, top)?;
+    write_buses(out, &picture.buses, sheet, top)
+}
+
+/// Draws the lamps from a height down; where they end.
+fn write_lamps<W: Write>(
+    out: &mut W,
+    rows: &[Row],
+    sheet: &Sheet,
+    top: usize,
+) -> io::Result<usize> {
+    let mut top = write_heading(out, "LEVELS", rows, top)?;
+    for row in rows {
+        let base = top.saturating_add(LAMP - 6);
+        write_label(out, row, sheet, base)?;
+        write_level_marks(out, row, sheet, base)?;
+        top = top.saturating_add(LAMP);
+    }
+    Ok(top)
+}
+
+/// Draws the sources of events from a height down; where they end.
+fn write_sources<W: Write>(
+    out: &mut W,
+    rows: &[Row],
+    sheet: &Sheet,
+    top: usize,
+) -> io::Result<usize> {
+    let mut top = write_heading(out, "BUTTONS AND SENSORS", rows, top)?;
+    for row in rows {
+        let middle = top.saturating_add(LINE / 2);
+        write_label(out, row, sheet, middle.saturating_add(4))?;
+        write_source_marks(out, row, sheet, middle)?;
+        top = top.saturating_add(LINE);
+    }
+    Ok(top)
+}
+
+/// Draws the tasks from a height down; where they end.
+fn write_tasks<W: Write>(
+    out: &mut W,
+    rows: &[Row],
+    sheet: &Sheet,
+    top: usize,
+) -> io::Result<usize> {
+    let mut top = write_heading(out, "TASKS", rows, top)?;
+    for row in rows {
+        let middle = top.saturating_add(TASK / 2);
+        write_label(out, row, sheet, middle.saturating_add(4))?;
+        write_task_marks(out, row, sheet, middle)?;
+        top = top.saturating_add(TASK);
+    }
+    Ok(top)
+}
+
+/// Draws the buses from a height down.
+fn write_buses<W: Write>(out: &mut W, rows: &[Row], sheet: &Sheet, top: usize) -> io::Result<()> {
+    let mut top = write_heading(out, "FRAMES", rows, top)?;
+    for row in rows {
+        let base = top.saturating_add(LINE - 6);
+        write_label(out, row, sheet, base)?;
+        write_bus_marks(out, row, sheet, base)?;
+        top = top.saturating_add(LINE);
+    }
+    Ok(())
+}
+
+/// Writes what the signs mean, and the notes.
+fn write_foot<W: Write>(out: &mut W, picture: &Picture, sheet: &Sheet) -> io::Result<()> {
+    let mut y = sheet.bottom.saturating_add(MOMENTS + NOTE - 4);
+    writeln!(out, "<g transform=\"translate({EDGE} {y})\">")?;
+    writeln!(out, "{SIGNS}")?;
+    writeln!(out, "</g>")?;
+    for note in picture.notes.iter() {
+        y = y.saturating_add(NOTE);
+        write_note(out, note, y)?;
+    }
+    Ok(())
+}
+
+/// Writes a note.
+fn write_note<W: Write>(out: &mut W, note: &str, y: usize) -> io::Result<()> {
+    let note = Plain { text: note };
+    writeln!(
+        out,
+        "<text class=\"x\" x=\"{EDGE}\" y=\"{y}\">{note}</text>"
+    )
+}
+
+/// Writes what happened in each column, over all rows.
+fn write_titles<W: Write>(out: &mut W, picture: &Picture, sheet: &Sheet) -> io::Result<()> {
+    for (number, column) in picture.columns.iter().enumerate() {
+        let x = sheet.left.saturating_add(number.saturating_mul(sheet.step));
+        write_title(out, column, x, sheet)?;
+    }
+    Ok(())
+}
+
+/// Writes what happened in a column that begins at `x`.
+fn write_title<W: Write>(out: &mut W, column: &Column, x: usize, sheet: &Sheet) -> io::Result<()> {
+    let title = Plain {
+        text: &column.title,
+    };
+    let width = sheet.step;
+    let height = sheet.bottom;
+    write!(
+        out,
+        "<rect class=\"c\" x=\"{x}\" width=\"{width}\" height=\"{height}\">"
+    )?;
+    writeln!(out, "<title>{title}</title></rect>")
+}
