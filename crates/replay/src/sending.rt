@@ -1,0 +1,31 @@
+//! Frames that are sent once more.
+
+use buslink::{Bus, Fault};
+use daliframe::Frame;
+use simbus::SimBus;
+use std::alloc::AllocError;
+use transact::{MOST_ATTEMPTS, Reply};
+
+/// Sends the frames of a transaction, and all again after each loss, as often as a transaction is
+/// tried.
+pub(crate) fn send_again(bus: &mut SimBus, frames: &[Frame]) -> Result<(), AllocError> {
+    for _ in 0..MOST_ATTEMPTS {
+        if !is_lost(bus, frames)? {
+            return Ok(());
+        }
+    }
+    Ok(())
+}
+
+/// Sends frames, up to one that is lost or fails. Whether one was lost.
+fn is_lost(bus: &mut SimBus, frames: &[Frame]) -> Result<bool, AllocError> {
+    for frame in frames {
+        bus.room(1)?;
+        match bus.send(*frame, 1) {
+            Ok(Reply::Lost) => return Ok(true),
+            Ok(_) => {}
+            Err(Fault) => return Ok(false),
+        }
+    }
+    Ok(false)
+}
