@@ -1,12 +1,12 @@
 -- What the getters of `clap` give, by the rows of what was found.
-use Rattle.std.proofs.Common.{◌≡◌, ◌∙◌, ap, subst, ℕ, List, Option, Some, None, Result, Ok, Err, refl}
+use Rattle.std.proofs.Common.{◌≡◌, ◌∙◌, ap, subst, true, false, codes, ℕ, Bool, List, Option, Some, None, Result, Ok, Err, refl}
 use Rattle.std.specs.Prelude.{option_map, unwrap_or}
 use Rattle.std.specs.Borrow.{Bor}
 use Rattle.std.specs.Str.Parse.{ParsesUnsigned}
 use Rattle.clap.specs.Words.{ReadsOne, Text, first_of, first_value, one_of, one_text, rows_of}
 use Rattle.clap.specs.declared.parser.matches.Found.{Found}
 use Rattle.clap.proofs.WalkLemmas.{first_value-rows, one_text-rows}
-use Rattle.commandline.specs.CommandLine.{IsNumber, given}
+use Rattle.commandline.specs.CommandLine.{IsFlag, IsNumber, given}
 
 -- the text of an id
 pub text_found : (f : Found) (id : Text) (text : Option (Bor Text)) → option_map (λ s. s.now) text ≡ first_value f id
@@ -16,6 +16,18 @@ text_found f id text is = is ∙ first_value-rows f id
 pub text_given : (f : Found) (id : Text) (text : Option (Bor Text)) → option_map (λ s. s.now) text ≡ first_value f id
     → given (option_map (λ s. s.now) text) ≡ given (first_of id (rows_of f))
 text_given f id text is = ap given (text_found f id text is)
+
+-- whether the flag of an id was given
+pub flag_given : (f : Found) (id : Text) (is : Bool) → (one_text f id ≡ None → is ≡ false)
+    → (one_text f id ≡ Some (codes "true") → is ≡ true) → (one_text f id ≡ Some (codes "false") → is ≡ false)
+    → IsFlag (one_of id (rows_of f)) is
+flag_given f id is none yes no =
+    subst (λ (text : Option Text). IsFlag text is) (one_text-rows f id) (go (one_text f id) refl)
+  where
+    go : (text : Option Text) → one_text f id ≡ text → IsFlag text is
+    go None found = none found
+    go (Some text) found =
+        (λ same. yes (found ∙ ap (λ (t : Text). Some t) same), λ same. no (found ∙ ap (λ (t : Text). Some t) same))
 
 module _ {E : Type 0} (Gives : List ℕ → Result ℕ E → Type 0)
     (parses : (text : List ℕ) (read : Result ℕ E) → Gives text read → ParsesUnsigned 32 10 text read)

@@ -1,19 +1,19 @@
 -- The command line (profile): `check FILE [--bind FILE]`, `step FILE TASK [--bind FILE] [--scans N] [--every MS]`,
--- `play TEXT BIND SCENARIO [--limit N]` and `run TEXT BIND SCENARIO [--limit N] [--workers W]`, with the reading of words
--- that `clap` has.
-use Rattle.std.specs.Prelude.{◌≡◌, ℕ, ◌^◌, ◌<◌, List, [], Option, Some, None, true, pos, codes, option_map, unwrap_or}
+-- `play TEXT BIND SCENARIO [--limit N]`, `run TEXT BIND SCENARIO [--limit N] [--workers W]` and
+-- `look FILE SCENARIO --bind FILE [--text]`, with the reading of words that `clap` has.
+use Rattle.std.specs.Prelude.{◌≡◌, ℕ, ◌^◌, ◌<◌, List, [], Bool, Option, Some, None, true, false, pos, codes, option_map, unwrap_or}
 use Rattle.std.specs.Borrow.{Bor}
 use Rattle.std.specs.Str.Parse.{IsNumeral, digits_value, without_leading_plus}
 use Rattle.clap.specs.Words.{App, Row, Rule, Text, first_of, new_app, new_rule, one_of, subcommand_of, with_rule}
 use Rattle.clap.specs.Words.{with_subcommand}
 use Rattle.clap.specs.Simple.{on_top}
-use Rattle.clap.specs.declared.builder.action.ArgAction.TheVariants.{Set}
+use Rattle.clap.specs.declared.builder.action.ArgAction.TheVariants.{Set, SetTrue}
 use Rattle.clap.specs.declared.builder.value_parser.ValueParser.TheVariants as parsers
 use Rattle.commandline.specs.declared.options.Files.{Files}
 use Rattle.commandline.specs.declared.options.Inquiry.{Inquiry}
 use Rattle.commandline.specs.declared.options.Inquiry.TheVariants.{Check, Step}
 use Rattle.commandline.specs.declared.options.Invocation.{Invocation}
-use Rattle.commandline.specs.declared.options.Invocation.TheVariants.{Ask, Play, Run}
+use Rattle.commandline.specs.declared.options.Invocation.TheVariants.{Ask, Look, Play, Run}
 use Rattle.commandline.specs.declared.options.PlayFiles.{PlayFiles}
 use Rattle.commandline.specs.declared.options.RunSize.{RunSize}
 
@@ -26,6 +26,14 @@ wanted id = record (new_rule id) { required = true; action = Some Set }
 -- an option with one value
 abbrev pub option : Text → Rule
 option id = record (new_rule id) { long = Some id; value_names = 1; action = Some Set }
+
+-- an option with one value that must be given
+abbrev pub wanted_option : Text → Rule
+wanted_option id = record (option id) { required = true }
+
+-- an option with no value
+abbrev pub flag : Text → Rule
+flag id = record (new_rule id) { long = Some id; action = Some SetTrue }
 
 -- an option with a whole number in this range
 abbrev pub number_option : Text → ℕ → ℕ → Rule
@@ -58,6 +66,14 @@ run_command =
     with_rule (with_rule (scenario_files (codes "run")) (number_option (codes "limit") 100 1000000))
     (number_option (codes "workers") 1 16)
 
+abbrev pub look_files : App
+look_files =
+    with_rule (with_rule (with_rule (new_app (codes "look")) (wanted (codes "FILE"))) (wanted (codes "SCENARIO")))
+    (wanted_option (codes "bind"))
+
+abbrev pub look_command : App
+look_command = with_rule look_files (flag (codes "text"))
+
 abbrev pub program : App
 program = on_top (λ top. record top { subcommand_required = true }) (new_app (codes "dalictl"))
 
@@ -67,8 +83,11 @@ inquiry_line = with_subcommand (with_subcommand program check_command.top) step_
 abbrev pub played_line : App
 played_line = with_subcommand inquiry_line play_command.top
 
+abbrev pub run_line : App
+run_line = with_subcommand played_line run_command.top
+
 abbrev pub command_line : App
-command_line = with_subcommand played_line run_command.top
+command_line = with_subcommand run_line look_command.top
 
 -- ---- what they say
 
@@ -84,6 +103,11 @@ IsWritten digits number = IsNumeral 10 digits → digits_value 10 digits < 2 ^ 3
 abbrev pub IsNumber : ℕ → Option Text → ℕ → Type 0
 IsNumber default None number = number ≡ default
 IsNumber default (Some text) number = IsWritten (without_leading_plus text) number
+
+-- whether the flag was given; the row of a flag has one of these two texts
+abbrev pub IsFlag : Option Text → Bool → Type 0
+IsFlag None is = is ≡ false
+IsFlag (Some text) is = ((text ≡ codes "true") → is ≡ true) × ((text ≡ codes "false") → is ≡ false)
 
 -- the files that are named
 pub record AreFiles (found : List Row) (files : Files) : Type 0 where
@@ -108,6 +132,12 @@ pub record ArePlayFiles (found : List Row) (files : PlayFiles) : Type 0 where
   pub binding : files.binding.now ≡ given (first_of (codes "BIND") found)
   pub scenario : files.scenario.now ≡ given (first_of (codes "SCENARIO") found)
 
+-- the files that are named for a scenario that is looked at
+pub record AreLookFiles (found : List Row) (files : PlayFiles) : Type 0 where
+  pub text : files.text.now ≡ given (first_of (codes "FILE") found)
+  pub binding : files.binding.now ≡ given (first_of (codes "bind") found)
+  pub scenario : files.scenario.now ≡ given (first_of (codes "SCENARIO") found)
+
 -- how large a run may become: 100,000 events at most, and two scan workers, where nothing else is said
 pub record IsRunSize (found : List Row) (size : RunSize) : Type 0 where
   pub limit : IsNumber 100000 (one_of (codes "limit") found) size.limit
@@ -119,8 +149,10 @@ abbrev pub IsOfCommand : Text → List Row → Invocation → Type 0
 IsOfCommand name found (Play files limit) =
     (name ≡ codes "play") × ArePlayFiles found files × IsNumber 100000 (one_of (codes "limit") found) limit
 IsOfCommand name found (Run files size) = (name ≡ codes "run") × ArePlayFiles found files × IsRunSize found size
+IsOfCommand name found (Look files is_text) =
+    (name ≡ codes "look") × AreLookFiles found files × IsFlag (one_of (codes "text") found) is_text
 IsOfCommand name found (Ask inquiry) =
-    ¬ (name ≡ codes "play") × ¬ (name ≡ codes "run") × IsOfInquiry name found inquiry
+    ¬ (name ≡ codes "play") × ¬ (name ≡ codes "run") × ¬ (name ≡ codes "look") × IsOfInquiry name found inquiry
 
 -- the words spell the invocation
 abbrev pub IsInvocation : List Text → Invocation → Type 0

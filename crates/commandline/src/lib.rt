@@ -1,8 +1,8 @@
 //! The words of the command line, read with `clap`.
 //!
 //! What crosses the boundary: [`read`] takes the words that follow the program's name, and gives the
-//! [`Invocation`] that they spell: an [`Inquiry`] of a text, or files that are played or run. The
-//! definition to read first is `IsInvocation` (specs/CommandLine.antt).
+//! [`Invocation`] that they spell: an [`Inquiry`] of a text, or files that are played, run or looked
+//! at. The definition to read first is `IsInvocation` (specs/CommandLine.antt).
 //!
 //! ```text
 //! match commandline::read(alloc, words)? {

@@ -4,12 +4,14 @@ ghost use Rattle.std.specs.Prelude.{◌≡◌, IfOk, codes, false, map, string_b
 ghost use Rattle.clap.specs.Words.{FailsBy, app_of, fault_of, first_of, found_of, one_of, rows_of};
 ghost use Rattle.clap.specs.Words.{rule_of, shape_of};
 ghost use Rattle.clap.specs.declared.builder.command.Command.TheViews.{out-Command};
-ghost use Rattle.commandline.specs.CommandLine.{AreFiles, ArePlayFiles, IsNumber, IsInvocation};
-ghost use Rattle.commandline.specs.CommandLine.{IsOfCommand, IsOfInquiry, IsRunSize};
-ghost use Rattle.commandline.specs.CommandLine.{check_command, command_line, given, inquiry_line};
+ghost use Rattle.commandline.specs.CommandLine.{AreFiles, AreLookFiles, ArePlayFiles, IsFlag};
+ghost use Rattle.commandline.specs.CommandLine.{IsInvocation, IsNumber, IsOfCommand, IsOfInquiry};
+ghost use Rattle.commandline.specs.CommandLine.{IsRunSize, check_command, command_line, flag, given};
+ghost use Rattle.commandline.specs.CommandLine.{inquiry_line, look_command, look_files};
 ghost use Rattle.commandline.specs.CommandLine.{number_option, option, play_command, played_line};
-ghost use Rattle.commandline.specs.CommandLine.{run_command, scenario_files, step_command, step_files};
-ghost use Rattle.commandline.specs.CommandLine.{wanted};
+ghost use Rattle.commandline.specs.CommandLine.{run_command, run_line};
+ghost use Rattle.commandline.specs.CommandLine.{scenario_files, step_command, step_files, wanted};
+ghost use Rattle.commandline.specs.CommandLine.{wanted_option};
 
 use clap::{Arg, ArgAction, ArgMatches, Command, Error};
 use std::alloc::{AllocError, Global};
@@ -23,6 +25,8 @@ pub enum Invocation<'a> {
     Play { files: PlayFiles<'a>, limit: u32 },
     /// `run TEXT BIND SCENARIO [--limit N] [--workers W]`
     Run { files: PlayFiles<'a>, size: RunSize },
+    /// `look FILE SCENARIO --bind FILE [--text]`
+    Look { files: PlayFiles<'a>, is_text: bool },
 }
 
 /// How large a run may become.
@@ -120,6 +124,12 @@ fn invocation_of<'a>(name: &str, found: &ArgMatches<'a>) -> Invocation<'a>
             size: run_size_in(found),
         };
     }
+    if name == "look" {
+        return Invocation::Look {
+            files: look_files_in(found),
+            is_text: flag_in(found, "text"),
+        };
+    }
     Invocation::Ask(inquiry_of(name, found))
 }
 
@@ -160,6 +170,24 @@ fn play_files_in<'a>(found: &ArgMatches<'a>) -> PlayFiles<'a>
     }
 }
 
+/// The files that are named for a scenario that is looked at.
+fn look_files_in<'a>(found: &ArgMatches<'a>) -> PlayFiles<'a>
+    ensures { AreLookFiles (rows_of (found_of found.now)) result }
+{
+    PlayFiles {
+        text: text_in(found, "FILE"),
+        binding: text_in(found, "bind"),
+        scenario: text_in(found, "SCENARIO"),
+    }
+}
+
+/// Whether a flag was given.
+fn flag_in(found: &ArgMatches, id: &str) -> bool
+    ensures { IsFlag (one_of id.now (rows_of (found_of found.now))) result }
+{
+    found.get_flag(id)
+}
+
 /// How large a run may become: the numbers that were given, or without one its default.
 fn run_size_in(found: &ArgMatches) -> RunSize
     ensures { IsRunSize (rows_of (found_of found.now)) result }
@@ -192,6 +220,13 @@ fn number_in(found: &ArgMatches, id: &str, default: u32) -> u32
 
 fn command<'a>(alloc: Global) -> Result<Command<'a>, AllocError>
     ensures { IfOk result (λ c. app_of c ≡ command_line) }
+{
+    running(alloc)?.subcommand(look(alloc)?)
+}
+
+fn running<'a>(alloc: Global) -> Result<Command<'a>, AllocError>
+    ensures shape { IfOk result (λ c. app_of c ≡ run_line) }
+    ensures local { IfOk result (λ c. (out-Command c).has_globals ≡ false) }
 {
     playing(alloc)?.subcommand(run(alloc)?)
 }
@@ -258,6 +293,24 @@ fn run<'a>(alloc: Global) -> Result<Command<'a>, AllocError>
     scenario_files(alloc, "run", about)?
         .arg(limit(alloc))?
         .arg(workers(alloc))
+}
+
+fn look<'a>(alloc: Global) -> Result<Command<'a>, AllocError>
+    ensures shape { IfOk result (λ c. app_of c ≡ look_command) }
+    ensures local { IfOk result (λ c. (out-Command c).has_globals ≡ false) }
+{
+    look_files(alloc)?.arg(as_text(alloc))
+}
+
+fn look_files<'a>(alloc: Global) -> Result<Command<'a>, AllocError>
+    ensures shape { IfOk result (λ c. app_of c ≡ look_files) }
+    ensures local { IfOk result (λ c. (out-Command c).has_globals ≡ false) }
+{
+    Command::new(alloc, "look")
+        .about("Plays a scenario on simulated buses and prints a picture of it")
+        .arg(text(alloc))?
+        .arg(played_scenario(alloc))?
+        .arg(looked_binding(alloc))
 }
 
 fn scenario_files<'a>(
@@ -334,6 +387,28 @@ fn played_scenario<'a>(alloc: Global) -> Arg<'a>
         .required(true)
         .action(ArgAction::Set)
         .help("What is on the buses and what happens there")
+}
+
+fn looked_binding<'a>(alloc: Global) -> Arg<'a>
+    ensures rule { rule_of result ≡ wanted_option (codes "bind") }
+    ensures local { result.global ≡ false }
+{
+    Arg::new(alloc, "bind")
+        .long("bind")
+        .value_name("FILE")
+        .required(true)
+        .action(ArgAction::Set)
+        .help("The binding of buses")
+}
+
+fn as_text<'a>(alloc: Global) -> Arg<'a>
+    ensures rule { rule_of result ≡ flag (codes "text") }
+    ensures local { result.global ≡ false }
+{
+    Arg::new(alloc, "text")
+        .long("text")
+        .action(ArgAction::SetTrue)
+        .help("Prints lines for a terminal in place of an SVG")
 }
 
 fn limit<'a>(alloc: Global) -> Arg<'a>

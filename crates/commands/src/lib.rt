@@ -4,10 +4,10 @@
 //! What crosses the boundary: the words of a command line, the bytes of files on a [`Disk`], lines
 //! on a writer, and an [`ExitStatus`]. `commandline` reads the words; [`serve`] reads the files that
 //! they name, has `answers` answer what they hold, and prints it (specs/Reports.antt);
-//! [`serve_play`] plays, and [`serve_run`] runs. The outermost definitions are `IsServed`
-//! (specs/Served.antt), `IsPlayed` (specs/Plays.antt) and `HasRun` (specs/Runs.antt). No contract
-//! can say which bytes the machine's disk gives, or what becomes of those that its terminal takes.
-//! `run` does all of it over a runtime.
+//! [`serve_play`] plays, [`serve_run`] runs, and [`serve_look`] plays and draws. The outermost
+//! definitions are `IsServed` (specs/Served.antt), `IsPlayed` (specs/Plays.antt) and `HasRun`
+//! (specs/Runs.antt). No contract can say which bytes the machine's disk gives, or what becomes of
+//! those that its terminal takes. `run` does all of it over a runtime.
 //!
 //! ```text
 //! let status = commands::run(&rt, &rt); // of a runtime's words, files and terminal, and threads
@@ -15,6 +15,7 @@
 #![tactic(auto)]
 
 mod exit_status;
+mod looking;
 mod pages;
 mod play_stop;
 mod playing;
@@ -25,6 +26,7 @@ mod serving;
 mod shell;
 
 pub use exit_status::ExitStatus;
+pub use looking::serve_look;
 pub use playing::serve_play;
 pub use reading::{Disk, HostDisk, Unread};
 pub use running::serve_run;

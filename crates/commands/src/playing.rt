@@ -75,7 +75,7 @@ fn report<W: Write>(alloc: Global, out: &mut W, pages: &Pages, limit: u32) -> io
 ///
 /// The binding's fault, else what stands against the text, else the scenario's fault, else why the
 /// plant isn't opened.
-fn start(
+pub(crate) fn start(
     alloc: Global,
     pages: &Pages,
     limit: u32,

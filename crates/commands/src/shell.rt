@@ -1,6 +1,7 @@
 //! The program over a runtime: its words, its files, its terminal and its threads.
 
 use crate::exit_status::ExitStatus;
+use crate::looking::serve_look;
 use crate::playing::serve_play;
 use crate::reading::{HostDisk, Unread};
 use crate::running::serve_run;
@@ -69,6 +70,7 @@ fn run_invocation<R: Files + Print + Eprint + AllocGlobal, T: Threads + Wait + T
         Invocation::Ask(inquiry) => serve(alloc, &disk, out, inquiry),
         Invocation::Play { files, limit } => serve_play(alloc, &disk, out, files, limit),
         Invocation::Run { files, size } => serve_run(threads, alloc, &disk, out, files, size),
+        Invocation::Look { files, is_text } => serve_look(alloc, &disk, out, files, is_text),
     };
     match served {
         Ok((_, status)) => status,

@@ -1,0 +1,86 @@
+//! Looking at a scenario: its files are read, it is played, and a picture of that is printed.
+
+use crate::exit_status::ExitStatus;
+use crate::pages::{Pages, read_pages};
+use crate::playing::start;
+use crate::reading::Disk;
+use crate::serving::Unserved;
+use commandline::PlayFiles;
+use picture::{write_svg, write_text};
+use plantplay::{Installation, play};
+use replay::picture_of;
+use simbus::{Scenario, SimBus};
+use std::alloc::Global;
+use std::io;
+use std::io::{BufWriter, Write};
+
+/// The most events of a history that is looked at.
+const LIMIT: u32 = 100_000;
+
+/// Reads the files that are named, the binding before the text and that before the scenario, plays
+/// the scenario and prints a picture of what happened, as SVG or as lines for a terminal; the
+/// writer, which then has all of it, and how the program ends. What is printed is by rows alone.
+///
+/// # Errors
+///
+/// The first file that isn't read, or the writer's error.
+pub fn serve_look<'a, D: Disk, W: Write + Drop>(
+    alloc: Global,
+    disk: &D,
+    to: W,
+    files: PlayFiles<'a>,
+    is_text: bool,
+) -> Result<(W, ExitStatus), Unserved<'a>> {
+    let pages = read_pages(alloc, disk, files)?;
+    Ok(print(alloc, to, &pages, is_text)?)
+}
+
+/// Prints the picture through a buffer, of which nothing is left behind.
+fn print<W: Write + Drop>(
+    alloc: Global,
+    to: W,
+    pages: &Pages,
+    is_text: bool,
+) -> io::Result<(W, ExitStatus)> {
+    let mut out = BufWriter::new(alloc, to)?;
+    let status = report(alloc, &mut out, pages, is_text)?;
+    Ok((out.into_inner()?, status))
+}
+
+/// Writes the picture, or what stands against playing the scenario; how the program ends.
+fn report<W: Write>(
+    alloc: Global,
+    out: &mut W,
+    pages: &Pages,
+    is_text: bool,
+) -> io::Result<ExitStatus> {
+    match start(alloc, pages, LIMIT) {
+        Ok((mut installation, scenario)) => {
+            draw(alloc, out, &mut installation, &scenario, is_text)
+        }
+        Err(stop) => {
+            writeln!(out, "{stop}")?;
+            Ok(stop.status())
+        }
+    }
+}
+
+/// Plays a scenario and writes its picture; how the program ends.
+fn draw<W: Write>(
+    alloc: Global,
+    out: &mut W,
+    installation: &mut Installation<SimBus>,
+    scenario: &Scenario,
+    is_text: bool,
+) -> io::Result<ExitStatus> {
+    let mut lines = Vec::new(alloc);
+    let ending = play(alloc, &mut lines, installation, scenario)?;
+    let plan = installation.plant().setup().plan();
+    let picture = picture_of(alloc, plan, scenario, &lines)?;
+    if is_text {
+        write_text(out, &picture)?;
+    } else {
+        write_svg(out, &picture)?;
+    }
+    Ok(ExitStatus::of_ending(ending))
+}
