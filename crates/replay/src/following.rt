@@ -29,13 +29,13 @@ pub fn picture_of(
             if let Some(words) = line.strip_prefix("hand ") {
                 handed = words;
             }
-            stage.follow(line, handed)?;
+            stage.follow(plan, line, handed)?;
         }
     }
     Ok(stage.into_picture())
 }
 
-impl Stage<'_> {
+impl Stage {
     /// The picture that was made.
     fn into_picture(self) -> Picture {
         let Stage { picture, .. } = self;
@@ -44,7 +44,7 @@ impl Stage<'_> {
 
     /// Follows a line; `handed` is what was handed to a bus last. The values of variables are no
     /// part of the picture.
-    fn follow(&mut self, line: &str, handed: &str) -> Result<(), AllocError> {
+    fn follow(&mut self, plan: &Plan, line: &str, handed: &str) -> Result<(), AllocError> {
         let (kind, words) = match line.split_once(' ') {
             Some(parts) => parts,
             None => (line, ""),
@@ -54,7 +54,7 @@ impl Stage<'_> {
         }
         match kind {
             "tick" => self.tick(line, words),
-            "heard" => self.hear(line, words),
+            "heard" => self.hear(plan, line, words),
             "take" => self.take(line, words),
             "commit" => self.add(line),
             "hand" => self.begin(None, line),
@@ -74,7 +74,7 @@ impl Stage<'_> {
     }
 
     /// A frame is heard.
-    fn hear(&mut self, line: &str, words: &str) -> Result<(), AllocError> {
+    fn hear(&mut self, plan: &Plan, line: &str, words: &str) -> Result<(), AllocError> {
         self.begin(None, line)?;
         let Some((bus, digits)) = bus_and_rest(words) else {
             return Ok(());
@@ -83,7 +83,7 @@ impl Stage<'_> {
             return Ok(());
         };
         let column = self.column();
-        let sources = self.plan.sources();
+        let sources = plan.sources();
         let rows = &mut self.picture.sources;
         if !mark_sources(sources, rows, bus, frame, column)? {
             mark_stray(self.alloc, rows, sources.len(), bus, column)?;

@@ -10,9 +10,8 @@ use std::alloc::{AllocError, Global};
 
 /// A picture that is being made, and the simulated buses on which frames are sent once more.
 #[derive(Drop)]
-pub(crate) struct Stage<'a> {
+pub(crate) struct Stage {
     pub alloc: Global,
-    pub plan: &'a Plan,
     pub picture: Picture,
     /// What each row of levels shows, in the order of the picture.
     pub lamps: Vec<Lamp>,
@@ -20,13 +19,9 @@ pub(crate) struct Stage<'a> {
     pub buses: Vec<SimBus>,
 }
 
-impl<'a> Stage<'a> {
+impl Stage {
     /// What is known before the first line.
-    pub fn new(
-        alloc: Global,
-        plan: &'a Plan,
-        scenario: &Scenario,
-    ) -> Result<Stage<'a>, AllocError> {
+    pub fn new(alloc: Global, plan: &Plan, scenario: &Scenario) -> Result<Stage, AllocError> {
         let mut picture = Picture::new(alloc);
         let lamps = lamps_of(alloc, plan, scenario, &mut picture.lamps)?;
         source_rows(alloc, plan, &mut picture.sources)?;
@@ -34,7 +29,6 @@ impl<'a> Stage<'a> {
         bus_rows(alloc, plan, &mut picture.buses)?;
         Ok(Stage {
             alloc,
-            plan,
             picture,
             lamps,
             buses: simulated_buses(alloc, plan, scenario)?,
