@@ -21,13 +21,13 @@ text_given f id text is = ap given (text_found f id text is)
 pub flag_given : (f : Found) (id : Text) (is : Bool) → (one_text f id ≡ None → is ≡ false)
     → (one_text f id ≡ Some (codes "true") → is ≡ true) → (one_text f id ≡ Some (codes "false") → is ≡ false)
     → IsFlag (one_of id (rows_of f)) is
-flag_given f id is none yes no =
+flag_given f id is none on off =
     subst (λ (text : Option Text). IsFlag text is) (one_text-rows f id) (go (one_text f id) refl)
   where
     go : (text : Option Text) → one_text f id ≡ text → IsFlag text is
     go None found = none found
     go (Some text) found =
-        (λ same. yes (found ∙ ap (λ (t : Text). Some t) same), λ same. no (found ∙ ap (λ (t : Text). Some t) same))
+        (λ same. on (found ∙ ap (λ (t : Text). Some t) same), λ same. off (found ∙ ap (λ (t : Text). Some t) same))
 
 module _ {E : Type 0} (Gives : List ℕ → Result ℕ E → Type 0)
     (parses : (text : List ℕ) (read : Result ℕ E) → Gives text read → ParsesUnsigned 32 10 text read)

@@ -1,7 +1,8 @@
 -- The command line (profile): `check FILE [--bind FILE]`, `step FILE TASK [--bind FILE] [--scans N] [--every MS]`,
 -- `play TEXT BIND SCENARIO [--limit N]`, `run TEXT BIND SCENARIO [--limit N] [--workers W]` and
 -- `look FILE SCENARIO --bind FILE [--text]`, with the reading of words that `clap` has.
-use Rattle.std.specs.Prelude.{◌≡◌, ℕ, ◌^◌, ◌<◌, List, [], Bool, Option, Some, None, true, false, pos, codes, option_map, unwrap_or}
+use Rattle.std.specs.Prelude.{◌≡◌, ℕ, ◌^◌, ◌<◌, List, [], Bool, Option, Some, None, true, false, pos, codes}
+use Rattle.std.specs.Prelude.{option_map, unwrap_or}
 use Rattle.std.specs.Borrow.{Bor}
 use Rattle.std.specs.Str.Parse.{IsNumeral, digits_value, without_leading_plus}
 use Rattle.clap.specs.Words.{App, Row, Rule, Text, first_of, new_app, new_rule, one_of, subcommand_of, with_rule}
