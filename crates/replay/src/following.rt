@@ -1,11 +1,11 @@
 //! Following the lines of a play.
 
 use crate::lamps::{mark_lamps, mark_sent};
-use crate::lines::{bus_and_rest, frame_of, frames_of, sign_of};
+use crate::lines::{bus_and_rest, frames_of, heard_frame, sign_of};
 use crate::sending::send_again;
 use crate::sources::{mark_sources, mark_stray};
 use crate::stage::Stage;
-use daliframe::Frame;
+use daliframe::Frame24;
 use ilplan::Plan;
 use picture::{Moment, Picture, Sign};
 use simbus::Scenario;
@@ -24,12 +24,8 @@ pub fn picture_of(
 ) -> Result<Picture, AllocError> {
     let mut stage = Stage::new(alloc, plan, scenario)?;
     if let Ok(text) = str::from_utf8(lines) {
-        let mut handed = "";
         for line in text.lines() {
-            if let Some(words) = line.strip_prefix("hand ") {
-                handed = words;
-            }
-            stage.follow(plan, line, handed)?;
+            stage.follow(plan, line)?;
         }
     }
     Ok(stage.into_picture())
@@ -42,9 +38,8 @@ impl Stage {
         picture
     }
 
-    /// Follows a line; `handed` is what was handed to a bus last. The values of variables are no
-    /// part of the picture.
-    fn follow(&mut self, plan: &Plan, line: &str, handed: &str) -> Result<(), AllocError> {
+    /// Follows a line. The values of variables are no part of the picture.
+    fn follow(&mut self, plan: &Plan, line: &str) -> Result<(), AllocError> {
         let (kind, words) = match line.split_once(' ') {
             Some(parts) => parts,
             None => (line, ""),
@@ -57,8 +52,8 @@ impl Stage {
             "heard" => self.hear(plan, line, words),
             "take" => self.take(line, words),
             "commit" => self.add(line),
-            "hand" => self.begin(None, line),
-            "done" => self.end(line, words, handed),
+            "hand" => self.hand(line, words),
+            "done" => self.end(line, words),
             "down" => self.go_down(line, words),
             _ => self.note(line),
         }
@@ -76,12 +71,17 @@ impl Stage {
     /// A frame is heard.
     fn hear(&mut self, plan: &Plan, line: &str, words: &str) -> Result<(), AllocError> {
         self.begin(None, line)?;
-        let Some((bus, digits)) = bus_and_rest(words) else {
-            return Ok(());
-        };
-        let Some(Frame::Forward24(frame)) = frame_of(digits) else {
-            return Ok(());
-        };
+        match bus_and_rest(words) {
+            Some((bus, digits)) => match heard_frame(digits) {
+                Some(frame) => self.mark_heard(plan, bus, frame),
+                None => Ok(()),
+            },
+            None => Ok(()),
+        }
+    }
+
+    /// Marks a frame that was heard in the rows of its sources, or in that of no source.
+    fn mark_heard(&mut self, plan: &Plan, bus: u8, frame: Frame24) -> Result<(), AllocError> {
         let column = self.column();
         let sources = plan.sources();
         let rows = &mut self.picture.sources;
@@ -103,33 +103,43 @@ impl Stage {
         Ok(())
     }
 
-    /// What was handed to a bus is done.
-    fn end(&mut self, line: &str, words: &str, handed: &str) -> Result<(), AllocError> {
-        self.add(line)?;
-        let Some((bus, outcome)) = bus_and_rest(words) else {
-            return Ok(());
-        };
-        let sign = sign_of(outcome);
-        self.mark_bus(bus, sign)?;
-        let frames = match bus_and_rest(handed) {
-            Some((_, frames)) => frames_of(self.alloc, behind_class(frames))?,
-            None => return Ok(()),
-        };
-        self.send_again(bus, &frames, sign)
+    /// A transaction is handed to a bus.
+    fn hand(&mut self, line: &str, words: &str) -> Result<(), AllocError> {
+        self.begin(None, line)?;
+        match bus_and_rest(words) {
+            Some((_, frames)) => {
+                self.handed = frames_of(self.alloc, behind_class(frames))?;
+                Ok(())
+            }
+            None => Ok(()),
+        }
     }
 
-    /// Sends frames once more, and marks the levels that they leave.
-    fn send_again(&mut self, number: u8, frames: &[Frame], sign: Sign) -> Result<(), AllocError> {
+    /// What was handed to a bus is done.
+    fn end(&mut self, line: &str, words: &str) -> Result<(), AllocError> {
+        self.add(line)?;
+        match bus_and_rest(words) {
+            Some((bus, outcome)) => {
+                let sign = sign_of(outcome);
+                self.mark_bus(bus, sign)?;
+                self.send_again(bus, sign)
+            }
+            None => Ok(()),
+        }
+    }
+
+    /// Sends the frames once more, and marks the levels that they leave.
+    fn send_again(&mut self, number: u8, sign: Sign) -> Result<(), AllocError> {
         let column = self.column();
         let rows = &mut self.picture.lamps;
         if let Some(bus) = self.buses.get_mut(usize::from(number)) {
-            send_again(bus, frames)?;
+            send_again(bus, &self.handed)?;
             mark_lamps(&self.lamps, rows, bus, number, column)?;
         }
         if sign == Sign::GaveUp || sign == Sign::Failed {
             return Ok(());
         }
-        for frame in frames {
+        for frame in self.handed.iter() {
             mark_sent(&self.lamps, rows, number, *frame, column)?;
         }
         Ok(())

@@ -1,6 +1,6 @@
 //! The rows of levels: of lamps, of groups, and of all lamps of a bus.
 
-use daliframe::{Address, Fields16, Frame, ShortAddress};
+use daliframe::{Fields16, Frame, Frame16, ShortAddress};
 use ilplan::{Location, Plan};
 use picture::{Row, Sign};
 use simbus::{Scenario, SimBus, Statement};
@@ -96,15 +96,15 @@ fn row_of(alloc: Global, lamp: Lamp, name: String) -> Result<Row, AllocError> {
 /// Where a lamp is, in words.
 fn place_of(alloc: Global, lamp: Lamp) -> Result<String, AllocError> {
     let bus = lamp.bus;
-    let short = lamp.address;
-    match Address::from_number(lamp.address) {
-        Some(Address::Short(_)) if lamp.is_there => format!(in alloc; "gear {short}, bus {bus}"),
-        Some(Address::Group(group)) => {
-            let group = group.number();
+    let address = lamp.address;
+    match address {
+        0..=63 if lamp.is_there => format!(in alloc; "gear {address}, bus {bus}"),
+        64..=79 => {
+            let group = address - 64;
             format!(in alloc; "group {group}, bus {bus}")
         }
-        Some(Address::Broadcast) => format!(in alloc; "all gear, bus {bus}"),
-        _ => format!(in alloc; "no gear {short}, bus {bus}"),
+        80 => format!(in alloc; "all gear, bus {bus}"),
+        _ => format!(in alloc; "no gear {address}, bus {bus}"),
     }
 }
 
@@ -146,6 +146,14 @@ fn mark_level(row: &mut Row, level: Option<u8>, column: usize) -> Result<(), All
     }
 }
 
+/// The address and the level of a frame that sets one.
+fn level_sent(frame: Frame16) -> Option<(u8, u8)> {
+    match frame.fields() {
+        Fields16::Level { address, level } => Some((address.number(), level)),
+        _ => None,
+    }
+}
+
 /// Marks the rows of a bus whose level is the one that was sent last, after a frame was.
 pub(crate) fn mark_sent(
     lamps: &[Lamp],
@@ -154,15 +162,30 @@ pub(crate) fn mark_sent(
     frame: Frame,
     column: usize,
 ) -> Result<(), AllocError> {
-    let Frame::Forward16(frame) = frame else {
-        return Ok(());
+    let sent = match frame {
+        Frame::Forward16(frame) => level_sent(frame),
+        Frame::Forward24(_) => None,
     };
-    let Fields16::Level { address, level } = frame.fields() else {
-        return Ok(());
-    };
+    match sent {
+        Some((address, level)) if level < 255 => {
+            mark_address(lamps, rows, number, address, level, column)
+        }
+        _ => Ok(()),
+    }
+}
+
+/// Marks the rows of an address of a bus without control gear that is known.
+fn mark_address(
+    lamps: &[Lamp],
+    rows: &mut [Row],
+    number: u8,
+    address: u8,
+    level: u8,
+    column: usize,
+) -> Result<(), AllocError> {
     for place in 0..lamps.len() {
         let lamp = lamps[place];
-        if lamp.bus == number && !lamp.is_there && lamp.address == address.number() && level < 255 {
+        if lamp.bus == number && !lamp.is_there && lamp.address == address {
             if let Some(row) = rows.get_mut(place) {
                 mark_level(row, Some(level), column)?;
             }

@@ -38,6 +38,14 @@ fn frame_of_number(digits: usize, number: u32) -> Option<Frame> {
     }
 }
 
+/// The 24-bit frame that hexadecimal digits write.
+pub(crate) fn heard_frame(digits: &str) -> Option<Frame24> {
+    match u32::from_str_radix(digits, 16) {
+        Ok(number) => Frame24::new(number),
+        Err(_) => None,
+    }
+}
+
 /// The frames that words write.
 pub(crate) fn frames_of(alloc: Global, words: &str) -> Result<Vec<Frame>, AllocError> {
     let mut frames = Vec::new(alloc);

@@ -2,7 +2,7 @@
 
 use crate::lamps::{Lamp, lamps_of};
 use crate::sources::source_rows;
-use daliframe::BusNumber;
+use daliframe::{BusNumber, Frame};
 use ilplan::Plan;
 use picture::{Column, Moment, Picture, Row, Sign};
 use simbus::{BusSetup, Scenario, SimBus};
@@ -17,6 +17,8 @@ pub(crate) struct Stage {
     pub lamps: Vec<Lamp>,
     /// In the order of their numbers.
     pub buses: Vec<SimBus>,
+    /// The frames of the transaction that was handed to a bus last.
+    pub handed: Vec<Frame>,
 }
 
 impl Stage {
@@ -32,6 +34,7 @@ impl Stage {
             picture,
             lamps,
             buses: simulated_buses(alloc, plan, scenario)?,
+            handed: Vec::new(alloc),
         })
     }
 
