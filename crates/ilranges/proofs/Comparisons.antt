@@ -1,20 +1,21 @@
--- The least range of the numbers that pass a comparison.
-use Rattle.std.proofs.Common.{◌≡◌, ◌∙◌, ℤ, pos, ◌+ℤ◌, ◌-ℤ◌, ◌≤ℤ◌, ◌<ℤ◌}
-use Rattle.std.proofs.Common.{◌⊎◌, inl, inr, Option, Some, None, Bool, true, false}
-use Rattle.std.proofs.Common.{refl, sym, ap, subst, arith}
-use Rattle.std.specs.Prelude.{int_lt, int_le, not}
+-- The least range of the numbers of which a comparison holds, and of those of which the turned one holds.
+use Rattle.std.proofs.Common.{◌≡◌, ◌∙◌, ℤ, pos, ◌+ℤ◌, ◌-ℤ◌, ◌≤ℤ◌, ◌<ℤ◌, ◌⊎◌, inl, inr, Option, Some, None, Bool, true}
+use Rattle.std.proofs.Common.{false, refl, sym, ap, subst, arith, cond, zero, suc, negsuc}
+use Rattle.std.specs.Prelude.{int_lt, int_le, not, IsTrue, int_div, ◌*ℤ◌}
 use Rattle.std.specs.Int.{int_min, int_max}
 use Rattle.std.specs.Ordering.{int_eq}
 use Rattle.std.proofs.lemmas.Int.{ints, clamps}
 use Rattle.std.proofs.lemmas.Bool.Decides.{Decides-int_eq}
 use Rattle.iltypes.specs.declared.range.Range.{Range}
 use Rattle.iltypes.specs.declared.value.Value.TheVariants as values
-use Rattle.iltypes.specs.Arithmetic.{IsLeast}
+use Rattle.iltypes.specs.Arithmetic.{IsLeast, remainder}
 use Rattle.iloperators.specs.declared.operator.Operator.{Operator}
 use Rattle.iloperators.specs.declared.operator.Operator.TheVariants as operators
-use Rattle.iloperators.specs.Operators.{value_of_operator}
-use Rattle.ilranges.specs.Passing.{IsPassing}
-use Rattle.ilranges.specs.PassingSteps.{IsTested, IsLeastTested, IsLeastOf}
+use Rattle.iloperators.specs.Operators.{value_of_operator, number, fits}
+use Rattle.ilranges.specs.Comparisons.{IsPassing}
+use Rattle.ilranges.specs.ComparisonSteps.{IsTested, IsLeastTested, IsLeastOf}
+use Rattle.iloperators.specs.Comparisons.{compares, turned}
+use Rattle.iloperators.proofs.Comparisons.{has_opposite_outcome, turned_back}
 
 -- ---- the steps
 
@@ -110,14 +111,8 @@ true_or_false : (b : Bool) → (b ≡ true) ⊎ (b ≡ false)
 true_or_false true = inl refl
 true_or_false false = inr refl
 
-lt_to : (a b : ℤ) → a <ℤ b → int_lt a b ≡ true
-lt_to a b h = grind (arith, ints)
-
 pub lt_from : (a b : ℤ) → int_lt a b ≡ true → a <ℤ b
 lt_from a b h = grind (arith, ints)
-
-ge_to : (a b : ℤ) → b ≤ℤ a → int_lt a b ≡ false
-ge_to a b h = grind (arith, ints)
 
 pub ge_from : (a b : ℤ) → int_lt a b ≡ false → b ≤ℤ a
 ge_from a b h = grind (arith, ints)
@@ -127,12 +122,6 @@ le_to a b h = grind (arith, ints)
 
 le_from : (a b : ℤ) → int_le a b ≡ true → a ≤ℤ b
 le_from a b h = grind (arith, ints)
-
-gt_to : (a b : ℤ) → b <ℤ a → int_le a b ≡ false
-gt_to a b h = grind (arith, ints)
-
-gt_from : (a b : ℤ) → int_le a b ≡ false → b <ℤ a
-gt_from a b h = grind (arith, ints)
 
 above_of : (l z : ℤ) → l ≤ℤ z → ¬ (z ≡ l) → l <ℤ z
 above_of l z h n = elim (true_or_false (int_lt l z)) [
@@ -183,35 +172,17 @@ passed comparison outcome limit Test r o to from h =
     (λ z p. record { of_range = p.of_range; is = to z p.test })
     (λ z p. record { of_range = p.of_range; test = from z p.is }) h
 
-pub gt_false : (r : Range) (o : Option Range) (l limit : ℤ) → l ≡ limit → IsLeastTested (λ z. z ≤ℤ l) r o
-    → IsLeastOf (IsPassing operators.Gt false limit r) o
-gt_false r o l limit e h =
-    passed operators.Gt false limit (λ z. z ≤ℤ limit) r o (λ z p. truth_is _ _ (ge_to limit z p))
-    (λ z p. ge_from limit z (truth_of _ _ p)) (subst (λ (x : ℤ). IsLeastTested (λ z. z ≤ℤ x) r o) e h)
-
 pub le_true : (r : Range) (o : Option Range) (l limit : ℤ) → l ≡ limit → IsLeastTested (λ z. z ≤ℤ l) r o
     → IsLeastOf (IsPassing operators.Le true limit r) o
 le_true r o l limit e h =
     passed operators.Le true limit (λ z. z ≤ℤ limit) r o (λ z p. truth_is _ _ (le_to z limit p))
     (λ z p. le_from z limit (truth_of _ _ p)) (subst (λ (x : ℤ). IsLeastTested (λ z. z ≤ℤ x) r o) e h)
 
-pub le_false : (r : Range) (o : Option Range) (l limit : ℤ) → l ≡ limit → IsLeastTested (λ z. l <ℤ z) r o
-    → IsLeastOf (IsPassing operators.Le false limit r) o
-le_false r o l limit e h =
-    passed operators.Le false limit (λ z. limit <ℤ z) r o (λ z p. truth_is _ _ (gt_to z limit p))
-    (λ z p. gt_from z limit (truth_of _ _ p)) (subst (λ (x : ℤ). IsLeastTested (λ z. x <ℤ z) r o) e h)
-
 pub ge_true : (r : Range) (o : Option Range) (l limit : ℤ) → l ≡ limit → IsLeastTested (λ z. l ≤ℤ z) r o
     → IsLeastOf (IsPassing operators.Ge true limit r) o
 ge_true r o l limit e h =
     passed operators.Ge true limit (λ z. limit ≤ℤ z) r o (λ z p. truth_is _ _ (le_to limit z p))
     (λ z p. le_from limit z (truth_of _ _ p)) (subst (λ (x : ℤ). IsLeastTested (λ z. x ≤ℤ z) r o) e h)
-
-pub lt_false : (r : Range) (o : Option Range) (l limit : ℤ) → l ≡ limit → IsLeastTested (λ z. l ≤ℤ z) r o
-    → IsLeastOf (IsPassing operators.Lt false limit r) o
-lt_false r o l limit e h =
-    passed operators.Lt false limit (λ z. limit ≤ℤ z) r o (λ z p. truth_is _ _ (ge_to z limit p))
-    (λ z p. ge_from z limit (truth_of _ _ p)) (subst (λ (x : ℤ). IsLeastTested (λ z. x ≤ℤ z) r o) e h)
 
 differs_to : (z l : ℤ) → ¬ (z ≡ l) → int_eq z l ≡ false
 differs_to z l n = elim (true_or_false (int_eq z l)) [
@@ -230,12 +201,6 @@ of_not : (b : Bool) → not b ≡ true → b ≡ false
 of_not true e = cc
 of_not false e = refl
 
-pub eq_false : (r : Range) (o : Option Range) (l limit : ℤ) → l ≡ limit → IsLeastTested (λ z. ¬ (z ≡ l)) r o
-    → IsLeastOf (IsPassing operators.Eq false limit r) o
-eq_false r o l limit e h =
-    passed operators.Eq false limit (λ z. ¬ (z ≡ limit)) r o (λ z p. truth_is _ _ (differs_to z limit p))
-    (λ z p. differs_from z limit (truth_of _ _ p)) (subst (λ (x : ℤ). IsLeastTested (λ z. ¬ (z ≡ x)) r o) e h)
-
 pub ne_true : (r : Range) (o : Option Range) (l limit : ℤ) → l ≡ limit → IsLeastTested (λ z. ¬ (z ≡ l)) r o
     → IsLeastOf (IsPassing operators.Ne true limit r) o
 ne_true r o l limit e h =
@@ -243,3 +208,57 @@ ne_true r o l limit e h =
     (λ z p. truth_is _ _ (not_false (int_eq z limit) (differs_to z limit p)))
     (λ z p. differs_from z limit (of_not (int_eq z limit) (truth_of _ _ p)))
     (subst (λ (x : ℤ). IsLeastTested (λ z. ¬ (z ≡ x)) r o) e h)
+
+-- ---- the turned comparison
+
+number_is_no_truth : (z : ℤ) (truth : Bool) → ¬ (number z ≡ Some (values.Bool truth))
+number_is_no_truth z truth e = by (fits z) e
+  where
+    by : (b : Bool) → ¬ (cond b (Some (values.Int z)) None ≡ Some (values.Bool truth))
+    by true e = let k : ⊥ = cc in k
+    by false e = let k : ⊥ = cc in k
+
+-- what has an outcome of two numbers is a comparison
+pub is_comparison : (operator : Operator) (x y : ℤ) (outcome : Bool)
+    → value_of_operator operator (values.Int x) (values.Int y) ≡ Some (values.Bool outcome)
+    → IsTrue (compares operator)
+is_comparison operators.Gt x y outcome e = refl
+is_comparison operators.Ge x y outcome e = refl
+is_comparison operators.Eq x y outcome e = refl
+is_comparison operators.Ne x y outcome e = refl
+is_comparison operators.Le x y outcome e = refl
+is_comparison operators.Lt x y outcome e = refl
+is_comparison operators.Add x y outcome e = absurd (number_is_no_truth (x +ℤ y) outcome e)
+is_comparison operators.Sub x y outcome e = absurd (number_is_no_truth (x -ℤ y) outcome e)
+is_comparison operators.Mul x y outcome e = absurd (number_is_no_truth (x *ℤ y) outcome e)
+is_comparison operators.Div x (pos zero) outcome e = absurd (cc)
+is_comparison operators.Div x (pos (suc n)) outcome e =
+    absurd (number_is_no_truth (int_div x (pos (suc n))) outcome e)
+is_comparison operators.Div x (negsuc n) outcome e =
+    absurd (number_is_no_truth (int_div x (negsuc n)) outcome e)
+is_comparison operators.Mod x (pos zero) outcome e = absurd (cc)
+is_comparison operators.Mod x (pos (suc n)) outcome e =
+    absurd (number_is_no_truth (remainder x (pos (suc n))) outcome e)
+is_comparison operators.Mod x (negsuc n) outcome e =
+    absurd (number_is_no_truth (remainder x (negsuc n)) outcome e)
+is_comparison _ x y outcome e = absurd (cc)
+
+-- where it holds of a number, the comparison does not
+holds_turned : (comparison : Operator) (z limit : ℤ)
+    → value_of_operator (turned comparison) (values.Int z) (values.Int limit) ≡ Some (values.Bool true)
+    → value_of_operator comparison (values.Int z) (values.Int limit) ≡ Some (values.Bool false)
+holds_turned comparison z limit e =
+    subst (λ (c : Operator). value_of_operator c (values.Int z) (values.Int limit) ≡ Some (values.Bool false))
+    (turned_back comparison)
+    (has_opposite_outcome (turned comparison) z limit true (is_comparison (turned comparison) z limit true e) e)
+
+-- so the numbers that do not pass are those of which it holds
+pub not_held : (comparison : Operator) (l limit : ℤ) (r : Range) (o : Option Range) → l ≡ limit
+    → IsLeastOf (IsPassing (turned comparison) true l r) o → IsLeastOf (IsPassing comparison false limit r) o
+not_held comparison l limit r o e h =
+    least_as (IsPassing (turned comparison) true limit r) (IsPassing comparison false limit r) o
+    (λ z p. record { of_range = p.of_range; is = holds_turned comparison z limit p.is })
+    (λ z p. record {
+      of_range = p.of_range;
+      is = has_opposite_outcome comparison z limit false (is_comparison comparison z limit false p.is) p.is;
+    }) (subst (λ (x : ℤ). IsLeastOf (IsPassing (turned comparison) true x r) o) e h)

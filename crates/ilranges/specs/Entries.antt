@@ -1,19 +1,12 @@
--- Entries (profile): what is known before a word that is reached.
-use Rattle.std.specs.Prelude.{◌≡◌, ℕ, Bool, true, if◌then◌else◌, Option, Some, None, is_some, [], map, slice_get, ⊤}
-use Rattle.std.specs.Option.{option_map}
+-- Entries (profile): what is known before a word that is reached, and where two ways meet.
+use Rattle.std.specs.Prelude.{◌≡◌, ℕ, if◌then◌else◌, Option, Some, None, [], map, ⊤}
 use Rattle.std.specs.List.{AllZip}
-use Rattle.iltypes.specs.declared.value.IlType.{IlType}
-use Rattle.ilblocks.specs.Stores.{type_of_port, type_of_input}
-use Rattle.ilcode.specs.declared.word.WordOperand.{WordOperand}
-use Rattle.ilcode.specs.declared.word.WordOperand.TheVariants as operands
-use Rattle.ilcode.specs.declared.word.Target.{Target}
-use Rattle.ilcode.specs.declared.word.Target.TheVariants as variables
-use Rattle.ilcode.specs.Listings.{Listing, shape_of}
+use Rattle.ilcode.specs.Listings.{Listing}
 use Rattle.ilcode.specs.Steps.{is_start}
 use Rattle.ilranges.specs.declared.entry.Entry.{Entry}
 use Rattle.ilranges.specs.declared.known.Known.{Known}
 use Rattle.ilranges.specs.declared.nesting.KnownOpened.{KnownOpened}
-use Rattle.ilranges.specs.Knowns.{known_of_type, known_of_value, IsKnownWithin}
+use Rattle.ilranges.specs.Knowns.{known_of_type, IsKnownWithin}
 use Rattle.ilranges.specs.Marks.{IsMarkInto}
 
 -- before the first word each slot has a value of its type, there is no current result, and nothing is open
@@ -23,22 +16,6 @@ opening code = record { slots = map known_of_type code.slots; result = None; mar
 -- where control comes to a place there is no current result, and so no mark, if a program begins there
 abbrev pub arriving : Listing → ℕ → Entry → Entry
 arriving code place entry = if is_start code place then record entry { result = None; mark = None } else entry
-
--- what is known of an operand, where its table has it: of a port always that it is of its type
-abbrev pub known_of : Listing → Entry → WordOperand → Option Known
-known_of code entry (operands.Slot slot) = slice_get entry.slots slot
-known_of code entry (operands.Constant constant) = option_map known_of_value (slice_get code.constants constant)
-known_of code entry (operands.Port port block) = option_map known_of_type (type_of_port (shape_of code) block port)
-
--- the type of what a store writes, where its table has it
-abbrev pub type_of_variable : Listing → Target → Option IlType
-type_of_variable code (variables.Slot slot) = slice_get code.slots slot
-type_of_variable code (variables.Port port block) = type_of_port (shape_of code) block port
-
--- whether a program may write it: a variable, or an input
-abbrev pub may_write : Listing → Target → Bool
-may_write code (variables.Slot slot) = true
-may_write code (variables.Port port block) = is_some (type_of_input (shape_of code) block port)
 
 -- 'there may be no current result' holds of every current result
 abbrev pub IsResultInto : Option Known → Option Known → Type 0
@@ -58,3 +35,17 @@ pub record IsInto (entry wider : Entry) : Type 0 where
   pub result : IsResultInto entry.result wider.result
   pub mark : IsMarkInto entry.mark wider.mark
   pub nesting : AllZip IsOpenedInto entry.nesting wider.nesting
+
+-- ---- where two ways meet
+
+-- what is known on either way, and no less: all that both ways lead into, it leads into
+pub record IsMeeting (one other meeting : Entry) : Type 0 where
+  pub from_one : IsInto one meeting
+  pub from_other : IsInto other meeting
+  pub least : (wider : Entry) → IsInto one wider → IsInto other wider → IsInto meeting wider
+
+-- some entry holds what is known on either way
+pub record MayMeet (one other : Entry) : Type 0 where
+  pub wider : Entry
+  pub from_one : IsInto one wider
+  pub from_other : IsInto other wider

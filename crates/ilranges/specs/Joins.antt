@@ -1,9 +1,7 @@
--- What is known where two ways meet: of one value, and of all.
+-- What is known of a value where two ways meet, and of values in a row.
 use Rattle.std.specs.Prelude.{◌≡◌, ◌⊎◌, ℕ, List, length, Some, slice_get}
 use Rattle.iltypes.specs.declared.value.Value.{Value}
-use Rattle.ilranges.specs.declared.entry.Entry.{Entry}
 use Rattle.ilranges.specs.declared.known.Known.{Known}
-use Rattle.ilranges.specs.Entries.{IsInto}
 use Rattle.ilranges.specs.Knowns.{IsKnown, AreReached}
 
 -- the value is known as the one or as the other
@@ -30,15 +28,3 @@ pub record Each {A : Type 0} (P : A → A → A → Type 0) (ones others results
 -- the same of each two in a row
 abbrev pub AreJoins : List Known → List Known → List Known → Type 0
 AreJoins ones others knowns = Each IsJoin ones others knowns
-
--- what is known on either way, and no less: all that both ways lead into, it leads into
-pub record IsMeeting (one other meeting : Entry) : Type 0 where
-  pub from_one : IsInto one meeting
-  pub from_other : IsInto other meeting
-  pub least : (wider : Entry) → IsInto one wider → IsInto other wider → IsInto meeting wider
-
--- some entry holds what is known on either way
-pub record MayMeet (one other : Entry) : Type 0 where
-  pub wider : Entry
-  pub from_one : IsInto one wider
-  pub from_other : IsInto other wider

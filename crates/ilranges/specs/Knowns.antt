@@ -1,5 +1,6 @@
--- What is known of a value before a program runs: its kind, and a range that holds it where it is a number.
-use Rattle.std.specs.Prelude.{ℤ, ⊤}
+-- What is known of a value before a program runs: its kind, and a range that holds it where it is a number; and when it
+-- may be stored.
+use Rattle.std.specs.Prelude.{ℤ, ⊤, ◌≡◌}
 use Rattle.std.specs.Int.Signed.{≤ℤ_refl}
 use Rattle.iltypes.specs.declared.range.Range.{Range}
 use Rattle.iltypes.specs.declared.value.IlType.{IlType}
@@ -9,6 +10,8 @@ use Rattle.iltypes.specs.declared.value.Value.TheVariants as values
 use Rattle.iltypes.specs.Ranges.{Holds, IsWithin}
 use Rattle.ilranges.specs.declared.known.Known.{Known}
 use Rattle.ilranges.specs.declared.known.Known.TheVariants as knowns
+use Rattle.ilranges.specs.declared.cause.Cause.{Cause}
+use Rattle.ilranges.specs.declared.cause.Cause.TheVariants as causes
 
 -- what is known of a variable: that its value is of the type
 abbrev pub known_of_type : IlType → Known
@@ -46,3 +49,13 @@ IsKnownWithin _ _ = ⊥
 abbrev pub AreReached : (Value → Type 0) → Known → Type 0
 AreReached IsOfSet knowns.Bool = ⊤
 AreReached IsOfSet (knowns.Int range) = IsOfSet (values.Int range.lo) × IsOfSet (values.Int range.hi)
+
+-- ---- when a value may be stored (profile)
+
+-- the kinds differ, or the range that is found is not within the one that is allowed
+abbrev pub ArisesAtStore : Known → IlType → Cause → Type 0
+ArisesAtStore knowns.Bool (types.Int allowed) causes.WrongType = ⊤
+ArisesAtStore (knowns.Int found) types.Bool causes.WrongType = ⊤
+ArisesAtStore (knowns.Int found) (types.Int allowed) (causes.OutOfRange f a) =
+    (found ≡ f) × (allowed ≡ a) × ¬ IsWithin found allowed
+ArisesAtStore _ _ _ = ⊥

@@ -18,16 +18,17 @@ use Rattle.ilcode.specs.declared.word.Word.{Word}
 use Rattle.ilcode.specs.declared.word.Word.TheVariants as words
 use Rattle.ilcode.specs.Listings.{Listing}
 use Rattle.ilcode.specs.Steps.{is_start, is_target}
+use Rattle.ilblocks.specs.Stores.{Store}
 use Rattle.ilranges.specs.declared.cause.Cause.{Cause}
 use Rattle.ilranges.specs.declared.cause.Cause.TheVariants as causes
 use Rattle.ilranges.specs.declared.entry.Entry.{Entry}
 use Rattle.ilranges.specs.declared.known.Known.{Known}
 use Rattle.ilranges.specs.declared.nesting.KnownOpened.{KnownOpened}
-use Rattle.ilranges.specs.Entries.{known_of, type_of_variable, may_write}
+use Rattle.ilranges.specs.Operands.{known_of, type_of_variable, may_write}
 use Rattle.ilranges.specs.Functions.{ArisesAtFunction}
-use Rattle.ilranges.specs.Knowns.{IsOfKind, known_of_type}
+use Rattle.ilranges.specs.Knowns.{IsOfKind, known_of_type, ArisesAtStore}
 use Rattle.ilranges.specs.Results.{Arises}
-use Rattle.ilranges.specs.Stores.{ArisesAtStore}
+use Rattle.ilranges.specs.Causes.{IsLeastCause}
 
 -- ---- wrong types: no values of the kinds that are known have a value
 
@@ -202,3 +203,12 @@ abbrev pub ArisesAtWord : Listing → ℕ → Bool → Entry → Word → Cause 
 ArisesAtWord code place met entry word causes.OpenNesting =
     StaysOpen code place met word (open_after word (length entry.nesting))
 ArisesAtWord code place met entry word cause = ArisesBeforeNesting code place entry word cause
+
+-- ---- the least cause
+
+-- the least cause is one
+abbrev pub HasOneCause : Word → Type 0
+HasOneCause word =
+    (code : Listing) (place : ℕ) (met : Bool) (entry : Entry) (one other : Cause)
+    → IsLeastCause (ArisesAtWord code place met entry word) one
+    → IsLeastCause (ArisesAtWord code place met entry word) other → one ≡ other

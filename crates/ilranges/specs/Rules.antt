@@ -25,11 +25,11 @@ use Rattle.ilranges.specs.declared.known.Known.TheVariants as knowns
 use Rattle.ilranges.specs.declared.mark.ResultMark.{ResultMark}
 use Rattle.ilranges.specs.declared.mark.ResultMark.TheVariants.{Test}
 use Rattle.ilranges.specs.declared.nesting.KnownOpened.{KnownOpened}
-use Rattle.ilranges.specs.Entries.{known_of, type_of_variable, may_write}
+use Rattle.ilranges.specs.Operands.{known_of, type_of_variable, may_write}
 use Rattle.ilranges.specs.Functions.{IsAfterFunction}
 use Rattle.ilranges.specs.Knowns.{IsKnown}
 use Rattle.ilranges.specs.Marks.{mark_of_load, mark_of_apply, mark_of_function, constant_of}
-use Rattle.ilranges.specs.Passing.{IsPassing}
+use Rattle.ilranges.specs.Comparisons.{IsPassing}
 use Rattle.ilranges.specs.Refusals.{ArisesAtWord}
 use Rattle.ilranges.specs.Results.{IsAfter}
 

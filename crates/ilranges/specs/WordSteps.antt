@@ -1,7 +1,5 @@
 -- What the steps of after_word give.
-use Rattle.std.specs.Prelude.{ℕ, Bool, true, false, nat_lt, if◌then◌else◌, Result, Ok, Err}
-use Rattle.iloperators.specs.declared.operator.Operator.{Operator}
-use Rattle.iloperators.specs.declared.operator.Operator.TheVariants as operators
+use Rattle.std.specs.Prelude.{ℕ, nat_lt, if◌then◌else◌, Result, Ok, Err}
 use Rattle.ilcode.specs.declared.word.Word.{Word}
 use Rattle.ilcode.specs.declared.word.Word.TheVariants as words
 use Rattle.ilcode.specs.Listings.{Listing}
@@ -10,8 +8,6 @@ use Rattle.ilranges.specs.declared.cause.Cause.{Cause}
 use Rattle.ilranges.specs.declared.cause.Cause.TheVariants as causes
 use Rattle.ilranges.specs.declared.change.Changes.{Changes}
 use Rattle.ilranges.specs.declared.entry.Entry.{Entry}
-use Rattle.ilranges.specs.declared.known.Known.{Known}
-use Rattle.ilranges.specs.declared.known.Known.TheVariants as knowns
 use Rattle.ilranges.specs.Causes.{refusal_number}
 use Rattle.ilranges.specs.Refusals.{ArisesAtJump}
 use Rattle.ilranges.specs.Rules.{Ways, AreOnward, IsEntryAfter, AreJumped}
@@ -26,28 +22,6 @@ abbrev pub IsJudged : Listing → ℕ → Entry → Word → Ways → Type 0
 IsJudged code place entry (words.Jump condition target) ways =
     NoneArises (ArisesAtJump condition (is_target code place target) entry.result) × AreJumped condition entry ways
 IsJudged code place entry word ways = AreOnward (IsEntryAfter code entry word) ways
-
--- whether the operator takes some value of the kind
-abbrev pub takes : Operator → Known → Bool
-takes (operators.And negated) (knowns.Int range) = false
-takes (operators.Or negated) (knowns.Int range) = false
-takes (operators.Xor negated) (knowns.Int range) = false
-takes operator (knowns.Int range) = true
-takes (operators.And negated) knowns.Bool = true
-takes (operators.Or negated) knowns.Bool = true
-takes (operators.Xor negated) knowns.Bool = true
-takes operators.Eq knowns.Bool = true
-takes operators.Ne knowns.Bool = true
-takes operator knowns.Bool = false
-
--- whether a value of the kind may be stored, under the modifier N a truth value
-abbrev pub may_modify : Bool → Known → Bool
-may_modify true (knowns.Int range) = false
-may_modify negated known = true
-
--- this cause where the kind is right
-abbrev pub if_right : Bool → Cause → Cause
-if_right right cause = if right then cause else causes.WrongType
 
 -- the cause at a word after which a parenthesis stays open: one of its own with a lower number goes before
 abbrev pub least_beside : Result Changes Cause → Cause

@@ -1,6 +1,8 @@
-//! Causes of a refusal.
+//! Causes of a refusal, of which one is reported.
 
 ghost use Rattle.std.specs.Prelude.{◌≡◌};
+ghost use Rattle.ilcode.specs.declared.word.Word.{Word};
+ghost use Rattle.ilranges.specs.Refusals.{HasOneCause};
 
 use iltypes::Range;
 
@@ -56,3 +58,8 @@ impl Cause {
         }
     }
 }
+
+/// One cause is reported at a word. It does nothing: its contract is the law.
+pub fn least_cause_is_one()
+    ensures { (word : Word) → HasOneCause word }
+{}

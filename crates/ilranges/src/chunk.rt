@@ -4,8 +4,8 @@ ghost use Rattle.std.specs.Prelude.{◌≡◌, ◌<◌, length, slice_get, slice
 ghost use Rattle.std.specs.Prelude.{IfOk, OnOk, OnErr};
 ghost use Rattle.std.specs.List.{AllZip};
 
+use crate::joins::{are_within, joins};
 use crate::known::Known;
-use crate::knowns::{are_within, joins};
 use std::alloc::{AllocError, Global};
 use std::marker::Model;
 use std::rc::Rc;

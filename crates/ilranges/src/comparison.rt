@@ -1,9 +1,9 @@
 //! The numbers of a range that pass a comparison.
 
-ghost use Rattle.std.specs.Prelude.{◌≡◌, ◌↔◌, ℤ, ◌≤ℤ◌, ◌<ℤ◌, IsNone, IfSome};
+ghost use Rattle.std.specs.Prelude.{◌≡◌, ◌↔◌, ℤ, ◌≤ℤ◌, ◌<ℤ◌, IsNone, IfSome, true};
 ghost use Rattle.iltypes.specs.Arithmetic.{IsLeast};
-ghost use Rattle.ilranges.specs.Passing.{IsPassing};
-ghost use Rattle.ilranges.specs.PassingSteps.{IsLeastOf, IsLeastTested};
+ghost use Rattle.ilranges.specs.Comparisons.{IsPassing};
+ghost use Rattle.ilranges.specs.ComparisonSteps.{IsLeastOf, IsLeastTested};
 
 use iloperators::Operator;
 use iltypes::Range;
@@ -18,53 +18,28 @@ pub fn passing(range: Range, comparison: Operator, limit: i64, outcome: bool) ->
     pass(range, comparison, limit, outcome)
 }
 
-/// The numbers that pass.
+/// The numbers that pass: those of which the comparison holds, or the turned one.
 fn pass(range: Range, comparison: Operator, limit: i64, outcome: bool) -> Option<Range>
     ensures { IsLeastOf (IsPassing comparison outcome limit range) result }
 {
+    if outcome {
+        keep(range, comparison, limit)
+    } else {
+        keep(range, comparison.turned(), limit)
+    }
+}
+
+/// The numbers of which the comparison holds.
+fn keep(range: Range, comparison: Operator, limit: i64) -> Option<Range>
+    ensures { IsLeastOf (IsPassing comparison true limit range) result }
+{
     match comparison {
-        Operator::Gt => {
-            if outcome {
-                above(range, limit)
-            } else {
-                up_to(range, limit)
-            }
-        }
-        Operator::Ge => {
-            if outcome {
-                from(range, limit)
-            } else {
-                below(range, limit)
-            }
-        }
-        Operator::Eq => {
-            if outcome {
-                only(range, limit)
-            } else {
-                without_end(range, limit)
-            }
-        }
-        Operator::Ne => {
-            if outcome {
-                without_end(range, limit)
-            } else {
-                only(range, limit)
-            }
-        }
-        Operator::Le => {
-            if outcome {
-                up_to(range, limit)
-            } else {
-                above(range, limit)
-            }
-        }
-        Operator::Lt => {
-            if outcome {
-                below(range, limit)
-            } else {
-                from(range, limit)
-            }
-        }
+        Operator::Gt => above(range, limit),
+        Operator::Ge => from(range, limit),
+        Operator::Eq => only(range, limit),
+        Operator::Ne => without_end(range, limit),
+        Operator::Le => up_to(range, limit),
+        Operator::Lt => below(range, limit),
         Operator::And { .. }
         | Operator::Or { .. }
         | Operator::Xor { .. }

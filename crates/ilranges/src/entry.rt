@@ -1,7 +1,7 @@
 //! What is known before a word.
 
 ghost use Rattle.std.specs.Prelude.{◌≡◌, [], IfOk, OnErr, OnOk};
-ghost use Rattle.ilranges.specs.JoinSteps.{IsResultMeeting};
+ghost use Rattle.ilranges.specs.EntrySteps.{IsResultMeeting};
 
 use crate::known::Known;
 use crate::mark::ResultMark;
@@ -26,7 +26,7 @@ pub struct Entry {
 
 impl Entry {
     ghost use Rattle.ilranges.specs.Entries.{opening, arriving};
-    ghost use Rattle.ilranges.specs.Joins.{IsMeeting, MayMeet};
+    ghost use Rattle.ilranges.specs.Entries.{IsMeeting, MayMeet};
 
     /// What is known before the first word: each slot has a value of its type, there is no current
     /// result, and nothing is open.

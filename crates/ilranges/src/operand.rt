@@ -3,7 +3,7 @@
 ghost use Rattle.std.specs.Prelude.{◌≡◌};
 ghost use Rattle.ilblocks.specs.Stores.{type_of_port, type_of_input};
 ghost use Rattle.ilcode.specs.Listings.{shape_of};
-ghost use Rattle.ilranges.specs.Entries.{known_of, type_of_variable, may_write};
+ghost use Rattle.ilranges.specs.Operands.{known_of, type_of_variable, may_write};
 
 use crate::entry::Entry;
 use crate::known::Known;

@@ -2,7 +2,7 @@
 
 ghost use Rattle.std.specs.Prelude.{◌≡◌, Some, true, false, IsTrue, MatchResult};
 ghost use Rattle.ilranges.specs.Causes.{IsLeastCause};
-ghost use Rattle.ilranges.specs.WordSteps.{takes, may_modify, if_right};
+ghost use Rattle.ilranges.specs.RuleSteps.{takes, may_modify, if_right};
 ghost use Rattle.ilranges.specs.Refusals.{ArisesAtLoad, ArisesAtApply, ArisesAtTransform};
 ghost use Rattle.ilranges.specs.Refusals.{ArisesAtStoring, ArisesAtSet, ArisesAtPass};
 ghost use Rattle.ilranges.specs.Refusals.{ArisesAtClosing};

@@ -13,30 +13,20 @@ use Rattle.ilscope.specs.Kept.{Kept}
 use Rattle.ilscope.specs.Order.{lesser_of_two}
 use Rattle.ilscope.specs.Tables.{first_at}
 use Rattle.ilscope.specs.declared.fault.NameCause.{NameCause}
-use Rattle.ilscope.specs.declared.fault.NameCause.TheVariants.{Unknown, Twice, UnknownLabel, BackwardJump}
-use Rattle.ilscope.specs.declared.fault.NameCause.TheVariants.{BadAddress, InputRangeTooSmall, WrittenTwice}
-use Rattle.ilscope.specs.declared.fault.NameCause.TheVariants.{WritesInput}
-use Rattle.ilscope.specs.declared.fault.NameCause.TheVariants.{NoTask, TooMany, BadDeclaration}
+use Rattle.ilscope.specs.declared.fault.NameCause.TheVariants.{Unknown, Twice, UnknownLabel, BackwardJump, BadAddress}
+use Rattle.ilscope.specs.declared.fault.NameCause.TheVariants.{InputRangeTooSmall, WrittenTwice, WritesInput, NoTask}
+use Rattle.ilscope.specs.declared.fault.NameCause.TheVariants.{TooMany, BadDeclaration}
 use Rattle.ilscope.specs.declared.found.Found.{Found}
 use Rattle.ilscope.proofs.Gathered.{best_same, or_else}
 use Rattle.ilscope.proofs.Least.{both_least, got_at, got_below}
 use Rattle.ilsyms.specs.Faults.{labels_of, target_of, JumpsTo}
-use Rattle.ilsyms.specs.LabelSteps.{AreNumbered, IsCauseOfJump, IsFaultOfJump, IsFaultBefore, IsFaultOfJumps}
-use Rattle.ilsyms.specs.LabelSteps.{IsFaultOfLabels}
+use Rattle.ilsyms.specs.LabelSteps.{AreNumbered}
+use Rattle.ilsyms.specs.JumpSteps.{IsCauseOfJump, IsFaultOfJump, IsFaultBefore, IsFaultOfJumps}
+use Rattle.ilsyms.specs.LineSteps.{IsFaultOfLabels}
 use Rattle.ilsyms.proofs.LabelNumbers.{has, label_among, label_found}
+use Rattle.ilsyms.proofs.Lists.{last_or_before, some_at, at_some}
 
 -- ---- places of a list
-
-some_at : {X : Type 0} (P : X → Type 0) (xs : List X) → SomeOf P xs
-    → (i : ℕ) × (x : X) × (slice_get xs i ≡ Some x) × P x
-some_at P [] s = absurd s
-some_at P (x ∷ xs) (inl p) = (0, x, refl, p)
-some_at P (x ∷ xs) (inr s) = let t = some_at P xs s in (suc t.0, t.1, t.2, t.3)
-
-at_some : {X : Type 0} (P : X → Type 0) (xs : List X) (i : ℕ) (x : X) → slice_get xs i ≡ Some x → P x → SomeOf P xs
-at_some P [] i x e p = absurd cc
-at_some P (y ∷ ys) zero x e p = let same : y ≡ x = cc in inl (subst P (sym same) p)
-at_some P (y ∷ ys) (suc i) x e p = inr (at_some P ys i x e p)
 
 -- before, at and after a place
 split_at : {X : Type 0} (xs : List X) (i : ℕ) (x : X) → slice_get xs i ≡ Some x
@@ -81,13 +71,6 @@ front_first {X} test (x ∷ xs) ys h = by (test x) (first_at test xs) h (front_f
     by false (Some n) h more =
         let rest = more refl in
         (suc rest.0, ap (option_map suc) rest.1, let low = rest.2 in omega (arith, low))
-
-last_or_before : (n bound : ℕ) → n < bound + 1 → (n < bound) ⊎ (n ≡ bound)
-last_or_before zero zero h = inr refl
-last_or_before zero (suc bound) h = inl (omega arith)
-last_or_before (suc n) zero h = absurd (omega (arith, h))
-last_or_before (suc n) (suc bound) h =
-    or_else (λ l. inl (omega (arith, l))) (λ e. inr (ap suc e)) (last_or_before n bound (omega (arith, h)))
 
 -- ---- jumps
 

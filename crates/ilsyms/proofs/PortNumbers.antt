@@ -1,4 +1,4 @@
--- The number of a port, by the number and the kind that were found for its block; and that it is small.
+-- The number of a port is that of its name in the kind of its block, and it fits in a byte.
 use Rattle.std.proofs.Common.{◌≡◌, ℕ, ◌<◌, ◌≤◌, List, length, refl, sym, ap, ◌∙◌, arith}
 use Rattle.std.specs.Prelude.{Option, Some, None, IfSome, [], ◌∷◌, option_map, option_and_then, slice_get}
 use Rattle.std.specs.List.{position}

@@ -15,7 +15,7 @@ use Rattle.ilsyms.specs.Meaning.{same_name, place_of, names_in, instances_scan, 
 use Rattle.ilsyms.specs.Resolved.{new_places, label_number, planned_instance, planned_task}
 use Rattle.ilsyms.specs.Tasks.{NamedProgram, SourceTask}
 use Rattle.ilsyms.specs.Variables.{slots_of, blocks_of, shape_of}
-use Rattle.ilsyms.proofs.Labels.{labels_kept}
+use Rattle.ilsyms.proofs.LabelRenaming.{labels_kept}
 
 unchanged : (o : Option Store) → o ≡ option_map (λ store. store) o
 unchanged None = refl

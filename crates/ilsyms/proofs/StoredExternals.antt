@@ -1,4 +1,4 @@
--- The external that a use stores to, by what is found of its name.
+-- What is found of a name says which external a use stores to.
 use Rattle.std.proofs.Common.{◌≡◌, ℕ, List, [], ◌∷◌, Bool, true, false, refl, sym, ap, ◌∙◌, subst, inl, inr}
 use Rattle.std.specs.Prelude.{◌↔◌, Option, Some, None, IsSomeAnd, bytes_eq, option_and_then}
 use Rattle.std.specs.Prelude.{option_map, suc}
@@ -16,7 +16,7 @@ use Rattle.ilscope.specs.declared.external.DeclaredExternal.{DeclaredExternal}
 use Rattle.ilscope.specs.declared.found.Found.{Found}
 use Rattle.ilscope.proofs.Least.{one_found}
 use Rattle.ilsyms.specs.Faults.{IsExternal, IsNamedInput, StoresExternal, StoresTo, StoresToInput, stored_name}
-use Rattle.ilsyms.proofs.Labels.{alike}
+use Rattle.ilsyms.proofs.LabelRenaming.{alike}
 
 module _ (text : List ℕ) (name : Name) where
   -- an external whose number was found is there

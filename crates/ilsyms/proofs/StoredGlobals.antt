@@ -1,4 +1,4 @@
--- The numbers of the global variables that uses store to, and those of one use more.
+-- The numbers that are kept are those of the global variables that uses store to, with each use more.
 use Rattle.std.proofs.Common.{◌≡◌, ℕ, ◌+◌, ◌<◌, List, [], ◌∷◌, ◌++◌, length, take, get_or, sym, subst, ◌⊎◌, inl, inr}
 use Rattle.std.proofs.Common.{arith}
 use Rattle.std.proofs.lemmas.List.{get_or_default}

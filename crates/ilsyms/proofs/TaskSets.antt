@@ -1,7 +1,6 @@
 -- Sets of tasks: those of either set, those of the same tasks, and sets to which tasks are added.
 use Rattle.std.proofs.Common.{◌≡◌, ◌≢◌, ℕ, zero, suc, ◌+◌, ◌<◌, List, [], ◌∷◌, ◌++◌, Bool, true, false, ◌||◌, length}
-use Rattle.std.proofs.Common.{take}
-use Rattle.std.proofs.Common.{get_or, refl, sym, ap, ◌∙◌, subst, ◌⊎◌, inl, inr, arith}
+use Rattle.std.proofs.Common.{take, get_or, refl, sym, ap, ◌∙◌, subst, ◌⊎◌, inl, inr, arith}
 use Rattle.std.specs.Prelude.{Option, Some, None, slice_get, slice_set, option_map, ◌==◌, if◌then◌else◌}
 use Rattle.std.proofs.lemmas.Bool.Decides.{Decides-eqb}
 use Rattle.std.proofs.lemmas.List.Folds.{list_any-append}
@@ -12,7 +11,7 @@ use Rattle.ilscope.proofs.Least.{take_more}
 use Rattle.ilsyms.specs.TaskSetSteps.{AreSetsOf, IsSetOf, is_among, union, with_tasks}
 use Rattle.ilsyms.specs.declared.task_sets.TaskSet.{TaskSet}
 use Rattle.ilsyms.specs.declared.task_sets.TaskSet.TheVariants.{Empty, One, Several}
-use Rattle.ilsyms.proofs.Labels.{either}
+use Rattle.ilsyms.proofs.Lists.{either, or_true, or_false}
 
 -- tasks that are added again change nothing
 pub added_again : (set tasks : TaskSet) → union (union set tasks) tasks ≡ union set tasks
@@ -69,14 +68,6 @@ elsewhere (y ∷ ys) (suc i) (suc k) x other = elsewhere ys i k x (λ e. other (
 -- a number more among numbers
 among_more : (ns : List ℕ) (n k : ℕ) → is_among k (ns ++ n ∷ []) ≡ (is_among k ns || (n == k || false))
 among_more ns n k = list_any-append (λ its. its == k) ns (n ∷ [])
-
-or_true : (b : Bool) → (b || true) ≡ true
-or_true true = refl
-or_true false = refl
-
-or_false : (b : Bool) → (b || false) ≡ b
-or_false true = refl
-or_false false = refl
 
 module _ (ns : List ℕ) (n : ℕ) (tasks : TaskSet) where
   with_it : (set : TaskSet) → with_tasks (ns ++ n ∷ []) tasks n set ≡ union (with_tasks ns tasks n set) tasks

@@ -1,4 +1,4 @@
--- The word of instances with a number, by the words of their programs, one instance after another.
+-- The word with a number is found by the words of programs, one instance after another.
 use Rattle.std.proofs.Common.{◌≡◌, ℕ, zero, suc, ◌+◌, ◌<◌, ◌≤◌, List, [], ◌∷◌, ◌++◌, length, map, take, drop, get_or}
 use Rattle.std.proofs.Common.{refl}
 use Rattle.std.proofs.Common.{sym, ap, ◌∙◌, arith, append-nil, length-append}
@@ -11,8 +11,8 @@ use Rattle.iltrees.specs.Words.{places_in}
 use Rattle.ilsource.specs.Trees.{Tree}
 use Rattle.ilscope.specs.Declarations.{DeclaredProgram, declared_programs}
 use Rattle.ilscope.proofs.Least.{take_more}
-use Rattle.ilsyms.specs.InstanceSteps.{instance_at, instances_of}
-use Rattle.ilsyms.specs.LimitSteps.{places_at, places_of_program}
+use Rattle.ilsyms.specs.TaskSteps.{instance_at, instances_of}
+use Rattle.ilsyms.specs.WordSteps.{places_at, places_of_program}
 use Rattle.ilsyms.specs.Tasks.{NamedProgram, instance_named}
 use Rattle.ilsyms.specs.Variables.{lines_of}
 use Rattle.ilsyms.specs.declared.tasks.TaskInstance.{TaskInstance}

@@ -1,60 +1,10 @@
--- How the names of an instance get numbers: its variables one after another, after the global variables and those of
--- the instances before, and its block instances likewise. And how its labels get the numbers of lines.
-use Rattle.std.specs.Prelude.{◌≡◌, ℕ, ◌+◌, ◌<◌, List, bytes_eq, get_or, length, Option, Some, unwrap_or}
-use Rattle.std.specs.Prelude.{Bool, true, false, if◌then◌else◌}
-use Rattle.std.specs.List.{position_or_len}
-use Rattle.std.specs.Map.{lookup}
-use Rattle.std.specs.Option.{option_map_or}
-use Rattle.iltrees.specs.Renaming.{NewNames, by_name}
+-- How the instances of a task are planned: with names of their own, and over the numbers of slots.
+use Rattle.std.specs.Prelude.{◌≡◌, ℕ, ◌<◌, List, get_or, length, Bool, true, false, if◌then◌else◌, ⊤, [], ◌∷◌}
 use Rattle.ilsource.specs.declared.name.Name.{Name}
-use Rattle.ilsource.specs.declared.symbol.Symbol.{Symbol}
-use Rattle.ilsource.specs.declared.symbol.Symbol.TheVariants as symbols
-use Rattle.ilsource.specs.Names.{folded}
-use Rattle.ilsource.specs.Trees.{Tree}
-use Rattle.ilblocks.specs.Ports.{most_ports}
-use Rattle.ilscope.specs.Configured.{global_number}
-use Rattle.ilscope.specs.Declarations.{DeclaredProgram}
-use Rattle.ilscope.specs.Kept.{Kept}
-use Rattle.ilscope.specs.Tables.{block_number, variable_number}
-use Rattle.ilplan.specs.declared.slot.Slot.{Slot}
 use Rattle.ilplan.specs.declared.slot.SlotOwner.{SlotOwner}
 use Rattle.ilplan.specs.declared.slot.SlotOwner.TheVariants.{Global, Own}
-use Rattle.ilplan.specs.declared.place.Place.{Place}
-use Rattle.ilplan.specs.declared.place.Place.TheVariants as places
-use Rattle.ilsyms.specs.Faults.{port_number}
-use Rattle.ilsyms.specs.Meaning.{is_global}
-
--- the text's tree, the program, the task's slots and the number of the first of the instance's own, the number of its
--- first block instance and how many of these the task has, and the numbers that are kept under labels
-pub record Numbering : Type 0 where
-  pub tree : Tree
-  pub program : DeclaredProgram
-  pub slots : List Slot
-  pub first_slot : ℕ
-  pub first_block : ℕ
-  pub all_blocks : ℕ
-  pub labels : Kept ℕ
-
-abbrev pub numbering_of : Tree → DeclaredProgram → List Slot → ℕ → ℕ → ℕ → Kept ℕ → Numbering
-numbering_of tree program slots first_slot all_blocks first_block labels =
-    record {
-      tree = tree;
-      program = program;
-      slots = slots;
-      first_slot = first_slot;
-      first_block = first_block;
-      all_blocks = all_blocks;
-      labels = labels;
-    }
-
--- the number of the slot of a global variable; past the last where there is none
-abbrev pub number_of_global : List Slot → Option ℕ → ℕ
-number_of_global slots global = position_or_len (λ s. is_global global s.variable) slots
-
--- for each of so many global variables the number of its slot; past the last where it has none
-pub record AreGlobalSlots (slots : List Slot) (count : ℕ) (numbers : List ℕ) : Type 0 where
-  pub many : length numbers ≡ count
-  pub each : (global : ℕ) → global < count → get_or numbers global 0 ≡ number_of_global slots (Some global)
+use Rattle.ilsyms.specs.Meaning.{same_name}
+use Rattle.ilsyms.specs.Tasks.{NamedProgram}
 
 -- the entries with numbers that pass are set to a value, and the others stay
 pub record SetsWhere (test : ℕ → Bool) (value : ℕ) (before after : List ℕ) : Type 0 where
@@ -62,37 +12,18 @@ pub record SetsWhere (test : ℕ → Bool) (value : ℕ) (before after : List �
   pub each : (number : ℕ) → number < length before
       → get_or after number 0 ≡ (if test number then value else get_or before number 0)
 
--- the number of the slot of what a name means: a variable of the instance, else a global variable
-abbrev pub slot_number : Numbering → Name → ℕ
-slot_number n name =
-    option_map_or
-    (λ k. n.first_slot + k)
-    (variable_number (folded n.tree.text) n.program.variables name)
-    (number_of_global n.slots (global_number n.tree name))
-
--- the number of a block instance; past the last where there is none
-abbrev pub number_of_block : Numbering → Name → ℕ
-number_of_block n name =
-    option_map_or (λ k. n.first_block + k) (block_number (folded n.tree.text) n.program.blocks name) n.all_blocks
-
--- the number of a port of a block instance; past the last port where there is none
-abbrev pub number_of_port : Numbering → Name → Name → ℕ
-number_of_port n block port = option_map_or (λ found. found.1) (port_number n.tree.text n.program block port) most_ports
-
--- the place of what a line names
-abbrev pub place_by_number : Numbering → Symbol → Place
-place_by_number n (symbols.Variable name) = places.Slot (slot_number n name)
-place_by_number n (symbols.Port block port) = places.Port (number_of_block n block) (number_of_port n block port)
-place_by_number n (symbols.Block name) = places.Block (number_of_block n name)
-
-abbrev pub numbers : Numbering → NewNames Symbol Place
-numbers n = record { operand = by_name (place_by_number n); name = place_by_number n }
-
--- the number of the first line with a label; past the last where there is none
-abbrev pub label_of : Numbering → Name → ℕ
-label_of n label = unwrap_or (lookup (bytes_eq (folded n.tree.text label)) n.labels) (length n.program.program.lines)
-
 -- the variable is one of an instance
 abbrev pub is_of_instance : SlotOwner → Bool
 is_of_instance (Own instance name) = true
 is_of_instance (Global number) = false
+
+-- ---- instances with names of their own
+
+-- the instances have other names
+abbrev pub AreOthers : List ℕ → Name → List NamedProgram → Type 0
+AreOthers text name [] = ⊤
+AreOthers text name (i ∷ is) = (same_name text name i.name ≡ false) × AreOthers text name is
+
+abbrev pub AreApart : List ℕ → List NamedProgram → Type 0
+AreApart text [] = ⊤
+AreApart text (i ∷ is) = AreOthers text i.name is × AreApart text is

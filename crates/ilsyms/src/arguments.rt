@@ -5,9 +5,9 @@ ghost use Rattle.ilsource.specs.Names.{folded};
 ghost use Rattle.ilscope.specs.Faults.{IsLeastOf, IsTwiceIn, OfCause};
 ghost use Rattle.ilscope.specs.declared.fault.NameCause.TheVariants.{Twice};
 ghost use Rattle.ilsyms.specs.Faults.{port_in, ports_given};
-ghost use Rattle.ilsyms.specs.LabelSteps.{IsGivenTwiceIn};
+ghost use Rattle.ilsyms.specs.ArgumentSteps.{IsGivenTwiceIn};
 
-use crate::labelling::add_name;
+use crate::labels::add_name;
 use ilscope::{Found, Names, Scope, lesser_of};
 use ilsource::{Name, Symbol};
 use iltrees::{Argument, Instruction, Line};

@@ -3,7 +3,7 @@
 ghost use Rattle.std.specs.Prelude.{◌≡◌, ◌+◌, ◌++◌, ◌∷◌, [], IfOk, List, OnOk, take};
 ghost use Rattle.limits.specs.Limits.{most_blocks};
 ghost use Rattle.ilplan.specs.declared.instance.FunctionBlock.{FunctionBlock};
-ghost use Rattle.ilsyms.specs.InstanceSteps.{AreThere, instances_of};
+ghost use Rattle.ilsyms.specs.TaskSteps.{AreThere, instances_of};
 ghost use Rattle.ilsyms.specs.Tasks.{instance_named};
 ghost use Rattle.ilsyms.specs.Variables.{blocks_in, blocks_of};
 

@@ -21,7 +21,7 @@ impl Counted {
     ghost use Rattle.iltrees.specs.declared.uses.Use.{Use};
     ghost use Rattle.ilsource.specs.declared.symbol.Symbol.{Symbol};
     ghost use Rattle.ilsyms.specs.CountingSteps.{AreCounted};
-    ghost use Rattle.ilsyms.specs.InstanceSteps.{AreThere, instances_of};
+    ghost use Rattle.ilsyms.specs.TaskSteps.{AreThere, instances_of};
     ghost use Rattle.ilsyms.specs.Variables.{lines_of, uses_of};
 
     /// Those of the lines of the instances' programs. The lines of a program are read once, however

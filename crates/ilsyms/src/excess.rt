@@ -8,8 +8,8 @@ ghost use Rattle.ilscope.specs.Declarations.{declared_programs};
 ghost use Rattle.ilscope.specs.Faults.{IsLeastOf, OfCause, SomeOf};
 ghost use Rattle.ilscope.specs.declared.fault.NameCause.TheVariants.{TooMany};
 ghost use Rattle.ilsyms.specs.Faults.{IsTooMany, IsTooManyIn, instance_names, place_of_slot};
-ghost use Rattle.ilsyms.specs.InstanceSteps.{AreInstancesOfTasks, AreThere, instances_of};
-ghost use Rattle.ilsyms.specs.LimitSteps.{places_of_program};
+ghost use Rattle.ilsyms.specs.TaskSteps.{AreInstancesOfTasks, AreThere, instances_of};
+ghost use Rattle.ilsyms.specs.WordSteps.{places_of_program};
 ghost use Rattle.ilsyms.specs.Tasks.{tasks_of};
 
 use crate::blocks::blocks_of;

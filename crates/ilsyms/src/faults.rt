@@ -3,7 +3,7 @@
 ghost use Rattle.std.specs.Prelude.{IfOk};
 ghost use Rattle.ilscope.specs.Faults.{IsLeastOf};
 ghost use Rattle.ilsyms.specs.Faults.{IsFault, IsFaultOfUse};
-ghost use Rattle.ilsyms.specs.InstanceSteps.{AreInstancesOfTasks};
+ghost use Rattle.ilsyms.specs.TaskSteps.{AreInstancesOfTasks};
 
 use crate::excess::too_many;
 use crate::lines::fault_of_lines;

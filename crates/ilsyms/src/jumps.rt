@@ -3,8 +3,9 @@
 ghost use Rattle.std.specs.Prelude.{◌≡◌, ◌↔◌, Some};
 ghost use Rattle.ilscope.specs.Faults.{IsLeastOf};
 ghost use Rattle.ilscope.specs.declared.fault.NameCause.{NameCause};
-ghost use Rattle.ilsyms.specs.LabelSteps.{AreNumbered, IsCauseOfJump, IsFaultOfJump};
-ghost use Rattle.ilsyms.specs.LabelSteps.{IsFaultOfJumps};
+ghost use Rattle.ilsyms.specs.LabelSteps.{AreNumbered};
+ghost use Rattle.ilsyms.specs.JumpSteps.{IsCauseOfJump, IsFaultOfJump};
+ghost use Rattle.ilsyms.specs.JumpSteps.{IsFaultOfJumps};
 
 use ilscope::{Found, NameCause, Names, Scope, lesser_of};
 use ilsource::{Name, Symbol};

@@ -18,7 +18,7 @@ mod excess;
 mod faults;
 mod globals;
 mod jumps;
-mod labelling;
+mod labels;
 mod lines;
 mod numbering;
 mod planning;

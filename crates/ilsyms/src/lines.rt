@@ -3,11 +3,11 @@
 ghost use Rattle.std.specs.Prelude.{IfOk};
 ghost use Rattle.ilscope.specs.Declarations.{declared_programs};
 ghost use Rattle.ilscope.specs.Faults.{SomeOf, IsLeastOf};
-ghost use Rattle.ilsyms.specs.LabelSteps.{IsFaultOfLabels, IsFaultOfLines};
+ghost use Rattle.ilsyms.specs.LineSteps.{IsFaultOfLabels, IsFaultOfLines};
 
 use crate::arguments::given_twice;
 use crate::jumps::fault_of_jumps;
-use crate::labelling::number_labels;
+use crate::labels::number_labels;
 use ilscope::{Found, Scope, lesser_of};
 use ilsource::{Name, Symbol};
 use iltrees::Line;

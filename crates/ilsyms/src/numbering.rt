@@ -36,7 +36,7 @@ impl<'a, 's, 't> Model for Numbering<'a, 's, 't> {
     ghost use Rattle.ilsource.specs.declared.symbol.Symbol.{Symbol};
     ghost use Rattle.ilscope.specs.Configured.{globals_of};
     ghost use Rattle.ilscope.specs.Declarations.{declared_programs};
-    ghost use Rattle.ilsyms.specs.PlanningSteps.{AreGlobalSlots, Numbering};
+    ghost use Rattle.ilsyms.specs.NumberingSteps.{AreGlobalSlots, Numbering};
 
     ghost Value = { Numbering };
 
@@ -72,10 +72,10 @@ impl<'a, 's, 't> Numbering<'a, 's, 't> {
     ghost use Rattle.iltrees.specs.Renaming.{rename_argument};
     ghost use Rattle.ilscope.specs.Configured.{global_number, globals_of};
     ghost use Rattle.ilscope.specs.Declarations.{declared_programs};
-    ghost use Rattle.ilsyms.specs.PlanningSteps.{AreGlobalSlots, Numbering, label_of, numbers};
-    ghost use Rattle.ilsyms.specs.PlanningSteps.{number_of_block, number_of_global};
-    ghost use Rattle.ilsyms.specs.PlanningSteps.{number_of_port, numbering_of, place_by_number};
-    ghost use Rattle.ilsyms.specs.PlanningSteps.{slot_number};
+    ghost use Rattle.ilsyms.specs.NumberingSteps.{AreGlobalSlots, Numbering, label_of, numbers};
+    ghost use Rattle.ilsyms.specs.NumberingSteps.{number_of_block, number_of_global};
+    ghost use Rattle.ilsyms.specs.NumberingSteps.{number_of_port, numbering_of, place_by_number};
+    ghost use Rattle.ilsyms.specs.NumberingSteps.{slot_number};
 
     /// The numbering of an instance of the program with this number. `slots` are its task's,
     /// `global_slots` their numbers by global variable, and `blocks` the number of its task's block

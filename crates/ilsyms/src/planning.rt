@@ -4,13 +4,15 @@ ghost use Rattle.std.specs.Prelude.{◌≡◌, ◌≤◌, IfOk, OnOk, Some, leng
 ghost use Rattle.std.specs.List.{position_or_len};
 ghost use Rattle.iltrees.specs.Words.{AreShallow};
 ghost use Rattle.limits.specs.Limits.{most_blocks, most_slots};
-ghost use Rattle.ilsyms.specs.InstanceSteps.{AreApart, AreThere, instances_of};
+ghost use Rattle.ilsyms.specs.TaskSteps.{AreThere, instances_of};
+ghost use Rattle.ilsyms.specs.PlanningSteps.{AreApart};
 ghost use Rattle.ilsyms.specs.Meaning.{is_global};
-ghost use Rattle.ilsyms.specs.PlanningSteps.{AreGlobalSlots, SetsWhere, is_of_instance};
+ghost use Rattle.ilsyms.specs.NumberingSteps.{AreGlobalSlots};
+ghost use Rattle.ilsyms.specs.PlanningSteps.{SetsWhere, is_of_instance};
 ghost use Rattle.ilsyms.specs.Resolved.{planned_instances};
 ghost use Rattle.ilsyms.specs.Variables.{blocks_of, lines_of, slots_of};
 
-use crate::labelling::number_labels;
+use crate::labels::number_labels;
 use crate::numbering::Numbering;
 use crate::tasks::{TaskInstance, program_of};
 use ilplan::{FunctionBlock, ProgramInstance, Slot, SlotOwner};

@@ -5,8 +5,8 @@ ghost use Rattle.std.specs.Prelude.{slice_get};
 ghost use Rattle.std.specs.Prelude.{◌<◌, length, string_bytes};
 ghost use Rattle.ilscope.specs.Configured.{global_number};
 ghost use Rattle.ilsyms.specs.Faults.{IsWellNamed};
-ghost use Rattle.ilsyms.specs.InstanceSteps.{AreInstancesOfTask, AreInstancesOfTasks, AreThere};
-ghost use Rattle.ilsyms.specs.InstanceSteps.{instances_of, task_with};
+ghost use Rattle.ilsyms.specs.TaskSteps.{AreInstancesOfTask, AreInstancesOfTasks, AreThere};
+ghost use Rattle.ilsyms.specs.TaskSteps.{instances_of, task_with};
 ghost use Rattle.ilsyms.specs.Resolved.{plan_of_tree, planned_task};
 ghost use Rattle.ilsyms.specs.Tasks.{activation_of, priority_of, tasks_of};
 

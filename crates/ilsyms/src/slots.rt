@@ -4,7 +4,7 @@ ghost use Rattle.std.specs.Prelude.{◌≡◌, ◌+◌, ◌++◌, ◌∷◌, [],
 ghost use Rattle.limits.specs.Limits.{most_slots};
 ghost use Rattle.ilscope.specs.Configured.{globals_of};
 ghost use Rattle.ilplan.specs.declared.slot.Slot.{Slot};
-ghost use Rattle.ilsyms.specs.InstanceSteps.{AreThere, instances_of};
+ghost use Rattle.ilsyms.specs.TaskSteps.{AreThere, instances_of};
 ghost use Rattle.ilsyms.specs.SlotSteps.{AddsWhere, AreNamed, is_that};
 ghost use Rattle.ilsyms.specs.Tasks.{instance_named};
 ghost use Rattle.ilsyms.specs.Variables.{global_slot, global_slots, is_among, is_named};

@@ -3,8 +3,8 @@
 ghost use Rattle.std.specs.Prelude.{◌≡◌, ◌<◌, IfOk, None, Some, filter_map, length};
 ghost use Rattle.std.specs.Prelude.{slice_get};
 ghost use Rattle.ilscope.specs.Declarations.{declared_programs};
-ghost use Rattle.ilsyms.specs.InstanceSteps.{AreInstances, AreInstancesOfTasks, assigned};
-ghost use Rattle.ilsyms.specs.InstanceSteps.{given_to};
+ghost use Rattle.ilsyms.specs.TaskSteps.{AreInstances, AreInstancesOfTasks, assigned};
+ghost use Rattle.ilsyms.specs.TaskSteps.{given_to};
 ghost use Rattle.ilsyms.specs.Tasks.{main_task};
 
 use ilscope::{ProgramScope, Scope};

@@ -3,7 +3,7 @@
 ghost use Rattle.std.specs.Prelude.{◌≡◌, ◌<◌, All, IfOk, flat_map, length, map, slice_get};
 ghost use Rattle.limits.specs.Limits.{most_words};
 ghost use Rattle.ilscope.specs.Declarations.{declared_programs};
-ghost use Rattle.ilsyms.specs.LimitSteps.{places_at, places_of_program};
+ghost use Rattle.ilsyms.specs.WordSteps.{places_at, places_of_program};
 
 use crate::tasks::TaskInstance;
 use ilscope::Scope;

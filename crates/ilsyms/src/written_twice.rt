@@ -6,8 +6,9 @@ ghost use Rattle.ilscope.specs.Declarations.{declared_programs};
 ghost use Rattle.ilscope.specs.Faults.{IsLeastOf, OfCause};
 ghost use Rattle.ilscope.specs.declared.fault.NameCause.TheVariants.{WrittenTwice};
 ghost use Rattle.ilsyms.specs.Faults.{IsWrittenTwice};
-ghost use Rattle.ilsyms.specs.InstanceSteps.{AreInstancesOfTasks};
-ghost use Rattle.ilsyms.specs.TaskSetSteps.{AreSetsOf, HasInstance, StoresBefore};
+ghost use Rattle.ilsyms.specs.TaskSteps.{AreInstancesOfTasks};
+ghost use Rattle.ilsyms.specs.TaskSetSteps.{AreSetsOf};
+ghost use Rattle.ilsyms.specs.WrittenTwiceSteps.{HasInstance, StoresBefore};
 ghost use Rattle.ilsyms.specs.declared.task_sets.TaskSet.TheVariants.{Several};
 
 use crate::stored::stored_globals;

@@ -1,13 +1,13 @@
 pub mod Bounds
 pub mod FlatLists
-mod Forward
-mod Growth
 mod Lists
-mod Order
-mod Pending
+mod PassEntries
+mod PassForward
+mod PassGrowth
+mod PassPending
+mod PassWays
 pub mod Refusals
 mod RequestPass
 mod RequestPaths
-mod Soundness
 pub mod Verdict
-mod Ways
+mod VerdictSoundness

@@ -11,9 +11,9 @@ use Rattle.ilranges.specs.Entries.{IsInto}
 use Rattle.ilranges.specs.Refusals.{ArisesAtWord}
 use Rattle.ilverify.specs.declared.refusal.Refusal.{Refusal}
 use Rattle.ilverify.specs.Certificates.{Certificate, Leads, is_closed, is_met, IsClosest, IsRangeRefusal}
-use Rattle.ilranges.proofs.OneCause.{one_cause}
-use Rattle.ilverify.proofs.Growth.{below}
-use Rattle.ilverify.proofs.Order.{same_entry, closed_wider}
+use Rattle.ilranges.proofs.CausesAtWords.{one_cause}
+use Rattle.ilverify.proofs.PassGrowth.{below}
+use Rattle.ilverify.proofs.PassEntries.{same_entry, closed_wider}
 
 -- two closest certificates reach a word with the same entry
 same_reached : (code : Listing) (c d : Certificate) (place : ℕ) (a b : Entry) → IsClosest code c place

@@ -11,7 +11,7 @@ use Rattle.ilranges.specs.declared.entry.Entry.{Entry}
 use Rattle.ilranges.specs.declared.known.Known.{Known}
 use Rattle.ilranges.specs.Changes.{changed}
 use Rattle.ilranges.specs.Entries.{opening, arriving, IsInto}
-use Rattle.ilranges.specs.Joins.{IsMeeting, MayMeet}
+use Rattle.ilranges.specs.Entries.{IsMeeting, MayMeet}
 use Rattle.ilranges.specs.Knowns.{known_of_type, IsKnownWithin}
 use Rattle.ilverify.specs.Certificates.{Certificate, IsClosest}
 

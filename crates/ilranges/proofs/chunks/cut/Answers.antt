@@ -1,6 +1,6 @@
 use Rattle.std.proofs.Common.{arith, ◌≡◌, ◌+◌, ◌*◌, ◌≤◌, length, refl, ◌++◌, ◌∷◌, []}
 use Rattle.std.specs.Prelude.{◌/◌}
-use Rattle.ilranges.proofs.Parts.{full_more, full_chunks, full_last, cut_more, cut_even, part_long, rest_long}
+use Rattle.ilranges.proofs.ChunkPlaces.{full_more, full_chunks, full_last, cut_more, cut_even, part_long, rest_long}
 use Rattle.ilranges.proofs.chunks.cut.Goals as goal
 use Rattle.ilranges.proofs.chunks.cut.Goals.{then-from-items+in_ok-new-2+in_ok-push-2, else-from-items}
 

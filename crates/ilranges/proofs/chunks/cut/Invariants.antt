@@ -1,6 +1,6 @@
 use Rattle.std.proofs.Common.{◌≡◌, ◌*◌, ◌++◌, drop}
 use Rattle.ilranges.specs.ChunkSteps.{whole}
-use Rattle.ilranges.proofs.Parts.{AreFull}
+use Rattle.ilranges.proofs.ChunkPlaces.{AreFull}
 use Rattle.ilranges.proofs.chunks.cut.Given as goal
 
 abbrev pub invariant-loop-k : goal.invariant-loop-k

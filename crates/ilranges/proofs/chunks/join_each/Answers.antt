@@ -3,8 +3,8 @@ use Rattle.std.specs.List.{AllZip}
 use Rattle.std.proofs.lemmas.List.Elements.{length_all_zip}
 use Rattle.std.proofs.lemmas.Option.{slice_get_read}
 use Rattle.ilranges.specs.Joins.{AreJoins, IsHeld}
-use Rattle.ilranges.proofs.JoinLaws.{zip_at}
-use Rattle.ilranges.proofs.Rows.{each_more, each_all}
+use Rattle.ilranges.proofs.Lists.{zip_at}
+use Rattle.ilranges.proofs.JoinRows.{each_more, each_all}
 use Rattle.ilranges.proofs.chunks.join_each.Goals as goal
 
 pub bounds-others-i : goal.bounds-others-i

@@ -1,5 +1,5 @@
 use Rattle.ilranges.specs.Joins.{AreJoins}
-use Rattle.ilranges.proofs.Rows.{EachUpTo}
+use Rattle.ilranges.proofs.JoinRows.{EachUpTo}
 use Rattle.ilranges.proofs.chunks.join_each.Given as goal
 
 abbrev pub invariant-loop-i : goal.invariant-loop-i

@@ -1,4 +1,4 @@
-use Rattle.ilranges.proofs.Meetings.{results_meet}
+use Rattle.ilranges.proofs.EntryMeetings.{results_meet}
 use Rattle.ilranges.proofs.entry.join_results.Goals as goal
 
 pub returns-in-Some-Some : goal.returns-in-Some-Some

@@ -2,7 +2,7 @@ use Rattle.std.proofs.Common.{ℤ, refl, subst}
 use Rattle.std.specs.Int.{w64}
 use Rattle.iltypes.specs.Arithmetic.{IsLeast}
 use Rattle.iltypes.proofs.Fitting.{again}
-use Rattle.ilranges.specs.Passing.{IsPassing}
+use Rattle.ilranges.specs.Comparisons.{IsPassing}
 use Rattle.ilranges.proofs.jump.test.Goals as goal
 
 pub returns-in-Some : goal.returns-in-Some

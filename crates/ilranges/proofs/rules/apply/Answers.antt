@@ -1,5 +1,5 @@
 use Rattle.std.proofs.Common.{sym}
-use Rattle.ilranges.proofs.Least.{apply_of, no_operand, no_current, neither}
+use Rattle.ilranges.proofs.RuleOperators.{apply_of, no_operand, no_current, neither}
 use Rattle.ilranges.proofs.rules.apply.Goals as goal
 
 pub returns-in-Some-Some : goal.returns-in-Some-Some

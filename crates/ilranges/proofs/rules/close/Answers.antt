@@ -1,5 +1,5 @@
 use Rattle.std.proofs.Common.{sym}
-use Rattle.ilranges.proofs.Least.{closing_of, no_inner}
+use Rattle.ilranges.proofs.RuleOperators.{closing_of, no_inner}
 use Rattle.ilranges.proofs.rules.close.Goals as goal
 
 pub returns-in-Some : goal.returns-in-Some

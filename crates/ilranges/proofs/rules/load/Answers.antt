@@ -1,4 +1,4 @@
-use Rattle.ilranges.proofs.Least.{load_bad_slot}
+use Rattle.ilranges.proofs.RuleOperators.{load_bad_slot}
 use Rattle.ilranges.proofs.rules.load.Goals as goal
 
 pub returns-in-None : goal.returns-in-None

@@ -1,4 +1,4 @@
-use Rattle.ilranges.proofs.Least.{modify_of}
+use Rattle.ilranges.proofs.RuleOperators.{modify_of}
 use Rattle.ilranges.proofs.rules.modify.Goals as goal
 
 pub returns-then-negated : goal.returns-then-negated

@@ -1,5 +1,5 @@
 use Rattle.std.proofs.lemmas.Result.{err_from_is_err_and}
-use Rattle.ilranges.proofs.LeastWrites.{pass_refused, pass_to_output, no_operand_passed, no_input_passed}
+use Rattle.ilranges.proofs.RuleStores.{pass_refused, pass_to_output, no_operand_passed, no_input_passed}
 use Rattle.ilranges.proofs.rules.pass.Goals as goal
 
 pub returns-in_err-passed-in-Some-Some : goal.returns-in_err-passed-in-Some-Some

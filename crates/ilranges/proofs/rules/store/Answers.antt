@@ -1,4 +1,4 @@
-use Rattle.ilranges.proofs.LeastWrites.{store_to_output}
+use Rattle.ilranges.proofs.RuleStores.{store_to_output}
 use Rattle.ilranges.proofs.rules.store.Goals as goal
 
 pub returns-else-writable : goal.returns-else-writable

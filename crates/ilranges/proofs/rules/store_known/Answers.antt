@@ -1,5 +1,5 @@
 use Rattle.std.proofs.Common.{refl}
-use Rattle.ilranges.proofs.LeastStores.{unstored}
+use Rattle.ilranges.proofs.RuleStores.{unstored}
 use Rattle.ilranges.proofs.rules.store_known.Goals as goal
 
 pub returns-in-Err : goal.returns-in-Err

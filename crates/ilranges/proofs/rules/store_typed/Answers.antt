@@ -1,6 +1,6 @@
 use Rattle.std.proofs.Common.{sym, ◌∙◌, ap}
-use Rattle.ilranges.specs.WordSteps.{may_modify}
-use Rattle.ilranges.proofs.LeastStores.{no_slot, nothing_stored, neither_stored}
+use Rattle.ilranges.specs.RuleSteps.{may_modify}
+use Rattle.ilranges.proofs.RuleStores.{no_slot, nothing_stored, neither_stored}
 use Rattle.ilranges.proofs.rules.store_typed.Goals as goal
 
 pub returns-in-Some-None : goal.returns-in-Some-None

@@ -1,6 +1,6 @@
 use Rattle.std.proofs.Common.{ℕ, length, sym, subst}
 use Rattle.ilranges.specs.Refusals.{StaysOpen, open_after}
-use Rattle.ilranges.proofs.Words.{open_refused, closed_ruled}
+use Rattle.ilranges.proofs.WordCauses.{open_refused, closed_ruled}
 use Rattle.ilranges.proofs.word.after_word.Goals as goal
 
 pub returns-then-stays_open : goal.returns-then-stays_open

@@ -5,7 +5,7 @@ use Rattle.ilsource.specs.Names.{folded}
 use Rattle.ilsource.specs.declared.symbol.Symbol.{Symbol}
 use Rattle.ilscope.specs.Faults.{IsLeastOf, IsTwiceIn, OfCause}
 use Rattle.ilscope.specs.declared.fault.NameCause.TheVariants.{Twice}
-use Rattle.ilsyms.proofs.GivenPorts.{given, given_more, given_twice_more}
+use Rattle.ilsyms.proofs.ArgumentPorts.{given, given_more, given_twice_more}
 use Rattle.ilsyms.proofs.arguments.given_twice_among.Goals as goal
 
 pub loop-number-preserved : goal.loop-number-preserved

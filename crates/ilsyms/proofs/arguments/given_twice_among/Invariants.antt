@@ -2,7 +2,7 @@ use Rattle.std.proofs.Common.{take}
 use Rattle.ilsource.specs.Names.{folded}
 use Rattle.ilscope.specs.Faults.{IsLeastOf, IsTwiceIn, OfCause}
 use Rattle.ilscope.specs.declared.fault.NameCause.TheVariants.{Twice}
-use Rattle.ilsyms.proofs.GivenPorts.{given, AreKnown}
+use Rattle.ilsyms.proofs.ArgumentPorts.{given, AreKnown}
 use Rattle.ilsyms.proofs.arguments.given_twice_among.Given as goal
 
 abbrev pub invariant-loop-number : goal.invariant-loop-number

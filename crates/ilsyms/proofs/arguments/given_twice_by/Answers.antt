@@ -5,7 +5,7 @@ use Rattle.ilsource.specs.declared.name.Name.{Name}
 use Rattle.ilscope.specs.Faults.{IsLeastOf, IsTwiceIn, OfCause}
 use Rattle.ilscope.specs.declared.fault.NameCause.TheVariants.{Twice}
 use Rattle.ilsyms.specs.Faults.{ports_given}
-use Rattle.ilsyms.proofs.GivenPorts.{given}
+use Rattle.ilsyms.proofs.ArgumentPorts.{given}
 use Rattle.ilsyms.proofs.arguments.given_twice_by.Goals as goal
 
 pub returns-in-Call : goal.returns-in-Call

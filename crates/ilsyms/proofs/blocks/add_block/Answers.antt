@@ -1,5 +1,5 @@
 use Rattle.std.proofs.Common.{◌∙◌, arith}
-use Rattle.ilsyms.proofs.Bounded.{pushed, full}
+use Rattle.ilsyms.proofs.SlotBounds.{pushed, full}
 use Rattle.ilsyms.proofs.blocks.add_block.Goals as goal
 
 pub returns-in_ok-push : goal.returns-in_ok-push

@@ -3,7 +3,7 @@ use Rattle.std.proofs.lemmas.List.{take_all}
 use Rattle.ilplan.specs.declared.instance.FunctionBlock.{FunctionBlock}
 use Rattle.ilscope.specs.declared.block.DeclaredBlock.{DeclaredBlock}
 use Rattle.ilsyms.specs.Variables.{function_block}
-use Rattle.ilsyms.proofs.Bounded.{full, mapped_more}
+use Rattle.ilsyms.proofs.SlotBounds.{full, mapped_more}
 use Rattle.ilsyms.proofs.blocks.add_blocks.Goals as goal
 
 pub returns-then-len-gt-MOST_BLOCKS : goal.returns-then-len-gt-MOST_BLOCKS

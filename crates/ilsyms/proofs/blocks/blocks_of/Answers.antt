@@ -1,10 +1,10 @@
 use Rattle.std.proofs.Common.{◌∙◌, ◌+◌, ◌++◌, List, ap, take, sym, arith, append-nil}
 use Rattle.std.proofs.lemmas.List.{take_all}
 use Rattle.std.proofs.lemmas.Grind.{flat_map-append}
-use Rattle.ilsyms.specs.InstanceSteps.{instances_of}
+use Rattle.ilsyms.specs.TaskSteps.{instances_of}
 use Rattle.ilsyms.specs.Tasks.{NamedProgram}
 use Rattle.ilsyms.specs.Variables.{blocks_in, blocks_of}
-use Rattle.ilsyms.proofs.There.{number_there, taken_more, as_many}
+use Rattle.ilsyms.proofs.TaskInstances.{number_there, taken_more, as_many}
 use Rattle.ilsyms.proofs.blocks.blocks_of.Goals as goal
 
 pub program_of-requires : goal.program_of-requires

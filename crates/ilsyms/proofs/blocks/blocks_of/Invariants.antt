@@ -1,6 +1,6 @@
 use Rattle.std.proofs.Common.{◌≡◌, ◌+◌, take}
 use Rattle.limits.specs.Limits.{most_blocks}
-use Rattle.ilsyms.specs.InstanceSteps.{instances_of}
+use Rattle.ilsyms.specs.TaskSteps.{instances_of}
 use Rattle.ilsyms.specs.Variables.{blocks_of}
 use Rattle.ilsyms.proofs.blocks.blocks_of.Given as goal
 

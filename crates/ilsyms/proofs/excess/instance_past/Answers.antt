@@ -7,7 +7,7 @@ use Rattle.ilsource.specs.Trees.{Tree}
 use Rattle.ilsource.specs.declared.configuration.InstanceDeclaration.{InstanceDeclaration}
 use Rattle.ilsource.specs.declared.name.Name.{Name}
 use Rattle.ilscope.specs.Declarations.{DeclaredProgram, declared_programs}
-use Rattle.ilsyms.proofs.LeastExcess.{places_of_names}
+use Rattle.ilsyms.proofs.ExcessFaults.{places_of_names}
 use Rattle.ilsyms.proofs.excess.instance_past.Goals as goal
 
 -- the names of instances, by the configuration

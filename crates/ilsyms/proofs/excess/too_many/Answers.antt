@@ -1,4 +1,4 @@
-use Rattle.ilsyms.proofs.LeastExcess.{least_of_limits}
+use Rattle.ilsyms.proofs.ExcessFaults.{least_of_limits}
 use Rattle.ilsyms.proofs.excess.too_many.Goals as goal
 
 pub returns : goal.returns

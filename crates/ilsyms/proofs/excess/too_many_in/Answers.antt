@@ -6,10 +6,10 @@ use Rattle.ilscope.specs.Declarations.{declared_programs}
 use Rattle.ilplan.specs.declared.instance.FunctionBlock.{FunctionBlock}
 use Rattle.ilplan.specs.declared.slot.Slot.{Slot}
 use Rattle.ilsyms.specs.Faults.{place_of_slot}
-use Rattle.ilsyms.specs.InstanceSteps.{instances_of}
-use Rattle.ilsyms.specs.LimitSteps.{places_of_program}
-use Rattle.ilsyms.proofs.LeastExcess.{least_in_task}
-use Rattle.ilsyms.proofs.There.{number_there}
+use Rattle.ilsyms.specs.TaskSteps.{instances_of}
+use Rattle.ilsyms.specs.WordSteps.{places_of_program}
+use Rattle.ilsyms.proofs.ExcessFaults.{least_in_task}
+use Rattle.ilsyms.proofs.TaskInstances.{number_there}
 use Rattle.ilsyms.proofs.WordPast.{words_in, words_same}
 use Rattle.ilsyms.proofs.excess.too_many_in.Goals as goal
 

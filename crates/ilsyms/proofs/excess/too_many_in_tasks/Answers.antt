@@ -6,11 +6,11 @@ use Rattle.ilscope.specs.Faults.{IsLeastOf, OfCause, SomeOf}
 use Rattle.ilscope.specs.declared.fault.NameCause.TheVariants.{TooMany}
 use Rattle.ilscope.proofs.Least.{got_at, got_below, least_of_more, of_one_cause}
 use Rattle.ilsyms.specs.Faults.{IsTooManyIn}
-use Rattle.ilsyms.specs.InstanceSteps.{AreThere, instances_of}
+use Rattle.ilsyms.specs.TaskSteps.{AreThere, instances_of}
 use Rattle.ilsyms.specs.Tasks.{NamedProgram, SourceTask, tasks_of}
 use Rattle.ilsyms.specs.declared.tasks.TaskInstance.{TaskInstance}
-use Rattle.ilsyms.proofs.TaskPrograms.{task_of_given, tasks_as_many}
-use Rattle.ilsyms.proofs.There.{instances_are, there}
+use Rattle.ilsyms.proofs.WrittenTwiceTasks.{task_of_given, tasks_as_many}
+use Rattle.ilsyms.proofs.TaskInstances.{instances_are, there}
 use Rattle.ilsyms.proofs.excess.too_many_in_tasks.Goals as goal
 
 pub too_many_in-requires : goal.too_many_in-requires

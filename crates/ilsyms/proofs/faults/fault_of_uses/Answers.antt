@@ -1,4 +1,4 @@
-use Rattle.ilsyms.proofs.LeastFault.{least_of_uses}
+use Rattle.ilsyms.proofs.FaultParts.{least_of_uses}
 use Rattle.ilsyms.proofs.faults.fault_of_uses.Goals as goal
 
 pub returns : goal.returns

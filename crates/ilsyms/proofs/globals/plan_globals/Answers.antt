@@ -2,7 +2,7 @@ use Rattle.std.proofs.Common.{◌≡◌, ◌∙◌, ◌<◌, List, ap, get_or, l
 use Rattle.std.specs.Prelude.{IfSome}
 use Rattle.ilscope.specs.Configured.{globals_of}
 use Rattle.ilscope.specs.declared.global.DeclaredGlobal.{DeclaredGlobal}
-use Rattle.ilsyms.proofs.Located.{AreBytes, all_fit}
+use Rattle.ilsyms.proofs.GlobalLocations.{AreBytes, all_fit}
 use Rattle.ilsyms.proofs.globals.plan_globals.Goals as goal
 
 pub planned_global-requires : goal.planned_global-requires

@@ -1,5 +1,5 @@
 use Rattle.ilscope.specs.Faults.{IsLeastOf}
-use Rattle.ilsyms.specs.LabelSteps.{IsFaultBefore}
+use Rattle.ilsyms.specs.JumpSteps.{IsFaultBefore}
 use Rattle.ilsyms.proofs.jumps.fault_of_jumps.Given as goal
 
 abbrev pub invariant-loop-number : goal.invariant-loop-number

@@ -1,7 +1,8 @@
 use Rattle.ilscope.specs.Faults.{OfCause}
 use Rattle.ilscope.proofs.Least.{both_least}
 use Rattle.ilscope.specs.declared.fault.NameCause.TheVariants.{Twice}
-use Rattle.ilsyms.specs.LabelSteps.{IsFaultOfLabels, IsGivenTwiceIn}
+use Rattle.ilsyms.specs.LineSteps.{IsFaultOfLabels}
+use Rattle.ilsyms.specs.ArgumentSteps.{IsGivenTwiceIn}
 use Rattle.ilsyms.proofs.lines.fault_in_lines.Goals as goal
 
 pub returns : goal.returns

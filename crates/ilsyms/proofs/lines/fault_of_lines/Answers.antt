@@ -7,7 +7,7 @@ use Rattle.ilsource.specs.Programs.{Written}
 use Rattle.ilscope.specs.Declarations.{DeclaredProgram, declared_programs}
 use Rattle.ilscope.specs.Faults.{IsLeastOf, SomeOf}
 use Rattle.ilscope.proofs.Least.{least_of_more}
-use Rattle.ilsyms.specs.LabelSteps.{IsFaultOfLines}
+use Rattle.ilsyms.specs.LineSteps.{IsFaultOfLines}
 use Rattle.ilsyms.proofs.lines.fault_of_lines.Goals as goal
 
 pub loop-program-preserved : goal.loop-program-preserved

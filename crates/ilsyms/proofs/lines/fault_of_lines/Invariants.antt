@@ -1,7 +1,7 @@
 use Rattle.std.proofs.Common.{take}
 use Rattle.ilscope.specs.Declarations.{declared_programs}
 use Rattle.ilscope.specs.Faults.{SomeOf, IsLeastOf}
-use Rattle.ilsyms.specs.LabelSteps.{IsFaultOfLines}
+use Rattle.ilsyms.specs.LineSteps.{IsFaultOfLines}
 use Rattle.ilsyms.proofs.lines.fault_of_lines.Given as goal
 
 abbrev pub invariant-loop-program : goal.invariant-loop-program

@@ -3,7 +3,7 @@ use Rattle.std.specs.List.{list_any}
 use Rattle.std.proofs.lemmas.List.{take_all}
 use Rattle.ilplan.specs.declared.slot.Slot.{Slot}
 use Rattle.ilsyms.specs.PlanningSteps.{is_of_instance}
-use Rattle.ilsyms.proofs.Numbers.{found_at, none_more, none_passes}
+use Rattle.ilsyms.proofs.NumberingPlaces.{found_at, none_more, none_passes}
 use Rattle.ilsyms.proofs.planning.first_own.Goals as goal
 
 abbrev of_instance : Slot → Bool

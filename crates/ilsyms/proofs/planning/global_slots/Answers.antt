@@ -2,8 +2,8 @@ use Rattle.std.proofs.Common.{ℕ, ◌-◌, List, length, get_or, refl, ap, sym,
 use Rattle.std.specs.Prelude.{Some}
 use Rattle.ilsyms.specs.Meaning.{is_global}
 use Rattle.ilsyms.specs.PlanningSteps.{SetsWhere}
-use Rattle.ilsyms.proofs.GlobalNumbers.{AreFrom, none_read, one_set, all_read}
-use Rattle.ilsyms.proofs.NamedGlobals.{written_back}
+use Rattle.ilsyms.proofs.NumberingGlobals.{AreFrom, none_read, one_set, all_read}
+use Rattle.ilsyms.proofs.Lists.{written_back}
 use Rattle.ilsyms.proofs.planning.global_slots.Goals as goal
 
 pub loop-number-init : goal.loop-number-init
@@ -16,8 +16,8 @@ loop-number-preserved c =
     let old = c.loop-number.numbers.items in
     let new = c.set_number.new.numbers in
     let long = ap (λ (ns : List ℕ). length ns) c.deref_mut.ensures.value in
-    let whole = written_back c.loop-number.numbers.len new old (c.set_number.ensures.many ∙ long)
-    (sym long ∙ c.deref_mut.ensures.len)
+    let whole = written_back old new c.loop-number.numbers.len (sym (sym long ∙ c.deref_mut.ensures.len))
+    (c.set_number.ensures.many ∙ long)
     in
     let slot = get_or c.args.slots.now (c.loop-number.number - 1) c.index-slots-number.result in
     subst (AreFrom c.args.slots.now (c.loop-number.number - 1) c.args.globals) (sym whole)

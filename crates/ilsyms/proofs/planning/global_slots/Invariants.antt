@@ -1,4 +1,4 @@
-use Rattle.ilsyms.proofs.GlobalNumbers.{AreFrom}
+use Rattle.ilsyms.proofs.NumberingGlobals.{AreFrom}
 use Rattle.ilsyms.proofs.planning.global_slots.Given as goal
 
 abbrev pub invariant-loop-number : goal.invariant-loop-number

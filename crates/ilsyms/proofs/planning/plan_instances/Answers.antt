@@ -11,15 +11,16 @@ use Rattle.ilplan.specs.Plans.{PlannedInstance}
 use Rattle.ilplan.specs.declared.slot.Slot.{Slot}
 use Rattle.ilplan.specs.declared.instance.FunctionBlock.{FunctionBlock}
 use Rattle.ilsyms.specs.declared.tasks.TaskInstance.{TaskInstance}
-use Rattle.ilsyms.specs.InstanceSteps.{instances_of}
+use Rattle.ilsyms.specs.TaskSteps.{instances_of}
 use Rattle.ilsyms.specs.LabelSteps.{AreNumbered}
-use Rattle.ilsyms.specs.PlanningSteps.{AreGlobalSlots, is_of_instance}
+use Rattle.ilsyms.specs.NumberingSteps.{AreGlobalSlots}
+use Rattle.ilsyms.specs.PlanningSteps.{is_of_instance}
 use Rattle.ilsyms.specs.Resolved.{planned_instance}
 use Rattle.ilsyms.specs.Tasks.{NamedProgram}
 use Rattle.ilsyms.specs.Variables.{slots_of, blocks_of, lines_of}
-use Rattle.ilsyms.proofs.OwnSlots.{first_own}
-use Rattle.ilsyms.proofs.Planned.{planned_more, slots_fit, slots_more, blocks_fit, blocks_more, shallow_more, renamed}
-use Rattle.ilsyms.proofs.There.{number_there, stands, among, as_many}
+use Rattle.ilsyms.proofs.SlotOrder.{first_own}
+use Rattle.ilsyms.proofs.PlanningInstances.{planned_more, slots_fit, slots_more, blocks_fit, blocks_more, shallow_more, renamed}
+use Rattle.ilsyms.proofs.TaskInstances.{number_there, stands, among, as_many}
 use Rattle.ilsyms.proofs.planning.plan_instances.Goals as goal
 
 no_instance : TaskInstance

@@ -1,6 +1,6 @@
 use Rattle.std.proofs.Common.{◌≡◌, ◌+◌, length, map, take}
 use Rattle.iltrees.specs.Words.{AreShallow}
-use Rattle.ilsyms.specs.InstanceSteps.{instances_of}
+use Rattle.ilsyms.specs.TaskSteps.{instances_of}
 use Rattle.ilsyms.specs.Resolved.{planned_instance}
 use Rattle.ilsyms.specs.Variables.{lines_of, slots_of, own_slots, global_slots, blocks_of}
 use Rattle.ilsyms.proofs.planning.plan_instances.Given as goal

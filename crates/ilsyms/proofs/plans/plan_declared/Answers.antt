@@ -5,10 +5,10 @@ use Rattle.ilsource.specs.declared.configuration.TaskDeclaration.{TaskDeclaratio
 use Rattle.ilsource.specs.Names.{text_of}
 use Rattle.ilsource.specs.Trees.{Tree}
 use Rattle.ilscope.proofs.Sound.{not_below}
-use Rattle.ilsyms.specs.InstanceSteps.{instances_of, task_with}
+use Rattle.ilsyms.specs.TaskSteps.{instances_of, task_with}
 use Rattle.ilsyms.specs.Tasks.{declared_task, tasks_of}
-use Rattle.ilsyms.proofs.Limits.{not_bad}
-use Rattle.ilsyms.proofs.PlannedTasks.{they_are, they_are_there, task_declared, task_below, planned_at, if_ok}
+use Rattle.ilsyms.proofs.PlanLimits.{not_bad}
+use Rattle.ilsyms.proofs.PlanTasks.{they_are, they_are_there, task_declared, task_below, planned_at, if_ok}
 use Rattle.ilsyms.proofs.plans.plan_declared.Goals as goal
 
 pub task_declared-declared-requires : goal.task_declared-declared-requires

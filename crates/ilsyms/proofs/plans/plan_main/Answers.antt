@@ -1,9 +1,9 @@
 use Rattle.std.proofs.Common.{◌≡◌, ◌∙◌, sym}
 use Rattle.std.specs.Prelude.{Some, slice_get, string_bytes}
 use Rattle.ilplan.specs.declared.activation.Activation.TheVariants.{Cyclic}
-use Rattle.ilsyms.specs.InstanceSteps.{instances_of, task_with}
+use Rattle.ilsyms.specs.TaskSteps.{instances_of, task_with}
 use Rattle.ilsyms.specs.Tasks.{main_task, tasks_of}
-use Rattle.ilsyms.proofs.PlannedTasks.{they_are, they_are_there, main_there, planned_at, if_ok}
+use Rattle.ilsyms.proofs.PlanTasks.{they_are, they_are_there, main_there, planned_at, if_ok}
 use Rattle.ilsyms.proofs.plans.plan_main.Goals as goal
 
 pub task_with-requires-clause-there : goal.task_with-requires-clause-there

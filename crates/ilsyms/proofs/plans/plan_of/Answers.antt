@@ -3,7 +3,7 @@ use Rattle.binding.specs.Wirings.{Wiring, IsWithinLimits}
 use Rattle.ilsource.specs.Trees.{Tree}
 use Rattle.ilplan.specs.Plans.{Planned, IsLawful, plan_of}
 use Rattle.ilsyms.specs.Resolved.{plan_of_tree}
-use Rattle.ilsyms.proofs.Lawful.{lawful}
+use Rattle.ilsyms.proofs.PlanLawful.{lawful}
 use Rattle.ilsyms.proofs.plans.plan_of.Goals as goal
 
 -- the parts are those of the plan

@@ -4,7 +4,7 @@ use Rattle.std.proofs.lemmas.List.{take_all}
 use Rattle.ilscope.proofs.Least.{got_at}
 use Rattle.ilsyms.specs.Resolved.{planned_task}
 use Rattle.ilsyms.specs.Tasks.{tasks_of}
-use Rattle.ilsyms.proofs.PlannedTasks.{of_task, tasks_more, as_many_tasks}
+use Rattle.ilsyms.proofs.PlanTasks.{of_task, tasks_more, as_many_tasks}
 use Rattle.ilsyms.proofs.plans.plan_tasks.Goals as goal
 
 pub plan_task-requires-clause-task : goal.plan_task-requires-clause-task

@@ -4,11 +4,11 @@ use Rattle.std.specs.Prelude.{string_bytes}
 use Rattle.ilplan.specs.declared.instance.FunctionBlock.{FunctionBlock}
 use Rattle.ilplan.specs.declared.slot.Slot.{Slot}
 use Rattle.ilplan.specs.Plans.{PlannedTask, KeepsLimits, task_of}
-use Rattle.ilsyms.specs.InstanceSteps.{instances_of, task_with}
+use Rattle.ilsyms.specs.TaskSteps.{instances_of, task_with}
 use Rattle.ilsyms.specs.Resolved.{planned_task}
 use Rattle.ilsyms.specs.Variables.{slots_of, blocks_of}
-use Rattle.ilsyms.proofs.Limits.{few_slots, few_blocks, names_apart, keeps_limits}
-use Rattle.ilsyms.proofs.PlannedTasks.{if_ok}
+use Rattle.ilsyms.proofs.PlanLimits.{few_slots, few_blocks, names_apart, keeps_limits}
+use Rattle.ilsyms.proofs.PlanTasks.{if_ok}
 use Rattle.ilsyms.proofs.plans.task_with.Goals as goal
 
 pub plan_instances-requires-clause-apart : goal.plan_instances-requires-clause-apart

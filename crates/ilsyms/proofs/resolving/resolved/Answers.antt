@@ -5,7 +5,7 @@ use Rattle.ilsource.specs.Trees.{Tree}
 use Rattle.ilscope.specs.Reports.{IsMemoryOrReportsLeast}
 use Rattle.ilsyms.specs.Faults.{IsFault, IsWellNamed}
 use Rattle.ilsyms.specs.Resolved.{plan_of_tree}
-use Rattle.ilsyms.proofs.PlannedTasks.{if_ok}
+use Rattle.ilsyms.proofs.PlanTasks.{if_ok}
 use Rattle.ilsyms.proofs.resolving.resolved.Goals as goal
 
 pub returns-clause-plan : goal.returns-clause-plan

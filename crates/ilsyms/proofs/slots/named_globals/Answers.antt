@@ -8,15 +8,16 @@ use Rattle.ilscope.specs.Configured.{globals_of}
 use Rattle.ilscope.specs.Declarations.{DeclaredProgram}
 use Rattle.ilscope.specs.declared.global.DeclaredGlobal.{DeclaredGlobal}
 use Rattle.ilscope.specs.declared.external.DeclaredExternal.{DeclaredExternal}
-use Rattle.ilsyms.specs.InstanceSteps.{instances_of}
+use Rattle.ilsyms.specs.TaskSteps.{instances_of}
 use Rattle.ilsyms.specs.SlotSteps.{AddsWhere}
 use Rattle.ilsyms.specs.Tasks.{NamedProgram, instance_named}
 use Rattle.ilsyms.specs.Variables.{is_among, is_named}
 use Rattle.ilsyms.specs.declared.tasks.TaskInstance.{TaskInstance}
-use Rattle.ilsyms.proofs.NamedGlobals.{adds_both, adds_same, added_to_none, named_more, named_still}
-use Rattle.ilsyms.proofs.NamedGlobals.{nothing_added, written_back}
-use Rattle.ilsyms.proofs.SeenPrograms.{none_seen, seen_kept, seen_more}
-use Rattle.ilsyms.proofs.There.{as_many, number_there, program_there, taken_more}
+use Rattle.ilsyms.proofs.SlotGlobals.{adds_both, adds_same, added_to_none, named_more, named_still}
+use Rattle.ilsyms.proofs.SlotGlobals.{nothing_added}
+use Rattle.ilsyms.proofs.Lists.{written_back}
+use Rattle.ilsyms.proofs.CountingPrograms.{none_seen, seen_kept, seen_more}
+use Rattle.ilsyms.proofs.TaskInstances.{as_many, number_there, program_there, taken_more}
 use Rattle.ilsyms.proofs.slots.named_globals.Goals as goal
 use Rattle.ilsyms.proofs.slots.named_globals.Goals.{then-not-index, else-not-index}
 
@@ -77,9 +78,9 @@ loop-instance-preserved c =
       | then-not-index w ↦
           let program = w.program_of-program.result.now in
           let more = taken_more tree given c.requires i nowhere below program w.program_of-program.ensures in
-          let whole = written_back c.loop-instance.named.len w.add_externals.new.named c.loop-instance.named.items
-          (w.add_externals.ensures.many ∙ ap (λ (bs : List Bool). length bs) w.deref_mut.ensures.value)
-          (sym (ap (λ (bs : List Bool). length bs) w.deref_mut.ensures.value) ∙ w.deref_mut.ensures.len)
+          let long = ap (λ (bs : List Bool). length bs) w.deref_mut.ensures.value in
+          let whole = written_back c.loop-instance.named.items w.add_externals.new.named c.loop-instance.named.len
+          (sym (sym long ∙ w.deref_mut.ensures.len)) (w.add_externals.ensures.many ∙ long)
           in
           let added = adds_both (is_named tree (take i all)) (λ n. is_among tree n w.externals.result.now)
           (is_named tree (take (i + 1) all)) zeros c.loop-instance.named.items w.add_externals.new.named

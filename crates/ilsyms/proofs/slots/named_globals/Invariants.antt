@@ -2,7 +2,7 @@ use Rattle.std.proofs.Common.{◌≡◌, take, false, replicate, length}
 use Rattle.ilscope.specs.Configured.{globals_of}
 use Rattle.ilscope.specs.Declarations.{declared_programs}
 use Rattle.ilsyms.specs.CountingSteps.{AreSeen}
-use Rattle.ilsyms.specs.InstanceSteps.{instances_of}
+use Rattle.ilsyms.specs.TaskSteps.{instances_of}
 use Rattle.ilsyms.specs.SlotSteps.{AddsWhere}
 use Rattle.ilsyms.specs.Variables.{is_named}
 use Rattle.ilsyms.proofs.slots.named_globals.Given as goal

@@ -5,10 +5,10 @@ use Rattle.std.proofs.lemmas.List.{get_or_default}
 use Rattle.ilplan.specs.declared.slot.Slot.{Slot}
 use Rattle.ilscope.specs.Configured.{globals_of}
 use Rattle.ilscope.specs.declared.global.DeclaredGlobal.{DeclaredGlobal}
-use Rattle.ilsyms.specs.InstanceSteps.{instances_of}
+use Rattle.ilsyms.specs.TaskSteps.{instances_of}
 use Rattle.ilsyms.specs.Variables.{is_named, named_slot}
-use Rattle.ilsyms.proofs.InstancesOfTasks.{rows_all}
-use Rattle.ilsyms.proofs.NamedGlobals.{one_named, none_named}
+use Rattle.ilsyms.proofs.TaskInstances.{rows_all}
+use Rattle.ilsyms.proofs.SlotGlobals.{one_named, none_named}
 use Rattle.ilsyms.proofs.slots.slots_of_globals.Goals as goal
 use Rattle.ilsyms.proofs.slots.slots_of_globals.Goals.{then-index+in_ok-add_slot, else-index}
 

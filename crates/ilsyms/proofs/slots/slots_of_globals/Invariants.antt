@@ -3,7 +3,7 @@ use Rattle.std.specs.Prelude.{filter_map}
 use Rattle.std.specs.List.{enumerate_from}
 use Rattle.limits.specs.Limits.{most_slots}
 use Rattle.ilscope.specs.Configured.{globals_of}
-use Rattle.ilsyms.specs.InstanceSteps.{instances_of}
+use Rattle.ilsyms.specs.TaskSteps.{instances_of}
 use Rattle.ilsyms.specs.Variables.{named_slot}
 use Rattle.ilsyms.proofs.slots.slots_of_globals.Given as goal
 

@@ -1,6 +1,6 @@
 use Rattle.std.proofs.Common.{ap, sym, ◌∙◌}
-use Rattle.ilsyms.specs.InstanceSteps.{assigned}
-use Rattle.ilsyms.proofs.InstancesOfTasks.{one_more, no_more}
+use Rattle.ilsyms.specs.TaskSteps.{assigned}
+use Rattle.ilsyms.proofs.TaskInstances.{one_more, no_more}
 use Rattle.ilsyms.proofs.tasks.assigned_instances.Goals as goal
 use Rattle.ilsyms.proofs.tasks.assigned_instances.Goals.{in-Some+in_ok-push, in_default}
 

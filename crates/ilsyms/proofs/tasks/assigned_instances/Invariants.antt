@@ -1,6 +1,6 @@
 use Rattle.std.proofs.Common.{◌≡◌, take}
 use Rattle.std.specs.Prelude.{filter_map}
-use Rattle.ilsyms.specs.InstanceSteps.{assigned}
+use Rattle.ilsyms.specs.TaskSteps.{assigned}
 use Rattle.ilsyms.proofs.tasks.assigned_instances.Given as goal
 
 abbrev pub invariant-loop-instance : goal.invariant-loop-instance

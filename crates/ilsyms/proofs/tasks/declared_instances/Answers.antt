@@ -5,9 +5,9 @@ use Rattle.ilsource.specs.declared.configuration.InstanceDeclaration.{InstanceDe
 use Rattle.ilsource.specs.declared.configuration.TaskDeclaration.{TaskDeclaration}
 use Rattle.ilsyms.specs.declared.tasks.Assigned.{Assigned}
 use Rattle.ilsyms.specs.declared.tasks.TaskInstance.{TaskInstance}
-use Rattle.ilsyms.specs.InstanceSteps.{instance_at, assigned, given_to}
+use Rattle.ilsyms.specs.TaskSteps.{instance_at, assigned, given_to}
 use Rattle.ilsyms.specs.Tasks.{instances_in}
-use Rattle.ilsyms.proofs.InstancesOfTasks.{row_more, rows_all, instances_stand, declared_rows}
+use Rattle.ilsyms.proofs.TaskInstances.{row_more, rows_all, instances_stand, declared_rows}
 use Rattle.ilsyms.proofs.tasks.declared_instances.Goals as goal
 
 pub loop-number-preserved : goal.loop-number-preserved

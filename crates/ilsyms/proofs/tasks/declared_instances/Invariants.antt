@@ -1,7 +1,7 @@
 use Rattle.std.proofs.Common.{◌≡◌, take, map}
 use Rattle.std.specs.Prelude.{Some}
 use Rattle.std.specs.List.{enumerate_from}
-use Rattle.ilsyms.specs.InstanceSteps.{instance_at}
+use Rattle.ilsyms.specs.TaskSteps.{instance_at}
 use Rattle.ilsyms.specs.Tasks.{instances_in}
 use Rattle.ilsyms.proofs.tasks.declared_instances.Given as goal
 

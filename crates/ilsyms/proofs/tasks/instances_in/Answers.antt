@@ -1,6 +1,6 @@
 use Rattle.std.proofs.Common.{ap, ◌∙◌}
-use Rattle.ilsyms.specs.InstanceSteps.{given_to}
-use Rattle.ilsyms.proofs.InstancesOfTasks.{one_more, no_more, given, not_given}
+use Rattle.ilsyms.specs.TaskSteps.{given_to}
+use Rattle.ilsyms.proofs.TaskInstances.{one_more, no_more, given, not_given}
 use Rattle.ilsyms.proofs.tasks.instances_in.Goals as goal
 use Rattle.ilsyms.proofs.tasks.instances_in.Goals.{then-one-task+in_ok-push, else-one-task}
 

@@ -1,6 +1,6 @@
 use Rattle.std.proofs.Common.{◌≡◌, take}
 use Rattle.std.specs.Prelude.{filter_map}
-use Rattle.ilsyms.specs.InstanceSteps.{given_to}
+use Rattle.ilsyms.specs.TaskSteps.{given_to}
 use Rattle.ilsyms.proofs.tasks.instances_in.Given as goal
 
 abbrev pub invariant-loop-one : goal.invariant-loop-one

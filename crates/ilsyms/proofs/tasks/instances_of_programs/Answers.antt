@@ -6,7 +6,7 @@ use Rattle.ilscope.specs.Declarations.{DeclaredProgram, declared_programs}
 use Rattle.ilscope.proofs.Least.{take_more, got_at}
 use Rattle.ilsource.specs.Programs.{Written}
 use Rattle.ilsyms.specs.declared.tasks.TaskInstance.{TaskInstance}
-use Rattle.ilsyms.specs.InstanceSteps.{instance_at}
+use Rattle.ilsyms.specs.TaskSteps.{instance_at}
 use Rattle.ilsyms.specs.Tasks.{NamedProgram, instance_named}
 use Rattle.ilsyms.proofs.tasks.instances_of_programs.Goals as goal
 

@@ -1,7 +1,7 @@
 use Rattle.std.proofs.Common.{◌≡◌, take, map}
 use Rattle.std.specs.Prelude.{Some}
 use Rattle.ilscope.specs.Declarations.{declared_programs}
-use Rattle.ilsyms.specs.InstanceSteps.{instance_at}
+use Rattle.ilsyms.specs.TaskSteps.{instance_at}
 use Rattle.ilsyms.specs.Tasks.{instance_named}
 use Rattle.ilsyms.proofs.tasks.instances_of_programs.Given as goal
 

@@ -2,7 +2,7 @@ use Rattle.ilscope.specs.Faults.{OfCause}
 use Rattle.ilscope.specs.declared.fault.NameCause.TheVariants.{Unknown, WritesInput}
 use Rattle.ilscope.proofs.Least.{both_least}
 use Rattle.ilsyms.specs.Faults.{IsUnknownUse, StoresToInput, WritesOutput}
-use Rattle.ilsyms.proofs.LeastOfCauses.{of_both}
+use Rattle.ilsyms.proofs.FaultParts.{of_both}
 use Rattle.ilsyms.proofs.uses.fault_of_use.Goals as goal
 use Rattle.std.proofs.Common.{◌⊎◌}
 

@@ -1,6 +1,6 @@
 use Rattle.std.proofs.Common.{◌≡◌, ◌+◌, flat_map, length, take}
 use Rattle.limits.specs.Limits.{most_words}
-use Rattle.ilsyms.specs.LimitSteps.{places_at}
+use Rattle.ilsyms.specs.WordSteps.{places_at}
 use Rattle.ilsyms.proofs.words.word_past.Given as goal
 
 abbrev pub invariant-loop-instance : goal.invariant-loop-instance

@@ -1,6 +1,6 @@
 use Rattle.std.proofs.Common.{◌≡◌, map, take}
 use Rattle.ilscope.specs.Declarations.{declared_programs}
-use Rattle.ilsyms.specs.LimitSteps.{places_of_program}
+use Rattle.ilsyms.specs.WordSteps.{places_of_program}
 use Rattle.ilsyms.proofs.words.words_of_programs.Given as goal
 
 abbrev pub invariant-loop-program : goal.invariant-loop-program

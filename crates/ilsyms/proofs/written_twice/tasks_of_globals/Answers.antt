@@ -3,9 +3,11 @@ use Rattle.std.specs.Prelude.{◌↔◌}
 use Rattle.ilscope.specs.Declarations.{declared_programs}
 use Rattle.ilscope.specs.Faults.{SomeOf}
 use Rattle.ilsyms.specs.Faults.{ProgramStores}
-use Rattle.ilsyms.specs.TaskSetSteps.{AreSetsOf, HasInstance, StoresBefore}
+use Rattle.ilsyms.specs.TaskSetSteps.{AreSetsOf}
+use Rattle.ilsyms.specs.WrittenTwiceSteps.{HasInstance, StoresBefore}
 use Rattle.ilsyms.specs.declared.task_sets.TaskSet.{TaskSet}
-use Rattle.ilsyms.proofs.TaskPrograms.{empty_are, program_at, set_at, stores_from, stores_to, written_back}
+use Rattle.ilsyms.proofs.WrittenTwiceTasks.{empty_are, program_at, set_at, stores_from, stores_to}
+use Rattle.ilsyms.proofs.Lists.{written_back}
 use Rattle.ilsyms.proofs.TaskSets.{sets_more}
 use Rattle.ilsyms.proofs.written_twice.tasks_of_globals.Goals as goal
 

@@ -1,6 +1,7 @@
 use Rattle.std.proofs.Common.{◌≡◌, length}
 use Rattle.ilscope.specs.Configured.{globals_of}
-use Rattle.ilsyms.specs.TaskSetSteps.{AreSetsOf, StoresBefore}
+use Rattle.ilsyms.specs.TaskSetSteps.{AreSetsOf}
+use Rattle.ilsyms.specs.WrittenTwiceSteps.{StoresBefore}
 use Rattle.ilsyms.proofs.written_twice.tasks_of_globals.Given as goal
 
 abbrev pub invariant-loop-number : goal.invariant-loop-number

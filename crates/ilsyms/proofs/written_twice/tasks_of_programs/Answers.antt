@@ -2,11 +2,13 @@ use Rattle.std.proofs.Common.{◌≡◌, ◌<◌, ◌+◌, ℕ, List, length, ma
 use Rattle.std.specs.Prelude.{All, Some, option_map, slice_get}
 use Rattle.ilscope.specs.Declarations.{declared_programs}
 use Rattle.ilscope.proofs.Least.{got_at}
-use Rattle.ilsyms.specs.TaskSetSteps.{AreSetsOf, HasInstance, with_tasks}
+use Rattle.ilsyms.specs.TaskSetSteps.{AreSetsOf, with_tasks}
+use Rattle.ilsyms.specs.WrittenTwiceSteps.{HasInstance}
 use Rattle.ilsyms.specs.declared.task_sets.TaskSet.{TaskSet}
 use Rattle.ilsyms.specs.declared.task_sets.TaskSet.TheVariants.{One}
 use Rattle.ilsyms.specs.declared.tasks.TaskInstance.{TaskInstance}
-use Rattle.ilsyms.proofs.TaskPrograms.{empty_are, instances_from, instances_to, known_at, written_back}
+use Rattle.ilsyms.proofs.WrittenTwiceTasks.{empty_are, instances_from, instances_to, known_at}
+use Rattle.ilsyms.proofs.Lists.{written_back}
 use Rattle.ilsyms.proofs.TaskSets.{sets_more}
 use Rattle.ilsyms.proofs.written_twice.tasks_of_programs.Goals as goal
 

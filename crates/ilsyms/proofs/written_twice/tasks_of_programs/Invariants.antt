@@ -1,6 +1,7 @@
 use Rattle.std.proofs.Common.{◌≡◌, length}
 use Rattle.ilscope.specs.Declarations.{declared_programs}
-use Rattle.ilsyms.specs.TaskSetSteps.{AreSetsOf, HasInstance}
+use Rattle.ilsyms.specs.TaskSetSteps.{AreSetsOf}
+use Rattle.ilsyms.specs.WrittenTwiceSteps.{HasInstance}
 use Rattle.ilsyms.proofs.written_twice.tasks_of_programs.Given as goal
 
 abbrev pub invariant-loop-number : goal.invariant-loop-number

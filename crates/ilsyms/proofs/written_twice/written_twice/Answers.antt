@@ -8,10 +8,10 @@ use Rattle.ilscope.specs.declared.fault.NameCause.TheVariants.{WrittenTwice}
 use Rattle.ilscope.specs.declared.global.DeclaredGlobal.{DeclaredGlobal}
 use Rattle.ilscope.proofs.Least.{of_one_cause}
 use Rattle.ilsyms.specs.Faults.{AreTwoStoring}
-use Rattle.ilsyms.specs.TaskSetSteps.{StoresBefore}
+use Rattle.ilsyms.specs.WrittenTwiceSteps.{StoresBefore}
 use Rattle.ilscope.specs.Declarations.{declared_programs}
-use Rattle.ilsyms.proofs.TwoStored.{two_more}
-use Rattle.ilsyms.proofs.TaskPrograms.{set_at}
+use Rattle.ilsyms.proofs.WrittenTwiceFaults.{two_more}
+use Rattle.ilsyms.proofs.WrittenTwiceTasks.{set_at}
 use Rattle.ilsyms.proofs.written_twice.written_twice.Goals as goal
 
 pub loop-number-preserved : goal.loop-number-preserved

@@ -8,8 +8,8 @@ use Rattle.ilranges.specs.Refusals.{ArisesAtWord}
 use Rattle.ilranges.specs.Rules.{IsRule}
 use Rattle.ilverify.specs.Certificates.{Certificate, is_closed, is_met}
 use Rattle.ilverify.specs.PassSteps.{AreBounded, AreFollowed, IsFound}
-use Rattle.ilverify.proofs.Forward.{refused}
-use Rattle.ilverify.proofs.Pending.{found_skipped, found_next, rest_bounded, rest_same}
+use Rattle.ilverify.proofs.PassForward.{refused}
+use Rattle.ilverify.proofs.PassPending.{found_skipped, found_next, rest_bounded, rest_same}
 use Rattle.ilverify.proofs.pass.advance.Goals as goal
 
 pub returns-in_default : goal.returns-in_default

@@ -4,7 +4,7 @@ use Rattle.ilranges.specs.declared.entry.Entry.{Entry}
 use Rattle.ilranges.specs.Entries.{opening}
 use Rattle.ilverify.specs.Certificates.{Certificate}
 use Rattle.ilverify.specs.PassSteps.{CanMeetAt, Meets}
-use Rattle.ilverify.proofs.Pending.{none_meets, found_first}
+use Rattle.ilverify.proofs.PassPending.{none_meets, found_first}
 use Rattle.ilverify.proofs.pass.begin.Goals as goal
 
 pub meet-requires : goal.meet-requires

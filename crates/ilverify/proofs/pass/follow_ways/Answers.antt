@@ -5,8 +5,8 @@ use Rattle.ilranges.specs.Changes.{ways_of}
 use Rattle.ilranges.specs.Entries.{arriving}
 use Rattle.ilverify.specs.Certificates.{is_met}
 use Rattle.ilverify.specs.PassSteps.{MeetsIf}
-use Rattle.ilverify.proofs.Forward.{target_forward}
-use Rattle.ilverify.proofs.Pending.{can_meet, target_bounded, between_bounded, kept_bounded}
+use Rattle.ilverify.proofs.PassForward.{target_forward}
+use Rattle.ilverify.proofs.PassPending.{can_meet, target_bounded, between_bounded, kept_bounded}
 use Rattle.ilverify.proofs.pass.follow_ways.Goals as goal
 
 on_ok : {T E : Type 0} (r : Result T E) (P Q : Type 0) → OnOk r P → (P → Q) → OnOk r Q

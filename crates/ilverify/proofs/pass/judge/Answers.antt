@@ -1,6 +1,6 @@
 use Rattle.std.proofs.Common.{◌≡◌, length, ap, subst, arith}
 use Rattle.ilverify.specs.Certificates.{IsClosest}
-use Rattle.ilverify.proofs.Forward.{certified}
+use Rattle.ilverify.proofs.PassForward.{certified}
 use Rattle.ilverify.proofs.pass.judge.Goals as goal
 
 pub returns : goal.returns

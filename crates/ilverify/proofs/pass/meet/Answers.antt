@@ -3,7 +3,7 @@ use Rattle.std.specs.Prelude.{slice_get}
 use Rattle.std.proofs.lemmas.List.{set_past}
 use Rattle.std.proofs.lemmas.Option.{slice_get-get_or, slice_get_past}
 use Rattle.ilverify.specs.PassSteps.{IsMeetingAt}
-use Rattle.ilverify.proofs.Pending.{set_twice}
+use Rattle.ilverify.proofs.PassPending.{set_twice}
 use Rattle.ilverify.proofs.pass.meet.Goals as goal
 
 pub returns-in_ok-entry : goal.returns-in_ok-entry

@@ -3,7 +3,7 @@ use Rattle.std.proofs.lemmas.List.Elements.{length_all_zip}
 use Rattle.std.proofs.lemmas.Result.{IfOk-weaker}
 use Rattle.ilranges.specs.JoinSteps.{AreWithin}
 use Rattle.ilranges.specs.Joins.{IsHeld}
-use Rattle.ilranges.proofs.JoinLaws.{joins_ones, joins_others}
+use Rattle.ilranges.proofs.JoinRows.{joins_ones, joins_others}
 use Rattle.ilranges.proofs.chunk.Chunk.join.Goals as goal
 
 pub returns-then-are_within : goal.returns-then-are_within

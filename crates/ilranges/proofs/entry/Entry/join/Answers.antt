@@ -1,7 +1,7 @@
 use Rattle.std.proofs.Common.{refl}
-use Rattle.ilranges.proofs.JoinLaws.{all_held}
-use Rattle.ilranges.proofs.Meetings.{meeting_of, marks_agree, marks_differ}
-use Rattle.ilranges.proofs.SameMarks.{marks_same, marks_apart}
+use Rattle.ilranges.proofs.JoinRows.{all_held}
+use Rattle.ilranges.proofs.EntryMeetings.{meeting_of, marks_agree, marks_differ}
+use Rattle.ilranges.proofs.MarkEquality.{marks_same, marks_apart}
 use Rattle.ilranges.proofs.entry.Entry.join.Goals as goal
 
 pub join-requires : goal.join-requires

@@ -1,7 +1,7 @@
 use Rattle.std.proofs.Common.{Err}
 use Rattle.ilranges.specs.declared.cause.Cause.TheVariants.{WrongType}
 use Rattle.ilranges.specs.declared.known.Known.TheVariants as knowns
-use Rattle.ilranges.proofs.Exact.{refused, wrong_type, mixed}
+use Rattle.ilranges.proofs.ResultCauses.{refused, wrong_type, mixed}
 use Rattle.ilranges.proofs.known.Known.after.Goals as goal
 
 pub returns-in-Bool-Bool-clause-refused : goal.returns-in-Bool-Bool-clause-refused

@@ -1,7 +1,7 @@
 use Rattle.std.proofs.Common.{pos, inl, inr}
 use Rattle.iltypes.specs.Ranges.{Holds}
 use Rattle.iloperators.specs.declared.operator.Operator.TheVariants as operators
-use Rattle.ilranges.proofs.Operations.{div_by_zero, verdict_of, quotients}
+use Rattle.ilranges.proofs.ResultRanges.{div_by_zero, verdict_of, quotients}
 use Rattle.ilranges.proofs.known.Known.after_div.Goals as goal
 
 pub returns-then-contains : goal.returns-then-contains

@@ -1,4 +1,4 @@
-use Rattle.ilranges.proofs.Functions.{function_refused}
+use Rattle.ilranges.proofs.FunctionRanges.{function_refused}
 use Rattle.ilranges.proofs.known.Known.after_function.Goals as goal
 
 pub returns-in-Bool-clause-refused : goal.returns-in-Bool-clause-refused

@@ -1,7 +1,7 @@
 use Rattle.std.proofs.Common.{pos, refl, rules, FitsSigned}
 use Rattle.std.specs.Int.{w64}
 use Rattle.iltypes.specs.Ranges.{Holds}
-use Rattle.ilranges.proofs.Operations.{mod_by_zero, mod_of}
+use Rattle.ilranges.proofs.ResultRanges.{mod_by_zero, mod_of}
 use Rattle.ilranges.proofs.known.Known.after_mod.Goals as goal
 
 pub returns-in-Some : goal.returns-in-Some

@@ -1,5 +1,5 @@
 use Rattle.iloperators.specs.declared.operator.Operator.TheVariants as operators
-use Rattle.ilranges.proofs.Operations.{verdict_of, sums, differences, products, min_of, max_of}
+use Rattle.ilranges.proofs.ResultRanges.{verdict_of, sums, differences, products, min_of, max_of}
 use Rattle.ilranges.proofs.known.Known.after_numbers.Goals as goal
 
 pub returns-in-Add : goal.returns-in-Add

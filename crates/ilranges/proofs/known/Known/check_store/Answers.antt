@@ -1,7 +1,7 @@
 use Rattle.std.proofs.Common.{true}
 use Rattle.iltypes.specs.declared.value.Value.TheVariants as values
 use Rattle.iltypes.proofs.Limits.{holds_low}
-use Rattle.ilranges.proofs.Joins.{stored_within}
+use Rattle.ilranges.proofs.Knowns.{stored_within}
 use Rattle.ilranges.proofs.known.Known.check_store.Goals as goal
 
 pub returns-in-Bool-Int-clause-ok : goal.returns-in-Bool-Int-clause-ok

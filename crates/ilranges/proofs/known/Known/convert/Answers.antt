@@ -1,5 +1,5 @@
 use Rattle.iltypes.specs.Ranges.{IsWithin}
-use Rattle.ilranges.proofs.Functions.{convert_kept, convert_refused}
+use Rattle.ilranges.proofs.FunctionRanges.{convert_kept, convert_refused}
 use Rattle.ilranges.proofs.known.Known.convert.Goals as goal
 
 pub returns-then-within : goal.returns-then-within

@@ -1,4 +1,4 @@
-use Rattle.ilranges.proofs.Functions.{abs_of}
+use Rattle.ilranges.proofs.FunctionRanges.{abs_of}
 use Rattle.ilranges.proofs.known.Known.function_of_number.Goals as goal
 
 pub returns-in-Abs : goal.returns-in-Abs

@@ -1,5 +1,5 @@
 use Rattle.std.proofs.Common.{refl}
-use Rattle.ilranges.proofs.Joins.{apart, apart_round, numbers_held}
+use Rattle.ilranges.proofs.JoinValues.{apart, apart_round, numbers_held}
 use Rattle.ilranges.proofs.known.Known.join.Goals as goal
 
 pub returns-in-Bool-Int-clause-none : goal.returns-in-Bool-Int-clause-none

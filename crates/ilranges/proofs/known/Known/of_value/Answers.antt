@@ -1,7 +1,7 @@
 use Rattle.std.proofs.Common.{refl, rules, FitsSigned}
 use Rattle.std.specs.Int.{w64}
 use Rattle.iltypes.proofs.Fitting.{again}
-use Rattle.ilranges.proofs.Functions.{constant_known}
+use Rattle.ilranges.proofs.FunctionRanges.{constant_known}
 use Rattle.ilranges.proofs.known.Known.of_value.Goals as goal
 
 pub returns-in-Int : goal.returns-in-Int

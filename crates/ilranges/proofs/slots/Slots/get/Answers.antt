@@ -2,7 +2,7 @@ use Rattle.std.proofs.Common.{arith, ◌≡◌, ◌<◌, ◌≤◌, length, sym,
 use Rattle.std.specs.Prelude.{slice_get, ◌%◌}
 use Rattle.std.proofs.lemmas.Option.{slice_get_past}
 use Rattle.ilranges.specs.ChunkSteps.{whole}
-use Rattle.ilranges.proofs.Parts.{place_of, place_read}
+use Rattle.ilranges.proofs.ChunkPlaces.{place_of, place_read}
 use Rattle.ilranges.proofs.slots.Slots.get.Goals as goal
 
 pub index-requires : goal.index-requires

@@ -3,8 +3,8 @@ use Rattle.std.specs.List.{AllZip}
 use Rattle.std.proofs.lemmas.List.Elements.{length_all_zip}
 use Rattle.ilranges.specs.ChunkSteps.{whole}
 use Rattle.ilranges.specs.Joins.{AreJoins, Each, IsHeld}
-use Rattle.ilranges.proofs.JoinLaws.{parts_held, joins_whole, joins_alike}
-use Rattle.ilranges.proofs.Parts.{alike_from_length, chunks_alike, whole_alike}
+use Rattle.ilranges.proofs.ChunkJoins.{parts_held, joins_whole, joins_alike}
+use Rattle.ilranges.proofs.ChunkPlaces.{alike_from_length, chunks_alike, whole_alike}
 use Rattle.ilranges.proofs.slots.Slots.join.Goals as goal
 
 pub join_each-requires : goal.join_each-requires

@@ -3,7 +3,7 @@ use Rattle.std.specs.Prelude.{slice_set, ◌/◌, ◌%◌}
 use Rattle.std.proofs.lemmas.List.{set-get_or}
 use Rattle.std.proofs.lemmas.Result.{on_ok_weaker, on_err_weaker}
 use Rattle.ilranges.specs.ChunkSteps.{whole}
-use Rattle.ilranges.proofs.Parts.{place_of, place_read, either_long, alike_set, chunks_alike, whole_alike}
+use Rattle.ilranges.proofs.ChunkPlaces.{place_of, place_read, either_long, alike_set, chunks_alike, whole_alike}
 use Rattle.ilranges.proofs.slots.Slots.set.Goals as goal
 
 pub index_mut-requires : goal.index_mut-requires

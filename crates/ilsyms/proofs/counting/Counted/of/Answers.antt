@@ -8,13 +8,13 @@ use Rattle.ilsource.specs.Programs.{Written}
 use Rattle.ilsource.specs.declared.symbol.Symbol.{Symbol}
 use Rattle.ilscope.specs.Declarations.{DeclaredProgram}
 use Rattle.ilsyms.specs.CountingSteps.{AreCounted}
-use Rattle.ilsyms.specs.InstanceSteps.{instances_of}
+use Rattle.ilsyms.specs.TaskSteps.{instances_of}
 use Rattle.ilsyms.specs.Tasks.{NamedProgram}
 use Rattle.ilsyms.specs.declared.tasks.TaskInstance.{TaskInstance}
 use Rattle.ilsyms.specs.Variables.{lines_of, uses_of}
-use Rattle.ilsyms.proofs.CountedUses.{none_counted}
-use Rattle.ilsyms.proofs.SeenPrograms.{counted_kept, counted_more, none_seen, seen_kept, seen_more}
-use Rattle.ilsyms.proofs.There.{as_many, number_there, program_there}
+use Rattle.ilsyms.proofs.CountingUses.{none_counted}
+use Rattle.ilsyms.proofs.CountingPrograms.{counted_kept, counted_more, none_seen, seen_kept, seen_more}
+use Rattle.ilsyms.proofs.TaskInstances.{as_many, number_there, program_there}
 use Rattle.ilsyms.proofs.counting.Counted.of.Goals as goal
 use Rattle.ilsyms.proofs.counting.Counted.of.Goals.{then-not-index+in_ok-uses+in_ok-add_uses, else-not-index}
 

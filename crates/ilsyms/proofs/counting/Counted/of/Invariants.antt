@@ -1,7 +1,7 @@
 use Rattle.std.proofs.Common.{◌≡◌, length, take}
 use Rattle.ilscope.specs.Declarations.{declared_programs}
 use Rattle.ilsyms.specs.CountingSteps.{AreCounted, AreSeen}
-use Rattle.ilsyms.specs.InstanceSteps.{instances_of}
+use Rattle.ilsyms.specs.TaskSteps.{instances_of}
 use Rattle.ilsyms.specs.Variables.{lines_of, uses_of}
 use Rattle.ilsyms.proofs.counting.Counted.of.Given as goal
 

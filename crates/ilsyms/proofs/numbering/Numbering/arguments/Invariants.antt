@@ -1,6 +1,6 @@
 use Rattle.std.proofs.Common.{◌≡◌, map, take}
 use Rattle.iltrees.specs.Renaming.{rename_argument}
-use Rattle.ilsyms.specs.PlanningSteps.{numbers}
+use Rattle.ilsyms.specs.NumberingSteps.{numbers}
 use Rattle.ilsyms.proofs.numbering.Numbering.arguments.Given as goal
 
 abbrev pub invariant-loop-argument : goal.invariant-loop-argument

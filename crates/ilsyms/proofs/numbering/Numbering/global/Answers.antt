@@ -5,9 +5,9 @@ use Rattle.ilsource.specs.Trees.{Tree}
 use Rattle.ilsource.specs.declared.name.Name.{Name}
 use Rattle.ilscope.specs.Configured.{global_number, globals_of}
 use Rattle.ilscope.specs.declared.global.DeclaredGlobal.{DeclaredGlobal}
-use Rattle.ilsyms.specs.PlanningSteps.{Numbering, number_of_global}
-use Rattle.ilsyms.proofs.Firsts.{first_below}
-use Rattle.ilsyms.proofs.GlobalNumbers.{without_number}
+use Rattle.ilsyms.specs.NumberingSteps.{Numbering, number_of_global}
+use Rattle.ilsyms.proofs.Lists.{first_below}
+use Rattle.ilsyms.proofs.NumberingGlobals.{without_number}
 use Rattle.ilsyms.proofs.numbering.Numbering.global.Goals as goal
 
 -- the number is that of one of the global variables

@@ -2,7 +2,7 @@ use Rattle.std.proofs.Common.{◌∙◌, [], ◌∷◌, ◌++◌, map, sym, ap, 
 use Rattle.std.proofs.lemmas.List.{take_all, map-append}
 use Rattle.iltrees.specs.Renaming.{rename_line}
 use Rattle.ilscope.proofs.Least.{take_more}
-use Rattle.ilsyms.specs.PlanningSteps.{label_of, numbers}
+use Rattle.ilsyms.specs.NumberingSteps.{label_of, numbers}
 use Rattle.ilsyms.proofs.numbering.Numbering.lines.Goals as goal
 
 pub loop-line-preserved : goal.loop-line-preserved

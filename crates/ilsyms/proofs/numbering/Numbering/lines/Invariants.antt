@@ -1,6 +1,6 @@
 use Rattle.std.proofs.Common.{◌≡◌, map, take}
 use Rattle.iltrees.specs.Renaming.{rename_line}
-use Rattle.ilsyms.specs.PlanningSteps.{label_of, numbers}
+use Rattle.ilsyms.specs.NumberingSteps.{label_of, numbers}
 use Rattle.ilsyms.proofs.numbering.Numbering.lines.Given as goal
 
 abbrev pub invariant-loop-line : goal.invariant-loop-line

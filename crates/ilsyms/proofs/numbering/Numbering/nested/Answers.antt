@@ -4,7 +4,7 @@ use Rattle.iltrees.specs.Renaming.{rename_piece, rename_tree}
 use Rattle.iltrees.specs.Trees.{pieces_of}
 use Rattle.iltrees.specs.TreeSteps.{tree_of, tree_again}
 use Rattle.iltrees.proofs.KeptSizes.{pieces_same}
-use Rattle.ilsyms.specs.PlanningSteps.{numbers}
+use Rattle.ilsyms.specs.NumberingSteps.{numbers}
 use Rattle.ilsyms.proofs.numbering.Numbering.nested.Goals as goal
 
 pub new-requires : goal.new-requires

@@ -1,6 +1,6 @@
 use Rattle.std.proofs.Common.{◌≡◌, map, take}
 use Rattle.iltrees.specs.Renaming.{rename_piece}
-use Rattle.ilsyms.specs.PlanningSteps.{numbers}
+use Rattle.ilsyms.specs.NumberingSteps.{numbers}
 use Rattle.ilsyms.proofs.numbering.Numbering.nested.Given as goal
 
 abbrev pub invariant-loop-piece : goal.invariant-loop-piece

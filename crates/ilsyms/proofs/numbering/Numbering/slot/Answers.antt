@@ -5,9 +5,9 @@ use Rattle.ilscope.specs.declared.variable.DeclaredVariable.{DeclaredVariable}
 use Rattle.ilplan.specs.declared.slot.Slot.{Slot}
 use Rattle.ilscope.specs.Configured.{global_number}
 use Rattle.ilsyms.specs.Meaning.{is_global}
-use Rattle.ilsyms.specs.PlanningSteps.{Numbering}
-use Rattle.ilsyms.proofs.Numbers.{within}
-use Rattle.ilsyms.proofs.Firsts.{first_below}
+use Rattle.ilsyms.specs.NumberingSteps.{Numbering}
+use Rattle.ilsyms.proofs.NumberingPlaces.{within}
+use Rattle.ilsyms.proofs.Lists.{first_below}
 use Rattle.ilsyms.proofs.numbering.Numbering.slot.Goals as goal
 
 pub overflow_add-result : goal.overflow_add-result

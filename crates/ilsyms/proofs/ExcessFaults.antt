@@ -1,0 +1,113 @@
+-- The least fault of what exceeds a limit of a task, and of all limits, is the least of its parts.
+use Rattle.std.proofs.Common.{◌≡◌, ℕ, zero, suc, ◌+◌, ◌<◌, List, [], ◌∷◌, map, take, refl, sym, ap, ◌∙◌, subst, ◌⊎◌}
+use Rattle.std.proofs.Common.{inl, inr, arith}
+use Rattle.std.specs.Prelude.{◌↔◌, Option, Some, flat_map, option_map, slice_get}
+use Rattle.std.proofs.lemmas.Option.{slice_get-map}
+use Rattle.limits.specs.Limits.{most_blocks, most_instances, most_slots, most_tasks, most_words}
+use Rattle.iltrees.specs.Words.{places_in}
+use Rattle.ilsource.specs.Trees.{Tree}
+use Rattle.ilsource.specs.declared.name.Name.{Name}
+use Rattle.ilscope.specs.Configured.{task_declarations}
+use Rattle.ilscope.specs.Faults.{IsLeastOf, OfCause, SomeOf}
+use Rattle.ilscope.specs.Order.{lesser_of_two}
+use Rattle.ilscope.specs.declared.fault.NameCause.TheVariants.{TooMany}
+use Rattle.ilscope.specs.declared.found.Found.{Found}
+use Rattle.ilscope.proofs.Gathered.{or_else}
+use Rattle.ilsyms.specs.Faults.{IsTooMany, IsTooManyIn, MakesTooManyConstants, instance_names, place_of_slot}
+use Rattle.ilsyms.specs.Tasks.{NamedProgram, tasks_of}
+use Rattle.ilsyms.specs.Variables.{blocks_of, lines_of, slots_of, uses_of}
+use Rattle.ilsyms.proofs.FaultParts.{of_both, of_same}
+
+-- there is a place, and it is this one
+abbrev IsAt : Option ℕ → ℕ → Type 0
+IsAt place at = place ≡ Some at
+
+at_same : (p q : Option ℕ) (o : Option Found) → p ≡ q → IsLeastOf (OfCause TooMany (IsAt p)) o
+    → IsLeastOf (OfCause TooMany (IsAt q)) o
+at_same p q o e h = subst (λ (r : Option ℕ). IsLeastOf (OfCause TooMany (IsAt r)) o) e h
+
+-- the element with a number is that of a longer front
+within : {X : Type 0} (xs : List X) (n m : ℕ) → n < m → slice_get (take m xs) n ≡ slice_get xs n
+within xs n zero low = absurd (omega (arith, low))
+within [] n (suc m) low = refl
+within (x ∷ xs) zero (suc m) low = refl
+within (x ∷ xs) (suc n) (suc m) low = within xs n m (omega (arith, low))
+
+got_of_front : {X : Type 0} (xs : List X) (n : ℕ) → slice_get (take (n + 1) xs) n ≡ slice_get xs n
+got_of_front xs n = within xs n (n + 1) (omega arith)
+
+-- the places of the names of elements
+pub places_of_names : {X : Type 0} (name_of : X → Name) (xs : List X)
+    → map (λ x. (name_of x).from) xs ≡ map (λ (n : Name). n.from) (map name_of xs)
+places_of_names name_of [] = refl
+places_of_names name_of (x ∷ xs) = ap (λ ns. (name_of x).from ∷ ns) (places_of_names name_of xs)
+
+module _ (tree : Tree) (instances : List NamedProgram) where
+  abbrev slot_past : Option ℕ
+  slot_past = slice_get (map (λ s. place_of_slot tree s.variable) (slots_of tree instances)) most_slots
+
+  abbrev block_past : Option ℕ
+  block_past = slice_get (map (λ b. b.name.from) (blocks_of instances)) most_blocks
+
+  abbrev word_past : Option ℕ
+  word_past = slice_get (flat_map places_in (lines_of instances)) most_words
+
+  abbrev MakesTooMany : ℕ → Type 0
+  MakesTooMany = MakesTooManyConstants (uses_of (lines_of instances))
+
+  -- of a task
+  pub least_in_task : (slot block word excess : Option ℕ) (a b c d : Option Found)
+      → slot ≡ option_map (λ s. place_of_slot tree s.variable)
+      (slice_get (take (most_slots + 1) (slots_of tree instances)) most_slots)
+      → block ≡ slice_get (map (λ b. b.name.from) (take (most_blocks + 1) (blocks_of instances))) most_blocks
+      → word ≡ slice_get (flat_map places_in (lines_of instances)) most_words
+      → ((place : ℕ) → (excess ≡ Some place) ↔ MakesTooManyConstants (uses_of (lines_of instances)) place)
+      → IsLeastOf (OfCause TooMany (λ at. slot ≡ Some at)) a
+      → IsLeastOf (OfCause TooMany (λ at. block ≡ Some at)) b
+      → IsLeastOf (OfCause TooMany (λ at. word ≡ Some at)) c
+      → IsLeastOf (OfCause TooMany (λ at. excess ≡ Some at)) d
+      → IsLeastOf (OfCause TooMany (λ place. IsTooManyIn tree place instances))
+      (lesser_of_two (lesser_of_two a b) (lesser_of_two c d))
+  least_in_task slot block word excess a b c d e f g counted h k l m =
+      let slots = e
+      ∙ ap (option_map (λ s. place_of_slot tree s.variable)) (got_of_front (slots_of tree instances) most_slots)
+      ∙ sym (slice_get-map (λ s. place_of_slot tree s.variable) (slots_of tree instances) most_slots) in
+      let blocks = f ∙ slice_get-map (λ b. b.name.from) (take (most_blocks + 1) (blocks_of instances)) most_blocks
+      ∙ ap (option_map (λ b. b.name.from)) (got_of_front (blocks_of instances) most_blocks)
+      ∙ sym (slice_get-map (λ b. b.name.from) (blocks_of instances) most_blocks) in
+      of_same TooMany (λ at. (IsAt slot_past at ⊎ IsAt block_past at) ⊎ (IsAt word_past at ⊎ MakesTooMany at))
+      (λ place. IsTooManyIn tree place instances) (lesser_of_two (lesser_of_two a b) (lesser_of_two c d))
+      (λ at q. or_else (λ r. or_else inl (λ s. inr (inl s)) r) (λ r. inr (inr r)) q)
+      (λ at q. or_else (λ s. inl (inl s)) (λ r. or_else (λ s. inl (inr s)) inr r) q)
+      (of_both TooMany (λ at. IsAt slot_past at ⊎ IsAt block_past at) (λ at. IsAt word_past at ⊎ MakesTooMany at)
+      (lesser_of_two a b) (lesser_of_two c d)
+      (of_both TooMany (IsAt slot_past) (IsAt block_past) a b (at_same slot slot_past a slots h)
+      (at_same block block_past b blocks k))
+      (of_both TooMany (IsAt word_past) MakesTooMany c d (at_same word word_past c g l)
+      (of_same TooMany (IsAt excess) MakesTooMany d (λ at. (counted at).0) (λ at. (counted at).1) m)))
+
+module _ (tree : Tree) where
+  abbrev task_past : Option ℕ
+  task_past = slice_get (map (λ t. t.name.from) (task_declarations tree)) most_tasks
+
+  abbrev instance_past : Option ℕ
+  instance_past = slice_get (map (λ name. name.from) (instance_names tree)) most_instances
+
+  abbrev InTask : ℕ → Type 0
+  InTask place = SomeOf (λ t. IsTooManyIn tree place t.instances) (tasks_of tree)
+
+  -- of all limits
+  pub least_of_limits : (task instance : Option ℕ) (a b c : Option Found) → task ≡ task_past
+      → instance ≡ instance_past
+      → IsLeastOf (OfCause TooMany (λ at. task ≡ Some at)) a
+      → IsLeastOf (OfCause TooMany (λ at. instance ≡ Some at)) b
+      → IsLeastOf (OfCause TooMany (λ place. SomeOf (λ t. IsTooManyIn tree place t.instances) (tasks_of tree))) c
+      → IsLeastOf (OfCause TooMany (IsTooMany tree)) (lesser_of_two (lesser_of_two a b) c)
+  least_of_limits task instance a b c e f h k l =
+      of_same TooMany (λ at. (IsAt task_past at ⊎ IsAt instance_past at) ⊎ InTask at) (IsTooMany tree)
+      (lesser_of_two (lesser_of_two a b) c)
+      (λ at q. or_else (λ r. or_else inl (λ s. inr (inl s)) r) (λ r. inr (inr r)) q)
+      (λ at q. or_else (λ s. inl (inl s)) (λ r. or_else (λ s. inl (inr s)) inr r) q)
+      (of_both TooMany (λ at. IsAt task_past at ⊎ IsAt instance_past at) InTask (lesser_of_two a b) c
+      (of_both TooMany (IsAt task_past) (IsAt instance_past) a b (at_same task task_past a e h)
+      (at_same instance instance_past b f k)) l)

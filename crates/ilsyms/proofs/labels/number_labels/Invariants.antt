@@ -1,0 +1,14 @@
+use Rattle.std.proofs.Common.{take}
+use Rattle.ilsource.specs.Names.{folded}
+use Rattle.ilscope.specs.Faults.{IsLeastOf, IsTwiceIn, OfCause}
+use Rattle.ilscope.specs.declared.fault.NameCause.TheVariants.{Twice}
+use Rattle.ilsyms.specs.Faults.{labels_of}
+use Rattle.ilsyms.specs.LabelSteps.{AreNumbered}
+use Rattle.ilsyms.proofs.labels.number_labels.Given as goal
+
+abbrev pub invariant-loop-number : goal.invariant-loop-number
+invariant-loop-number l = record {
+  numbers : AreNumbered l.fn.scope.tree.text (take l.number l.fn.lines) l.numbers;
+  twice : IsLeastOf
+      (OfCause Twice (IsTwiceIn (folded l.fn.scope.tree.text) (labels_of (take l.number l.fn.lines)))) l.least;
+}
