@@ -1,5 +1,6 @@
 -- What the getters of `clap` give, by the rows of what was found.
-use Rattle.std.proofs.Common.{◌≡◌, ◌∙◌, ap, subst, true, false, codes, ℕ, Bool, List, Option, Some, None, Result, Ok, Err, refl}
+use Rattle.std.proofs.Common.{◌≡◌, ◌∙◌, ap, subst, true, false, codes, ℕ, Bool, List, Option, Some, None, Result}
+use Rattle.std.proofs.Common.{Ok, Err, refl}
 use Rattle.std.specs.Prelude.{option_map, unwrap_or}
 use Rattle.std.specs.Borrow.{Bor}
 use Rattle.std.specs.Str.Parse.{ParsesUnsigned}

@@ -1,6 +1,7 @@
 -- The command line (profile): `check FILE [--bind FILE]`, `step FILE TASK [--bind FILE] [--scans N] [--every MS]`,
 -- `play TEXT BIND SCENARIO [--limit N]`, `run TEXT BIND SCENARIO [--limit N] [--workers W]` and
--- `look FILE SCENARIO --bind FILE [--text]`, with the reading of words that `clap` has.
+-- `look FILE SCENARIO --bind FILE [--text]`, `notes FILE [--bind FILE]`, `list FILE [TASK] [--bind FILE]` and
+-- `explain FILE [SCENARIO] [--bind FILE]`, with the reading of words that `clap` has.
 use Rattle.std.specs.Prelude.{◌≡◌, ℕ, ◌^◌, ◌<◌, List, [], Bool, Option, Some, None, true, false, pos, codes}
 use Rattle.std.specs.Prelude.{option_map, unwrap_or}
 use Rattle.std.specs.Borrow.{Bor}
@@ -14,15 +15,21 @@ use Rattle.commandline.specs.declared.options.Files.{Files}
 use Rattle.commandline.specs.declared.options.Inquiry.{Inquiry}
 use Rattle.commandline.specs.declared.options.Inquiry.TheVariants.{Check, Step}
 use Rattle.commandline.specs.declared.options.Invocation.{Invocation}
-use Rattle.commandline.specs.declared.options.Invocation.TheVariants.{Ask, Look, Play, Run}
+use Rattle.commandline.specs.declared.options.Invocation.TheVariants.{Ask, Look, Play, Run, Tell}
 use Rattle.commandline.specs.declared.options.PlayFiles.{PlayFiles}
 use Rattle.commandline.specs.declared.options.RunSize.{RunSize}
+use Rattle.commandline.specs.declared.questions.Question.{Question}
+use Rattle.commandline.specs.declared.questions.Question.TheVariants.{Faults, Notes, Words}
 
 -- ---- the words that are taken
 
 -- a word that must be given
 abbrev pub wanted : Text → Rule
 wanted id = record (new_rule id) { required = true; action = Some Set }
+
+-- a word that may be given
+abbrev pub optional : Text → Rule
+optional id = record (new_rule id) { action = Some Set }
 
 -- an option with one value
 abbrev pub option : Text → Rule
@@ -75,6 +82,19 @@ look_files =
 abbrev pub look_command : App
 look_command = with_rule look_files (flag (codes "text"))
 
+abbrev pub notes_command : App
+notes_command = with_rule (with_rule (new_app (codes "notes")) (wanted (codes "FILE"))) (option (codes "bind"))
+
+abbrev pub list_command : App
+list_command =
+    with_rule (with_rule (with_rule (new_app (codes "list")) (wanted (codes "FILE"))) (optional (codes "TASK")))
+    (option (codes "bind"))
+
+abbrev pub explain_command : App
+explain_command =
+    with_rule (with_rule (with_rule (new_app (codes "explain")) (wanted (codes "FILE"))) (optional (codes "SCENARIO")))
+    (option (codes "bind"))
+
 abbrev pub program : App
 program = on_top (λ top. record top { subcommand_required = true }) (new_app (codes "dalictl"))
 
@@ -87,8 +107,17 @@ played_line = with_subcommand inquiry_line play_command.top
 abbrev pub run_line : App
 run_line = with_subcommand played_line run_command.top
 
+abbrev pub look_line : App
+look_line = with_subcommand run_line look_command.top
+
+abbrev pub note_line : App
+note_line = with_subcommand look_line notes_command.top
+
+abbrev pub list_line : App
+list_line = with_subcommand note_line list_command.top
+
 abbrev pub command_line : App
-command_line = with_subcommand run_line look_command.top
+command_line = with_subcommand list_line explain_command.top
 
 -- ---- what they say
 
@@ -127,6 +156,18 @@ IsOfInquiry name found (Check files) = (name ≡ codes "check") × AreFiles foun
 IsOfInquiry name found (Step files task scans every) =
     ¬ (name ≡ codes "check") × AreFiles found files × AreScans found task scans every
 
+-- what was found under a command's name is the question
+abbrev pub IsQuestion : Text → List Row → Question → Type 0
+IsQuestion name found Notes = name ≡ codes "notes"
+IsQuestion name found (Words task) =
+    (name ≡ codes "list") × (option_map (λ t. t.now) task ≡ first_of (codes "TASK") found)
+IsQuestion name found (Faults scenario) =
+    (name ≡ codes "explain") × (option_map (λ s. s.now) scenario ≡ first_of (codes "SCENARIO") found)
+
+-- no question is asked under this name
+abbrev pub IsNoQuestion : Text → Type 0
+IsNoQuestion name = ¬ (name ≡ codes "notes") × ¬ (name ≡ codes "list") × ¬ (name ≡ codes "explain")
+
 -- the files that are named for a scenario that is played or run
 pub record ArePlayFiles (found : List Row) (files : PlayFiles) : Type 0 where
   pub text : files.text.now ≡ given (first_of (codes "TEXT") found)
@@ -153,7 +194,11 @@ IsOfCommand name found (Run files size) = (name ≡ codes "run") × ArePlayFiles
 IsOfCommand name found (Look files is_text) =
     (name ≡ codes "look") × AreLookFiles found files × IsFlag (one_of (codes "text") found) is_text
 IsOfCommand name found (Ask inquiry) =
-    ¬ (name ≡ codes "play") × ¬ (name ≡ codes "run") × ¬ (name ≡ codes "look") × IsOfInquiry name found inquiry
+    ¬ (name ≡ codes "play") × ¬ (name ≡ codes "run") × ¬ (name ≡ codes "look") × IsNoQuestion name
+    × IsOfInquiry name found inquiry
+IsOfCommand name found (Tell files question) =
+    ¬ (name ≡ codes "play") × ¬ (name ≡ codes "run") × ¬ (name ≡ codes "look")
+    × AreFiles found files × IsQuestion name found question
 
 -- the words spell the invocation
 abbrev pub IsInvocation : List Text → Invocation → Type 0

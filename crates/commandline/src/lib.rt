@@ -1,8 +1,9 @@
 //! The words of the command line, read with `clap`.
 //!
-//! What crosses the boundary: [`read`] takes the words that follow the program's name, and gives the
-//! [`Invocation`] that they spell: an [`Inquiry`] of a text, or files that are played, run or looked
-//! at. The definition to read first is `IsInvocation` (specs/CommandLine.antt).
+//! What crosses the boundary: [`read`] takes the words that follow the program's name, and gives
+//! the [`Invocation`] that they spell: an [`Inquiry`] or a [`Question`] of a text, or files that are
+//! played, run or looked at. The definition to read first is `IsInvocation`
+//! (specs/CommandLine.antt).
 //!
 //! ```text
 //! match commandline::read(alloc, words)? {
@@ -12,5 +13,7 @@
 #![tactic(auto)]
 
 mod options;
+mod questions;
 
 pub use options::{Files, Inquiry, Invocation, PlayFiles, RunSize, read};
+pub use questions::Question;

@@ -6,13 +6,14 @@ ghost use Rattle.clap.specs.Words.{rule_of, shape_of};
 ghost use Rattle.clap.specs.declared.builder.command.Command.TheViews.{out-Command};
 ghost use Rattle.commandline.specs.CommandLine.{AreFiles, AreLookFiles, ArePlayFiles, IsFlag};
 ghost use Rattle.commandline.specs.CommandLine.{IsInvocation, IsNumber, IsOfCommand, IsOfInquiry};
-ghost use Rattle.commandline.specs.CommandLine.{IsRunSize, check_command, command_line, flag, given};
-ghost use Rattle.commandline.specs.CommandLine.{inquiry_line, look_command, look_files};
+ghost use Rattle.commandline.specs.CommandLine.{IsRunSize, check_command, command_line, flag};
+ghost use Rattle.commandline.specs.CommandLine.{given, inquiry_line, look_command, look_files};
 ghost use Rattle.commandline.specs.CommandLine.{number_option, option, play_command, played_line};
 ghost use Rattle.commandline.specs.CommandLine.{run_command, run_line};
 ghost use Rattle.commandline.specs.CommandLine.{scenario_files, step_command, step_files, wanted};
-ghost use Rattle.commandline.specs.CommandLine.{wanted_option};
+ghost use Rattle.commandline.specs.CommandLine.{look_line, wanted_option};
 
+use crate::questions::{Question, explain, listing, question_of};
 use clap::{Arg, ArgAction, ArgMatches, Command, Error};
 use std::alloc::{AllocError, Global};
 
@@ -22,11 +23,25 @@ pub enum Invocation<'a> {
     /// An answer to a text.
     Ask(Inquiry<'a>),
     /// `play TEXT BIND SCENARIO [--limit N]`
-    Play { files: PlayFiles<'a>, limit: u32 },
+    Play {
+        files: PlayFiles<'a>,
+        limit: u32,
+    },
     /// `run TEXT BIND SCENARIO [--limit N] [--workers W]`
-    Run { files: PlayFiles<'a>, size: RunSize },
+    Run {
+        files: PlayFiles<'a>,
+        size: RunSize,
+    },
     /// `look FILE SCENARIO --bind FILE [--text]`
-    Look { files: PlayFiles<'a>, is_text: bool },
+    Look {
+        files: PlayFiles<'a>,
+        is_text: bool,
+    },
+    /// A question about a text.
+    Tell {
+        files: Files<'a>,
+        question: Question<'a>,
+    },
 }
 
 /// How large a run may become.
@@ -130,7 +145,13 @@ fn invocation_of<'a>(name: &str, found: &ArgMatches<'a>) -> Invocation<'a>
             is_text: flag_in(found, "text"),
         };
     }
-    Invocation::Ask(inquiry_of(name, found))
+    match question_of(name, found) {
+        Some(question) => Invocation::Tell {
+            files: files_in(found),
+            question,
+        },
+        None => Invocation::Ask(inquiry_of(name, found)),
+    }
 }
 
 /// What is asked of a text, by what was found under the name of another command.
@@ -220,6 +241,13 @@ fn number_in(found: &ArgMatches, id: &str, default: u32) -> u32
 
 fn command<'a>(alloc: Global) -> Result<Command<'a>, AllocError>
     ensures { IfOk result (λ c. app_of c ≡ command_line) }
+{
+    listing(alloc)?.subcommand(explain(alloc)?)
+}
+
+pub(crate) fn looking<'a>(alloc: Global) -> Result<Command<'a>, AllocError>
+    ensures shape { IfOk result (λ c. app_of c ≡ look_line) }
+    ensures local { IfOk result (λ c. (out-Command c).has_globals ≡ false) }
 {
     running(alloc)?.subcommand(look(alloc)?)
 }
@@ -328,7 +356,7 @@ fn scenario_files<'a>(
         .arg(played_scenario(alloc))
 }
 
-fn text<'a>(alloc: Global) -> Arg<'a>
+pub(crate) fn text<'a>(alloc: Global) -> Arg<'a>
     ensures rule { rule_of result ≡ wanted (codes "FILE") }
     ensures local { result.global ≡ false }
 {
@@ -348,7 +376,7 @@ fn task<'a>(alloc: Global) -> Arg<'a>
         .help("The task's name, in any letter case")
 }
 
-fn binding<'a>(alloc: Global) -> Arg<'a>
+pub(crate) fn binding<'a>(alloc: Global) -> Arg<'a>
     ensures rule { rule_of result ≡ option (codes "bind") }
     ensures local { result.global ≡ false }
 {

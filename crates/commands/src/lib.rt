@@ -24,6 +24,7 @@ mod report;
 mod running;
 mod serving;
 mod shell;
+mod telling;
 
 pub use exit_status::ExitStatus;
 pub use looking::serve_look;
@@ -32,3 +33,4 @@ pub use reading::{Disk, HostDisk, Unread};
 pub use running::serve_run;
 pub use serving::{Unserved, serve};
 pub use shell::run;
+pub use telling::serve_question;

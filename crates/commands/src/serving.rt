@@ -58,7 +58,7 @@ pub fn serve<'a, D: Disk, W: Write + Drop>(
 }
 
 /// The bytes that the disk gives for the binding's path, where one is named.
-fn binding_at<'a, D: Disk>(
+pub(crate) fn binding_at<'a, D: Disk>(
     alloc: Global,
     disk: &D,
     path: Option<&'a str>,

@@ -6,6 +6,7 @@ use crate::playing::serve_play;
 use crate::reading::{HostDisk, Unread};
 use crate::running::serve_run;
 use crate::serving::{Unserved, serve};
+use crate::telling::serve_question;
 use commandline::Invocation;
 use std::rt::{Env, Files};
 use std::sync::Wait;
@@ -71,6 +72,7 @@ fn run_invocation<R: Files + Print + Eprint + AllocGlobal, T: Threads + Wait + T
         Invocation::Play { files, limit } => serve_play(alloc, &disk, out, files, limit),
         Invocation::Run { files, size } => serve_run(threads, alloc, &disk, out, files, size),
         Invocation::Look { files, is_text } => serve_look(alloc, &disk, out, files, is_text),
+        Invocation::Tell { files, question } => serve_question(alloc, &disk, out, files, question),
     };
     match served {
         Ok((_, status)) => status,

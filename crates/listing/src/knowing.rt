@@ -1,0 +1,87 @@
+//! What is known before a word, in words.
+
+use crate::spelling::slot_name;
+use ilcode::{Target, Word, WordOperand};
+use ilplan::Plan;
+use ilranges::{Entry, Known};
+use std::fmt;
+
+/// What is known of the current result before a word, and of the variable that the word names.
+#[derive(Clone, Copy)]
+pub struct KnownText<'a> {
+    pub plan: &'a Plan,
+    pub task: usize,
+    pub word: Word,
+    pub entry: &'a Entry,
+}
+
+impl fmt::Display for KnownText<'_> {
+    fn fmt<W: fmt::Write>(&self, f: &mut fmt::Formatter<W>) -> fmt::Result {
+        match self.entry.result {
+            Some(known) => write!(f, "result {}", ValuesText { known })?,
+            None => write!(f, "no result")?,
+        }
+        let Some(slot) = slot_of(self.word) else {
+            return Ok(());
+        };
+        match (
+            slot_name(self.plan, self.task, slot),
+            self.entry.slots.get(slot),
+        ) {
+            (Some(name), Some(known)) => write!(f, ", {name} {}", ValuesText { known }),
+            _ => Ok(()),
+        }
+    }
+}
+
+/// The slot that a word names.
+fn slot_of(word: Word) -> Option<usize> {
+    match word {
+        Word::Load { operand, .. } => slot_of_operand(operand),
+        Word::Apply(_, operand) => slot_of_operand(operand),
+        Word::Pass { operand, .. } => slot_of_operand(operand),
+        Word::Store { variable, .. } => slot_of_target(variable),
+        Word::Set(variable) => slot_of_target(variable),
+        Word::Reset(variable) => slot_of_target(variable),
+        _ => None,
+    }
+}
+
+/// The slot that an operand is.
+fn slot_of_operand(operand: WordOperand) -> Option<usize> {
+    match operand {
+        WordOperand::Slot(slot) => Some(usize::from(slot)),
+        _ => None,
+    }
+}
+
+/// The slot that is written.
+fn slot_of_target(target: Target) -> Option<usize> {
+    match target {
+        Target::Slot(slot) => Some(usize::from(slot)),
+        Target::Port { .. } => None,
+    }
+}
+
+/// The values that something may have.
+#[derive(Clone, Copy)]
+pub(crate) struct ValuesText {
+    pub known: Known,
+}
+
+impl fmt::Display for ValuesText {
+    fn fmt<W: fmt::Write>(&self, f: &mut fmt::Formatter<W>) -> fmt::Result {
+        match self.known {
+            Known::Bool => write!(f, "BOOL"),
+            Known::Int(range) => {
+                let least = range.lo;
+                let greatest = range.hi;
+                if least == greatest {
+                    write!(f, "{least}")
+                } else {
+                    write!(f, "{least}..{greatest}")
+                }
+            }
+        }
+    }
+}

@@ -1,0 +1,139 @@
+//! Words as they are written.
+
+use crate::spelling::{block_name, function_text, jump_text, operator_text, port_name, slot_name};
+use ilcode::{Code, Target, Word, WordOperand};
+use ilplan::Plan;
+use std::fmt;
+
+/// A word of a task's code, as it could stand in a text; a jump leads to the number of a word.
+#[derive(Clone, Copy)]
+pub struct WordText<'a> {
+    pub plan: &'a Plan,
+    pub code: &'a Code,
+    pub task: usize,
+    pub word: Word,
+}
+
+impl WordText<'_> {
+    /// What an operand is.
+    fn operand(&self, operand: WordOperand) -> OperandText<'_> {
+        OperandText {
+            plan: self.plan,
+            code: self.code,
+            task: self.task,
+            operand,
+        }
+    }
+
+    /// What a store writes.
+    fn target(&self, target: Target) -> OperandText<'_> {
+        self.operand(match target {
+            Target::Slot(slot) => WordOperand::Slot(slot),
+            Target::Port { port, block } => WordOperand::Port { port, block },
+        })
+    }
+
+    /// Writes a jump.
+    fn write_jump<W: fmt::Write>(
+        &self,
+        f: &mut fmt::Formatter<W>,
+        name: &str,
+        target: usize,
+    ) -> fmt::Result {
+        if target >= self.code.instructions().len() || self.code.starts().contains(&target) {
+            write!(f, "{name}")
+        } else {
+            write!(f, "{name} {target}")
+        }
+    }
+
+    /// Writes a call.
+    fn write_call<W: fmt::Write>(&self, f: &mut fmt::Formatter<W>, block: usize) -> fmt::Result {
+        match block_name(self.plan, self.task, block) {
+            Some(name) => write!(f, "CAL {name}"),
+            None => write!(f, "CAL ?"),
+        }
+    }
+}
+
+impl fmt::Display for WordText<'_> {
+    fn fmt<W: fmt::Write>(&self, f: &mut fmt::Formatter<W>) -> fmt::Result {
+        match self.word {
+            Word::Load { negated, operand } => {
+                let name = if negated { "LDN" } else { "LD" };
+                write!(f, "{name} {}", self.operand(operand))
+            }
+            Word::Apply(applied, operand) => {
+                write!(f, "{} {}", operator_text(applied), self.operand(operand))
+            }
+            Word::Transform(applied) => write!(f, "{}", function_text(applied)),
+            Word::Store { negated, variable } => {
+                let name = if negated { "STN" } else { "ST" };
+                write!(f, "{name} {}", self.target(variable))
+            }
+            Word::Set(variable) => write!(f, "S {}", self.target(variable)),
+            Word::Reset(variable) => write!(f, "R {}", self.target(variable)),
+            Word::Pass {
+                port,
+                block,
+                operand,
+            } => {
+                let to = self.target(Target::Port { port, block });
+                write!(f, "{to} := {}", self.operand(operand))
+            }
+            Word::Call(block) => self.write_call(f, usize::from(block)),
+            Word::Open(opened) => write!(f, "{}(", operator_text(opened)),
+            Word::Close => write!(f, ")"),
+            Word::Jump { condition, target } => {
+                let name = jump_text(self.code, condition, target as usize);
+                self.write_jump(f, name, target as usize)
+            }
+        }
+    }
+}
+
+/// What a word names.
+#[derive(Clone, Copy)]
+struct OperandText<'a> {
+    plan: &'a Plan,
+    code: &'a Code,
+    task: usize,
+    operand: WordOperand,
+}
+
+impl OperandText<'_> {
+    /// Writes a port.
+    fn write_port<W: fmt::Write>(
+        &self,
+        f: &mut fmt::Formatter<W>,
+        block: usize,
+        port: usize,
+    ) -> fmt::Result {
+        let name = block_name(self.plan, self.task, block);
+        let port = port_name(self.plan, self.task, block, port);
+        match (name, port) {
+            (Some(name), Some(port)) => write!(f, "{name}.{port}"),
+            _ => write!(f, "?"),
+        }
+    }
+}
+
+impl fmt::Display for OperandText<'_> {
+    fn fmt<W: fmt::Write>(&self, f: &mut fmt::Formatter<W>) -> fmt::Result {
+        match self.operand {
+            WordOperand::Slot(slot) => match slot_name(self.plan, self.task, usize::from(slot)) {
+                Some(name) => write!(f, "{name}"),
+                None => write!(f, "?"),
+            },
+            WordOperand::Constant(number) => {
+                match self.code.constants().get(usize::from(number)) {
+                    Some(value) => write!(f, "{value}"),
+                    None => write!(f, "?"),
+                }
+            }
+            WordOperand::Port { port, block } => {
+                self.write_port(f, usize::from(block), usize::from(port))
+            }
+        }
+    }
+}
