@@ -1,2 +1,1 @@
-mod Found
 mod Parsed

@@ -1,9 +1,9 @@
 //! The words of the command line, read with `clap`.
 //!
 //! What crosses the boundary: [`read`] takes the words that follow the program's name, and gives
-//! the [`Invocation`] that they spell: an [`Inquiry`] or a [`Question`] of a text, or files that are
-//! played, run or looked at. The definition to read first is `IsInvocation`
-//! (specs/CommandLine.antt).
+//! the [`Invocation`] that they spell, whose types and meaning are those of `invocations`: an
+//! [`Inquiry`] or a [`Question`] of a text, or files that are played, run or looked at. The
+//! definitions to read first are `command_line` and `IsInvocation` (specs/CommandLine.antt).
 //!
 //! ```text
 //! match commandline::read(alloc, words)? {
@@ -15,5 +15,5 @@
 mod options;
 mod questions;
 
-pub use options::{Files, Inquiry, Invocation, PlayFiles, RunSize, read};
-pub use questions::Question;
+pub use invocations::{Files, Inquiry, Invocation, PlayFiles, Question, RunSize};
+pub use options::read;

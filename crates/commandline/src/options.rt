@@ -1,107 +1,18 @@
 //! The command line, read with `clap`.
 
 ghost use Rattle.std.specs.Prelude.{◌≡◌, IfOk, codes, false, map, string_bytes};
-ghost use Rattle.clap.specs.Words.{FailsBy, app_of, fault_of, first_of, found_of, one_of, rows_of};
-ghost use Rattle.clap.specs.Words.{rule_of, shape_of};
+ghost use Rattle.clap.specs.Words.{FailsBy, app_of, fault_of, rule_of};
 ghost use Rattle.clap.specs.declared.builder.command.Command.TheViews.{out-Command};
-ghost use Rattle.commandline.specs.CommandLine.{AreFiles, AreLookFiles, ArePlayFiles, IsFlag};
-ghost use Rattle.commandline.specs.CommandLine.{IsInvocation, IsNumber, IsOfCommand, IsOfInquiry};
-ghost use Rattle.commandline.specs.CommandLine.{IsRunSize, check_command, command_line, flag};
-ghost use Rattle.commandline.specs.CommandLine.{given, inquiry_line, look_command, look_files};
+ghost use Rattle.commandline.specs.CommandLine.{IsInvocation, check_command, command_line, flag};
+ghost use Rattle.commandline.specs.CommandLine.{inquiry_line, look_command, look_files, look_line};
 ghost use Rattle.commandline.specs.CommandLine.{number_option, option, play_command, played_line};
-ghost use Rattle.commandline.specs.CommandLine.{run_command, run_line};
-ghost use Rattle.commandline.specs.CommandLine.{scenario_files, step_command, step_files, wanted};
-ghost use Rattle.commandline.specs.CommandLine.{look_line, wanted_option};
+ghost use Rattle.commandline.specs.CommandLine.{run_command, run_line, scenario_files};
+ghost use Rattle.commandline.specs.CommandLine.{step_command, step_files, wanted, wanted_option};
 
-use crate::questions::{Question, explain, listing, question_of};
-use clap::{Arg, ArgAction, ArgMatches, Command, Error};
+use crate::questions::{explain, listing};
+use clap::{Arg, ArgAction, Command, Error};
+use invocations::{Invocation, invocation_of};
 use std::alloc::{AllocError, Global};
-
-/// What the user asks for.
-#[derive(Clone, Copy, PartialEq, Eq)]
-pub enum Invocation<'a> {
-    /// An answer to a text.
-    Ask(Inquiry<'a>),
-    /// `play TEXT BIND SCENARIO [--limit N]`
-    Play {
-        files: PlayFiles<'a>,
-        limit: u32,
-    },
-    /// `run TEXT BIND SCENARIO [--limit N] [--workers W]`
-    Run {
-        files: PlayFiles<'a>,
-        size: RunSize,
-    },
-    /// `look FILE SCENARIO --bind FILE [--text]`
-    Look {
-        files: PlayFiles<'a>,
-        is_text: bool,
-    },
-    /// A question about a text.
-    Tell {
-        files: Files<'a>,
-        question: Question<'a>,
-    },
-}
-
-/// How large a run may become.
-#[derive(Clone, Copy, PartialEq, Eq)]
-pub struct RunSize {
-    /// The most events of its history.
-    pub limit: u32,
-    /// How many scan workers it has.
-    pub workers: u32,
-}
-
-/// What the user asks of a text.
-#[derive(Clone, Copy, PartialEq, Eq)]
-pub enum Inquiry<'a> {
-    /// `check FILE [--bind FILE]`
-    Check {
-        files: Files<'a>,
-    },
-    /// `step FILE TASK [--bind FILE] [--scans N] [--every MS]`
-    Step {
-        files: Files<'a>,
-        task: &'a str,
-        scans: u32,
-        every: u32,
-    },
-}
-
-impl<'a> Inquiry<'a> {
-    ghost use Rattle.std.specs.Prelude.{◌≡◌};
-    ghost use Rattle.commandline.specs.Inquiries.{files_of};
-
-    /// The files that the command reads.
-    pub fn files(self) -> Files<'a>
-        ensures { result ≡ files_of self.entry }
-    {
-        match self {
-            Inquiry::Check { files } | Inquiry::Step { files, .. } => files,
-        }
-    }
-}
-
-/// The files that a command reads.
-#[derive(Clone, Copy, PartialEq, Eq)]
-pub struct Files<'a> {
-    /// The path of the text.
-    pub text: &'a str,
-    /// The path of the binding; without it there is one bus.
-    pub binding: Option<&'a str>,
-}
-
-/// The files that a scenario is played or run from.
-#[derive(Clone, Copy, PartialEq, Eq)]
-pub struct PlayFiles<'a> {
-    /// The path of the text.
-    pub text: &'a str,
-    /// The path of the binding.
-    pub binding: &'a str,
-    /// The path of the scenario.
-    pub scenario: &'a str,
-}
 
 /// The invocation that the words spell, of which the first is the program's name.
 ///
@@ -120,122 +31,6 @@ pub fn read<'a>(alloc: Global, words: &'a [String]) -> Result<Invocation<'a>, Er
     match matches.remove_subcommand() {
         Some((name, found)) => Ok(invocation_of(name, &found)),
         None => unreachable!(),
-    }
-}
-
-/// The invocation of what was found under a command's name.
-fn invocation_of<'a>(name: &str, found: &ArgMatches<'a>) -> Invocation<'a>
-    ensures { IsOfCommand name.now (rows_of (found_of found.now)) result }
-{
-    if name == "play" {
-        return Invocation::Play {
-            files: play_files_in(found),
-            limit: number_in(found, "limit", 100_000),
-        };
-    }
-    if name == "run" {
-        return Invocation::Run {
-            files: play_files_in(found),
-            size: run_size_in(found),
-        };
-    }
-    if name == "look" {
-        return Invocation::Look {
-            files: look_files_in(found),
-            is_text: flag_in(found, "text"),
-        };
-    }
-    match question_of(name, found) {
-        Some(question) => Invocation::Tell {
-            files: files_in(found),
-            question,
-        },
-        None => Invocation::Ask(inquiry_of(name, found)),
-    }
-}
-
-/// What is asked of a text, by what was found under the name of another command.
-fn inquiry_of<'a>(name: &str, found: &ArgMatches<'a>) -> Inquiry<'a>
-    ensures { IsOfInquiry name.now (rows_of (found_of found.now)) result }
-{
-    let files = files_in(found);
-    if name == "check" {
-        return Inquiry::Check { files };
-    }
-    Inquiry::Step {
-        files,
-        task: text_in(found, "TASK"),
-        scans: number_in(found, "scans", 1),
-        every: number_in(found, "every", 100),
-    }
-}
-
-/// The files that are named.
-fn files_in<'a>(found: &ArgMatches<'a>) -> Files<'a>
-    ensures { AreFiles (rows_of (found_of found.now)) result }
-{
-    Files {
-        text: text_in(found, "FILE"),
-        binding: found.get_str("bind"),
-    }
-}
-
-/// The files that are named for a scenario that is played or run.
-fn play_files_in<'a>(found: &ArgMatches<'a>) -> PlayFiles<'a>
-    ensures { ArePlayFiles (rows_of (found_of found.now)) result }
-{
-    PlayFiles {
-        text: text_in(found, "TEXT"),
-        binding: text_in(found, "BIND"),
-        scenario: text_in(found, "SCENARIO"),
-    }
-}
-
-/// The files that are named for a scenario that is looked at.
-fn look_files_in<'a>(found: &ArgMatches<'a>) -> PlayFiles<'a>
-    ensures { AreLookFiles (rows_of (found_of found.now)) result }
-{
-    PlayFiles {
-        text: text_in(found, "FILE"),
-        binding: text_in(found, "bind"),
-        scenario: text_in(found, "SCENARIO"),
-    }
-}
-
-/// Whether a flag was given.
-fn flag_in(found: &ArgMatches, id: &str) -> bool
-    ensures { IsFlag (one_of id.now (rows_of (found_of found.now))) result }
-{
-    found.get_flag(id)
-}
-
-/// How large a run may become: the numbers that were given, or without one its default.
-fn run_size_in(found: &ArgMatches) -> RunSize
-    ensures { IsRunSize (rows_of (found_of found.now)) result }
-{
-    RunSize {
-        limit: number_in(found, "limit", 100_000),
-        workers: number_in(found, "workers", 2),
-    }
-}
-
-/// The text that was given, or none.
-fn text_in<'a>(found: &ArgMatches<'a>, id: &str) -> &'a str
-    ensures { result.now ≡ given (first_of id.now (rows_of (found_of found.now))) }
-{
-    match found.get_str(id) {
-        Some(text) => text,
-        None => "",
-    }
-}
-
-/// The number that was given, or without one the default.
-fn number_in(found: &ArgMatches, id: &str, default: u32) -> u32
-    ensures { IsNumber default (one_of id.now (rows_of (found_of found.now))) result }
-{
-    match found.get_one::<u32>(id) {
-        Some(number) => number,
-        None => default,
     }
 }
 

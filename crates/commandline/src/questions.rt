@@ -1,56 +1,14 @@
 //! The commands that installers ask of a text: `notes`, `list` and `explain`.
 
-ghost use Rattle.std.specs.Prelude.{◌≡◌, IfOk, MatchOption, codes, false, option_map};
-ghost use Rattle.clap.specs.Words.{app_of, first_of, found_of, rows_of, rule_of};
+ghost use Rattle.std.specs.Prelude.{◌≡◌, IfOk, codes, false};
+ghost use Rattle.clap.specs.Words.{app_of, rule_of};
 ghost use Rattle.clap.specs.declared.builder.command.Command.TheViews.{out-Command};
-ghost use Rattle.commandline.specs.CommandLine.{IsNoQuestion, IsQuestion, explain_command};
-ghost use Rattle.commandline.specs.CommandLine.{list_command, list_line, note_line, notes_command};
-ghost use Rattle.commandline.specs.CommandLine.{optional};
+ghost use Rattle.commandline.specs.CommandLine.{explain_command, list_command, list_line};
+ghost use Rattle.commandline.specs.CommandLine.{note_line, notes_command, optional};
 
 use crate::options::{binding, looking, text};
-use clap::{Arg, ArgAction, ArgMatches, Command};
+use clap::{Arg, ArgAction, Command};
 use std::alloc::{AllocError, Global};
-
-/// What an installer asks of a text.
-#[derive(Clone, Copy, PartialEq, Eq)]
-pub enum Question<'a> {
-    /// `notes FILE [--bind FILE]`: what is likely not meant.
-    Notes,
-    /// `list FILE [TASK] [--bind FILE]`: the words of the task of this name, or of all.
-    Words { task: Option<&'a str> },
-    /// `explain FILE [SCENARIO] [--bind FILE]`: what stands against it, or else against the
-    /// scenario of this path.
-    Faults { scenario: Option<&'a str> },
-}
-
-/// The question of what was found under a command's name, where it is the name of one.
-pub(crate) fn question_of<'a>(name: &str, found: &ArgMatches<'a>) -> Option<Question<'a>>
-    ensures { MatchOption result (IsNoQuestion name.now)
-        (IsQuestion name.now (rows_of (found_of found.now))) }
-{
-    if name == "notes" {
-        return Some(Question::Notes);
-    }
-    if name == "list" {
-        return Some(Question::Words {
-            task: word_in(found, "TASK"),
-        });
-    }
-    if name == "explain" {
-        return Some(Question::Faults {
-            scenario: word_in(found, "SCENARIO"),
-        });
-    }
-    None
-}
-
-/// The word that was given, where one was.
-fn word_in<'a>(found: &ArgMatches<'a>, id: &str) -> Option<&'a str>
-    ensures { option_map (λ word. word.now) result
-        ≡ first_of id.now (rows_of (found_of found.now)) }
-{
-    found.get_str(id)
-}
 
 pub(crate) fn listing<'a>(alloc: Global) -> Result<Command<'a>, AllocError>
     ensures shape { IfOk result (λ c. app_of c ≡ list_line) }

@@ -6,7 +6,7 @@ use Rattle.simbus.specs.Simulated.{Simulated}
 use Rattle.plant.specs.Shown.{plant_of}
 use Rattle.plantrun.specs.Runs.{IsRun}
 use Rattle.workers.specs.declared.closed.Closed.{Closed}
-use Rattle.commandline.specs.declared.options.RunSize.{RunSize}
+use Rattle.invocations.specs.declared.invocations.RunSize.{RunSize}
 use Rattle.commands.specs.Plays.{PlayBytes, HasScenario, IsSetupOf}
 use Rattle.commands.specs.Runs.{IsRunOut}
 use Rattle.commands.proofs.PlaysOut.{ScansAreAsMeant}

@@ -1,4 +1,3 @@
-pub mod ExitStatuses
 pub mod Plays
 pub mod Reports
 pub mod Runs

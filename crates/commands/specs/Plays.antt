@@ -13,17 +13,17 @@ use Rattle.plantplay.specs.Installations.{IsInstallation, IsStartFault, sim_log}
 use Rattle.plantplay.specs.Playing.{IsAtRest, IsEnding, lines_of}
 use Rattle.plantplay.specs.declared.installation.Installation.{Installation}
 use Rattle.plantplay.specs.declared.playing.Ending.{Ending}
-use Rattle.commands.specs.declared.exit_status.ExitStatus.{ExitStatus}
-use Rattle.commandline.specs.declared.options.PlayFiles.{PlayFiles}
-use Rattle.commands.specs.declared.play_stop.PlayStop.{PlayStop}
-use Rattle.commands.specs.declared.play_stop.PlayStop.TheVariants.{Text, Scenario, Start}
+use Rattle.exits.specs.declared.exit_status.ExitStatus.{ExitStatus}
+use Rattle.invocations.specs.declared.files.PlayFiles.{PlayFiles}
+use Rattle.exits.specs.declared.play_stop.PlayStop.{PlayStop}
+use Rattle.exits.specs.declared.play_stop.PlayStop.TheVariants.{Text, Scenario, Start}
 use Rattle.answers.specs.declared.stop.Stop.{Stop}
 use Rattle.commands.specs.declared.reading.Unread.{Unread}
 use Rattle.commands.specs.declared.serving.Unserved.{Unserved}
 use Rattle.commands.specs.declared.serving.Unserved.TheVariants.{NotRead, NotPrinted}
 use Rattle.answers.specs.Answered.{IsCheckStop, IsStopOrMemory}
 use Rattle.answers.specs.Connected.{IsConnected, IsBindingStop}
-use Rattle.commands.specs.ExitStatuses.{status_of_ending, status_of_play_stop}
+use Rattle.exits.specs.ExitStatuses.{status_of_ending, status_of_play_stop}
 
 -- the bytes of the three files
 pub record PlayBytes : Type 0 where

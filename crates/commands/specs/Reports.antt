@@ -11,10 +11,10 @@ use Rattle.ilplan.specs.Plans.{Planned, instance_name, slot_at, variable_name}
 use Rattle.ilsetup.specs.Loaded.{Loaded}
 use Rattle.answers.specs.declared.answers.Answer.{Answer}
 use Rattle.answers.specs.declared.answers.Answer.TheVariants as answers
-use Rattle.commandline.specs.declared.options.Inquiry.{Inquiry}
-use Rattle.commands.specs.declared.exit_status.ExitStatus.{ExitStatus}
-use Rattle.commands.specs.declared.exit_status.ExitStatus.TheVariants.{Accepted}
-use Rattle.commands.specs.ExitStatuses.{status_of_stop}
+use Rattle.invocations.specs.declared.inquiries.Inquiry.{Inquiry}
+use Rattle.exits.specs.declared.exit_status.ExitStatus.{ExitStatus}
+use Rattle.exits.specs.declared.exit_status.ExitStatus.TheVariants.{Accepted}
+use Rattle.exits.specs.ExitStatuses.{status_of_stop}
 use Rattle.answers.specs.Printed.{printed_task, printed_scan, printed_request, printed_variable}
 use Rattle.answers.specs.Responses.{IsAnswer}
 use Rattle.answers.specs.Stepping.{Run, kind_of}

@@ -7,11 +7,11 @@ use Rattle.plantdrive.specs.Texts.{AreAsMeant}
 use Rattle.plantrun.specs.Downs.{has_down}
 use Rattle.plantrun.specs.Runs.{IsRun}
 use Rattle.workers.specs.declared.closed.Closed.{Closed}
-use Rattle.commands.specs.declared.exit_status.ExitStatus.{ExitStatus}
-use Rattle.commandline.specs.declared.options.PlayFiles.{PlayFiles}
-use Rattle.commandline.specs.declared.options.RunSize.{RunSize}
-use Rattle.commands.specs.declared.play_stop.PlayStop.{PlayStop}
-use Rattle.commands.specs.ExitStatuses.{status_of_play_stop, status_of_run}
+use Rattle.exits.specs.declared.exit_status.ExitStatus.{ExitStatus}
+use Rattle.invocations.specs.declared.files.PlayFiles.{PlayFiles}
+use Rattle.invocations.specs.declared.invocations.RunSize.{RunSize}
+use Rattle.exits.specs.declared.play_stop.PlayStop.{PlayStop}
+use Rattle.exits.specs.ExitStatuses.{status_of_play_stop, status_of_run}
 use Rattle.commands.specs.Plays.{PlayBytes, AreGiven, HasScenario, IsPlayStop, IsSetupOf}
 
 -- The plant of the text's setup under the binding was run. What it leaves: a legal history, in which nothing is open, and

@@ -14,10 +14,8 @@
 //! ```
 #![tactic(auto)]
 
-mod exit_status;
 mod looking;
 mod pages;
-mod play_stop;
 mod playing;
 mod reading;
 mod report;
@@ -26,7 +24,7 @@ mod serving;
 mod shell;
 mod telling;
 
-pub use exit_status::ExitStatus;
+pub use exits::ExitStatus;
 pub use looking::serve_look;
 pub use playing::serve_play;
 pub use reading::{Disk, HostDisk, Unread};

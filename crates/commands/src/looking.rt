@@ -1,11 +1,11 @@
 //! Looking at a scenario: its files are read, it is played, and a picture of that is printed.
 
-use crate::exit_status::ExitStatus;
 use crate::pages::{Pages, read_pages};
 use crate::playing::start;
 use crate::reading::Disk;
 use crate::serving::Unserved;
 use commandline::PlayFiles;
+use exits::ExitStatus;
 use picture::{write_svg, write_text};
 use plantplay::{Installation, play};
 use replay::picture_of;

@@ -3,12 +3,11 @@
 ghost use Rattle.std.specs.Prelude.{IfErr, IfOk};
 ghost use Rattle.commands.specs.Plays.{IsPlayEnd, IsPlayStop, IsPlayed, IsStarted, IsUnplayed};
 
-use crate::exit_status::ExitStatus;
 use crate::pages::{Pages, read_pages, scenario_of, setup_in};
-use crate::play_stop::PlayStop;
 use crate::reading::Disk;
 use crate::serving::Unserved;
 use commandline::PlayFiles;
+use exits::{ExitStatus, PlayStop};
 use plantdrive::scans_are_as_meant;
 use plantplay::{Installation, open, play};
 use simbus::{Scenario, SimBus};

@@ -5,8 +5,8 @@ ghost use Rattle.std.specs.Io.KnownBytes.{Appends};
 ghost use Rattle.commands.specs.Reports.{first_lines, first_texts, requests_of_scan, status_of};
 ghost use Rattle.commands.specs.Reports.{printed_answer, scan_lines, task_line, variable_line};
 
-use crate::exit_status::ExitStatus;
 use answers::{Answer, Stepped, task_line};
+use exits::ExitStatus;
 use gearcmd::RequestLine;
 use ilsetup::Setup;
 use std::alloc::Global;

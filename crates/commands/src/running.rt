@@ -4,12 +4,11 @@ ghost use Rattle.std.specs.Prelude.{IfErr, IfOk};
 ghost use Rattle.commands.specs.Plays.{IsPlayStop, IsUnplayed};
 ghost use Rattle.commands.specs.Runs.{HasRun, IsRunEnd, IsRunOut};
 
-use crate::exit_status::ExitStatus;
 use crate::pages::{Pages, read_pages, scenario_of, setup_in};
-use crate::play_stop::PlayStop;
 use crate::reading::Disk;
 use crate::serving::Unserved;
 use commandline::{PlayFiles, RunSize};
+use exits::{ExitStatus, PlayStop};
 use plantdrive::scans_are_as_meant;
 use plantrun::{has_down, run, write_run};
 use simbus::{ScriptedClock, SimBus};

@@ -4,11 +4,11 @@ ghost use Rattle.std.specs.Prelude.{IfErr, IfOk, IsSomeAnd, option_map};
 ghost use Rattle.std.specs.Option.{option_copied};
 ghost use Rattle.commands.specs.Served.{IsGiven, IsNotRead, IsServed, IsUnserved};
 
-use crate::exit_status::ExitStatus;
 use crate::reading::{Disk, Unread};
 use crate::report;
 use answers::respond;
 use commandline::Inquiry;
+use exits::ExitStatus;
 use std::alloc::Global;
 use std::io;
 use std::io::Write;

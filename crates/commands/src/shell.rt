@@ -1,6 +1,5 @@
 //! The program over a runtime: its words, its files, its terminal and its threads.
 
-use crate::exit_status::ExitStatus;
 use crate::looking::serve_look;
 use crate::playing::serve_play;
 use crate::reading::{HostDisk, Unread};
@@ -8,6 +7,7 @@ use crate::running::serve_run;
 use crate::serving::{Unserved, serve};
 use crate::telling::serve_question;
 use commandline::Invocation;
+use exits::ExitStatus;
 use std::rt::{Env, Files};
 use std::sync::Wait;
 use std::thread::Threads;

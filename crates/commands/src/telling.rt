@@ -1,11 +1,11 @@
 //! Telling what installers ask of a text: notes on it, its words, and what stands against it.
 
-use crate::exit_status::ExitStatus;
 use crate::reading::Disk;
 use crate::serving::{Unserved, binding_at, bytes_at};
 use answers::{AskedName, Stop, binding_of, check};
 use binding::Binding;
 use commandline::{Files, Question};
+use exits::{ExitStatus, PlayStop};
 use explaining::{explain_binding, explain_load, explain_scenario};
 use ilsetup::Setup;
 use iltext::parse;
@@ -198,7 +198,7 @@ fn explain_played<W: Write>(
         Ok(_) => explain_nothing(alloc, out, sheets, setup),
         Err(fault) => {
             explain_scenario(out, bytes, &fault)?;
-            Ok(crate::play_stop::PlayStop::from(fault).status())
+            Ok(PlayStop::from(fault).status())
         }
     }
 }

@@ -11,12 +11,13 @@ use Rattle.plantevents.specs.declared.event.Event.{Event}
 use Rattle.plantevents.specs.Parts.{Placed, placed, part, role_of, is_same_role}
 use Rattle.plantevents.proofs.Parting.{part_mine, part_other, role_tells}
 use Rattle.plant.specs.Shown.{Shown, grown, reserving, is_reserved}
-use Rattle.plantlock.specs.declared.receipt.NotedPart.{NotedPart}
-use Rattle.plantlock.specs.Receipts.{IsRole, index_of, seat_of, reserved_after}
-use Rattle.plantlock.specs.Tokens.{Held, Says, one_if}
-use Rattle.plantlock.specs.Tied.{IsTied, IsFront, AreCounted, AreTied, HasPlace}
-use Rattle.plantlock.proofs.Roles.{index_below, index_apart, seat_apart}
-use Rattle.plantlock.proofs.Roles.{reserved_mine, reserved_other, reserved_now, reserved_then}
+use Rattle.receipts.specs.declared.receipt.NotedPart.{NotedPart}
+use Rattle.receipts.specs.Receipts.{IsRole, index_of, seat_of, reserved_after}
+use Rattle.receipts.specs.Seats.{AreCounted}
+use Rattle.receipts.specs.Tokens.{Held, Says, one_if}
+use Rattle.receipts.proofs.Roles.{index_below, index_apart, seat_apart}
+use Rattle.plantlock.specs.Tied.{IsTied, IsFront, AreTied, HasPlace}
+use Rattle.plantlock.proofs.Places.{reserved_mine, reserved_other, reserved_now, reserved_then}
 
 pub said_at : (cells : List Named) (n m r : ℕ) (t u : Option (OnceToken NotedPart)) (x y : Bool) (rs : List Placed)
     → n ≡ m → t ≡ u → x ≡ y → Says cells n t r x rs → Says cells m u r y rs
@@ -88,9 +89,9 @@ get_or_any (x ∷ xs) (suc i) d e h = get_or_any xs i d e (omega arith)
 
 -- the same under the role's own name
 pub filed : (cells : List Named) (start p : Shown) (numbers after : ℕ × ℕ → ℕ)
-    (tokens : List (Option (OnceToken NotedPart))) (t : Option (OnceToken NotedPart)) (e : Event) (rs : List Placed) (n : ℕ)
-    (r : Role) → role_of e ≡ r → AreTied cells start p numbers tokens → length p.history ≡ n → IsRole start.plant r
-    → rs ++ part r start.history ≡ part r p.history → Held cells (n + 1) t (placed n e ∷ rs)
+    (tokens : List (Option (OnceToken NotedPart))) (t : Option (OnceToken NotedPart)) (e : Event) (rs : List Placed)
+    (n : ℕ) (r : Role) → role_of e ≡ r → AreTied cells start p numbers tokens → length p.history ≡ n
+    → IsRole start.plant r → rs ++ part r start.history ≡ part r p.history → Held cells (n + 1) t (placed n e ∷ rs)
     → after (seat_of r) ≡ 2 * (n + 1) + one_if (reserved_after e (is_reserved r p))
     → ((k : ℕ × ℕ) → k ≢ seat_of r → after k ≡ numbers k)
     → AreTied cells start (grown p e) after (set tokens (index_of r) t)
@@ -104,8 +105,8 @@ filed cells start p numbers after tokens t e rs n r is tied len =
 
 -- a place is kept back for one role
 pub keeps : (cells : List Named) (start p : Shown) (numbers after : ℕ × ℕ → ℕ)
-    (tokens : List (Option (OnceToken NotedPart))) (r : Role) → AreTied cells start p numbers tokens → IsRole start.plant r
-    → HasPlace r p → after (seat_of r) + one_if (is_reserved r p) ≡ numbers (seat_of r) + 1
+    (tokens : List (Option (OnceToken NotedPart))) (r : Role) → AreTied cells start p numbers tokens
+    → IsRole start.plant r → HasPlace r p → after (seat_of r) + one_if (is_reserved r p) ≡ numbers (seat_of r) + 1
     → ((k : ℕ × ℕ) → k ≢ seat_of r → after k ≡ numbers k)
     → AreTied cells start (reserving r p) after tokens
 keeps cells start p numbers after tokens r tied known has here others = record {

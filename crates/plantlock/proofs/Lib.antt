@@ -1,4 +1,2 @@
-pub mod Eaching
 pub mod Filing
-pub mod Roles
-pub mod Seating
+pub mod Places

@@ -20,8 +20,8 @@ pub record ShowsScan (part : List Placed) (scan : Scan) : Type 0 where
   pub number : scan.number ≡ running.place
   pub snapshot : scan.snapshot ≡ running.snapshot
 
--- A scan under the number of the one that the part shows open began from its snapshot. Whoever makes the scan of what the
--- worker took knows that.
+-- A scan under the number of the one that the part shows open began from its snapshot. Whoever makes the scan of what
+-- the worker took knows that.
 abbrev pub IsOwn : List Placed → Scan → Type 0
 IsOwn part scan =
     (running : OpenScan) → shown_scan part ≡ Some running → scan.number ≡ running.place

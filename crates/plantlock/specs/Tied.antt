@@ -1,5 +1,5 @@
 -- What the lock knows of each role: the Share of the role knows the same.
-use Rattle.std.specs.Prelude.{◌≡◌, ℕ, ◌+◌, ◌<◌, ◌≤◌, ⊤, List, ◌∷◌, ◌++◌, length, Option, None, slice_index_or}
+use Rattle.std.specs.Prelude.{◌≡◌, ℕ, ◌<◌, ◌≤◌, ⊤, List, ◌++◌, length, Option, None, slice_index_or}
 use Rattle.std.specs.Sync.OnceLock.{Named}
 use Rattle.std.specs.declared.sync.OnceToken.{OnceToken}
 use Rattle.plantevents.specs.declared.role.Role.{Role}
@@ -7,13 +7,12 @@ use Rattle.plantevents.specs.declared.role.Role.TheVariants.{Worker, Bus, Clock}
 use Rattle.plantevents.specs.declared.event.Event.{Event}
 use Rattle.plantevents.specs.Parts.{Placed, part}
 use Rattle.plant.specs.Shown.{Shown, is_reserved}
-use Rattle.plantlock.specs.declared.receipt.NotedPart.{NotedPart}
-use Rattle.plantlock.specs.Each.{Each}
-use Rattle.plantlock.specs.Receipts.{IsRole, index_of, seat_of, seat_at}
-use Rattle.plantlock.specs.Tokens.{Says, one_if}
+use Rattle.receipts.specs.declared.receipt.NotedPart.{NotedPart}
+use Rattle.receipts.specs.Receipts.{IsRole, index_of, seat_of}
+use Rattle.receipts.specs.Tokens.{Says}
 
--- the number of a role, and the token of its newest cell, say: its receipts are those of its events since the start, and
--- whether a place is kept back for it
+-- the number of a role, and the token of its newest cell, say: its receipts are those of its events since the start,
+-- and whether a place is kept back for it
 pub record IsTied (cells : List Named) (start p : Shown) (number : ℕ × ℕ → ℕ)
     (tokens : List (Option (OnceToken NotedPart))) (role : Role) : Type 0 where
   pub reach : ℕ
@@ -43,19 +42,3 @@ abbrev pub HasPlace : Role → Shown → Type 0
 HasPlace Clock p = ⊤
 HasPlace (Bus b) p = b < length p.reserved.buses
 HasPlace (Worker w) p = ⊥
-
--- these are the ties of the seats from the n-th to the last, in order, each without an amount
-pub record AreUnused {T : Type 0} (seat : T → ℕ × ℕ) (amount : T → ℕ) (n : ℕ) (ties : List T) : Type 0 where
-  pub count : n + length ties ≡ 81
-  pub each : Each (λ k tie. (seat tie ≡ seat_at k) × (amount tie ≡ 0)) n ties
-
--- the n-th of them is this tie, and these are left
-pub record IsNextTie {T : Type 0} (seat : T → ℕ × ℕ) (amount : T → ℕ) (n : ℕ) (tie : T) (left : List T) : Type 0 where
-  pub seated : seat tie ≡ seat_at n
-  pub unused : amount tie ≡ 0
-  pub rest : AreUnused seat amount (n + 1) left
-
--- before the first event the numbers of the roles below the n-th seat say whether a place is kept back
-abbrev pub AreCounted : Shown → (ℕ × ℕ → ℕ) → ℕ → Type 0
-AreCounted start number n =
-    (role : Role) → IsRole start.plant role → index_of role < n → number (seat_of role) ≡ one_if (is_reserved role start)

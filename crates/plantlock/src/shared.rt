@@ -6,20 +6,18 @@ ghost use Rattle.plantevents.specs.declared.event.Event.TheVariants as event;
 ghost use Rattle.plantevents.specs.declared.role.Role.TheVariants as roles;
 ghost use Rattle.plantevents.specs.Legal.{AreLegal};
 ghost use Rattle.plantevents.specs.Parts.{shown_moment, shown_down};
+ghost use Rattle.receipts.specs.Opened.{AreFreshShares, HaveAllParts};
+ghost use Rattle.receipts.specs.Receipts.{ShareParts, HasPart, HaveParts, IsNoted, IsReserved};
+ghost use Rattle.receipts.specs.Receipts.{IsSame, whole};
+ghost use Rattle.receipts.specs.Seats.{AreUnused};
 ghost use Rattle.plantlock.specs.Answers.{IsOwn, ShowsScan, ShowsTransaction};
-ghost use Rattle.plantlock.specs.Opened.{AreFreshShares, HaveAllParts};
-ghost use Rattle.plantlock.specs.Receipts.{ShareParts, HasPart, HaveParts, IsNoted, IsReserved};
-ghost use Rattle.plantlock.specs.Receipts.{IsSame, whole};
-ghost use Rattle.plantlock.specs.Tied.{AreUnused, IsFront};
+ghost use Rattle.plantlock.specs.Tied.{IsFront};
 
-use crate::basis::Basis;
-use crate::receipt::NotedPart;
-use crate::share::Share;
-use crate::shares::Shares;
 use crate::tied::TiedPlant;
 use daliframe::Frame24;
 use ilmachine::ScanResult;
 use plant::{CallError, CallRefusal, Handed, Order, Plant};
+use receipts::{Basis, NotedPart, Share, Shares};
 use seats::{Seated, Tallies};
 use std::alloc::{AllocError, Global};
 use std::sync::{Mutex, OnceLock, OnceToken, Wait};
@@ -83,9 +81,10 @@ fn meet_all<'a, J: Basis, T: Seated, K: Tallies<T>>(
 }
 
 impl<'a, J: Basis, T: Seated, K: Tallies<T>> Shared<'a, J, T, K> {
-    /// The plant under a lock, and the Share of each role. The cells are as many as the plant's limit
-    /// at least; whoever lends them makes them new, since a call waits without end where its cell was
-    /// written before. The books and the ties are those of all 81 seats, none with an amount.
+    /// The plant under a lock, and the Share of each role. The cells are as many as the plant's
+    /// limit at least; whoever lends them makes them new, since a call waits without end where its
+    /// cell was written before. The books and the ties are those of all 81 seats, none with an
+    /// amount.
     ///
     /// # Errors
     ///

@@ -8,19 +8,18 @@ ghost use Rattle.plantevents.specs.Legal.{AreLegal};
 ghost use Rattle.plantevents.specs.Parts.{part, shown_moment, shown_down};
 ghost use Rattle.plant.specs.Refusals.{GivesFirstOrMemory, tick_cases, may_tick_cases, heard_cases};
 ghost use Rattle.plant.specs.Shown.{grown, reserving, is_reserved};
-ghost use Rattle.plantlock.specs.Receipts.{IsNoted, IsReserved, IsSame, whole};
-ghost use Rattle.plantlock.specs.Tied.{AreCounted, IsFront};
+ghost use Rattle.receipts.specs.Receipts.{IsNoted, IsReserved, IsSame, whole};
+ghost use Rattle.receipts.specs.Seats.{AreCounted};
+ghost use Rattle.plantlock.specs.Tied.{IsFront};
 
 mod scanning;
 mod sending;
 
-use crate::basis::Basis;
-use crate::receipt::NotedPart;
-use crate::share::{MOST_ROOM, Share};
 use crate::ties::Ties;
 use daliframe::Frame24;
 use plant::{CallError, CallRefusal, Plant};
 use plantevents::{Event, what_a_part_shows};
+use receipts::{Basis, MOST_ROOM, NotedPart, Share};
 use seats::{Seated, Tallies};
 use std::marker::{Model, PhantomData};
 use std::sync::{OnceLock, OnceToken, Wait};

@@ -5,14 +5,12 @@ ghost use Rattle.plantevents.specs.Plants.{Plant as Made};
 ghost use Rattle.plantevents.specs.Parts.{part, placed, role_of};
 ghost use Rattle.plantevents.specs.declared.role.Role.{Role as RoleOf};
 ghost use Rattle.plant.specs.Shown.{Shown, grown, reserving, is_reserved};
-ghost use Rattle.plantlock.specs.Receipts.{IsNoted, IsReserved, IsRole, index_of};
-ghost use Rattle.plantlock.specs.Receipts.{needs, whole, reserved_after};
+ghost use Rattle.receipts.specs.Receipts.{IsNoted, IsReserved, IsRole, index_of};
+ghost use Rattle.receipts.specs.Receipts.{needs, whole, reserved_after};
 ghost use Rattle.plantlock.specs.Tied.{AreTied, HasPlace};
 
-use crate::basis::Basis;
-use crate::receipt::NotedPart;
-use crate::share::Share;
 use plantevents::{Event, Role};
+use receipts::{Basis, NotedPart, Share};
 use seats::{Seated, Tallies};
 use std::marker::PhantomData;
 use std::sync::{OnceLock, OnceToken, Wait};
@@ -68,7 +66,8 @@ impl<'a, J: Basis, T: Seated, K: Tallies<T>> Ties<'a, J, T, K> {
         requires room { needs share.old.role (whole share.old) true ≤ share.old.room }
         ensures tied { (p : Shown) (role : RoleOf) → share.old.role ≡ role → HasPlace role p
             → AreTied J.cells J.start p (K.number self.old.numbers) self.old.newest.items
-            → AreTied J.cells J.start (reserving role p) (K.number self.new.numbers) self.new.newest.items }
+            → AreTied J.cells J.start (reserving role p) (K.number self.new.numbers)
+            self.new.newest.items }
         ensures cells { self.new.cells.now ≡ self.old.cells.now }
         ensures reserved { IsReserved share.old share.new }
     {
@@ -93,7 +92,8 @@ impl<'a, J: Basis, T: Seated, K: Tallies<T>> Ties<'a, J, T, K> {
             (reserved_after event share.old.reserved) + 1 ≤ share.old.room }
         ensures tied { (p : Shown) → length p.history ≡ index
             → AreTied J.cells J.start p (K.number self.old.numbers) self.old.newest.items
-            → AreTied J.cells J.start (grown p event) (K.number self.new.numbers) self.new.newest.items }
+            → AreTied J.cells J.start (grown p event) (K.number self.new.numbers)
+            self.new.newest.items }
         ensures cells { self.new.cells.now ≡ self.old.cells.now }
         ensures noted { IsNoted index event share.old share.new }
     {

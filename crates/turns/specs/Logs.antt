@@ -4,7 +4,7 @@ use Rattle.plantevents.specs.declared.role.Role.TheVariants.{Worker, Bus, Clock}
 use Rattle.plantevents.specs.Parts.{shown_moment, shown_scan, shown_hand, shown_sent, shown_heard, shown_downs, shown_given}
 use Rattle.buslink.specs.BusLog.{BusLog, one_more_failure}
 use Rattle.buslink.specs.ClockLog.{ClockLog, IsNotBefore}
-use Rattle.plantlock.specs.Receipts.{ShareParts, whole}
+use Rattle.receipts.specs.Receipts.{ShareParts, whole}
 
 abbrev pub no_frame : BusLog
 no_frame = record { sent = []; heard = []; spare = 0; failures = 0; hears = 0; heard_none = false }

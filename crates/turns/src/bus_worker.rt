@@ -2,7 +2,7 @@
 
 ghost use Rattle.std.specs.Prelude.{◌≡◌, false};
 ghost use Rattle.plantevents.specs.Parts.{shown_down};
-ghost use Rattle.plantlock.specs.Receipts.{whole};
+ghost use Rattle.receipts.specs.Receipts.{whole};
 ghost use Rattle.turns.specs.Logs.{HasFailed, IsServed, log_of};
 
 use crate::gate::Gate;

@@ -11,9 +11,9 @@ use Rattle.plantevents.specs.Parts.{shown_moment}
 use Rattle.buslink.specs.BusLog.{BusLog}
 use Rattle.buslink.specs.ClockLog.{ClockLog}
 use Rattle.plant.specs.Shown.{Shown}
-use Rattle.plantlock.specs.Each.{Each}
-use Rattle.plantlock.specs.Receipts.{ShareParts, IsFresh, seat_at, whole}
-use Rattle.plantlock.specs.Tied.{AreUnused}
+use Rattle.receipts.specs.Each.{Each}
+use Rattle.receipts.specs.Receipts.{ShareParts, IsFresh, seat_at, whole}
+use Rattle.receipts.specs.Seats.{AreUnused}
 use Rattle.seats.specs.Families.{Seating}
 use Rattle.seats.specs.Openings.{fresh}
 use Rattle.turns.specs.Logs.{IsServed, IsTimed, IsWorker, log_of, more_failures, no_frame}

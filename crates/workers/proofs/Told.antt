@@ -11,8 +11,8 @@ use Rattle.plantevents.specs.Histories.{scan, hand, sent_in, heard_in, downs_in,
 use Rattle.plantevents.specs.Parts.{part, shown_scan, shown_hand, shown_sent, shown_heard, shown_downs, shown_given}
 use Rattle.plantevents.specs.Plants.{Plant}
 use Rattle.plant.specs.Shown.{Shown}
-use Rattle.plantlock.specs.Each.{Each}
-use Rattle.plantlock.specs.Receipts.{ShareParts, HasPart, HaveParts, whole}
+use Rattle.receipts.specs.Each.{Each}
+use Rattle.receipts.specs.Receipts.{ShareParts, HasPart, HaveParts, whole}
 use Rattle.workers.specs.Closings.{IsLinked}
 use Rattle.workers.specs.Open.{HasNothingOpen}
 use Rattle.turns.specs.Logs.{IsServed, IsTimed, IsWorker, log_of, more_failures}

@@ -6,7 +6,7 @@ use Rattle.plantevents.specs.declared.event.Event.{Event}
 use Rattle.plantevents.specs.Histories.{sent_in, heard_in, downs_in, given_in}
 use Rattle.plantevents.specs.Legal.{AreLegal}
 use Rattle.plantevents.specs.Plants.{Plant}
-use Rattle.plantlock.specs.Each.{Each}
+use Rattle.receipts.specs.Each.{Each}
 use Rattle.workers.specs.declared.closed.Closed.{Closed}
 use Rattle.workers.specs.Open.{HasNothingOpen}
 use Rattle.turns.specs.Logs.{log_of, more_failures}

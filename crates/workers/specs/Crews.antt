@@ -2,7 +2,7 @@
 use Rattle.std.specs.Prelude.{◌≡◌, ℕ, ◌≤◌, List, [], vec_len, vec_capacity}
 use Rattle.buslink.specs.BusLog.{BusLog}
 use Rattle.buslink.specs.ClockLog.{ClockLog}
-use Rattle.plantlock.specs.Each.{Each}
+use Rattle.receipts.specs.Each.{Each}
 use Rattle.workers.specs.declared.bus_threads.StartedBus.{StartedBus}
 use Rattle.workers.specs.declared.scan_threads.StartedScans.{StartedScans}
 use Rattle.workers.specs.declared.working.Crew.{Crew}

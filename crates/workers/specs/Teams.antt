@@ -2,8 +2,8 @@
 use Rattle.std.specs.Prelude.{◌≡◌, ℕ, List, length}
 use Rattle.buslink.specs.BusLog.{BusLog}
 use Rattle.buslink.specs.ClockLog.{ClockLog}
-use Rattle.plantlock.specs.Each.{Each}
-use Rattle.plantlock.specs.Receipts.{ShareParts}
+use Rattle.receipts.specs.Each.{Each}
+use Rattle.receipts.specs.Receipts.{ShareParts}
 use Rattle.turns.specs.declared.bus_worker.Served.{Served}
 use Rattle.workers.specs.declared.team.Team.{Team}
 use Rattle.turns.specs.Logs.{IsServed, IsTimed, IsWorker, log_of}

@@ -2,7 +2,7 @@
 
 ghost use Rattle.std.specs.Prelude.{◌≡◌, ◌≤◌, [], length, map, vec_len, vec_capacity};
 ghost use Rattle.plantevents.specs.declared.role.Role.TheVariants as roles;
-ghost use Rattle.plantlock.specs.Receipts.{AreFresh};
+ghost use Rattle.receipts.specs.Receipts.{AreFresh};
 ghost use Rattle.workers.specs.Teams.{AreServed};
 
 use buslink::Bus;

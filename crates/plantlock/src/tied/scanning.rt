@@ -6,15 +6,14 @@ ghost use Rattle.plantevents.specs.declared.role.Role.TheVariants as roles;
 ghost use Rattle.plant.specs.Matches.{IsOpenScan};
 ghost use Rattle.plant.specs.Refusals.{GivesFirstOrMemory, take_cases};
 ghost use Rattle.plant.specs.Shown.{grown};
+ghost use Rattle.receipts.specs.Receipts.{IsNoted, IsSame, whole};
 ghost use Rattle.plantlock.specs.Answers.{IsOwn, ShowsScan};
-ghost use Rattle.plantlock.specs.Receipts.{IsNoted, IsSame, whole};
 
 use super::TiedPlant;
-use crate::basis::Basis;
-use crate::share::{MOST_ROOM, Share};
 use ilmachine::ScanResult;
 use plant::{CallError, Order};
 use plantevents::{Event, NotedResult, NotedSnapshot, what_a_part_shows};
+use receipts::{Basis, MOST_ROOM, Share};
 use seats::{Seated, Tallies};
 use std::alloc::Global;
 use std::sync::Wait;

@@ -8,14 +8,13 @@ ghost use Rattle.plantevents.specs.Parts.{shown_down};
 ghost use Rattle.plant.specs.Matches.{IsOpenTransaction};
 ghost use Rattle.plant.specs.Refusals.{GivesFirst, hand_cases, down_cases};
 ghost use Rattle.plant.specs.Shown.{grown};
+ghost use Rattle.receipts.specs.Receipts.{IsNoted, IsSame, whole};
 ghost use Rattle.plantlock.specs.Answers.{IsRefusedBy, ShowsTransaction};
-ghost use Rattle.plantlock.specs.Receipts.{IsNoted, IsSame, whole};
 
 use super::TiedPlant;
-use crate::basis::Basis;
-use crate::share::{MOST_ROOM, Share};
 use plant::{CallError, CallRefusal, Handed, Plant};
 use plantevents::{Event, what_a_part_shows};
+use receipts::{Basis, MOST_ROOM, Share};
 use seats::{Seated, Tallies};
 use std::sync::Wait;
 use transact::{Report, Transaction};

@@ -1,7 +1,7 @@
 use Rattle.std.proofs.Common.{◌∙◌, ap, inr}
 use Rattle.plant.specs.Shown.{Shown}
 use Rattle.plantrun.specs.Downs.{has_down}
-use Rattle.commands.specs.ExitStatuses.{status_of_run}
+use Rattle.exits.specs.ExitStatuses.{status_of_run}
 use Rattle.commands.proofs.running.report.Goals as goal
 
 pub returns-in_ok-write_run-in-Ok : goal.returns-in_ok-write_run-in-Ok

@@ -1,5 +1,5 @@
 use Rattle.std.proofs.Common.{◌≡◌, ℕ, ◌<◌, Some, slice_get}
-use Rattle.plantlock.specs.Receipts.{HasPart, ShareParts}
+use Rattle.receipts.specs.Receipts.{HasPart, ShareParts}
 use Rattle.plantlock.proofs.shared.meet_all.Given as goal
 
 abbrev pub invariant-loop-k : goal.invariant-loop-k

@@ -1,7 +1,7 @@
 use Rattle.std.proofs.Common.{arith, subst, sym, ap}
 use Rattle.plantevents.specs.declared.role.Role.TheVariants.{Worker}
 use Rattle.plant.specs.Shown.{Shown}
-use Rattle.plantlock.specs.Receipts.{IsFresh}
+use Rattle.receipts.specs.Receipts.{IsFresh}
 use Rattle.turns.specs.Logs.{IsTimed, IsWorker}
 use Rattle.workers.proofs.Lists.{each_so}
 use Rattle.workers.proofs.Parting.{all_unused, fresh_timed, fresh_worker}

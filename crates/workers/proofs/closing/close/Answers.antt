@@ -1,7 +1,7 @@
 use Rattle.std.proofs.Common.{◌∙◌, map, subst, sym}
 use Rattle.plantevents.specs.Legal.{AreLegal}
-use Rattle.plantlock.specs.Each.{Each}
-use Rattle.plantlock.specs.Receipts.{HasPart, HaveParts}
+use Rattle.receipts.specs.Each.{Each}
+use Rattle.receipts.specs.Receipts.{HasPart, HaveParts}
 use Rattle.workers.specs.Closings.{IsLinked}
 use Rattle.turns.specs.Logs.{log_of}
 use Rattle.workers.proofs.Told.{all_linked, nothing_open, timed}

@@ -1,6 +1,6 @@
 use Rattle.std.proofs.Common.{◌≡◌, ◌+◌, ◌<◌, ◌∙◌, length, arith, subst, sym}
-use Rattle.plantlock.specs.Each.{Each}
-use Rattle.plantlock.proofs.Eaching.{each_first, each_rest, each_push}
+use Rattle.receipts.specs.Each.{Each}
+use Rattle.receipts.proofs.Eaching.{each_first, each_rest, each_push}
 use Rattle.turns.specs.Logs.{IsServed, log_of}
 use Rattle.workers.specs.Started.{IsStartedBus}
 use Rattle.workers.specs.Teams.{AreServed}

@@ -1,5 +1,5 @@
 use Rattle.std.proofs.Common.{◌≡◌, ◌+◌, ◌<◌, ◌∙◌, length, arith, subst, sym}
-use Rattle.plantlock.proofs.Eaching.{each_first, each_rest, each_push}
+use Rattle.receipts.proofs.Eaching.{each_first, each_rest, each_push}
 use Rattle.workers.specs.Crews.{AreStartedBuses}
 use Rattle.turns.specs.Logs.{IsServed, log_of}
 use Rattle.workers.specs.Started.{IsStartedBus}

@@ -1,8 +1,8 @@
 use Rattle.std.proofs.Common.{◌≡◌, ◌+◌, ◌<◌, ◌∙◌, length, arith, refl, subst, sym, ap}
 use Rattle.plantevents.specs.declared.role.Role.TheVariants.{Bus}
-use Rattle.plantlock.specs.Each.{Each}
-use Rattle.plantlock.specs.Receipts.{IsFresh}
-use Rattle.plantlock.proofs.Eaching.{each_first, each_rest, each_push, each_none}
+use Rattle.receipts.specs.Each.{Each}
+use Rattle.receipts.specs.Receipts.{IsFresh}
+use Rattle.receipts.proofs.Eaching.{each_first, each_rest, each_push, each_none}
 use Rattle.turns.specs.Logs.{IsServed, log_of}
 use Rattle.workers.specs.Teams.{AreServed}
 use Rattle.workers.proofs.Parting.{fresh_served, logs_of_lines}

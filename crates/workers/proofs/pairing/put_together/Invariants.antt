@@ -1,8 +1,8 @@
 use Rattle.std.proofs.Common.{◌≡◌, ◌+◌, length}
 use Rattle.std.specs.Prelude.{vec_len, vec_capacity}
 use Rattle.plantevents.specs.declared.role.Role.TheVariants.{Bus}
-use Rattle.plantlock.specs.Each.{Each}
-use Rattle.plantlock.specs.Receipts.{IsFresh}
+use Rattle.receipts.specs.Each.{Each}
+use Rattle.receipts.specs.Receipts.{IsFresh}
 use Rattle.turns.specs.Logs.{log_of}
 use Rattle.workers.specs.Teams.{AreServed}
 use Rattle.workers.proofs.pairing.put_together.Given as goal

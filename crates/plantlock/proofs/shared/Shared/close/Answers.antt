@@ -1,6 +1,6 @@
 use Rattle.std.proofs.Common.{◌≡◌, ◌∙◌, sym, subst}
 use Rattle.plant.specs.Shown.{Shown}
-use Rattle.plantlock.specs.Receipts.{HasPart, HaveParts, ShareParts}
+use Rattle.receipts.specs.Receipts.{HasPart, HaveParts, ShareParts}
 use Rattle.plantlock.proofs.shared.Shared.close.Goals as goal
 
 pub returns-clause-parts : goal.returns-clause-parts

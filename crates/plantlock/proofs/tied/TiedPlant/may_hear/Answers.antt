@@ -3,7 +3,7 @@ use Rattle.plantevents.specs.Plants.{Plant}
 use Rattle.plantevents.specs.declared.role.Role.{Role}
 use Rattle.plantevents.specs.declared.role.Role.TheVariants.{Bus, Clock}
 use Rattle.plant.specs.Shown.{Shown}
-use Rattle.plantlock.specs.Receipts.{ShareParts, IsRole}
+use Rattle.receipts.specs.Receipts.{ShareParts, IsRole}
 use Rattle.plantlock.specs.Tied.{AreTied, HasPlace}
 use Rattle.plantlock.proofs.tied.TiedPlant.may_hear.Goals as goal
 

@@ -7,8 +7,10 @@ use Rattle.plantlock.proofs.tied.TiedPlant.new.Goals as goal
 pub invariant_of-result : goal.invariant_of-result
 invariant_of-result g c = (
   c.requires.cells,
-  subst (λ (p : Shown). AreTied g.J.Basis.cells g.J.Basis.start p (g.K.Tallies.number c.args.numbers) c.args.newest.items)
+  subst
+      (λ (p : Shown).
+      AreTied g.J.Basis.cells g.J.Basis.start p (g.K.Tallies.number c.args.numbers) c.args.newest.items)
       (sym c.requires.start)
-      (starts g.J.Basis.cells g.J.Basis.start (g.K.Tallies.number c.args.numbers) c.args.newest.items c.requires.enough c.requires.newest.0
-      c.requires.newest.1 c.requires.numbers),
+      (starts g.J.Basis.cells g.J.Basis.start (g.K.Tallies.number c.args.numbers) c.args.newest.items
+      c.requires.enough c.requires.newest.0 c.requires.newest.1 c.requires.numbers),
 )

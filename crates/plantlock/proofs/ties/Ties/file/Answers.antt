@@ -4,9 +4,9 @@ use Rattle.std.specs.declared.sync.OnceToken.{OnceToken}
 use Rattle.plantevents.specs.declared.role.Role.{Role}
 use Rattle.plantevents.specs.Parts.{Placed, placed, part}
 use Rattle.plant.specs.Shown.{grown, is_reserved}
-use Rattle.plantlock.specs.declared.receipt.NotedPart.{NotedPart}
-use Rattle.plantlock.specs.Receipts.{IsRole, ShareParts, index_of, seat_of, reserved_after}
-use Rattle.plantlock.specs.Tokens.{Held, Says, one_if}
+use Rattle.receipts.specs.declared.receipt.NotedPart.{NotedPart}
+use Rattle.receipts.specs.Receipts.{IsRole, ShareParts, index_of, seat_of, reserved_after}
+use Rattle.receipts.specs.Tokens.{Held, Says, one_if}
 use Rattle.plantlock.specs.Tied.{AreTied}
 use Rattle.plantlock.proofs.Filing.{filed, said_at, get_or_any}
 use Rattle.plantlock.proofs.ties.Ties.file.Goals as goal
@@ -39,14 +39,18 @@ returns-clause-tied g c p len tied =
     let held : Held cells (n + 1) c.note-token.result (placed n e ∷ s.receipts) =
     subst (λ (rs : List Placed). Held cells (n + 1) c.note-token.result rs)
     (f.noted.receipts ∙ ap (λ (k : ShareParts). placed n e ∷ k.receipts) same.1) f.held in
-    let mine : (g.K.Tallies.number c.note-token.new.numbers) (seat_of r) ≡ 2 * (n + 1) + one_if (reserved_after e (is_reserved r p)) =
+    let mine : (g.K.Tallies.number c.note-token.new.numbers) (seat_of r)
+    ≡ 2 * (n + 1) + one_if (reserved_after e (is_reserved r p)) =
     ap (λ (k : ShareParts). (g.K.Tallies.number c.note-token.new.numbers) (seat_of k.role)) (sym same.1) ∙ f.mine
     ∙ ap (λ (k : ShareParts). 2 * (n + 1) + one_if (reserved_after e k.reserved)) same.1
     ∙ ap (λ b. 2 * (n + 1) + one_if (reserved_after e b)) agree.1 in
     let others : (k : ℕ × ℕ) → k ≢ seat_of r → (g.K.Tallies.number c.note-token.new.numbers) k ≡ numbers k =
     λ k apart. f.others k (λ is. apart (is ∙ ap (λ (x : ShareParts). seat_of x.role) same.1))
     ∙ ap (λ books. g.K.Tallies.number books k) same.0 in
-    let all = filed cells start p numbers (g.K.Tallies.number c.note-token.new.numbers) tokens c.note-token.result e s.receipts n r
-    c.requires.role tied len known
+    let all = filed cells start p numbers (g.K.Tallies.number c.note-token.new.numbers) tokens c.note-token.result e
+    s.receipts n r c.requires.role tied len known
     (ap (λ (rs : List Placed). rs ++ part r start.history) agree.0 ∙ was.since) held mine others in
-    subst (λ (k : ℕ). AreTied cells start (grown p e) (g.K.Tallies.number c.note-token.new.numbers) (set tokens k c.note-token.result)) (sym slot) all
+    subst
+    (λ (k : ℕ).
+    AreTied cells start (grown p e) (g.K.Tallies.number c.note-token.new.numbers) (set tokens k c.note-token.result))
+    (sym slot) all

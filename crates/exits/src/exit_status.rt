@@ -1,0 +1,78 @@
+//! How the program ends.
+
+use answers::Stop;
+use clap::error::ErrorKind;
+use plantplay::Ending;
+use workers::Ended;
+
+/// How a call of the program ends.
+#[derive(Clone, Copy, PartialEq, Eq, Debug)]
+pub enum ExitStatus {
+    /// What was asked for was done.
+    Accepted,
+    /// A file, a task's name or a code is refused.
+    Refused,
+    /// The words aren't a command line.
+    Misused,
+    /// A device failed, or the allocator is out of memory.
+    Failed,
+}
+
+impl ExitStatus {
+    ghost use Rattle.std.specs.Prelude.{◌≡◌};
+    ghost use Rattle.exits.specs.ExitStatuses.{number_of_status, status_of_ending};
+    ghost use Rattle.exits.specs.ExitStatuses.{status_of_run, status_of_stop, status_of_words};
+
+    /// The number that the program exits with.
+    pub fn number(self) -> u8
+        ensures { result ≡ number_of_status self }
+    {
+        match self {
+            ExitStatus::Accepted => 0,
+            ExitStatus::Refused => 1,
+            ExitStatus::Misused => 2,
+            ExitStatus::Failed => 3,
+        }
+    }
+
+    /// Of words that `clap` didn't take, by the kind of its error.
+    pub fn of_words(kind: ErrorKind) -> ExitStatus
+        ensures { result ≡ status_of_words kind }
+    {
+        match kind {
+            ErrorKind::DisplayHelp | ErrorKind::DisplayVersion => ExitStatus::Accepted,
+            ErrorKind::OutOfMemory => ExitStatus::Failed,
+            _ => ExitStatus::Misused,
+        }
+    }
+
+    /// Of how a play ended.
+    pub fn of_ending(ending: Ending) -> ExitStatus
+        ensures { result ≡ status_of_ending ending }
+    {
+        match ending {
+            Ending::Up => ExitStatus::Accepted,
+            Ending::Down | Ending::NoMemory => ExitStatus::Failed,
+        }
+    }
+
+    /// Of why a run ended, and whether a bus went down.
+    pub fn of_run(ended: Ended, is_down: bool) -> ExitStatus
+        ensures { result ≡ status_of_run ended is_down }
+    {
+        match (ended, is_down) {
+            (Ended::Asked, false) => ExitStatus::Accepted,
+            _ => ExitStatus::Failed,
+        }
+    }
+
+    /// Of what stands against a text.
+    pub fn of_stop(stop: &Stop) -> ExitStatus
+        ensures { result ≡ status_of_stop stop.now }
+    {
+        match stop {
+            Stop::Memory => ExitStatus::Failed,
+            _ => ExitStatus::Refused,
+        }
+    }
+}

@@ -1,0 +1,52 @@
+-- What the getters of `clap` give, by the rows of what was found.
+use Rattle.std.proofs.Common.{◌≡◌, ◌∙◌, ap, subst, true, false, codes, ℕ, Bool, List, Option, Some, None, Result}
+use Rattle.std.proofs.Common.{Ok, Err, refl}
+use Rattle.std.specs.Prelude.{option_map, unwrap_or}
+use Rattle.std.specs.Borrow.{Bor}
+use Rattle.std.specs.Str.Parse.{ParsesUnsigned}
+use Rattle.clap.specs.Words.{ReadsOne, Text, first_of, first_value, one_of, one_text, rows_of}
+use Rattle.clap.specs.declared.parser.matches.Found.{Found}
+use Rattle.clap.proofs.WalkLemmas.{first_value-rows, one_text-rows}
+use Rattle.invocations.specs.Invocations.{IsFlag, IsNumber, given}
+
+-- the text of an id
+pub text_found : (f : Found) (id : Text) (text : Option (Bor Text)) → option_map (λ s. s.now) text ≡ first_value f id
+    → option_map (λ s. s.now) text ≡ first_of id (rows_of f)
+text_found f id text is = is ∙ first_value-rows f id
+
+pub text_given : (f : Found) (id : Text) (text : Option (Bor Text)) → option_map (λ s. s.now) text ≡ first_value f id
+    → given (option_map (λ s. s.now) text) ≡ given (first_of id (rows_of f))
+text_given f id text is = ap given (text_found f id text is)
+
+-- whether the flag of an id was given
+pub flag_given : (f : Found) (id : Text) (is : Bool) → (one_text f id ≡ None → is ≡ false)
+    → (one_text f id ≡ Some (codes "true") → is ≡ true) → (one_text f id ≡ Some (codes "false") → is ≡ false)
+    → IsFlag (one_of id (rows_of f)) is
+flag_given f id is none on off =
+    subst (λ (text : Option Text). IsFlag text is) (one_text-rows f id) (go (one_text f id) refl)
+  where
+    go : (text : Option Text) → one_text f id ≡ text → IsFlag text is
+    go None found = none found
+    go (Some text) found =
+        (λ same. on (found ∙ ap (λ (t : Text). Some t) same), λ same. off (found ∙ ap (λ (t : Text). Some t) same))
+
+module _ {E : Type 0} (Gives : List ℕ → Result ℕ E → Type 0)
+    (parses : (text : List ℕ) (read : Result ℕ E) → Gives text read → ParsesUnsigned 32 10 text read)
+    (default : ℕ) where
+  -- the number that was read of a text
+  number_read : (text : Text) (read : Option ℕ) → ReadsOne Gives text read
+      → IsNumber default (Some text) (unwrap_or read default)
+  number_read text (Some n) reads = λ numeral small. (parses text (Ok n) reads).1
+  number_read text None reads = λ numeral small. absurd (parses text (Err reads.0) reads.1 (numeral, small))
+
+  -- the number of an id
+  pub number_given : (f : Found) (id : Text) (read : Option ℕ) → (one_text f id ≡ None → read ≡ None)
+      → ((text : Text) → one_text f id ≡ Some text → ReadsOne Gives text read)
+      → IsNumber default (one_of id (rows_of f)) (unwrap_or read default)
+  number_given f id read none value =
+      subst (λ (text : Option Text). IsNumber default text (unwrap_or read default)) (one_text-rows f id)
+      (go (one_text f id) refl)
+    where
+      go : (text : Option Text) → one_text f id ≡ text → IsNumber default text (unwrap_or read default)
+      go None is = ap (λ (o : Option ℕ). unwrap_or o default) (none is)
+      go (Some text) is = number_read text read (value text is)

@@ -1,0 +1,9 @@
+-- The files that an inquiry reads.
+use Rattle.invocations.specs.declared.files.Files.{Files}
+use Rattle.invocations.specs.declared.inquiries.Inquiry.{Inquiry}
+use Rattle.invocations.specs.declared.inquiries.Inquiry.TheVariants.{Check, Step}
+
+-- those that the command line names, whatever the command
+abbrev pub files_of : Inquiry → Files
+files_of (Check files) = files
+files_of (Step files task scans every) = files

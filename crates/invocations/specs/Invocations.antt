@@ -1,0 +1,94 @@
+-- What the user asks for, by the name of a command and by what was found under it (profile).
+use Rattle.std.specs.Prelude.{◌≡◌, ℕ, ◌^◌, ◌<◌, List, [], Bool, Option, Some, None, true, false, codes}
+use Rattle.std.specs.Prelude.{option_map, unwrap_or}
+use Rattle.std.specs.Borrow.{Bor}
+use Rattle.std.specs.Str.Parse.{IsNumeral, digits_value, without_leading_plus}
+use Rattle.clap.specs.Words.{Row, Text, first_of, one_of}
+use Rattle.invocations.specs.declared.files.Files.{Files}
+use Rattle.invocations.specs.declared.files.PlayFiles.{PlayFiles}
+use Rattle.invocations.specs.declared.inquiries.Inquiry.{Inquiry}
+use Rattle.invocations.specs.declared.inquiries.Inquiry.TheVariants.{Check, Step}
+use Rattle.invocations.specs.declared.invocations.Invocation.{Invocation}
+use Rattle.invocations.specs.declared.invocations.Invocation.TheVariants.{Ask, Look, Play, Run, Tell}
+use Rattle.invocations.specs.declared.invocations.RunSize.{RunSize}
+use Rattle.invocations.specs.declared.questions.Question.{Question}
+use Rattle.invocations.specs.declared.questions.Question.TheVariants.{Faults, Notes, Words}
+
+-- the text that was given, or none
+abbrev pub given : Option Text → Text
+given text = unwrap_or text []
+
+-- digits, or a plus and digits, write the number, where it has at most 32 bits
+abbrev pub IsWritten : List ℕ → ℕ → Type 0
+IsWritten digits number = IsNumeral 10 digits → digits_value 10 digits < 2 ^ 32 → number ≡ digits_value 10 digits
+
+-- the number that was given, or without one the default
+abbrev pub IsNumber : ℕ → Option Text → ℕ → Type 0
+IsNumber default None number = number ≡ default
+IsNumber default (Some text) number = IsWritten (without_leading_plus text) number
+
+-- whether the flag was given; the row of a flag has one of these two texts
+abbrev pub IsFlag : Option Text → Bool → Type 0
+IsFlag None is = is ≡ false
+IsFlag (Some text) is = ((text ≡ codes "true") → is ≡ true) × ((text ≡ codes "false") → is ≡ false)
+
+-- the files that are named
+pub record AreFiles (found : List Row) (files : Files) : Type 0 where
+  pub text : files.text.now ≡ given (first_of (codes "FILE") found)
+  pub binding : option_map (λ path. path.now) files.binding ≡ first_of (codes "bind") found
+
+-- the scans that are asked for: one, and 100 milliseconds from scan to scan, where nothing else is said
+pub record AreScans (found : List Row) (task : Bor Text) (scans every : ℕ) : Type 0 where
+  pub of_task : task.now ≡ given (first_of (codes "TASK") found)
+  pub many : IsNumber 1 (one_of (codes "scans") found) scans
+  pub apart : IsNumber 100 (one_of (codes "every") found) every
+
+-- what was found under a command's name is the inquiry
+abbrev pub IsOfInquiry : Text → List Row → Inquiry → Type 0
+IsOfInquiry name found (Check files) = (name ≡ codes "check") × AreFiles found files
+IsOfInquiry name found (Step files task scans every) =
+    ¬ (name ≡ codes "check") × AreFiles found files × AreScans found task scans every
+
+-- what was found under a command's name is the question
+abbrev pub IsQuestion : Text → List Row → Question → Type 0
+IsQuestion name found Notes = name ≡ codes "notes"
+IsQuestion name found (Words task) =
+    (name ≡ codes "list") × (option_map (λ t. t.now) task ≡ first_of (codes "TASK") found)
+IsQuestion name found (Faults scenario) =
+    (name ≡ codes "explain") × (option_map (λ s. s.now) scenario ≡ first_of (codes "SCENARIO") found)
+
+-- no question is asked under this name
+abbrev pub IsNoQuestion : Text → Type 0
+IsNoQuestion name = ¬ (name ≡ codes "notes") × ¬ (name ≡ codes "list") × ¬ (name ≡ codes "explain")
+
+-- the files that are named for a scenario that is played or run
+pub record ArePlayFiles (found : List Row) (files : PlayFiles) : Type 0 where
+  pub text : files.text.now ≡ given (first_of (codes "TEXT") found)
+  pub binding : files.binding.now ≡ given (first_of (codes "BIND") found)
+  pub scenario : files.scenario.now ≡ given (first_of (codes "SCENARIO") found)
+
+-- the files that are named for a scenario that is looked at
+pub record AreLookFiles (found : List Row) (files : PlayFiles) : Type 0 where
+  pub text : files.text.now ≡ given (first_of (codes "FILE") found)
+  pub binding : files.binding.now ≡ given (first_of (codes "bind") found)
+  pub scenario : files.scenario.now ≡ given (first_of (codes "SCENARIO") found)
+
+-- how large a run may become: 100,000 events at most, and two scan workers, where nothing else is said
+pub record IsRunSize (found : List Row) (size : RunSize) : Type 0 where
+  pub limit : IsNumber 100000 (one_of (codes "limit") found) size.limit
+  pub workers : IsNumber 2 (one_of (codes "workers") found) size.workers
+
+-- what was found under a command's name is the invocation; a played history has 100,000 events at most where nothing
+-- else is said
+abbrev pub IsOfCommand : Text → List Row → Invocation → Type 0
+IsOfCommand name found (Play files limit) =
+    (name ≡ codes "play") × ArePlayFiles found files × IsNumber 100000 (one_of (codes "limit") found) limit
+IsOfCommand name found (Run files size) = (name ≡ codes "run") × ArePlayFiles found files × IsRunSize found size
+IsOfCommand name found (Look files is_text) =
+    (name ≡ codes "look") × AreLookFiles found files × IsFlag (one_of (codes "text") found) is_text
+IsOfCommand name found (Ask inquiry) =
+    ¬ (name ≡ codes "play") × ¬ (name ≡ codes "run") × ¬ (name ≡ codes "look") × IsNoQuestion name
+    × IsOfInquiry name found inquiry
+IsOfCommand name found (Tell files question) =
+    ¬ (name ≡ codes "play") × ¬ (name ≡ codes "run") × ¬ (name ≡ codes "look")
+    × AreFiles found files × IsQuestion name found question

@@ -1,0 +1,2 @@
+pub mod Inquiries
+pub mod Invocations

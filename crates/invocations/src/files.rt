@@ -1,0 +1,21 @@
+//! The files that commands read, by their paths.
+
+/// The files that a command reads.
+#[derive(Clone, Copy, PartialEq, Eq)]
+pub struct Files<'a> {
+    /// The path of the text.
+    pub text: &'a str,
+    /// The path of the binding; without it there is one bus.
+    pub binding: Option<&'a str>,
+}
+
+/// The files that a scenario is played or run from.
+#[derive(Clone, Copy, PartialEq, Eq)]
+pub struct PlayFiles<'a> {
+    /// The path of the text.
+    pub text: &'a str,
+    /// The path of the binding.
+    pub binding: &'a str,
+    /// The path of the scenario.
+    pub scenario: &'a str,
+}

@@ -1,0 +1,33 @@
+//! What the user asks of a text.
+
+use crate::files::Files;
+
+/// What the user asks of a text.
+#[derive(Clone, Copy, PartialEq, Eq)]
+pub enum Inquiry<'a> {
+    /// `check FILE [--bind FILE]`
+    Check {
+        files: Files<'a>,
+    },
+    /// `step FILE TASK [--bind FILE] [--scans N] [--every MS]`
+    Step {
+        files: Files<'a>,
+        task: &'a str,
+        scans: u32,
+        every: u32,
+    },
+}
+
+impl<'a> Inquiry<'a> {
+    ghost use Rattle.std.specs.Prelude.{◌≡◌};
+    ghost use Rattle.invocations.specs.Inquiries.{files_of};
+
+    /// The files that the command reads.
+    pub fn files(self) -> Files<'a>
+        ensures { result ≡ files_of self.entry }
+    {
+        match self {
+            Inquiry::Check { files } | Inquiry::Step { files, .. } => files,
+        }
+    }
+}

@@ -1,0 +1,41 @@
+//! What the user asks for.
+
+use crate::files::{Files, PlayFiles};
+use crate::inquiries::Inquiry;
+use crate::questions::Question;
+
+/// What the user asks for.
+#[derive(Clone, Copy, PartialEq, Eq)]
+pub enum Invocation<'a> {
+    /// An answer to a text.
+    Ask(Inquiry<'a>),
+    /// `play TEXT BIND SCENARIO [--limit N]`
+    Play {
+        files: PlayFiles<'a>,
+        limit: u32,
+    },
+    /// `run TEXT BIND SCENARIO [--limit N] [--workers W]`
+    Run {
+        files: PlayFiles<'a>,
+        size: RunSize,
+    },
+    /// `look FILE SCENARIO --bind FILE [--text]`
+    Look {
+        files: PlayFiles<'a>,
+        is_text: bool,
+    },
+    /// A question about a text.
+    Tell {
+        files: Files<'a>,
+        question: Question<'a>,
+    },
+}
+
+/// How large a run may become.
+#[derive(Clone, Copy, PartialEq, Eq)]
+pub struct RunSize {
+    /// The most events of its history.
+    pub limit: u32,
+    /// How many scan workers it has.
+    pub workers: u32,
+}

@@ -1,0 +1,129 @@
+//! The readers of what `clap` found.
+
+ghost use Rattle.std.specs.Prelude.{◌≡◌};
+ghost use Rattle.clap.specs.Words.{first_of, found_of, one_of, rows_of};
+ghost use Rattle.invocations.specs.Invocations.{AreFiles, AreLookFiles, ArePlayFiles, IsFlag};
+ghost use Rattle.invocations.specs.Invocations.{IsNumber, IsOfCommand, IsOfInquiry, IsRunSize};
+ghost use Rattle.invocations.specs.Invocations.{given};
+
+use crate::files::{Files, PlayFiles};
+use crate::inquiries::Inquiry;
+use crate::invocations::{Invocation, RunSize};
+use crate::questions::question_of;
+use clap::ArgMatches;
+
+/// The invocation of what was found under a command's name.
+pub fn invocation_of<'a>(name: &str, found: &ArgMatches<'a>) -> Invocation<'a>
+    ensures { IsOfCommand name.now (rows_of (found_of found.now)) result }
+{
+    if name == "play" {
+        return Invocation::Play {
+            files: play_files_in(found),
+            limit: number_in(found, "limit", 100_000),
+        };
+    }
+    if name == "run" {
+        return Invocation::Run {
+            files: play_files_in(found),
+            size: run_size_in(found),
+        };
+    }
+    if name == "look" {
+        return Invocation::Look {
+            files: look_files_in(found),
+            is_text: flag_in(found, "text"),
+        };
+    }
+    match question_of(name, found) {
+        Some(question) => Invocation::Tell {
+            files: files_in(found),
+            question,
+        },
+        None => Invocation::Ask(inquiry_of(name, found)),
+    }
+}
+
+/// What is asked of a text, by what was found under the name of another command.
+fn inquiry_of<'a>(name: &str, found: &ArgMatches<'a>) -> Inquiry<'a>
+    ensures { IsOfInquiry name.now (rows_of (found_of found.now)) result }
+{
+    let files = files_in(found);
+    if name == "check" {
+        return Inquiry::Check { files };
+    }
+    Inquiry::Step {
+        files,
+        task: text_in(found, "TASK"),
+        scans: number_in(found, "scans", 1),
+        every: number_in(found, "every", 100),
+    }
+}
+
+/// The files that are named.
+fn files_in<'a>(found: &ArgMatches<'a>) -> Files<'a>
+    ensures { AreFiles (rows_of (found_of found.now)) result }
+{
+    Files {
+        text: text_in(found, "FILE"),
+        binding: found.get_str("bind"),
+    }
+}
+
+/// The files that are named for a scenario that is played or run.
+fn play_files_in<'a>(found: &ArgMatches<'a>) -> PlayFiles<'a>
+    ensures { ArePlayFiles (rows_of (found_of found.now)) result }
+{
+    PlayFiles {
+        text: text_in(found, "TEXT"),
+        binding: text_in(found, "BIND"),
+        scenario: text_in(found, "SCENARIO"),
+    }
+}
+
+/// The files that are named for a scenario that is looked at.
+fn look_files_in<'a>(found: &ArgMatches<'a>) -> PlayFiles<'a>
+    ensures { AreLookFiles (rows_of (found_of found.now)) result }
+{
+    PlayFiles {
+        text: text_in(found, "FILE"),
+        binding: text_in(found, "bind"),
+        scenario: text_in(found, "SCENARIO"),
+    }
+}
+
+/// Whether a flag was given.
+fn flag_in(found: &ArgMatches, id: &str) -> bool
+    ensures { IsFlag (one_of id.now (rows_of (found_of found.now))) result }
+{
+    found.get_flag(id)
+}
+
+/// How large a run may become: the numbers that were given, or without one its default.
+fn run_size_in(found: &ArgMatches) -> RunSize
+    ensures { IsRunSize (rows_of (found_of found.now)) result }
+{
+    RunSize {
+        limit: number_in(found, "limit", 100_000),
+        workers: number_in(found, "workers", 2),
+    }
+}
+
+/// The text that was given, or none.
+fn text_in<'a>(found: &ArgMatches<'a>, id: &str) -> &'a str
+    ensures { result.now ≡ given (first_of id.now (rows_of (found_of found.now))) }
+{
+    match found.get_str(id) {
+        Some(text) => text,
+        None => "",
+    }
+}
+
+/// The number that was given, or without one the default.
+fn number_in(found: &ArgMatches, id: &str, default: u32) -> u32
+    ensures { IsNumber default (one_of id.now (rows_of (found_of found.now))) result }
+{
+    match found.get_one::<u32>(id) {
+        Some(number) => number,
+        None => default,
+    }
+}

@@ -1,8 +1,0 @@
-use Rattle.std.proofs.Common.{ℕ, ◌+◌, ◌<◌}
-use Rattle.plantlock.specs.Tied.{AreUnused}
-use Rattle.plantlock.proofs.shares.skip_ties.Given as goal
-
-abbrev pub invariant-loop-seat : goal.invariant-loop-seat
-invariant-loop-seat g l =
-    (n : ℕ) → n + l.fn.seats < 82 → AreUnused g.T.Seated.seat g.T.Seated.amount n l.fn.ties.items
-    → AreUnused g.T.Seated.seat g.T.Seated.amount (n + l._seat) l.ties.items

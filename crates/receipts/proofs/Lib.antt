@@ -1,0 +1,3 @@
+pub mod Eaching
+pub mod Roles
+pub mod Seating

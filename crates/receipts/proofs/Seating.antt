@@ -1,0 +1,78 @@
+-- The ties of the seats are taken one after another, and the numbers are those of the roles that have a seat.
+use Rattle.std.proofs.Common.{◌≡◌, ◌≢◌, ℕ, ◌+◌, ◌<◌, ◌≤◌, List, [], ◌∷◌, ◌++◌, length, remove}
+use Rattle.std.proofs.Common.{◌∙◌, ⊎_elim, subst, arith}
+use Rattle.std.proofs.lemmas.List.{length-append}
+use Rattle.std.specs.Prelude.{slice_index_or, true, false}
+use Rattle.plantevents.specs.declared.role.Role.{Role}
+use Rattle.plantevents.specs.declared.role.Role.TheVariants.{Worker, Bus, Clock}
+use Rattle.plantevents.specs.Parts.{is_same_role}
+use Rattle.plantevents.proofs.Parting.{role_tells}
+use Rattle.plant.specs.Shown.{Shown, is_reserved}
+use Rattle.receipts.specs.Receipts.{ShareParts, AreFresh, IsFresh, IsRole, index_of, seat_of, seat_at}
+use Rattle.receipts.specs.Seats.{AreCounted, AreUnused, IsNextTie}
+use Rattle.receipts.specs.Tokens.{one_if}
+use Rattle.receipts.proofs.Eaching.{each_first, each_rest, each_push}
+use Rattle.receipts.proofs.Roles.{index_apart, seat_apart}
+
+length_remove : {T : Type 0} (ties : List T) → 0 < length ties → length (remove ties 0) + 1 ≡ length ties
+length_remove [] some = absurd (omega arith)
+length_remove (x ∷ xs) some = omega arith
+
+pub next_unused : {T : Type 0} (seat : T → ℕ × ℕ) (amount : T → ℕ) (n : ℕ) (ties : List T) (tie : T) → n < 81
+    → AreUnused seat amount n ties → tie ≡ slice_index_or ties 0 tie → IsNextTie seat amount n tie (remove ties 0)
+next_unused {T = T} seat amount n ties tie low unused is =
+    let P : ℕ → T → Type 0 = λ k t. (seat t ≡ seat_at k) × (amount t ≡ 0) in
+    let some : 0 < length ties = omega (arith, unused.count) in
+    let first = each_first P n ties tie some unused.each is in
+    record {
+      seated = first.0;
+      unused = first.1;
+      rest = record {
+        count = let e = length_remove ties some in omega (arith, unused.count, e);
+        each = each_rest P n ties unused.each;
+      };
+    }
+
+-- one Share more
+pub fresh_push : (start : Shown) (role : ℕ → Role) (n : ℕ) (shares : List ShareParts) (s : ShareParts)
+    → AreFresh start role n shares → IsFresh start (role n) s → AreFresh start role (n + 1) (shares ++ s ∷ [])
+fresh_push start role n shares s fresh more =
+    let many : length (shares ++ s ∷ []) ≡ n + 1 =
+    let l = length-append shares (s ∷ []) in let e = fresh.0 in omega (arith, l, e) in
+    let last : n ≡ 0 + length shares = let e = fresh.0 in omega (arith, e) in (
+      many,
+      each_push (λ k x. IsFresh start (role k) x) 0 shares s fresh.1
+          (subst (λ m. IsFresh start (role m) s) last more),
+    )
+
+-- ---- numbers
+
+-- the number of one role more
+pub counted_more : (start : Shown) (before after : ℕ × ℕ → ℕ) (role : Role) → IsRole start.plant role
+    → after (seat_of role) ≡ one_if (is_reserved role start)
+    → ((k : ℕ × ℕ) → k ≢ seat_of role → after k ≡ before k) → AreCounted start before (index_of role)
+    → AreCounted start after (index_of role + 1)
+counted_more start before after role known mine others counted other is low =
+    ⊎_elim
+    (λ (same : (is_same_role role other ≡ true) × (role ≡ other)).
+    subst (λ (r : Role). after (seat_of r) ≡ one_if (is_reserved r start)) same.1 mine)
+    (λ (apart : (is_same_role role other ≡ false) × (role ≢ other)).
+    others (seat_of other) (seat_apart start.plant role other known is apart.1)
+    ∙ counted other is
+    (let away : index_of role ≢ index_of other =
+    λ (e : index_of role ≡ index_of other). apart.1 (index_apart start.plant role other known is e) in
+    omega (arith, away)))
+    (role_tells role other)
+
+-- no role has a seat between the workers and the buses, and between the buses and the clock
+pub workers_counted : (start : Shown) (number : ℕ × ℕ → ℕ) → AreCounted start number start.plant.workers
+    → AreCounted start number 16
+workers_counted start number counted (Worker w) is low = counted (Worker w) is is.0
+workers_counted start number counted (Bus b) is low = absurd (omega arith)
+workers_counted start number counted Clock is low = absurd (omega arith)
+
+pub buses_counted : (start : Shown) (number : ℕ × ℕ → ℕ) → start.plant.workers ≤ 16
+    → AreCounted start number (16 + start.plant.plan.buses) → AreCounted start number 80
+buses_counted start number few counted (Worker w) is low = let i = is.1 in counted (Worker w) is (omega arith)
+buses_counted start number few counted (Bus b) is low = let i = is.0 in counted (Bus b) is (omega arith)
+buses_counted start number few counted Clock is low = absurd (omega arith)

@@ -1,0 +1,11 @@
+use Rattle.std.proofs.Common.{ℕ}
+use Rattle.plantevents.specs.declared.role.Role.TheVariants.{Worker}
+use Rattle.receipts.specs.Receipts.{AreFresh}
+use Rattle.receipts.specs.Seats.{AreCounted, AreUnused}
+use Rattle.receipts.proofs.shares.worker_shares.Given as goal
+
+abbrev pub invariant-loop-worker : goal.invariant-loop-worker
+invariant-loop-worker g l =
+    AreFresh g.J.Basis.start Worker l.worker l.shares.items
+    × AreUnused g.T.Seated.seat g.T.Seated.amount l.worker l.ties.items
+    × AreCounted g.J.Basis.start (g.K.Tallies.number l.books) l.worker

@@ -1,0 +1,6 @@
+pub mod Each
+pub mod Opened
+pub mod Receipts
+pub mod Seats
+pub mod Shares
+pub mod Tokens

@@ -1,0 +1,108 @@
+-- What contracts see of a Share: its receipts are the events of its role since the start of the lock (profile).
+use Rattle.std.specs.Prelude.{◌≡◌, ℕ, ◌+◌, ◌<◌, ◌/◌, ◌%◌, Bool, true, false, if◌then◌else◌, List, [], ◌++◌, ◌∷◌}
+use Rattle.std.specs.Prelude.{is_some, length, ⊤}
+use Rattle.plantevents.specs.declared.role.Role.{Role}
+use Rattle.plantevents.specs.declared.role.Role.TheVariants.{Worker, Bus, Clock}
+use Rattle.plantevents.specs.declared.event.Event.{Event}
+use Rattle.plantevents.specs.declared.event.Event.TheVariants.{Tick, Heard}
+use Rattle.plantevents.specs.Plants.{Plant}
+use Rattle.plantevents.specs.Parts.{Placed, placed, part, shown_scan, shown_hand, shown_down}
+use Rattle.plant.specs.Shown.{Shown, is_reserved}
+use Rattle.receipts.specs.Each.{Each}
+
+-- ---- roles
+
+-- a role of the plant: at most 16 scan workers and 64 buses have a seat
+abbrev pub IsRole : Plant → Role → Type 0
+IsRole p (Worker w) = (w < p.workers) × (w < 16)
+IsRole p (Bus b) = (b < p.plan.buses) × (b < 64)
+IsRole p Clock = ⊤
+
+-- scan workers, then buses, then the clock
+abbrev pub index_of : Role → ℕ
+index_of (Worker w) = w
+index_of (Bus b) = 16 + b
+index_of Clock = 80
+
+-- the seat of the k-th of all
+abbrev pub seat_at : ℕ → ℕ × ℕ
+seat_at k = (k / 9, k % 9)
+
+-- the seat of a role's ledger
+abbrev pub seat_of : Role → ℕ × ℕ
+seat_of role = seat_at (index_of role)
+
+-- ---- Shares
+
+-- what a contract sees of a Share: its receipts and what was in its role's part before them, the newest first; whether
+-- a place is kept back for it; and how many receipts more it has room for
+pub record ShareParts : Type 0 where
+  pub role : Role
+  pub receipts : List Placed
+  pub before : List Placed
+  pub reserved : Bool
+  pub room : ℕ
+
+-- the whole part
+abbrev pub whole : ShareParts → List Placed
+whole s = s.receipts ++ s.before
+
+-- a tick and a frame that is heard use the place that is kept back for them
+abbrev pub uses_place : Event → Bool
+uses_place (Tick m) = true
+uses_place (Heard b f) = true
+uses_place e = false
+
+abbrev pub reserved_after : Event → Bool → Bool
+reserved_after e reserved = if uses_place e then false else reserved
+
+-- how many receipts are to come of calls that are never full: the Commit of a scan that is open, the Done of a
+-- transaction, the Down of a bus, and what a place is kept back for
+abbrev pub needs : Role → List Placed → Bool → ℕ
+needs (Worker w) part reserved = if is_some (shown_scan part) then 1 else 0
+needs (Bus b) part reserved =
+    (if is_some (shown_hand part) then 1 else 0) + (if shown_down part then 0 else 1) + (if reserved then 1 else 0)
+needs Clock part reserved = if reserved then 1 else 0
+
+-- the receipts of a Share, with its part of the history at the start, are its part of this history
+pub record HasPart (s : ShareParts) (h : List Event) : Type 0 where
+  pub is : whole s ≡ part s.role h
+
+-- the Share of this role of a plant, which has no receipt yet and shows what the role has open or kept
+pub record IsFresh (start : Shown) (r : Role) (s : ShareParts) : Type 0 where
+  pub role : s.role ≡ r
+  pub receipts : s.receipts ≡ []
+  pub before : s.before ≡ part r start.history
+  pub reserved : s.reserved ≡ is_reserved r start
+
+-- the Shares of the roles with the numbers below n, in their order
+abbrev pub AreFresh : Shown → (ℕ → Role) → ℕ → List ShareParts → Type 0
+AreFresh start role n shares =
+    (length shares ≡ n) × Each (λ k s. IsFresh start (role k) s) 0 shares
+
+-- the receipts of each of these Shares, with its part of the history at the start, are its part of this history
+abbrev pub HaveParts : List ShareParts → List Event → Type 0
+HaveParts shares h = Each (λ k s. HasPart s h) 0 shares
+
+-- ---- what a call does to a Share
+
+-- the same Share but for its room
+pub record IsSame (s t : ShareParts) : Type 0 where
+  pub role : t.role ≡ s.role
+  pub receipts : t.receipts ≡ s.receipts
+  pub before : t.before ≡ s.before
+  pub reserved : t.reserved ≡ s.reserved
+
+-- the Share with the receipt of one event more
+pub record IsNoted (n : ℕ) (e : Event) (s t : ShareParts) : Type 0 where
+  pub role : t.role ≡ s.role
+  pub receipts : t.receipts ≡ placed n e ∷ s.receipts
+  pub before : t.before ≡ s.before
+  pub reserved : t.reserved ≡ reserved_after e s.reserved
+
+-- the same Share with a place kept back
+pub record IsReserved (s t : ShareParts) : Type 0 where
+  pub role : t.role ≡ s.role
+  pub receipts : t.receipts ≡ s.receipts
+  pub before : t.before ≡ s.before
+  pub reserved : t.reserved ≡ true

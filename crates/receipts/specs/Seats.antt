@@ -1,0 +1,24 @@
+-- The seats before the first event: the ties of those that are left, and the numbers of the others.
+use Rattle.std.specs.Prelude.{◌≡◌, ℕ, ◌+◌, ◌<◌, List, length}
+use Rattle.plantevents.specs.declared.role.Role.{Role}
+use Rattle.plant.specs.Shown.{Shown, is_reserved}
+use Rattle.receipts.specs.Each.{Each}
+use Rattle.receipts.specs.Receipts.{IsRole, index_of, seat_of, seat_at}
+use Rattle.receipts.specs.Tokens.{one_if}
+
+-- these are the ties of the seats from the n-th to the last, in order, each without an amount
+pub record AreUnused {T : Type 0} (seat : T → ℕ × ℕ) (amount : T → ℕ) (n : ℕ) (ties : List T) : Type 0 where
+  pub count : n + length ties ≡ 81
+  pub each : Each (λ k tie. (seat tie ≡ seat_at k) × (amount tie ≡ 0)) n ties
+
+-- the n-th of them is this tie, and these are left
+pub record IsNextTie {T : Type 0} (seat : T → ℕ × ℕ) (amount : T → ℕ) (n : ℕ) (tie : T) (left : List T) : Type 0 where
+  pub seated : seat tie ≡ seat_at n
+  pub unused : amount tie ≡ 0
+  pub rest : AreUnused seat amount (n + 1) left
+
+-- before the first event the numbers of the roles below the n-th seat say whether a place is kept back
+abbrev pub AreCounted : Shown → (ℕ × ℕ → ℕ) → ℕ → Type 0
+AreCounted start number n =
+    (role : Role) → IsRole start.plant role → index_of role < n
+    → number (seat_of role) ≡ one_if (is_reserved role start)
