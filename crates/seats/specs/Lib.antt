@@ -1,4 +1,2 @@
-pub mod Groups
 pub mod Families
 pub mod Openings
-pub mod GroupTies

@@ -7,14 +7,6 @@ use Rattle.seats.specs.Families.{Seating}
 abbrev pub fresh : ℕ → Seating
 fresh k = record { seat = (k / 9, k % 9); amount = 0 }
 
--- the places of a group, with no amount
-abbrev pub each_place : List (ℕ × ℕ)
-each_place = map (λ k. (k, 0)) (range_with_len 0 9)
-
--- the totals of a group
-abbrev pub no_amounts : List ℕ
-no_amounts = map (λ k. 0) (range_with_len 0 9)
-
 -- the ties of a group
 abbrev pub fresh_group : ℕ → List Seating
 fresh_group g = map (λ k. record { seat = (g, k); amount = 0 }) (range_with_len 0 9)

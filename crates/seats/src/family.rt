@@ -3,9 +3,8 @@
 ghost use Rattle.std.specs.Prelude.{◌≡◌, ◌+◌, ◌-◌, ◌<◌, ◌≤◌, [], length, slice_set, slice_index_or};
 ghost use Rattle.seats.specs.Families.{number};
 
-use crate::group::{GroupBooks, GroupTie};
-use crate::names::Names;
 use crate::tallies::{Seated, Tallies};
+use seatgroups::{GroupBooks, GroupTie, Names};
 use std::marker::Model;
 
 /// A book for each seat. Contracts see their totals, by groups of nine.

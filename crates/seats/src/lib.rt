@@ -5,7 +5,7 @@
 //! not at all, so whoever has both at hand knows that they agree. [`Blanks`] make them.
 //!
 //! Callers take any `K: Tallies<T>` with `T: Seated` (src/tallies.rt, to be read first), and name
-//! the 81 ledgers in one call alone.
+//! the 81 ledgers in one call alone. These stand in nine groups (`seatgroups`).
 //!
 //! ```text
 //! let (mut books, mut ties) = Blanks::new().open::<N>(alloc)?;
@@ -13,14 +13,11 @@
 //! ```
 #![tactic(auto)]
 
-mod blanks;
 mod family;
-mod group;
-mod names;
 mod opening;
 mod tallies;
 
 pub use family::{Books, Tie};
-pub use names::Names;
 pub use opening::Blanks;
+pub use seatgroups::Names;
 pub use tallies::{Seated, Tallies};

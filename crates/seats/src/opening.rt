@@ -2,13 +2,12 @@
 
 ghost use Rattle.std.specs.Prelude.{◌≡◌, ℕ, ◌+◌, ◌≤◌, [], ◌++◌, IfOk, map, slice_index_or, vec_capacity, vec_len};
 ghost use Rattle.std.specs.List.{range_with_len};
+ghost use Rattle.seatgroups.specs.Openings.{no_amounts};
 ghost use Rattle.seats.specs.Families.{number};
-ghost use Rattle.seats.specs.Openings.{fresh, fresh_group, no_amounts};
+ghost use Rattle.seats.specs.Openings.{fresh, fresh_group};
 
-use crate::blanks::{GroupBlanks, GroupTies};
 use crate::family::{Books, Half, Tie};
-use crate::group::GroupBooks;
-use crate::names::Names;
+use seatgroups::{GroupBlanks, GroupBooks, GroupTies, Names};
 use std::alloc::{AllocError, Global};
 use std::marker::Model;
 

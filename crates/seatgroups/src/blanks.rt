@@ -1,8 +1,8 @@
 //! Ledgers that no type stands for yet.
 
 ghost use Rattle.std.specs.Prelude.{◌≡◌, [], slice_index_or};
-ghost use Rattle.seats.specs.Openings.{no_amounts, each_place};
-ghost use Rattle.seats.specs.GroupTies.{ties_of};
+ghost use Rattle.seatgroups.specs.Openings.{no_amounts, each_place};
+ghost use Rattle.seatgroups.specs.GroupTies.{ties_of};
 
 use crate::group::{GroupBooks, GroupHalf, GroupTie};
 use crate::names::{Names, Seat};
@@ -28,23 +28,37 @@ impl Model for GroupBlanks {
 
     ghost Value = { List ℕ };
 
-    ghost view = { λ b. b.b0.name ∷ b.b1.name ∷ b.b2.name ∷ b.b3.name ∷ b.b4.name ∷ b.b5.name ∷ b.b6.name ∷ b.b7.name ∷ b.b8.name ∷ [] };
+    ghost view = { λ b.
+        b.b0.name ∷ b.b1.name ∷ b.b2.name ∷ b.b3.name ∷ b.b4.name ∷ b.b5.name ∷ b.b6.name
+        ∷ b.b7.name ∷ b.b8.name ∷ [] };
 
-    ghost invariant = { λ b. (b.b0.parts ≡ 1) × (b.b1.parts ≡ 1) × (b.b2.parts ≡ 1) × (b.b3.parts ≡ 1) × (b.b4.parts ≡ 1) × (b.b5.parts ≡ 1) × (b.b6.parts ≡ 1) × (b.b7.parts ≡ 1) × (b.b8.parts ≡ 1) };
+    ghost invariant = { λ b.
+        (b.b0.parts ≡ 1) × (b.b1.parts ≡ 1) × (b.b2.parts ≡ 1) × (b.b3.parts ≡ 1)
+        × (b.b4.parts ≡ 1) × (b.b5.parts ≡ 1) × (b.b6.parts ≡ 1) × (b.b7.parts ≡ 1)
+        × (b.b8.parts ≡ 1) };
 }
 
 /// The tie of each place of a group.
 #[derive(Drop)]
 pub struct GroupTies<N: Names, const G: usize> {
-    pub(crate) t0: GroupTie<N, G>,
-    pub(crate) t1: GroupTie<N, G>,
-    pub(crate) t2: GroupTie<N, G>,
-    pub(crate) t3: GroupTie<N, G>,
-    pub(crate) t4: GroupTie<N, G>,
-    pub(crate) t5: GroupTie<N, G>,
-    pub(crate) t6: GroupTie<N, G>,
-    pub(crate) t7: GroupTie<N, G>,
-    pub(crate) t8: GroupTie<N, G>,
+    /// The tie of place 0.
+    pub t0: GroupTie<N, G>,
+    /// The tie of place 1.
+    pub t1: GroupTie<N, G>,
+    /// The tie of place 2.
+    pub t2: GroupTie<N, G>,
+    /// The tie of place 3.
+    pub t3: GroupTie<N, G>,
+    /// The tie of place 4.
+    pub t4: GroupTie<N, G>,
+    /// The tie of place 5.
+    pub t5: GroupTie<N, G>,
+    /// The tie of place 6.
+    pub t6: GroupTie<N, G>,
+    /// The tie of place 7.
+    pub t7: GroupTie<N, G>,
+    /// The tie of place 8.
+    pub t8: GroupTie<N, G>,
 }
 
 impl GroupBlanks {

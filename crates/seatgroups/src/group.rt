@@ -25,7 +25,9 @@ impl<N: Names, const G: usize> Model for GroupBooks<N, G> {
 
     ghost Value = { List ℕ };
 
-    ghost view = { λ r. r.b0.total ∷ r.b1.total ∷ r.b2.total ∷ r.b3.total ∷ r.b4.total ∷ r.b5.total ∷ r.b6.total ∷ r.b7.total ∷ r.b8.total ∷ [] };
+    ghost view = { λ r.
+        r.b0.total ∷ r.b1.total ∷ r.b2.total ∷ r.b3.total ∷ r.b4.total ∷ r.b5.total ∷ r.b6.total
+        ∷ r.b7.total ∷ r.b8.total ∷ [] };
 }
 
 /// The whole share of one of the ledgers of a group.
@@ -50,7 +52,7 @@ pub struct GroupTie<N: Names, const G: usize> {
 
 impl<N: Names, const G: usize> Model for GroupTie<N, G> {
     ghost use Rattle.std.specs.Prelude.{ℕ};
-    ghost use Rattle.seats.specs.Groups.{place_of, amount_of, IsWhole};
+    ghost use Rattle.seatgroups.specs.Groups.{place_of, amount_of, IsWhole};
 
     ghost Value = { ℕ × ℕ };
 

@@ -1,7 +1,7 @@
 -- A tie of a group is seen as its place and its amount.
 use Rattle.std.specs.Prelude.{◌≡◌, ℕ}
-use Rattle.seats.specs.declared.group.GroupHalf.{GroupHalf}
-use Rattle.seats.specs.declared.group.GroupHalf.TheVariants.{H0, H1, H2, H3, H4, H5, H6, H7, H8}
+use Rattle.seatgroups.specs.declared.group.GroupHalf.{GroupHalf}
+use Rattle.seatgroups.specs.declared.group.GroupHalf.TheVariants.{H0, H1, H2, H3, H4, H5, H6, H7, H8}
 
 abbrev pub place_of : {N : Type 0} {G : ℕ} → GroupHalf N G → ℕ
 place_of (H0 s) = 0
