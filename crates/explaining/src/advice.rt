@@ -24,10 +24,14 @@ pub(crate) fn write_advice<W: Write>(out: &mut W, advice: Advice) -> io::Result<
 
 /// Writes what helps, line by line.
 fn write_cure<W: Write>(out: &mut W, cure: &str) -> io::Result<()> {
-    let mut head = "cure:";
+    let mut is_first = true;
     for line in cure.split('\n') {
-        writeln!(out, "{head} {line}")?;
-        head = "     ";
+        if is_first {
+            writeln!(out, "cure: {line}")?;
+        } else {
+            writeln!(out, "      {line}")?;
+        }
+        is_first = false;
     }
     Ok(())
 }

@@ -1,18 +1,13 @@
--- What the end of a transaction writes.
-use Rattle.std.proofs.Common.{◌≡◌, ℕ, ◌≤◌, Bool, true, false, length, Option, Some, None, refl, sym, ap, ◌∙◌}
+-- What the end of a transaction writes is what the history says.
+use Rattle.std.proofs.Common.{◌≡◌, ℕ, ◌≤◌, Bool, false, length, Option, Some, None, refl, sym, ap, ◌∙◌}
 use Rattle.std.proofs.lemmas.Option.{slice_get_past}
-use Rattle.std.specs.Prelude.{if◌then◌else◌, IfSome, List, ◌∷◌}
+use Rattle.std.specs.Prelude.{if◌then◌else◌, List, ◌∷◌}
 use Rattle.std.specs.Option.{option_and_then}
-use Rattle.iltypes.specs.declared.value.IlType.{IlType}
-use Rattle.iltypes.specs.declared.value.Value.{Value}
 use Rattle.gearcmd.specs.declared.requests.Answerer.{Answerer}
 use Rattle.gearcmd.specs.declared.requests.Answerer.TheVariants.{Gear, Instance}
 use Rattle.transact.specs.declared.marks.Outcome.{Outcome}
 use Rattle.transact.specs.Attempts.{ReportParts}
 use Rattle.ilplan.specs.declared.global.Global.{Global as GlobalVariable}
-use Rattle.ilplan.specs.declared.global.Location.{Location}
-use Rattle.ilplan.specs.declared.global.Location.TheVariants.{Level, GearAnswer, DeviceAnswer, Information, Count}
-use Rattle.ilplan.specs.declared.global.Location.TheVariants.{Trigger}
 use Rattle.ilplan.specs.Plans.{Planned}
 use Rattle.ilimage.specs.Images.{ProcessImage, ImageVariable, Global, Own, layout_of, value_of, blocks_of}
 use Rattle.plantevents.specs.declared.event.Origin.{Origin}
@@ -21,32 +16,8 @@ use Rattle.plantevents.specs.declared.event.Event.TheVariants.{Done}
 use Rattle.plantevents.specs.Histories.{OpenHand, hand}
 use Rattle.plantevents.specs.Plants.{Plant, location}
 use Rattle.plantevents.specs.Variables.{answerer_by, is_answer_of, outcome_value, report_write, write_of, newest}
-use Rattle.plant.specs.InputSteps.{IsWrittenAs}
-use Rattle.plant.specs.KeptSteps.{ImageFollows}
-use Rattle.plant.specs.AnswerSteps.{FitsAnswers, answer_write, answer_at}
-
--- ---- its value is of the type of the variable that is located there
-
--- where answers are located, what fits answers may be written
-pub answer_fits : (b : ℕ) (a : Option Answerer) (place : Location) (value : Option Value) → IfSome value FitsAnswers
-    → is_answer_of b a (Some place) ≡ true → (value_type : IlType) → IfSome value (IsWrittenAs value_type place)
-answer_fits b a place None fits is value_type = tt
-answer_fits b a (GearAnswer bus s) (Some v) fits is value_type = fits value_type
-answer_fits b a (DeviceAnswer bus s) (Some v) fits is value_type = fits value_type
-answer_fits b None (Level bus s) (Some v) fits is value_type = absurd (cc)
-answer_fits b (Some (Gear g)) (Level bus s) (Some v) fits is value_type = absurd (cc)
-answer_fits b (Some (Instance g i)) (Level bus s) (Some v) fits is value_type = absurd (cc)
-answer_fits b None (Information bus s) (Some v) fits is value_type = absurd (cc)
-answer_fits b (Some (Gear g)) (Information bus s) (Some v) fits is value_type = absurd (cc)
-answer_fits b (Some (Instance g i)) (Information bus s) (Some v) fits is value_type = absurd (cc)
-answer_fits b None (Count bus s) (Some v) fits is value_type = absurd (cc)
-answer_fits b (Some (Gear g)) (Count bus s) (Some v) fits is value_type = absurd (cc)
-answer_fits b (Some (Instance g i)) (Count bus s) (Some v) fits is value_type = absurd (cc)
-answer_fits b None (Trigger bus s) (Some v) fits is value_type = absurd (cc)
-answer_fits b (Some (Gear g)) (Trigger bus s) (Some v) fits is value_type = absurd (cc)
-answer_fits b (Some (Instance g i)) (Trigger bus s) (Some v) fits is value_type = absurd (cc)
-
--- ---- what is written is what the history says
+use Rattle.plantbuses.specs.KeptSteps.{ImageFollows}
+use Rattle.plantbuses.specs.AnswerSteps.{answer_write, answer_at}
 
 -- no answers are located where no variable is
 nowhere : (b : ℕ) (a : Option Answerer) → is_answer_of b a None ≡ false

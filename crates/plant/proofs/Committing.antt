@@ -25,8 +25,11 @@ use Rattle.plantevents.specs.Plants.{Plant, first_tasks}
 use Rattle.plantevents.specs.Histories.{OpenScan, scan}
 use Rattle.plantevents.specs.Legal.{AreLegal, IsCommit, IsResult}
 use Rattle.taskset.specs.TaskSets.{TaskSet, Follows}
-use Rattle.plant.specs.Shown.{Shown, grown, kept, count_below}
-use Rattle.plant.specs.KeptSteps.{KeptPlant, KeptBus, BusesFollow, ImageFollows, ScansFollow, Says}
+use Rattle.plantbuses.specs.KeptSteps.{KeptBus, BusesFollow, ImageFollows, ScansFollow}
+use Rattle.plantbuses.specs.OwedSteps.{OwedFollow}
+use Rattle.plantbuses.specs.declared.owed.OwedLevels.{OwedLevels}
+use Rattle.plant.specs.Shown.{Shown, grown, count_below}
+use Rattle.plant.specs.KeptSteps.{KeptPlant, Says}
 use Rattle.plant.specs.Matches.{IsOwnScan}
 use Rattle.plant.specs.CommitSteps.{IsOpenScanOf, IsScanOfTask}
 use Rattle.plant.proofs.Counting.{count_less}
@@ -182,20 +185,23 @@ scan_kept p k w n result says may =
 -- ---- all that is kept
 
 pub commit_says : (p : Shown) (k : KeptPlant) (w n : ℕ) (result : Scan) (tasks : TaskSet) (image : ProcessImage)
-    (scans : List (Option OpenScan)) (buses : List KeptBus) → Says p k → IsCommit p.plant p.history w n result
+    (scans : List (Option OpenScan)) (buses : List KeptBus) (owed : List OwedLevels)
+    → Says p k → IsCommit p.plant p.history w n result
     → Follows p.plant (Commit w n result ∷ p.history) tasks
     → ImageFollows p.plant (Commit w n result ∷ p.history) image
     → ScansFollow p.plant (Commit w n result ∷ p.history) scans
     → BusesFollow p.plant (Commit w n result ∷ p.history) buses
+    → OwedFollow p.plant (Commit w n result ∷ p.history) owed
     → Says (grown p (Commit w n result)) (record k {
       tasks = tasks;
       image = image;
       scans = scans;
       buses = buses;
+      owed = owed;
       length = k.length + 1;
       kept = k.kept - 1;
     })
-commit_says p k w n result tasks image scans buses says may follows imaged shut run = record {
+commit_says p k w n result tasks image scans buses owed says may follows imaged shut run owes = record {
   most = says.most;
   legal = (may, says.legal);
   each_task = follows;
@@ -204,6 +210,7 @@ commit_says p k w n result tasks image scans buses says may follows imaged shut 
   each_take = says.each_take;
   each_worker = shut;
   each_output = says.each_output;
+  each_owed = owes;
   each_bus = run;
   each_place = says.each_place;
   clock = says.clock;

@@ -1,5 +1,5 @@
 -- What is handed out first.
-use Rattle.std.proofs.Common.{◌≡◌, ⊎_elim, ℕ, zero, suc, ◌+◌, ◌<◌, Bool, true, false, eqb, ◌&&◌, List, [], ◌∷◌, ◌++◌}
+use Rattle.std.proofs.Common.{◌≡◌, ⊎_elim, ℕ, zero, suc, ◌<◌, Bool, true, false, eqb, ◌&&◌, List, [], ◌∷◌, ◌++◌}
 use Rattle.std.proofs.Common.{map, length, drop, Option, Some, None, refl, sym, ap, ◌∙◌, subst, arith}
 use Rattle.std.proofs.lemmas.Bool.{and_parts}
 use Rattle.std.proofs.lemmas.Bool.Decides.{eqb_tells}
@@ -10,14 +10,11 @@ use Rattle.std.specs.Prelude.{All, IfSome, if◌then◌else◌, slice_get, is_so
 use Rattle.std.specs.List.{cons_option}
 use Rattle.gearcmd.specs.declared.requests.Request.{Request}
 use Rattle.gearcmd.specs.declared.requests.TaskKind.{TaskKind}
-use Rattle.gearcmd.specs.FrameLists.{FrameList}
 use Rattle.gearcmd.specs.Requests.{class_of}
 use Rattle.busqueue.specs.declared.class.Class.{Class}
 use Rattle.busqueue.specs.Queues.{class_number}
-use Rattle.ilmachine.specs.Scans.{Scan}
 use Rattle.plantevents.specs.declared.event.Event.{Event}
 use Rattle.plantevents.specs.declared.event.Event.TheVariants.{Tick, Heard, Take, Commit, Hand, Done, Down}
-use Rattle.plantevents.specs.declared.event.Origin.{Origin}
 use Rattle.plantevents.specs.declared.event.Origin.TheVariants.{Queued, Output}
 use Rattle.plantevents.specs.Plants.{Plant}
 use Rattle.plantevents.specs.Histories.{scan}
@@ -26,8 +23,8 @@ use Rattle.plantevents.specs.Waiting.{most_waiting, waiting, owed, owed_at, numb
 use Rattle.plantevents.specs.Waiting.{level_handout}
 use Rattle.plantevents.specs.Waiting.{class_handouts}
 use Rattle.plantevents.proofs.Handing.{first_given}
-use Rattle.plant.specs.declared.next.Next.{Next}
-use Rattle.plant.specs.HandingSteps.{handout_by, handout_of, level_at, first_by, IsOfClass}
+use Rattle.plantbuses.specs.declared.next.Next.{Next}
+use Rattle.plantbuses.specs.HandingSteps.{handout_by, handout_of, level_at, first_by, IsOfClass}
 
 -- ---- whether anything is there
 
@@ -78,7 +75,8 @@ offer_fits : (b c : ℕ) (kind : TaskKind) (queue : List Request) (r : Request) 
     → All (FitsClass c) (after_offer b c kind queue r)
 offer_fits b c kind queue r all =
     accepted c queue r (is_for b c kind r) (nat_lt (length queue) most_waiting)
-    (λ is. (kind, equal (class_of r.command kind) c (and_parts (eqb r.bus b) (eqb (class_of r.command kind) c) is).1)) all
+    (λ is. (kind, equal (class_of r.command kind) c (and_parts (eqb r.bus b) (eqb (class_of r.command kind) c) is).1))
+    all
 
 offers_fit : (b c : ℕ) (kind : TaskKind) (queue requests : List Request) → All (FitsClass c) queue
     → All (FitsClass c) (after_offers b c kind queue requests)

@@ -1,5 +1,5 @@
 -- What is kept follows the history with one event more.
-use Rattle.std.proofs.Common.{◌≡◌, ◌≢◌, ℕ, eqb, ◌+◌, ◌<◌, ◌≤◌, Bool, true, false, not, List, []}
+use Rattle.std.proofs.Common.{◌≡◌, ℕ, eqb, ◌+◌, ◌<◌, ◌≤◌, Bool, true, false, not, List, []}
 use Rattle.std.proofs.Common.{◌∷◌, length, refl, sym, ap, ◌∙◌, ◌-◌, length-set, subst, arith}
 use Rattle.std.proofs.lemmas.Bool.{eq-eqb, ne_eqb}
 use Rattle.std.specs.Prelude.{if◌then◌else◌, slice_index_or}
@@ -12,9 +12,11 @@ use Rattle.ilimage.specs.Images.{ProcessImage, ImageVariable, layout_of, value_o
 use Rattle.plantevents.specs.Plants.{Plant}
 use Rattle.plantevents.specs.Variables.{newest, write_of}
 use Rattle.plantevents.specs.Legal.{IsUp}
+use Rattle.plantbuses.specs.KeptSteps.{KeptBus, bus_at, BusesFollow, ImageFollows}
+use Rattle.plantbuses.proofs.OwedChanges.{owed_heard}
 use Rattle.plant.specs.Shown.{Shown, grown, reserving, kept, count_below}
 use Rattle.plant.specs.Refusals.{is_full_for}
-use Rattle.plant.specs.KeptSteps.{KeptPlant, KeptBus, bus_at, BusesFollow, CountsFollow, ImageFollows, Says}
+use Rattle.plant.specs.KeptSteps.{KeptPlant, CountsFollow, Says}
 use Rattle.plant.specs.InputSteps.{input_at}
 use Rattle.plant.proofs.Refusing.{room_left, room_kept}
 use Rattle.plant.proofs.Counting.{count_less, count_after_set}
@@ -38,6 +40,7 @@ tick_says p k m tasks after says may room used follows = record {
   each_worker = says.each_worker;
   each_bus = says.each_bus;
   each_output = says.each_output;
+  each_owed = says.each_owed;
   each_place = says.each_place;
   clock = refl;
   place = let e = says.place in omega arith;
@@ -81,6 +84,7 @@ down_says p k b buses says up follows run = record {
   each_worker = says.each_worker;
   each_bus = run;
   each_output = says.each_output;
+  each_owed = says.each_owed;
   each_place = says.each_place;
   clock = says.clock;
   place = let e = says.place in omega arith;
@@ -140,6 +144,7 @@ heard_says p k b f tasks image counts buses after says up room used follows imag
   each_worker = says.each_worker;
   each_bus = run;
   each_output = says.each_output;
+  each_owed = owed_heard p.plant b f p.history k.owed says.each_owed;
   each_place = length-set p.reserved.buses b false ∙ says.each_place;
   clock = says.clock;
   place = let e = says.place in omega arith;
@@ -183,6 +188,7 @@ reserved_says p k b after says up room more = record {
   each_worker = says.each_worker;
   each_bus = says.each_bus;
   each_output = says.each_output;
+  each_owed = says.each_owed;
   each_place = length-set p.reserved.buses b true ∙ says.each_place;
   clock = says.clock;
   place = says.place;

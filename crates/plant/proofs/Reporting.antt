@@ -1,5 +1,5 @@
 -- What is kept once a transaction was reported.
-use Rattle.std.proofs.Common.{◌≡◌, ◌≢◌, ℕ, eqb, ◌+◌, ◌-◌, ◌<◌, ◌≤◌, Bool, true, false, List, [], ◌∷◌}
+use Rattle.std.proofs.Common.{◌≡◌, ℕ, eqb, ◌+◌, ◌-◌, ◌<◌, ◌≤◌, Bool, true, false, List, [], ◌∷◌}
 use Rattle.std.proofs.Common.{length, Option, Some, None, refl, sym, ap, ◌∙◌, subst, arith}
 use Rattle.std.proofs.lemmas.Bool.{eq-eqb, ne_eqb}
 use Rattle.std.specs.Prelude.{if◌then◌else◌}
@@ -11,9 +11,11 @@ use Rattle.plantevents.specs.declared.event.Event.TheVariants.{Tick, Heard, Take
 use Rattle.plantevents.specs.Histories.{OpenHand, hand}
 use Rattle.plantevents.specs.Legal.{IsDone}
 use Rattle.taskset.specs.TaskSets.{Follows}
+use Rattle.plantbuses.specs.KeptSteps.{KeptBus, bus_at, BusesFollow, ImageFollows}
+use Rattle.plantbuses.proofs.OwedChanges.{owed_done}
 use Rattle.plant.specs.Shown.{Shown, grown, kept, is_unreported, count_below}
 use Rattle.plant.specs.Matches.{IsOpenTransaction}
-use Rattle.plant.specs.KeptSteps.{KeptPlant, KeptBus, bus_at, BusesFollow, ImageFollows, Says}
+use Rattle.plant.specs.KeptSteps.{KeptPlant, Says}
 use Rattle.plant.proofs.Counting.{count_less}
 use Rattle.plant.proofs.Reports.{hand_short, report_short, frames_few}
 
@@ -106,6 +108,7 @@ done_says p k b n r image buses says done follows imaged run = record {
   each_take = says.each_take;
   each_worker = says.each_worker;
   each_output = says.each_output;
+  each_owed = owed_done p.plant b n r p.history k.owed says.each_owed;
   each_bus = run;
   each_place = says.each_place;
   clock = says.clock;

@@ -1,44 +1,21 @@
 -- What is kept of a plant to which nothing has happened.
-use Rattle.std.proofs.Common.{◌≡◌, ℕ, zero, suc, ◌+◌, ◌<◌, ◌≤◌, Bool, true, false, List, [], ◌∷◌, ◌++◌, length}
-use Rattle.std.proofs.Common.{replicate, Option, None, refl, sym, ◌∙◌, subst, arith, below_more}
-use Rattle.std.proofs.Common.{length-append}
-use Rattle.std.proofs.lemmas.List.{get_or_append_left, get_or-replicate, length-replicate}
-use Rattle.std.proofs.Math.Seq.{get_or-append_seam}
-use Rattle.std.specs.Prelude.{slice_index_or}
+use Rattle.std.proofs.Common.{◌≡◌, ℕ, zero, suc, ◌≤◌, Bool, true, false, List, [], length}
+use Rattle.std.proofs.Common.{replicate, Option, refl, sym, subst, arith}
+use Rattle.std.proofs.lemmas.List.{get_or-replicate, length-replicate}
 use Rattle.ilsetup.specs.Loaded.{Loaded}
 use Rattle.ilimage.specs.Images.{ProcessImage}
 use Rattle.plantevents.specs.declared.event.Event.{Event}
 use Rattle.plantevents.specs.Plants.{Plant, opening}
 use Rattle.plantevents.specs.Histories.{OpenScan}
 use Rattle.taskset.specs.TaskSets.{TaskSet, Follows}
+use Rattle.plantbuses.specs.declared.outputs.LevelOutput.{LevelOutput}
+use Rattle.plantbuses.specs.OutputSteps.{planned, OutputsFollow}
+use Rattle.plantbuses.specs.OwedSteps.{OwedFollow}
+use Rattle.plantbuses.specs.declared.owed.OwedLevels.{OwedLevels}
+use Rattle.plantbuses.specs.KeptSteps.{KeptBus, BusesFollow, ImageFollows, AreFresh, AreIdle}
 use Rattle.plant.specs.Shown.{opened, plant_of, kept, count_below, count_true, IsWorkerCount, IsLimit}
-use Rattle.plant.specs.declared.outputs.LevelOutput.{LevelOutput}
 use Rattle.plant.specs.OpeningSteps.{as_planned}
-use Rattle.plant.specs.OutputSteps.{planned, OutputsFollow}
-use Rattle.plant.specs.KeptSteps.{KeptBus, BusFollows, bus_at, no_bus, AreFresh, AreIdle, Says}
-
--- one bus more
-pub fresh_more : (buses : List KeptBus) (n : ℕ) (bus : KeptBus) → AreFresh n buses
-    → ((p : Plant) (b : ℕ) → BusFollows p b [] bus) → AreFresh (n + 1) (buses ++ bus ∷ [])
-fresh_more buses n bus before new = (
-  (let e = before.0 in omega (arith, length-append buses (bus ∷ []))),
-  λ p. below_more (λ b. BusFollows p b [] (bus_at (buses ++ bus ∷ []) b)) n
-      (λ b lt. let inside : b < length buses = let e = before.0 in omega arith in
-      subst (BusFollows p b []) (sym (get_or_append_left buses (bus ∷ []) no_bus b inside)) (before.1 p b lt))
-      (subst (λ (m : ℕ). BusFollows p m [] (bus_at (buses ++ bus ∷ []) m)) before.0
-      (subst (BusFollows p (length buses) []) (sym (get_or-append_seam buses bus [] no_bus)) (new p (length buses)))),
-)
-
--- one worker more
-pub idle_more : (scans : List (Option OpenScan)) (n : ℕ) → AreIdle n scans → AreIdle (n + 1) (scans ++ None ∷ [])
-idle_more scans n before = (
-  (let e = before.0 in omega (arith, length-append scans (None ∷ []))),
-  below_more (λ w. slice_index_or (scans ++ None ∷ []) w None ≡ None) n
-      (λ w lt. let inside : w < length scans = let e = before.0 in omega arith in
-      get_or_append_left scans (None ∷ []) None w inside ∙ before.1 w lt)
-      (subst (λ (m : ℕ). slice_index_or (scans ++ None ∷ []) m None ≡ None) before.0
-      (get_or-append_seam scans None [] None)),
-)
+use Rattle.plant.specs.KeptSteps.{Says}
 
 -- ---- how many places are kept
 
@@ -62,10 +39,11 @@ kept_at_first setup workers limit =
 -- ---- all that is kept
 
 pub opened_says : (setup : Loaded) (workers limit : ℕ) (tasks : TaskSet) (scans : List (Option OpenScan))
-    (buses : List KeptBus) (outputs : List (List (Option LevelOutput))) → IsWorkerCount workers → IsLimit limit
+    (buses : List KeptBus) (outputs : List (List (Option LevelOutput))) (owed : List OwedLevels)
+    → IsWorkerCount workers → IsLimit limit
     → setup.plan.buses ≤ 16
     → Follows (plant_of setup workers) [] tasks → AreIdle workers scans → AreFresh setup.plan.buses buses
-    → OutputsFollow (planned setup.plan) outputs
+    → OutputsFollow (planned setup.plan) outputs → OwedFollow (plant_of setup workers) [] owed
     → Says (opened setup workers limit) (record {
       tasks = tasks;
       image = opening (plant_of setup workers);
@@ -74,43 +52,58 @@ pub opened_says : (setup : Loaded) (workers limit : ℕ) (tasks : TaskSet) (scan
       scans = scans;
       buses = buses;
       outputs = outputs;
+      owed = owed;
       moment = 0;
       length = 0;
       kept = setup.plan.buses;
     })
-opened_says setup workers limit tasks scans buses outputs some within few follows idle fresh located = record {
-  most = within.1;
-  legal = tt;
-  each_task = follows;
-  each_variable = record { laid = refl; values = λ v. refl; instances = λ t. refl };
-  each_source = (
-    length-replicate (length setup.plan.sources) 0,
-    λ i lt. record { counted = get_or-replicate (length setup.plan.sources) i 0 0 lt },
-  );
-  each_take = (
-    length-replicate (length setup.plan.tasks) 0,
-    λ t lt. get_or-replicate (length setup.plan.tasks) t 0 0 lt,
-  );
-  each_worker = idle;
-  each_bus = (fresh.0, λ b lt. fresh.1 (plant_of setup workers) b lt);
-  each_output = located;
-  each_place = length-replicate setup.plan.buses false;
-  clock = refl;
-  place = refl;
-  places = kept_at_first setup workers limit;
-  within = let l = within.0 in omega arith;
-}
+opened_says setup workers limit tasks scans buses outputs owed some within few follows idle fresh located owes =
+    record {
+      most = within.1;
+      legal = tt;
+      each_task = follows;
+      each_variable = record { laid = refl; values = λ v. refl; instances = λ t. refl };
+      each_source = (
+        length-replicate (length setup.plan.sources) 0,
+        λ i lt. record { counted = get_or-replicate (length setup.plan.sources) i 0 0 lt },
+      );
+      each_take = (
+        length-replicate (length setup.plan.tasks) 0,
+        λ t lt. get_or-replicate (length setup.plan.tasks) t 0 0 lt,
+      );
+      each_worker = idle;
+      each_bus = (fresh.0, λ b lt. fresh.1 (plant_of setup workers) b lt);
+      each_output = located;
+      each_owed = owes;
+      each_place = length-replicate setup.plan.buses false;
+      clock = refl;
+      place = refl;
+      places = kept_at_first setup workers limit;
+      within = let l = within.0 in omega arith;
+    }
+
+-- which levels are owed at first
+pub first_owes : (setup : Loaded) (workers : ℕ) (outputs : List (List (Option LevelOutput))) (buses : List KeptBus)
+    (image : ProcessImage) (owed : List OwedLevels) → OutputsFollow (planned setup.plan) outputs
+    → AreFresh setup.plan.buses buses → image ≡ opening (as_planned setup)
+    → ((p : Plant) (h : List Event) → OutputsFollow p outputs → BusesFollow p h buses → ImageFollows p h image
+    → OwedFollow p h owed)
+    → OwedFollow (plant_of setup workers) [] owed
+first_owes setup workers outputs buses image owed located fresh first made =
+    let p = plant_of setup workers in
+    let imaged : ImageFollows p [] (opening p) = record { laid = refl; values = λ v. refl; instances = λ t. refl } in
+    made p [] located (fresh.0, λ b lt. fresh.1 p b lt) (subst (ImageFollows p []) (sym first) imaged)
 
 -- as the code makes them
 pub kept_says : (setup : Loaded) (workers limit : ℕ) (history : List Event) (places : List Bool) (tasks : TaskSet)
     (image : ProcessImage) (counts takes : List ℕ) (scans : List (Option OpenScan)) (buses : List KeptBus)
-    (outputs : List (List (Option LevelOutput))) (places_kept : ℕ)
+    (outputs : List (List (Option LevelOutput))) (owed : List OwedLevels) (places_kept : ℕ)
     → IsWorkerCount workers → IsLimit limit → setup.plan.buses ≤ 16 → history ≡ [] → places ≡ replicate
     setup.plan.buses false
     → Follows (plant_of setup workers) [] tasks → image ≡ opening (as_planned setup)
     → counts ≡ replicate (length setup.plan.sources) 0 → takes ≡ replicate (length setup.plan.tasks) 0
     → AreIdle workers scans → AreFresh setup.plan.buses buses → OutputsFollow (planned setup.plan) outputs
-    → places_kept ≡ setup.plan.buses
+    → OwedFollow (plant_of setup workers) [] owed → places_kept ≡ setup.plan.buses
     → Says (record {
       plant = plant_of setup workers;
       limit = limit;
@@ -124,11 +117,12 @@ pub kept_says : (setup : Loaded) (workers limit : ℕ) (history : List Event) (p
       scans = scans;
       buses = buses;
       outputs = outputs;
+      owed = owed;
       moment = 0;
       length = 0;
       kept = places_kept;
     })
-kept_says setup workers limit history places tasks image counts takes scans buses outputs places_kept some within few none
-    back follows first zeros untaken idle fresh located up =
-    rw (none, back, first, zeros, untaken, up) (opened_says setup workers limit tasks scans buses outputs some within few
-    follows idle fresh located)
+kept_says setup workers limit history places tasks image counts takes scans buses outputs owed places_kept some within
+    few none back follows first zeros untaken idle fresh located owes up =
+    rw (none, back, first, zeros, untaken, up) (opened_says setup workers limit tasks scans buses outputs owed some
+    within few follows idle fresh located owes)

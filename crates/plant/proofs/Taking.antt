@@ -1,5 +1,5 @@
 -- What is kept once a task was taken, and the snapshot that is taken.
-use Rattle.std.proofs.Common.{◌≡◌, ◌≢◌, eqb, ℕ, zero, suc, ◌+◌, ◌<◌, ◌≤◌, Bool, true, false, List, [], ◌∷◌}
+use Rattle.std.proofs.Common.{◌≡◌, eqb, ℕ, zero, suc, ◌+◌, ◌<◌, ◌≤◌, Bool, true, false, List, [], ◌∷◌}
 use Rattle.std.proofs.Common.{map, length, Option, Some, None, refl, sym, ap, ◌∙◌, arith}
 use Rattle.std.proofs.lemmas.Bool.{eq-eqb, ne_eqb}
 use Rattle.std.specs.Prelude.{Result, Ok, Err, IfOk}
@@ -28,8 +28,9 @@ use Rattle.taskset.specs.TaskSets.{TaskSet, Follows}
 use Rattle.std.proofs.lemmas.List.{length-map}
 use Rattle.std.proofs.lemmas.Slice.Zip.{AllZip-long}
 use Rattle.ilsetup.specs.Loaded.{AreCodes, IsCodeOf}
+use Rattle.plantbuses.specs.KeptSteps.{ImageFollows, ScansFollow, TakesFollow}
 use Rattle.plant.specs.Shown.{Shown, grown, kept, is_full, count_below}
-use Rattle.plant.specs.KeptSteps.{KeptPlant, ImageFollows, ScansFollow, TakesFollow, Says}
+use Rattle.plant.specs.KeptSteps.{KeptPlant, Says}
 use Rattle.plant.specs.TakingSteps.{taken_at, trigger_place}
 use Rattle.plant.proofs.Counting.{count_less}
 use Rattle.plant.proofs.Refusing.{not_below}
@@ -191,6 +192,7 @@ take_says p k w t s tasks takes open_scans says may room follows taken opened = 
   each_worker = opened;
   each_bus = says.each_bus;
   each_output = says.each_output;
+  each_owed = says.each_owed;
   each_place = says.each_place;
   clock = says.clock;
   place = let e = says.place in omega arith;

@@ -1,16 +1,14 @@
 -- The process image once a scan was committed.
-use Rattle.std.proofs.Common.{◌≡◌, ◌≢◌, ◌⊎◌, ⊎_elim, ℕ, ◌+◌, ◌-◌, ◌≤◌, Bool, true, false, eqb, List, ◌∷◌, length, drop}
+use Rattle.std.proofs.Common.{◌≡◌, ◌≢◌, ◌⊎◌, ⊎_elim, ℕ, ◌-◌, ◌≤◌, true, false, eqb, List, ◌∷◌, length}
 use Rattle.std.proofs.Common.{Option, Some, None, refl, sym, ap, ◌∙◌, subst, length-drop, arith}
 use Rattle.std.proofs.lemmas.Bool.Decides.{eqb_tells}
 use Rattle.std.proofs.lemmas.Option.{slice_get_past}
 use Rattle.std.specs.Prelude.{slice_get}
 use Rattle.std.specs.Option.{option_and_then}
-use Rattle.iltypes.specs.declared.value.IlType.{IlType}
 use Rattle.iltypes.specs.declared.value.Value.{Value}
 use Rattle.iltypes.specs.Values.{AreOf}
 use Rattle.ilblocks.specs.Calls.{Block}
 use Rattle.ilblocks.proofs.Blocks.{as_long}
-use Rattle.ilimage.specs.declared.external.External.{External}
 use Rattle.ilimage.specs.Images.{ProcessImage, TaskImage, TaskLayout, Layout, ImageVariable, Own, IsImage, layout_of}
 use Rattle.ilimage.specs.Images.{value_of, blocks_of, own_types, written_at, written_in}
 use Rattle.ilimage.proofs.Places.{externals_fit, layout_at}
@@ -22,7 +20,7 @@ use Rattle.plantevents.specs.Plants.{Plant, layout}
 use Rattle.plantevents.specs.Histories.{OpenScan, scan}
 use Rattle.plantevents.specs.Variables.{newest, scan_write, commit_write, write_of}
 use Rattle.plantevents.specs.Writes.{IsWrittenFrom, IsNotWritten}
-use Rattle.plant.specs.KeptSteps.{ImageFollows}
+use Rattle.plantbuses.specs.KeptSteps.{ImageFollows}
 
 -- a task of the image, of which a scan left these values in its slots: its own variables are those behind the global
 -- ones

@@ -2,13 +2,11 @@
 use Rattle.std.specs.Prelude.{ℕ, ◌==◌, ◌&&◌, Bool, List, Option, Some, None, slice_get, slice_index_or}
 use Rattle.std.specs.Prelude.{option_and_then, if◌then◌else◌}
 use Rattle.std.specs.List.{position}
-use Rattle.iltypes.specs.declared.value.IlType.{IlType}
 use Rattle.iltypes.specs.declared.value.Value.{Value}
-use Rattle.iltypes.specs.Values.{IsOf}
 use Rattle.binding.specs.declared.sources.BoundSource.{BoundSource}
 use Rattle.ilplan.specs.declared.global.Location.{Location}
 use Rattle.ilplan.specs.declared.global.Location.TheVariants.{Information, Count}
-use Rattle.ilplan.specs.Plans.{Planned, Suits}
+use Rattle.ilplan.specs.Plans.{Planned}
 use Rattle.ilimage.specs.Images.{ImageVariable, Global, Own}
 use Rattle.dalievent.specs.Messages.{is_message, information}
 use Rattle.plantevents.specs.Variables.{whole}
@@ -34,10 +32,6 @@ written_by sources counts b f (Information bus number) =
 written_by sources counts b f (Count bus number) =
     option_and_then (count_of sources counts bus b f) (position (is_bound_at bus number) sources)
 written_by sources counts b f _ = None
-
--- a value of this type may be written there
-abbrev pub IsWrittenAs : IlType → Location → Value → Type 0
-IsWrittenAs value_type location value = Suits value_type location → IsOf value value_type
 
 -- what a frame that was heard on bus b writes to a variable
 abbrev pub input_at : Planned → List ℕ → ℕ → ℕ → ImageVariable → Option Value

@@ -1,12 +1,8 @@
-pub mod AnswerSteps
 pub mod CommitSteps
-pub mod HandingSteps
 pub mod InputSteps
 pub mod KeptSteps
 pub mod Matches
-pub mod OfferSteps
 pub mod OpeningSteps
-pub mod OutputSteps
 pub mod Refusals
 pub mod Rows
 pub mod Shown

@@ -14,8 +14,8 @@ pub record IsOpenScan (p : Shown) (w : ℕ) (scan : Scan) : Type 0 where
   pub number : scan.number ≡ running.place
   pub snapshot : scan.snapshot ≡ running.snapshot
 
--- A scan under the number of the one that the worker has open began from its snapshot. Whoever makes the scan of what the
--- worker took knows that, and nobody looks at the snapshots.
+-- A scan under the number of the one that the worker has open began from its snapshot. Whoever makes the scan of what
+-- the worker took knows that, and nobody looks at the snapshots.
 abbrev pub IsOwnScan : Shown → ℕ → Scan → Type 0
 IsOwnScan p w scan =
     (running : OpenScan) → histories.scan w p.history ≡ Some running → scan.number ≡ running.place

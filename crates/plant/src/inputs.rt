@@ -8,7 +8,8 @@ ghost use Rattle.ilimage.specs.Images.{ImageVariable, layout_of, value_of, block
 ghost use Rattle.ilimage.specs.Images.{Global as GlobalVariable};
 ghost use Rattle.ilimage.specs.Snapshots.{MayHave};
 ghost use Rattle.plantevents.specs.Variables.{newest};
-ghost use Rattle.plant.specs.InputSteps.{is_bound_at, written_by, input_at, IsWrittenAs};
+ghost use Rattle.plantbuses.specs.AnswerSteps.{IsWrittenAs};
+ghost use Rattle.plant.specs.InputSteps.{is_bound_at, written_by, input_at};
 
 use binding::BoundSource;
 use daliframe::Frame24;
@@ -27,7 +28,7 @@ fn source_number(sources: &[BoundSource], bus: u8, number: u8) -> Option<usize>
 
 /// What a frame that was heard on a bus writes to a variable that is located there, where `counts`
 /// has counted it.
-#[tactic(auto, using(crate::proofs::Fitting::within_up_to))]
+#[tactic(auto, using(plantbuses::proofs::Fitting::within_up_to))]
 fn message_value(
     sources: &[BoundSource],
     counts: &[u16],

@@ -15,20 +15,15 @@
 #![tactic(auto)]
 
 mod answers;
-mod bus;
 mod inputs;
 mod laws;
 mod messages;
-mod next;
-mod offers;
 mod open_fault;
 mod opening;
-mod outputs;
 mod overrides;
 mod place;
 mod plant;
 mod refusal;
-mod running;
 mod setups;
 mod shown_rows;
 mod writes;

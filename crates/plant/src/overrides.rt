@@ -6,7 +6,7 @@ ghost use Rattle.iltypes.specs.declared.value.IlType.{IlType};
 ghost use Rattle.iltypes.specs.declared.value.Value.{Value as AnyValue};
 ghost use Rattle.ilimage.specs.Images.{overridden};
 ghost use Rattle.plantevents.specs.Variables.{event_value, newest};
-ghost use Rattle.plant.specs.InputSteps.{IsWrittenAs};
+ghost use Rattle.plantbuses.specs.AnswerSteps.{IsWrittenAs};
 ghost use Rattle.plant.specs.TakingSteps.{event_at, given_to, IsInType};
 
 use crate::opening::push_some;
@@ -18,7 +18,7 @@ use std::alloc::{AllocError, Global};
 
 /// The value that an event task, whose trigger is located at this number of a bus, takes at a
 /// location: TRUE at the trigger, and the information and the count of its pending event.
-#[tactic(auto, using(crate::proofs::Fitting::within_up_to))]
+#[tactic(auto, using(plantbuses::proofs::Fitting::within_up_to))]
 fn value_taken(location: Location, bus: u8, number: u8, event: PendingEvent) -> Option<Value>
     requires { event.information ≤ 1023 }
     ensures value { result ≡ event_value bus number event location }

@@ -18,21 +18,22 @@ mod readers;
 mod reporting;
 mod taking;
 
-use crate::bus::{BusState, fresh_buses, note_down, note_heard};
 use crate::inputs::write_message;
 use crate::messages::count_message;
 use crate::open_fault::OpenFault;
 use crate::opening::first_image;
-use crate::outputs::{BusOutputs, outputs_of};
 use crate::place::{keep_place, keep_place_of, use_place, use_place_of};
 use crate::refusal::CallRefusal;
-use crate::running::{RunningScan, idle_workers};
 use crate::setups::task_setups;
 use daliframe::Frame24;
 pub use handing::Handed;
 use ilimage::Image;
 use ilsetup::Setup;
 pub use limits::{LEAST_EVENTS as LEAST_LIMIT, MOST_EVENTS as MOST_LIMIT, MOST_WORKERS};
+use plantbuses::{
+    BusOutputs, BusState, OwedLevels, RunningScan, fresh_buses, idle_workers, note_down,
+    note_heard, outputs_of, owed_levels,
+};
 use plantevents::Event;
 use std::alloc::{AllocError, Global};
 use std::marker::Model;
@@ -57,6 +58,8 @@ pub struct Plant {
     buses: Vec<BusState>,
     /// What is located at the levels of each bus.
     outputs: Vec<BusOutputs>,
+    /// The levels of each bus that are owed.
+    owed: Vec<OwedLevels>,
     /// Whether a place is kept back for a tick, and for a frame of each bus.
     clock_place: bool,
     bus_places: Vec<bool>,
@@ -96,6 +99,7 @@ impl Model for Plant {
       scans = p.scans.items;
       buses = p.buses.items;
       outputs = p.outputs.items;
+      owed = p.owed.items;
       moment = p.moment;
       length = p.length;
       kept = p.kept;
@@ -139,6 +143,7 @@ impl Plant {
         let scans = idle_workers(alloc, workers)?;
         let states = fresh_buses(alloc, buses)?;
         let outputs = outputs_of(alloc, setup.plan())?;
+        let owed = owed_levels(alloc, &outputs, &states, &image)?;
         let bus_places = vec![in alloc; false; usize::from(buses)]?;
         Ok(Plant {
             setup,
@@ -152,6 +157,7 @@ impl Plant {
             scans,
             buses: states,
             outputs,
+            owed,
             clock_place: false,
             bus_places,
             moment: 0,
@@ -221,7 +227,7 @@ impl Plant {
         if bus >= self.setup.plan().buses() {
             return Err(CallRefusal::Stranger);
         }
-        if self.buses[usize::from(bus)].is_down {
+        if self.buses[usize::from(bus)].is_down() {
             return Err(CallRefusal::BusDown);
         }
         Ok(())

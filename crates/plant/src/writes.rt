@@ -7,7 +7,7 @@ ghost use Rattle.plantevents.specs.declared.event.Event.TheVariants.{Commit};
 ghost use Rattle.plantevents.specs.Plants.{Plant as Made};
 ghost use Rattle.plantevents.specs.Histories.{OpenScan};
 ghost use Rattle.plantevents.specs.Histories as histories;
-ghost use Rattle.plant.specs.KeptSteps.{ImageFollows};
+ghost use Rattle.plantbuses.specs.KeptSteps.{ImageFollows};
 
 use ilimage::Image;
 use ilmachine::ScanResult;

@@ -7,11 +7,10 @@ ghost use Rattle.plant.specs.Matches.{IsOpenScan, IsOwnScan};
 ghost use Rattle.plant.specs.CommitSteps.{IsOpenScanOf, IsScanOfTask};
 
 use super::Plant;
-use crate::offers::offer_all;
-use crate::running::note_end;
 use crate::setups::kind_of;
 use crate::writes::write_scan;
 use ilmachine::ScanResult;
+use plantbuses::{note_end, note_stores, offer_all};
 use plantevents::{Event, NotedResult};
 
 impl Plant {
@@ -27,7 +26,7 @@ impl Plant {
         let Some(running) = &self.scans[worker] else {
             return None;
         };
-        if running.place() == scan.number() {
+        if running.has_number(scan.number()) {
             Some(running.task())
         } else {
             None
@@ -72,6 +71,14 @@ impl Plant {
         let kind = kind_of(self.setup.plan(), task);
         offer_all(&mut self.buses, kind, scan.outbox());
         write_scan(&mut self.image, task, scan);
+        note_stores(
+            &mut self.owed,
+            self.setup.plan(),
+            &self.outputs,
+            &self.buses,
+            &self.image,
+            task,
+        );
         self.tasks.ended(task);
         note_end(&mut self.scans, worker);
         self.history.push(&Event::Commit {

@@ -7,16 +7,15 @@ ghost use Rattle.plantevents.specs.declared.event.Event.TheVariants as event;
 ghost use Rattle.plantevents.specs.Histories.{hand as open_hand};
 ghost use Rattle.plantevents.specs.Waiting.{waiting, class_handouts, handouts};
 ghost use Rattle.plantevents.specs.Legal.{IsHand, IsUp};
+ghost use Rattle.plantbuses.specs.HandingSteps.{IsOfClass, handout_of};
 ghost use Rattle.plant.specs.Refusals.{GivesFirst, hand_cases};
 ghost use Rattle.plant.specs.Shown.{grown, is_full};
-ghost use Rattle.plant.specs.HandingSteps.{IsOfClass, handout_of};
 
 use super::Plant;
-use crate::bus::note_hand;
-use crate::next::{Next, first_of, transaction_of};
 use crate::refusal::CallRefusal;
 use busqueue::Class;
 use gearcmd::Request;
+use plantbuses::{Next, first_of, note_hand, note_handed, transaction_of};
 use plantevents::{Event, Origin};
 use taskset::other_events_leave_tasks;
 use transact::Transaction;
@@ -39,7 +38,7 @@ impl Plant {
         ensures value { result
             ≡ slice_get (waiting self.now.plant bus (class_number class) self.now.history) 0 }
     {
-        self.buses[usize::from(bus)].queues.first(class)
+        self.buses[usize::from(bus)].queues().first(class)
     }
 
     /// What of a class is handed out first: the request that has waited longest, else the owed
@@ -97,7 +96,7 @@ impl Plant {
         ensures class { IfOk result (λ next. IsOfClass next.class next.origin) }
     {
         self.is_up(bus)?;
-        if self.buses[usize::from(bus)].hand.is_some() {
+        if self.buses[usize::from(bus)].hand().is_some() {
             return Err(CallRefusal::Busy);
         }
         let Some(next) = self.next_handout(bus) else {
@@ -140,6 +139,7 @@ impl Plant {
         let number = self.length;
         other_events_leave_tasks();
         note_hand(&mut self.buses, bus, number, next);
+        note_handed(&mut self.owed, bus, next);
         self.history.push(&Event::Hand {
             bus,
             origin: next.origin(),

@@ -82,7 +82,7 @@ impl Plant {
         requires { bus < self.now.plant.plan.buses }
         ensures value { result ≡ is_down bus self.now.history }
     {
-        self.buses[usize::from(bus)].is_down
+        self.buses[usize::from(bus)].is_down()
     }
 
     /// The number and the task of the scan that a worker has open.
@@ -102,8 +102,8 @@ impl Plant {
         requires { bus < self.now.plant.plan.buses }
         ensures value { result ≡ option_map (λ handed. handed.place) (hand bus self.now.history) }
     {
-        match &self.buses[usize::from(bus)].hand {
-            Some(open) => Some(open.place),
+        match self.buses[usize::from(bus)].hand() {
+            Some(open) => Some(open.place()),
             None => None,
         }
     }
@@ -124,7 +124,7 @@ impl Plant {
         ensures value { result
             ≡ dropped self.now.plant bus (class_number class) self.now.history }
     {
-        self.buses[usize::from(bus)].queues.dropped(class)
+        self.buses[usize::from(bus)].queues().dropped(class)
     }
 
     /// How many events were given up for a task, since 32 later ones came before it was taken.
@@ -140,7 +140,7 @@ impl Plant {
         requires { bus < self.now.plant.plan.buses }
         ensures value { result ≡ frames bus self.now.history }
     {
-        self.buses[usize::from(bus)].frames
+        self.buses[usize::from(bus)].frames()
     }
 
     /// How many frames were heard on a bus.
@@ -148,7 +148,7 @@ impl Plant {
         requires { bus < self.now.plant.plan.buses }
         ensures value { result ≡ heards bus self.now.history }
     {
-        self.buses[usize::from(bus)].heards
+        self.buses[usize::from(bus)].heards()
     }
 
     /// How often a task was taken.

@@ -8,7 +8,7 @@ ghost use Rattle.plant.specs.Matches.{IsOpenTransaction};
 
 use super::Plant;
 use crate::answers::write_answer;
-use crate::bus::note_report;
+use plantbuses::note_report;
 use plantevents::{Event, Origin};
 use taskset::other_events_leave_tasks;
 use transact::{Report, Transaction};
@@ -26,9 +26,9 @@ impl Plant {
         if bus >= self.setup.plan().buses() {
             return None;
         }
-        let open = self.buses[usize::from(bus)].hand.as_ref()?;
-        if open.place == number && open.transaction.is_same(transaction) {
-            Some(open.origin)
+        let open = self.buses[usize::from(bus)].hand().as_ref()?;
+        if open.place() == number && open.transaction().is_same(transaction) {
+            Some(open.origin())
         } else {
             None
         }

@@ -18,10 +18,10 @@ ghost use Rattle.plant.specs.TakingSteps.{IsInType, taken_at};
 use super::Plant;
 use crate::overrides::overrides;
 use crate::refusal::{CallError, CallRefusal};
-use crate::running::{RunningScan, note_scan, note_take};
 use crate::setups::{trigger_of, trigger_place};
 use ilimage::{Override, Snapshot};
 use ilmachine::Work;
+use plantbuses::{note_scan, note_take};
 use plantevents::{Event, NotedSnapshot};
 use std::alloc::{AllocError, Global};
 
@@ -131,12 +131,7 @@ impl Plant {
         let work = Work::new(number, snapshot)?;
         let _ = self.tasks.took(number, task);
         note_take(&mut self.takes, task);
-        let running = RunningScan {
-            place: number,
-            task,
-            snapshot: began,
-        };
-        note_scan(&mut self.scans, worker, running);
+        note_scan(&mut self.scans, worker, number, task, began);
         self.history.push(&Event::Take {
             worker,
             task,

@@ -1,7 +1,7 @@
 use Rattle.std.proofs.Common.{refl, ap, ◌∙◌, arith}
 use Rattle.ilimage.specs.Images.{Global, value_of}
 use Rattle.plantevents.specs.Variables.{newest}
-use Rattle.plant.specs.AnswerSteps.{answer_at}
+use Rattle.plantbuses.specs.AnswerSteps.{answer_at}
 use Rattle.plant.proofs.Answering.{past_all}
 use Rattle.plant.proofs.GivenInputs.{given_more, all_given}
 use Rattle.plant.proofs.answers.write_answer.Goals as goal

@@ -1,4 +1,4 @@
-use Rattle.plant.specs.AnswerSteps.{answer_at}
+use Rattle.plantbuses.specs.AnswerSteps.{answer_at}
 use Rattle.plant.proofs.GivenInputs.{AreGiven}
 use Rattle.plant.proofs.answers.write_answer.Given as goal
 

@@ -1,4 +1,4 @@
-use Rattle.plant.proofs.Fitting.{fits_there}
+use Rattle.plantbuses.proofs.Fitting.{fits_there}
 use Rattle.plant.proofs.inputs.message_to.Goals as goal
 
 pub returns-clause-in_type : goal.returns-clause-in_type

@@ -1,5 +1,5 @@
 use Rattle.std.proofs.Common.{Some}
-use Rattle.plant.proofs.Fitting.{fits_there}
+use Rattle.plantbuses.proofs.Fitting.{fits_there}
 use Rattle.plant.proofs.overrides.override_of.Goals as goal
 
 pub returns-clause-in_type : goal.returns-clause-in_type

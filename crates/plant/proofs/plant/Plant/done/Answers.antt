@@ -4,8 +4,8 @@ use Rattle.ilplan.specs.Plans.{Planned}
 use Rattle.ilimage.specs.Images.{value_of}
 use Rattle.plantevents.specs.Histories.{OpenHand, hand}
 use Rattle.plantevents.specs.Variables.{newest}
+use Rattle.plantbuses.specs.AnswerSteps.{answer_at}
 use Rattle.plant.specs.Shown.{Shown, plant_of}
-use Rattle.plant.specs.AnswerSteps.{answer_at}
 use Rattle.plant.proofs.Answering.{image_done}
 use Rattle.plant.proofs.Reporting.{done_now, done_says, frames_room, place_left}
 use Rattle.plant.proofs.plant.Plant.done.Goals as goal

@@ -1,4 +1,3 @@
-use Rattle.std.proofs.Common.{sym}
 use Rattle.plant.proofs.FirstHandouts.{first_chosen, class_chosen}
 use Rattle.plant.proofs.plant.Plant.first_of.Goals as goal
 

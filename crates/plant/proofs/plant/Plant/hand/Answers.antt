@@ -4,8 +4,8 @@ use Rattle.gearcmd.specs.FrameLists.{FrameList, IsLegal}
 use Rattle.plantevents.specs.Histories.{hand}
 use Rattle.plantevents.specs.Waiting.{handouts}
 use Rattle.plantevents.specs.Legal.{IsUp, IsHand}
+use Rattle.plantbuses.specs.HandingSteps.{transaction_by, handout_of}
 use Rattle.plant.specs.Shown.{Shown, is_full, plant_of}
-use Rattle.plant.specs.HandingSteps.{transaction_by, handout_of}
 use Rattle.plant.proofs.Handing.{hand_says}
 use Rattle.plant.proofs.plant.Plant.hand.Goals as goal
 
@@ -27,6 +27,8 @@ invariant_of-self c =
           subst (λ (f : FrameList). IsLegal f.frames f.first_priority) c.transaction_of.ensures.value
           c.transaction_of.ensures.legal;
     } in
-    rw (c.push.ensures, c.origin.ensures, c.transaction_of.ensures.value) (hand_says _ _ b next.origin t _ says may room
+    rw (c.push.ensures, c.origin.ensures, c.transaction_of.ensures.value) (hand_says _ _ b next.origin t _ _ says may
+    room
     (c.other_events_leave_tasks.ensures.hand plant b next.origin t h p.tasks says.each_task)
-    (c.note_hand.ensures plant h says.each_bus says.place))
+    (c.note_hand.ensures plant h says.each_bus says.place)
+    (c.note_handed.ensures plant t h first says.each_owed))

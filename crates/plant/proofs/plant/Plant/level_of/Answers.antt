@@ -5,9 +5,9 @@ use Rattle.iltypes.specs.declared.value.IlType.{IlType}
 use Rattle.ilplan.specs.declared.global.Global.{Global as GlobalVariable}
 use Rattle.ilplan.specs.Plans.{IsLawful}
 use Rattle.ilimage.specs.Snapshots.{MayHave}
+use Rattle.plantbuses.specs.HandingSteps.{IsOutput}
+use Rattle.plantbuses.proofs.OwedAt.{value_is, output_below}
 use Rattle.plant.specs.Shown.{Shown, plant_of}
-use Rattle.plant.specs.HandingSteps.{IsOutput}
-use Rattle.plant.proofs.OwedLevels.{value_is, output_below}
 use Rattle.plant.proofs.plant.Plant.level_of.Goals as goal
 
 pub value-requires : goal.value-requires

@@ -5,8 +5,8 @@ use Rattle.plantevents.specs.Histories.{scan}
 use Rattle.plantevents.specs.Choices.{IsNextTask}
 use Rattle.plantevents.specs.Variables.{IsSnapshot}
 use Rattle.plantevents.specs.Legal.{IsTake}
+use Rattle.plantbuses.specs.KeptSteps.{ScansFollow}
 use Rattle.plant.specs.Shown.{Shown, is_full, plant_of}
-use Rattle.plant.specs.KeptSteps.{ScansFollow}
 use Rattle.plant.proofs.Taking.{take_room, take_says}
 use Rattle.plant.proofs.plant.Plant.take.Goals as goal
 

@@ -1,5 +1,0 @@
-use Rattle.plant.specs.KeptSteps.{AreFresh}
-use Rattle.plant.proofs.bus.fresh_buses.Given as goal
-
-abbrev pub invariant-loop : goal.invariant-loop
-invariant-loop l = AreFresh l.counter l.states.items

@@ -1,0 +1,10 @@
+pub mod Answering
+pub mod Fitting
+pub mod Handing
+pub mod LocatedLevels
+pub mod Offered
+pub mod OwedAt
+pub mod OwedBits
+pub mod OwedChanges
+pub mod Starting
+pub mod StoredLevels

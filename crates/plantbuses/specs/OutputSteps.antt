@@ -1,0 +1,44 @@
+-- What is kept of the global variables that are located at levels.
+use Rattle.std.specs.Prelude.{◌≡◌, ℕ, ◌<◌, ◌==◌, ◌&&◌, Bool, false, List, [], length, slice_index_or}
+use Rattle.std.specs.Prelude.{Option, Some, None, option_map}
+use Rattle.ilplan.specs.Plans.{Planned, PlannedTask, is_event}
+use Rattle.ilimage.specs.declared.external.External.{External}
+use Rattle.plantevents.specs.Plants.{Plant, output_at, storing_kind, stores_global}
+use Rattle.plantbuses.specs.declared.outputs.LevelOutput.{LevelOutput}
+
+-- a plant of the plan: what is located where does not hang on the codes and the workers
+abbrev pub planned : Planned → Plant
+planned plan = record { plan = plan; codes = []; workers = 0 }
+
+-- a slot of the global variable, which a program of its task stores to
+abbrev pub is_store_of : ℕ → External → Bool
+is_store_of global e = e.global == global && e.stored
+
+abbrev pub is_store_in : ℕ → Option External → Bool
+is_store_in global (Some e) = is_store_of global e
+is_store_in global None = false
+
+-- an event task that stores to it
+abbrev pub is_event_store : ℕ → PlannedTask → Bool
+is_event_store global task = is_event task.activation && stores_global task global
+
+-- a global variable with the kind of the task that stores to it
+abbrev pub output_of : Plant → ℕ → LevelOutput
+output_of p global = record { global = global; kind = storing_kind p global }
+
+-- what is located at the level of an address
+abbrev pub level_output : Plant → ℕ → ℕ → Option LevelOutput
+level_output p b a = option_map (output_of p) (output_at p b a)
+
+-- what is located at the levels of bus b
+abbrev pub AreOutputsOf : Plant → ℕ → List (Option LevelOutput) → Type 0
+AreOutputsOf p b outputs =
+    (length outputs ≡ 81) × ((a : ℕ) → a < 81 → slice_index_or outputs a None ≡ level_output p b a)
+
+abbrev pub outputs_at : List (List (Option LevelOutput)) → ℕ → List (Option LevelOutput)
+outputs_at outputs b = slice_index_or outputs b []
+
+-- of each bus
+abbrev pub OutputsFollow : Plant → List (List (Option LevelOutput)) → Type 0
+OutputsFollow p outputs =
+    (length outputs ≡ p.plan.buses) × ((b : ℕ) → b < p.plan.buses → AreOutputsOf p b (outputs_at outputs b))
