@@ -195,10 +195,11 @@ fn explain_played<W: Write>(
     bytes: &[u8],
 ) -> io::Result<ExitStatus> {
     match simbus::parse(alloc, bytes) {
-        Ok(_) => explain_nothing(alloc, out, sheets, setup),
+        Ok(_installation) => explain_nothing(alloc, out, sheets, setup),
         Err(fault) => {
             explain_scenario(out, bytes, &fault)?;
-            Ok(PlayStop::from(fault).status())
+            let stop = PlayStop::from(fault);
+            Ok(stop.status())
         }
     }
 }
