@@ -2,9 +2,8 @@
 use Rattle.std.proofs.Common.{◌≡◌, ℕ, ◌+◌, ◌-◌, ◌^◌, ◌<◌, ◌≤◌, Bool, true, false, ◌&&◌, refl, ap, arith}
 use Rattle.std.proofs.lemmas.Bool.{le-leb, leb-true, lt-ltb, ltb-true}
 use Rattle.std.specs.Prelude.{nat_lt, nat_le}
-use Rattle.dalievent.specs.declared.messages.EventMessage.{EventMessage}
 use Rattle.dalievent.specs.declared.messages.EventSource.{EventSource}
-use Rattle.dalievent.specs.EventSchemes.{scheme_bits, a_limit, Solves, IsFrom}
+use Rattle.dalievent.specs.EventSchemes.{EventMessage, scheme_bits, a_limit, Solves, IsFrom}
 use Rattle.dalievent.specs.Messages.{first_message, is_message, information}
 
 parts : (x y : Bool) → (x && y) ≡ true → (x ≡ true) × (y ≡ true)

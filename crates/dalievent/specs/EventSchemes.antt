@@ -1,13 +1,16 @@
 -- The event messages of control devices: one equation on the frame's number for each scheme (profile).
 use Rattle.std.specs.Prelude.{◌≡◌, ℕ, ◌+◌, ◌*◌, ◌<◌, ◌^◌}
-use Rattle.daliframe.specs.Frames.{IsCommand24}
 use Rattle.daliframe.specs.declared.schemes.EventScheme.{EventScheme}
 use Rattle.daliframe.specs.declared.schemes.EventScheme.TheVariants.{Instance, Device, DeviceInstance}
 use Rattle.daliframe.specs.declared.schemes.EventScheme.TheVariants.{DeviceGroup, InstanceGroup}
-use Rattle.dalievent.specs.declared.messages.EventMessage.{EventMessage}
 use Rattle.dalievent.specs.declared.messages.EventSource.{EventSource}
-use Rattle.dalievent.specs.declared.messages.Heard.{Heard}
-use Rattle.dalievent.specs.declared.messages.Heard.TheVariants.{Event, Command, Other}
+
+-- an event message: its scheme, the two parts that the scheme gives a meaning, and its information
+pub record EventMessage : Type 0 where
+  pub scheme : EventScheme
+  pub a : ℕ
+  pub b : ℕ
+  pub info : ℕ
 
 -- what the scheme adds to a frame: bits 23 and 22 are `10` or `11` where no short address is, bit 15 tells two schemes
 -- apart
@@ -31,20 +34,6 @@ abbrev pub Solves : EventMessage → ℕ → Type 0
 Solves e frame =
     (e.a < a_limit e.scheme) × (e.b < 32) × (e.info < 1024)
     × (frame ≡ scheme_bits e.scheme + 2 ^ 17 * e.a + 2 ^ 10 * e.b + e.info)
-
--- a frame that solves no equation
-abbrev pub HasNoEvent : ℕ → Type 0
-HasNoEvent frame = (e : EventMessage) → ¬ Solves e frame
-
--- a frame with bit 16 set is a command, and one that solves no equation is none of these
-abbrev pub IsHeard : Heard → ℕ → Type 0
-IsHeard (Event e) frame = Solves e frame
-IsHeard Command frame = IsCommand24 frame
-IsHeard Other frame = (¬ IsCommand24 frame) × HasNoEvent frame
-
--- a frame has one event at most
-abbrev pub IsOnlyEvent : Heard → ℕ → Type 0
-IsOnlyEvent heard frame = (e : EventMessage) → Solves e frame → heard ≡ Event e
 
 -- an event comes from a source of its scheme and parts, whatever its information
 abbrev pub IsFrom : EventSource → EventMessage → Type 0

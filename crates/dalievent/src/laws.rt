@@ -1,9 +1,8 @@
 //! What the frames of a source are, by the equations of the event schemes.
 
 ghost use Rattle.std.specs.Prelude.{◌≡◌, ◌<◌, ℕ, true};
-ghost use Rattle.dalievent.specs.declared.messages.EventMessage.{EventMessage};
 ghost use Rattle.dalievent.specs.declared.messages.EventSource.{EventSource};
-ghost use Rattle.dalievent.specs.EventSchemes.{a_limit, Solves, IsFrom};
+ghost use Rattle.dalievent.specs.EventSchemes.{EventMessage, a_limit, Solves, IsFrom};
 ghost use Rattle.dalievent.specs.Messages.{is_message, information};
 
 /// The frames of a source are those that solve the equation of its scheme with its parts, and their

@@ -1,7 +1,7 @@
-//! Event messages of DALI-2 control devices. A 24-bit forward frame comes in; what it says goes
-//! out, as one of five event schemes with its two address parts and its information, and which
-//! information it has as a message of a source. The definition to read first is `Solves` in
-//! `specs/EventSchemes.antt`: five equations on the frame's number (profile).
+//! Event messages of DALI-2 control devices. A source of events comes in, with its scheme, one of
+//! five, and its two address parts, and a 24-bit forward frame; whether the frame is a message of
+//! the source goes out, with the information that it has. The definition to read first is `Solves`
+//! in `specs/EventSchemes.antt`: five equations on the frame's number (profile).
 //!
 //! ```text
 //! let information = button.information(frame)?;
@@ -12,4 +12,4 @@ mod laws;
 mod messages;
 
 pub use laws::messages_solve_their_equation;
-pub use messages::{EventMessage, EventSource, Heard, decode, matches};
+pub use messages::EventSource;
