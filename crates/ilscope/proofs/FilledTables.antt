@@ -17,8 +17,8 @@ use Rattle.ilscope.specs.Faults.{IsLeastOf, IsTwiceIn, OfCause, SomeOf}
 use Rattle.ilscope.specs.Kept.{Kept, types_in}
 use Rattle.ilscope.specs.Order.{lesser_of_two}
 use Rattle.ilscope.specs.ScopeSteps.{AreAllNumbers, AreNumbersOf, AreTablesOf, IsFaultInElements, IsFaultInTables}
-use Rattle.ilscope.specs.ScopeSteps.{IsFaultOfElement, IsGathered, IsTwiceNumbered, above_all, block_names}
-use Rattle.ilscope.specs.ScopeSteps.{external_names, variable_names}
+use Rattle.ilscope.specs.ScopeSteps.{IsFaultOfElement, IsGathered, IsGlobalOrTaskTwice, IsTwiceNumbered, above_all}
+use Rattle.ilscope.specs.ScopeSteps.{block_names, external_names, variable_names}
 use Rattle.ilscope.specs.Tables.{lowered}
 use Rattle.ilscope.specs.declared.data_type.DataType.{DataType}
 use Rattle.ilscope.specs.declared.fault.NameCause.TheVariants.{Twice}
@@ -96,36 +96,35 @@ module _ (tree : Tree) (lower : List ℕ) (types : Kept (Option DataType)) (prog
             program_numbers) programs_are (numbered (map (λ p. p.program.name) programs) program_numbers p);
       }
 
-  again : (names : List Name) (found : Option Found) → IsLeastOf (OfCause Twice (IsTwiceIn (text_of lower) names)) found
-      → IsLeastOf (OfCause Twice (IsTwiceIn (folded tree.text) names)) found
-  again names found h =
-      subst (λ (s : Name → List ℕ). IsLeastOf (OfCause Twice (IsTwiceIn s names)) found) same h
-
-  pub found_in_tables : (globals : List DeclaredGlobal) (one two three : Option Found) →
+  pub found_in_tables : (globals : List DeclaredGlobal) (element configured : Option Found) →
       globals ≡ flat_map (globals_in (types_in lower types)) (declared_globals_of tree) →
-      IsLeastOf (OfCause Twice (IsTwiceIn (text_of lower) (map name_of tree.elements))) one →
-      IsLeastOf (OfCause Twice (IsTwiceIn (text_of lower) (map (λ g. g.name) globals))) two →
-      IsLeastOf (OfCause Twice (IsTwiceIn (text_of lower) (map (λ t. t.name) (task_declarations tree)))) three →
-      IsLeastOf (IsFaultInTables tree) (lesser_of_two least (lesser_of_two one (lesser_of_two two three)))
-  found_in_tables globals one two three g a b c =
+      IsLeastOf (OfCause Twice (IsTwiceIn (text_of lower) (map name_of tree.elements))) element →
+      IsLeastOf (OfCause Twice (IsGlobalOrTaskTwice (text_of lower) globals (task_declarations tree))) configured →
+      IsLeastOf (IsFaultInTables tree) (lesser_of_two least (lesser_of_two element configured))
+  found_in_tables globals element configured g a b =
       let spelled = folded tree.text in
+      let names = map name_of tree.elements in
+      let tasks = task_declarations tree in
       let globals_are : globals ≡ globals_of tree =
       g ∙ ap (λ (names : TypeNames). flat_map (globals_in names) (declared_globals_of tree)) types_are
       in
-      let of_globals : IsLeastOf (OfCause Twice (IsTwiceIn spelled (map (λ g. g.name) (globals_of tree)))) two =
-      subst (λ (gs : List DeclaredGlobal). IsLeastOf (OfCause Twice (IsTwiceIn spelled (map (λ g. g.name) gs))) two)
-      globals_are (again (map (λ g. g.name) globals) two b)
+      let of_elements : IsLeastOf (OfCause Twice (IsTwiceIn spelled names)) element =
+      subst (λ (s : Name → List ℕ). IsLeastOf (OfCause Twice (IsTwiceIn s names)) element) same a
       in
-      let tasks = map (λ t. t.name) (task_declarations tree) in
+      let of_these : IsLeastOf (OfCause Twice (IsGlobalOrTaskTwice spelled globals tasks)) configured =
+      subst (λ (s : Name → List ℕ). IsLeastOf (OfCause Twice (IsGlobalOrTaskTwice s globals tasks)) configured) same b
+      in
+      let of_all : IsLeastOf (OfCause Twice (IsGlobalOrTaskTwice spelled (globals_of tree) tasks)) configured =
+      subst (λ (gs : List DeclaredGlobal). IsLeastOf (OfCause Twice (IsGlobalOrTaskTwice spelled gs tasks)) configured)
+      globals_are of_these
+      in
       both_least (IsFaultInElements tree) (OfCause Twice (IsTwiceNumbered tree)) least
-      (lesser_of_two one (lesser_of_two two three))
+      (lesser_of_two element configured)
       (subst (λ (s : Name → List ℕ). IsLeastOf
       (λ place cause. SomeOf (λ one. IsFaultOfElement s one place cause) (standing [] tree.elements)) least) same
       gathered.fault)
-      (either_least Twice (IsTwiceIn spelled (map name_of tree.elements)) _ one (lesser_of_two two three)
-      (again (map name_of tree.elements) one a)
-      (either_least Twice (IsTwiceIn spelled (map (λ g. g.name) (globals_of tree))) (IsTwiceIn spelled tasks) two three
-      of_globals (again tasks three c)))
+      (either_least Twice (IsTwiceIn spelled names) (IsGlobalOrTaskTwice spelled (globals_of tree) tasks) element
+      configured of_elements of_all)
 
 -- numbers and faults of names, in a text and of a list that are equal to those
 pub moved_numbers : (lower l : List ℕ) (names ns : List Name) (numbers : Kept ℕ) → lower ≡ l → names ≡ ns →

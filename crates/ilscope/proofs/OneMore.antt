@@ -6,7 +6,7 @@ use Rattle.std.specs.Map.{lookup}
 use Rattle.std.specs.Option.{option_or}
 use Rattle.std.proofs.lemmas.List.Elements.{filter_map-append}
 use Rattle.ilsource.specs.Names.{text_of}
-use Rattle.ilsource.specs.Programs.{DeclaredNames}
+use Rattle.ilsource.specs.Programs.{DeclaredNames, Written}
 use Rattle.ilsource.specs.declared.declaration.Declared.TheVariants as declared_as
 use Rattle.ilsource.specs.declared.declaration.TypeDeclaration.{TypeDeclaration}
 use Rattle.ilsource.specs.declared.name.Name.{Name}
@@ -14,7 +14,7 @@ use Rattle.ilsource.specs.declared.source.Element.{Element}
 use Rattle.ilsource.specs.declared.source.Element.TheVariants as elements
 use Rattle.ilscope.specs.DataTypes.{TypeNames, declared_type, types_below}
 use Rattle.ilscope.specs.Declarations.{DeclaredProgram, Standing, above_next, declared_program, names_of, standing}
-use Rattle.ilscope.specs.Declarations.{blocks_of, externals_of, variables_of, with_declared}
+use Rattle.ilscope.specs.Declarations.{with_declared}
 use Rattle.ilscope.specs.Faults.{IsLeastOf, IsTwiceIn, OfCause, SomeOf}
 use Rattle.ilscope.specs.Kept.{Kept, types_in, with_new}
 use Rattle.ilscope.specs.Order.{lesser_of_two}
@@ -128,33 +128,26 @@ numbers_last spelled names (p ∷ ps) (n ∷ ns) program table h k =
 -- what is gathered, with one program more
 pub program_added : (lower : List ℕ) (front : List Element) (types : Kept (Option DataType))
     (programs : List DeclaredProgram) (variables blocks externals : List (Kept ℕ))
-    (least twice fault : Option Found) (declared : DeclaredProgram) (its_variables its_blocks its_externals : Kept ℕ) →
+    (least twice fault : Option Found) (program : Written) (declared : DeclaredProgram)
+    (its_variables its_blocks its_externals : Kept ℕ) →
     IsGathered lower front types programs variables blocks externals least →
-    declared.variables ≡ variables_of (types_in lower types) declared.program →
-    declared.blocks ≡ blocks_of declared.program →
-    declared.externals ≡ externals_of (types_in lower types) declared.program →
+    declared ≡ with_declared (types_in lower types) program →
     AreNumbersOf (text_of lower) (variable_names declared) its_variables →
     AreNumbersOf (text_of lower) (block_names declared) its_blocks →
     AreNumbersOf (text_of lower) (external_names declared) its_externals →
-    IsLeastOf (OfCause Twice (IsTwiceIn (text_of lower) (names_of declared.program))) twice →
-    IsLeastOf (λ place cause. SomeOf (λ d. IsFaultIn (types_in lower types) d place cause)
-    declared.program.declarations) fault →
-    IsGathered lower (front ++ elements.Program declared.program ∷ []) types (programs ++ declared ∷ [])
+    IsLeastOf (OfCause Twice (IsTwiceIn (text_of lower) (names_of program))) twice →
+    IsLeastOf (λ place cause. SomeOf (λ d. IsFaultIn (types_in lower types) d place cause) program.declarations) fault →
+    IsGathered lower (front ++ elements.Program program ∷ []) types (programs ++ declared ∷ [])
     (variables ++ its_variables ∷ []) (blocks ++ its_blocks ∷ []) (externals ++ its_externals ∷ [])
     (lesser_of_two least (lesser_of_two twice fault))
-program_added lower front types programs variables blocks externals least twice fault declared its_variables its_blocks
-    its_externals h v b x n m o t f =
+program_added lower front types programs variables blocks externals least twice fault program declared its_variables
+    its_blocks its_externals h d n m o t f =
     let spelled = text_of lower in
     let above : List TypeDeclaration = above_all [] front in
-    let element : Element = elements.Program declared.program in
+    let element : Element = elements.Program program in
     let same : types_in lower types ≡ types_below spelled above = λ i name. h.meant name i in
-    let its : declared ≡ with_declared (types_below spelled above) declared.program =
-    λ i. record {
-      program = declared.program;
-      variables = (v ∙ ap (λ (t : TypeNames). variables_of t declared.program) same) i;
-      blocks = b i;
-      externals = (x ∙ ap (λ (t : TypeNames). externals_of t declared.program) same) i;
-    }
+    let its : declared ≡ with_declared (types_below spelled above) program =
+    d ∙ ap (λ (names : TypeNames). with_declared names program) same
     in
     record {
       meant = λ name. h.meant name
@@ -167,9 +160,9 @@ program_added lower front types programs variables blocks externals least twice 
           numbers_last spelled external_names programs externals declared its_externals h.externals_numbered o;
       fault =
           faults_more spelled front element least (lesser_of_two twice fault) h.fault
-          (both_least (OfCause Twice (IsTwiceIn spelled (names_of declared.program)))
-          (λ place cause. SomeOf (λ d. IsFaultIn (types_below spelled above) d place cause)
-          declared.program.declarations) twice fault t
-          (subst (λ (t : TypeNames). IsLeastOf
-          (λ place cause. SomeOf (λ d. IsFaultIn t d place cause) declared.program.declarations) fault) same f));
+          (both_least (OfCause Twice (IsTwiceIn spelled (names_of program)))
+          (λ place cause. SomeOf (λ d. IsFaultIn (types_below spelled above) d place cause) program.declarations) twice
+          fault t
+          (subst (λ (names : TypeNames). IsLeastOf
+          (λ place cause. SomeOf (λ d. IsFaultIn names d place cause) program.declarations) fault) same f));
     }

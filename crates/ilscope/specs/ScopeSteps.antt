@@ -5,6 +5,7 @@ use Rattle.iltypes.specs.declared.value.IlType.{IlType}
 use Rattle.ilsource.specs.Names.{folded, text_of}
 use Rattle.ilsource.specs.Programs.{DeclaredNames}
 use Rattle.ilsource.specs.Trees.{Tree}
+use Rattle.ilsource.specs.declared.configuration.TaskDeclaration.{TaskDeclaration}
 use Rattle.ilsource.specs.declared.declaration.TypeDeclaration.{TypeDeclaration}
 use Rattle.ilsource.specs.declared.name.Name.{Name}
 use Rattle.ilsource.specs.declared.source.Element.{Element}
@@ -108,6 +109,11 @@ pub record AreTablesOf (tree : Tree) (lower : List ℕ) (types : Kept (Option Da
       AreNumbersOf (folded tree.text) (map (λ p. p.program.name) (declared_programs tree)) program_numbers
 
 -- ---- the faults of declarations, by the steps in which they are found
+
+-- a global variable or a task has the name of an earlier one
+abbrev pub IsGlobalOrTaskTwice : (Name → List ℕ) → List DeclaredGlobal → List TaskDeclaration → ℕ → Type 0
+IsGlobalOrTaskTwice spelled globals tasks place =
+    IsTwiceIn spelled (map (λ g. g.name) globals) place ⊎ IsTwiceIn spelled (map (λ t. t.name) tasks) place
 
 -- those that are found while names are numbered
 abbrev pub IsTwiceNumbered : Tree → ℕ → Type 0

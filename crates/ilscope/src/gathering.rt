@@ -6,15 +6,12 @@ ghost use Rattle.ilsource.specs.declared.source.Element.TheVariants as elements;
 ghost use Rattle.ilscope.specs.Declarations.{name_of};
 ghost use Rattle.ilscope.specs.ScopeSteps.{IsGathered};
 
-use crate::blocks::{block_names, blocks_of};
 use crate::declarations::{fault_of, fault_of_all};
-use crate::externals::{external_names, externals_of};
 use crate::found::{Found, lesser_of};
 use crate::names::Names;
-use crate::numbers::numbers_of;
 use crate::program_scope::ProgramScope;
+use crate::program_tables::ProgramTables;
 use crate::types::{DeclaredTypes, declared_type};
-use crate::variables::{names_of, variable_names, variables_of};
 use ilsource::{Declared, Element, Name, Program, TypeDeclaration};
 use std::alloc::{AllocError, Global};
 
@@ -121,20 +118,16 @@ impl<'a> Gathering<'a> {
             self.new.variable_numbers.items self.new.block_numbers.items
             self.new.external_numbers.items self.new.least) }
     {
-        let variables = variables_of(alloc, lower, &self.types, program)?;
-        let blocks = blocks_of(alloc, program)?;
-        let names = variable_names(alloc, &variables)?;
-        let (variable_numbers, _) = numbers_of(alloc, lower, &names)?;
-        let names = block_names(alloc, &blocks)?;
-        let (block_numbers, _) = numbers_of(alloc, lower, &names)?;
-        let externals = externals_of(alloc, lower, &self.types, program)?;
-        let names = external_names(alloc, &externals)?;
-        let (external_numbers, _) = numbers_of(alloc, lower, &names)?;
-        let names = names_of(alloc, program)?;
-        let (_, twice) = numbers_of(alloc, lower, &names)?;
+        let tables = ProgramTables::of(alloc, lower, &self.types, program)?;
         let fault = fault_of_all(lower, &self.types, program.declarations());
-        self.programs
-            .push(ProgramScope::new(program, variables, blocks, externals))?;
+        let ProgramTables {
+            scope,
+            variable_numbers,
+            block_numbers,
+            external_numbers,
+            twice,
+        } = tables;
+        self.programs.push(scope)?;
         self.variable_numbers.push(variable_numbers)?;
         self.block_numbers.push(block_numbers)?;
         self.external_numbers.push(external_numbers)?;

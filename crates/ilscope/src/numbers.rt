@@ -4,13 +4,17 @@ ghost use Rattle.std.specs.Prelude.{◌≡◌, ℕ, List, IfOk, OnOk, IsSome, by
 ghost use Rattle.std.specs.Map.{lookup};
 ghost use Rattle.ilsource.specs.Names.{text_of};
 ghost use Rattle.ilscope.specs.Configured.{task_declarations};
-ghost use Rattle.ilscope.specs.Declarations.{name_of};
+ghost use Rattle.ilscope.specs.Declarations.{name_of, names_of};
 ghost use Rattle.ilscope.specs.Faults.{IsLeastOf, IsTwiceIn, OfCause};
 ghost use Rattle.ilscope.specs.Kept.{with_new};
 ghost use Rattle.ilscope.specs.Tables.{first_at};
 ghost use Rattle.ilscope.specs.declared.fault.NameCause.TheVariants.{Twice};
 
+use crate::block::DeclaredBlock;
+use crate::blocks::block_names;
 use crate::configuration::{program_names, task_names, tasks_of};
+use crate::external::DeclaredExternal;
+use crate::externals::external_names;
 use crate::fault::NameCause;
 use crate::found::{Found, lesser_of};
 use crate::gathering::element_names;
@@ -18,7 +22,9 @@ use crate::global::DeclaredGlobal;
 use crate::globals::global_names;
 use crate::names::Names;
 use crate::program_scope::ProgramScope;
-use ilsource::{Element, Name, Source};
+use crate::variable::DeclaredVariable;
+use crate::variables::{names_of, variable_names};
+use ilsource::{Element, Name, Program, Source};
 use std::alloc::{AllocError, Global};
 
 /// Under each name the number of the first that is spelled alike, and the least fault of a name
@@ -124,4 +130,60 @@ pub(crate) fn numbers_of_programs(
     let names = program_names(alloc, programs)?;
     let (numbers, _) = numbers_of(alloc, lower, &names)?;
     Ok(numbers)
+}
+
+/// The numbers of a program's variables under their names.
+pub(crate) fn numbers_of_variables(
+    alloc: Global,
+    lower: &[u8],
+    variables: &[DeclaredVariable],
+) -> Result<Names<usize>, AllocError>
+    ensures { IfOk result (λ numbers. (key : List ℕ) → lookup (bytes_eq key) numbers
+        ≡ first_at (bytes_eq key) (map (text_of lower.now) (map (λ v. v.name) variables.now))) }
+{
+    let names = variable_names(alloc, variables)?;
+    let (numbers, _) = numbers_of(alloc, lower, &names)?;
+    Ok(numbers)
+}
+
+/// The numbers of a program's block instances under their names.
+pub(crate) fn numbers_of_blocks(
+    alloc: Global,
+    lower: &[u8],
+    blocks: &[DeclaredBlock],
+) -> Result<Names<usize>, AllocError>
+    ensures { IfOk result (λ numbers. (key : List ℕ) → lookup (bytes_eq key) numbers
+        ≡ first_at (bytes_eq key) (map (text_of lower.now) (map (λ b. b.name) blocks.now))) }
+{
+    let names = block_names(alloc, blocks)?;
+    let (numbers, _) = numbers_of(alloc, lower, &names)?;
+    Ok(numbers)
+}
+
+/// The numbers of a program's externals under their names.
+pub(crate) fn numbers_of_externals(
+    alloc: Global,
+    lower: &[u8],
+    externals: &[DeclaredExternal],
+) -> Result<Names<usize>, AllocError>
+    ensures { IfOk result (λ numbers. (key : List ℕ) → lookup (bytes_eq key) numbers
+        ≡ first_at (bytes_eq key) (map (text_of lower.now) (map (λ e. e.name) externals.now))) }
+{
+    let names = external_names(alloc, externals)?;
+    let (numbers, _) = numbers_of(alloc, lower, &names)?;
+    Ok(numbers)
+}
+
+/// The least fault of a name that a program gives again.
+pub(crate) fn name_given_twice(
+    alloc: Global,
+    lower: &[u8],
+    program: &Program,
+) -> Result<Option<Found>, AllocError>
+    ensures { IfOk result
+        (IsLeastOf (OfCause Twice (IsTwiceIn (text_of lower.now) (names_of program.now)))) }
+{
+    let names = names_of(alloc, program)?;
+    let (_, twice) = numbers_of(alloc, lower, &names)?;
+    Ok(twice)
 }

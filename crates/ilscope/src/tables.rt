@@ -3,15 +3,12 @@
 ghost use Rattle.std.specs.Prelude.{◌≡◌, IfOk};
 ghost use Rattle.ilscope.specs.Tables.{lowered};
 
-use crate::configuration::declared_globals;
+use crate::configuration_tables::ConfigurationTables;
+use crate::element_tables::ElementTables;
 use crate::found::{Found, lesser_of};
 use crate::gathering::Gathering;
 use crate::global::DeclaredGlobal;
-use crate::globals::{globals_of, value_types_of};
 use crate::names::Names;
-use crate::numbers::{
-    element_given_twice, numbers_of_globals, numbers_of_programs, numbers_of_tasks,
-};
 use crate::program_scope::ProgramScope;
 use crate::types::DeclaredTypes;
 use ilblocks::BlockKind;
@@ -76,14 +73,13 @@ impl<'a> Tables<'a> {
         ensures least { IfOk result (λ r. IsLeastOf (IsFaultInTables source.now) r.1) }
     {
         let lower = lower_case(alloc, source.text())?;
-        let gathering = Gathering::of(alloc, &lower, source.elements())?;
-        let elements_twice = element_given_twice(alloc, &lower, source.elements())?;
-        let declared = declared_globals(source);
-        let globals = globals_of(alloc, &lower, &gathering.types, declared)?;
-        let value_types = value_types_of(alloc, &lower, &gathering.types, declared)?;
-        let (global_numbers, globals_twice) = numbers_of_globals(alloc, &lower, &globals)?;
-        let (task_numbers, tasks_twice) = numbers_of_tasks(alloc, &lower, source)?;
-        let program_numbers = numbers_of_programs(alloc, &lower, &gathering.programs)?;
+        let gathered = ElementTables::of(alloc, &lower, source.elements())?;
+        let configured = ConfigurationTables::of(alloc, &lower, &gathered.gathering.types, source)?;
+        let ElementTables {
+            gathering,
+            program_numbers,
+            element_twice,
+        } = gathered;
         let Gathering {
             types,
             programs,
@@ -92,7 +88,14 @@ impl<'a> Tables<'a> {
             external_numbers,
             least,
         } = gathering;
-        let twice = lesser_of(elements_twice, lesser_of(globals_twice, tasks_twice));
+        let ConfigurationTables {
+            globals,
+            value_types,
+            global_numbers,
+            task_numbers,
+            configured_twice,
+        } = configured;
+        let found = lesser_of(least, lesser_of(element_twice, configured_twice));
         let tables = Tables {
             source,
             lower,
@@ -107,7 +110,7 @@ impl<'a> Tables<'a> {
             task_numbers,
             program_numbers,
         };
-        Ok((tables, lesser_of(least, twice)))
+        Ok((tables, found))
     }
 
     /// The source program.

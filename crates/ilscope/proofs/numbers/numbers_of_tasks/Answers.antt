@@ -1,4 +1,4 @@
-use Rattle.std.proofs.Common.{◌≡◌, ◌∙◌, ap, List, subst, map}
+use Rattle.std.proofs.Common.{◌∙◌, ap, List, subst, map}
 use Rattle.std.specs.Prelude.{IfOk}
 use Rattle.ilsource.specs.Names.{text_of}
 use Rattle.ilsource.specs.declared.name.Name.{Name}

@@ -1,0 +1,86 @@
+//! A program with what it declares, and tables in which its names are looked up.
+
+ghost use Rattle.std.specs.Prelude.{◌≡◌, IfOk};
+ghost use Rattle.ilscope.specs.Declarations.{with_declared};
+ghost use Rattle.ilscope.specs.Kept.{types_in};
+
+use crate::blocks::blocks_of;
+use crate::externals::externals_of;
+use crate::found::Found;
+use crate::names::Names;
+use crate::numbers::{
+    name_given_twice, numbers_of_blocks, numbers_of_externals, numbers_of_variables,
+};
+use crate::program_scope::ProgramScope;
+use crate::types::DeclaredTypes;
+use crate::variables::variables_of;
+use ilsource::Program;
+use std::alloc::{AllocError, Global};
+
+/// A program with what it declares, the numbers of its variables, block instances and externals,
+/// and the least fault of a name of these that is given again.
+#[derive(Drop)]
+pub(crate) struct ProgramTables<'a> {
+    pub(crate) scope: ProgramScope<'a>,
+    pub(crate) variable_numbers: Names<usize>,
+    pub(crate) block_numbers: Names<usize>,
+    pub(crate) external_numbers: Names<usize>,
+    pub(crate) twice: Option<Found>,
+}
+
+impl<'a> ProgramTables<'a> {
+    ghost use Rattle.ilsource.specs.Names.{text_of};
+    ghost use Rattle.ilscope.specs.Declarations.{names_of};
+    ghost use Rattle.ilscope.specs.Faults.{IsLeastOf, IsTwiceIn, OfCause};
+    ghost use Rattle.ilscope.specs.ScopeSteps.{AreNumbersOf, block_names, external_names};
+    ghost use Rattle.ilscope.specs.ScopeSteps.{variable_names};
+    ghost use Rattle.ilscope.specs.declared.fault.NameCause.TheVariants.{Twice};
+
+    /// The tables of a program below these types. `lower` is the text in lower case.
+    pub(crate) fn of(
+        alloc: Global,
+        lower: &[u8],
+        types: &DeclaredTypes,
+        program: &'a Program,
+    ) -> Result<ProgramTables<'a>, AllocError>
+        ensures scope { IfOk result (λ tables.
+            tables.scope ≡ with_declared (types_in lower.now types.now) program.now) }
+        ensures variables { IfOk result (λ tables. AreNumbersOf (text_of lower.now)
+            (variable_names tables.scope) tables.variable_numbers) }
+        ensures blocks { IfOk result (λ tables. AreNumbersOf (text_of lower.now)
+            (block_names tables.scope) tables.block_numbers) }
+        ensures externals { IfOk result (λ tables. AreNumbersOf (text_of lower.now)
+            (external_names tables.scope) tables.external_numbers) }
+        ensures twice { IfOk result (λ tables. IsLeastOf
+            (OfCause Twice (IsTwiceIn (text_of lower.now) (names_of program.now))) tables.twice) }
+    {
+        let twice = name_given_twice(alloc, lower, program)?;
+        let scope = scope_of(alloc, lower, types, program)?;
+        let variable_numbers = numbers_of_variables(alloc, lower, scope.variables())?;
+        let block_numbers = numbers_of_blocks(alloc, lower, scope.blocks())?;
+        let external_numbers = numbers_of_externals(alloc, lower, scope.externals())?;
+        Ok(ProgramTables {
+            scope,
+            variable_numbers,
+            block_numbers,
+            external_numbers,
+            twice,
+        })
+    }
+}
+
+/// A program with what it declares below these types. `lower` is the text in lower case.
+fn scope_of<'a>(
+    alloc: Global,
+    lower: &[u8],
+    types: &DeclaredTypes,
+    program: &'a Program,
+) -> Result<ProgramScope<'a>, AllocError>
+    ensures { IfOk result (λ scope.
+        scope ≡ with_declared (types_in lower.now types.now) program.now) }
+{
+    let variables = variables_of(alloc, lower, types, program)?;
+    let blocks = blocks_of(alloc, program)?;
+    let externals = externals_of(alloc, lower, types, program)?;
+    Ok(ProgramScope::new(program, variables, blocks, externals))
+}
