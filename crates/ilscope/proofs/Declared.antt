@@ -7,9 +7,9 @@ use Rattle.std.proofs.lemmas.Option.{get_or_from_slice_get}
 use Rattle.ilsource.specs.Names.{folded, text_of}
 use Rattle.ilsource.specs.Trees.{Tree}
 use Rattle.ilsource.specs.declared.name.Name.{Name}
+use Rattle.ildeclared.specs.Faults.{SomeOf}
+use Rattle.ildeclared.specs.Kept.{Kept}
 use Rattle.ilscope.specs.Declarations.{DeclaredProgram, declared_programs}
-use Rattle.ilscope.specs.Faults.{SomeOf}
-use Rattle.ilscope.specs.Kept.{Kept}
 use Rattle.ilscope.specs.ScopeSteps.{AreAllNumbers, AreNumbersOf}
 use Rattle.ilscope.specs.Tables.{first_at, lowered}
 use Rattle.ilscope.proofs.LeastOfDeclarations.{some_of}

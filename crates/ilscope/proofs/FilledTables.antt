@@ -9,22 +9,23 @@ use Rattle.ilsource.specs.declared.declaration.TypeDeclaration.{TypeDeclaration}
 use Rattle.ilsource.specs.declared.name.Name.{Name}
 use Rattle.ilsource.specs.declared.source.Element.{Element}
 use Rattle.ilsource.specs.declared.source.Element.TheVariants.{DerivedType, Program}
-use Rattle.ilscope.specs.Configured.{declared_globals_of, globals_in, globals_of, task_declarations, types_of_text}
-use Rattle.ilscope.specs.Configured.{value_types_in}
-use Rattle.ilscope.specs.DataTypes.{TypeNames, types_below}
+use Rattle.ildeclared.specs.DataTypes.{TypeNames, types_below}
+use Rattle.ildeclared.specs.Faults.{IsLeastOf, OfCause, SomeOf}
+use Rattle.ildeclared.specs.Globals.{globals_in, value_types_in}
+use Rattle.ildeclared.specs.Kept.{Kept, types_in}
+use Rattle.ildeclared.specs.Order.{lesser_of_two}
+use Rattle.ildeclared.specs.declared.data_type.DataType.{DataType}
+use Rattle.ildeclared.specs.declared.fault.NameCause.TheVariants.{Twice}
+use Rattle.ildeclared.specs.declared.found.Found.{Found}
+use Rattle.ildeclared.specs.declared.global.DeclaredGlobal.{DeclaredGlobal}
+use Rattle.ildeclared.proofs.Least.{both_least, either_least}
+use Rattle.ilscope.specs.Configured.{declared_globals_of, globals_of, task_declarations, types_of_text}
 use Rattle.ilscope.specs.Declarations.{DeclaredProgram, declared_program, declared_programs, name_of, standing}
-use Rattle.ilscope.specs.Faults.{IsLeastOf, IsTwiceIn, OfCause, SomeOf}
-use Rattle.ilscope.specs.Kept.{Kept, types_in}
-use Rattle.ilscope.specs.Order.{lesser_of_two}
+use Rattle.ilscope.specs.Faults.{IsTwiceIn}
 use Rattle.ilscope.specs.ScopeSteps.{AreAllNumbers, AreNumbersOf, AreTablesOf, IsFaultInElements, IsFaultInTables}
 use Rattle.ilscope.specs.ScopeSteps.{IsFaultOfElement, IsGathered, IsGlobalOrTaskTwice, IsTwiceNumbered, above_all}
 use Rattle.ilscope.specs.ScopeSteps.{block_names, external_names, variable_names}
 use Rattle.ilscope.specs.Tables.{lowered}
-use Rattle.ilscope.specs.declared.data_type.DataType.{DataType}
-use Rattle.ilscope.specs.declared.fault.NameCause.TheVariants.{Twice}
-use Rattle.ilscope.specs.declared.found.Found.{Found}
-use Rattle.ilscope.specs.declared.global.DeclaredGlobal.{DeclaredGlobal}
-use Rattle.ilscope.proofs.Least.{both_least, either_least}
 use Rattle.ilscope.proofs.Spelling.{key_is}
 
 pub spelled_is : (lower text : List ℕ) → lower ≡ lowered text → text_of lower ≡ folded text

@@ -9,24 +9,27 @@ use Rattle.ilsource.specs.declared.declaration.TypeDeclaration.{TypeDeclaration}
 use Rattle.ilsource.specs.declared.name.Name.{Name}
 use Rattle.ilsource.specs.declared.source.Element.{Element}
 use Rattle.ilsource.specs.declared.source.Element.TheVariants.{DerivedType, Program}
-use Rattle.ilscope.specs.Configured.{as_variables, declared_globals_of, types_of_text}
-use Rattle.ilscope.specs.DataTypes.{TypeNames, types_below}
-use Rattle.ilscope.specs.Declarations.{Standing, declarations_in, names_of, standing}
-use Rattle.ilscope.specs.Faults.{SomeOf, IsBadIn, IsFaultOfDeclarations, IsLeast, IsLeastOf, IsTwiceIn, IsUnknownTypeIn}
-use Rattle.ilscope.specs.Order.{lesser_of_two}
+use Rattle.ildeclared.specs.DataTypes.{TypeNames, types_below}
+use Rattle.ildeclared.specs.Declarations.{names_of}
+use Rattle.ildeclared.specs.Faults.{SomeOf, IsBadIn, IsLeast, IsLeastOf, IsUnknownTypeIn, IsFaultIn}
+use Rattle.ildeclared.specs.Globals.{as_variables}
+use Rattle.ildeclared.specs.Order.{lesser_of_two}
+use Rattle.ildeclared.specs.declared.fault.NameCause.{NameCause}
+use Rattle.ildeclared.specs.declared.fault.NameCause.TheVariants.{Unknown, Twice, UnknownLabel, BackwardJump}
+use Rattle.ildeclared.specs.declared.fault.NameCause.TheVariants.{BadAddress, InputRangeTooSmall, WrittenTwice}
+use Rattle.ildeclared.specs.declared.fault.NameCause.TheVariants.{WritesInput, NoTask, TooMany, BadDeclaration}
+use Rattle.ildeclared.specs.declared.fault.NameFault.{NameFault}
+use Rattle.ildeclared.specs.declared.fault.NameFault.TheVariants.{Memory, At}
+use Rattle.ildeclared.specs.declared.found.Found.{Found}
+use Rattle.ildeclared.proofs.FoundOrder.{best_same, or_else}
+use Rattle.ildeclared.proofs.Least.{both_least}
+use Rattle.ilscope.specs.Configured.{declared_globals_of, types_of_text}
+use Rattle.ilscope.specs.Declarations.{Standing, declarations_in, standing}
+use Rattle.ilscope.specs.Faults.{IsFaultOfDeclarations, IsTwiceIn}
 use Rattle.ilscope.specs.Reports.{IsReportOf, IsReportOfOption, ReportsLeast}
-use Rattle.ilscope.specs.ScopeSteps.{IsFaultIn, IsFaultInElements, IsFaultInGlobals, IsFaultInTables, IsFaultOfElement}
+use Rattle.ilscope.specs.ScopeSteps.{IsFaultInElements, IsFaultInGlobals, IsFaultInTables, IsFaultOfElement}
 use Rattle.ilscope.specs.ScopeSteps.{IsFaultOfConfiguration, names_in}
 use Rattle.ilscope.specs.Scoped.{Scoped}
-use Rattle.ilscope.specs.declared.fault.NameCause.{NameCause}
-use Rattle.ilscope.specs.declared.fault.NameCause.TheVariants.{Unknown, Twice, UnknownLabel, BackwardJump, BadAddress}
-use Rattle.ilscope.specs.declared.fault.NameCause.TheVariants.{InputRangeTooSmall, WrittenTwice, WritesInput, NoTask}
-use Rattle.ilscope.specs.declared.fault.NameCause.TheVariants.{TooMany, BadDeclaration}
-use Rattle.ilscope.specs.declared.fault.NameFault.{NameFault}
-use Rattle.ilscope.specs.declared.fault.NameFault.TheVariants.{Memory, At}
-use Rattle.ilscope.specs.declared.found.Found.{Found}
-use Rattle.ilscope.proofs.Gathered.{best_same, or_else}
-use Rattle.ilscope.proofs.Least.{both_least}
 
 pub some_of : {X : Type 0} {P Q : X → Type 0} → ((x : X) → P x → Q x) → (xs : List X) → SomeOf P xs → SomeOf Q xs
 some_of h [] s = s

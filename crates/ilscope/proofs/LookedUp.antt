@@ -3,7 +3,7 @@ use Rattle.std.proofs.Common.{◌≡◌, ℕ, List, map, subst}
 use Rattle.std.specs.Prelude.{bytes_eq}
 use Rattle.ilsource.specs.Names.{folded}
 use Rattle.ilsource.specs.declared.name.Name.{Name}
-use Rattle.ilscope.specs.Kept.{Kept, kept_under}
+use Rattle.ildeclared.specs.Kept.{Kept, kept_under}
 use Rattle.ilscope.specs.ScopeSteps.{AreNumbersOf}
 use Rattle.ilscope.specs.Tables.{first_at, lowered}
 use Rattle.ilscope.proofs.Declared.{number_is}

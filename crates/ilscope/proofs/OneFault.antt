@@ -2,17 +2,16 @@
 use Rattle.std.proofs.Common.{◌≡◌, ℕ, List, refl, sym, ap, ◌∙◌, inl, inr, arith}
 use Rattle.std.specs.Prelude.{◌==◌, Option, Some, None, if◌then◌else◌}
 use Rattle.ilsource.specs.Places.{line_at, col_at}
-use Rattle.ilscope.specs.Causes.{name_fault_number}
-use Rattle.ilscope.specs.Faults.{IsNotAfter, IsLeast, IsLeastOf}
+use Rattle.ildeclared.specs.Causes.{name_fault_number}
+use Rattle.ildeclared.specs.Faults.{IsNotAfter, IsLeast, IsLeastOf}
+use Rattle.ildeclared.specs.declared.fault.NameCause.{NameCause}
+use Rattle.ildeclared.specs.declared.fault.NameCause.TheVariants.{Unknown, Twice, UnknownLabel, BackwardJump}
+use Rattle.ildeclared.specs.declared.fault.NameCause.TheVariants.{BadAddress, InputRangeTooSmall, WrittenTwice}
+use Rattle.ildeclared.specs.declared.fault.NameCause.TheVariants.{WritesInput, NoTask, TooMany, BadDeclaration}
+use Rattle.ildeclared.specs.declared.fault.NameFault.{NameFault}
+use Rattle.ildeclared.specs.declared.fault.NameFault.TheVariants.{Memory, At}
+use Rattle.ildeclared.specs.declared.found.Found.{Found}
 use Rattle.ilscope.specs.Reports.{ReportsLeast}
-use Rattle.ilscope.specs.declared.fault.NameCause.{NameCause}
-use Rattle.ilscope.specs.declared.fault.NameCause.TheVariants.{Unknown, Twice, UnknownLabel, BackwardJump}
-use Rattle.ilscope.specs.declared.fault.NameCause.TheVariants.{BadAddress, InputRangeTooSmall, WrittenTwice}
-use Rattle.ilscope.specs.declared.fault.NameCause.TheVariants.{WritesInput}
-use Rattle.ilscope.specs.declared.fault.NameCause.TheVariants.{NoTask, TooMany, BadDeclaration}
-use Rattle.ilscope.specs.declared.fault.NameFault.{NameFault}
-use Rattle.ilscope.specs.declared.fault.NameFault.TheVariants.{Memory, At}
-use Rattle.ilscope.specs.declared.found.Found.{Found}
 
 -- the cause of a number
 abbrev cause_of : ℕ → NameCause

@@ -12,19 +12,20 @@ use Rattle.ilsource.specs.declared.declaration.TypeDeclaration.{TypeDeclaration}
 use Rattle.ilsource.specs.declared.name.Name.{Name}
 use Rattle.ilsource.specs.declared.source.Element.{Element}
 use Rattle.ilsource.specs.declared.source.Element.TheVariants as elements
-use Rattle.ilscope.specs.DataTypes.{TypeNames, declared_type, types_below}
-use Rattle.ilscope.specs.Declarations.{DeclaredProgram, Standing, above_next, declared_program, names_of, standing}
-use Rattle.ilscope.specs.Declarations.{with_declared}
-use Rattle.ilscope.specs.Faults.{IsLeastOf, IsTwiceIn, OfCause, SomeOf}
-use Rattle.ilscope.specs.Kept.{Kept, types_in, with_new}
-use Rattle.ilscope.specs.Order.{lesser_of_two}
-use Rattle.ilscope.specs.ScopeSteps.{AreAllNumbers, AreNumbersOf, IsFaultIn, IsFaultOfElement, IsGathered}
-use Rattle.ilscope.specs.ScopeSteps.{above_all, block_names, external_names, variable_names}
-use Rattle.ilscope.specs.declared.data_type.DataType.{DataType}
-use Rattle.ilscope.specs.declared.fault.NameCause.TheVariants.{Twice}
-use Rattle.ilscope.specs.declared.found.Found.{Found}
-use Rattle.ilscope.proofs.Gathered.{best_same, or_else}
-use Rattle.ilscope.proofs.Least.{both_least, some_append, some_front, some_last}
+use Rattle.ildeclared.specs.DataTypes.{TypeNames, declared_type, types_below}
+use Rattle.ildeclared.specs.Declarations.{names_of}
+use Rattle.ildeclared.specs.Faults.{IsLeastOf, OfCause, SomeOf, IsFaultIn}
+use Rattle.ildeclared.specs.Kept.{Kept, types_in, with_new}
+use Rattle.ildeclared.specs.Order.{lesser_of_two}
+use Rattle.ildeclared.specs.declared.data_type.DataType.{DataType}
+use Rattle.ildeclared.specs.declared.fault.NameCause.TheVariants.{Twice}
+use Rattle.ildeclared.specs.declared.found.Found.{Found}
+use Rattle.ildeclared.proofs.FoundOrder.{best_same, or_else}
+use Rattle.ildeclared.proofs.Least.{both_least, some_append, some_front, some_last}
+use Rattle.ilscope.specs.Declarations.{DeclaredProgram, Standing, above_next, declared_program, standing, with_declared}
+use Rattle.ilscope.specs.Faults.{IsTwiceIn}
+use Rattle.ilscope.specs.ScopeSteps.{AreAllNumbers, AreNumbersOf, IsFaultOfElement, IsGathered, above_all, block_names}
+use Rattle.ilscope.specs.ScopeSteps.{external_names, variable_names}
 use Rattle.ilscope.proofs.Numbered.{lookup-with_new}
 
 abbrev pub last_of : List TypeDeclaration → List Element → Element → Standing

@@ -36,21 +36,22 @@ use Rattle.ilsource.specs.declared.declaration.TypeDeclaration.{TypeDeclaration}
 use Rattle.ilsource.specs.declared.name.Name.{Name}
 use Rattle.ilsource.specs.declared.source.Element.{Element}
 use Rattle.ilsource.specs.declared.source.Element.TheVariants.{DerivedType, Program}
-use Rattle.ilscope.specs.Configured.{as_variables, declared_globals_of, global, global_type, globals_in, globals_of}
-use Rattle.ilscope.specs.Configured.{initial_at, located_type, types_of_text}
-use Rattle.ilscope.specs.DataTypes.{TypeNames, data_type, declared_type, range_if, truth_values, types_below, value_in}
-use Rattle.ilscope.specs.DataTypes.{whole_numbers, with_initial}
-use Rattle.ilscope.specs.Declarations.{declarations_in, standing, type_of, values_of}
-use Rattle.ilscope.specs.Faults.{IsAddressTwice, IsBadAddressAt, IsBadDeclared, IsBadIn, IsBadInitial, IsBadSubrange}
-use Rattle.ilscope.specs.Faults.{IsBadlyLocatedIn, IsBound, IsFaultOfDeclarations, IsInputTooSmallIn, IsOtherArea}
-use Rattle.ilscope.specs.Faults.{IsThere}
-use Rattle.ilscope.specs.Faults.{IsUnknownIn, IsUnknownTypeIn, LacksInput, SameAddress, SomeOf}
-use Rattle.ilscope.specs.declared.data_type.DataType.{DataType}
-use Rattle.ilscope.specs.declared.fault.NameCause.{NameCause}
-use Rattle.ilscope.specs.declared.fault.NameCause.TheVariants.{Unknown, Twice, BadAddress, InputRangeTooSmall}
-use Rattle.ilscope.specs.declared.fault.NameCause.TheVariants.{BadDeclaration}
-use Rattle.ilscope.specs.declared.global.DeclaredGlobal.{DeclaredGlobal}
-use Rattle.ilscope.proofs.Subranges.{le_to}
+use Rattle.ildeclared.specs.DataTypes.{TypeNames, data_type, declared_type, range_if, truth_values, types_below}
+use Rattle.ildeclared.specs.DataTypes.{value_in, whole_numbers, with_initial}
+use Rattle.ildeclared.specs.Declarations.{type_of, values_of}
+use Rattle.ildeclared.specs.Faults.{IsAddressTwice, IsBadAddressAt, IsBadDeclared, IsBadIn, IsBadInitial, IsBadSubrange}
+use Rattle.ildeclared.specs.Faults.{IsBadlyLocatedIn, IsBound, IsInputTooSmallIn, IsOtherArea, IsThere, IsUnknownIn}
+use Rattle.ildeclared.specs.Faults.{IsUnknownTypeIn, LacksInput, SameAddress, SomeOf}
+use Rattle.ildeclared.specs.Globals.{as_variables, global, global_type, globals_in, initial_at, located_type}
+use Rattle.ildeclared.specs.declared.data_type.DataType.{DataType}
+use Rattle.ildeclared.specs.declared.fault.NameCause.{NameCause}
+use Rattle.ildeclared.specs.declared.fault.NameCause.TheVariants.{Unknown, Twice, BadAddress, InputRangeTooSmall}
+use Rattle.ildeclared.specs.declared.fault.NameCause.TheVariants.{BadDeclaration}
+use Rattle.ildeclared.specs.declared.global.DeclaredGlobal.{DeclaredGlobal}
+use Rattle.ildeclared.proofs.Subranges.{le_to}
+use Rattle.ilscope.specs.Configured.{declared_globals_of, globals_of, types_of_text}
+use Rattle.ilscope.specs.Declarations.{declarations_in, standing}
+use Rattle.ilscope.specs.Faults.{IsFaultOfDeclarations}
 use Rattle.ilscope.proofs.Typed.{declared_typed_globals, has_zero}
 
 pub not_below : (a b : ℤ) → ¬ (a <ℤ b) → b ≤ℤ a

@@ -31,17 +31,16 @@ use Rattle.ilsource.specs.declared.declaration.TypeDeclaration.{TypeDeclaration}
 use Rattle.ilsource.specs.declared.name.Name.{Name}
 use Rattle.ilsource.specs.declared.source.Element.{Element}
 use Rattle.ilsource.specs.declared.source.Element.TheVariants.{DerivedType, Program}
-use Rattle.ilscope.specs.Configured.{declared_globals_of, global, global_type, globals_in, globals_of, initial_at}
-use Rattle.ilscope.specs.Configured.{located_type}
-use Rattle.ilscope.specs.Configured.{types_of_text}
-use Rattle.ilscope.specs.DataTypes.{TypeNames, data_type, declared_type, number_in, range_if, truth_of, types_below}
-use Rattle.ilscope.specs.DataTypes.{value_in, whole_numbers, with_initial}
-use Rattle.ilscope.specs.Declarations.{DeclaredProgram, declared_program, declared_programs, standing, type_of}
-use Rattle.ilscope.specs.Declarations.{variable, variables_among, variables_in, with_declared}
-use Rattle.ilscope.specs.declared.data_type.DataType.{DataType}
-use Rattle.ilscope.specs.declared.global.DeclaredGlobal.{DeclaredGlobal}
-use Rattle.ilscope.specs.declared.variable.DeclaredVariable.{DeclaredVariable}
-use Rattle.ilscope.proofs.Subranges.{le_from}
+use Rattle.ildeclared.specs.DataTypes.{TypeNames, data_type, declared_type, number_in, range_if, truth_of, types_below}
+use Rattle.ildeclared.specs.DataTypes.{value_in, whole_numbers, with_initial}
+use Rattle.ildeclared.specs.Declarations.{type_of, variable, variables_among, variables_in}
+use Rattle.ildeclared.specs.Globals.{global, global_type, globals_in, initial_at, located_type}
+use Rattle.ildeclared.specs.declared.data_type.DataType.{DataType}
+use Rattle.ildeclared.specs.declared.global.DeclaredGlobal.{DeclaredGlobal}
+use Rattle.ildeclared.specs.declared.variable.DeclaredVariable.{DeclaredVariable}
+use Rattle.ildeclared.proofs.Subranges.{le_from}
+use Rattle.ilscope.specs.Configured.{declared_globals_of, globals_of, types_of_text}
+use Rattle.ilscope.specs.Declarations.{DeclaredProgram, declared_program, declared_programs, standing, with_declared}
 
 abbrev IsTyped : DataType → Type 0
 IsTyped type = IsOf type.initial type.value_type

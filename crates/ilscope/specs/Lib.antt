@@ -1,12 +1,6 @@
-pub mod AddressSteps
-pub mod Causes
 pub mod Configured
-pub mod DataTypes
 pub mod Declarations
 pub mod Faults
-pub mod Kept
-pub mod Order
-pub mod Printed
 pub mod Reports
 pub mod ScopeSteps
 pub mod Scoped

@@ -1,11 +1,11 @@
 -- How a fault is reported to a reader: by line and column (profile).
 use Rattle.std.specs.Prelude.{◌≡◌, ℕ, List, Option, Some, None, ⊤}
 use Rattle.ilsource.specs.Places.{line_at, col_at}
-use Rattle.ilscope.specs.Faults.{IsLeast}
-use Rattle.ilscope.specs.declared.fault.NameCause.{NameCause}
-use Rattle.ilscope.specs.declared.fault.NameFault.{NameFault}
-use Rattle.ilscope.specs.declared.fault.NameFault.TheVariants.{Memory, At}
-use Rattle.ilscope.specs.declared.found.Found.{Found}
+use Rattle.ildeclared.specs.Faults.{IsLeast}
+use Rattle.ildeclared.specs.declared.fault.NameCause.{NameCause}
+use Rattle.ildeclared.specs.declared.fault.NameFault.{NameFault}
+use Rattle.ildeclared.specs.declared.fault.NameFault.TheVariants.{Memory, At}
+use Rattle.ildeclared.specs.declared.found.Found.{Found}
 
 -- what was found is reported
 abbrev pub IsReportOf : List ℕ → Found → NameFault → Type 0

@@ -3,38 +3,32 @@ use Rattle.std.specs.Prelude.{◌≡◌, ◌⊎◌, ℕ, List, [], ◌∷◌, by
 use Rattle.std.specs.Map.{lookup}
 use Rattle.iltypes.specs.declared.value.IlType.{IlType}
 use Rattle.ilsource.specs.Names.{folded, text_of}
-use Rattle.ilsource.specs.Programs.{DeclaredNames}
 use Rattle.ilsource.specs.Trees.{Tree}
 use Rattle.ilsource.specs.declared.configuration.TaskDeclaration.{TaskDeclaration}
 use Rattle.ilsource.specs.declared.declaration.TypeDeclaration.{TypeDeclaration}
 use Rattle.ilsource.specs.declared.name.Name.{Name}
 use Rattle.ilsource.specs.declared.source.Element.{Element}
 use Rattle.ilsource.specs.declared.source.Element.TheVariants.{DerivedType, Program}
-use Rattle.ilscope.specs.Configured.{addresses_of, as_variables, declared_globals_of, globals_of, instance_declarations}
+use Rattle.ildeclared.specs.DataTypes.{types_below}
+use Rattle.ildeclared.specs.Declarations.{names_of}
+use Rattle.ildeclared.specs.Faults.{IsAddressTwice, IsFaultIn, IsLeastOf, OfCause, SomeOf}
+use Rattle.ildeclared.specs.Globals.{as_variables}
+use Rattle.ildeclared.specs.Kept.{Kept, types_in}
+use Rattle.ildeclared.specs.declared.data_type.DataType.{DataType}
+use Rattle.ildeclared.specs.declared.fault.NameCause.{NameCause}
+use Rattle.ildeclared.specs.declared.fault.NameCause.TheVariants.{Unknown, Twice, BadAddress, InputRangeTooSmall}
+use Rattle.ildeclared.specs.declared.fault.NameCause.TheVariants.{WritesInput, NoTask, BadDeclaration}
+use Rattle.ildeclared.specs.declared.found.Found.{Found}
+use Rattle.ildeclared.specs.declared.global.DeclaredGlobal.{DeclaredGlobal}
+use Rattle.ilscope.specs.Configured.{addresses_of, declared_globals_of, globals_of, instance_declarations}
 use Rattle.ilscope.specs.Configured.{task_declarations, types_of_text, value_types_of}
-use Rattle.ilscope.specs.DataTypes.{TypeNames, types_below}
 use Rattle.ilscope.specs.Declarations.{DeclaredProgram, Standing, above_next, declarations_in, declared_program}
-use Rattle.ilscope.specs.Declarations.{declared_programs, name_of, names_of, standing}
-use Rattle.ilscope.specs.Faults.{HasNoTask, IsAddressTwice, IsBadAddress, IsBadIn, IsBadTaskAt, IsBadlyLocated}
-use Rattle.ilscope.specs.Faults.{IsInputGiven}
-use Rattle.ilscope.specs.Faults.{IsInputTooSmall, IsLeastOf, IsNoTrigger, IsOtherExternal, IsTwiceIn, IsUnknownExternal}
-use Rattle.ilscope.specs.Faults.{IsUnknownProgram, IsUnknownTask, IsUnknownTrigger, IsUnknownTypeIn, OfCause, SomeOf}
-use Rattle.ilscope.specs.Kept.{Kept, types_in}
+use Rattle.ilscope.specs.Declarations.{declared_programs, name_of, standing}
+use Rattle.ilscope.specs.Faults.{HasNoTask, IsBadAddress, IsBadTaskAt, IsBadlyLocated, IsInputGiven, IsInputTooSmall}
+use Rattle.ilscope.specs.Faults.{IsNoTrigger, IsOtherExternal, IsTwiceIn, IsUnknownExternal, IsUnknownProgram}
+use Rattle.ilscope.specs.Faults.{IsUnknownTask, IsUnknownTrigger}
 use Rattle.ilscope.specs.Scoped.{Scoped}
 use Rattle.ilscope.specs.Tables.{first_at, lowered}
-use Rattle.ilscope.specs.declared.data_type.DataType.{DataType}
-use Rattle.ilscope.specs.declared.fault.NameCause.{NameCause}
-use Rattle.ilscope.specs.declared.fault.NameCause.TheVariants.{Unknown, Twice, BadAddress, InputRangeTooSmall}
-use Rattle.ilscope.specs.declared.fault.NameCause.TheVariants.{WritesInput}
-use Rattle.ilscope.specs.declared.fault.NameCause.TheVariants.{NoTask, BadDeclaration}
-use Rattle.ilscope.specs.declared.found.Found.{Found}
-use Rattle.ilscope.specs.declared.global.DeclaredGlobal.{DeclaredGlobal}
-
--- a fault of what one declaration says
-abbrev pub IsFaultIn : TypeNames → DeclaredNames → ℕ → NameCause → Type 0
-IsFaultIn types_above declaration place cause =
-    OfCause Unknown (λ at. IsUnknownTypeIn types_above at declaration.declared) place cause
-    ⊎ OfCause BadDeclaration (λ at. IsBadIn types_above at declaration) place cause
 
 -- the names of the variables and block instances that an element declares
 abbrev pub names_in : Element → List Name

@@ -2,9 +2,9 @@
 use Rattle.std.specs.Prelude.{ℕ, suc, List, [], ◌∷◌, map, Option, Some, None, Bool, bytes_eq, option_map, if◌then◌else◌}
 use Rattle.std.specs.Char.{to_ascii_lowercase}
 use Rattle.ilsource.specs.declared.name.Name.{Name}
-use Rattle.ilscope.specs.declared.block.DeclaredBlock.{DeclaredBlock}
-use Rattle.ilscope.specs.declared.external.DeclaredExternal.{DeclaredExternal}
-use Rattle.ilscope.specs.declared.variable.DeclaredVariable.{DeclaredVariable}
+use Rattle.ildeclared.specs.declared.block.DeclaredBlock.{DeclaredBlock}
+use Rattle.ildeclared.specs.declared.external.DeclaredExternal.{DeclaredExternal}
+use Rattle.ildeclared.specs.declared.variable.DeclaredVariable.{DeclaredVariable}
 
 -- a text with letters in lower case
 abbrev pub lowered : List ℕ → List ℕ

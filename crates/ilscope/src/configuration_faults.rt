@@ -2,29 +2,30 @@
 
 ghost use Rattle.std.specs.Prelude.{◌≡◌};
 
-use crate::addresses::twice_addresses;
 use crate::configuration::{declared_globals, instance_names, instances_of, tasks_of};
-use crate::found::{Found, lesser_of};
-use crate::globals::{addresses_of, fault_of_globals};
-use crate::located::{bad_addresses, badly_located, inputs_given, inputs_too_small};
 use crate::numbers::numbers_of;
 use crate::other_types::other_externals;
 use crate::tables::Tables;
 use crate::tasks::{bad_tasks, no_triggers, without_task};
 use crate::unknown::{unknown_externals, unknown_programs, unknown_tasks, unknown_triggers};
 use binding::Binding;
+use ildeclared::{
+    Found, addresses_of, bad_addresses, badly_located, fault_of_globals, inputs_given,
+    inputs_too_small, lesser_of, twice_addresses,
+};
 use ilsource::DirectAddress;
 use std::alloc::{AllocError, Global};
 
 impl<'a> Tables<'a> {
     ghost use Rattle.std.specs.Prelude.{◌≡◌, ◌⊎◌, IfOk};
+    ghost use Rattle.ildeclared.specs.Faults.{IsLeastOf, OfCause};
+    ghost use Rattle.ildeclared.specs.declared.fault.NameCause.TheVariants.{BadAddress, Unknown};
+    ghost use Rattle.ildeclared.specs.declared.fault.NameCause.TheVariants.{BadDeclaration, Twice};
     ghost use Rattle.ilscope.specs.Configured.{addresses_of};
-    ghost use Rattle.ilscope.specs.Faults.{IsBadAddress, IsLeastOf, IsNoTrigger, OfCause};
+    ghost use Rattle.ilscope.specs.Faults.{IsBadAddress, IsNoTrigger};
     ghost use Rattle.ilscope.specs.ScopeSteps.{IsBadInConfiguration, IsFaultInGlobals};
     ghost use Rattle.ilscope.specs.ScopeSteps.{IsFaultOfConfiguration, IsFaultOfInput};
     ghost use Rattle.ilscope.specs.ScopeSteps.{IsTwiceInConfiguration, IsUnknownNamed};
-    ghost use Rattle.ilscope.specs.declared.fault.NameCause.TheVariants.{BadAddress, Unknown};
-    ghost use Rattle.ilscope.specs.declared.fault.NameCause.TheVariants.{BadDeclaration, Twice};
 
     /// The least fault of the configuration, with located variables looked up in `binding`.
     pub(crate) fn fault_of_configuration(

@@ -1,12 +1,10 @@
 //! What the configuration of a text declares, with the numbers of its names.
 
 use crate::configuration::declared_globals;
-use crate::found::{Found, lesser_of};
-use crate::global::DeclaredGlobal;
-use crate::globals::{globals_of, value_types_of};
-use crate::names::Names;
 use crate::numbers::{numbers_of_globals, numbers_of_tasks};
-use crate::types::DeclaredTypes;
+use ildeclared::{
+    DeclaredGlobal, DeclaredTypes, Found, Names, globals_of, lesser_of, value_types_of,
+};
 use ilsource::Source;
 use iltypes::IlType;
 use std::alloc::{AllocError, Global};
@@ -25,12 +23,12 @@ pub(crate) struct ConfigurationTables {
 impl ConfigurationTables {
     ghost use Rattle.std.specs.Prelude.{◌≡◌, IfOk, flat_map, map};
     ghost use Rattle.ilsource.specs.Names.{text_of};
-    ghost use Rattle.ilscope.specs.Configured.{declared_globals_of, globals_in};
-    ghost use Rattle.ilscope.specs.Configured.{task_declarations, value_types_in};
-    ghost use Rattle.ilscope.specs.Faults.{IsLeastOf, OfCause};
-    ghost use Rattle.ilscope.specs.Kept.{types_in};
+    ghost use Rattle.ildeclared.specs.Faults.{IsLeastOf, OfCause};
+    ghost use Rattle.ildeclared.specs.Globals.{globals_in, value_types_in};
+    ghost use Rattle.ildeclared.specs.Kept.{types_in};
+    ghost use Rattle.ildeclared.specs.declared.fault.NameCause.TheVariants.{Twice};
+    ghost use Rattle.ilscope.specs.Configured.{declared_globals_of, task_declarations};
     ghost use Rattle.ilscope.specs.ScopeSteps.{AreNumbersOf, IsGlobalOrTaskTwice};
-    ghost use Rattle.ilscope.specs.declared.fault.NameCause.TheVariants.{Twice};
 
     /// The tables of a source program's configuration below these types. `lower` is its text in
     /// lower case.

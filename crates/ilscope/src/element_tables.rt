@@ -1,9 +1,8 @@
 //! What the elements of a text declare, with the numbers of its programs.
 
-use crate::found::Found;
 use crate::gathering::Gathering;
-use crate::names::Names;
 use crate::numbers::{element_given_twice, numbers_of_programs};
+use ildeclared::{Found, Names};
 use ilsource::Element;
 use std::alloc::{AllocError, Global};
 
@@ -19,10 +18,11 @@ pub(crate) struct ElementTables<'a> {
 impl<'a> ElementTables<'a> {
     ghost use Rattle.std.specs.Prelude.{IfOk, map};
     ghost use Rattle.ilsource.specs.Names.{text_of};
+    ghost use Rattle.ildeclared.specs.Faults.{IsLeastOf, OfCause};
+    ghost use Rattle.ildeclared.specs.declared.fault.NameCause.TheVariants.{Twice};
     ghost use Rattle.ilscope.specs.Declarations.{name_of};
-    ghost use Rattle.ilscope.specs.Faults.{IsLeastOf, IsTwiceIn, OfCause};
+    ghost use Rattle.ilscope.specs.Faults.{IsTwiceIn};
     ghost use Rattle.ilscope.specs.ScopeSteps.{AreNumbersOf, IsGathered};
-    ghost use Rattle.ilscope.specs.declared.fault.NameCause.TheVariants.{Twice};
 
     /// The tables of all elements. `lower` is the text in lower case.
     pub(crate) fn of(

@@ -6,12 +6,9 @@ ghost use Rattle.ilsource.specs.declared.source.Element.TheVariants as elements;
 ghost use Rattle.ilscope.specs.Declarations.{name_of};
 ghost use Rattle.ilscope.specs.ScopeSteps.{IsGathered};
 
-use crate::declarations::{fault_of, fault_of_all};
-use crate::found::{Found, lesser_of};
-use crate::names::Names;
 use crate::program_scope::ProgramScope;
 use crate::program_tables::ProgramTables;
-use crate::types::{DeclaredTypes, declared_type};
+use ildeclared::{DeclaredTypes, Found, Names, declared_type, fault_of, fault_of_all, lesser_of};
 use ilsource::{Declared, Element, Name, Program, TypeDeclaration};
 use std::alloc::{AllocError, Global};
 

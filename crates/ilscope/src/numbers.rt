@@ -3,27 +3,22 @@
 ghost use Rattle.std.specs.Prelude.{◌≡◌, ℕ, List, IfOk, OnOk, IsSome, bytes_eq, map};
 ghost use Rattle.std.specs.Map.{lookup};
 ghost use Rattle.ilsource.specs.Names.{text_of};
+ghost use Rattle.ildeclared.specs.Declarations.{names_of};
+ghost use Rattle.ildeclared.specs.Faults.{IsLeastOf, OfCause};
+ghost use Rattle.ildeclared.specs.Kept.{with_new};
+ghost use Rattle.ildeclared.specs.declared.fault.NameCause.TheVariants.{Twice};
 ghost use Rattle.ilscope.specs.Configured.{task_declarations};
-ghost use Rattle.ilscope.specs.Declarations.{name_of, names_of};
-ghost use Rattle.ilscope.specs.Faults.{IsLeastOf, IsTwiceIn, OfCause};
-ghost use Rattle.ilscope.specs.Kept.{with_new};
+ghost use Rattle.ilscope.specs.Declarations.{name_of};
+ghost use Rattle.ilscope.specs.Faults.{IsTwiceIn};
 ghost use Rattle.ilscope.specs.Tables.{first_at};
-ghost use Rattle.ilscope.specs.declared.fault.NameCause.TheVariants.{Twice};
 
-use crate::block::DeclaredBlock;
-use crate::blocks::block_names;
 use crate::configuration::{program_names, task_names, tasks_of};
-use crate::external::DeclaredExternal;
-use crate::externals::external_names;
-use crate::fault::NameCause;
-use crate::found::{Found, lesser_of};
 use crate::gathering::element_names;
-use crate::global::DeclaredGlobal;
-use crate::globals::global_names;
-use crate::names::Names;
 use crate::program_scope::ProgramScope;
-use crate::variable::DeclaredVariable;
-use crate::variables::{names_of, variable_names};
+use ildeclared::{
+    DeclaredBlock, DeclaredExternal, DeclaredGlobal, DeclaredVariable, Found, NameCause, Names,
+    block_names, external_names, global_names, lesser_of, names_of, variable_names,
+};
 use ilsource::{Element, Name, Program, Source};
 use std::alloc::{AllocError, Global};
 

@@ -1,16 +1,14 @@
 //! Externals of another type than the global variable.
 
-ghost use Rattle.std.specs.Prelude.{◌≡◌, ◌≢◌, ◌↔◌, IsTrue, None};
+ghost use Rattle.std.specs.Prelude.{◌≡◌, ◌↔◌, IsTrue, None};
 ghost use Rattle.std.specs.Prelude.{option_and_then, slice_get, unwrap_or};
-ghost use Rattle.ilscope.specs.Faults.{IsLeastOf, OfCause, SomeOf, AreOther, IsOtherExternalIn};
-ghost use Rattle.ilscope.specs.Kept.{kept_under};
-ghost use Rattle.ilscope.specs.declared.fault.NameCause.TheVariants.{BadDeclaration};
+ghost use Rattle.ildeclared.specs.Faults.{IsLeastOf, OfCause, SomeOf};
+ghost use Rattle.ildeclared.specs.Kept.{kept_under};
+ghost use Rattle.ildeclared.specs.declared.fault.NameCause.TheVariants.{BadDeclaration};
+ghost use Rattle.ilscope.specs.Faults.{AreOther, IsOtherExternalIn};
 
-use crate::external::DeclaredExternal;
-use crate::fault::NameCause;
-use crate::found::{Found, found_where, lesser_of};
-use crate::names::Names;
 use crate::program_scope::ProgramScope;
+use ildeclared::{DeclaredExternal, Found, NameCause, Names, found_where, lesser_of};
 use ilsource::Name;
 use iltypes::IlType;
 

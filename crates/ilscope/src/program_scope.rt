@@ -1,8 +1,6 @@
 //! Programs with what they declare.
 
-use crate::block::DeclaredBlock;
-use crate::external::DeclaredExternal;
-use crate::variable::DeclaredVariable;
+use ildeclared::{DeclaredBlock, DeclaredExternal, DeclaredVariable};
 use ilsource::Program;
 use std::marker::Model;
 
@@ -33,8 +31,7 @@ impl<'a> Model for ProgramScope<'a> {
 }
 
 impl<'a> ProgramScope<'a> {
-    ghost use Rattle.std.specs.Prelude.{◌≡◌, All};
-    ghost use Rattle.ilscope.specs.Declarations.{DeclaredProgram};
+    ghost use Rattle.std.specs.Prelude.{◌≡◌};
 
     /// The program, and its variables, block instances and externals in the order in which they
     /// are declared.

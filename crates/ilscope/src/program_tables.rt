@@ -1,19 +1,14 @@
 //! A program with what it declares, and tables in which its names are looked up.
 
 ghost use Rattle.std.specs.Prelude.{◌≡◌, IfOk};
+ghost use Rattle.ildeclared.specs.Kept.{types_in};
 ghost use Rattle.ilscope.specs.Declarations.{with_declared};
-ghost use Rattle.ilscope.specs.Kept.{types_in};
 
-use crate::blocks::blocks_of;
-use crate::externals::externals_of;
-use crate::found::Found;
-use crate::names::Names;
 use crate::numbers::{
     name_given_twice, numbers_of_blocks, numbers_of_externals, numbers_of_variables,
 };
 use crate::program_scope::ProgramScope;
-use crate::types::DeclaredTypes;
-use crate::variables::variables_of;
+use ildeclared::{DeclaredTypes, Found, Names, blocks_of, externals_of, variables_of};
 use ilsource::Program;
 use std::alloc::{AllocError, Global};
 
@@ -30,11 +25,12 @@ pub(crate) struct ProgramTables<'a> {
 
 impl<'a> ProgramTables<'a> {
     ghost use Rattle.ilsource.specs.Names.{text_of};
-    ghost use Rattle.ilscope.specs.Declarations.{names_of};
-    ghost use Rattle.ilscope.specs.Faults.{IsLeastOf, IsTwiceIn, OfCause};
+    ghost use Rattle.ildeclared.specs.Declarations.{names_of};
+    ghost use Rattle.ildeclared.specs.Faults.{IsLeastOf, OfCause};
+    ghost use Rattle.ildeclared.specs.declared.fault.NameCause.TheVariants.{Twice};
+    ghost use Rattle.ilscope.specs.Faults.{IsTwiceIn};
     ghost use Rattle.ilscope.specs.ScopeSteps.{AreNumbersOf, block_names, external_names};
     ghost use Rattle.ilscope.specs.ScopeSteps.{variable_names};
-    ghost use Rattle.ilscope.specs.declared.fault.NameCause.TheVariants.{Twice};
 
     /// The tables of a program below these types. `lower` is the text in lower case.
     pub(crate) fn of(

@@ -5,13 +5,11 @@
 
 ghost use Rattle.ilscope.specs.Reports.{IsReportOf, IsReportOfOption};
 
-use crate::fault::NameFault;
-use crate::found::{Found, lesser_of};
-use crate::global::DeclaredGlobal;
 use crate::program_scope::ProgramScope;
 use crate::tables::Tables;
 use binding::Binding;
 use ilblocks::BlockKind;
+use ildeclared::{DeclaredGlobal, Found, NameFault, lesser_of};
 use ilsource::{LineColumn, Name, Source};
 use std::alloc::{AllocError, Global};
 use std::marker::Model;
@@ -27,7 +25,8 @@ pub struct Scope<'a> {
 impl<'a> Model for Scope<'a> {
     ghost use Rattle.std.specs.Coded.{codes};
     ghost use Rattle.ilsource.specs.contracts.source.Element as element;
-    ghost use Rattle.ilscope.specs.Faults.{IsFaultOfDeclarations, IsLeastOf};
+    ghost use Rattle.ildeclared.specs.Faults.{IsLeastOf};
+    ghost use Rattle.ilscope.specs.Faults.{IsFaultOfDeclarations};
     ghost use Rattle.ilscope.specs.Scoped.{Scoped};
 
     ghost Value = { Scoped };
@@ -44,14 +43,15 @@ impl<'a> Scope<'a> {
     ghost use Rattle.std.specs.Prelude.{Some, length, option_map, slice_get};
     ghost use Rattle.iltypes.specs.Values.{IsOf};
     ghost use Rattle.ilsource.specs.Names.{SameName, folded};
+    ghost use Rattle.ildeclared.specs.Faults.{SomeOf, IsLeastOf};
+    ghost use Rattle.ildeclared.specs.declared.fault.NameCause.{NameCause};
+    ghost use Rattle.ildeclared.specs.declared.fault.NameFault.{NameFault};
     ghost use Rattle.ilscope.specs.Configured.{global_number, globals_of, program_number};
     ghost use Rattle.ilscope.specs.Configured.{task_declarations, task_number};
     ghost use Rattle.ilscope.specs.Declarations.{DeclaredProgram, declared_programs};
-    ghost use Rattle.ilscope.specs.Faults.{SomeOf, IsFaultOfDeclarations, IsLeastOf};
+    ghost use Rattle.ilscope.specs.Faults.{IsFaultOfDeclarations};
     ghost use Rattle.ilscope.specs.Reports.{ReportsLeast};
     ghost use Rattle.ilscope.specs.Tables.{block_number, external_number, variable_number};
-    ghost use Rattle.ilscope.specs.declared.fault.NameCause.{NameCause};
-    ghost use Rattle.ilscope.specs.declared.fault.NameFault.{NameFault};
 
     /// What `source` declares. The addresses of its located variables are looked up in `binding`.
     pub fn of(

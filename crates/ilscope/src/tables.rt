@@ -5,13 +5,10 @@ ghost use Rattle.ilscope.specs.Tables.{lowered};
 
 use crate::configuration_tables::ConfigurationTables;
 use crate::element_tables::ElementTables;
-use crate::found::{Found, lesser_of};
 use crate::gathering::Gathering;
-use crate::global::DeclaredGlobal;
-use crate::names::Names;
 use crate::program_scope::ProgramScope;
-use crate::types::DeclaredTypes;
 use ilblocks::BlockKind;
+use ildeclared::{DeclaredGlobal, DeclaredTypes, Found, Names, lesser_of};
 use ilsource::{Name, Source};
 use iltypes::IlType;
 use std::alloc::{AllocError, Global};
@@ -56,10 +53,10 @@ impl<'a> Tables<'a> {
     ghost use Rattle.std.specs.Prelude.{Some, length, option_map, slice_get};
     ghost use Rattle.iltypes.specs.Values.{IsOf};
     ghost use Rattle.ilsource.specs.Names.{SameName, folded};
+    ghost use Rattle.ildeclared.specs.Faults.{SomeOf, IsLeastOf};
     ghost use Rattle.ilscope.specs.Configured.{global_number, globals_of, program_number};
     ghost use Rattle.ilscope.specs.Configured.{task_declarations, task_number};
     ghost use Rattle.ilscope.specs.Declarations.{DeclaredProgram, declared_programs};
-    ghost use Rattle.ilscope.specs.Faults.{SomeOf, IsLeastOf};
     ghost use Rattle.ilscope.specs.ScopeSteps.{IsFaultInTables};
     ghost use Rattle.ilscope.specs.Tables.{block_number, external_number, variable_number};
 

@@ -1,16 +1,14 @@
 //! Faults of tasks and of program instances.
 
-ghost use Rattle.std.specs.Prelude.{◌≡◌, ◌↔◌, IsTrue, option_and_then, slice_get};
-ghost use Rattle.ilscope.specs.Faults.{IsLeastOf, OfCause, SomeOf, IsBadlyStarted, IsBadTask};
-ghost use Rattle.ilscope.specs.Faults.{IsBadTaskAt, HasNoTaskAt, IsNoTriggerOf, IsTrigger};
-ghost use Rattle.ilscope.specs.Kept.{kept_under};
-ghost use Rattle.ilscope.specs.declared.fault.NameCause.TheVariants.{BadAddress, NoTask};
-ghost use Rattle.ilscope.specs.declared.fault.NameCause.TheVariants.{BadDeclaration};
+ghost use Rattle.std.specs.Prelude.{◌↔◌, IsTrue, option_and_then, slice_get};
+ghost use Rattle.ildeclared.specs.Faults.{IsLeastOf, OfCause, SomeOf};
+ghost use Rattle.ildeclared.specs.Kept.{kept_under};
+ghost use Rattle.ildeclared.specs.declared.fault.NameCause.TheVariants.{BadAddress, NoTask};
+ghost use Rattle.ildeclared.specs.declared.fault.NameCause.TheVariants.{BadDeclaration};
+ghost use Rattle.ilscope.specs.Faults.{IsBadlyStarted, IsBadTask, IsBadTaskAt, HasNoTaskAt};
+ghost use Rattle.ilscope.specs.Faults.{IsNoTriggerOf, IsTrigger};
 
-use crate::fault::NameCause;
-use crate::found::{Found, found_where, lesser_of};
-use crate::global::DeclaredGlobal;
-use crate::names::Names;
+use ildeclared::{DeclaredGlobal, Found, NameCause, Names, found_where, lesser_of};
 use ilsource::{InstanceDeclaration, Name, TaskDeclaration};
 use iltokens::AddressKind;
 

@@ -1,16 +1,14 @@
 //! Names of what a configuration declares, where nothing has the name.
 
-ghost use Rattle.std.specs.Prelude.{◌≡◌, IsSomeAnd};
-ghost use Rattle.ilscope.specs.Faults.{IsLeastOf, OfCause, SomeOf, IsUnknownName};
-ghost use Rattle.ilscope.specs.Faults.{IsUnknownExternalIn, IsUnknownTriggerOf, IsUnknownTaskOf};
-ghost use Rattle.ilscope.specs.Kept.{kept_under};
-ghost use Rattle.ilscope.specs.declared.fault.NameCause.TheVariants.{Unknown};
+ghost use Rattle.std.specs.Prelude.{IsSomeAnd};
+ghost use Rattle.ildeclared.specs.Faults.{IsLeastOf, OfCause, SomeOf};
+ghost use Rattle.ildeclared.specs.Kept.{kept_under};
+ghost use Rattle.ildeclared.specs.declared.fault.NameCause.TheVariants.{Unknown};
+ghost use Rattle.ilscope.specs.Faults.{IsUnknownName, IsUnknownExternalIn, IsUnknownTriggerOf};
+ghost use Rattle.ilscope.specs.Faults.{IsUnknownTaskOf};
 
-use crate::external::DeclaredExternal;
-use crate::fault::NameCause;
-use crate::found::{Found, found_where, lesser_of};
-use crate::names::Names;
 use crate::program_scope::ProgramScope;
+use ildeclared::{DeclaredExternal, Found, NameCause, Names, found_where, lesser_of};
 use ilsource::{InstanceDeclaration, Name, TaskDeclaration};
 
 /// The least fault of an external that has the name of no global variable. `lower` is the text in

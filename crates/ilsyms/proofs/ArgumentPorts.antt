@@ -11,13 +11,14 @@ use Rattle.iltrees.specs.declared.arguments.Argument.{Argument}
 use Rattle.ilsource.specs.declared.name.Name.{Name}
 use Rattle.ilsource.specs.declared.symbol.Symbol.{Symbol}
 use Rattle.ilsource.specs.Names.{folded}
-use Rattle.ilscope.specs.Faults.{IsLeastOf, IsTwiceIn, OfCause}
-use Rattle.ilscope.specs.Kept.{Kept}
-use Rattle.ilscope.specs.Order.{lesser_of_two}
+use Rattle.ildeclared.specs.Faults.{IsLeastOf, OfCause}
+use Rattle.ildeclared.specs.Kept.{Kept}
+use Rattle.ildeclared.specs.Order.{lesser_of_two}
+use Rattle.ildeclared.specs.declared.fault.NameCause.TheVariants.{Twice}
+use Rattle.ildeclared.specs.declared.found.Found.{Found}
+use Rattle.ildeclared.proofs.Least.{take_more}
+use Rattle.ilscope.specs.Faults.{IsTwiceIn}
 use Rattle.ilscope.specs.Tables.{first_at}
-use Rattle.ilscope.specs.declared.fault.NameCause.TheVariants.{Twice}
-use Rattle.ilscope.specs.declared.found.Found.{Found}
-use Rattle.ilscope.proofs.Least.{take_more}
 use Rattle.ilscope.proofs.Numbered.{first_at-last, map_last}
 use Rattle.ilsyms.specs.Faults.{port_in}
 use Rattle.ilsyms.specs.LabelSteps.{IsKeptLabel, with_label}

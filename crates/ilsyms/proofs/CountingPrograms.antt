@@ -11,9 +11,9 @@ use Rattle.iltrees.specs.declared.uses.Use.{Use}
 use Rattle.iltrees.specs.Uses.{uses_in}
 use Rattle.ilsource.specs.Trees.{Tree}
 use Rattle.ilsource.specs.declared.symbol.Symbol.{Symbol}
+use Rattle.ildeclared.specs.Faults.{SomeOf}
+use Rattle.ildeclared.proofs.Least.{some_front, some_last}
 use Rattle.ilscope.specs.Declarations.{DeclaredProgram, declared_programs}
-use Rattle.ilscope.specs.Faults.{SomeOf}
-use Rattle.ilscope.proofs.Least.{some_front, some_last}
 use Rattle.ilplan.specs.Constants.{constants_used, same_value}
 use Rattle.ilsyms.specs.CountingSteps.{AreCounted, AreSeen}
 use Rattle.ilsyms.specs.TaskSteps.{AreThere, instances_of}

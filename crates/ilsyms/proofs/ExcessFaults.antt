@@ -7,12 +7,12 @@ use Rattle.limits.specs.Limits.{most_blocks, most_instances, most_slots, most_ta
 use Rattle.iltrees.specs.Words.{places_in}
 use Rattle.ilsource.specs.Trees.{Tree}
 use Rattle.ilsource.specs.declared.name.Name.{Name}
+use Rattle.ildeclared.specs.Faults.{IsLeastOf, OfCause, SomeOf}
+use Rattle.ildeclared.specs.Order.{lesser_of_two}
+use Rattle.ildeclared.specs.declared.fault.NameCause.TheVariants.{TooMany}
+use Rattle.ildeclared.specs.declared.found.Found.{Found}
+use Rattle.ildeclared.proofs.FoundOrder.{or_else}
 use Rattle.ilscope.specs.Configured.{task_declarations}
-use Rattle.ilscope.specs.Faults.{IsLeastOf, OfCause, SomeOf}
-use Rattle.ilscope.specs.Order.{lesser_of_two}
-use Rattle.ilscope.specs.declared.fault.NameCause.TheVariants.{TooMany}
-use Rattle.ilscope.specs.declared.found.Found.{Found}
-use Rattle.ilscope.proofs.Gathered.{or_else}
 use Rattle.ilsyms.specs.Faults.{IsTooMany, IsTooManyIn, MakesTooManyConstants, instance_names, place_of_slot}
 use Rattle.ilsyms.specs.Tasks.{NamedProgram, tasks_of}
 use Rattle.ilsyms.specs.Variables.{blocks_of, lines_of, slots_of, uses_of}

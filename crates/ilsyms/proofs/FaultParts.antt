@@ -6,16 +6,17 @@ use Rattle.iltrees.specs.declared.uses.Use.{Use}
 use Rattle.ilsource.specs.declared.symbol.Symbol.{Symbol}
 use Rattle.ilsource.specs.Names.{folded}
 use Rattle.ilsource.specs.Trees.{Tree}
+use Rattle.ildeclared.specs.Faults.{IsLeastOf, OfCause, SomeOf}
+use Rattle.ildeclared.specs.Order.{lesser_of_two}
+use Rattle.ildeclared.specs.declared.fault.NameCause.{NameCause}
+use Rattle.ildeclared.specs.declared.fault.NameCause.TheVariants.{Unknown, Twice, UnknownLabel, BackwardJump}
+use Rattle.ildeclared.specs.declared.fault.NameCause.TheVariants.{BadAddress, InputRangeTooSmall, WrittenTwice}
+use Rattle.ildeclared.specs.declared.fault.NameCause.TheVariants.{WritesInput, NoTask, TooMany, BadDeclaration}
+use Rattle.ildeclared.specs.declared.found.Found.{Found}
+use Rattle.ildeclared.proofs.FoundOrder.{best_same, or_else}
+use Rattle.ildeclared.proofs.Least.{both_least}
 use Rattle.ilscope.specs.Declarations.{DeclaredProgram, declared_programs}
-use Rattle.ilscope.specs.Faults.{IsLeastOf, IsTwiceIn, OfCause, SomeOf}
-use Rattle.ilscope.specs.Order.{lesser_of_two}
-use Rattle.ilscope.specs.declared.fault.NameCause.{NameCause}
-use Rattle.ilscope.specs.declared.fault.NameCause.TheVariants.{Unknown, Twice, UnknownLabel, BackwardJump, BadAddress}
-use Rattle.ilscope.specs.declared.fault.NameCause.TheVariants.{InputRangeTooSmall, WrittenTwice, WritesInput, NoTask}
-use Rattle.ilscope.specs.declared.fault.NameCause.TheVariants.{TooMany, BadDeclaration}
-use Rattle.ilscope.specs.declared.found.Found.{Found}
-use Rattle.ilscope.proofs.Gathered.{best_same, or_else}
-use Rattle.ilscope.proofs.Least.{both_least}
+use Rattle.ilscope.specs.Faults.{IsTwiceIn}
 use Rattle.ilscope.proofs.LeastOfDeclarations.{some_of}
 use Rattle.ilsyms.specs.Faults.{IsFaultOfUse, IsTooMany, IsUnknownUse, IsWrittenTwice, StoresToInput, WritesOutput}
 use Rattle.ilsyms.specs.Faults.{JumpsBack, JumpsNowhere, labels_of}

@@ -8,17 +8,18 @@ use Rattle.iltrees.specs.declared.instruction.Line.{Line}
 use Rattle.ilsource.specs.declared.name.Name.{Name}
 use Rattle.ilsource.specs.declared.symbol.Symbol.{Symbol}
 use Rattle.ilsource.specs.Names.{folded, SameName}
-use Rattle.ilscope.specs.Faults.{IsLeastOf, IsTwiceIn, OfCause, SomeOf}
-use Rattle.ilscope.specs.Kept.{Kept}
-use Rattle.ilscope.specs.Order.{lesser_of_two}
+use Rattle.ildeclared.specs.Faults.{IsLeastOf, OfCause, SomeOf}
+use Rattle.ildeclared.specs.Kept.{Kept}
+use Rattle.ildeclared.specs.Order.{lesser_of_two}
+use Rattle.ildeclared.specs.declared.fault.NameCause.{NameCause}
+use Rattle.ildeclared.specs.declared.fault.NameCause.TheVariants.{Unknown, Twice, UnknownLabel, BackwardJump}
+use Rattle.ildeclared.specs.declared.fault.NameCause.TheVariants.{BadAddress, InputRangeTooSmall, WrittenTwice}
+use Rattle.ildeclared.specs.declared.fault.NameCause.TheVariants.{WritesInput, NoTask, TooMany, BadDeclaration}
+use Rattle.ildeclared.specs.declared.found.Found.{Found}
+use Rattle.ildeclared.proofs.FoundOrder.{best_same, or_else}
+use Rattle.ildeclared.proofs.Least.{both_least, got_at, got_below}
+use Rattle.ilscope.specs.Faults.{IsTwiceIn}
 use Rattle.ilscope.specs.Tables.{first_at}
-use Rattle.ilscope.specs.declared.fault.NameCause.{NameCause}
-use Rattle.ilscope.specs.declared.fault.NameCause.TheVariants.{Unknown, Twice, UnknownLabel, BackwardJump, BadAddress}
-use Rattle.ilscope.specs.declared.fault.NameCause.TheVariants.{InputRangeTooSmall, WrittenTwice, WritesInput, NoTask}
-use Rattle.ilscope.specs.declared.fault.NameCause.TheVariants.{TooMany, BadDeclaration}
-use Rattle.ilscope.specs.declared.found.Found.{Found}
-use Rattle.ilscope.proofs.Gathered.{best_same, or_else}
-use Rattle.ilscope.proofs.Least.{both_least, got_at, got_below}
 use Rattle.ilsyms.specs.Faults.{labels_of, target_of, JumpsTo}
 use Rattle.ilsyms.specs.LabelSteps.{AreNumbered}
 use Rattle.ilsyms.specs.JumpSteps.{IsCauseOfJump, IsFaultOfJump, IsFaultBefore, IsFaultOfJumps}

@@ -13,16 +13,18 @@ use Rattle.iltrees.specs.Passes.{has_label}
 use Rattle.ilsource.specs.declared.name.Name.{Name}
 use Rattle.ilsource.specs.declared.symbol.Symbol.{Symbol}
 use Rattle.ilsource.specs.Names.{folded, SameName}
-use Rattle.ilscope.specs.Faults.{IsLeastOf, IsTwiceIn, OfCause, SomeOf}
-use Rattle.ilscope.specs.Kept.{Kept}
-use Rattle.ilscope.specs.Order.{lesser_of_two}
+use Rattle.ildeclared.specs.Faults.{IsLeastOf, OfCause, SomeOf}
+use Rattle.ildeclared.specs.Kept.{Kept}
+use Rattle.ildeclared.specs.Order.{lesser_of_two}
+use Rattle.ildeclared.specs.declared.fault.NameCause.TheVariants.{Twice}
+use Rattle.ildeclared.specs.declared.found.Found.{Found}
+use Rattle.ildeclared.proofs.FoundOrder.{best_same, or_else}
+use Rattle.ildeclared.proofs.Least.{both_least, take_more}
+use Rattle.ildeclared.proofs.TwiceLast.{twice_last}
+use Rattle.ilscope.specs.Faults.{IsTwiceIn}
 use Rattle.ilscope.specs.Tables.{first_at}
-use Rattle.ilscope.specs.declared.fault.NameCause.TheVariants.{Twice}
-use Rattle.ilscope.specs.declared.found.Found.{Found}
-use Rattle.ilscope.proofs.Gathered.{best_same, or_else}
-use Rattle.ilscope.proofs.Least.{both_least, take_more}
 use Rattle.ilscope.proofs.LeastOfDeclarations.{some_of}
-use Rattle.ilscope.proofs.Numbered.{lookup-with_new, first_at-last, found_some, some_found, twice_last}
+use Rattle.ilscope.proofs.Numbered.{lookup-with_new, first_at-last, found_some, some_found}
 use Rattle.ilsyms.specs.Faults.{labels_of}
 use Rattle.ilsyms.specs.LabelSteps.{AreNumbered, IsKeptLabel, with_label}
 use Rattle.ilsyms.specs.Meaning.{same_name}

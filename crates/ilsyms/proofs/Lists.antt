@@ -3,9 +3,9 @@ use Rattle.std.proofs.Common.{◌≡◌, ℕ, zero, suc, ◌+◌, ◌<◌, List,
 use Rattle.std.proofs.Common.{arith, ◌||◌, subst, ◌++◌, take, ◌⊎◌, inl, inr, drop}
 use Rattle.std.specs.Prelude.{Option, Some, None, IfSome, option_map, slice_get, if◌then◌else◌}
 use Rattle.std.proofs.Math.Seq.{take-append_seam}
+use Rattle.ildeclared.specs.Faults.{SomeOf}
+use Rattle.ildeclared.proofs.FoundOrder.{or_else}
 use Rattle.ilscope.specs.Tables.{first_at}
-use Rattle.ilscope.specs.Faults.{SomeOf}
-use Rattle.ilscope.proofs.Gathered.{or_else}
 
 pub either : (b : Bool) {P : Type 0} → (b ≡ true → P) → (b ≡ false → P) → P
 either true t f = t refl

@@ -18,10 +18,11 @@ use Rattle.ilsource.specs.Trees.{Tree}
 use Rattle.ilsource.specs.declared.address.DirectAddress.{DirectAddress}
 use Rattle.ilsource.specs.declared.configuration.TaskDeclaration.{TaskDeclaration}
 use Rattle.ilsource.specs.declared.name.Name.{Name}
+use Rattle.ildeclared.specs.Faults.{IsOtherArea}
+use Rattle.ildeclared.specs.declared.fault.NameCause.TheVariants.{Unknown, BadAddress}
+use Rattle.ildeclared.specs.declared.global.DeclaredGlobal.{DeclaredGlobal}
 use Rattle.ilscope.specs.Configured.{global_named, global_number, globals_of, task_declarations}
-use Rattle.ilscope.specs.Faults.{IsNoTriggerOf, IsOtherArea, IsTrigger, IsUnknownName, IsUnknownTriggerOf}
-use Rattle.ilscope.specs.declared.fault.NameCause.TheVariants.{Unknown, BadAddress}
-use Rattle.ilscope.specs.declared.global.DeclaredGlobal.{DeclaredGlobal}
+use Rattle.ilscope.specs.Faults.{IsNoTriggerOf, IsTrigger, IsUnknownName, IsUnknownTriggerOf}
 use Rattle.ilscope.proofs.Sound.{IsSoundAt, IsSoundGlobal}
 use Rattle.ilscope.proofs.Typed.{IsTypedGlobal, declared_typed_globals}
 use Rattle.ilplan.specs.declared.activation.Activation.TheVariants.{Cyclic, Event}

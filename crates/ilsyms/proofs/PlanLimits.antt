@@ -14,10 +14,10 @@ use Rattle.ilsource.specs.declared.configuration.TaskDeclaration.{TaskDeclaratio
 use Rattle.ilsource.specs.Names.{folded}
 use Rattle.ilsource.specs.declared.name.Name.{Name}
 use Rattle.ilsource.specs.Trees.{Tree}
+use Rattle.ildeclared.specs.declared.fault.NameCause.TheVariants.{Twice, TooMany, BadDeclaration}
 use Rattle.ilscope.specs.Configured.{global_number, instance_declarations, task_declarations}
 use Rattle.ilscope.specs.Declarations.{declared_programs}
 use Rattle.ilscope.specs.Faults.{IsBadTask, IsBadlyStarted, IsTwice, IsTwiceIn}
-use Rattle.ilscope.specs.declared.fault.NameCause.TheVariants.{Twice, TooMany, BadDeclaration}
 use Rattle.limits.specs.Limits.{most_words}
 use Rattle.ilplan.specs.declared.activation.Activation.TheVariants.{Cyclic, Event}
 use Rattle.ilplan.specs.Plans.{KeepsLimits, HasInterval, all_lines}

@@ -12,8 +12,8 @@ use Rattle.iltrees.specs.Renaming.{by_name, rename_line}
 use Rattle.ilsource.specs.declared.name.Name.{Name}
 use Rattle.ilsource.specs.declared.symbol.Symbol.{Symbol}
 use Rattle.ilsource.specs.Trees.{Tree}
-use Rattle.ilscope.specs.Kept.{Kept}
-use Rattle.ilscope.proofs.Least.{take_more}
+use Rattle.ildeclared.specs.Kept.{Kept}
+use Rattle.ildeclared.proofs.Least.{take_more}
 use Rattle.ilplan.specs.declared.instance.FunctionBlock.{FunctionBlock}
 use Rattle.ilplan.specs.declared.slot.Slot.{Slot}
 use Rattle.ilplan.specs.declared.place.Place.{Place}

@@ -9,9 +9,9 @@ use Rattle.ilblocks.specs.declared.port.Port.{Port}
 use Rattle.ilblocks.specs.Ports.{is_named, port_named, ports_of}
 use Rattle.ilsource.specs.declared.name.Name.{Name}
 use Rattle.ilsource.specs.Names.{folded, text_of}
+use Rattle.ildeclared.specs.declared.block.DeclaredBlock.{DeclaredBlock}
 use Rattle.ilscope.specs.Declarations.{DeclaredProgram}
 use Rattle.ilscope.specs.Tables.{block_number, first_at}
-use Rattle.ilscope.specs.declared.block.DeclaredBlock.{DeclaredBlock}
 use Rattle.ilsyms.specs.Faults.{port_number}
 use Rattle.ilsyms.specs.Meaning.{same_name}
 

@@ -8,10 +8,10 @@ use Rattle.std.proofs.lemmas.List.Elements.{filter_map-append}
 use Rattle.std.proofs.lemmas.List.Folds.{list_any-append}
 use Rattle.std.proofs.lemmas.List.FromFn.{length-enumerate_from, get_or-enumerate_from}
 use Rattle.ilsource.specs.Trees.{Tree}
+use Rattle.ildeclared.specs.Faults.{SomeOf}
+use Rattle.ildeclared.specs.declared.global.DeclaredGlobal.{DeclaredGlobal}
 use Rattle.ilscope.specs.Configured.{globals_of}
 use Rattle.ilscope.specs.Declarations.{DeclaredProgram, declared_programs}
-use Rattle.ilscope.specs.Faults.{SomeOf}
-use Rattle.ilscope.specs.declared.global.DeclaredGlobal.{DeclaredGlobal}
 use Rattle.ilsource.specs.declared.name.Name.{Name}
 use Rattle.ilplan.specs.declared.slot.Slot.{Slot}
 use Rattle.ilsyms.specs.SlotSteps.{AddsWhere, AreNamed}

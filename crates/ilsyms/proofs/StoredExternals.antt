@@ -7,14 +7,14 @@ use Rattle.ilsource.specs.Names.{SameName, folded}
 use Rattle.ilsource.specs.Trees.{Tree}
 use Rattle.ilsource.specs.declared.name.Name.{Name}
 use Rattle.ilsource.specs.declared.symbol.Symbol.{Symbol}
+use Rattle.ildeclared.specs.Faults.{IsLeastOf, OfCause, SomeOf}
+use Rattle.ildeclared.specs.declared.external.DeclaredExternal.{DeclaredExternal}
+use Rattle.ildeclared.specs.declared.fault.NameCause.TheVariants.{WritesInput}
+use Rattle.ildeclared.specs.declared.found.Found.{Found}
+use Rattle.ildeclared.proofs.Least.{one_found}
 use Rattle.ilscope.specs.Configured.{global_number}
 use Rattle.ilscope.specs.Declarations.{DeclaredProgram}
-use Rattle.ilscope.specs.Faults.{IsLeastOf, OfCause, SomeOf}
 use Rattle.ilscope.specs.Tables.{external_number}
-use Rattle.ilscope.specs.declared.fault.NameCause.TheVariants.{WritesInput}
-use Rattle.ilscope.specs.declared.external.DeclaredExternal.{DeclaredExternal}
-use Rattle.ilscope.specs.declared.found.Found.{Found}
-use Rattle.ilscope.proofs.Least.{one_found}
 use Rattle.ilsyms.specs.Faults.{IsExternal, IsNamedInput, StoresExternal, StoresTo, StoresToInput, stored_name}
 use Rattle.ilsyms.proofs.LabelRenaming.{alike}
 

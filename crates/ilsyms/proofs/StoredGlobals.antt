@@ -8,12 +8,12 @@ use Rattle.iltrees.specs.declared.uses.Use.{Use}
 use Rattle.ilsource.specs.Trees.{Tree}
 use Rattle.ilsource.specs.declared.name.Name.{Name}
 use Rattle.ilsource.specs.declared.symbol.Symbol.{Symbol}
+use Rattle.ildeclared.specs.Faults.{SomeOf}
+use Rattle.ildeclared.proofs.FoundOrder.{or_else}
+use Rattle.ildeclared.proofs.Least.{some_append, some_front, some_last, take_more}
 use Rattle.ilscope.specs.Configured.{globals_of, global_number}
 use Rattle.ilscope.specs.Declarations.{DeclaredProgram}
-use Rattle.ilscope.specs.Faults.{SomeOf}
 use Rattle.ilscope.proofs.Declared.{first_below}
-use Rattle.ilscope.proofs.Gathered.{or_else}
-use Rattle.ilscope.proofs.Least.{some_append, some_front, some_last, take_more}
 use Rattle.ilsyms.specs.Faults.{IsExternal, StoresTo, stored_name}
 
 -- the numbers are those that some element has

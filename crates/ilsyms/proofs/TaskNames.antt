@@ -9,9 +9,10 @@ use Rattle.ilsource.specs.declared.source.Element.{Element}
 use Rattle.ilsource.specs.declared.source.Element.TheVariants.{DerivedType, Program}
 use Rattle.ilsource.specs.declared.declaration.TypeDeclaration.{TypeDeclaration}
 use Rattle.ilsource.specs.Trees.{Tree}
+use Rattle.ildeclared.specs.Faults.{SomeOf}
 use Rattle.ilscope.specs.Configured.{program_number}
 use Rattle.ilscope.specs.Declarations.{DeclaredProgram, declared_program, declared_programs, name_of, standing}
-use Rattle.ilscope.specs.Faults.{SomeOf, IsTwiceIn, IsTwice}
+use Rattle.ilscope.specs.Faults.{IsTwiceIn, IsTwice}
 use Rattle.ilsyms.specs.PlanningSteps.{AreOthers, AreApart}
 use Rattle.ilsyms.specs.Meaning.{same_name}
 use Rattle.ilsyms.specs.Tasks.{NamedProgram, instance_named, instances_in, is_in, main_task}

@@ -5,9 +5,9 @@ use Rattle.std.specs.Prelude.{Option, Some, None, slice_get, slice_set, option_m
 use Rattle.std.proofs.lemmas.Bool.Decides.{Decides-eqb}
 use Rattle.std.proofs.lemmas.List.Folds.{list_any-append}
 use Rattle.std.proofs.lemmas.Option.{slice_get-get_or}
-use Rattle.ilscope.specs.Faults.{SomeOf}
-use Rattle.ilscope.proofs.Gathered.{or_else}
-use Rattle.ilscope.proofs.Least.{take_more}
+use Rattle.ildeclared.specs.Faults.{SomeOf}
+use Rattle.ildeclared.proofs.FoundOrder.{or_else}
+use Rattle.ildeclared.proofs.Least.{take_more}
 use Rattle.ilsyms.specs.TaskSetSteps.{AreSetsOf, IsSetOf, is_among, union, with_tasks}
 use Rattle.ilsyms.specs.declared.task_sets.TaskSet.{TaskSet}
 use Rattle.ilsyms.specs.declared.task_sets.TaskSet.TheVariants.{Empty, One, Several}

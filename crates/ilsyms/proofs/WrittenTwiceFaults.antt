@@ -6,14 +6,14 @@ use Rattle.std.specs.Prelude.{Option, IsSomeAnd, slice_get}
 use Rattle.std.specs.List.{enumerate_from}
 use Rattle.std.proofs.lemmas.List.FromFn.{get_or-enumerate_from, length-enumerate_from}
 use Rattle.ilsource.specs.Trees.{Tree}
+use Rattle.ildeclared.specs.Faults.{IsLeastOf, OfCause, SomeOf, SomeLater}
+use Rattle.ildeclared.specs.Order.{lesser_of_two}
+use Rattle.ildeclared.specs.declared.fault.NameCause.TheVariants.{WrittenTwice}
+use Rattle.ildeclared.specs.declared.found.Found.{Found}
+use Rattle.ildeclared.specs.declared.global.DeclaredGlobal.{DeclaredGlobal}
+use Rattle.ildeclared.proofs.Least.{least_of_more}
 use Rattle.ilscope.specs.Configured.{globals_of}
 use Rattle.ilscope.specs.Declarations.{declared_programs}
-use Rattle.ilscope.specs.Faults.{IsLeastOf, OfCause, SomeOf, SomeLater}
-use Rattle.ilscope.specs.Order.{lesser_of_two}
-use Rattle.ilscope.specs.declared.fault.NameCause.TheVariants.{WrittenTwice}
-use Rattle.ilscope.specs.declared.found.Found.{Found}
-use Rattle.ilscope.specs.declared.global.DeclaredGlobal.{DeclaredGlobal}
-use Rattle.ilscope.proofs.Least.{least_of_more}
 use Rattle.ilsyms.specs.Faults.{AreTwoStoring, TaskStores}
 use Rattle.ilsyms.specs.TaskSteps.{AreInstancesOfTasks}
 use Rattle.ilsyms.specs.TaskSetSteps.{AreSetsOf, IsSetOf}

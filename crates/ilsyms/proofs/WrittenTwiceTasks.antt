@@ -7,9 +7,9 @@ use Rattle.std.proofs.Math.ListN.{length-map}
 use Rattle.std.proofs.lemmas.List.Elements.{All-cons, All-nil}
 use Rattle.std.proofs.lemmas.Option.{get_or_from_slice_get, slice_get-get_or, slice_get-map, slice_get_within}
 use Rattle.ilsource.specs.Trees.{Tree}
+use Rattle.ildeclared.specs.Faults.{SomeOf}
+use Rattle.ildeclared.proofs.FoundOrder.{or_else}
 use Rattle.ilscope.specs.Declarations.{DeclaredProgram, declared_programs}
-use Rattle.ilscope.specs.Faults.{SomeOf}
-use Rattle.ilscope.proofs.Gathered.{or_else}
 use Rattle.ilsyms.specs.Faults.{ProgramStores, TaskStores}
 use Rattle.ilsyms.specs.TaskSteps.{AreInstances, AreInstancesOfTasks, instance_at}
 use Rattle.ilsyms.specs.TaskSetSteps.{AreSetsOf, IsSetOf}

@@ -4,7 +4,8 @@ use Rattle.iltrees.specs.declared.instruction.Line.{Line}
 use Rattle.ilsource.specs.declared.name.Name.{Name}
 use Rattle.ilsource.specs.declared.symbol.Symbol.{Symbol}
 use Rattle.ilsource.specs.Names.{folded}
-use Rattle.ilscope.specs.Faults.{IsTwiceIn, SomeOf}
+use Rattle.ildeclared.specs.Faults.{SomeOf}
+use Rattle.ilscope.specs.Faults.{IsTwiceIn}
 use Rattle.ilsyms.specs.Faults.{ports_given}
 
 -- a call among the lines gives, at the place, a port that it gave before

@@ -5,8 +5,8 @@ use Rattle.iltrees.specs.declared.uses.Use.{Use}
 use Rattle.ilsource.specs.declared.symbol.Symbol.{Symbol}
 use Rattle.ilplan.specs.Constants.{constants_used, each_once}
 use Rattle.ilsource.specs.Trees.{Tree}
+use Rattle.ildeclared.specs.Faults.{SomeOf}
 use Rattle.ilscope.specs.Declarations.{declared_programs}
-use Rattle.ilscope.specs.Faults.{SomeOf}
 use Rattle.ilsyms.specs.Faults.{MakesTooManyConstants}
 use Rattle.ilsyms.specs.Tasks.{NamedProgram}
 

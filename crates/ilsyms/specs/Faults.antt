@@ -24,12 +24,13 @@ use Rattle.ilsource.specs.declared.symbol.Symbol.{Symbol}
 use Rattle.ilsource.specs.declared.symbol.Symbol.TheVariants.{Variable, Port, Block}
 use Rattle.ilsource.specs.Names.{SameName, folded, text_of}
 use Rattle.ilsource.specs.Trees.{Tree}
+use Rattle.ildeclared.specs.Faults.{SomeOf, SomeLater, IsInput}
+use Rattle.ildeclared.specs.declared.fault.NameCause.{NameCause}
+use Rattle.ildeclared.specs.declared.fault.NameCause.TheVariants.{Unknown, Twice, UnknownLabel, BackwardJump}
+use Rattle.ildeclared.specs.declared.fault.NameCause.TheVariants.{WrittenTwice, WritesInput, TooMany}
 use Rattle.ilscope.specs.Configured.{globals_of, global_named, global_number, task_declarations}
 use Rattle.ilscope.specs.Declarations.{DeclaredProgram, declared_programs}
-use Rattle.ilscope.specs.Faults.{SomeOf, SomeLater, IsTwiceIn, IsInput, IsFaultOfDeclarations}
-use Rattle.ilscope.specs.declared.fault.NameCause.{NameCause}
-use Rattle.ilscope.specs.declared.fault.NameCause.TheVariants.{Unknown, Twice, UnknownLabel, BackwardJump, WrittenTwice}
-use Rattle.ilscope.specs.declared.fault.NameCause.TheVariants.{WritesInput, TooMany}
+use Rattle.ilscope.specs.Faults.{IsTwiceIn, IsFaultOfDeclarations}
 use Rattle.ilscope.specs.Tables.{first_at}
 use Rattle.ilplan.specs.Constants.{constants_used, each_once}
 use Rattle.ilplan.specs.declared.slot.SlotOwner.{SlotOwner}

@@ -6,9 +6,9 @@ use Rattle.iltrees.specs.declared.instruction.Line.{Line}
 use Rattle.ilsource.specs.declared.name.Name.{Name}
 use Rattle.ilsource.specs.declared.symbol.Symbol.{Symbol}
 use Rattle.ilsource.specs.Names.{folded}
-use Rattle.ilscope.specs.Kept.{Kept}
-use Rattle.ilscope.specs.declared.fault.NameCause.{NameCause}
-use Rattle.ilscope.specs.declared.fault.NameCause.TheVariants.{UnknownLabel, BackwardJump}
+use Rattle.ildeclared.specs.Kept.{Kept}
+use Rattle.ildeclared.specs.declared.fault.NameCause.{NameCause}
+use Rattle.ildeclared.specs.declared.fault.NameCause.TheVariants.{UnknownLabel, BackwardJump}
 use Rattle.ilsyms.specs.Faults.{JumpsTo, JumpsNowhere, JumpsBack}
 
 -- what is wrong with a jump of the line with this number, where the first line with its label has that one

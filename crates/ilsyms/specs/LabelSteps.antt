@@ -6,7 +6,7 @@ use Rattle.iltrees.specs.Passes.{has_label}
 use Rattle.ilsource.specs.declared.name.Name.{Name}
 use Rattle.ilsource.specs.declared.symbol.Symbol.{Symbol}
 use Rattle.ilsource.specs.Names.{folded}
-use Rattle.ilscope.specs.Kept.{Kept, with_new}
+use Rattle.ildeclared.specs.Kept.{Kept, with_new}
 use Rattle.ilscope.specs.Tables.{first_at}
 use Rattle.ilsyms.specs.Meaning.{same_name}
 

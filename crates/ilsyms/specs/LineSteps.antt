@@ -4,9 +4,10 @@ use Rattle.iltrees.specs.declared.instruction.Line.{Line}
 use Rattle.ilsource.specs.declared.name.Name.{Name}
 use Rattle.ilsource.specs.declared.symbol.Symbol.{Symbol}
 use Rattle.ilsource.specs.Names.{folded}
-use Rattle.ilscope.specs.Faults.{IsTwiceIn, OfCause}
-use Rattle.ilscope.specs.declared.fault.NameCause.{NameCause}
-use Rattle.ilscope.specs.declared.fault.NameCause.TheVariants.{Twice}
+use Rattle.ildeclared.specs.Faults.{OfCause}
+use Rattle.ildeclared.specs.declared.fault.NameCause.{NameCause}
+use Rattle.ildeclared.specs.declared.fault.NameCause.TheVariants.{Twice}
+use Rattle.ilscope.specs.Faults.{IsTwiceIn}
 use Rattle.ilsyms.specs.Faults.{labels_of}
 use Rattle.ilsyms.specs.JumpSteps.{IsFaultOfJumps}
 use Rattle.ilsyms.specs.ArgumentSteps.{IsGivenTwiceIn}

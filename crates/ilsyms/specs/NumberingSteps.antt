@@ -11,9 +11,9 @@ use Rattle.ilsource.specs.declared.symbol.Symbol.TheVariants as symbols
 use Rattle.ilsource.specs.Names.{folded}
 use Rattle.ilsource.specs.Trees.{Tree}
 use Rattle.ilblocks.specs.Ports.{most_ports}
+use Rattle.ildeclared.specs.Kept.{Kept}
 use Rattle.ilscope.specs.Configured.{global_number}
 use Rattle.ilscope.specs.Declarations.{DeclaredProgram}
-use Rattle.ilscope.specs.Kept.{Kept}
 use Rattle.ilscope.specs.Tables.{block_number, variable_number}
 use Rattle.ilplan.specs.declared.slot.Slot.{Slot}
 use Rattle.ilplan.specs.declared.place.Place.{Place}

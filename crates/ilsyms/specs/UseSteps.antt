@@ -3,10 +3,10 @@ use Rattle.std.specs.Prelude.{ℕ, List, ◌⊎◌}
 use Rattle.iltrees.specs.declared.uses.Use.{Use}
 use Rattle.ilsource.specs.Trees.{Tree}
 use Rattle.ilsource.specs.declared.symbol.Symbol.{Symbol}
+use Rattle.ildeclared.specs.Faults.{OfCause, SomeOf}
+use Rattle.ildeclared.specs.declared.fault.NameCause.{NameCause}
+use Rattle.ildeclared.specs.declared.fault.NameCause.TheVariants.{Unknown, WritesInput}
 use Rattle.ilscope.specs.Declarations.{DeclaredProgram}
-use Rattle.ilscope.specs.Faults.{OfCause, SomeOf}
-use Rattle.ilscope.specs.declared.fault.NameCause.{NameCause}
-use Rattle.ilscope.specs.declared.fault.NameCause.TheVariants.{Unknown, WritesInput}
 use Rattle.ilsyms.specs.Faults.{IsUnknownUse, StoresToInput, WritesOutput}
 
 -- a use names what its program does not declare, or stores to an output port or to an input

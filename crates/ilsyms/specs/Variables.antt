@@ -12,11 +12,11 @@ use Rattle.ilblocks.specs.Stores.{Shape}
 use Rattle.ilsource.specs.Trees.{Tree}
 use Rattle.ilsource.specs.declared.name.Name.{Name}
 use Rattle.ilsource.specs.declared.symbol.Symbol.{Symbol}
+use Rattle.ildeclared.specs.declared.block.DeclaredBlock.{DeclaredBlock}
+use Rattle.ildeclared.specs.declared.external.DeclaredExternal.{DeclaredExternal}
+use Rattle.ildeclared.specs.declared.global.DeclaredGlobal.{DeclaredGlobal}
+use Rattle.ildeclared.specs.declared.variable.DeclaredVariable.{DeclaredVariable}
 use Rattle.ilscope.specs.Configured.{globals_of, global_number}
-use Rattle.ilscope.specs.declared.block.DeclaredBlock.{DeclaredBlock}
-use Rattle.ilscope.specs.declared.external.DeclaredExternal.{DeclaredExternal}
-use Rattle.ilscope.specs.declared.global.DeclaredGlobal.{DeclaredGlobal}
-use Rattle.ilscope.specs.declared.variable.DeclaredVariable.{DeclaredVariable}
 use Rattle.ilplan.specs.declared.instance.FunctionBlock.{FunctionBlock}
 use Rattle.ilplan.specs.declared.slot.Slot.{Slot}
 use Rattle.ilplan.specs.declared.slot.SlotOwner.TheVariants as variables

@@ -1,8 +1,8 @@
 -- The tasks that have an instance of a program, and those that store to a global variable.
 use Rattle.std.specs.Prelude.{◌≡◌, ◌<◌, ℕ, List, Some, IsSomeAnd, slice_get}
 use Rattle.ilsource.specs.Trees.{Tree}
+use Rattle.ildeclared.specs.Faults.{SomeOf}
 use Rattle.ilscope.specs.Declarations.{DeclaredProgram, declared_programs}
-use Rattle.ilscope.specs.Faults.{SomeOf}
 use Rattle.ilsyms.specs.Faults.{ProgramStores}
 use Rattle.ilsyms.specs.declared.tasks.TaskInstance.{TaskInstance}
 

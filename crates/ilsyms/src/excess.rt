@@ -3,10 +3,10 @@
 
 ghost use Rattle.std.specs.Prelude.{◌≡◌, IfOk, Some, map, option_map, slice_get};
 ghost use Rattle.limits.specs.Limits.{most_blocks, most_instances, most_slots, most_tasks};
+ghost use Rattle.ildeclared.specs.Faults.{IsLeastOf, OfCause, SomeOf};
+ghost use Rattle.ildeclared.specs.declared.fault.NameCause.TheVariants.{TooMany};
 ghost use Rattle.ilscope.specs.Configured.{task_declarations};
 ghost use Rattle.ilscope.specs.Declarations.{declared_programs};
-ghost use Rattle.ilscope.specs.Faults.{IsLeastOf, OfCause, SomeOf};
-ghost use Rattle.ilscope.specs.declared.fault.NameCause.TheVariants.{TooMany};
 ghost use Rattle.ilsyms.specs.Faults.{IsTooMany, IsTooManyIn, instance_names, place_of_slot};
 ghost use Rattle.ilsyms.specs.TaskSteps.{AreInstancesOfTasks, AreThere, instances_of};
 ghost use Rattle.ilsyms.specs.WordSteps.{places_of_program};

@@ -1,7 +1,7 @@
 //! The least fault of a source program.
 
 ghost use Rattle.std.specs.Prelude.{IfOk};
-ghost use Rattle.ilscope.specs.Faults.{IsLeastOf};
+ghost use Rattle.ildeclared.specs.Faults.{IsLeastOf};
 ghost use Rattle.ilsyms.specs.Faults.{IsFault, IsFaultOfUse};
 ghost use Rattle.ilsyms.specs.TaskSteps.{AreInstancesOfTasks};
 

@@ -1,8 +1,8 @@
 //! Faults of jumps.
 
 ghost use Rattle.std.specs.Prelude.{◌≡◌, ◌↔◌, Some};
-ghost use Rattle.ilscope.specs.Faults.{IsLeastOf};
-ghost use Rattle.ilscope.specs.declared.fault.NameCause.{NameCause};
+ghost use Rattle.ildeclared.specs.Faults.{IsLeastOf};
+ghost use Rattle.ildeclared.specs.declared.fault.NameCause.{NameCause};
 ghost use Rattle.ilsyms.specs.LabelSteps.{AreNumbered};
 ghost use Rattle.ilsyms.specs.JumpSteps.{IsCauseOfJump, IsFaultOfJump};
 ghost use Rattle.ilsyms.specs.JumpSteps.{IsFaultOfJumps};

@@ -2,8 +2,9 @@
 
 ghost use Rattle.std.specs.Prelude.{◌≡◌, IfOk, OnOk};
 ghost use Rattle.ilsource.specs.Names.{folded};
-ghost use Rattle.ilscope.specs.Faults.{IsLeastOf, IsTwiceIn, OfCause};
-ghost use Rattle.ilscope.specs.declared.fault.NameCause.TheVariants.{Twice};
+ghost use Rattle.ildeclared.specs.Faults.{IsLeastOf, OfCause};
+ghost use Rattle.ildeclared.specs.declared.fault.NameCause.TheVariants.{Twice};
+ghost use Rattle.ilscope.specs.Faults.{IsTwiceIn};
 ghost use Rattle.ilsyms.specs.Faults.{labels_of};
 ghost use Rattle.ilsyms.specs.LabelSteps.{AreNumbered, IsKeptLabel, with_label};
 

@@ -1,8 +1,8 @@
 //! Faults of lines as such: of labels, and of ports that one call gives again.
 
 ghost use Rattle.std.specs.Prelude.{IfOk};
+ghost use Rattle.ildeclared.specs.Faults.{SomeOf, IsLeastOf};
 ghost use Rattle.ilscope.specs.Declarations.{declared_programs};
-ghost use Rattle.ilscope.specs.Faults.{SomeOf, IsLeastOf};
 ghost use Rattle.ilsyms.specs.LineSteps.{IsFaultOfLabels, IsFaultOfLines};
 
 use crate::arguments::given_twice;

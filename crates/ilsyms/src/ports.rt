@@ -1,9 +1,9 @@
 //! Ports of block instances.
 
 ghost use Rattle.std.specs.Prelude.{◌≡◌, ◌<◌, Some, length, slice_get};
+ghost use Rattle.ildeclared.specs.Faults.{IsLeastOf, OfCause};
+ghost use Rattle.ildeclared.specs.declared.fault.NameCause.TheVariants.{WritesInput};
 ghost use Rattle.ilscope.specs.Declarations.{DeclaredProgram, declared_programs};
-ghost use Rattle.ilscope.specs.Faults.{IsLeastOf, OfCause};
-ghost use Rattle.ilscope.specs.declared.fault.NameCause.TheVariants.{WritesInput};
 ghost use Rattle.ilsyms.specs.Faults.{place_of_port, port_number, writes, WritesOutput};
 
 use ilblocks::BlockKind;

@@ -1,8 +1,8 @@
 //! Resolving the names of a source program.
 
 ghost use Rattle.std.specs.Prelude.{◌≡◌, ℕ, IfErr, IfOk, OnOk};
+ghost use Rattle.ildeclared.specs.declared.fault.NameFault.{NameFault};
 ghost use Rattle.ilscope.specs.Reports.{IsMemoryOrReportsLeast, ReportsLeast};
-ghost use Rattle.ilscope.specs.declared.fault.NameFault.{NameFault};
 ghost use Rattle.ilblocks.specs.Stores.{Store};
 ghost use Rattle.ilplan.specs.PlanMeaning.{plan_scan};
 ghost use Rattle.ilsyms.specs.Faults.{IsFault, IsWellNamed};

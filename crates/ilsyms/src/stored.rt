@@ -4,10 +4,10 @@ ghost use Rattle.std.specs.Prelude.{◌≡◌, ◌<◌, ◌↔◌, ℕ, All, IfO
 ghost use Rattle.std.specs.Prelude.{option_and_then};
 ghost use Rattle.std.specs.Prelude.{slice_get};
 ghost use Rattle.ilsource.specs.declared.name.Name.{Name};
+ghost use Rattle.ildeclared.specs.Faults.{IsInput, IsLeastOf, OfCause, SomeOf};
+ghost use Rattle.ildeclared.specs.declared.fault.NameCause.TheVariants.{WritesInput};
 ghost use Rattle.ilscope.specs.Configured.{global_named, globals_of};
 ghost use Rattle.ilscope.specs.Declarations.{DeclaredProgram, declared_programs};
-ghost use Rattle.ilscope.specs.Faults.{IsInput, IsLeastOf, OfCause, SomeOf};
-ghost use Rattle.ilscope.specs.declared.fault.NameCause.TheVariants.{WritesInput};
 ghost use Rattle.ilsyms.specs.Faults.{IsNamedInput, ProgramStores, StoresExternal, StoresTo};
 ghost use Rattle.ilsyms.specs.Faults.{StoresToInput, stored_name};
 

@@ -1,9 +1,9 @@
 //! Names that their program does not declare.
 
 ghost use Rattle.std.specs.Prelude.{◌≡◌, ◌<◌, ◌↔◌, IsTrue, Some, length, slice_get};
+ghost use Rattle.ildeclared.specs.Faults.{IsLeastOf, OfCause};
+ghost use Rattle.ildeclared.specs.declared.fault.NameCause.TheVariants.{Unknown};
 ghost use Rattle.ilscope.specs.Declarations.{DeclaredProgram, declared_programs};
-ghost use Rattle.ilscope.specs.Faults.{IsLeastOf, OfCause};
-ghost use Rattle.ilscope.specs.declared.fault.NameCause.TheVariants.{Unknown};
 ghost use Rattle.ilsyms.specs.Faults.{IsNoVariable, IsUnknownSymbol, IsUnknownUse};
 
 use crate::ports::{place_of_port, port_of};

@@ -1,8 +1,8 @@
 //! What programs use, and what is at fault with it.
 
 ghost use Rattle.std.specs.Prelude.{◌≡◌, ◌<◌, IfOk, Some, length, slice_get};
+ghost use Rattle.ildeclared.specs.Faults.{IsLeastOf, SomeOf};
 ghost use Rattle.ilscope.specs.Declarations.{DeclaredProgram, declared_programs};
-ghost use Rattle.ilscope.specs.Faults.{IsLeastOf, SomeOf};
 ghost use Rattle.ilsyms.specs.UseSteps.{IsFaultAtUse, IsFaultAtUses};
 ghost use Rattle.ilsyms.specs.Variables.{uses_of};
 

@@ -1,10 +1,10 @@
 //! Global variables that two tasks store to.
 
 ghost use Rattle.std.specs.Prelude.{◌≡◌, ◌<◌, All, IfOk, length, map};
+ghost use Rattle.ildeclared.specs.Faults.{IsLeastOf, OfCause};
+ghost use Rattle.ildeclared.specs.declared.fault.NameCause.TheVariants.{WrittenTwice};
 ghost use Rattle.ilscope.specs.Configured.{globals_of};
 ghost use Rattle.ilscope.specs.Declarations.{declared_programs};
-ghost use Rattle.ilscope.specs.Faults.{IsLeastOf, OfCause};
-ghost use Rattle.ilscope.specs.declared.fault.NameCause.TheVariants.{WrittenTwice};
 ghost use Rattle.ilsyms.specs.Faults.{IsWrittenTwice};
 ghost use Rattle.ilsyms.specs.TaskSteps.{AreInstancesOfTasks};
 ghost use Rattle.ilsyms.specs.TaskSetSteps.{AreSetsOf};

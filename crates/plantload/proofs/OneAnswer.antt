@@ -6,7 +6,7 @@ use Rattle.std.proofs.lemmas.Bool.{cases_lt}
 use Rattle.binding.specs.Wirings.{Wiring}
 use Rattle.ilsource.specs.Trees.{Tree}
 use Rattle.iltext.proofs.Sources.{is_one, is_one_fault, is_no_fault}
-use Rattle.ilscope.specs.declared.fault.NameFault.TheVariants as name_faults
+use Rattle.ildeclared.specs.declared.fault.NameFault.TheVariants as name_faults
 use Rattle.ilsyms.specs.Faults.{IsFault}
 use Rattle.ilplan.specs.Plans.{Planned, PlannedTask}
 use Rattle.ilsyms.specs.Resolved.{plan_of_tree}

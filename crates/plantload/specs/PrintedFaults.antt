@@ -3,9 +3,9 @@ use Rattle.std.specs.Prelude.{ℕ, List, codes}
 use Rattle.iltext.specs.declared.fault.TextFault.{TextFault}
 use Rattle.iltext.specs.declared.fault.TextFault.TheVariants as text_faults
 use Rattle.iltext.specs.Printed as texts
-use Rattle.ilscope.specs.declared.fault.NameFault.{NameFault}
-use Rattle.ilscope.specs.declared.fault.NameFault.TheVariants as name_faults
-use Rattle.ilscope.specs.Printed.{printed_name_fault}
+use Rattle.ildeclared.specs.Printed.{printed_name_fault}
+use Rattle.ildeclared.specs.declared.fault.NameFault.{NameFault}
+use Rattle.ildeclared.specs.declared.fault.NameFault.TheVariants as name_faults
 use Rattle.ilplan.specs.Plans.{Planned}
 use Rattle.ilverify.specs.declared.refusal.VerifyError.{VerifyError}
 use Rattle.ilverify.specs.declared.refusal.VerifyError.TheVariants as verify_errors

@@ -1,5 +1,5 @@
 use Rattle.std.proofs.Common.{refl, ◌∙◌}
-use Rattle.ilscope.specs.Declarations.{names_of}
+use Rattle.ildeclared.specs.Declarations.{names_of}
 use Rattle.ilscope.proofs.FilledTables.{moved_twice}
 use Rattle.ilscope.proofs.numbers.name_given_twice.Goals as goal
 

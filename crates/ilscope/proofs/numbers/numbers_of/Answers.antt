@@ -3,9 +3,10 @@ use Rattle.std.specs.Prelude.{bytes_eq}
 use Rattle.std.proofs.lemmas.List.{take_all}
 use Rattle.ilsource.specs.Names.{text_of}
 use Rattle.ilsource.specs.declared.name.Name.{Name}
-use Rattle.ilscope.specs.Faults.{IsLeastOf, IsTwiceIn, OfCause}
+use Rattle.ildeclared.specs.Faults.{IsLeastOf, OfCause}
+use Rattle.ildeclared.specs.declared.fault.NameCause.TheVariants.{Twice}
+use Rattle.ilscope.specs.Faults.{IsTwiceIn}
 use Rattle.ilscope.specs.Tables.{first_at}
-use Rattle.ilscope.specs.declared.fault.NameCause.TheVariants.{Twice}
 use Rattle.ilscope.proofs.Numbered.{numbers_more, twice_more}
 use Rattle.ilscope.proofs.numbers.numbers_of.Goals as goal
 

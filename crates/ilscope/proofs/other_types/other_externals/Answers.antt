@@ -1,11 +1,11 @@
 use Rattle.std.proofs.Common.{◌≡◌, List, subst}
-use Rattle.ilscope.specs.declared.external.DeclaredExternal.{DeclaredExternal}
-use Rattle.ilscope.specs.Faults.{IsLeastOf, OfCause, SomeOf, AreOther}
-use Rattle.ilscope.proofs.OneCause.{item_of_cause, whole_of_cause}
-use Rattle.ilscope.specs.declared.fault.NameCause.TheVariants.{BadDeclaration}
-use Rattle.ilscope.specs.Kept.{kept_under}
+use Rattle.ildeclared.specs.Faults.{IsLeastOf, OfCause, SomeOf}
+use Rattle.ildeclared.specs.Kept.{kept_under}
+use Rattle.ildeclared.specs.declared.external.DeclaredExternal.{DeclaredExternal}
+use Rattle.ildeclared.specs.declared.fault.NameCause.TheVariants.{BadDeclaration}
+use Rattle.ildeclared.proofs.OneCause.{item_of_cause, whole_of_cause}
+use Rattle.ilscope.specs.Faults.{AreOther, IsOtherExternalIn}
 use Rattle.std.specs.Prelude.{None, option_and_then, slice_get, unwrap_or}
-use Rattle.ilscope.specs.Faults.{IsOtherExternalIn}
 use Rattle.ilscope.proofs.other_types.other_externals.Goals as goal
 
 pub loop-program-preserved : goal.loop-program-preserved

@@ -1,9 +1,9 @@
-use Rattle.ilscope.proofs.OneCause.{item_of_cause, whole_of_cause}
-use Rattle.ilscope.specs.declared.fault.NameCause.TheVariants.{BadDeclaration}
-use Rattle.ilscope.specs.Kept.{kept_under}
+use Rattle.ildeclared.specs.Kept.{kept_under}
+use Rattle.ildeclared.specs.declared.external.DeclaredExternal.{DeclaredExternal}
+use Rattle.ildeclared.specs.declared.fault.NameCause.TheVariants.{BadDeclaration}
+use Rattle.ildeclared.proofs.OneCause.{item_of_cause, whole_of_cause}
 use Rattle.std.specs.Prelude.{◌≡◌, None, option_and_then, slice_get, unwrap_or}
 use Rattle.ilscope.specs.Faults.{AreOther}
-use Rattle.ilscope.specs.declared.external.DeclaredExternal.{DeclaredExternal}
 use Rattle.ilscope.proofs.other_types.other_in.Goals as goal
 
 pub loop-external-preserved : goal.loop-external-preserved

@@ -1,7 +1,7 @@
 use Rattle.std.proofs.Common.{take}
-use Rattle.ilscope.specs.Faults.{IsLeastOf, OfCause, SomeOf}
-use Rattle.ilscope.specs.declared.fault.NameCause.TheVariants.{BadDeclaration}
-use Rattle.ilscope.specs.Kept.{kept_under}
+use Rattle.ildeclared.specs.Faults.{IsLeastOf, OfCause, SomeOf}
+use Rattle.ildeclared.specs.Kept.{kept_under}
+use Rattle.ildeclared.specs.declared.fault.NameCause.TheVariants.{BadDeclaration}
 use Rattle.std.specs.Prelude.{◌≡◌, None, option_and_then, slice_get, unwrap_or}
 use Rattle.ilscope.specs.Faults.{AreOther}
 use Rattle.ilscope.proofs.other_types.other_in.Given as goal

@@ -1,5 +1,5 @@
-use Rattle.ilscope.proofs.OneCause.{more_of_cause, whole_of_cause}
-use Rattle.ilscope.specs.declared.fault.NameCause.TheVariants.{BadDeclaration}
+use Rattle.ildeclared.specs.declared.fault.NameCause.TheVariants.{BadDeclaration}
+use Rattle.ildeclared.proofs.OneCause.{more_of_cause, whole_of_cause}
 use Rattle.ilscope.specs.Faults.{IsBadTaskAt}
 use Rattle.ilscope.proofs.tasks.bad_tasks.Goals as goal
 

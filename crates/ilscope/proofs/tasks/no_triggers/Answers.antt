@@ -1,6 +1,6 @@
-use Rattle.ilscope.proofs.OneCause.{more_of_cause, whole_of_cause}
-use Rattle.ilscope.specs.declared.fault.NameCause.TheVariants.{BadAddress}
-use Rattle.ilscope.specs.Kept.{kept_under}
+use Rattle.ildeclared.specs.Kept.{kept_under}
+use Rattle.ildeclared.specs.declared.fault.NameCause.TheVariants.{BadAddress}
+use Rattle.ildeclared.proofs.OneCause.{more_of_cause, whole_of_cause}
 use Rattle.std.specs.Prelude.{option_and_then, slice_get}
 use Rattle.ilscope.specs.Faults.{IsNoTriggerOf}
 use Rattle.ilscope.proofs.tasks.no_triggers.Goals as goal

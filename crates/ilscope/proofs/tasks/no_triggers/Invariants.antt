@@ -1,7 +1,7 @@
 use Rattle.std.proofs.Common.{take}
-use Rattle.ilscope.specs.Faults.{IsLeastOf, OfCause, SomeOf}
-use Rattle.ilscope.specs.declared.fault.NameCause.TheVariants.{BadAddress}
-use Rattle.ilscope.specs.Kept.{kept_under}
+use Rattle.ildeclared.specs.Faults.{IsLeastOf, OfCause, SomeOf}
+use Rattle.ildeclared.specs.Kept.{kept_under}
+use Rattle.ildeclared.specs.declared.fault.NameCause.TheVariants.{BadAddress}
 use Rattle.std.specs.Prelude.{option_and_then, slice_get}
 use Rattle.ilscope.specs.Faults.{IsNoTriggerOf}
 use Rattle.ilscope.proofs.tasks.no_triggers.Given as goal

@@ -1,5 +1,5 @@
-use Rattle.ilscope.proofs.OneCause.{more_of_cause, whole_of_cause}
-use Rattle.ilscope.specs.declared.fault.NameCause.TheVariants.{NoTask}
+use Rattle.ildeclared.specs.declared.fault.NameCause.TheVariants.{NoTask}
+use Rattle.ildeclared.proofs.OneCause.{more_of_cause, whole_of_cause}
 use Rattle.ilscope.specs.Faults.{HasNoTaskAt}
 use Rattle.ilscope.proofs.tasks.without_task.Goals as goal
 

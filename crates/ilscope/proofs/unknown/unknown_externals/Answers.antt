@@ -1,10 +1,10 @@
 use Rattle.std.proofs.Common.{List, subst}
-use Rattle.ilscope.specs.declared.external.DeclaredExternal.{DeclaredExternal}
-use Rattle.ilscope.specs.Faults.{IsLeastOf, OfCause, SomeOf, IsUnknownName}
-use Rattle.ilscope.proofs.OneCause.{item_of_cause, whole_of_cause}
-use Rattle.ilscope.specs.declared.fault.NameCause.TheVariants.{Unknown}
-use Rattle.ilscope.specs.Kept.{kept_under}
-use Rattle.ilscope.specs.Faults.{IsUnknownExternalIn}
+use Rattle.ildeclared.specs.Faults.{IsLeastOf, OfCause, SomeOf}
+use Rattle.ildeclared.specs.Kept.{kept_under}
+use Rattle.ildeclared.specs.declared.external.DeclaredExternal.{DeclaredExternal}
+use Rattle.ildeclared.specs.declared.fault.NameCause.TheVariants.{Unknown}
+use Rattle.ildeclared.proofs.OneCause.{item_of_cause, whole_of_cause}
+use Rattle.ilscope.specs.Faults.{IsUnknownName, IsUnknownExternalIn}
 use Rattle.ilscope.proofs.unknown.unknown_externals.Goals as goal
 
 pub loop-program-preserved : goal.loop-program-preserved

@@ -1,8 +1,8 @@
-use Rattle.ilscope.proofs.OneCause.{item_of_cause, whole_of_cause}
-use Rattle.ilscope.specs.declared.fault.NameCause.TheVariants.{Unknown}
-use Rattle.ilscope.specs.Kept.{kept_under}
+use Rattle.ildeclared.specs.Kept.{kept_under}
+use Rattle.ildeclared.specs.declared.external.DeclaredExternal.{DeclaredExternal}
+use Rattle.ildeclared.specs.declared.fault.NameCause.TheVariants.{Unknown}
+use Rattle.ildeclared.proofs.OneCause.{item_of_cause, whole_of_cause}
 use Rattle.ilscope.specs.Faults.{IsUnknownName}
-use Rattle.ilscope.specs.declared.external.DeclaredExternal.{DeclaredExternal}
 use Rattle.ilscope.proofs.unknown.unknown_in.Goals as goal
 
 pub loop-external-preserved : goal.loop-external-preserved

@@ -1,6 +1,6 @@
-use Rattle.ilscope.proofs.OneCause.{more_of_cause, whole_of_cause}
-use Rattle.ilscope.specs.declared.fault.NameCause.TheVariants.{Unknown}
-use Rattle.ilscope.specs.Kept.{kept_under}
+use Rattle.ildeclared.specs.Kept.{kept_under}
+use Rattle.ildeclared.specs.declared.fault.NameCause.TheVariants.{Unknown}
+use Rattle.ildeclared.proofs.OneCause.{more_of_cause, whole_of_cause}
 use Rattle.ilscope.specs.Faults.{IsUnknownTriggerOf}
 use Rattle.ilscope.proofs.unknown.unknown_triggers.Goals as goal
 

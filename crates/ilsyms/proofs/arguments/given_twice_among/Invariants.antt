@@ -1,7 +1,8 @@
 use Rattle.std.proofs.Common.{take}
 use Rattle.ilsource.specs.Names.{folded}
-use Rattle.ilscope.specs.Faults.{IsLeastOf, IsTwiceIn, OfCause}
-use Rattle.ilscope.specs.declared.fault.NameCause.TheVariants.{Twice}
+use Rattle.ildeclared.specs.Faults.{IsLeastOf, OfCause}
+use Rattle.ildeclared.specs.declared.fault.NameCause.TheVariants.{Twice}
+use Rattle.ilscope.specs.Faults.{IsTwiceIn}
 use Rattle.ilsyms.proofs.ArgumentPorts.{given, AreKnown}
 use Rattle.ilsyms.proofs.arguments.given_twice_among.Given as goal
 

@@ -1,7 +1,7 @@
 use Rattle.std.proofs.Common.{◌∙◌, ◌+◌, ◌++◌, List, ap, map, take, arith}
 use Rattle.std.proofs.lemmas.List.{take_all}
 use Rattle.ilplan.specs.declared.instance.FunctionBlock.{FunctionBlock}
-use Rattle.ilscope.specs.declared.block.DeclaredBlock.{DeclaredBlock}
+use Rattle.ildeclared.specs.declared.block.DeclaredBlock.{DeclaredBlock}
 use Rattle.ilsyms.specs.Variables.{function_block}
 use Rattle.ilsyms.proofs.SlotBounds.{full, mapped_more}
 use Rattle.ilsyms.proofs.blocks.add_blocks.Goals as goal

@@ -2,9 +2,9 @@ use Rattle.std.proofs.Common.{◌≡◌, List, sym, ap, ◌∙◌, subst, arith}
 use Rattle.std.proofs.lemmas.List.{take_all}
 use Rattle.std.proofs.lemmas.Option.{get_or_from_slice_get}
 use Rattle.std.specs.Prelude.{Some, slice_get}
-use Rattle.ilscope.specs.Faults.{IsLeastOf, OfCause, SomeOf}
-use Rattle.ilscope.specs.declared.fault.NameCause.TheVariants.{TooMany}
-use Rattle.ilscope.proofs.Least.{got_at, got_below, least_of_more, of_one_cause}
+use Rattle.ildeclared.specs.Faults.{IsLeastOf, OfCause, SomeOf}
+use Rattle.ildeclared.specs.declared.fault.NameCause.TheVariants.{TooMany}
+use Rattle.ildeclared.proofs.Least.{got_at, got_below, least_of_more, of_one_cause}
 use Rattle.ilsyms.specs.Faults.{IsTooManyIn}
 use Rattle.ilsyms.specs.TaskSteps.{AreThere, instances_of}
 use Rattle.ilsyms.specs.Tasks.{NamedProgram, SourceTask, tasks_of}

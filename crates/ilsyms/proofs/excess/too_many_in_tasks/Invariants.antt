@@ -1,6 +1,6 @@
 use Rattle.std.proofs.Common.{take}
-use Rattle.ilscope.specs.Faults.{IsLeastOf, OfCause, SomeOf}
-use Rattle.ilscope.specs.declared.fault.NameCause.TheVariants.{TooMany}
+use Rattle.ildeclared.specs.Faults.{IsLeastOf, OfCause, SomeOf}
+use Rattle.ildeclared.specs.declared.fault.NameCause.TheVariants.{TooMany}
 use Rattle.ilsyms.specs.Faults.{IsTooManyIn}
 use Rattle.ilsyms.specs.Tasks.{tasks_of}
 use Rattle.ilsyms.proofs.excess.too_many_in_tasks.Given as goal

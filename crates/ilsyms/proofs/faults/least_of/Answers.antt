@@ -1,5 +1,5 @@
+use Rattle.ildeclared.proofs.Least.{both_least}
 use Rattle.ilscope.specs.Faults.{IsFaultOfDeclarations}
-use Rattle.ilscope.proofs.Least.{both_least}
 use Rattle.ilsyms.specs.Faults.{IsFaultOfUse}
 use Rattle.ilsyms.proofs.faults.least_of.Goals as goal
 

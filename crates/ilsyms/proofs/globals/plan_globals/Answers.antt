@@ -1,7 +1,7 @@
 use Rattle.std.proofs.Common.{◌≡◌, ◌∙◌, ◌<◌, List, ap, get_or, length, subst, sym}
 use Rattle.std.specs.Prelude.{IfSome}
+use Rattle.ildeclared.specs.declared.global.DeclaredGlobal.{DeclaredGlobal}
 use Rattle.ilscope.specs.Configured.{globals_of}
-use Rattle.ilscope.specs.declared.global.DeclaredGlobal.{DeclaredGlobal}
 use Rattle.ilsyms.proofs.GlobalLocations.{AreBytes, all_fit}
 use Rattle.ilsyms.proofs.globals.plan_globals.Goals as goal
 

@@ -1,4 +1,4 @@
-use Rattle.ilscope.specs.Faults.{IsLeastOf}
+use Rattle.ildeclared.specs.Faults.{IsLeastOf}
 use Rattle.ilsyms.specs.JumpSteps.{IsFaultBefore}
 use Rattle.ilsyms.proofs.jumps.fault_of_jumps.Given as goal
 

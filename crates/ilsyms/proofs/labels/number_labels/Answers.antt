@@ -4,8 +4,9 @@ use Rattle.iltrees.specs.declared.instruction.Line.{Line}
 use Rattle.ilsource.specs.Names.{folded}
 use Rattle.ilsource.specs.declared.name.Name.{Name}
 use Rattle.ilsource.specs.declared.symbol.Symbol.{Symbol}
-use Rattle.ilscope.specs.Faults.{IsLeastOf, IsTwiceIn, OfCause}
-use Rattle.ilscope.specs.declared.fault.NameCause.TheVariants.{Twice}
+use Rattle.ildeclared.specs.Faults.{IsLeastOf, OfCause}
+use Rattle.ildeclared.specs.declared.fault.NameCause.TheVariants.{Twice}
+use Rattle.ilscope.specs.Faults.{IsTwiceIn}
 use Rattle.ilsyms.specs.Faults.{labels_of}
 use Rattle.ilsyms.specs.LabelSteps.{AreNumbered}
 use Rattle.ilsyms.proofs.LabelNumbers.{numbered_more, labels_twice_more}

@@ -1,7 +1,8 @@
 use Rattle.std.proofs.Common.{take}
 use Rattle.ilsource.specs.Names.{folded}
-use Rattle.ilscope.specs.Faults.{IsLeastOf, IsTwiceIn, OfCause}
-use Rattle.ilscope.specs.declared.fault.NameCause.TheVariants.{Twice}
+use Rattle.ildeclared.specs.Faults.{IsLeastOf, OfCause}
+use Rattle.ildeclared.specs.declared.fault.NameCause.TheVariants.{Twice}
+use Rattle.ilscope.specs.Faults.{IsTwiceIn}
 use Rattle.ilsyms.specs.Faults.{labels_of}
 use Rattle.ilsyms.specs.LabelSteps.{AreNumbered}
 use Rattle.ilsyms.proofs.labels.number_labels.Given as goal

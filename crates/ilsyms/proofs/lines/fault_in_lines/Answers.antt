@@ -1,6 +1,6 @@
-use Rattle.ilscope.specs.Faults.{OfCause}
-use Rattle.ilscope.proofs.Least.{both_least}
-use Rattle.ilscope.specs.declared.fault.NameCause.TheVariants.{Twice}
+use Rattle.ildeclared.specs.Faults.{OfCause}
+use Rattle.ildeclared.specs.declared.fault.NameCause.TheVariants.{Twice}
+use Rattle.ildeclared.proofs.Least.{both_least}
 use Rattle.ilsyms.specs.LineSteps.{IsFaultOfLabels}
 use Rattle.ilsyms.specs.ArgumentSteps.{IsGivenTwiceIn}
 use Rattle.ilsyms.proofs.lines.fault_in_lines.Goals as goal

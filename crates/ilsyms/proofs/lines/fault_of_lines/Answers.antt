@@ -4,9 +4,9 @@ use Rattle.iltrees.specs.declared.instruction.Line.{Line}
 use Rattle.ilsource.specs.declared.name.Name.{Name}
 use Rattle.ilsource.specs.declared.symbol.Symbol.{Symbol}
 use Rattle.ilsource.specs.Programs.{Written}
+use Rattle.ildeclared.specs.Faults.{IsLeastOf, SomeOf}
+use Rattle.ildeclared.proofs.Least.{least_of_more}
 use Rattle.ilscope.specs.Declarations.{DeclaredProgram, declared_programs}
-use Rattle.ilscope.specs.Faults.{IsLeastOf, SomeOf}
-use Rattle.ilscope.proofs.Least.{least_of_more}
 use Rattle.ilsyms.specs.LineSteps.{IsFaultOfLines}
 use Rattle.ilsyms.proofs.lines.fault_of_lines.Goals as goal
 

@@ -1,6 +1,6 @@
 use Rattle.std.proofs.Common.{take}
+use Rattle.ildeclared.specs.Faults.{SomeOf, IsLeastOf}
 use Rattle.ilscope.specs.Declarations.{declared_programs}
-use Rattle.ilscope.specs.Faults.{SomeOf, IsLeastOf}
 use Rattle.ilsyms.specs.LineSteps.{IsFaultOfLines}
 use Rattle.ilsyms.proofs.lines.fault_of_lines.Given as goal
 

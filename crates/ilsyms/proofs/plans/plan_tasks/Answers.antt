@@ -1,7 +1,7 @@
 use Rattle.std.proofs.Common.{◌∙◌, ap, sym, arith, map}
 use Rattle.std.specs.Prelude.{Some}
 use Rattle.std.proofs.lemmas.List.{take_all}
-use Rattle.ilscope.proofs.Least.{got_at}
+use Rattle.ildeclared.proofs.Least.{got_at}
 use Rattle.ilsyms.specs.Resolved.{planned_task}
 use Rattle.ilsyms.specs.Tasks.{tasks_of}
 use Rattle.ilsyms.proofs.PlanTasks.{of_task, tasks_more, as_many_tasks}

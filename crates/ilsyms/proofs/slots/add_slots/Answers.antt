@@ -1,7 +1,7 @@
 use Rattle.std.proofs.Common.{◌∙◌, ◌+◌, ◌++◌, List, [], ◌∷◌, ap, map, take, arith}
 use Rattle.std.proofs.lemmas.List.{take_all}
 use Rattle.ilplan.specs.declared.slot.Slot.{Slot}
-use Rattle.ilscope.specs.declared.variable.DeclaredVariable.{DeclaredVariable}
+use Rattle.ildeclared.specs.declared.variable.DeclaredVariable.{DeclaredVariable}
 use Rattle.ilsyms.specs.Variables.{own_slot}
 use Rattle.ilsyms.proofs.SlotBounds.{full, mapped_more}
 use Rattle.ilsyms.proofs.slots.add_slots.Goals as goal

@@ -3,8 +3,8 @@ use Rattle.std.specs.Prelude.{filter_map, ℕ}
 use Rattle.std.specs.List.{enumerate_from}
 use Rattle.std.proofs.lemmas.List.{get_or_default}
 use Rattle.ilplan.specs.declared.slot.Slot.{Slot}
+use Rattle.ildeclared.specs.declared.global.DeclaredGlobal.{DeclaredGlobal}
 use Rattle.ilscope.specs.Configured.{globals_of}
-use Rattle.ilscope.specs.declared.global.DeclaredGlobal.{DeclaredGlobal}
 use Rattle.ilsyms.specs.TaskSteps.{instances_of}
 use Rattle.ilsyms.specs.Variables.{is_named, named_slot}
 use Rattle.ilsyms.proofs.TaskInstances.{rows_all}

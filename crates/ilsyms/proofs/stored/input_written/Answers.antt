@@ -1,8 +1,8 @@
 use Rattle.std.proofs.Common.{◌≡◌, refl, sym, subst}
 use Rattle.std.specs.Prelude.{Option}
-use Rattle.ilscope.specs.Faults.{IsLeastOf, OfCause}
-use Rattle.ilscope.specs.declared.fault.NameCause.TheVariants.{WritesInput}
-use Rattle.ilscope.specs.declared.found.Found.{Found}
+use Rattle.ildeclared.specs.Faults.{IsLeastOf, OfCause}
+use Rattle.ildeclared.specs.declared.fault.NameCause.TheVariants.{WritesInput}
+use Rattle.ildeclared.specs.declared.found.Found.{Found}
 use Rattle.ilsource.specs.declared.name.Name.{Name}
 use Rattle.ilsyms.specs.Faults.{IsNamedInput, StoresToInput}
 use Rattle.ilsyms.proofs.StoredExternals.{input_stored, no_input}

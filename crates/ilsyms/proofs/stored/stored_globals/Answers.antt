@@ -5,9 +5,9 @@ use Rattle.std.specs.Prelude.{All, Some, slice_get}
 use Rattle.iltrees.specs.declared.uses.Use.{Use}
 use Rattle.ilsource.specs.Programs.{Written}
 use Rattle.ilsource.specs.declared.symbol.Symbol.{Symbol}
+use Rattle.ildeclared.proofs.Least.{got_at}
 use Rattle.ilscope.specs.Configured.{globals_of}
 use Rattle.ilscope.specs.Declarations.{DeclaredProgram, declared_programs}
-use Rattle.ilscope.proofs.Least.{got_at}
 use Rattle.ilsyms.specs.Faults.{StoresTo}
 use Rattle.ilsyms.specs.Variables.{uses_of}
 use Rattle.ilsyms.proofs.StoredGlobals.{AreThose, all_more, none_more, one_more, stored_there}

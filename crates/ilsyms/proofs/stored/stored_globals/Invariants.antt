@@ -1,8 +1,8 @@
 use Rattle.std.proofs.Common.{◌≡◌, ◌<◌, ℕ, length, take}
 use Rattle.std.specs.Prelude.{◌↔◌, All, Some, slice_get}
+use Rattle.ildeclared.specs.Faults.{SomeOf}
 use Rattle.ilscope.specs.Configured.{globals_of}
 use Rattle.ilscope.specs.Declarations.{DeclaredProgram, declared_programs}
-use Rattle.ilscope.specs.Faults.{SomeOf}
 use Rattle.ilsyms.specs.Faults.{StoresTo}
 use Rattle.ilsyms.proofs.stored.stored_globals.Given as goal
 

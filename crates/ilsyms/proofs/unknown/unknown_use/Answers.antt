@@ -1,8 +1,8 @@
 use Rattle.std.proofs.Common.{sym, subst}
 use Rattle.iltrees.specs.declared.operand.Operand.{Operand}
 use Rattle.ilsource.specs.declared.symbol.Symbol.{Symbol}
-use Rattle.ilscope.specs.Faults.{IsLeastOf, OfCause}
-use Rattle.ilscope.specs.declared.fault.NameCause.TheVariants.{Unknown}
+use Rattle.ildeclared.specs.Faults.{IsLeastOf, OfCause}
+use Rattle.ildeclared.specs.declared.fault.NameCause.TheVariants.{Unknown}
 use Rattle.ilsyms.specs.Faults.{IsUnknownOperand}
 use Rattle.ilsyms.proofs.unknown.unknown_use.Goals as goal
 

@@ -3,9 +3,9 @@ use Rattle.std.proofs.lemmas.List.{take_all}
 use Rattle.iltrees.specs.declared.uses.Use.{Use}
 use Rattle.ilsource.specs.declared.symbol.Symbol.{Symbol}
 use Rattle.ilsource.specs.Programs.{Written}
+use Rattle.ildeclared.specs.Faults.{IsLeastOf, SomeOf}
+use Rattle.ildeclared.proofs.Least.{least_of_more, got_at}
 use Rattle.ilscope.specs.Declarations.{DeclaredProgram, declared_programs}
-use Rattle.ilscope.specs.Faults.{IsLeastOf, SomeOf}
-use Rattle.ilscope.proofs.Least.{least_of_more, got_at}
 use Rattle.ilsyms.specs.UseSteps.{IsFaultAtUses}
 use Rattle.ilsyms.specs.Variables.{uses_of}
 use Rattle.ilsyms.proofs.uses.fault_at_uses.Goals as goal

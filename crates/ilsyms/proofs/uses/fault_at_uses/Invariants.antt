@@ -1,6 +1,6 @@
 use Rattle.std.proofs.Common.{take}
+use Rattle.ildeclared.specs.Faults.{SomeOf, IsLeastOf}
 use Rattle.ilscope.specs.Declarations.{declared_programs}
-use Rattle.ilscope.specs.Faults.{SomeOf, IsLeastOf}
 use Rattle.ilsyms.specs.UseSteps.{IsFaultAtUses}
 use Rattle.ilsyms.specs.Variables.{uses_of}
 use Rattle.ilsyms.proofs.uses.fault_at_uses.Given as goal

@@ -2,8 +2,8 @@ use Rattle.std.proofs.Common.{List, subst}
 use Rattle.std.proofs.lemmas.List.{take_all}
 use Rattle.iltrees.specs.declared.uses.Use.{Use}
 use Rattle.ilsource.specs.declared.symbol.Symbol.{Symbol}
-use Rattle.ilscope.specs.Faults.{IsLeastOf}
-use Rattle.ilscope.proofs.Least.{least_of_more_at}
+use Rattle.ildeclared.specs.Faults.{IsLeastOf}
+use Rattle.ildeclared.proofs.Least.{least_of_more_at}
 use Rattle.ilsyms.specs.UseSteps.{IsFaultAtUse, IsFaultAtUses}
 use Rattle.ilsyms.proofs.uses.fault_in_uses.Goals as goal
 

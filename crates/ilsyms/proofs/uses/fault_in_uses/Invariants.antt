@@ -1,7 +1,7 @@
 use Rattle.std.proofs.Common.{◌≡◌, take}
 use Rattle.std.specs.Prelude.{Some, slice_get}
+use Rattle.ildeclared.specs.Faults.{IsLeastOf}
 use Rattle.ilscope.specs.Declarations.{DeclaredProgram, declared_programs}
-use Rattle.ilscope.specs.Faults.{IsLeastOf}
 use Rattle.ilsyms.specs.UseSteps.{IsFaultAtUses}
 use Rattle.ilsyms.proofs.uses.fault_in_uses.Given as goal
 

@@ -1,6 +1,6 @@
-use Rattle.ilscope.specs.Faults.{OfCause}
-use Rattle.ilscope.specs.declared.fault.NameCause.TheVariants.{Unknown, WritesInput}
-use Rattle.ilscope.proofs.Least.{both_least}
+use Rattle.ildeclared.specs.Faults.{OfCause}
+use Rattle.ildeclared.specs.declared.fault.NameCause.TheVariants.{Unknown, WritesInput}
+use Rattle.ildeclared.proofs.Least.{both_least}
 use Rattle.ilsyms.specs.Faults.{IsUnknownUse, StoresToInput, WritesOutput}
 use Rattle.ilsyms.proofs.FaultParts.{of_both}
 use Rattle.ilsyms.proofs.uses.fault_of_use.Goals as goal

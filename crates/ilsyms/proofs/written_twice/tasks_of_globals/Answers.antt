@@ -1,7 +1,7 @@
 use Rattle.std.proofs.Common.{◌≡◌, ◌<◌, ◌+◌, ℕ, List, length, refl, sym, ap, ◌∙◌, subst, arith}
 use Rattle.std.specs.Prelude.{◌↔◌}
+use Rattle.ildeclared.specs.Faults.{SomeOf}
 use Rattle.ilscope.specs.Declarations.{declared_programs}
-use Rattle.ilscope.specs.Faults.{SomeOf}
 use Rattle.ilsyms.specs.Faults.{ProgramStores}
 use Rattle.ilsyms.specs.TaskSetSteps.{AreSetsOf}
 use Rattle.ilsyms.specs.WrittenTwiceSteps.{HasInstance, StoresBefore}

@@ -1,7 +1,7 @@
 use Rattle.std.proofs.Common.{◌≡◌, ◌<◌, ◌+◌, ℕ, List, length, map, sym, ap, ◌∙◌, subst, refl, arith}
 use Rattle.std.specs.Prelude.{All, Some, option_map, slice_get}
+use Rattle.ildeclared.proofs.Least.{got_at}
 use Rattle.ilscope.specs.Declarations.{declared_programs}
-use Rattle.ilscope.proofs.Least.{got_at}
 use Rattle.ilsyms.specs.TaskSetSteps.{AreSetsOf, with_tasks}
 use Rattle.ilsyms.specs.WrittenTwiceSteps.{HasInstance}
 use Rattle.ilsyms.specs.declared.task_sets.TaskSet.{TaskSet}

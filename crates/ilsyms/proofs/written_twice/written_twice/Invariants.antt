@@ -1,8 +1,8 @@
 use Rattle.std.proofs.Common.{◌≡◌, take}
 use Rattle.std.specs.List.{enumerate_from}
+use Rattle.ildeclared.specs.Faults.{IsLeastOf, OfCause, SomeOf}
+use Rattle.ildeclared.specs.declared.fault.NameCause.TheVariants.{WrittenTwice}
 use Rattle.ilscope.specs.Configured.{globals_of}
-use Rattle.ilscope.specs.Faults.{IsLeastOf, OfCause, SomeOf}
-use Rattle.ilscope.specs.declared.fault.NameCause.TheVariants.{WrittenTwice}
 use Rattle.ilsyms.specs.Faults.{AreTwoStoring}
 use Rattle.ilsyms.proofs.written_twice.written_twice.Given as goal
 

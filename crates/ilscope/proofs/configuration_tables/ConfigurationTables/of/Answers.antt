@@ -1,11 +1,11 @@
 use Rattle.std.proofs.Common.{ap, refl, List, ℕ, map}
 use Rattle.ilsource.specs.Names.{text_of}
+use Rattle.ildeclared.specs.declared.fault.NameCause.TheVariants.{Twice}
+use Rattle.ildeclared.specs.declared.global.DeclaredGlobal.{DeclaredGlobal}
+use Rattle.ildeclared.proofs.Least.{either_least}
 use Rattle.ilscope.specs.Configured.{task_declarations}
 use Rattle.ilscope.specs.Faults.{IsTwiceIn}
-use Rattle.ilscope.specs.declared.fault.NameCause.TheVariants.{Twice}
-use Rattle.ilscope.specs.declared.global.DeclaredGlobal.{DeclaredGlobal}
 use Rattle.ilscope.proofs.FilledTables.{moved_numbers, moved_twice}
-use Rattle.ilscope.proofs.Least.{either_least}
 use Rattle.ilscope.proofs.configuration_tables.ConfigurationTables.of.Goals as goal
 
 pub returns-clause-global_numbers : goal.returns-clause-global_numbers

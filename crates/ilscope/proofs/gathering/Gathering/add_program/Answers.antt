@@ -1,8 +1,7 @@
 use Rattle.std.proofs.Common.{List, subst}
 use Rattle.ilsource.specs.Programs.{DeclaredNames}
-use Rattle.ilscope.specs.Faults.{IsLeastOf, SomeOf}
-use Rattle.ilscope.specs.Kept.{types_in}
-use Rattle.ilscope.specs.ScopeSteps.{IsFaultIn}
+use Rattle.ildeclared.specs.Faults.{IsLeastOf, SomeOf, IsFaultIn}
+use Rattle.ildeclared.specs.Kept.{types_in}
 use Rattle.ilscope.proofs.OneMore.{program_added}
 use Rattle.ilscope.proofs.gathering.Gathering.add_program.Goals as goal
 

@@ -1,5 +1,5 @@
 use Rattle.std.proofs.Common.{◌∙◌, ap, List, ℕ}
-use Rattle.ilscope.specs.Kept.{with_new}
+use Rattle.ildeclared.specs.Kept.{with_new}
 use Rattle.ilscope.proofs.OneMore.{type_added}
 use Rattle.ilscope.proofs.gathering.Gathering.add_type.Goals as goal
 

@@ -1,7 +1,7 @@
 use Rattle.std.proofs.Common.{List, subst, sym, take}
 use Rattle.ilsource.specs.declared.source.Element.{Element}
+use Rattle.ildeclared.proofs.Least.{take_more}
 use Rattle.ilscope.specs.ScopeSteps.{IsGathered}
-use Rattle.ilscope.proofs.Least.{take_more}
 use Rattle.ilscope.proofs.gathering.Gathering.of.Goals as goal
 
 pub loop-element-preserved : goal.loop-element-preserved

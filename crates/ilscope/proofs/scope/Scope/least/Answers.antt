@@ -1,5 +1,6 @@
 use Rattle.std.proofs.Common.{subst}
-use Rattle.ilscope.specs.Faults.{IsFaultOfDeclarations, IsLeastOf}
+use Rattle.ildeclared.specs.Faults.{IsLeastOf}
+use Rattle.ilscope.specs.Faults.{IsFaultOfDeclarations}
 use Rattle.ilscope.specs.Scoped.{Scoped}
 use Rattle.ilscope.proofs.scope.Scope.least.Goals as goal
 

@@ -1,6 +1,6 @@
 use Rattle.std.proofs.Common.{subst, sym}
 use Rattle.ilsource.specs.Trees.{Tree}
-use Rattle.ilscope.specs.Faults.{IsLeastOf}
+use Rattle.ildeclared.specs.Faults.{IsLeastOf}
 use Rattle.ilscope.specs.ScopeSteps.{IsFaultInTables}
 use Rattle.ilscope.specs.Scoped.{Scoped}
 use Rattle.ilscope.proofs.LeastOfDeclarations.{all_declared}

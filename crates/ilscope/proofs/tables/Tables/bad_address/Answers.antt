@@ -4,12 +4,13 @@ use Rattle.ilsource.specs.Trees.{Tree}
 use Rattle.ilsource.specs.declared.address.DirectAddress.{DirectAddress}
 use Rattle.ilsource.specs.declared.configuration.TaskDeclaration.{TaskDeclaration}
 use Rattle.ilsource.specs.declared.name.Name.{Name}
+use Rattle.ildeclared.specs.Faults.{IsBadAddressAt, IsLeastOf, OfCause, SomeOf}
+use Rattle.ildeclared.specs.Kept.{kept_under}
+use Rattle.ildeclared.specs.declared.fault.NameCause.TheVariants.{BadAddress}
+use Rattle.ildeclared.specs.declared.global.DeclaredGlobal.{DeclaredGlobal}
+use Rattle.ildeclared.proofs.Least.{either_least}
 use Rattle.ilscope.specs.Configured.{global_named, global_number, globals_of, task_declarations}
-use Rattle.ilscope.specs.Faults.{IsBadAddress, IsBadAddressAt, IsLeastOf, IsNoTrigger, IsNoTriggerOf, OfCause, SomeOf}
-use Rattle.ilscope.specs.Kept.{kept_under}
-use Rattle.ilscope.specs.declared.fault.NameCause.TheVariants.{BadAddress}
-use Rattle.ilscope.specs.declared.global.DeclaredGlobal.{DeclaredGlobal}
-use Rattle.ilscope.proofs.Least.{either_least}
+use Rattle.ilscope.specs.Faults.{IsBadAddress, IsNoTrigger, IsNoTriggerOf}
 use Rattle.ilscope.proofs.LookedUp.{moved, names_are}
 use Rattle.ilscope.proofs.tables.Tables.bad_address.Goals as goal
 

@@ -5,18 +5,18 @@ use Rattle.ilsource.specs.Configurations.{DeclaredGlobals}
 use Rattle.ilsource.specs.Trees.{Tree}
 use Rattle.ilsource.specs.declared.configuration.TaskDeclaration.{TaskDeclaration}
 use Rattle.ilsource.specs.declared.name.Name.{Name}
+use Rattle.ildeclared.specs.DataTypes.{TypeNames}
+use Rattle.ildeclared.specs.Faults.{IsBadlyLocatedIn, IsLeastOf, OfCause, SomeOf}
+use Rattle.ildeclared.specs.Kept.{kept_under, types_in}
+use Rattle.ildeclared.specs.Order.{lesser_of_two}
+use Rattle.ildeclared.specs.declared.fault.NameCause.TheVariants.{BadDeclaration}
+use Rattle.ildeclared.specs.declared.global.DeclaredGlobal.{DeclaredGlobal}
+use Rattle.ildeclared.proofs.Least.{either_least}
 use Rattle.ilscope.specs.Configured.{declared_globals_of, global_number, globals_of, task_declarations, types_of_text}
 use Rattle.ilscope.specs.Configured.{values_of_global}
-use Rattle.ilscope.specs.DataTypes.{TypeNames}
 use Rattle.ilscope.specs.Declarations.{DeclaredProgram, declared_programs}
-use Rattle.ilscope.specs.Faults.{IsBadTaskAt, IsBadlyLocated, IsBadlyLocatedIn, IsLeastOf, IsOtherExternal}
-use Rattle.ilscope.specs.Faults.{IsOtherExternalIn, OfCause, SomeOf}
-use Rattle.ilscope.specs.Kept.{kept_under, types_in}
-use Rattle.ilscope.specs.Order.{lesser_of_two}
+use Rattle.ilscope.specs.Faults.{IsBadTaskAt, IsBadlyLocated, IsOtherExternal, IsOtherExternalIn}
 use Rattle.ilscope.specs.ScopeSteps.{IsBadInConfiguration}
-use Rattle.ilscope.specs.declared.fault.NameCause.TheVariants.{BadDeclaration}
-use Rattle.ilscope.specs.declared.global.DeclaredGlobal.{DeclaredGlobal}
-use Rattle.ilscope.proofs.Least.{either_least}
 use Rattle.ilscope.proofs.LookedUp.{moved, names_are}
 use Rattle.ilscope.proofs.tables.Tables.bad_declaration.Goals as goal
 

@@ -2,10 +2,10 @@ use Rattle.std.proofs.Common.{◌≡◌, ◌∙◌, ◌<◌, ap, length, List, �
 use Rattle.std.specs.Prelude.{Option, Some, None, bytes_eq, option_map, slice_get}
 use Rattle.ilblocks.specs.declared.kind.BlockKind.{BlockKind}
 use Rattle.ilsource.specs.Names.{folded}
+use Rattle.ildeclared.specs.declared.block.DeclaredBlock.{DeclaredBlock}
+use Rattle.ildeclared.proofs.Least.{got_at}
 use Rattle.ilscope.specs.Declarations.{DeclaredProgram}
-use Rattle.ilscope.specs.declared.block.DeclaredBlock.{DeclaredBlock}
 use Rattle.ilscope.proofs.Declared.{first_below, none_is, program_is}
-use Rattle.ilscope.proofs.Least.{got_at}
 use Rattle.ilscope.proofs.tables.Tables.block.Goals as goal
 
 pub returns-in_err-number-clause-none : goal.returns-in_err-number-clause-none

@@ -3,10 +3,10 @@ use Rattle.std.specs.Prelude.{bytes_eq, slice_get, Some}
 use Rattle.std.specs.Map.{lookup}
 use Rattle.ilsource.specs.Names.{folded}
 use Rattle.ilsource.specs.Trees.{Tree}
+use Rattle.ildeclared.specs.declared.external.DeclaredExternal.{DeclaredExternal}
 use Rattle.ilscope.specs.Declarations.{DeclaredProgram, declared_programs}
 use Rattle.ilscope.specs.ScopeSteps.{external_names}
 use Rattle.ilscope.specs.Tables.{external_number}
-use Rattle.ilscope.specs.declared.external.DeclaredExternal.{DeclaredExternal}
 use Rattle.ilscope.proofs.Declared.{as_many, none_is, number_at}
 use Rattle.ilscope.proofs.tables.Tables.external_number.Goals as goal
 

@@ -1,11 +1,11 @@
 use Rattle.std.proofs.Common.{◌≡◌, ◌∙◌, ap, List, ℕ, subst}
 use Rattle.ilsource.specs.Configurations.{DeclaredGlobals}
 use Rattle.ilsource.specs.Trees.{Tree}
-use Rattle.ilscope.specs.Configured.{as_variables, declared_globals_of, types_of_text}
-use Rattle.ilscope.specs.DataTypes.{TypeNames}
-use Rattle.ilscope.specs.Faults.{IsLeastOf, SomeOf}
-use Rattle.ilscope.specs.Kept.{types_in}
-use Rattle.ilscope.specs.ScopeSteps.{IsFaultIn}
+use Rattle.ildeclared.specs.DataTypes.{TypeNames}
+use Rattle.ildeclared.specs.Faults.{IsLeastOf, SomeOf, IsFaultIn}
+use Rattle.ildeclared.specs.Globals.{as_variables}
+use Rattle.ildeclared.specs.Kept.{types_in}
+use Rattle.ilscope.specs.Configured.{declared_globals_of, types_of_text}
 use Rattle.ilscope.proofs.tables.Tables.fault_in_globals.Goals as goal
 
 pub returns : goal.returns

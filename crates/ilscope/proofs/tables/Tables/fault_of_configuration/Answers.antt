@@ -1,13 +1,14 @@
 use Rattle.std.proofs.Common.{◌∙◌, ap, List, subst, ◌⊎◌}
 use Rattle.ilsource.specs.Trees.{Tree}
 use Rattle.ilsource.specs.declared.configuration.InstanceDeclaration.{InstanceDeclaration}
+use Rattle.ildeclared.specs.Faults.{IsLeastOf, OfCause, SomeOf}
+use Rattle.ildeclared.specs.Order.{lesser_of_two}
+use Rattle.ildeclared.specs.declared.fault.NameCause.TheVariants.{Unknown, Twice, BadAddress, NoTask, BadDeclaration}
+use Rattle.ildeclared.proofs.Least.{both_least}
 use Rattle.ilscope.specs.Configured.{instance_declarations}
-use Rattle.ilscope.specs.Faults.{HasNoTask, HasNoTaskAt, IsBadAddress, IsLeastOf, IsNoTrigger, OfCause, SomeOf}
-use Rattle.ilscope.specs.Order.{lesser_of_two}
+use Rattle.ilscope.specs.Faults.{HasNoTask, HasNoTaskAt, IsBadAddress, IsNoTrigger}
 use Rattle.ilscope.specs.ScopeSteps.{IsBadInConfiguration, IsFaultInGlobals, IsFaultOfInput, IsTwiceInConfiguration}
 use Rattle.ilscope.specs.ScopeSteps.{IsUnknownNamed}
-use Rattle.ilscope.specs.declared.fault.NameCause.TheVariants.{Unknown, Twice, BadAddress, NoTask, BadDeclaration}
-use Rattle.ilscope.proofs.Least.{both_least}
 use Rattle.ilscope.proofs.tables.Tables.fault_of_configuration.Goals as goal
 
 pub returns : goal.returns

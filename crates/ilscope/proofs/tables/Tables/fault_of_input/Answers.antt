@@ -1,15 +1,15 @@
 use Rattle.std.proofs.Common.{◌≡◌, ◌∙◌, ap, ℕ, List, subst}
 use Rattle.ilsource.specs.Configurations.{DeclaredGlobals}
 use Rattle.ilsource.specs.Trees.{Tree}
+use Rattle.ildeclared.specs.DataTypes.{TypeNames}
+use Rattle.ildeclared.specs.Faults.{IsInputGivenIn, IsInputTooSmallIn, IsLeastOf, OfCause, SomeOf}
+use Rattle.ildeclared.specs.Kept.{types_in}
+use Rattle.ildeclared.specs.Order.{lesser_of_two}
+use Rattle.ildeclared.specs.declared.fault.NameCause.TheVariants.{InputRangeTooSmall, WritesInput}
+use Rattle.ildeclared.proofs.Least.{both_least}
 use Rattle.ilscope.specs.Configured.{declared_globals_of, types_of_text}
-use Rattle.ilscope.specs.DataTypes.{TypeNames}
-use Rattle.ilscope.specs.Faults.{IsInputGiven, IsInputGivenIn, IsInputTooSmall, IsInputTooSmallIn, IsLeastOf, OfCause}
-use Rattle.ilscope.specs.Faults.{SomeOf}
-use Rattle.ilscope.specs.Kept.{types_in}
-use Rattle.ilscope.specs.Order.{lesser_of_two}
+use Rattle.ilscope.specs.Faults.{IsInputGiven, IsInputTooSmall}
 use Rattle.ilscope.specs.ScopeSteps.{IsFaultOfInput}
-use Rattle.ilscope.specs.declared.fault.NameCause.TheVariants.{InputRangeTooSmall, WritesInput}
-use Rattle.ilscope.proofs.Least.{both_least}
 use Rattle.ilscope.proofs.LookedUp.{moved}
 use Rattle.ilscope.proofs.tables.Tables.fault_of_input.Goals as goal
 

@@ -4,11 +4,12 @@ use Rattle.ilsource.specs.Trees.{Tree}
 use Rattle.ilsource.specs.declared.address.DirectAddress.{DirectAddress}
 use Rattle.ilsource.specs.declared.configuration.InstanceDeclaration.{InstanceDeclaration}
 use Rattle.ilsource.specs.declared.name.Name.{Name}
+use Rattle.ildeclared.specs.Faults.{IsAddressTwice, IsLeastOf, OfCause}
+use Rattle.ildeclared.specs.declared.fault.NameCause.TheVariants.{Twice}
+use Rattle.ildeclared.proofs.Least.{either_least}
 use Rattle.ilscope.specs.Configured.{addresses_of, instance_declarations}
-use Rattle.ilscope.specs.Faults.{IsAddressTwice, IsLeastOf, IsTwiceIn, OfCause}
-use Rattle.ilscope.specs.declared.fault.NameCause.TheVariants.{Twice}
+use Rattle.ilscope.specs.Faults.{IsTwiceIn}
 use Rattle.ilscope.proofs.FilledTables.{spelled_is}
-use Rattle.ilscope.proofs.Least.{either_least}
 use Rattle.ilscope.proofs.LookedUp.{moved}
 use Rattle.ilscope.proofs.tables.Tables.given_twice.Goals as goal
 

@@ -3,8 +3,8 @@ use Rattle.std.specs.Prelude.{bytes_eq}
 use Rattle.std.specs.Map.{lookup}
 use Rattle.ilsource.specs.Names.{folded}
 use Rattle.ilsource.specs.Trees.{Tree}
+use Rattle.ildeclared.specs.declared.global.DeclaredGlobal.{DeclaredGlobal}
 use Rattle.ilscope.specs.Configured.{global_number, globals_of}
-use Rattle.ilscope.specs.declared.global.DeclaredGlobal.{DeclaredGlobal}
 use Rattle.ilscope.proofs.Declared.{none_is, number_is}
 use Rattle.ilscope.proofs.tables.Tables.global_number.Goals as goal
 

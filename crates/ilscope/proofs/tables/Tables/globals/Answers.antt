@@ -1,6 +1,6 @@
 use Rattle.std.proofs.Common.{subst, sym, List, ◌∙◌}
 use Rattle.std.specs.Prelude.{All}
-use Rattle.ilscope.specs.declared.global.DeclaredGlobal.{DeclaredGlobal}
+use Rattle.ildeclared.specs.declared.global.DeclaredGlobal.{DeclaredGlobal}
 use Rattle.ilscope.proofs.Typed.{IsTypedGlobal, declared_typed_globals}
 use Rattle.ilscope.proofs.tables.Tables.globals.Goals as goal
 

@@ -3,13 +3,14 @@ use Rattle.std.specs.Prelude.{flat_map}
 use Rattle.ilsource.specs.Names.{text_of}
 use Rattle.ilsource.specs.Trees.{Tree}
 use Rattle.ilsource.specs.declared.source.Element.{Element}
-use Rattle.ilscope.specs.Configured.{declared_globals_of, globals_in, task_declarations, value_types_in}
+use Rattle.ildeclared.specs.Faults.{IsLeastOf, OfCause}
+use Rattle.ildeclared.specs.Globals.{globals_in, value_types_in}
+use Rattle.ildeclared.specs.Kept.{types_in}
+use Rattle.ildeclared.specs.declared.fault.NameCause.TheVariants.{Twice}
+use Rattle.ilscope.specs.Configured.{declared_globals_of, task_declarations}
 use Rattle.ilscope.specs.Declarations.{name_of}
-use Rattle.ilscope.specs.Faults.{IsLeastOf, OfCause}
-use Rattle.ilscope.specs.Kept.{types_in}
 use Rattle.ilscope.specs.ScopeSteps.{IsGlobalOrTaskTwice}
 use Rattle.ilscope.specs.Tables.{lowered}
-use Rattle.ilscope.specs.declared.fault.NameCause.TheVariants.{Twice}
 use Rattle.ilscope.proofs.FilledTables.{filled, found_in_tables, moved_gathered, moved_numbers, moved_twice}
 use Rattle.ilscope.proofs.tables.Tables.of.Goals as goal
 

@@ -4,17 +4,18 @@ use Rattle.ilsource.specs.Trees.{Tree}
 use Rattle.ilsource.specs.declared.configuration.InstanceDeclaration.{InstanceDeclaration}
 use Rattle.ilsource.specs.declared.configuration.TaskDeclaration.{TaskDeclaration}
 use Rattle.ilsource.specs.declared.name.Name.{Name}
+use Rattle.ildeclared.specs.Faults.{IsLeastOf, OfCause, SomeOf}
+use Rattle.ildeclared.specs.Kept.{kept_under}
+use Rattle.ildeclared.specs.Order.{lesser_of_two}
+use Rattle.ildeclared.specs.declared.fault.NameCause.TheVariants.{Unknown}
+use Rattle.ildeclared.specs.declared.global.DeclaredGlobal.{DeclaredGlobal}
+use Rattle.ildeclared.proofs.Least.{either_least}
 use Rattle.ilscope.specs.Configured.{global_number, globals_of, instance_declarations, program_number}
 use Rattle.ilscope.specs.Configured.{task_declarations, task_number}
 use Rattle.ilscope.specs.Declarations.{DeclaredProgram, declared_programs}
-use Rattle.ilscope.specs.Faults.{IsLeastOf, IsUnknownExternal, IsUnknownExternalIn, IsUnknownName, IsUnknownProgram}
-use Rattle.ilscope.specs.Faults.{IsUnknownTask, IsUnknownTaskOf, IsUnknownTrigger, IsUnknownTriggerOf, OfCause, SomeOf}
-use Rattle.ilscope.specs.Kept.{kept_under}
-use Rattle.ilscope.specs.Order.{lesser_of_two}
+use Rattle.ilscope.specs.Faults.{IsUnknownExternal, IsUnknownExternalIn, IsUnknownName, IsUnknownProgram, IsUnknownTask}
+use Rattle.ilscope.specs.Faults.{IsUnknownTaskOf, IsUnknownTrigger, IsUnknownTriggerOf}
 use Rattle.ilscope.specs.ScopeSteps.{IsUnknownNamed}
-use Rattle.ilscope.specs.declared.fault.NameCause.TheVariants.{Unknown}
-use Rattle.ilscope.specs.declared.global.DeclaredGlobal.{DeclaredGlobal}
-use Rattle.ilscope.proofs.Least.{either_least}
 use Rattle.ilscope.proofs.LookedUp.{moved, names_are}
 use Rattle.ilscope.proofs.tables.Tables.unknown_name.Goals as goal
 

@@ -3,10 +3,10 @@ use Rattle.std.specs.Prelude.{bytes_eq, slice_get, Some}
 use Rattle.std.specs.Map.{lookup}
 use Rattle.ilsource.specs.Names.{folded}
 use Rattle.ilsource.specs.Trees.{Tree}
+use Rattle.ildeclared.specs.declared.variable.DeclaredVariable.{DeclaredVariable}
 use Rattle.ilscope.specs.Declarations.{DeclaredProgram, declared_programs}
 use Rattle.ilscope.specs.ScopeSteps.{variable_names}
 use Rattle.ilscope.specs.Tables.{variable_number}
-use Rattle.ilscope.specs.declared.variable.DeclaredVariable.{DeclaredVariable}
 use Rattle.ilscope.proofs.Declared.{as_many, none_is, number_at}
 use Rattle.ilscope.proofs.tables.Tables.variable_number.Goals as goal
 

@@ -1,7 +1,7 @@
 use Rattle.std.proofs.Common.{ap, arith, sym, ◌∙◌}
 use Rattle.std.specs.Prelude.{bytes_eq, option_map}
 use Rattle.ilsource.specs.Names.{folded}
-use Rattle.ilscope.specs.declared.block.DeclaredBlock.{DeclaredBlock}
+use Rattle.ildeclared.specs.declared.block.DeclaredBlock.{DeclaredBlock}
 use Rattle.ilsyms.proofs.Lists.{first_below}
 use Rattle.ilsyms.proofs.numbering.Numbering.block.Goals as goal
 

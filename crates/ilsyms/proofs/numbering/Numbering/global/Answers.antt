@@ -3,8 +3,8 @@ use Rattle.std.specs.Prelude.{bytes_eq, Some}
 use Rattle.ilsource.specs.Names.{folded}
 use Rattle.ilsource.specs.Trees.{Tree}
 use Rattle.ilsource.specs.declared.name.Name.{Name}
+use Rattle.ildeclared.specs.declared.global.DeclaredGlobal.{DeclaredGlobal}
 use Rattle.ilscope.specs.Configured.{global_number, globals_of}
-use Rattle.ilscope.specs.declared.global.DeclaredGlobal.{DeclaredGlobal}
 use Rattle.ilsyms.specs.NumberingSteps.{Numbering, number_of_global}
 use Rattle.ilsyms.proofs.Lists.{first_below}
 use Rattle.ilsyms.proofs.NumberingGlobals.{without_number}

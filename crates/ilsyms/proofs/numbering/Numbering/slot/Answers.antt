@@ -1,7 +1,7 @@
 use Rattle.std.proofs.Common.{◌<◌, ◌^◌, arith, sym, ◌∙◌, length, subst}
 use Rattle.std.specs.Prelude.{bytes_eq}
 use Rattle.ilsource.specs.Names.{folded}
-use Rattle.ilscope.specs.declared.variable.DeclaredVariable.{DeclaredVariable}
+use Rattle.ildeclared.specs.declared.variable.DeclaredVariable.{DeclaredVariable}
 use Rattle.ilplan.specs.declared.slot.Slot.{Slot}
 use Rattle.ilscope.specs.Configured.{global_number}
 use Rattle.ilsyms.specs.Meaning.{is_global}

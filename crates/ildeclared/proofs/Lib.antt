@@ -1,0 +1,9 @@
+pub mod ExternalFaults
+pub mod FoundOrder
+pub mod Kept
+pub mod Least
+pub mod OneCause
+pub mod Places
+pub mod Subranges
+pub mod TwiceAddresses
+pub mod TwiceLast

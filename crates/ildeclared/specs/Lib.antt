@@ -1,0 +1,9 @@
+pub mod AddressSteps
+pub mod Causes
+pub mod DataTypes
+pub mod Declarations
+pub mod Faults
+pub mod Globals
+pub mod Kept
+pub mod Order
+pub mod Printed
