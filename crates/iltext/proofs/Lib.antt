@@ -1,16 +1,7 @@
-pub mod CallLaws
 pub mod ConfigurationLaws
-pub mod Contents
 pub mod Cut
 pub mod DeclarationLaws
-pub mod Ends
-pub mod Extends
 pub mod GlobalLaws
-pub mod InstructionLaws
 pub mod Laws
-pub mod LineEnds
-pub mod Delimiters
-pub mod OperandLaws
-pub mod Shallow
 pub mod Sources
 pub mod TaskLaws

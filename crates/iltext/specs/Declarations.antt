@@ -1,6 +1,6 @@
 -- Declarations of types and of variables (IEC 61131-3, 2.3.3.1 and 2.4.3, with this project's profile), as items over
 -- tokens.
-use Rattle.std.specs.Prelude.{ℤ, List, [], ◌∷◌, Option, Some, None}
+use Rattle.std.specs.Prelude.{ℤ, List, [], ◌∷◌, flat_map, Option, Some, None}
 use Rattle.iloperators.specs.declared.function.IntegerType.{IntegerType}
 use Rattle.iloperators.specs.declared.function.IntegerType.TheVariants as integers
 use Rattle.ilblocks.specs.declared.kind.BlockKind.{BlockKind}
@@ -18,10 +18,10 @@ use Rattle.iltokens.specs.declared.keyword.Keyword.{Keyword}
 use Rattle.iltokens.specs.declared.keyword.Keyword.TheVariants as words
 use Rattle.iltokens.specs.declared.lexed.Delimiter.TheVariants as delimiters
 use Rattle.iltokens.specs.declared.lexed.What.TheVariants as whats
-use Rattle.iltext.specs.declared.token.TokenKind.{TokenKind}
-use Rattle.iltext.specs.declared.token.TokenKind.TheVariants as kinds
-use Rattle.iltext.specs.declared.token.Token.{Token}
-use Rattle.iltext.specs.Terminals.{word, delimiter, name, number, constant, spaced}
+use Rattle.illines.specs.declared.token.TokenKind.{TokenKind}
+use Rattle.illines.specs.declared.token.TokenKind.TheVariants as kinds
+use Rattle.illines.specs.declared.token.Token.{Token}
+use Rattle.illines.specs.Terminals.{word, delimiter, name, number, constant, spaced}
 
 -- ---- types
 
@@ -165,3 +165,7 @@ var_external = map (λ x. x.1.0) (seq (spaced (word words.VarExternal)) (lead ex
 -- a VAR or VAR_EXTERNAL block
 unfoldable pub variables : Item Token (List DeclaredNames)
 variables = alt vars var_external
+
+-- one list after the other, as those of several blocks
+abbrev pub flat : {A : Type 0} → List (List A) → List A
+flat = flat_map (λ xs. xs)

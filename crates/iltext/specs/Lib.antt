@@ -1,16 +1,10 @@
-pub mod Calls
 pub mod Configurations
 pub mod Cutting
 pub mod Declarations
 pub mod Faults
 pub mod Globals
-pub mod Instructions
-pub mod InstructionSteps
-pub mod Operands
-pub mod Roles
 pub mod Parsing
 pub mod ParsingSteps
 pub mod Printed
 pub mod Tasks
-pub mod Terminals
 pub mod Texts

@@ -3,10 +3,10 @@ use Rattle.std.specs.Prelude.{◌≡◌, ℕ, ◌≤◌, ◌<◌, List, ◌⊎�
 use Rattle.ilgrammar.specs.Stops.{StopsBefore}
 use Rattle.limits.specs.Limits.{most_bytes}
 use Rattle.ilsource.specs.Trees.{Tree}
+use Rattle.illines.specs.declared.token.Token.{Token}
 use Rattle.iltext.specs.declared.fault.TextFault.{TextFault}
 use Rattle.iltext.specs.declared.fault.TextFault.TheVariants as faults
 use Rattle.iltext.specs.declared.fault.TextCause.TheVariants.{TooLong}
-use Rattle.iltext.specs.declared.token.Token.{Token}
 use Rattle.iltext.specs.Cutting.{Cuts}
 use Rattle.iltext.specs.Faults.{Reports}
 use Rattle.iltext.specs.Texts.{text}

@@ -4,9 +4,9 @@ use Rattle.ilgrammar.specs.Stops.{whole_read}
 use Rattle.ilsource.specs.Configurations.{Configured}
 use Rattle.ilsource.specs.declared.source.Element.{Element}
 use Rattle.ilsource.specs.Trees.{Tree}
+use Rattle.illines.specs.declared.token.Token.{Token}
 use Rattle.iltext.specs.declared.fault.TextFault.{TextFault}
 use Rattle.iltext.specs.declared.fault.TextFault.TheVariants as faults
-use Rattle.iltext.specs.declared.token.Token.{Token}
 use Rattle.iltext.specs.Faults.{Reports}
 use Rattle.iltext.specs.Texts.{text}
 

@@ -7,11 +7,11 @@ use Rattle.ilsource.specs.Programs.{DeclaredNames, Written}
 use Rattle.ilsource.specs.declared.source.Element.{Element}
 use Rattle.ilsource.specs.declared.source.Element.TheVariants as elements
 use Rattle.iltokens.specs.declared.keyword.Keyword.TheVariants as words
-use Rattle.iltext.specs.declared.token.Token.{Token}
-use Rattle.iltext.specs.Terminals.{word, name, line_ends, spaced, flat}
+use Rattle.illines.specs.declared.token.Token.{Token}
+use Rattle.illines.specs.Terminals.{word, name, line_ends, spaced}
+use Rattle.illines.specs.Instructions.{lines}
 use Rattle.iltext.specs.Configurations.{configuration}
-use Rattle.iltext.specs.Declarations.{type_declaration, variables}
-use Rattle.iltext.specs.Instructions.{lines}
+use Rattle.iltext.specs.Declarations.{type_declaration, variables, flat}
 
 -- the declarations of all VAR and VAR_EXTERNAL blocks in order
 unfoldable pub blocks : Item Token (List DeclaredNames)

@@ -5,9 +5,9 @@ ghost use Rattle.ilgrammar.specs.Items.{begins};
 ghost use Rattle.ilgrammar.specs.Results.{Gives};
 ghost use Rattle.iltext.specs.Declarations.{block_of_word, block_at, block, instances};
 
-use crate::token::{Token, TokenKind};
 use ilblocks::BlockKind;
 use ilgrammar::ReadError;
+use illines::{Token, TokenKind};
 use iltokens::{Keyword, What};
 
 /// The kind of block that a word is.

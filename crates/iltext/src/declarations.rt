@@ -3,24 +3,22 @@
 ghost use Rattle.std.specs.Prelude.{◌≡◌, List, length};
 ghost use Rattle.ilgrammar.specs.Items.{begins};
 ghost use Rattle.ilgrammar.specs.Results.{Gives};
+ghost use Rattle.illines.specs.Terminals.{spaced};
 ghost use Rattle.iltext.specs.Declarations.{integer, simple, interval, range, specification};
 ghost use Rattle.iltext.specs.Declarations.{initial, typing, type_declaration, instances, declared};
 ghost use Rattle.iltext.specs.Declarations.{next_name, names_after, names};
 ghost use Rattle.iltext.specs.Declarations.{declaration, declarations, vars};
 ghost use Rattle.iltext.specs.Declarations.{external, externals, var_external, variables};
 ghost use Rattle.iltext.specs.Globals.{global};
-ghost use Rattle.iltext.specs.Instructions.{with_label};
-ghost use Rattle.iltext.specs.Terminals.{spaced};
 ghost use Rattle.iltext.specs.Texts.{derived_type};
 
 use crate::block_kinds::{begins_instances, block};
-use crate::reading::{
-    begins_word, line_ends, spaced_constant, spaced_delimiter, spaced_name, spaced_number,
-    spaced_word,
-};
-use crate::token::{Token, TokenKind};
 use ilblocks::BlockKind;
 use ilgrammar::ReadError;
+use illines::{
+    Token, TokenKind, begins_name, begins_word, line_ends, spaced_constant, spaced_delimiter,
+    spaced_name, spaced_number, spaced_word,
+};
 use iloperators::IntegerType;
 use ilsource::{Constant, Declaration, Declared, Name, Specification, TypeDeclaration};
 use iltokens::{Delimiter, Keyword, What};
@@ -84,7 +82,7 @@ fn interval<'a>(ts: &'a [Token]) -> Result<((i64, i64), &'a [Token]), ReadError<
 }
 
 /// An integer type, or a subrange of one.
-#[tactic(auto, unfolding(crate::specs::Declarations::range, crate::specs::Declarations::interval, crate::specs::Terminals::delimiter))]
+#[tactic(auto, unfolding(crate::specs::Declarations::range, crate::specs::Declarations::interval, illines::specs::Terminals::delimiter))]
 fn range<'a>(ts: &'a [Token]) -> Result<(Specification, &'a [Token]), ReadError<'a, Token>>
     ensures { Gives (λ x. (x.0, x.1.now)) result (range.read ts.now) }
 {
@@ -137,7 +135,7 @@ fn specification<'a>(ts: &'a [Token]) -> Result<(Specification, &'a [Token]), Re
 }
 
 /// `[":=" constant]`
-#[tactic(auto, unfolding(crate::specs::Declarations::initial, crate::specs::Terminals::delimiter))]
+#[tactic(auto, unfolding(crate::specs::Declarations::initial, illines::specs::Terminals::delimiter))]
 fn initial<'a>(ts: &'a [Token]) -> Result<(Option<Constant>, &'a [Token]), ReadError<'a, Token>>
     ensures { Gives (λ x. (x.0, x.1.now)) result (initial.read ts.now) }
 {
@@ -188,7 +186,7 @@ pub fn type_declaration<'a>(
     Ok((declaration, rest))
 }
 
-#[tactic(auto, unfolding(crate::specs::Declarations::next_name, crate::specs::Terminals::delimiter))]
+#[tactic(auto, unfolding(crate::specs::Declarations::next_name, illines::specs::Terminals::delimiter))]
 fn begins_next_name(ts: &[Token]) -> bool
     ensures { result ≡ begins next_name ts.now }
 {
@@ -245,25 +243,15 @@ fn names<'a>(
     names_after(alloc, first, rest)
 }
 
-/// Whether a name stands first, with which declarations and labels begin.
-#[tactic(auto, unfolding(crate::specs::Declarations::declaration, crate::specs::Declarations::names, crate::specs::Declarations::external, crate::specs::Globals::global, crate::specs::Declarations::type_declaration, crate::specs::Texts::derived_type, crate::specs::Instructions::with_label, crate::specs::Instructions::label, crate::specs::Terminals::name))]
-pub fn begins_name(ts: &[Token]) -> bool
+/// Whether a name stands first, with which declarations begin.
+#[tactic(auto, unfolding(crate::specs::Declarations::declaration, crate::specs::Declarations::names, crate::specs::Declarations::external, crate::specs::Globals::global, crate::specs::Declarations::type_declaration, crate::specs::Texts::derived_type))]
+pub fn begins_declaration(ts: &[Token]) -> bool
     ensures variables { result ≡ begins declaration ts.now }
     ensures externals { result ≡ begins external ts.now }
     ensures globals { result ≡ begins global ts.now }
     ensures types { result ≡ begins derived_type ts.now }
-    ensures labels { result ≡ begins with_label ts.now }
 {
-    matches!(
-        ts,
-        [
-            Token {
-                kind: TokenKind::Good(What::Name),
-                ..
-            },
-            ..
-        ]
-    )
+    begins_name(ts)
 }
 
 /// `block ";"`
@@ -318,7 +306,7 @@ fn declarations<'a>(
 {
     let mut all = Vec::new(alloc);
     let mut rest = ts;
-    'all: while begins_name(rest) {
+    'all: while begins_declaration(rest) {
         let (one, after) = declaration(alloc, rest)?;
         all.push(one)?;
         rest = after;
@@ -369,7 +357,7 @@ fn externals<'a>(
 {
     let mut all = Vec::new(alloc);
     let mut rest = ts;
-    'all: while begins_name(rest) {
+    'all: while begins_declaration(rest) {
         let (one, after) = external(alloc, rest)?;
         all.push(one)?;
         rest = after;
@@ -391,7 +379,7 @@ fn var_external<'a>(
     Ok((all, rest))
 }
 
-#[tactic(auto, unfolding(crate::specs::Declarations::vars, crate::specs::Terminals::word))]
+#[tactic(auto, unfolding(crate::specs::Declarations::vars, illines::specs::Terminals::word))]
 fn begins_vars(ts: &[Token]) -> bool
     ensures { result ≡ begins vars ts.now }
 {
@@ -414,7 +402,7 @@ pub fn variables<'a>(
 }
 
 /// Whether a VAR or VAR_EXTERNAL block stands first.
-#[tactic(auto, unfolding(crate::specs::Declarations::variables, crate::specs::Declarations::vars, crate::specs::Declarations::var_external, crate::specs::Terminals::word))]
+#[tactic(auto, unfolding(crate::specs::Declarations::variables, crate::specs::Declarations::vars, crate::specs::Declarations::var_external, illines::specs::Terminals::word))]
 pub fn begins_variables(ts: &[Token]) -> bool
     ensures { result ≡ begins variables ts.now }
 {

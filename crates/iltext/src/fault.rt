@@ -5,8 +5,7 @@ ghost use Rattle.iltext.specs.Faults.{text_fault_number, number_of_cause, cause_
 ghost use Rattle.iltext.specs.Faults.{is_deferrable, defers, open_after, open_after_all};
 ghost use Rattle.iltext.specs.Faults.{place_at, Reports};
 
-use crate::roles::{OperatorRole, is_inner, role_of};
-use crate::token::{Token, TokenKind};
+use illines::{OperatorRole, Token, TokenKind, is_inner, role_of};
 use ilsource::LineColumn;
 use iltokens::{Delimiter, LexicalCause, What};
 use limits::MOST_NESTING;

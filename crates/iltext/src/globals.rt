@@ -7,10 +7,11 @@ ghost use Rattle.ilsource.specs.declared.name.Name.{Name};
 ghost use Rattle.iltext.specs.Globals.{address, located, unlocated, global_named, global};
 ghost use Rattle.iltext.specs.Globals.{globals, var_global, global_blocks};
 
-use crate::declarations::{begins_name, names_after, typing};
-use crate::reading::{begins_word, line_ends, spaced_delimiter, spaced_name, spaced_word};
-use crate::token::{Token, TokenKind};
+use crate::declarations::{begins_declaration, names_after, typing};
 use ilgrammar::ReadError;
+use illines::{
+    Token, TokenKind, begins_word, line_ends, spaced_delimiter, spaced_name, spaced_word,
+};
 use ilsource::{DirectAddress, GlobalDeclaration, Name};
 use iltokens::{Delimiter, Keyword, What};
 use std::alloc::Global;
@@ -109,7 +110,7 @@ fn globals<'a>(
 {
     let mut all = Vec::new(alloc);
     let mut rest = ts;
-    'all: while begins_name(rest) {
+    'all: while begins_declaration(rest) {
         let (one, after) = global(alloc, rest)?;
         all.push(one)?;
         rest = after;

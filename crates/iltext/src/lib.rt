@@ -3,9 +3,9 @@
 //! What crosses the boundary: [`parse`], which gives a [`Source`] exactly where the bytes spell it,
 //! or a [`TextFault`] with line, column and cause. Read specs/Parsing.antt first: a text's tokens
 //! (specs/Cutting.antt) are those of `iltokens`; the grammar is a set of items over them
-//! (specs/Texts.antt, Declarations.antt, Configurations.antt and Instructions.antt), whose reading
-//! is exact by the laws of `ilgrammar`; a fault stands at the first token that goes on as no text
-//! (specs/Faults.antt).
+//! (specs/Texts.antt, Declarations.antt and Configurations.antt, with the lines of `illines`),
+//! whose reading is exact by the laws of `ilgrammar`; a fault stands at the first token that goes
+//! on as no text (specs/Faults.antt).
 //!
 //! ```text
 //! let source = parse(alloc, text)?; // or: text fault 3 at 12:8
@@ -14,21 +14,14 @@
 #![tactic(auto)]
 
 mod block_kinds;
-mod calls;
 mod configurations;
 mod cutting;
 mod declarations;
 mod fault;
 mod globals;
-mod instructions;
-mod operands;
-mod parentheses;
 mod parser;
 mod programs;
-mod reading;
-mod roles;
 mod tasks;
-mod token;
 
 pub use fault::{TextCause, TextFault};
 pub use ilsource::Source;

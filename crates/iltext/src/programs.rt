@@ -9,11 +9,9 @@ ghost use Rattle.iltext.specs.Texts.{blocks, program, derived_type, derived_type
 ghost use Rattle.iltext.specs.Texts.{types, unit, units, text};
 
 use crate::configurations::optional_configuration;
-use crate::declarations::{begins_name, begins_variables, type_declaration, variables};
-use crate::instructions::lines;
-use crate::reading::{line_ends, spaced_name, spaced_word};
-use crate::token::{Token, TokenKind};
+use crate::declarations::{begins_declaration, begins_variables, type_declaration, variables};
 use ilgrammar::ReadError;
+use illines::{Token, TokenKind, end, line_ends, lines, spaced_name, spaced_word};
 use ilsource::{Configuration, Declaration, Element, Program};
 use iltokens::{Keyword, What};
 use std::alloc::Global;
@@ -70,7 +68,7 @@ fn derived_types<'a>(
 {
     let mut all = Vec::new(alloc);
     let mut rest = ts;
-    'all: while begins_name(rest) {
+    'all: while begins_declaration(rest) {
         let (one, after) = derived_type(rest)?;
         all.push(one)?;
         rest = after;
@@ -92,7 +90,7 @@ fn types<'a>(
     Ok((all, rest))
 }
 
-#[tactic(auto, unfolding(crate::specs::Texts::types, crate::specs::Terminals::word))]
+#[tactic(auto, unfolding(crate::specs::Texts::types, illines::specs::Terminals::word))]
 fn begins_types(ts: &[Token]) -> bool
     ensures { result ≡ begins types ts.now }
 {
@@ -126,7 +124,7 @@ fn unit<'a>(
     }
 }
 
-#[tactic(auto, unfolding(crate::specs::Texts::unit, crate::specs::Texts::types, crate::specs::Texts::program, crate::specs::Terminals::word))]
+#[tactic(auto, unfolding(crate::specs::Texts::unit, crate::specs::Texts::types, crate::specs::Texts::program, illines::specs::Terminals::word))]
 fn begins_unit(ts: &[Token]) -> bool
     ensures { result ≡ begins unit ts.now }
 {
@@ -173,8 +171,6 @@ pub fn whole_text<'a>(alloc: Global, ts: &'a [Token]) -> Result<TextParts, ReadE
     let rest = line_ends(ts);
     let (elements, rest) = units(alloc, rest)?;
     let (configuration, rest) = optional_configuration(alloc, rest)?;
-    match rest {
-        [] => Ok((elements, configuration)),
-        [_, ..] => Err(ReadError::Fault(rest)),
-    }
+    end(rest)?;
+    Ok((elements, configuration))
 }

@@ -6,11 +6,11 @@ ghost use Rattle.ilgrammar.specs.Results.{Gives};
 ghost use Rattle.iltext.specs.Tasks.{duration, single, interval, priority, inputs, task, tasks};
 ghost use Rattle.iltext.specs.Tasks.{with_task, program_instance, program_instances};
 
-use crate::reading::{
-    begins_word, line_ends, spaced_delimiter, spaced_name, spaced_number, spaced_word,
-};
-use crate::token::{Token, TokenKind};
 use ilgrammar::ReadError;
+use illines::{
+    Token, TokenKind, begins_word, line_ends, spaced_delimiter, spaced_name, spaced_number,
+    spaced_word,
+};
 use ilsource::{InstanceDeclaration, Name, TaskDeclaration};
 use iltokens::{Delimiter, Keyword, What};
 use std::alloc::Global;

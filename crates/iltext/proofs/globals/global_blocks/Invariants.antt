@@ -2,7 +2,7 @@ use Rattle.std.proofs.Common.{◌≡◌, length}
 use Rattle.ilgrammar.specs.Items.{many}
 use Rattle.ilgrammar.specs.Results.{extend}
 use Rattle.iltext.specs.Globals.{var_global, global_blocks}
-use Rattle.iltext.specs.Terminals.{flat}
+use Rattle.iltext.specs.Declarations.{flat}
 use Rattle.iltext.proofs.globals.global_blocks.Given as goal
 
 abbrev pub invariant-all : goal.invariant-all

@@ -3,10 +3,10 @@ use Rattle.std.proofs.lemmas.Result.{err_from_is_err_and}
 use Rattle.ilgrammar.specs.Items.{begins}
 use Rattle.ilgrammar.specs.Results.{extend}
 use Rattle.ilgrammar.proofs.Loops.{adds_on, adds_none, all_added, shrinks}
+use Rattle.illines.proofs.Extends.{fails_extended}
 use Rattle.iltext.specs.Texts.{blocks}
 use Rattle.iltext.specs.Declarations.{variables}
 use Rattle.iltext.proofs.DeclarationLaws.{Firm-variables}
-use Rattle.iltext.proofs.Extends.{fails_extended}
 use Rattle.iltext.proofs.programs.blocks.Goals as goal
 
 pub all-init : goal.all-init

@@ -1,7 +1,7 @@
 use Rattle.std.proofs.Common.{◌≡◌, length}
 use Rattle.ilgrammar.specs.Items.{many}
 use Rattle.ilgrammar.specs.Results.{extend}
-use Rattle.iltext.specs.Terminals.{flat}
+use Rattle.iltext.specs.Declarations.{flat}
 use Rattle.iltext.specs.Texts.{unit, units}
 use Rattle.iltext.proofs.programs.units.Given as goal
 

@@ -1,0 +1,9 @@
+pub mod CallLaws
+pub mod Contents
+pub mod Delimiters
+pub mod Ends
+pub mod Extends
+pub mod InstructionLaws
+pub mod LineEnds
+pub mod OperandLaws
+pub mod Shallow
