@@ -13,12 +13,13 @@ use Rattle.ilsource.specs.Trees.{Tree}
 use Rattle.ilsource.specs.declared.symbol.Symbol.{Symbol}
 use Rattle.ildeclared.specs.Faults.{SomeOf}
 use Rattle.ildeclared.proofs.Least.{some_front, some_last}
-use Rattle.ilscope.specs.Declarations.{DeclaredProgram, declared_programs}
+use Rattle.ilscope.specs.Declarations.{declared_programs, DeclaredProgram}
 use Rattle.ilplan.specs.Constants.{constants_used, same_value}
+use Rattle.iluses.specs.Uses.{uses_of}
 use Rattle.ilsyms.specs.CountingSteps.{AreCounted, AreSeen}
 use Rattle.ilsyms.specs.TaskSteps.{AreThere, instances_of}
 use Rattle.ilsyms.specs.Tasks.{NamedProgram, instance_named}
-use Rattle.ilsyms.specs.Variables.{lines_of, uses_of}
+use Rattle.ilsyms.specs.Variables.{lines_of}
 use Rattle.ilsyms.specs.declared.tasks.TaskInstance.{TaskInstance}
 use Rattle.ilsyms.proofs.CountingUses.{AreKnown, known_counted, used_append}
 use Rattle.ilsyms.proofs.Lists.{either, or_true}

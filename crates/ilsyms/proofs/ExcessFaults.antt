@@ -13,10 +13,12 @@ use Rattle.ildeclared.specs.declared.fault.NameCause.TheVariants.{TooMany}
 use Rattle.ildeclared.specs.declared.found.Found.{Found}
 use Rattle.ildeclared.proofs.FoundOrder.{or_else}
 use Rattle.ilscope.specs.Configured.{task_declarations}
+use Rattle.iluses.specs.Uses.{uses_of}
+use Rattle.iluses.proofs.UseFaults.{of_both}
 use Rattle.ilsyms.specs.Faults.{IsTooMany, IsTooManyIn, MakesTooManyConstants, instance_names, place_of_slot}
 use Rattle.ilsyms.specs.Tasks.{NamedProgram, tasks_of}
-use Rattle.ilsyms.specs.Variables.{blocks_of, lines_of, slots_of, uses_of}
-use Rattle.ilsyms.proofs.FaultParts.{of_both, of_same}
+use Rattle.ilsyms.specs.Variables.{blocks_of, lines_of, slots_of}
+use Rattle.ilsyms.proofs.FaultParts.{of_same}
 
 -- there is a place, and it is this one
 abbrev IsAt : Option ℕ → ℕ → Type 0

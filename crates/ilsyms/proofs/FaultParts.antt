@@ -15,27 +15,15 @@ use Rattle.ildeclared.specs.declared.fault.NameCause.TheVariants.{WritesInput, N
 use Rattle.ildeclared.specs.declared.found.Found.{Found}
 use Rattle.ildeclared.proofs.FoundOrder.{best_same, or_else}
 use Rattle.ildeclared.proofs.Least.{both_least}
-use Rattle.ilscope.specs.Declarations.{DeclaredProgram, declared_programs}
+use Rattle.ilscope.specs.Declarations.{declared_programs, DeclaredProgram}
 use Rattle.ilscope.specs.Faults.{IsTwiceIn}
 use Rattle.ilscope.proofs.LeastOfDeclarations.{some_of}
-use Rattle.ilsyms.specs.Faults.{IsFaultOfUse, IsTooMany, IsUnknownUse, IsWrittenTwice, StoresToInput, WritesOutput}
-use Rattle.ilsyms.specs.Faults.{JumpsBack, JumpsNowhere, labels_of}
-use Rattle.ilsyms.specs.LineSteps.{IsFaultOfLines}
-use Rattle.ilsyms.specs.ArgumentSteps.{IsGivenTwiceIn}
-use Rattle.ilsyms.specs.UseSteps.{IsFaultAtUse, IsFaultAtUses}
-use Rattle.ilsyms.specs.Variables.{uses_of}
+use Rattle.iluses.specs.Faults.{IsUnknownUse, StoresToInput, WritesOutput, JumpsBack, JumpsNowhere, labels_of}
+use Rattle.iluses.specs.Faults.{IsFaultOfLines, IsGivenTwiceIn, IsFaultAtUse, IsFaultAtUses}
+use Rattle.iluses.specs.Uses.{uses_of}
+use Rattle.ilsyms.specs.Faults.{IsFaultOfUse, IsTooMany, IsWrittenTwice}
 
 -- ---- faults of one cause
-
--- the least of the faults of one cause in two parts
-pub of_both : (its : NameCause) (F G : ℕ → Type 0) (a b : Option Found)
-    → IsLeastOf (OfCause its F) a → IsLeastOf (OfCause its G) b
-    → IsLeastOf (OfCause its (λ at. F at ⊎ G at)) (lesser_of_two a b)
-of_both its F G a b h k =
-    best_same _ (OfCause its (λ at. F at ⊎ G at)) (lesser_of_two a b)
-    (λ place cause q. or_else (λ f. (f.0, inl f.1)) (λ g. (g.0, inr g.1)) q)
-    (λ place cause q. or_else (λ f. inl (q.0, f)) (λ g. inr (q.0, g)) q.1)
-    (both_least (OfCause its F) (OfCause its G) a b h k)
 
 -- the same places
 pub of_same : (its : NameCause) (F G : ℕ → Type 0) (o : Option Found)

@@ -16,10 +16,10 @@ use Rattle.iltokens.specs.declared.lexed.AddressKind.{AddressKind}
 use Rattle.iltokens.specs.declared.lexed.AddressKind.TheVariants.{OutputByte, InputWord, InputBit}
 use Rattle.ilsource.specs.Trees.{Tree}
 use Rattle.ilsource.specs.declared.address.DirectAddress.{DirectAddress}
-use Rattle.ildeclared.specs.Faults.{IsBound, IsOtherArea, IsThere, LacksWord, SameAddress, SomeOf, greatest_at}
+use Rattle.ildeclared.specs.Faults.{greatest_at, IsBound, IsOtherArea, IsThere, LacksWord, SameAddress, SomeOf}
 use Rattle.ildeclared.specs.declared.global.DeclaredGlobal.{DeclaredGlobal}
 use Rattle.ilscope.specs.Configured.{globals_of}
-use Rattle.ilscope.proofs.Sound.{AreAtOthers, IsSoundAt, IsSoundGlobal, globals_apart, globals_sound, not_below}
+use Rattle.ilscope.proofs.Sound.{AreAtOthers, globals_apart, globals_sound, IsSoundAt, IsSoundGlobal, not_below}
 use Rattle.ilplan.specs.declared.global.Location.{Location}
 use Rattle.ilplan.specs.declared.global.Location.TheVariants.{Level, GearAnswer, DeviceAnswer, Information, Count}
 use Rattle.ilplan.specs.declared.global.Location.TheVariants.{Trigger}

@@ -5,7 +5,6 @@ use Rattle.std.specs.Prelude.{Option, Some, None, bytes_eq}
 use Rattle.std.specs.List.{list_any, position_or_len}
 use Rattle.std.proofs.lemmas.Bool.Decides.{Decides-eqb, same_from_decides}
 use Rattle.std.proofs.lemmas.List.Sums.{passes_at_first}
-use Rattle.std.proofs.lemmas.Slice.Eq.{bytes_eq-Decides}
 use Rattle.iltrees.specs.declared.instruction.Line.{Line}
 use Rattle.iltrees.specs.Passes.{has_label}
 use Rattle.iltrees.specs.Renaming.{IsLabelKept, AreKept}
@@ -13,7 +12,8 @@ use Rattle.ilsource.specs.declared.name.Name.{Name}
 use Rattle.ilsource.specs.declared.symbol.Symbol.{Symbol}
 use Rattle.ilsource.specs.Names.{folded}
 use Rattle.ilplan.specs.PlanMeaning.{number_same}
-use Rattle.ilsyms.specs.Meaning.{same_name}
+use Rattle.iluses.specs.SameNames.{same_name}
+use Rattle.iluses.proofs.SameNames.{alike, same_as}
 use Rattle.ilsyms.specs.Resolved.{label_number}
 use Rattle.ilsyms.proofs.Lists.{either, or_true}
 
@@ -26,18 +26,12 @@ any_found test (x ∷ xs) e =
     (λ f. rw f (let more = any_found test xs (rw f at e) in omega arith))
 
 module _ (text : List ℕ) where
-  pub alike : (l m : Name) → same_name text l m ≡ true → folded text l ≡ folded text m
-  alike l m e = (bytes_eq-Decides (folded text l) (folded text m)).0 e
-
-  pub same_as : (l m : Name) → folded text l ≡ folded text m → same_name text l m ≡ true
-  same_as l m e = (bytes_eq-Decides (folded text l) (folded text m)).1 e
-
   -- a line that has both labels
   both_have : (l m : Name) (o : Option Name) → has_label (same_name text) l o ≡ true
       → has_label (same_name text) m o ≡ true
       → same_name text l m ≡ true
   both_have l m None e g = absurd cc
-  both_have l m (Some k) e g = same_as l m (alike l k e ∙ sym (alike m k g))
+  both_have l m (Some k) e g = same_as text l m (alike text l k e ∙ sym (alike text m k g))
 
   agree : (l m : Name) → folded text l ≡ folded text m → (o : Option Name)
       → has_label (same_name text) l o ≡ has_label (same_name text) m o
@@ -69,7 +63,7 @@ module _ (text : List ℕ) where
     number_kept m has_m l =
         let numbers = Decides-eqb (label_number text all l) (label_number text all m) in
         same_from_decides {P = label_number text all l ≡ label_number text all m} _ _ numbers
-        ((λ e. one_number l m (alike l m e)), (λ e. other_number l m has_m e))
+        ((λ e. one_number l m (alike text l m e)), (λ e. other_number l m has_m e))
 
     kept_label : (o : Option Name) → ((m : Name) → o ≡ Some m → list_any (has m) all ≡ true)
         → IsLabelKept (same_name text) number_same (label_number text all) o
@@ -85,7 +79,7 @@ module _ (text : List ℕ) where
       where
         first : (m : Name) (o : Option Name) → o ≡ Some m
             → (has_label (same_name text) m o || list_any (has m) lines) ≡ true
-        first m o e = let itself = same_as m m refl in rw (e, itself) refl
+        first m o e = let itself = same_as text m m refl in rw (e, itself) refl
 
         later : (m : Name) → list_any (has m) lines ≡ true → (has m line || list_any (has m) lines) ≡ true
         later m e = rw e (or_true (has m line))

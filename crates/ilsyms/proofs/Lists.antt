@@ -1,7 +1,7 @@
--- Truth values, numbers and lists: the first element that passes a test is there, and what stands at a place.
-use Rattle.std.proofs.Common.{◌≡◌, ℕ, zero, suc, ◌+◌, ◌<◌, List, [], ◌∷◌, length, Bool, true, false, refl, ap, sym, ◌∙◌}
-use Rattle.std.proofs.Common.{arith, ◌||◌, subst, ◌++◌, take, ◌⊎◌, inl, inr, drop}
-use Rattle.std.specs.Prelude.{Option, Some, None, IfSome, option_map, slice_get, if◌then◌else◌}
+-- Truth values and lists: the first element that passes a test is there, and what a slice leaves.
+use Rattle.std.proofs.Common.{◌≡◌, ℕ, zero, suc, ◌<◌, List, [], ◌∷◌, length, Bool, true, false, refl, ap, sym, ◌∙◌}
+use Rattle.std.proofs.Common.{arith, ◌||◌, ◌++◌, take, drop}
+use Rattle.std.specs.Prelude.{Option, Some, None, option_map, slice_get, if◌then◌else◌}
 use Rattle.std.proofs.Math.Seq.{take-append_seam}
 use Rattle.ildeclared.specs.Faults.{SomeOf}
 use Rattle.ildeclared.proofs.FoundOrder.{or_else}
@@ -41,30 +41,6 @@ below_end (y ∷ xs) (suc k) x e = omega (arith, below_end xs k x e)
 -- so its number is below how many there are
 pub first_below : {X : Type 0} (test : X → Bool) (xs : List X) (k : ℕ) → first_at test xs ≡ Some k → k < length xs
 first_below test xs k e = let there = first_there test xs k e in below_end xs k there.0 there.1
-
--- so a number after so many fits where all of them do
-pub fits : {X : Type 0} (test : X → Bool) (xs : List X) (first bound : ℕ) (own : Option ℕ) → own ≡ first_at test xs
-    → first + length xs < bound → IfSome own (λ k. first + k < bound)
-fits test xs first bound None e h = tt
-fits test xs first bound (Some k) e h = let below = first_below test xs k (sym e) in omega (arith, below, h)
-
-pub last_or_before : (n bound : ℕ) → n < bound + 1 → (n < bound) ⊎ (n ≡ bound)
-last_or_before zero zero h = inr refl
-last_or_before zero (suc bound) h = inl (omega arith)
-last_or_before (suc n) zero h = absurd (omega (arith, h))
-last_or_before (suc n) (suc bound) h =
-    or_else (λ l. inl (omega (arith, l))) (λ e. inr (ap suc e)) (last_or_before n bound (omega (arith, h)))
-
-pub some_at : {X : Type 0} (P : X → Type 0) (xs : List X) → SomeOf P xs
-    → (i : ℕ) × (x : X) × (slice_get xs i ≡ Some x) × P x
-some_at P [] s = absurd s
-some_at P (x ∷ xs) (inl p) = (0, x, refl, p)
-some_at P (x ∷ xs) (inr s) = let t = some_at P xs s in (suc t.0, t.1, t.2, t.3)
-
-pub at_some : {X : Type 0} (P : X → Type 0) (xs : List X) (i : ℕ) (x : X) → slice_get xs i ≡ Some x → P x → SomeOf P xs
-at_some P [] i x e p = absurd cc
-at_some P (y ∷ ys) zero x e p = let same : y ≡ x = cc in inl (subst P (sym same) p)
-at_some P (y ∷ ys) (suc i) x e p = inr (at_some P ys i x e p)
 
 -- what a slice leaves in the list that it is of
 pub written_back : {X : Type 0} (xs ys : List X) (n : ℕ) → n ≡ length xs → length ys ≡ length xs

@@ -19,15 +19,16 @@ use Rattle.ilscope.specs.Tables.{first_at}
 use Rattle.ilplan.specs.declared.instance.FunctionBlock.{FunctionBlock}
 use Rattle.ilplan.specs.declared.slot.Slot.{Slot}
 use Rattle.ilplan.specs.declared.place.Place.TheVariants as places
+use Rattle.iluses.specs.SameNames.{same_name}
+use Rattle.iluses.proofs.SameNames.{same_as}
 use Rattle.ilsyms.specs.PlanningSteps.{AreOthers}
-use Rattle.ilsyms.specs.Meaning.{same_name, is_own, is_block_under, place_in_store, block_in_store, port_in_store}
+use Rattle.ilsyms.specs.Meaning.{is_own, is_block_under, place_in_store, block_in_store, port_in_store}
 use Rattle.ilsyms.specs.Meaning.{port_of_block, place_of}
 use Rattle.ilsyms.specs.NumberingSteps.{Numbering, slot_number, number_of_block, number_of_port, place_by_number}
 use Rattle.ilsyms.specs.NumberingSteps.{number_of_global}
 use Rattle.ilsyms.specs.Tasks.{NamedProgram}
 use Rattle.ilsyms.specs.Variables.{own_slot, function_block, slots_of, own_slots, global_slots, blocks_of}
 use Rattle.ilsyms.proofs.SlotGlobals.{no_own_global}
-use Rattle.ilsyms.proofs.LabelRenaming.{same_as}
 use Rattle.ilsyms.proofs.NumberingPlaces.{NonePass, number_among, found_among, passed_over}
 
 abbrev variables_in : NamedProgram → List DeclaredVariable

@@ -24,14 +24,14 @@ use Rattle.ildeclared.specs.declared.global.DeclaredGlobal.{DeclaredGlobal}
 use Rattle.ilscope.specs.Configured.{global_named, global_number, globals_of, task_declarations}
 use Rattle.ilscope.specs.Faults.{IsNoTriggerOf, IsTrigger, IsUnknownName, IsUnknownTriggerOf}
 use Rattle.ilscope.proofs.Sound.{IsSoundAt, IsSoundGlobal}
-use Rattle.ilscope.proofs.Typed.{IsTypedGlobal, declared_typed_globals}
+use Rattle.ilscope.proofs.Typed.{declared_typed_globals, IsTypedGlobal}
 use Rattle.ilplan.specs.declared.activation.Activation.TheVariants.{Cyclic, Event}
 use Rattle.ilplan.specs.Plans.{HasTrigger, IsLawful, IsTaskOf, IsTrigger as IsPlannedTrigger}
+use Rattle.iluses.proofs.Lists.{at_some}
 use Rattle.ilsyms.specs.Faults.{IsWellNamed}
 use Rattle.ilsyms.specs.Resolved.{location, plan_of_tree, planned_global, planned_task}
 use Rattle.ilsyms.specs.Tasks.{SourceTask, activation_of, tasks_of}
 use Rattle.ilsyms.proofs.Lists.{first_there}
-use Rattle.ilsyms.proofs.Lists.{at_some}
 use Rattle.ilsyms.proofs.PlanLimits.{few_tasks}
 use Rattle.ilsyms.proofs.GlobalLocations.{all_apart, all_located, all_sound, truth}
 use Rattle.ilsyms.proofs.SlotOrder.{all_declared}

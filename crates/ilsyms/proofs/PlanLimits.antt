@@ -17,22 +17,23 @@ use Rattle.ilsource.specs.Trees.{Tree}
 use Rattle.ildeclared.specs.declared.fault.NameCause.TheVariants.{Twice, TooMany, BadDeclaration}
 use Rattle.ilscope.specs.Configured.{global_number, instance_declarations, task_declarations}
 use Rattle.ilscope.specs.Declarations.{declared_programs}
-use Rattle.ilscope.specs.Faults.{IsBadTask, IsBadlyStarted, IsTwice, IsTwiceIn}
+use Rattle.ilscope.specs.Faults.{IsBadlyStarted, IsBadTask, IsTwice, IsTwiceIn}
 use Rattle.limits.specs.Limits.{most_words}
 use Rattle.ilplan.specs.declared.activation.Activation.TheVariants.{Cyclic, Event}
 use Rattle.ilplan.specs.Plans.{KeepsLimits, HasInterval, all_lines}
+use Rattle.iluses.specs.Uses.{uses_of}
+use Rattle.iluses.proofs.Lists.{at_some}
 use Rattle.ilsyms.specs.Faults.{IsWellNamed, instance_names, place_of_slot}
 use Rattle.ilsyms.specs.PlanningSteps.{AreApart}
 use Rattle.ilsyms.specs.Resolved.{planned_instance, planned_task}
 use Rattle.ilsyms.specs.Tasks.{instance_in, instance_named, SourceTask, declared_task, main_task, tasks_of}
-use Rattle.ilsyms.specs.Variables.{slots_of, blocks_of, lines_of, uses_of}
+use Rattle.ilsyms.specs.Variables.{slots_of, blocks_of, lines_of}
 use Rattle.ilsyms.proofs.CountingUses.{few_constants}
 use Rattle.ilsyms.proofs.TaskNames.{declared_apart, programs_apart}
 use Rattle.ilsyms.proofs.SlotOrder.{ordered}
 use Rattle.ilsyms.proofs.NumberingLines.{same_places, same_constants, all_shallow}
 use Rattle.ilsyms.proofs.TaskCases.{IsDeclaredTask, IsMainTask, task_is, typed}
 use Rattle.ilsyms.proofs.SlotTypes.{slots_typed}
-use Rattle.ilsyms.proofs.Lists.{at_some}
 
 -- where nothing stands at a place there are at most so many
 none_past : {X : Type 0} (xs : List X) (n : ℕ) → slice_get xs n ≡ None → length xs ≤ n

@@ -18,8 +18,8 @@ use Rattle.ilplan.specs.declared.instance.FunctionBlock.{FunctionBlock}
 use Rattle.ilplan.specs.declared.slot.Slot.{Slot}
 use Rattle.ilplan.specs.declared.place.Place.{Place}
 use Rattle.ilplan.specs.Plans.{PlannedInstance}
+use Rattle.iluses.specs.Labels.{AreNumbered}
 use Rattle.ilsyms.specs.PlanningSteps.{AreApart}
-use Rattle.ilsyms.specs.LabelSteps.{AreNumbered}
 use Rattle.ilsyms.specs.NumberingSteps.{Numbering, label_of, numbering_of, numbers}
 use Rattle.ilsyms.specs.Resolved.{new_places, label_number, planned_instance}
 use Rattle.ilsyms.specs.Tasks.{NamedProgram}
@@ -27,7 +27,7 @@ use Rattle.ilsyms.specs.Variables.{own_slot, slots_in, own_slots, global_slots, 
 use Rattle.ilsyms.specs.Variables.{function_block, blocks_in, blocks_of}
 use Rattle.ilsyms.proofs.TaskNames.{others_around}
 use Rattle.ilsyms.proofs.NumberingInstances.{numbering, place_is}
-use Rattle.ilsyms.proofs.LabelNumbers.{label_is_number}
+use Rattle.ilsyms.proofs.NumberingLabels.{label_is_number}
 use Rattle.ilsyms.proofs.NumberingLines.{shallow_append}
 
 -- a list in which an element stands

@@ -11,7 +11,8 @@ use Rattle.ilblocks.specs.Stores.{Shape, Store}
 use Rattle.ilplan.specs.declared.instance.FunctionBlock.{FunctionBlock}
 use Rattle.ilplan.specs.declared.slot.Slot.{Slot}
 use Rattle.ilplan.specs.PlanMeaning.{places_of, number_same, plan_scan}
-use Rattle.ilsyms.specs.Meaning.{same_name, place_of, names_in, instances_scan, source_scan}
+use Rattle.iluses.specs.SameNames.{same_name}
+use Rattle.ilsyms.specs.Meaning.{place_of, names_in, instances_scan, source_scan}
 use Rattle.ilsyms.specs.Resolved.{new_places, label_number, planned_instance, planned_task}
 use Rattle.ilsyms.specs.Tasks.{NamedProgram, SourceTask}
 use Rattle.ilsyms.specs.Variables.{slots_of, blocks_of, shape_of}

@@ -11,7 +11,7 @@ use Rattle.ilsource.specs.Trees.{Tree}
 use Rattle.ildeclared.specs.Faults.{SomeOf}
 use Rattle.ildeclared.specs.declared.global.DeclaredGlobal.{DeclaredGlobal}
 use Rattle.ilscope.specs.Configured.{globals_of}
-use Rattle.ilscope.specs.Declarations.{DeclaredProgram, declared_programs}
+use Rattle.ilscope.specs.Declarations.{declared_programs, DeclaredProgram}
 use Rattle.ilsource.specs.declared.name.Name.{Name}
 use Rattle.ilplan.specs.declared.slot.Slot.{Slot}
 use Rattle.ilsyms.specs.SlotSteps.{AddsWhere, AreNamed}

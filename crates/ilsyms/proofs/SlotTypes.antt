@@ -9,7 +9,7 @@ use Rattle.ilsource.specs.Trees.{Tree}
 use Rattle.ildeclared.specs.declared.global.DeclaredGlobal.{DeclaredGlobal}
 use Rattle.ildeclared.specs.declared.variable.DeclaredVariable.{DeclaredVariable}
 use Rattle.ilscope.specs.Configured.{globals_of}
-use Rattle.ilscope.proofs.Typed.{IsTypedVariable, declared_typed_globals}
+use Rattle.ilscope.proofs.Typed.{declared_typed_globals, IsTypedVariable}
 use Rattle.ilplan.specs.declared.slot.Slot.{Slot}
 use Rattle.ilsyms.specs.Tasks.{NamedProgram}
 use Rattle.ilsyms.specs.Variables.{own_slot, own_slots, slots_of, global_slots}

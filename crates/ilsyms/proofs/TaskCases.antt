@@ -11,8 +11,8 @@ use Rattle.ilsource.specs.declared.configuration.InstanceDeclaration.{InstanceDe
 use Rattle.ilsource.specs.declared.configuration.TaskDeclaration.{TaskDeclaration}
 use Rattle.ilsource.specs.Trees.{Tree}
 use Rattle.ilscope.specs.Configured.{program_number}
-use Rattle.ilscope.specs.Declarations.{DeclaredProgram, declared_programs}
-use Rattle.ilscope.proofs.Typed.{IsTypedVariable, declared_typed_programs}
+use Rattle.ilscope.specs.Declarations.{declared_programs, DeclaredProgram}
+use Rattle.ilscope.proofs.Typed.{declared_typed_programs, IsTypedVariable}
 use Rattle.ilsyms.specs.Tasks.{SourceTask, instance_named, instances_in, is_in, declared_task, main_task, tasks_of}
 use Rattle.ilsyms.proofs.Lists.{below_end}
 use Rattle.ilsyms.proofs.SlotTypes.{AreTypedInstances}

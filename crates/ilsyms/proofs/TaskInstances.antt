@@ -19,7 +19,7 @@ use Rattle.ilsource.specs.declared.name.Name.{Name}
 use Rattle.ilsource.specs.Trees.{Tree}
 use Rattle.ildeclared.proofs.Least.{take_more as take_one_more}
 use Rattle.ilscope.specs.Configured.{program_number, task_number}
-use Rattle.ilscope.specs.Declarations.{DeclaredProgram, declared_programs}
+use Rattle.ilscope.specs.Declarations.{declared_programs, DeclaredProgram}
 use Rattle.ilsyms.specs.declared.tasks.Assigned.{Assigned}
 use Rattle.ilsyms.specs.TaskSteps.{instance_at, numbered, assigned, given_to, AreInstances, AreThere, instances_of}
 use Rattle.ilsyms.specs.Tasks.{NamedProgram, instance_named, instances_in, declared_task, tasks_of, SourceTask}

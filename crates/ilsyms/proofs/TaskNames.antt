@@ -11,12 +11,12 @@ use Rattle.ilsource.specs.declared.declaration.TypeDeclaration.{TypeDeclaration}
 use Rattle.ilsource.specs.Trees.{Tree}
 use Rattle.ildeclared.specs.Faults.{SomeOf}
 use Rattle.ilscope.specs.Configured.{program_number}
-use Rattle.ilscope.specs.Declarations.{DeclaredProgram, declared_program, declared_programs, name_of, standing}
-use Rattle.ilscope.specs.Faults.{IsTwiceIn, IsTwice}
+use Rattle.ilscope.specs.Declarations.{declared_program, declared_programs, DeclaredProgram, name_of, standing}
+use Rattle.ilscope.specs.Faults.{IsTwice, IsTwiceIn}
+use Rattle.iluses.specs.SameNames.{same_name}
+use Rattle.iluses.proofs.SameNames.{alike, same_as}
 use Rattle.ilsyms.specs.PlanningSteps.{AreOthers, AreApart}
-use Rattle.ilsyms.specs.Meaning.{same_name}
 use Rattle.ilsyms.specs.Tasks.{NamedProgram, instance_named, instances_in, is_in, main_task}
-use Rattle.ilsyms.proofs.LabelRenaming.{alike, same_as}
 use Rattle.ilsyms.proofs.Lists.{either}
 
 module _ (text : List ℕ) where

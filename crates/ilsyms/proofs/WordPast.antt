@@ -10,7 +10,7 @@ use Rattle.std.proofs.lemmas.Option.{slice_get-map, slice_get_past, unwrap_or-sl
 use Rattle.iltrees.specs.Words.{places_in}
 use Rattle.ilsource.specs.Trees.{Tree}
 use Rattle.ildeclared.proofs.Least.{take_more}
-use Rattle.ilscope.specs.Declarations.{DeclaredProgram, declared_programs}
+use Rattle.ilscope.specs.Declarations.{declared_programs, DeclaredProgram}
 use Rattle.ilsyms.specs.TaskSteps.{instance_at, instances_of}
 use Rattle.ilsyms.specs.WordSteps.{places_at, places_of_program}
 use Rattle.ilsyms.specs.Tasks.{NamedProgram, instance_named}

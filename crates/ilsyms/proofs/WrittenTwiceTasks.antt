@@ -9,8 +9,10 @@ use Rattle.std.proofs.lemmas.Option.{get_or_from_slice_get, slice_get-get_or, sl
 use Rattle.ilsource.specs.Trees.{Tree}
 use Rattle.ildeclared.specs.Faults.{SomeOf}
 use Rattle.ildeclared.proofs.FoundOrder.{or_else}
-use Rattle.ilscope.specs.Declarations.{DeclaredProgram, declared_programs}
-use Rattle.ilsyms.specs.Faults.{ProgramStores, TaskStores}
+use Rattle.ilscope.specs.Declarations.{declared_programs, DeclaredProgram}
+use Rattle.iluses.specs.Faults.{ProgramStores}
+use Rattle.iluses.proofs.Lists.{last_or_before}
+use Rattle.ilsyms.specs.Faults.{TaskStores}
 use Rattle.ilsyms.specs.TaskSteps.{AreInstances, AreInstancesOfTasks, instance_at}
 use Rattle.ilsyms.specs.TaskSetSteps.{AreSetsOf, IsSetOf}
 use Rattle.ilsyms.specs.WrittenTwiceSteps.{HasInstance, StoresBefore}
@@ -18,7 +20,6 @@ use Rattle.ilsyms.specs.Tasks.{NamedProgram, SourceTask, instance_named, tasks_o
 use Rattle.ilsyms.specs.declared.task_sets.TaskSet.{TaskSet}
 use Rattle.ilsyms.specs.declared.task_sets.TaskSet.TheVariants.{Empty}
 use Rattle.ilsyms.specs.declared.tasks.TaskInstance.{TaskInstance}
-use Rattle.ilsyms.proofs.Lists.{last_or_before}
 
 -- empty sets are those of no task
 pub empty_are : (R : ℕ → ℕ → Type 0) (sets : List TaskSet) → All (λ s. s ≡ Empty) sets

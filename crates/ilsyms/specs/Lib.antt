@@ -1,9 +1,5 @@
-pub mod ArgumentSteps
 pub mod CountingSteps
 pub mod Faults
-pub mod JumpSteps
-pub mod LabelSteps
-pub mod LineSteps
 pub mod Meaning
 pub mod NumberingSteps
 pub mod PlanningSteps
@@ -12,7 +8,6 @@ pub mod SlotSteps
 pub mod TaskSetSteps
 pub mod TaskSteps
 pub mod Tasks
-pub mod UseSteps
 pub mod Variables
 pub mod WordSteps
 pub mod WrittenTwiceSteps

@@ -3,7 +3,7 @@
 -- block instances likewise. A name in an instance's lines is that of the instance's first variable that is spelled
 -- alike, else of the global variable of that name, or of the instance's first such block instance; letter case does not
 -- matter.
-use Rattle.std.specs.Prelude.{ℕ, List, [], ◌∷◌, slice_get, bytes_eq, Bool, false, ◌&&◌, ◌==◌, Option, Some, None}
+use Rattle.std.specs.Prelude.{ℕ, List, [], ◌∷◌, slice_get, Bool, false, ◌&&◌, ◌==◌, Option, Some, None}
 use Rattle.std.specs.Prelude.{unwrap_or}
 use Rattle.std.specs.Prelude.{if◌then◌else◌}
 use Rattle.std.specs.Option.{option_and_then, option_map_or}
@@ -15,9 +15,10 @@ use Rattle.ilblocks.specs.Stores.{Shape, Store}
 use Rattle.ilsource.specs.declared.name.Name.{Name}
 use Rattle.ilsource.specs.declared.symbol.Symbol.{Symbol}
 use Rattle.ilsource.specs.declared.symbol.Symbol.TheVariants as symbols
-use Rattle.ilsource.specs.Names.{folded, text_of}
+use Rattle.ilsource.specs.Names.{text_of}
 use Rattle.ilsource.specs.Trees.{Tree}
 use Rattle.ilscope.specs.Configured.{global_number}
+use Rattle.iluses.specs.SameNames.{same_name}
 use Rattle.ilplan.specs.declared.instance.FunctionBlock.{FunctionBlock}
 use Rattle.ilplan.specs.declared.slot.Slot.{Slot}
 use Rattle.ilplan.specs.declared.slot.SlotOwner.{SlotOwner}
@@ -27,10 +28,6 @@ use Rattle.ilplan.specs.declared.place.Place.TheVariants as places
 use Rattle.ilplan.specs.PlanMeaning.{place_value, with_place, passed_place, called_place}
 use Rattle.ilsyms.specs.Tasks.{NamedProgram, SourceTask}
 use Rattle.ilsyms.specs.Variables.{slots_of, blocks_of, shape_of}
-
--- both are spelled alike, in a text
-abbrev pub same_name : List ℕ → Name → Name → Bool
-same_name text one other = bytes_eq (folded text one) (folded text other)
 
 -- the variable is one of this name, of an instance of that name
 abbrev pub is_own : List ℕ → Name → Name → SlotOwner → Bool

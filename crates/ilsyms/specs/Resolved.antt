@@ -22,7 +22,8 @@ use Rattle.ilplan.specs.declared.place.Place.{Place}
 use Rattle.ilplan.specs.declared.slot.Slot.{Slot}
 use Rattle.ilplan.specs.Constants.{different_constants}
 use Rattle.ilplan.specs.Plans.{PlannedInstance, PlannedTask, Planned, task_of, plan_of}
-use Rattle.ilsyms.specs.Meaning.{same_name, place_of}
+use Rattle.iluses.specs.SameNames.{same_name}
+use Rattle.ilsyms.specs.Meaning.{place_of}
 use Rattle.ilsyms.specs.Tasks.{NamedProgram, SourceTask, tasks_of}
 use Rattle.ilsyms.specs.Variables.{slots_of, blocks_of, lines_of}
 

@@ -12,7 +12,7 @@ use Rattle.ilsource.specs.declared.configuration.InstanceDeclaration.{InstanceDe
 use Rattle.ilsource.specs.declared.configuration.TaskDeclaration.{TaskDeclaration}
 use Rattle.ilsource.specs.declared.name.Name.{Name}
 use Rattle.ilscope.specs.Configured.{global_number, program_number, task_number}
-use Rattle.ilscope.specs.Declarations.{DeclaredProgram, declared_programs}
+use Rattle.ilscope.specs.Declarations.{declared_programs, DeclaredProgram}
 use Rattle.ilplan.specs.declared.activation.Activation.{Activation}
 use Rattle.ilplan.specs.Printed.{printed_name}
 use Rattle.ilplan.specs.declared.activation.Activation.TheVariants.{Cyclic, Event}

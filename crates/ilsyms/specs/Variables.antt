@@ -6,8 +6,6 @@ use Rattle.std.specs.Prelude.{◌==◌}
 use Rattle.std.specs.Option.{option_map_or}
 use Rattle.std.specs.List.{list_any, enumerate_from}
 use Rattle.iltrees.specs.declared.instruction.Line.{Line}
-use Rattle.iltrees.specs.declared.uses.Use.{Use}
-use Rattle.iltrees.specs.Uses.{uses_in}
 use Rattle.ilblocks.specs.Stores.{Shape}
 use Rattle.ilsource.specs.Trees.{Tree}
 use Rattle.ilsource.specs.declared.name.Name.{Name}
@@ -16,7 +14,7 @@ use Rattle.ildeclared.specs.declared.block.DeclaredBlock.{DeclaredBlock}
 use Rattle.ildeclared.specs.declared.external.DeclaredExternal.{DeclaredExternal}
 use Rattle.ildeclared.specs.declared.global.DeclaredGlobal.{DeclaredGlobal}
 use Rattle.ildeclared.specs.declared.variable.DeclaredVariable.{DeclaredVariable}
-use Rattle.ilscope.specs.Configured.{globals_of, global_number}
+use Rattle.ilscope.specs.Configured.{global_number, globals_of}
 use Rattle.ilplan.specs.declared.instance.FunctionBlock.{FunctionBlock}
 use Rattle.ilplan.specs.declared.slot.Slot.{Slot}
 use Rattle.ilplan.specs.declared.slot.SlotOwner.TheVariants as variables
@@ -83,7 +81,3 @@ shape_of tree buses instances =
 -- the lines of instances, one instance after another
 abbrev pub lines_of : List NamedProgram → List (Line Symbol Name)
 lines_of instances = flat_map (λ i. i.program.program.lines) instances
-
--- what they use
-abbrev pub uses_of : List (Line Symbol Name) → List (Use Symbol)
-uses_of lines = flat_map uses_in lines

@@ -2,8 +2,8 @@
 use Rattle.std.specs.Prelude.{◌≡◌, ◌<◌, ℕ, List, Some, IsSomeAnd, slice_get}
 use Rattle.ilsource.specs.Trees.{Tree}
 use Rattle.ildeclared.specs.Faults.{SomeOf}
-use Rattle.ilscope.specs.Declarations.{DeclaredProgram, declared_programs}
-use Rattle.ilsyms.specs.Faults.{ProgramStores}
+use Rattle.ilscope.specs.Declarations.{declared_programs, DeclaredProgram}
+use Rattle.iluses.specs.Faults.{ProgramStores}
 use Rattle.ilsyms.specs.declared.tasks.TaskInstance.{TaskInstance}
 
 -- one of the first so many tasks has an instance of the program with this number

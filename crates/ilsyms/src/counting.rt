@@ -1,11 +1,11 @@
 //! The different constants of a task.
 
 use crate::tasks::{TaskInstance, program_of};
-use crate::uses::uses_of;
 use ilplan::Constants;
 use ilscope::Scope;
 use ilsource::Symbol;
 use iltrees::{Operand, Use};
+use iluses::uses_of;
 use limits::MOST_CONSTANTS;
 use std::alloc::{AllocError, Global};
 
@@ -20,9 +20,10 @@ impl Counted {
     ghost use Rattle.std.specs.Prelude.{[], ◌∷◌, ◌++◌, List, IfOk, OnOk};
     ghost use Rattle.iltrees.specs.declared.uses.Use.{Use};
     ghost use Rattle.ilsource.specs.declared.symbol.Symbol.{Symbol};
+    ghost use Rattle.iluses.specs.Uses.{uses_of};
     ghost use Rattle.ilsyms.specs.CountingSteps.{AreCounted};
     ghost use Rattle.ilsyms.specs.TaskSteps.{AreThere, instances_of};
-    ghost use Rattle.ilsyms.specs.Variables.{lines_of, uses_of};
+    ghost use Rattle.ilsyms.specs.Variables.{lines_of};
 
     /// Those of the lines of the instances' programs. The lines of a program are read once, however
     /// many of the instances are its own: it has no constant that was not counted.

@@ -6,11 +6,10 @@ ghost use Rattle.ilsyms.specs.Faults.{IsFault, IsFaultOfUse};
 ghost use Rattle.ilsyms.specs.TaskSteps.{AreInstancesOfTasks};
 
 use crate::excess::too_many;
-use crate::lines::fault_of_lines;
 use crate::tasks::TaskInstances;
-use crate::uses::fault_at_uses;
 use crate::written_twice::written_twice;
 use ilscope::{Found, Scope, lesser_of};
+use iluses::{fault_at_uses, fault_of_lines};
 use std::alloc::{AllocError, Global};
 
 /// The least fault: of declarations, in a line, at a global variable that two tasks store to, or at

@@ -11,26 +11,18 @@
 //! ```
 #![tactic(auto)]
 
-mod arguments;
 mod blocks;
 mod counting;
 mod excess;
 mod faults;
 mod globals;
-mod jumps;
-mod labels;
-mod lines;
 mod numbering;
 mod planning;
 mod plans;
-mod ports;
 mod resolving;
 mod slots;
-mod stored;
 mod task_sets;
 mod tasks;
-mod unknown;
-mod uses;
 mod words;
 mod written_twice;
 

@@ -1,11 +1,11 @@
 //! Lines with places in a store in place of names, and with numbers of lines in place of labels.
 
-use crate::ports::port_of;
 use ilblocks::MOST_PORTS;
 use ilplan::{Place, Slot};
 use ilscope::{Names, ProgramScope, Scope};
 use ilsource::{Name, Symbol};
 use iltrees::{Action, Argument, Arguments, Instruction, Line, Nested, Operand, Piece};
+use iluses::port_of;
 use std::alloc::{AllocError, Global};
 use std::marker::Model;
 
@@ -26,7 +26,7 @@ pub(crate) struct Numbering<'a, 's, 't> {
 }
 
 impl<'a, 's, 't> Model for Numbering<'a, 's, 't> {
-    ghost use Rattle.std.specs.Prelude.{◌≡◌, ◌+◌, ◌≤◌, ◌^◌, ◌<◌, length, slice_get, Some};
+    ghost use Rattle.std.specs.Prelude.{◌≡◌, ◌+◌, ◌^◌, ◌<◌, length, slice_get, Some};
     ghost use Rattle.std.specs.Prelude.{List};
     ghost use Rattle.std.specs.Coded.{codes, code_by};
     ghost use Rattle.iltrees.specs.declared.nested.Piece.{Piece};

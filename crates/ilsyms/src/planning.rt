@@ -12,11 +12,11 @@ ghost use Rattle.ilsyms.specs.PlanningSteps.{SetsWhere, is_of_instance};
 ghost use Rattle.ilsyms.specs.Resolved.{planned_instances};
 ghost use Rattle.ilsyms.specs.Variables.{blocks_of, lines_of, slots_of};
 
-use crate::labels::number_labels;
 use crate::numbering::Numbering;
 use crate::tasks::{TaskInstance, program_of};
 use ilplan::{FunctionBlock, ProgramInstance, Slot, SlotOwner};
 use ilscope::Scope;
+use iluses::number_labels;
 use std::alloc::{AllocError, Global};
 
 /// The program instances of a task, each with a name of its own, over the places of the task's

@@ -3,7 +3,6 @@
 ghost use Rattle.std.specs.Prelude.{◌≡◌, ◌≤ℤ◌, ℕ, pos, IfOk, None, Some, map, option_map};
 ghost use Rattle.std.specs.Prelude.{slice_get};
 ghost use Rattle.std.specs.Prelude.{◌<◌, length, string_bytes};
-ghost use Rattle.ilscope.specs.Configured.{global_number};
 ghost use Rattle.ilsyms.specs.Faults.{IsWellNamed};
 ghost use Rattle.ilsyms.specs.TaskSteps.{AreInstancesOfTask, AreInstancesOfTasks, AreThere};
 ghost use Rattle.ilsyms.specs.TaskSteps.{instances_of, task_with};
@@ -20,6 +19,7 @@ use binding::Binding;
 use ilplan::{Activation, DeclaredName, Plan, Task};
 use ilscope::Scope;
 use ilsource::{Configuration, TaskDeclaration};
+use iluses::trigger_number;
 use std::alloc::{AllocError, Global};
 
 /// The interval of the task `main`, in milliseconds (profile).
@@ -123,7 +123,7 @@ fn activation_of(scope: &Scope<'_>, declared: TaskDeclaration) -> Activation
 {
     match declared.single {
         Some(trigger) => Activation::Event {
-            trigger: scope.global_number(trigger).unwrap_or(0),
+            trigger: trigger_number(scope, trigger),
         },
         None => Activation::Cyclic {
             interval: declared.interval.unwrap_or(0),

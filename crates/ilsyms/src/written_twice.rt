@@ -1,6 +1,6 @@
 //! Global variables that two tasks store to.
 
-ghost use Rattle.std.specs.Prelude.{◌≡◌, ◌<◌, All, IfOk, length, map};
+ghost use Rattle.std.specs.Prelude.{◌≡◌, IfOk, length, map};
 ghost use Rattle.ildeclared.specs.Faults.{IsLeastOf, OfCause};
 ghost use Rattle.ildeclared.specs.declared.fault.NameCause.TheVariants.{WrittenTwice};
 ghost use Rattle.ilscope.specs.Configured.{globals_of};
@@ -11,10 +11,10 @@ ghost use Rattle.ilsyms.specs.TaskSetSteps.{AreSetsOf};
 ghost use Rattle.ilsyms.specs.WrittenTwiceSteps.{HasInstance, StoresBefore};
 ghost use Rattle.ilsyms.specs.declared.task_sets.TaskSet.TheVariants.{Several};
 
-use crate::stored::stored_globals;
 use crate::task_sets::{TaskSet, add_tasks, empty_sets};
 use crate::tasks::{TaskInstance, TaskInstances};
 use ilscope::{DeclaredGlobal, Found, NameCause, Scope, lesser_of};
+use iluses::stored_globals;
 use std::alloc::{AllocError, Global};
 
 /// The least fault of a global variable that two tasks store to. The lines of each program are read

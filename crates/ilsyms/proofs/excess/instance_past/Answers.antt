@@ -6,7 +6,7 @@ use Rattle.ilsource.specs.Configurations.{Configured}
 use Rattle.ilsource.specs.Trees.{Tree}
 use Rattle.ilsource.specs.declared.configuration.InstanceDeclaration.{InstanceDeclaration}
 use Rattle.ilsource.specs.declared.name.Name.{Name}
-use Rattle.ilscope.specs.Declarations.{DeclaredProgram, declared_programs}
+use Rattle.ilscope.specs.Declarations.{declared_programs, DeclaredProgram}
 use Rattle.ilsyms.proofs.ExcessFaults.{places_of_names}
 use Rattle.ilsyms.proofs.excess.instance_past.Goals as goal
 

@@ -10,9 +10,9 @@ use Rattle.ildeclared.specs.declared.global.DeclaredGlobal.{DeclaredGlobal}
 use Rattle.ilplan.specs.Plans.{PlannedInstance}
 use Rattle.ilplan.specs.declared.slot.Slot.{Slot}
 use Rattle.ilplan.specs.declared.instance.FunctionBlock.{FunctionBlock}
+use Rattle.iluses.specs.Labels.{AreNumbered}
 use Rattle.ilsyms.specs.declared.tasks.TaskInstance.{TaskInstance}
 use Rattle.ilsyms.specs.TaskSteps.{instances_of}
-use Rattle.ilsyms.specs.LabelSteps.{AreNumbered}
 use Rattle.ilsyms.specs.NumberingSteps.{AreGlobalSlots}
 use Rattle.ilsyms.specs.PlanningSteps.{is_of_instance}
 use Rattle.ilsyms.specs.Resolved.{planned_instance}

@@ -2,8 +2,8 @@ use Rattle.std.proofs.Common.{◌≡◌, ◌<◌, ◌≤◌, length, ap, sym, �
 use Rattle.std.specs.Prelude.{Some, option_map}
 use Rattle.std.proofs.lemmas.Simd.{map-map}
 use Rattle.std.proofs.lemmas.List.{map-append, take_all}
-use Rattle.ildeclared.proofs.Least.{take_more, got_at}
-use Rattle.ilscope.specs.Declarations.{DeclaredProgram, declared_programs}
+use Rattle.ildeclared.proofs.Least.{got_at, take_more}
+use Rattle.ilscope.specs.Declarations.{declared_programs, DeclaredProgram}
 use Rattle.ilsource.specs.Programs.{Written}
 use Rattle.ilsyms.specs.declared.tasks.TaskInstance.{TaskInstance}
 use Rattle.ilsyms.specs.TaskSteps.{instance_at}

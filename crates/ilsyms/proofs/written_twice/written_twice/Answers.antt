@@ -7,9 +7,9 @@ use Rattle.ildeclared.specs.declared.fault.NameCause.TheVariants.{WrittenTwice}
 use Rattle.ildeclared.specs.declared.global.DeclaredGlobal.{DeclaredGlobal}
 use Rattle.ildeclared.proofs.Least.{of_one_cause}
 use Rattle.ilscope.specs.Configured.{globals_of}
+use Rattle.ilscope.specs.Declarations.{declared_programs}
 use Rattle.ilsyms.specs.Faults.{AreTwoStoring}
 use Rattle.ilsyms.specs.WrittenTwiceSteps.{StoresBefore}
-use Rattle.ilscope.specs.Declarations.{declared_programs}
 use Rattle.ilsyms.proofs.WrittenTwiceFaults.{two_more}
 use Rattle.ilsyms.proofs.WrittenTwiceTasks.{set_at}
 use Rattle.ilsyms.proofs.written_twice.written_twice.Goals as goal

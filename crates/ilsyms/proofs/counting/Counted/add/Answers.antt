@@ -1,7 +1,6 @@
 use Rattle.std.proofs.Common.{refl, sym, ◌∙◌, arith}
 use Rattle.ilsyms.proofs.CountingUses.{name_counted, last_constant, other_constant}
 use Rattle.ilsyms.proofs.counting.Counted.add.Goals as goal
-use Rattle.ilsyms.proofs.counting.Counted.add.Goals.{}
 use Rattle.ilsyms.proofs.counting.Counted.add.Goals.{else-known-eq-MOST_CONSTANTS-via-then-known-eq-MOST_CONSTANTS+else-known-len}
 use Rattle.ilsyms.proofs.counting.Counted.add.Goals.{else-known-eq-MOST_CONSTANTS-via-else-known-eq-MOST_CONSTANTS}
 

@@ -7,11 +7,12 @@ use Rattle.iltrees.specs.declared.uses.Use.{Use}
 use Rattle.ilsource.specs.Programs.{Written}
 use Rattle.ilsource.specs.declared.symbol.Symbol.{Symbol}
 use Rattle.ilscope.specs.Declarations.{DeclaredProgram}
+use Rattle.iluses.specs.Uses.{uses_of}
 use Rattle.ilsyms.specs.CountingSteps.{AreCounted}
 use Rattle.ilsyms.specs.TaskSteps.{instances_of}
 use Rattle.ilsyms.specs.Tasks.{NamedProgram}
 use Rattle.ilsyms.specs.declared.tasks.TaskInstance.{TaskInstance}
-use Rattle.ilsyms.specs.Variables.{lines_of, uses_of}
+use Rattle.ilsyms.specs.Variables.{lines_of}
 use Rattle.ilsyms.proofs.CountingUses.{none_counted}
 use Rattle.ilsyms.proofs.CountingPrograms.{counted_kept, counted_more, none_seen, seen_kept, seen_more}
 use Rattle.ilsyms.proofs.TaskInstances.{as_many, number_there, program_there}

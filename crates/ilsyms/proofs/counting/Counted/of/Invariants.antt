@@ -1,8 +1,9 @@
 use Rattle.std.proofs.Common.{◌≡◌, length, take}
 use Rattle.ilscope.specs.Declarations.{declared_programs}
+use Rattle.iluses.specs.Uses.{uses_of}
 use Rattle.ilsyms.specs.CountingSteps.{AreCounted, AreSeen}
 use Rattle.ilsyms.specs.TaskSteps.{instances_of}
-use Rattle.ilsyms.specs.Variables.{lines_of, uses_of}
+use Rattle.ilsyms.specs.Variables.{lines_of}
 use Rattle.ilsyms.proofs.counting.Counted.of.Given as goal
 
 abbrev pub invariant-loop-instance : goal.invariant-loop-instance

@@ -1,5 +1,5 @@
 use Rattle.std.proofs.Common.{arith, sym, ◌∙◌}
-use Rattle.ilsyms.proofs.PortNumbers.{port_below}
+use Rattle.ilsyms.proofs.NumberingPorts.{port_below}
 use Rattle.ilsyms.proofs.numbering.Numbering.port.Goals as goal
 
 pub overflow_cast-result : goal.overflow_cast-result

@@ -2,8 +2,8 @@ use Rattle.std.proofs.Common.{◌<◌, ◌^◌, arith, sym, ◌∙◌, length, s
 use Rattle.std.specs.Prelude.{bytes_eq}
 use Rattle.ilsource.specs.Names.{folded}
 use Rattle.ildeclared.specs.declared.variable.DeclaredVariable.{DeclaredVariable}
-use Rattle.ilplan.specs.declared.slot.Slot.{Slot}
 use Rattle.ilscope.specs.Configured.{global_number}
+use Rattle.ilplan.specs.declared.slot.Slot.{Slot}
 use Rattle.ilsyms.specs.Meaning.{is_global}
 use Rattle.ilsyms.specs.NumberingSteps.{Numbering}
 use Rattle.ilsyms.proofs.NumberingPlaces.{within}

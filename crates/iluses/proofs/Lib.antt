@@ -1,0 +1,9 @@
+pub mod ArgumentPorts
+pub mod JumpFaults
+pub mod LabelNumbers
+pub mod Lists
+pub mod PortNumbers
+pub mod SameNames
+pub mod StoredExternals
+pub mod StoredGlobals
+pub mod UseFaults

@@ -1,0 +1,14 @@
+use Rattle.std.proofs.Common.{take}
+use Rattle.ildeclared.specs.Faults.{IsLeastOf, SomeOf}
+use Rattle.ilscope.specs.Declarations.{declared_programs}
+use Rattle.iluses.specs.Faults.{IsFaultAtUses}
+use Rattle.iluses.specs.Uses.{uses_of}
+use Rattle.iluses.proofs.uses.fault_at_uses.Given as goal
+
+abbrev pub invariant-loop-number : goal.invariant-loop-number
+invariant-loop-number l =
+    IsLeastOf
+    (λ place cause.
+    SomeOf (λ p. IsFaultAtUses l.fn.scope.tree p (uses_of p.program.lines) place cause)
+    (take l.number (declared_programs l.fn.scope.tree)))
+    l.least

@@ -1,0 +1,16 @@
+-- How the labels of a program's lines are kept, one line after another.
+use Rattle.std.specs.Prelude.{◌≡◌, ℕ, List, Option, Some, None, IsSome, IsSomeAnd, bytes_eq}
+use Rattle.std.specs.Map.{lookup}
+use Rattle.ilsource.specs.declared.name.Name.{Name}
+use Rattle.ilsource.specs.Names.{folded}
+use Rattle.ildeclared.specs.Kept.{Kept, with_new}
+
+-- with the number of this line, where it has a label and that is new
+abbrev pub with_label : List ℕ → Kept ℕ → Option Name → ℕ → Kept ℕ
+with_label text kept None number = kept
+with_label text kept (Some label) number = with_new kept (folded text label) number
+
+-- there is a label, at the place, and it is kept already
+abbrev pub IsKeptLabel : List ℕ → Kept ℕ → Option Name → ℕ → Type 0
+IsKeptLabel text kept label place =
+    IsSomeAnd label (λ l. IsSome (lookup (bytes_eq (folded text l)) kept) × (place ≡ l.from))

@@ -1,0 +1,6 @@
+pub mod Faults
+pub mod JumpSteps
+pub mod LabelSteps
+pub mod Labels
+pub mod SameNames
+pub mod Uses

@@ -1,0 +1,65 @@
+//! Labels of lines, looked up by hashing.
+
+ghost use Rattle.std.specs.Prelude.{◌≡◌, IfOk, OnOk};
+ghost use Rattle.ilsource.specs.Names.{folded};
+ghost use Rattle.ildeclared.specs.Faults.{IsLeastOf, OfCause};
+ghost use Rattle.ildeclared.specs.declared.fault.NameCause.TheVariants.{Twice};
+ghost use Rattle.ilscope.specs.Faults.{IsTwiceIn};
+ghost use Rattle.iluses.specs.Faults.{labels_of};
+ghost use Rattle.iluses.specs.Labels.{AreNumbered};
+ghost use Rattle.iluses.specs.LabelSteps.{IsKeptLabel, with_label};
+
+use ilscope::{Found, NameCause, Names, Scope, lesser_of};
+use ilsource::{Name, Symbol};
+use iltrees::Line;
+use std::alloc::{AllocError, Global};
+
+/// Under each label of one program's lines the number of the first line that has it, and the least
+/// fault of a label that is given again.
+///
+/// # Errors
+///
+/// The allocator is out of memory.
+pub fn number_labels(
+    alloc: Global,
+    scope: &Scope<'_>,
+    lines: &[Line<Symbol, Name>],
+) -> Result<(Names<usize>, Option<Found>), AllocError>
+    ensures numbers { IfOk result (λ r. AreNumbered scope.now.tree.text lines.now r.0) }
+    ensures twice { IfOk result (λ r.
+        IsLeastOf (OfCause Twice
+        (IsTwiceIn (folded scope.now.tree.text) (labels_of lines.now))) r.1) }
+{
+    let mut numbers = Names::new(alloc);
+    let mut least = None;
+    for (number, line) in lines.iter().enumerate() {
+        let again = add_name(alloc, scope, &mut numbers, line.label, number)?;
+        least = lesser_of(least, again);
+    }
+    Ok((numbers, least))
+}
+
+/// Adds a number under a name where there is one and it is new, and else gives the name's fault.
+pub(crate) fn add_name(
+    alloc: Global,
+    scope: &Scope<'_>,
+    numbers: &mut Names<usize>,
+    name: Option<Name>,
+    number: usize,
+) -> Result<Option<Found>, AllocError>
+    ensures numbers { OnOk result
+        (numbers.new ≡ with_label scope.now.tree.text numbers.old name number) }
+    ensures twice { IfOk result (λ again. IsLeastOf
+        (OfCause Twice (IsKeptLabel scope.now.tree.text numbers.old name)) again) }
+{
+    let Some(name) = name else {
+        return Ok(None);
+    };
+    if numbers.add(alloc, scope.spelling(name), number)? {
+        return Ok(None);
+    }
+    Ok(Some(Found {
+        at: name.from,
+        cause: NameCause::Twice,
+    }))
+}

@@ -1,0 +1,29 @@
+//! What the lines of a source program name, and what stands against each line.
+//!
+//! What crosses the boundary: of a [`Scope`](ilscope::Scope), what lines use, the numbers of their
+//! labels and ports and of a task's trigger, the global variables that they store to, and the least
+//! fault at what lines use ([`fault_at_uses`]) and of lines as such ([`fault_of_lines`]). The
+//! definitions to be read first are `IsFaultAtUses` and `IsFaultOfLines` (specs/Faults.antt).
+//!
+//! ```text
+//! let used = fault_at_uses(alloc, &scope)?; // or None
+//! let (labels, _) = number_labels(alloc, &scope, program.lines())?;
+//! ```
+#![tactic(auto)]
+
+mod arguments;
+mod jumps;
+mod labels;
+mod lines;
+mod ports;
+mod stored;
+mod triggers;
+mod unknown;
+mod uses;
+
+pub use labels::number_labels;
+pub use lines::fault_of_lines;
+pub use ports::port_of;
+pub use stored::stored_globals;
+pub use triggers::trigger_number;
+pub use uses::{fault_at_uses, uses_of};

@@ -1,0 +1,70 @@
+//! Ports of block instances.
+
+ghost use Rattle.std.specs.Prelude.{◌≡◌, ◌<◌, Some, length, slice_get};
+ghost use Rattle.ildeclared.specs.Faults.{IsLeastOf, OfCause};
+ghost use Rattle.ildeclared.specs.declared.fault.NameCause.TheVariants.{WritesInput};
+ghost use Rattle.ilscope.specs.Declarations.{declared_programs, DeclaredProgram};
+ghost use Rattle.iluses.specs.Faults.{place_of_port, port_number, writes, WritesOutput};
+
+use ilblocks::BlockKind;
+use ilscope::{Found, NameCause, Scope};
+use ilsource::{Name, Symbol};
+use iltrees::{Operand, Purpose, Use};
+
+/// The kind of a block instance of the program with this number, and the number of its port of this
+/// name; none where there is no such port.
+pub fn port_of(
+    scope: &Scope<'_>,
+    number: usize,
+    block: Name,
+    port: Name,
+) -> Option<(BlockKind, usize)>
+    requires { number < length (declared_programs scope.now.tree) }
+    ensures { (p : DeclaredProgram) → slice_get (declared_programs scope.now.tree) number ≡ Some p
+        → result ≡ port_number scope.now.tree.text p block port }
+{
+    let (_, kind) = scope.block(number, block)?;
+    let port = kind.port_named(port.text(scope.source().text()))?;
+    Some((kind, port))
+}
+
+/// The place of a port at fault: its own name as that of an argument, else the block's.
+pub(crate) fn place_of_port(purpose: Purpose, block: Name, port: Name) -> usize
+    ensures { result ≡ place_of_port purpose block port }
+{
+    match purpose {
+        Purpose::Pass => port.from,
+        _ => block.from,
+    }
+}
+
+/// The fault of a use that stores to an output, in the program with this number.
+pub(crate) fn output_written(scope: &Scope<'_>, number: usize, used: Use<Symbol>) -> Option<Found>
+    requires { number < length (declared_programs scope.now.tree) }
+    ensures { (p : DeclaredProgram) → slice_get (declared_programs scope.now.tree) number ≡ Some p
+        → IsLeastOf
+        (OfCause WritesInput (λ place. WritesOutput scope.now.tree.text p place used)) result }
+{
+    let Operand::Name(Symbol::Port { block, port }) = used.operand else {
+        return None;
+    };
+    if !writes(used.purpose) {
+        return None;
+    }
+    let (kind, place) = port_of(scope, number, block, port)?;
+    // Whether a port is an input does not depend on the number of buses.
+    if kind.input_type(1, place).is_some() {
+        return None;
+    }
+    Some(Found {
+        at: place_of_port(used.purpose, block, port),
+        cause: NameCause::WritesInput,
+    })
+}
+
+/// Whether what is used so is stored to.
+fn writes(purpose: Purpose) -> bool
+    ensures { result ≡ writes purpose }
+{
+    matches!(purpose, Purpose::Write | Purpose::Pass)
+}
