@@ -1,12 +1,9 @@
 -- Scans one after another (IEC 61131-3, 2.7.2).
 use Rattle.std.specs.Prelude.{◌≡◌, ℕ, ◌*◌, zero, suc, Some, slice_get, List, [], ◌∷◌, ◌++◌, length}
-use Rattle.std.specs.Prelude.{if◌then◌else◌}
 use Rattle.iltypes.specs.declared.value.Value.{Value}
-use Rattle.gearcmd.specs.declared.requests.TaskKind.{TaskKind}
-use Rattle.gearcmd.specs.declared.requests.TaskKind.TheVariants.{Cyclic, Event}
 use Rattle.ilblocks.specs.Calls.{Block}
 use Rattle.ilblocks.specs.Stores.{Store, Lasting, lasting_of, store_at, blocks_at_first}
-use Rattle.ilplan.specs.Plans.{PlannedTask, first_values, is_event, kinds_of}
+use Rattle.ilplan.specs.Plans.{PlannedTask, first_values, kinds_of}
 use Rattle.ilverify.specs.Verdicts.{Accepted}
 use Rattle.ilmachine.specs.Scans.{IsScan}
 use Rattle.ilsetup.specs.Loaded.{Loaded}
@@ -34,10 +31,6 @@ lasting slots blocks = record { slots = slots; blocks = blocks }
 -- are at their start
 abbrev pub lasting_at_first : PlannedTask → Lasting
 lasting_at_first task = lasting (first_values task) (blocks_at_first (kinds_of task))
-
--- what starts the task
-abbrev pub kind_of : PlannedTask → TaskKind
-kind_of task = if is_event task.activation then Event else Cyclic
 
 -- scans of the task of this number by its code
 pub record AreScansOf (setup : Loaded) (number scans every : ℕ) (each : List Taking) (left : Lasting) : Type 0 where

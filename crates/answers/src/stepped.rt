@@ -44,8 +44,8 @@ impl Model for Stepped {
 impl Stepped {
     ghost use Rattle.std.specs.Prelude.{◌≡◌, ◌<◌, length, slice_get, Some, option_map};
     ghost use Rattle.std.specs.Prelude.{option_and_then};
-    ghost use Rattle.ilplan.specs.Plans.{instance_name, slot_at, variable_name};
-    ghost use Rattle.answers.specs.Stepping.{HasTask, Run, kind_of, run_of};
+    ghost use Rattle.ilplan.specs.Plans.{instance_name, slot_at, task_kind, variable_name};
+    ghost use Rattle.answers.specs.Stepping.{HasTask, Run, run_of};
 
     /// These scans of the task of this number.
     pub fn new(setup: Setup, task: usize, scans: Scans) -> Stepped
@@ -93,14 +93,10 @@ impl Stepped {
 
     /// What starts the task.
     pub fn task_kind(&self) -> TaskKind
-        ensures { option_map kind_of (slice_get self.now.setup.plan.tasks self.now.task)
-            ≡ Some result }
+        ensures { option_map (λ t. task_kind t.activation)
+            (slice_get self.now.setup.plan.tasks self.now.task) ≡ Some result }
     {
-        if self.setup.plan().is_event(self.task) {
-            TaskKind::Event
-        } else {
-            TaskKind::Cyclic
-        }
+        self.setup.plan().kind(self.task)
     }
 
     /// The requests of the scan of this number, in order.

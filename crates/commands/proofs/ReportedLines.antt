@@ -11,8 +11,6 @@ use Rattle.ilverify.specs.Verdicts.{Accepted}
 use Rattle.answers.specs.Printed.{printed_task, printed_request, printed_variable}
 use Rattle.gearcmd.specs.declared.requests.Request.{Request}
 use Rattle.gearcmd.specs.declared.requests.TaskKind.{TaskKind}
-use Rattle.answers.specs.Taking.{Taking}
-use Rattle.answers.specs.Stepping.{kind_of}
 use Rattle.commands.specs.Reports.{ended, first_lines, first_texts, line_of, of_both, request_lines}
 
 -- a list, and then another
@@ -42,17 +40,6 @@ one_request_more a b c task requests i r before last within is =
     let line = λ (request : Request). ended (printed_request request task) in
     let one = flat_map_more line [] (take i requests) r in
     rw (more, sym is, sym one) (appended a b c _ _ before last)
-
--- a scan's requests are those of its task
-pub requests_are : (o : Option Taking) (p : Option PlannedTask) (requests : List Request) (task : TaskKind)
-    → option_map (λ taken. taken.requests) o ≡ Some requests → option_map kind_of p ≡ Some task
-    → of_both (λ taken t. request_lines (kind_of t) taken.requests) o p ≡ request_lines task requests
-requests_are None p requests task asked of_task = absurd (cc)
-requests_are (Some taken) None requests task asked of_task = absurd (cc)
-requests_are (Some taken) (Some t) requests task asked of_task =
-    let r : taken.requests ≡ requests = cc in
-    let k : kind_of t ≡ task = cc in
-    rw (r, k) refl
 
 pub task_is : (o : Option PlannedTask) (p : Option Accepted) (name : List ℕ) (words bound : ℕ)
     → option_map (λ t. t.name) o ≡ Some name → option_map (λ a. length a.code.instructions) p ≡ Some words

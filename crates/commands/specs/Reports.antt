@@ -7,7 +7,7 @@ use Rattle.gearcmd.specs.declared.requests.Request.{Request}
 use Rattle.gearcmd.specs.declared.requests.TaskKind.{TaskKind}
 use Rattle.iltypes.specs.declared.value.Value.{Value}
 use Rattle.ilplan.specs.declared.slot.SlotOwner.{SlotOwner}
-use Rattle.ilplan.specs.Plans.{Planned, instance_name, slot_at, variable_name}
+use Rattle.ilplan.specs.Plans.{Planned, instance_name, slot_at, task_kind, variable_name}
 use Rattle.ilsetup.specs.Loaded.{Loaded}
 use Rattle.answers.specs.declared.answers.Answer.{Answer}
 use Rattle.answers.specs.declared.answers.Answer.TheVariants as answers
@@ -17,7 +17,7 @@ use Rattle.exits.specs.declared.exit_status.ExitStatus.TheVariants.{Accepted}
 use Rattle.exits.specs.ExitStatuses.{status_of_stop}
 use Rattle.answers.specs.Printed.{printed_task, printed_scan, printed_request, printed_variable}
 use Rattle.answers.specs.Responses.{IsAnswer}
-use Rattle.answers.specs.Stepping.{Run, kind_of}
+use Rattle.answers.specs.Stepping.{Run}
 use Rattle.answers.specs.Stops.{printed_stop}
 
 -- the first of these texts, one after another
@@ -59,7 +59,7 @@ request_lines task requests = flat_map (λ request. ended (printed_request reque
 -- the lines of the requests of the scan of this number
 abbrev pub requests_of_scan : Run → ℕ → List ℕ
 requests_of_scan made number =
-    of_both (λ taken task. request_lines (kind_of task) taken.requests)
+    of_both (λ taken task. request_lines (task_kind task.activation) taken.requests)
     (slice_get made.each number)
     (slice_get made.setup.plan.tasks made.task)
 

@@ -21,6 +21,8 @@ use Rattle.iltrees.specs.Uses.{uses_in}
 use Rattle.iltrees.specs.Words.{words_of_lines, AreShallow}
 use Rattle.ilsource.specs.declared.name.Name.{Name}
 use Rattle.ilsource.specs.Names.{text_of}
+use Rattle.gearcmd.specs.declared.requests.TaskKind.{TaskKind}
+use Rattle.gearcmd.specs.declared.requests.TaskKind.TheVariants as kinds
 use Rattle.ilblocks.specs.declared.kind.BlockKind.{BlockKind}
 use Rattle.ilblocks.specs.Stores.{Shape}
 use Rattle.ilplan.specs.declared.activation.Activation.{Activation}
@@ -37,10 +39,10 @@ use Rattle.ilplan.specs.declared.place.Place.{Place}
 use Rattle.ilplan.specs.declared.place.Place.TheVariants as places
 use Rattle.ilplan.specs.Constants.{different_constants}
 
--- an event starts the task, and not the clock
-abbrev pub is_event : Activation → Bool
-is_event (Cyclic interval) = false
-is_event (Event trigger) = true
+-- the kind of a task by what starts it: a cyclic one by the clock, an event task by an event
+abbrev pub task_kind : Activation → TaskKind
+task_kind (Cyclic interval) = kinds.Cyclic
+task_kind (Event trigger) = kinds.Event
 
 -- no program stores to what is located there: all but the levels of control gear
 abbrev pub is_input : Location → Bool

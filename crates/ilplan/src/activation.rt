@@ -1,5 +1,7 @@
 //! What starts a task.
 
+use gearcmd::TaskKind;
+
 /// What starts a task (IEC 61131-3, 2.7.2).
 #[derive(Clone, Copy, PartialEq, Eq)]
 pub enum Activation {
@@ -11,12 +13,15 @@ pub enum Activation {
 
 impl Activation {
     ghost use Rattle.std.specs.Prelude.{◌≡◌};
-    ghost use Rattle.ilplan.specs.Plans.{is_event};
+    ghost use Rattle.ilplan.specs.Plans.{task_kind};
 
-    /// Whether an event starts the task, and not the clock.
-    pub fn is_event(self) -> bool
-        ensures value { result ≡ is_event self }
+    /// The kind of the task that it starts.
+    pub fn kind(self) -> TaskKind
+        ensures value { result ≡ task_kind self }
     {
-        matches!(self, Activation::Event { .. })
+        match self {
+            Activation::Cyclic { .. } => TaskKind::Cyclic,
+            Activation::Event { .. } => TaskKind::Event,
+        }
     }
 }

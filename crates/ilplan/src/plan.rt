@@ -5,6 +5,7 @@ use crate::global::Global;
 use crate::slot::SlotOwner;
 use crate::task::Task;
 use binding::BoundSource;
+use gearcmd::TaskKind;
 use std::marker::Model;
 
 /// What a source program's tasks do, over slots in place of names. It has 1 to
@@ -40,7 +41,7 @@ impl Plan {
     ghost use Rattle.ilsource.specs.Names.{text_of};
     ghost use Rattle.iltypes.specs.Values.{AreOf};
     ghost use Rattle.ilplan.specs.Plans.{Planned, KeepsLimits, IsLawful, plan_of, slot_at};
-    ghost use Rattle.ilplan.specs.Plans.{is_event, first_values, types_of};
+    ghost use Rattle.ilplan.specs.Plans.{first_values, task_kind, types_of};
     ghost use Rattle.ilplan.specs.Plans.{IsTaskOf, IsThere, instance_name, variable_name};
 
     /// The plan of these tasks, whose names stand in `text`, on so many buses with these sources of
@@ -115,13 +116,13 @@ impl Plan {
         self.task(task).name()
     }
 
-    /// Whether an event starts a task, and not the clock.
-    pub fn is_event(&self, task: usize) -> bool
+    /// Whether the clock or an event starts a task.
+    pub fn kind(&self, task: usize) -> TaskKind
         requires { task < length self.now.tasks }
-        ensures value { option_map (λ t. is_event t.activation) (slice_get self.now.tasks task)
+        ensures value { option_map (λ t. task_kind t.activation) (slice_get self.now.tasks task)
             ≡ Some result }
     {
-        self.task(task).activation().is_event()
+        self.task(task).activation().kind()
     }
 
     /// The name of a task's slot, as declared.

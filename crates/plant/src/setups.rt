@@ -1,14 +1,13 @@
 //! What tasks are declared with.
 
 ghost use Rattle.std.specs.Prelude.{◌≡◌, ◌<◌, All, find, length, IfOk, option_map};
-ghost use Rattle.plantevents.specs.Plants.{Plant as Made, activator, kind_of, trigger_of};
+ghost use Rattle.plantevents.specs.Plants.{Plant as Made, activator, trigger_of};
 ghost use Rattle.taskset.specs.TaskSets.{AreSetups, HasInterval};
 ghost use Rattle.plant.specs.InputSteps.{is_bound_at};
 ghost use Rattle.plant.specs.TakingSteps.{trigger_place};
 
 use binding::BoundSource;
 use dalievent::EventSource;
-use gearcmd::TaskKind;
 use ilplan::{Activation, Location, Plan};
 use plantevents::Activator;
 use std::alloc::{AllocError, Global};
@@ -79,16 +78,5 @@ pub(crate) fn trigger_place(location: Option<Location>) -> Option<(u8, u8)>
     match location {
         Some(Location::Trigger { bus, source }) => Some((bus, source)),
         _ => None,
-    }
-}
-
-/// Whether the clock or an event starts a task.
-pub(crate) fn kind_of(plan: &Plan, task: usize) -> TaskKind
-    requires { task < length plan.now.tasks }
-    ensures value { (p : Made) → p.plan ≡ plan.now → result ≡ kind_of p task }
-{
-    match plan.task(task).activation() {
-        Activation::Cyclic { .. } => TaskKind::Cyclic,
-        Activation::Event { .. } => TaskKind::Event,
     }
 }

@@ -1,10 +1,9 @@
 -- The table of what is located at levels.
-use Rattle.std.proofs.Common.{◌≡◌, ℕ, zero, suc, ◌+◌, ◌<◌, Bool, true, false, ◌||◌, List, [], ◌∷◌, ◌++◌}
+use Rattle.std.proofs.Common.{◌≡◌, ℕ, zero, suc, ◌+◌, ◌<◌, Bool, true, false, List, [], ◌∷◌, ◌++◌}
 use Rattle.std.proofs.Common.{length, Some, None, refl, sym, ap, ◌∙◌, subst, arith, below_more, length-append}
 use Rattle.std.proofs.lemmas.List.{get_or_append_left}
 use Rattle.std.proofs.Math.Seq.{get_or-append_seam}
-use Rattle.std.specs.Prelude.{if◌then◌else◌, slice_get, slice_index_or, option_map}
-use Rattle.std.specs.List.{list_any}
+use Rattle.std.specs.Prelude.{if◌then◌else◌, find, slice_get, slice_index_or, option_map}
 use Rattle.plantevents.specs.Plants.{first_number}
 
 -- the test does not hold of the items below n
@@ -47,24 +46,22 @@ none_at test (x ∷ xs) before =
     (fails_first test x xs (length xs) before)
     ∙ ap (option_map (λ (m : ℕ). m + 1)) (none_at test xs (fails_later test x xs (length xs) before))
 
--- ---- whether the test holds of any
+-- ---- the first of which the test holds
 
-either_true : (a b : Bool) → b ≡ true → (a || b) ≡ true
-either_true true b is = refl
-either_true false b is = is
+pub find_at : {X : Type 0} (test : X → Bool) (xs : List X) (n : ℕ) → NoneBelow test xs n
+    → option_map test (slice_get xs n) ≡ Some true → find test xs ≡ slice_get xs n
+find_at test [] n before here = absurd (cc)
+find_at test (x ∷ xs) zero before here =
+    let yes : test x ≡ true = cc in ap (λ b. if b then Some x else find test xs) yes
+find_at test (x ∷ xs) (suc n) before here =
+    ap (λ b. if b then Some x else find test xs) (fails_first test x xs n before)
+    ∙ find_at test xs n (fails_later test x xs n before) here
 
-pub any_at : {X : Type 0} (test : X → Bool) (xs : List X) (n : ℕ) → option_map test (slice_get xs n) ≡ Some true
-    → list_any test xs ≡ true
-any_at test [] n here = absurd (cc)
-any_at test (x ∷ xs) zero here = let yes : test x ≡ true = cc in ap (λ b. b || list_any test xs) yes
-any_at test (x ∷ xs) (suc n) here = either_true (test x) (list_any test xs) (any_at test xs n here)
-
-pub any_none : {X : Type 0} (test : X → Bool) (xs : List X) → NoneBelow test xs (length xs)
-    → list_any test xs ≡ false
-any_none test [] before = refl
-any_none test (x ∷ xs) before =
-    ap (λ b. b || list_any test xs) (fails_first test x xs (length xs) before)
-    ∙ any_none test xs (fails_later test x xs (length xs) before)
+pub find_none : {X : Type 0} (test : X → Bool) (xs : List X) → NoneBelow test xs (length xs) → find test xs ≡ None
+find_none test [] before = refl
+find_none test (x ∷ xs) before =
+    ap (λ b. if b then Some x else find test xs) (fails_first test x xs (length xs) before)
+    ∙ find_none test xs (fails_later test x xs (length xs) before)
 
 -- ---- tables
 

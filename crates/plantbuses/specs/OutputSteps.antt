@@ -1,9 +1,9 @@
 -- What is kept of the global variables that are located at levels.
 use Rattle.std.specs.Prelude.{◌≡◌, ℕ, ◌<◌, ◌==◌, ◌&&◌, Bool, false, List, [], length, slice_index_or}
 use Rattle.std.specs.Prelude.{Option, Some, None, option_map}
-use Rattle.ilplan.specs.Plans.{Planned, PlannedTask, is_event}
+use Rattle.ilplan.specs.Plans.{Planned}
 use Rattle.ilimage.specs.declared.external.External.{External}
-use Rattle.plantevents.specs.Plants.{Plant, output_at, storing_kind, stores_global}
+use Rattle.plantevents.specs.Plants.{Plant, output_at, storing_kind}
 use Rattle.plantbuses.specs.declared.outputs.LevelOutput.{LevelOutput}
 
 -- a plant of the plan: what is located where does not hang on the codes and the workers
@@ -17,10 +17,6 @@ is_store_of global e = e.global == global && e.stored
 abbrev pub is_store_in : ℕ → Option External → Bool
 is_store_in global (Some e) = is_store_of global e
 is_store_in global None = false
-
--- an event task that stores to it
-abbrev pub is_event_store : ℕ → PlannedTask → Bool
-is_event_store global task = is_event task.activation && stores_global task global
 
 -- a global variable with the kind of the task that stores to it
 abbrev pub output_of : Plant → ℕ → LevelOutput

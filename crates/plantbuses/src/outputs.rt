@@ -1,10 +1,9 @@
 //! The global variables that are located at levels.
 
-ghost use Rattle.std.specs.Prelude.{◌≡◌, ◌<◌, length, slice_get, slice_index_or};
-ghost use Rattle.std.specs.Prelude.{IfOk, Some, None, option_map};
+ghost use Rattle.std.specs.Prelude.{◌≡◌, ◌<◌, length, slice_index_or, IfOk, None};
 ghost use Rattle.plantevents.specs.Plants.{is_level, output_at, stores_global, external_in};
-ghost use Rattle.plantevents.specs.Plants.{is_of_event, storing_kind};
-ghost use Rattle.plantbuses.specs.OutputSteps.{planned, is_store_in, is_event_store, level_output};
+ghost use Rattle.plantevents.specs.Plants.{storing_kind};
+ghost use Rattle.plantbuses.specs.OutputSteps.{planned, is_store_in, level_output};
 ghost use Rattle.plantbuses.specs.OutputSteps.{AreOutputsOf, OutputsFollow};
 
 use gearcmd::TaskKind;
@@ -97,35 +96,16 @@ fn stores_global(task: &Task, global: usize) -> bool
     false
 }
 
-/// Whether this is an event task that stores to the global variable.
-fn is_event_store(plan: &Plan, task: usize, global: usize) -> bool
-    requires { task < length plan.now.tasks }
-    ensures { option_map (is_event_store global) (slice_get plan.now.tasks task) ≡ Some result }
-{
-    plan.is_event(task) && stores_global(plan.task(task), global)
-}
-
-/// Whether an event task stores to the global variable.
-fn is_of_event(plan: &Plan, global: usize) -> bool
-    ensures { result ≡ is_of_event (planned plan.now) global }
-{
-    for task in 0..plan.tasks() {
-        if is_event_store(plan, task, global) {
-            return true;
-        }
-    }
-    false
-}
-
 /// The kind of the task that stores to the global variable.
 fn storing_kind(plan: &Plan, global: usize) -> TaskKind
     ensures { result ≡ storing_kind (planned plan.now) global }
 {
-    if is_of_event(plan, global) {
-        TaskKind::Event
-    } else {
-        TaskKind::Cyclic
+    for task in 0..plan.tasks() {
+        if stores_global(plan.task(task), global) {
+            return plan.kind(task);
+        }
     }
+    TaskKind::Cyclic
 }
 
 /// What is located at the level of an address.

@@ -1,6 +1,6 @@
 -- What a plant is made of, as its histories speak of it (IEC 61131-3, 2.4.3 and 2.7, and profile).
 use Rattle.std.specs.Prelude.{ℕ, ◌+◌, ◌==◌, ◌&&◌, Bool, false, List, [], ◌∷◌, ◌++◌, map, filter_map, find, slice_get}
-use Rattle.std.specs.Prelude.{Option, None, Some, option_map, option_and_then, option_to_list, if◌then◌else◌}
+use Rattle.std.specs.Prelude.{Option, None, Some, option_map, option_and_then, option_to_list, unwrap_or, if◌then◌else◌}
 use Rattle.std.specs.List.{list_any}
 use Rattle.iltypes.specs.declared.value.Value.{Value}
 use Rattle.dalievent.specs.declared.messages.EventSource.{EventSource}
@@ -13,7 +13,7 @@ use Rattle.ilplan.specs.declared.global.Location.TheVariants.{Level, Trigger}
 use Rattle.ilplan.specs.declared.slot.Slot.{Slot}
 use Rattle.ilplan.specs.declared.slot.SlotOwner as slots
 use Rattle.ilplan.specs.declared.slot.SlotOwner.TheVariants as slot
-use Rattle.ilplan.specs.Plans.{Planned, PlannedTask, is_event, stores}
+use Rattle.ilplan.specs.Plans.{Planned, PlannedTask, stores, task_kind}
 use Rattle.ilverify.specs.Verdicts.{Accepted}
 use Rattle.ilimage.specs.declared.external.External.{External}
 use Rattle.ilimage.specs.Images.{ProcessImage, TaskImage, Layout, image_of, layout_of, first_task}
@@ -71,10 +71,9 @@ priority_of None = 0
 abbrev pub priority : Plant → ℕ → ℕ
 priority p t = priority_of (task_at p t)
 
--- whether the clock or an event starts a task
+-- the kind of a task, and without one that of a cyclic task
 abbrev pub kind_by : Option PlannedTask → kinds.TaskKind
-kind_by (Some task) = if is_event task.activation then kind.Event else kind.Cyclic
-kind_by None = kind.Cyclic
+kind_by task = unwrap_or (option_map (λ t. task_kind t.activation) task) kind.Cyclic
 
 abbrev pub kind_of : Plant → ℕ → kinds.TaskKind
 kind_of p t = kind_by (task_at p t)
@@ -138,10 +137,6 @@ output_at p bus address = first_number (λ g. is_level bus address g.location) p
 abbrev pub stores_global : PlannedTask → ℕ → Bool
 stores_global task global = list_any (λ e. e.global == global && e.stored) (externals_of task)
 
--- an event task stores to it
-abbrev pub is_of_event : Plant → ℕ → Bool
-is_of_event p global = list_any (λ task. is_event task.activation && stores_global task global) p.plan.tasks
-
--- the kind of the task that stores to it
+-- the kind of the task that stores to it, the first if there are several, and without one that of a cyclic task
 abbrev pub storing_kind : Plant → ℕ → kinds.TaskKind
-storing_kind p global = if is_of_event p global then kind.Event else kind.Cyclic
+storing_kind p global = kind_by (find (λ task. stores_global task global) p.plan.tasks)

@@ -7,7 +7,6 @@ ghost use Rattle.plant.specs.Matches.{IsOpenScan, IsOwnScan};
 ghost use Rattle.plant.specs.CommitSteps.{IsOpenScanOf, IsScanOfTask};
 
 use super::Plant;
-use crate::setups::kind_of;
 use crate::writes::write_scan;
 use ilmachine::ScanResult;
 use plantbuses::{note_end, note_stores, offer_all};
@@ -68,7 +67,7 @@ impl Plant {
         };
         let number = scan.number();
         let noted = NotedResult::of(&scan);
-        let kind = kind_of(self.setup.plan(), task);
+        let kind = self.setup.plan().kind(task);
         offer_all(&mut self.buses, kind, scan.outbox());
         write_scan(&mut self.image, task, scan);
         note_stores(

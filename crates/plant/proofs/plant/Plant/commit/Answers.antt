@@ -1,11 +1,13 @@
 use Rattle.std.proofs.Common.{List, ◌∷◌, map, sym, ap, ◌∙◌, subst}
+use Rattle.std.specs.Prelude.{Option, slice_get, unwrap_or}
 use Rattle.gearcmd.specs.declared.requests.Request.{Request}
 use Rattle.gearcmd.specs.declared.requests.TaskKind.{TaskKind}
+use Rattle.gearcmd.specs.declared.requests.TaskKind.TheVariants.{Cyclic}
 use Rattle.ilplan.specs.declared.global.Global.{Global as GlobalVariable}
 use Rattle.ilplan.specs.Plans.{Planned}
 use Rattle.ilimage.specs.Images.{Layout}
 use Rattle.plantevents.specs.declared.event.Event.TheVariants.{Commit}
-use Rattle.plantevents.specs.Plants.{kind_of}
+use Rattle.plantevents.specs.Plants.{kind_by, kind_of}
 use Rattle.plantbuses.specs.KeptSteps.{BusesFollow}
 use Rattle.plantbuses.specs.StoreSteps.{AreTables, OwedBeside, externals_at}
 use Rattle.plantbuses.proofs.Offered.{AreOffered, buses_offered}
@@ -37,7 +39,7 @@ note_stores-requires c =
     let running = may.allowed.running in
     let imaged = c.write_scan.ensures plant w scan.number running h says.each_variable may.allowed.is_open may.task in
     let plan = c.plan-2.ensures.value in
-    let made : AreOffered c.kind_of-kind.result c.outbox.result.now p.buses.items c.offer_all.new.buses.items = record {
+    let made : AreOffered c.kind-kind.result c.outbox.result.now p.buses.items c.offer_all.new.buses.items = record {
       count = c.offer_all.ensures.count;
       waits = c.offer_all.ensures.waits;
       drops = c.offer_all.ensures.drops;
@@ -50,7 +52,7 @@ note_stores-requires c =
       count = says.each_owed.0 ∙ ap (λ (x : Planned). x.buses) (sym plan);
       tables = subst (λ (x : Planned). AreTables x c.deref.result.now c.deref-2.result.now) (sym plan)
           (rw (c.deref.ensures.value, c.deref-2.ensures.value)
-          (tables_offered plant h p.outputs.items c.kind_of-kind.result c.outbox.result.now p.buses.items
+          (tables_offered plant h p.outputs.items c.kind-kind.result c.outbox.result.now p.buses.items
           c.offer_all.new.buses.items says.each_output says.each_bus made));
     }
 
@@ -61,16 +63,17 @@ invariant_of-self c =
     let may = subst (λ (p : Shown). IsScanOfTask p w scan t) (sym c.self.view_is) c.in-Some.ensures.allowed in
     let running = may.allowed.running in let is_open = may.allowed.is_open in
     let before = p.buses.items in let after = c.offer_all.new.buses.items in
-    let kind = c.kind_of-kind.ensures.value plant (sym c.plan.ensures.value)
+    let kind = sym (ap (λ (k : Option TaskKind). unwrap_or k Cyclic) c.kind-kind.ensures.value)
+    ∙ ap (λ (plan : Planned). kind_by (slice_get plan.tasks t)) c.plan.ensures.value
     ∙ ap (kind_of plant) (sym may.task) in
-    let made : AreOffered c.kind_of-kind.result c.outbox.result.now before after = record {
+    let made : AreOffered c.kind-kind.result c.outbox.result.now before after = record {
       count = c.offer_all.ensures.count;
       waits = c.offer_all.ensures.waits;
       drops = c.offer_all.ensures.drops;
       same = c.offer_all.ensures.same;
     } in
     let offered = subst (λ (k : TaskKind). AreOffered k scan.after.requests before after) kind
-    (subst (λ (rs : List Request). AreOffered c.kind_of-kind.result rs before after) c.outbox.ensures.value made) in
+    (subst (λ (rs : List Request). AreOffered c.kind-kind.result rs before after) c.outbox.ensures.value made) in
     let imaged = c.write_scan.ensures plant w scan.number running h says.each_variable is_open may.task in
     let run = buses_offered plant w scan.number running scan h before after is_open says.each_bus offered in
     let later = Commit w scan.number scan ∷ h in
