@@ -19,9 +19,9 @@ use crate::scans::Scans;
 use crate::stepped::Stepped;
 use crate::stop::{AskedName, Stop};
 use binding::Binding;
-use commandline::Inquiry;
 use ilplan::Plan;
 use ilsetup::Setup;
+use invocations::Inquiry;
 use plantload::{load, plan_of, setup_of};
 use std::alloc::{AllocError, Global};
 
