@@ -2,26 +2,23 @@
 //!
 //! What crosses the boundary: files of rows, whose names are the words of the command line, and one
 //! line: how many rows hold and how many wrong ones don't, or the first one that is otherwise.
-//! README.md has their format; `judge` reads a row and compares, `wrong` has the rows that must not
-//! hold, and `machine` is the runtime that a row's commands run over; their threads are those of the
-//! program's own runtime. Nothing is proved of the rows themselves, and a row more costs no proof:
-//! `rows texts.rows` is a call.
+//! README.md has their format; `workedrows` reads a row and compares, `running` runs its command
+//! lines by `commands::run`, whose threads are those of the program's own runtime, and `wrong` has
+//! the rows that must not hold. Nothing is proved of the rows themselves, and a row more costs no
+//! proof: `rows texts.rows` is a call.
 #![tactic(auto)]
 
-mod body;
-mod difference;
-mod judge;
-mod machine;
+mod running;
 mod wrong;
 
-use difference::Stop;
-use judge::Judge;
+use running::judge_lines;
 use std::process::ExitCode;
 use std::rt::{Env, Files};
 use std::sync::Wait;
 use std::thread::Threads;
 use std::time::Clock as Timer;
 use std::{env, fs, io};
+use workedrows::{Judge, Stop};
 use wrong::refuse_rows;
 
 fn main(rt: HostRuntime) -> io::Result<ExitCode> {
@@ -46,26 +43,15 @@ fn main(rt: HostRuntime) -> io::Result<ExitCode> {
 fn judge_files<R: Files + Env + AllocGlobal + Threads + Wait + Timer + Sync>(
     rt: &R,
 ) -> Result<(u32, u32), Stop> {
-    let mut judge = Judge::new(rt.alloc(), rt);
+    let mut judge = Judge::new(rt.alloc());
     let mut wrong: u32 = 0;
     for path in env::args(rt)?.skip(1) {
         let text = fs::read_to_string(rt, path.as_str())?;
         if path.as_str().starts_with("wrong") {
             wrong = wrong.saturating_add(refuse_rows(rt.alloc(), rt, &text)?);
         } else {
-            judge_lines(&mut judge, &text)?;
+            judge_lines(&mut judge, rt, &text)?;
         }
     }
     Ok((judge.rows(), wrong))
-}
-
-/// Judges the rows of a file.
-fn judge_lines<T: Threads + Wait + Timer + Sync>(
-    judge: &mut Judge<'_, T>,
-    text: &str,
-) -> Result<(), Stop> {
-    for line in text.split('\n') {
-        judge.take_line(line)?;
-    }
-    judge.end_part()
 }

@@ -3,12 +3,12 @@
 //! Such a row is named for what the judge must say of it: the kind of the difference, ` at `, and
 //! the line that shows it, as `status at status 1`.
 
-use crate::difference::Stop;
-use crate::judge::Judge;
+use crate::running::judge_lines;
 use std::alloc::Global;
 use std::sync::Wait;
 use std::thread::Threads;
 use std::time::Clock as Timer;
+use workedrows::{Judge, Stop};
 
 /// How many rows a file has, where each is refused for what its name says.
 ///
@@ -34,11 +34,11 @@ fn refuse_row<T: Threads + Wait + Timer + Sync>(
     threads: &T,
     row: &str,
 ) -> Result<(), Stop> {
-    let name = match row.split_once('\n') {
-        Some((name, _)) => name,
-        None => row,
+    let (name, lines) = match row.split_once('\n') {
+        Some(parts) => parts,
+        None => (row, ""),
     };
-    let stop = match judge_row(alloc, threads, row) {
+    let stop = match judge_row(alloc, threads, name, lines) {
         Ok(()) => return Err(Stop::Held(String::from_str(alloc, name)?)),
         Err(stop) => stop,
     };
@@ -49,23 +49,16 @@ fn refuse_row<T: Threads + Wait + Timer + Sync>(
     }
 }
 
-/// Judges one row, whose first line is its name.
+/// Judges one row by itself, by its name and the lines after it.
 fn judge_row<T: Threads + Wait + Timer + Sync>(
     alloc: Global,
     threads: &T,
-    row: &str,
+    name: &str,
+    lines: &str,
 ) -> Result<(), Stop> {
-    let mut judge = Judge::new(alloc, threads);
-    let mut is_name = true;
-    for line in row.split('\n') {
-        if is_name {
-            judge.begin_row(line)?;
-            is_name = false;
-        } else {
-            judge.take_line(line)?;
-        }
-    }
-    judge.end_part()
+    let mut judge = Judge::new(alloc);
+    judge.begin_row(name)?;
+    judge_lines(&mut judge, threads, lines)
 }
 
 /// Whether a row is named for why it was refused.

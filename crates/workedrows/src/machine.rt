@@ -48,6 +48,13 @@ pub struct Machine<'a> {
     pub complained: RefCell<Vec<u8>>,
 }
 
+/// What was printed, and what was printed on standard error.
+#[derive(Drop)]
+pub struct Output {
+    pub printed: Vec<u8>,
+    pub complained: Vec<u8>,
+}
+
 /// A file that is read: the bytes that are left, and how it ends.
 #[derive(Drop)]
 pub struct Page<'a> {
@@ -70,6 +77,19 @@ impl<'a> Machine<'a> {
             terminal,
             printed: RefCell::new(Vec::new(alloc)),
             complained: RefCell::new(Vec::new(alloc)),
+        }
+    }
+
+    /// What was printed.
+    pub fn into_output(self) -> Output {
+        let Machine {
+            printed,
+            complained,
+            ..
+        } = self;
+        Output {
+            printed: printed.into_inner(),
+            complained: complained.into_inner(),
         }
     }
 

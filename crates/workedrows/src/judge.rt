@@ -1,13 +1,10 @@
 //! Reading rows line by line, running their commands, and comparing.
 
 use crate::body::{Body, bytes_of_hex};
+use crate::command_line::CommandLine;
 use crate::difference::{Difference, Stop};
-use crate::machine::{Machine, StoredFile, Terminal};
-use commands::run;
+use crate::machine::{Machine, Output, StoredFile, Terminal};
 use std::alloc::{AllocError, Global};
-use std::sync::Wait;
-use std::thread::Threads;
-use std::time::Clock as Timer;
 use std::{io, mem};
 
 /// What the lines that come are the body of.
@@ -35,16 +32,13 @@ enum Part {
 #[derive(Drop)]
 struct Outcome {
     status: u8,
-    printed: Vec<u8>,
-    complained: Vec<u8>,
+    output: Output,
 }
 
 /// What is known of the row that is read.
 #[derive(Drop)]
-pub struct Judge<'t, T> {
+pub struct Judge {
     alloc: Global,
-    /// The runtime whose threads the commands take.
-    threads: &'t T,
     rows: u32,
     /// The row's name.
     row: String,
@@ -58,12 +52,11 @@ pub struct Judge<'t, T> {
     body: Body,
 }
 
-impl<'t, T: Threads + Wait + Timer + Sync> Judge<'t, T> {
+impl Judge {
     /// A judge who has read nothing.
-    pub fn new(alloc: Global, threads: &'t T) -> Self {
+    pub fn new(alloc: Global) -> Self {
         Judge {
             alloc,
-            threads,
             rows: 0,
             row: String::new(alloc),
             files: Vec::new(alloc),
@@ -80,22 +73,36 @@ impl<'t, T: Threads + Wait + Timer + Sync> Judge<'t, T> {
         self.rows
     }
 
-    /// Takes the next line.
+    /// Takes the next line, and answers the command line that it has run, if it is such a line.
     ///
     /// # Errors
     ///
     /// The row doesn't hold, or the line is none of a row.
-    pub fn take_line(&mut self, line: &str) -> Result<(), Stop> {
+    pub fn take_line(&mut self, line: &str) -> Result<Option<CommandLine>, Stop> {
         if let Some(name) = line.strip_prefix("== ") {
-            return self.begin_row(name);
+            self.begin_row(name)?;
+            return Ok(None);
         }
         if self.rows == 0 {
-            return Ok(());
+            return Ok(None);
         }
         match line.strip_prefix("-- ") {
             Some(heading) => self.take_heading(heading),
-            None => self.take_body_line(line),
+            None => {
+                self.take_body_line(line)?;
+                Ok(None)
+            }
         }
+    }
+
+    /// A machine with this command line and the row's files.
+    pub fn machine<'a>(&'a self, line: &'a CommandLine) -> Machine<'a> {
+        Machine::new(self.alloc, line.words(), &self.files, self.terminal)
+    }
+
+    /// Notes how the command line ended: with this exit status, when this was printed.
+    pub fn note_end(&mut self, status: u8, output: Output) {
+        self.outcome = Some(Outcome { status, output });
     }
 
     /// Begins a row of this name.
@@ -114,20 +121,35 @@ impl<'t, T: Threads + Wait + Timer + Sync> Judge<'t, T> {
     }
 
     /// Takes a line that isn't one of a body alone.
-    fn take_heading(&mut self, heading: &str) -> Result<(), Stop> {
+    fn take_heading(&mut self, heading: &str) -> Result<Option<CommandLine>, Stop> {
         let (kind, rest) = match heading.split_once(' ') {
             Some(parts) => parts,
             None => (heading, ""),
         };
         if kind == "times" {
-            return self.take_times(heading, rest);
+            self.take_times(heading, rest)?;
+            return Ok(None);
         }
         self.end_part()?;
         self.heading = String::from_str(self.alloc, heading)?;
-        self.part = match (kind, rest) {
-            ("run", words) => return self.run_words(words),
-            ("status", status) => return self.compare_status(status),
-            ("terminal", words) => return self.break_outputs(words),
+        if kind == "run" {
+            return Ok(Some(CommandLine::of(self.alloc, rest)?));
+        }
+        self.part = self.part_of(kind, rest)?;
+        Ok(None)
+    }
+
+    /// What the lines below a heading are the body of.
+    fn part_of(&mut self, kind: &str, rest: &str) -> Result<Part, Stop> {
+        Ok(match (kind, rest) {
+            ("status", status) => {
+                self.compare_status(status)?;
+                Part::Comment
+            }
+            ("terminal", words) => {
+                self.break_outputs(words)?;
+                Part::Comment
+            }
             ("file", _) => Part::File,
             ("text", _) => Part::Text,
             ("hex", _) => Part::Hex,
@@ -136,8 +158,7 @@ impl<'t, T: Threads + Wait + Timer + Sync> Judge<'t, T> {
             ("stderr", "") => Part::Complained,
             ("stderr", "has") => Part::ComplainedParts,
             _ => return Err(self.difference(Difference::Line)?),
-        };
-        Ok(())
+        })
     }
 
     /// Takes a line that repeats another one.
@@ -227,24 +248,6 @@ impl<'t, T: Threads + Wait + Timer + Sync> Judge<'t, T> {
         Ok(())
     }
 
-    /// Runs a command line over the row's files.
-    fn run_words(&mut self, line: &str) -> Result<(), Stop> {
-        let words = words_of(self.alloc, line)?;
-        let machine = Machine::new(self.alloc, &words, &self.files, self.terminal);
-        let status = run(&machine, self.threads).number();
-        let Machine {
-            printed,
-            complained,
-            ..
-        } = machine;
-        self.outcome = Some(Outcome {
-            status,
-            printed: printed.into_inner(),
-            complained: complained.into_inner(),
-        });
-        Ok(())
-    }
-
     /// How the last command ended.
     fn outcome(&self) -> Result<&Outcome, Stop> {
         match &self.outcome {
@@ -265,7 +268,7 @@ impl<'t, T: Threads + Wait + Timer + Sync> Judge<'t, T> {
 
     /// Compares all that was printed.
     fn compare_printed(&self, wanted: &[u8]) -> Result<(), Stop> {
-        let found = &self.outcome()?.printed;
+        let found = &self.outcome()?.output.printed;
         if found.as_slice() == wanted {
             return Ok(());
         }
@@ -274,7 +277,7 @@ impl<'t, T: Threads + Wait + Timer + Sync> Judge<'t, T> {
 
     /// Looks for each of these lines among those that were printed.
     fn find_printed(&self, wanted: &[u8]) -> Result<(), Stop> {
-        let found = &self.outcome()?.printed;
+        let found = &self.outcome()?.output.printed;
         if each_line_stands(wanted, found) {
             return Ok(());
         }
@@ -283,7 +286,7 @@ impl<'t, T: Threads + Wait + Timer + Sync> Judge<'t, T> {
 
     /// Compares all that was printed on standard error.
     fn compare_complained(&self, wanted: &[u8]) -> Result<(), Stop> {
-        let found = &self.outcome()?.complained;
+        let found = &self.outcome()?.output.complained;
         if found.as_slice() == wanted {
             return Ok(());
         }
@@ -292,7 +295,7 @@ impl<'t, T: Threads + Wait + Timer + Sync> Judge<'t, T> {
 
     /// Looks for each of these lines in what was printed on standard error.
     fn find_complained(&self, wanted: &[u8]) -> Result<(), Stop> {
-        let complained = self.shown(&self.outcome()?.complained)?;
+        let complained = self.shown(&self.outcome()?.output.complained)?;
         for line in wanted.split(|byte| *byte == b'\n') {
             let Ok(line) = str::from_utf8(line) else {
                 return Err(self.difference(Difference::Line)?);
@@ -320,23 +323,6 @@ impl<'t, T: Threads + Wait + Timer + Sync> Judge<'t, T> {
             why,
         })
     }
-}
-
-/// The words of a line, none of an empty one; `{255}` stands for a word that isn't text.
-fn words_of(alloc: Global, line: &str) -> Result<Vec<Vec<u8>>, AllocError> {
-    let mut words = Vec::new(alloc);
-    if line.is_empty() {
-        return Ok(words);
-    }
-    for word in line.split(' ') {
-        let bytes: &[u8] = if word == "{255}" {
-            b"\xff"
-        } else {
-            word.as_bytes()
-        };
-        words.push(Vec::from_slice(alloc, bytes)?)?;
-    }
-    Ok(words)
 }
 
 /// Whether each line of `wanted` is a line of `printed`.

@@ -1,0 +1,25 @@
+//! Worked rows of a command line: reads them line by line, has their commands run on a machine that
+//! is held in memory, and compares.
+//!
+//! What crosses the boundary: the lines of rows go into a [`Judge`], who answers the
+//! [`CommandLine`] that is to be run next, makes the [`Machine`] for it, and is told how it ended;
+//! the first row that is otherwise is a [`Stop`]. The format is that of ../rows/README.md. Nothing
+//! is proved of the rows themselves, and a row more costs no proof.
+//!
+//! ```text
+//! if let Some(line) = judge.take_line("-- run check house.il")? {
+//!     let machine = judge.machine(&line); // run it, and judge.note_end(status, machine.into_output())
+//! }
+//! ```
+#![tactic(auto)]
+
+mod body;
+mod command_line;
+mod difference;
+mod judge;
+mod machine;
+
+pub use command_line::CommandLine;
+pub use difference::{Difference, Stop};
+pub use judge::Judge;
+pub use machine::{Machine, Output, Page, StoredFile, Terminal};
