@@ -209,6 +209,7 @@ commit_says p k w n result tasks image scans buses owed says may follows imaged 
   each_source = (says.each_source.0, λ i lt. record { counted = (says.each_source.1 i lt).counted });
   each_take = says.each_take;
   each_worker = shut;
+  each_input = says.each_input;
   each_output = says.each_output;
   each_owed = owes;
   each_bus = run;

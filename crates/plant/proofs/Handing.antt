@@ -78,6 +78,7 @@ hand_says p k b s t buses owed says may room follows run owes = record {
   each_take = says.each_take;
   each_worker = says.each_worker;
   each_bus = run;
+  each_input = says.each_input;
   each_output = says.each_output;
   each_owed = owes;
   each_place = says.each_place;

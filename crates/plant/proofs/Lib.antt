@@ -10,6 +10,7 @@ pub mod Fullness
 pub mod GivenInputs
 pub mod Growing
 pub mod Handing
+pub mod Indexed
 pub mod Overriding
 pub mod Owning
 pub mod Pending

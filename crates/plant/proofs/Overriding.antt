@@ -1,19 +1,19 @@
 -- The values under the overrides of an event task are those of its pending event.
-use Rattle.std.proofs.Common.{◌≡◌, ◌≢◌, ⊎_elim, ℕ, ◌+◌, ◌<◌, ◌≤◌, Bool, true, false, eqb, List, [], ◌∷◌, ◌++◌}
-use Rattle.std.proofs.Common.{length, Option, Some, None, refl, sym, ap, ◌∙◌, subst, arith, below_more, append-nil}
-use Rattle.std.proofs.lemmas.Bool.{eq-eqb, cases_lt, ne_eqb}
-use Rattle.std.proofs.lemmas.Option.{slice_get_past}
+use Rattle.std.proofs.Common.{◌≡◌, ◌≢◌, ◌⊎◌, ⊎_elim, inl, inr, ℕ, ◌<◌, ◌≤◌, Bool, true, false, eqb, List, [], ◌∷◌, ◌++◌}
+use Rattle.std.proofs.Common.{length, Option, Some, None, refl, sym, ap, ◌∙◌, subst, append-nil}
+use Rattle.std.proofs.lemmas.Bool.{cases_eq, eq-eqb, ne_eqb}
 use Rattle.std.proofs.lemmas.List.Elements.{All-push}
-use Rattle.std.specs.Prelude.{All, IfSome, if◌then◌else◌, option_map, option_to_list}
-use Rattle.std.specs.Option.{option_and_then}
+use Rattle.std.specs.Prelude.{All, IfSome, if◌then◌else◌, option_map, option_to_list, slice_index_or}
 use Rattle.iltypes.specs.declared.value.Value.{Value}
-use Rattle.ilplan.specs.declared.global.Global.{Global as GlobalVariable}
 use Rattle.ilplan.specs.Plans.{Planned}
 use Rattle.ilimage.specs.declared.overriding.Override.{Override}
 use Rattle.ilimage.specs.Images.{overridden}
 use Rattle.plantevents.specs.declared.activator.PendingEvent.{PendingEvent}
-use Rattle.plantevents.specs.Variables.{newest, event_value}
+use Rattle.plantevents.specs.Variables.{newest}
+use Rattle.plant.specs.IndexSteps.{AreInputsOf, comes_from, place_of}
 use Rattle.plant.specs.TakingSteps.{event_at, given_to, IsInType}
+use Rattle.plant.proofs.GivenInputs.{among, by_test}
+use Rattle.plant.proofs.Indexed.{no_event}
 
 overridden_push : (items : List Override) (x : Override) (g : ℕ) (v : Option Value)
     → overridden (items ++ x ∷ []) g v ≡ (if eqb x.global g then Some x.value else overridden items g v)
@@ -44,44 +44,63 @@ elsewhere items k value g v ne =
     one_given items k value g v
     ∙ ap (λ t. if t then newest value (overridden items g v) else overridden items g v) (ne_eqb k g (λ e. ne (sym e)))
 
+newest_twice : (o v : Option Value) → newest o (newest o v) ≡ newest o v
+newest_twice None v = refl
+newest_twice (Some x) v = refl
+
+module _ (plan : Planned) (bus number : ℕ) (event : PendingEvent) where
+  -- under these overrides a global variable has what the event gives it, or its own value
+  abbrev pub HasEvent : List Override → ℕ → Type 0
+  HasEvent items g = (v : Option Value) → overridden items g v ≡ newest (event_at plan bus number event g) v
+
+  abbrev pub HasOwn : List Override → ℕ → Type 0
+  HasOwn items g = (v : Option Value) → overridden items g v ≡ v
+
+  abbrev pub HasEither : List Override → ℕ → Type 0
+  HasEither items g = HasEvent items g ⊎ HasOwn items g
+
+-- with the override of one more
 module _ (plan : Planned) (bus number : ℕ) (event : PendingEvent) (items : List Override) (k : ℕ) where
   abbrev longer : List Override
   longer = items ++ option_to_list (option_map (given_to k) (event_at plan bus number event k))
 
-  pub done_more : ((g : ℕ) (v : Option Value) → g < k → overridden items g v ≡ newest
-      (event_at plan bus number event g) v)
-      → ((g : ℕ) (v : Option Value) → k ≤ g → overridden items g v ≡ v)
-      → (g : ℕ) (v : Option Value) → g < k + 1 → overridden longer g v ≡ newest (event_at plan bus number event g) v
-  done_more done rest g v below =
-      below_more (λ g. (v : Option Value) → overridden longer g v ≡ newest (event_at plan bus number event g) v) k
-      (λ g lt v. let ne : g ≢ k = omega arith in elsewhere items k (event_at plan bus number event k) g v ne ∙ done g
-      v lt)
-      (λ v. here items k (event_at plan bus number event k) v
-      ∙ ap (newest (event_at plan bus number event k)) (rest k v (omega arith))) g below v
+  pub event_here : HasEither plan bus number event items k → HasEvent plan bus number event longer k
+  event_here either v =
+      let value = event_at plan bus number event k in
+      here items k value v
+      ∙ ⊎_elim (λ (e : HasEvent plan bus number event items k). ap (newest value) (e v) ∙ newest_twice value v)
+      (λ (e : HasOwn plan bus number event items k). ap (newest value) (e v)) either
 
-  pub rest_more : ((g : ℕ) (v : Option Value) → k ≤ g → overridden items g v ≡ v)
-      → (g : ℕ) (v : Option Value) → k + 1 ≤ g → overridden longer g v ≡ v
-  rest_more rest g v le =
-      let ne : g ≢ k = omega arith in
-      elsewhere items k (event_at plan bus number event k) g v ne ∙ rest g v (omega arith)
+  pub event_still : (g : ℕ) → HasEvent plan bus number event longer k → HasEvent plan bus number event items g
+      → HasEvent plan bus number event longer g
+  event_still g one e =
+      ⊎_elim (λ (same : g ≡ k). subst (HasEvent plan bus number event longer) (sym same) one)
+      (λ (ne : g ≢ k). λ (v : Option Value). elsewhere items k (event_at plan bus number event k) g v ne ∙ e v)
+      (cases_eq g k)
+
+  pub either_still : (g : ℕ) → HasEvent plan bus number event longer k → HasEither plan bus number event items g
+      → HasEither plan bus number event longer g
+  either_still g one either =
+      ⊎_elim (λ (same : g ≡ k). inl (subst (HasEvent plan bus number event longer) (sym same) one))
+      (λ (ne : g ≢ k). ⊎_elim
+      (λ (e : HasEvent plan bus number event items g).
+      inl (λ v. elsewhere items k (event_at plan bus number event k) g v ne ∙ e v))
+      (λ (e : HasOwn plan bus number event items g).
+      inr (λ v. elsewhere items k (event_at plan bus number event k) g v ne ∙ e v)) either)
+      (cases_eq g k)
 
 -- at the end
-no_event : (plan : Planned) (bus number : ℕ) (event : PendingEvent) (g : ℕ) → length plan.globals ≤ g
-    → event_at plan bus number event g ≡ None
-no_event plan bus number event g le =
-    ap (λ (o : Option GlobalVariable). option_and_then (event_value bus number event)
-    (option_and_then (λ (x : GlobalVariable). x.location) o)) (slice_get_past plan.globals g le)
-
-pub all_given : (plan : Planned) (bus number : ℕ) (event : PendingEvent) (items : List Override) (k : ℕ)
-    → length plan.globals ≤ k
-    → ((g : ℕ) (v : Option Value) → g < k → overridden items g v ≡ newest (event_at plan bus number event g) v)
-    → ((g : ℕ) (v : Option Value) → k ≤ g → overridden items g v ≡ v)
-    → (g : ℕ) (v : Option Value) → overridden items g v ≡ newest (event_at plan bus number event g) v
-all_given plan bus number event items k end done rest g v =
-    ⊎_elim (λ (lt : g < k). done g v lt)
-    (λ (le : k ≤ g). rest g v le
-    ∙ ap (λ o. newest o v) (sym (no_event plan bus number event g (omega arith))))
-    (cases_lt g k)
+pub all_given : (plan : Planned) (bus number : ℕ) (event : PendingEvent) (items : List Override) (numbers : List ℕ)
+    (i : ℕ) → AreInputsOf plan bus numbers → length numbers ≤ i
+    → ((g : ℕ) → HasEither plan bus number event items g)
+    → ((j : ℕ) → j < i → HasEvent plan bus number event items (slice_index_or numbers j 0))
+    → (g : ℕ) → HasEvent plan bus number event items g
+all_given plan bus number event items numbers i inputs end either done g =
+    by_test (comes_from bus (place_of plan g))
+    (λ from. among (HasEvent plan bus number event items) numbers i g end done (inputs.every g from))
+    (λ other. ⊎_elim (λ (e : HasEvent plan bus number event items g). e)
+    (λ (e : HasOwn plan bus number event items g). λ (v : Option Value).
+    e v ∙ ap (λ o. newest o v) (sym (no_event bus number event (place_of plan g) other))) (either g))
 
 -- what is given is of its type
 pub typed_more : (plan : Planned) (items : List Override) (o : Option Override) → All (IsInType plan) items

@@ -107,6 +107,7 @@ done_says p k b n r image buses says done follows imaged run = record {
   each_source = (says.each_source.0, λ i lt. record { counted = (says.each_source.1 i lt).counted });
   each_take = says.each_take;
   each_worker = says.each_worker;
+  each_input = says.each_input;
   each_output = says.each_output;
   each_owed = owed_done p.plant b n r p.history k.owed says.each_owed;
   each_bus = run;

@@ -10,6 +10,7 @@ use Rattle.plantevents.specs.Histories.{OpenScan}
 use Rattle.taskset.specs.TaskSets.{TaskSet, Follows}
 use Rattle.plantbuses.specs.declared.outputs.LevelOutput.{LevelOutput}
 use Rattle.plantbuses.specs.OutputSteps.{planned, OutputsFollow}
+use Rattle.plant.specs.IndexSteps.{InputsFollow}
 use Rattle.plantbuses.specs.OwedSteps.{OwedFollow}
 use Rattle.plantbuses.specs.declared.owed.OwedLevels.{OwedLevels}
 use Rattle.plantbuses.specs.KeptSteps.{KeptBus, BusesFollow, ImageFollows, AreFresh, AreIdle}
@@ -39,11 +40,12 @@ kept_at_first setup workers limit =
 -- ---- all that is kept
 
 pub opened_says : (setup : Loaded) (workers limit : ℕ) (tasks : TaskSet) (scans : List (Option OpenScan))
-    (buses : List KeptBus) (outputs : List (List (Option LevelOutput))) (owed : List OwedLevels)
-    → IsWorkerCount workers → IsLimit limit
+    (buses : List KeptBus) (inputs : List (List ℕ)) (outputs : List (List (Option LevelOutput)))
+    (owed : List OwedLevels) → IsWorkerCount workers → IsLimit limit
     → setup.plan.buses ≤ 16
     → Follows (plant_of setup workers) [] tasks → AreIdle workers scans → AreFresh setup.plan.buses buses
-    → OutputsFollow (planned setup.plan) outputs → OwedFollow (plant_of setup workers) [] owed
+    → InputsFollow setup.plan inputs → OutputsFollow (planned setup.plan) outputs
+    → OwedFollow (plant_of setup workers) [] owed
     → Says (opened setup workers limit) (record {
       tasks = tasks;
       image = opening (plant_of setup workers);
@@ -51,13 +53,15 @@ pub opened_says : (setup : Loaded) (workers limit : ℕ) (tasks : TaskSet) (scan
       takes = replicate (length setup.plan.tasks) 0;
       scans = scans;
       buses = buses;
+      inputs = inputs;
       outputs = outputs;
       owed = owed;
       moment = 0;
       length = 0;
       kept = setup.plan.buses;
     })
-opened_says setup workers limit tasks scans buses outputs owed some within few follows idle fresh located owes =
+opened_says setup workers limit tasks scans buses inputs outputs owed some within few follows idle fresh heard located
+    owes =
     record {
       most = within.1;
       legal = tt;
@@ -73,6 +77,7 @@ opened_says setup workers limit tasks scans buses outputs owed some within few f
       );
       each_worker = idle;
       each_bus = (fresh.0, λ b lt. fresh.1 (plant_of setup workers) b lt);
+      each_input = heard;
       each_output = located;
       each_owed = owes;
       each_place = length-replicate setup.plan.buses false;
@@ -97,13 +102,14 @@ first_owes setup workers outputs buses image owed located fresh first made =
 -- as the code makes them
 pub kept_says : (setup : Loaded) (workers limit : ℕ) (history : List Event) (places : List Bool) (tasks : TaskSet)
     (image : ProcessImage) (counts takes : List ℕ) (scans : List (Option OpenScan)) (buses : List KeptBus)
-    (outputs : List (List (Option LevelOutput))) (owed : List OwedLevels) (places_kept : ℕ)
+    (inputs : List (List ℕ)) (outputs : List (List (Option LevelOutput))) (owed : List OwedLevels)
+    (places_kept : ℕ)
     → IsWorkerCount workers → IsLimit limit → setup.plan.buses ≤ 16 → history ≡ [] → places ≡ replicate
     setup.plan.buses false
     → Follows (plant_of setup workers) [] tasks → image ≡ opening (as_planned setup)
     → counts ≡ replicate (length setup.plan.sources) 0 → takes ≡ replicate (length setup.plan.tasks) 0
-    → AreIdle workers scans → AreFresh setup.plan.buses buses → OutputsFollow (planned setup.plan) outputs
-    → OwedFollow (plant_of setup workers) [] owed → places_kept ≡ setup.plan.buses
+    → AreIdle workers scans → AreFresh setup.plan.buses buses → InputsFollow setup.plan inputs
+    → OutputsFollow (planned setup.plan) outputs → OwedFollow (plant_of setup workers) [] owed → places_kept ≡ setup.plan.buses
     → Says (record {
       plant = plant_of setup workers;
       limit = limit;
@@ -116,13 +122,14 @@ pub kept_says : (setup : Loaded) (workers limit : ℕ) (history : List Event) (p
       takes = takes;
       scans = scans;
       buses = buses;
+      inputs = inputs;
       outputs = outputs;
       owed = owed;
       moment = 0;
       length = 0;
       kept = places_kept;
     })
-kept_says setup workers limit history places tasks image counts takes scans buses outputs owed places_kept some within
-    few none back follows first zeros untaken idle fresh located owes up =
-    rw (none, back, first, zeros, untaken, up) (opened_says setup workers limit tasks scans buses outputs owed some
-    within few follows idle fresh located owes)
+kept_says setup workers limit history places tasks image counts takes scans buses inputs outputs owed places_kept some
+    within few none back follows first zeros untaken idle fresh heard located owes up =
+    rw (none, back, first, zeros, untaken, up) (opened_says setup workers limit tasks scans buses inputs outputs owed
+    some within few follows idle fresh heard located owes)

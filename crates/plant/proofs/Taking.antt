@@ -33,6 +33,7 @@ use Rattle.plant.specs.Shown.{Shown, grown, kept, is_full, count_below}
 use Rattle.plant.specs.KeptSteps.{KeptPlant, Says}
 use Rattle.plant.specs.TakingSteps.{taken_at, trigger_place}
 use Rattle.plant.proofs.Counting.{count_less}
+use Rattle.plant.proofs.Indexed.{is_trigger}
 use Rattle.plant.proofs.Refusing.{not_below}
 
 -- ---- the snapshot
@@ -75,17 +76,6 @@ no_pending (Some (DeviceAnswer bus short)) o = refl
 no_pending (Some (Information bus number)) o = refl
 no_pending (Some (Count bus number)) o = refl
 no_pending (Some (Trigger bus number)) o = refl
-
-is_trigger : (place : Option Location) (bus number : ℕ) → trigger_place place ≡ Some (bus, number)
-    → place ≡ Some (Trigger bus number)
-is_trigger None bus number is = absurd (cc)
-is_trigger (Some (Level b a)) bus number is = absurd (cc)
-is_trigger (Some (GearAnswer b a)) bus number is = absurd (cc)
-is_trigger (Some (DeviceAnswer b a)) bus number is = absurd (cc)
-is_trigger (Some (Information b a)) bus number is = absurd (cc)
-is_trigger (Some (Count b a)) bus number is = absurd (cc)
-is_trigger (Some (Trigger b a)) bus number is =
-    let same : (b, a) ≡ (bus, number) = cc in ap (λ (q : ℕ × ℕ). Some (Trigger q.0 q.1)) same
 
 event_same : (bus number : ℕ) (a : PendingEvent) (o : Option Location)
     → option_and_then (event_value bus number a) o ≡ pending_value (Some (Trigger bus number)) (Some a) o
@@ -191,6 +181,7 @@ take_says p k w t s tasks takes open_scans says may room follows taken opened = 
   each_take = taken;
   each_worker = opened;
   each_bus = says.each_bus;
+  each_input = says.each_input;
   each_output = says.each_output;
   each_owed = says.each_owed;
   each_place = says.each_place;

@@ -12,6 +12,7 @@ use Rattle.plantbuses.specs.declared.outputs.LevelOutput.{LevelOutput}
 use Rattle.plantbuses.specs.declared.owed.OwedLevels.{OwedLevels}
 use Rattle.plantbuses.specs.KeptSteps.{KeptBus, BusesFollow, ImageFollows, ScansFollow, TakesFollow}
 use Rattle.plantbuses.specs.OutputSteps.{OutputsFollow}
+use Rattle.plant.specs.IndexSteps.{InputsFollow}
 use Rattle.plantbuses.specs.OwedSteps.{OwedFollow}
 use Rattle.plant.specs.Shown.{Shown, kept}
 
@@ -44,6 +45,7 @@ pub record KeptPlant : Type 0 where
   pub takes : List ℕ
   pub scans : List (Option OpenScan)
   pub buses : List KeptBus
+  pub inputs : List (List ℕ)
   pub outputs : List (List (Option LevelOutput))
   pub owed : List OwedLevels
   pub moment : ℕ
@@ -60,6 +62,7 @@ pub record Says (p : Shown) (k : KeptPlant) : Type 0 where
   pub each_take : TakesFollow p.plant p.history k.takes
   pub each_worker : ScansFollow p.plant p.history k.scans
   pub each_bus : BusesFollow p.plant p.history k.buses
+  pub each_input : InputsFollow p.plant.plan k.inputs
   pub each_output : OutputsFollow p.plant k.outputs
   pub each_owed : OwedFollow p.plant p.history k.owed
   pub each_place : length p.reserved.buses ≡ p.plant.plan.buses

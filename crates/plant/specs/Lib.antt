@@ -1,4 +1,5 @@
 pub mod CommitSteps
+pub mod IndexSteps
 pub mod InputSteps
 pub mod KeptSteps
 pub mod Matches

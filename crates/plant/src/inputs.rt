@@ -9,6 +9,7 @@ ghost use Rattle.ilimage.specs.Images.{Global as GlobalVariable};
 ghost use Rattle.ilimage.specs.Snapshots.{MayHave};
 ghost use Rattle.plantevents.specs.Variables.{newest};
 ghost use Rattle.plantbuses.specs.AnswerSteps.{IsWrittenAs};
+ghost use Rattle.plant.specs.IndexSteps.{AreInputsOf};
 ghost use Rattle.plant.specs.InputSteps.{is_bound_at, written_by, input_at};
 
 use binding::BoundSource;
@@ -85,8 +86,16 @@ fn message_to(plan: &Plan, counts: &[u16], global: usize, bus: u8, frame: Frame2
 }
 
 /// Writes the information and the count of each source that a frame, which was heard on a bus, is
-/// a message of. It takes no memory.
-pub(crate) fn write_message(plan: &Plan, counts: &[u16], image: &mut Image, bus: u8, frame: Frame24)
+/// a message of, to the global variables that are located at inputs of the bus. It takes no memory.
+pub(crate) fn write_message(
+    plan: &Plan,
+    inputs: &[usize],
+    counts: &[u16],
+    image: &mut Image,
+    bus: u8,
+    frame: Frame24,
+)
+    requires inputs { AreInputsOf plan.now bus inputs.now }
     requires each { length counts.now ≡ length plan.now.sources }
     requires types { image.old.types ≡ map (λ g. g.value_type) plan.now.globals }
     ensures layout { layout_of image.new ≡ layout_of image.old }
@@ -94,7 +103,8 @@ pub(crate) fn write_message(plan: &Plan, counts: &[u16], image: &mut Image, bus:
         ≡ newest (input_at plan.now counts.now bus frame v) (value_of image.old v) }
     ensures blocks { (task : ℕ) → blocks_of image.new task ≡ blocks_of image.old task }
 {
-    for global in 0..plan.globals() {
+    for i in 0..inputs.len() {
+        let global = inputs[i];
         let value = message_to(plan, counts, global, bus, frame);
         give(image, global, value);
     }

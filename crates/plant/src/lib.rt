@@ -15,6 +15,7 @@
 #![tactic(auto)]
 
 mod answers;
+mod index;
 mod inputs;
 mod laws;
 mod messages;

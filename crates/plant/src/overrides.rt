@@ -7,6 +7,7 @@ ghost use Rattle.iltypes.specs.declared.value.Value.{Value as AnyValue};
 ghost use Rattle.ilimage.specs.Images.{overridden};
 ghost use Rattle.plantevents.specs.Variables.{event_value, newest};
 ghost use Rattle.plantbuses.specs.AnswerSteps.{IsWrittenAs};
+ghost use Rattle.plant.specs.IndexSteps.{AreInputsOf};
 ghost use Rattle.plant.specs.TakingSteps.{event_at, given_to, IsInType};
 
 use crate::opening::push_some;
@@ -62,19 +63,21 @@ fn override_of(
 pub(crate) fn overrides(
     alloc: Global,
     plan: &Plan,
+    inputs: &[usize],
     bus: u8,
     number: u8,
     event: PendingEvent,
 ) -> Result<Vec<Override>, AllocError>
-    requires { event.information ≤ 1023 }
+    requires inputs { AreInputsOf plan.now bus inputs.now }
+    requires small { event.information ≤ 1023 }
     ensures values { IfOk result (λ given. (global : ℕ) (value : Option AnyValue)
         → overridden given.items global value
         ≡ newest (event_at plan.now bus number event global) value) }
     ensures in_types { IfOk result (λ given. All (IsInType plan.now) given.items) }
 {
     let mut given = Vec::new(alloc);
-    for global in 0..plan.globals() {
-        push_some(&mut given, override_of(plan, global, bus, number, event))?;
+    for i in 0..inputs.len() {
+        push_some(&mut given, override_of(plan, inputs[i], bus, number, event))?;
     }
     Ok(given)
 }

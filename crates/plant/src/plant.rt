@@ -18,6 +18,7 @@ mod readers;
 mod reporting;
 mod taking;
 
+use crate::index::{BusInputs, inputs_of};
 use crate::inputs::write_message;
 use crate::messages::count_message;
 use crate::open_fault::OpenFault;
@@ -56,6 +57,8 @@ pub struct Plant {
     takes: Vec<u64>,
     scans: Vec<Option<RunningScan>>,
     buses: Vec<BusState>,
+    /// What is located at inputs of each bus.
+    inputs: Vec<BusInputs>,
     /// What is located at the levels of each bus.
     outputs: Vec<BusOutputs>,
     /// The levels of each bus that are owed.
@@ -98,6 +101,7 @@ impl Model for Plant {
       takes = p.takes.items;
       scans = p.scans.items;
       buses = p.buses.items;
+      inputs = p.inputs.items;
       outputs = p.outputs.items;
       owed = p.owed.items;
       moment = p.moment;
@@ -142,6 +146,7 @@ impl Plant {
         let takes = vec![in alloc; 0u64; setup.plan().tasks()]?;
         let scans = idle_workers(alloc, workers)?;
         let states = fresh_buses(alloc, buses)?;
+        let inputs = inputs_of(alloc, setup.plan())?;
         let outputs = outputs_of(alloc, setup.plan())?;
         let owed = owed_levels(alloc, &outputs, &states, &image)?;
         let bus_places = vec![in alloc; false; usize::from(buses)]?;
@@ -156,6 +161,7 @@ impl Plant {
             takes,
             scans,
             buses: states,
+            inputs,
             outputs,
             owed,
             clock_place: false,
@@ -282,7 +288,14 @@ impl Plant {
         self.allows_frame(bus)?;
         self.tasks.heard(self.length, bus, frame);
         count_message(self.setup.plan().sources(), &mut self.counts, bus, frame);
-        write_message(self.setup.plan(), &self.counts, &mut self.image, bus, frame);
+        write_message(
+            self.setup.plan(),
+            self.inputs[usize::from(bus)].numbers(),
+            &self.counts,
+            &mut self.image,
+            bus,
+            frame,
+        );
         note_heard(&mut self.buses, bus);
         use_place_of(&mut self.bus_places, bus, &mut self.kept);
         self.history.push(&Event::Heard { bus, frame });

@@ -55,6 +55,7 @@ impl Plant {
         other_events_leave_tasks();
         write_answer(
             self.setup.plan(),
+            self.inputs[usize::from(bus)].numbers(),
             &mut self.image,
             bus,
             &origin,

@@ -92,7 +92,9 @@ impl Plant {
         let Some(event) = self.tasks.first_pending(task) else {
             return Ok(Vec::new(alloc));
         };
-        overrides(alloc, plan, bus, number, event)
+        let _lawful = plan.buses();
+        let inputs = self.inputs[usize::from(bus)].numbers();
+        overrides(alloc, plan, inputs, bus, number, event)
     }
 
     /// A snapshot of a task.

@@ -2,12 +2,14 @@ use Rattle.std.proofs.Common.{◌≡◌, Some, refl, sym, subst, ap, ◌∙◌}
 use Rattle.transact.specs.declared.marks.Outcome.{Outcome}
 use Rattle.ilplan.specs.Plans.{Planned}
 use Rattle.ilimage.specs.Images.{value_of}
+use Rattle.std.specs.Prelude.{slice_index_or}
 use Rattle.plantevents.specs.Histories.{OpenHand, hand}
 use Rattle.plantevents.specs.Variables.{newest}
 use Rattle.plantbuses.specs.AnswerSteps.{answer_at}
 use Rattle.plant.specs.Shown.{Shown, plant_of}
 use Rattle.plant.proofs.Answering.{image_done}
 use Rattle.plant.proofs.Reporting.{done_now, done_says, frames_room, place_left}
+use Rattle.plant.proofs.Indexed.{kept_for}
 use Rattle.plant.proofs.plant.Plant.done.Goals as goal
 
 pub note_report-requires-clause-few : goal.note_report-requires-clause-few
@@ -21,6 +23,15 @@ overflow_sub-self c =
     let may = done_now _ _ c.args.bus c.args.number _ c.args.report c.self.view_is c.transaction.ensures.value
     (c.in-Some.ensures.open.0 refl) c.transaction.ensures.legal in
     place_left _ _ c.args.bus c.args.number c.args.report c.self.invariant may
+
+pub write_answer-requires-clause-inputs : goal.write_answer-requires-clause-inputs
+write_answer-requires-clause-inputs c =
+    let p = c.self.inside in
+    let may = done_now _ _ c.args.bus c.args.number _ c.args.report c.self.view_is c.transaction.ensures.value
+    (c.in-Some.ensures.open.0 refl) c.transaction.ensures.legal in
+    rw (c.numbers.ensures, c.plan.ensures.value) (kept_for p.setup.plan p.inputs.items c.args.bus c.index.result.now
+    c.self.invariant.each_input may.known
+    (c.index.ensures ∙ ap (λ n. slice_index_or p.inputs.items n c.index.result.now) c.from.ensures))
 
 pub invariant_of-self : goal.invariant_of-self
 invariant_of-self c =

@@ -5,6 +5,7 @@ use Rattle.taskset.specs.declared.setup.TaskSetup.{TaskSetup}
 use Rattle.taskset.specs.TaskSets.{AreSetups}
 use Rattle.plantbuses.specs.KeptSteps.{AreFresh}
 use Rattle.plantbuses.specs.OutputSteps.{planned, OutputsFollow}
+use Rattle.plant.specs.IndexSteps.{InputsFollow}
 use Rattle.plant.specs.Shown.{plant_of}
 use Rattle.plant.proofs.Starting.{first_owes, kept_says}
 use Rattle.plant.proofs.plant.Plant.fresh.Goals as goal
@@ -23,7 +24,7 @@ owed_levels-requires c =
     let buses : c.buses-buses.result ≡ plan.buses = c.buses-buses.ensures.value ∙ ap (λ (p : Planned). p.buses)
     c.plan.ensures.value in
     let located = subst (λ (x : Planned). OutputsFollow (planned x) c.in_ok-outputs.outputs.items)
-    c.plan-5.ensures.value c.in_ok-outputs.ensures in
+    c.plan-6.ensures.value c.in_ok-outputs.ensures in
     let fresh = subst (λ (n : ℕ). AreFresh n c.in_ok-states.states.items) buses c.in_ok-states.ensures in
     let many : length c.in_ok-outputs.outputs.items ≡ plan.buses = located.0 in
     let states : length c.in_ok-states.states.items ≡ plan.buses = fresh.0 in
@@ -45,8 +46,10 @@ invariant_of-result c =
     let up : c.from-2.result ≡ plan.buses = c.from-2.ensures ∙ buses in
     let few : plan.buses ≤ 16 = lawful.wiring.buses.last in
     let located = subst (λ (x : Planned). OutputsFollow (planned x) c.in_ok-outputs.outputs.items)
-    c.plan-5.ensures.value c.in_ok-outputs.ensures in
+    c.plan-6.ensures.value c.in_ok-outputs.ensures in
     let fresh = subst (λ (n : ℕ). AreFresh n c.in_ok-states.states.items) buses c.in_ok-states.ensures in
+    let heard = subst (λ (x : Planned). InputsFollow x c.in_ok-inputs.inputs.items) c.plan-5.ensures.value
+    c.in_ok-inputs.ensures in
     let owes = first_owes setup c.args.workers c.deref-2.result.now c.deref-3.result.now c.in_ok-image.image
     c.in_ok-owed.owed.items
     (subst (OutputsFollow (planned plan)) (sym c.deref-2.ensures.value) located)
@@ -54,6 +57,6 @@ invariant_of-result c =
     let follows = c.in_ok-tasks.ensures.follows (plant_of setup c.args.workers)
     (subst (AreSetups (plant_of setup c.args.workers)) (sym c.deref.ensures.value)
     (c.in_ok-setups.ensures.setups (plant_of setup c.args.workers) (sym c.plan-2.ensures.value))) in
-    kept_says setup c.args.workers c.args.limit _ _ _ _ _ _ _ _ _ _ _ c.requires.workers c.requires.limit few
+    kept_says setup c.args.workers c.args.limit _ _ _ _ _ _ _ _ _ _ _ _ c.requires.workers c.requires.limit few
     c.new-2.ensures back
-    follows c.in_ok-image.ensures zeros untaken c.in_ok-scans.ensures fresh located owes up
+    follows c.in_ok-image.ensures zeros untaken c.in_ok-scans.ensures fresh heard located owes up

@@ -1,4 +1,5 @@
 use Rattle.std.proofs.Common.{◌≡◌, ℕ, List, ◌∷◌, false, sym, subst, ap, ◌∙◌}
+use Rattle.std.specs.Prelude.{slice_index_or}
 use Rattle.plantevents.specs.declared.role.Role.TheVariants.{Bus}
 use Rattle.plantevents.specs.Legal.{IsUp}
 use Rattle.plant.specs.Shown.{Shown, plant_of}
@@ -12,6 +13,7 @@ use Rattle.plantevents.specs.Variables.{newest}
 use Rattle.plant.specs.InputSteps.{input_at}
 use Rattle.plant.specs.KeptSteps.{CountsFollow}
 use Rattle.plantevents.specs.declared.event.Event.TheVariants.{Heard}
+use Rattle.plant.proofs.Indexed.{kept_for}
 use Rattle.plant.proofs.plant.Plant.heard.Goals as goal
 
 pub note_heard-requires-clause-few : goal.note_heard-requires-clause-few
@@ -25,6 +27,15 @@ use_place_of-requires-clause-counted c =
     let up = subst (λ (p : Shown). IsUp p.plant p.history c.args.bus) (sym c.self.view_is)
     c.in_ok-allows_frame.ensures.up in
     place_counted _ _ c.args.bus c.self.invariant up
+
+pub write_message-requires-clause-inputs : goal.write_message-requires-clause-inputs
+write_message-requires-clause-inputs c =
+    let p = c.self.inside in
+    let up = subst (λ (p : Shown). IsUp p.plant p.history c.args.bus) (sym c.self.view_is)
+    c.in_ok-allows_frame.ensures.up in
+    rw (c.numbers.ensures, c.plan-2.ensures.value) (kept_for p.setup.plan p.inputs.items c.args.bus c.index.result.now
+    c.self.invariant.each_input up.known
+    (c.index.ensures ∙ ap (λ n. slice_index_or p.inputs.items n c.index.result.now) c.from.ensures))
 
 pub invariant_of-self : goal.invariant_of-self
 invariant_of-self c =
