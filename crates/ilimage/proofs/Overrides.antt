@@ -1,19 +1,19 @@
 -- What a snapshot has under overrides.
-use Rattle.std.proofs.Common.{◌≡◌, ℕ, zero, suc, ◌+◌, ◌<◌, ◌==◌, List, [], ◌∷◌, drop, length, Bool, true, false, cond}
+use Rattle.std.proofs.Common.{◌≡◌, ℕ, ◌<◌, ◌==◌, List, [], ◌∷◌, length, Bool, true, false, cond}
 use Rattle.std.proofs.Common.{Option, Some, None, refl, sym, ap, ◌∙◌, arith}
-use Rattle.std.specs.Prelude.{All, slice_get, slice_set}
+use Rattle.std.specs.Prelude.{All, slice_get, slice_index_or, slice_set}
 use Rattle.std.specs.Option.{option_and_then}
 use Rattle.std.proofs.lemmas.Bool.{eqb-true, eqb-false}
-use Rattle.std.proofs.lemmas.Option.{slice_get_within}
-use Rattle.std.proofs.lemmas.List.Elements.{All-nil, All-cons, All-head, All-tail}
+use Rattle.std.proofs.lemmas.List.{get_or-set_other, get_or-set_same, length-set}
+use Rattle.std.proofs.lemmas.List.Elements.{All-head, All-tail}
 use Rattle.iltypes.specs.declared.value.IlType.{IlType}
 use Rattle.iltypes.specs.declared.value.Value.{Value}
 use Rattle.iltypes.specs.Values.{IsOf, AreOf}
-use Rattle.ilblocks.proofs.Blocks.{as_long, set_typed, value_at}
+use Rattle.ilblocks.proofs.Blocks.{set_typed, value_at}
 use Rattle.ilimage.specs.declared.overriding.Override.{Override}
 use Rattle.ilimage.specs.Images.{TaskImage, ProcessImage, ImageVariable, Global, Own, image_of, layout_of, value_of}
 use Rattle.ilimage.specs.Images.{overridden, value_under, variable_in}
-use Rattle.ilimage.specs.ImageSteps.{globals_under, slot_values, HasGlobals}
+use Rattle.ilimage.specs.ImageSteps.{given_value, globals_under, slot_values, HasGlobals}
 use Rattle.ilimage.specs.Snapshots.{MayHave}
 use Rattle.ilimage.proofs.Places.{there, slot_value}
 use Rattle.ilimage.proofs.Commits.{get_set_same, get_set_other}
@@ -25,26 +25,33 @@ Allows types o = MayHave types o.global o.value
 abbrev pub AreAllowed : List IlType → List Override → Type 0
 AreAllowed types overrides = All (Allows types) overrides
 
--- ---- one after another
+-- ---- one value under overrides
 
-under_more : (overrides : List Override) (globals : List Value) (place : ℕ) (o : Override)
-    → slice_get overrides place ≡ Some o
-    → globals_under (drop place overrides) globals
-    ≡ globals_under (drop (suc place) overrides) (slice_set globals o.global o.value)
-under_more [] globals place o e = absurd (cc)
-under_more (x ∷ overrides) globals zero o e =
-    let same : x ≡ o = cc in
-    ap (λ (y : Override). globals_under overrides (slice_set globals y.global y.value)) same
-under_more (x ∷ overrides) globals (suc place) o e = under_more overrides globals place o e
+pub length_under : (overrides : List Override) (globals : List Value)
+    → length (globals_under overrides globals) ≡ length globals
+length_under [] globals = refl
+length_under (o ∷ more) globals =
+    length_under more (slice_set globals o.global o.value) ∙ length-set globals o.global o.value
 
-pub turn : (overrides : List Override) (globals first : List Value) (place : ℕ) (o : Override)
-    → slice_get overrides place ≡ Some o
-    → globals_under (drop place overrides) globals ≡ globals_under overrides first
-    → globals_under (drop (place + 1) overrides) (slice_set globals o.global o.value) ≡ globals_under overrides first
-turn overrides globals first place o e h =
-    let one : place + 1 ≡ suc place = omega arith in
-    ap (λ (n : ℕ). globals_under (drop n overrides) (slice_set globals o.global o.value)) one
-    ∙ sym (under_more overrides globals place o e) ∙ h
+one_given : (globals : List Value) (o : Override) (number : ℕ) (d : Value) (same : Bool) → number < length globals
+    → (o.global == number) ≡ same
+    → slice_index_or (slice_set globals o.global o.value) number d ≡ cond same o.value (slice_index_or globals number d)
+one_given globals o number d true lt e =
+    let is : o.global ≡ number = eqb-true o.global number e in
+    ap (λ (n : ℕ). slice_index_or (slice_set globals n o.value) number d) is
+    ∙ get_or-set_same globals number o.value d lt
+one_given globals o number d false lt e =
+    get_or-set_other globals o.global number o.value d (λ q. eqb-false o.global number e (sym q))
+
+pub under_at : (overrides : List Override) (globals : List Value) (number : ℕ) (d : Value) → number < length globals
+    → given_value overrides number (slice_index_or globals number d)
+    ≡ slice_index_or (globals_under overrides globals) number d
+under_at [] globals number d lt = refl
+under_at (o ∷ more) globals number d lt =
+    let after = slice_set globals o.global o.value in
+    let long = length-set globals o.global o.value in
+    ap (given_value more number) (sym (one_given globals o number d (o.global == number) lt refl))
+    ∙ under_at more after number d (omega (arith, long, lt))
 
 -- ---- the values under overrides
 
@@ -99,16 +106,3 @@ pub slot_under : (overrides : List Override) (image : ProcessImage) (task slot :
 slot_under overrides image task slot t e h g has =
     slot_value (image_under overrides image) task slot t e has
     ∙ variable_under overrides image (variable_in (layout_of image) task slot) h g
-
--- the globals of overrides are there
-pub allowed_there : (types : List IlType) (globals : List Value) (overrides : List Override)
-    → AreAllowed types overrides → AreOf globals types
-    → All (λ (o : Override). o.global < length globals) overrides
-allowed_there types globals [] h g = All-nil (λ (o : Override). o.global < length globals)
-allowed_there types globals (o ∷ more) h g =
-    let t = there (slice_get types o.global) (IsOf o.value) (All-head (Allows types) o more h) in
-    let within = slice_get_within types o.global t.of t.is in
-    let long = as_long globals types g in
-    let lt : o.global < length globals = omega (arith, within, long) in
-    All-cons (λ (o : Override). o.global < length globals) o more lt
-    (allowed_there types globals more (All-tail (Allows types) o more h) g)

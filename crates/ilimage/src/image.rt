@@ -1,7 +1,7 @@
 //! The process image.
 
-ghost use Rattle.std.specs.Prelude.{◌≡◌, ◌<◌, ◌≤◌, All, IfOk, length};
-ghost use Rattle.ilimage.specs.ImageSteps.{stored_globals, globals_under};
+ghost use Rattle.std.specs.Prelude.{◌≡◌, ◌<◌, ◌≤◌, All, length};
+ghost use Rattle.ilimage.specs.ImageSteps.{stored_globals};
 
 use crate::external::External;
 use crate::overriding::Override;
@@ -100,7 +100,7 @@ impl Image {
             blocks_of self.now task ≡ Some snapshot.lasting.blocks) }
         ensures moment { IfOk result (λ snapshot. snapshot.moment ≡ moment) }
     {
-        self.tasks[task].snapshot(alloc, &self.globals, moment)
+        self.tasks[task].snapshot(alloc, &self.globals, &[], moment)
     }
 
     /// As [`Image::take`], under overrides: in the slot of a global variable that they name is the
@@ -126,8 +126,7 @@ impl Image {
             blocks_of self.now task ≡ Some snapshot.lasting.blocks) }
         ensures moment { IfOk result (λ snapshot. snapshot.moment ≡ moment) }
     {
-        let globals = override_globals(alloc, &self.globals, overrides)?;
-        self.tasks[task].snapshot(alloc, &globals, moment)
+        self.tasks[task].snapshot(alloc, &self.globals, overrides, moment)
     }
 
     /// Writes what a scan of a task left, a value in its type for each slot of the code and block
@@ -162,22 +161,6 @@ impl Image {
     {
         self.globals[global] = value;
     }
-}
-
-/// The values of the global variables under overrides.
-fn override_globals(
-    alloc: Global,
-    globals: &[Value],
-    overrides: &[Override],
-) -> Result<Vec<Value>, AllocError>
-    requires { All (λ given. given.global < length globals.now) overrides.now }
-    ensures { IfOk result (λ values. values.items ≡ globals_under overrides.now globals.now) }
-{
-    let mut values = Vec::from_slice(alloc, globals)?;
-    for given in overrides {
-        values[given.global] = given.value;
-    }
-    Ok(values)
 }
 
 /// Writes, of the values in a task's first slots, those of the global variables that it stores.

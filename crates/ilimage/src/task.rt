@@ -1,9 +1,10 @@
 //! Tasks in the process image.
 
 ghost use Rattle.std.specs.Prelude.{◌≡◌, ◌<◌, All, IfOk, length, map};
-ghost use Rattle.ilimage.specs.ImageSteps.{global_value};
+ghost use Rattle.ilimage.specs.ImageSteps.{global_value, globals_under};
 
 use crate::external::External;
+use crate::overriding::{Override, given_value};
 use crate::snapshot::{Snapshot, first_blocks};
 use ilblocks::BlockState;
 use iltypes::Value;
@@ -43,7 +44,7 @@ impl TaskImage {
     ghost use Rattle.iltypes.specs.Values.{AreOf};
     ghost use Rattle.ilblocks.specs.Calls.{IsBlockOf};
     ghost use Rattle.ilimage.specs.Images.{TaskLayout, TaskImage, own_types, first_task};
-    ghost use Rattle.ilimage.specs.ImageSteps.{HasGlobals, task_of, slot_values};
+    ghost use Rattle.ilimage.specs.ImageSteps.{HasGlobals, globals_under, task_of, slot_values};
     ghost use Rattle.ilimage.specs.Snapshots.{start_of};
 
     /// A task of this code, whose first slots are these global variables, with these values of its
@@ -100,13 +101,19 @@ impl TaskImage {
         &self.blocks
     }
 
-    /// The values of the code's slots, of these of the global variables.
-    fn slot_values(&self, alloc: Global, globals: &[Value]) -> Result<Vec<Value>, AllocError>
+    /// The values of the code's slots, of these of the global variables under overrides.
+    fn slot_values(
+        &self,
+        alloc: Global,
+        globals: &[Value],
+        overrides: &[Override],
+    ) -> Result<Vec<Value>, AllocError>
         requires { All (λ external. external.global < length globals.now)
             self.now.layout.externals }
-        ensures { IfOk result (λ values. values.items ≡ slot_values globals.now self.now) }
+        ensures { IfOk result (λ values.
+            values.items ≡ slot_values (globals_under overrides.now globals.now) self.now) }
     {
-        let mut values = global_values(alloc, &self.externals, globals)?;
+        let mut values = global_values(alloc, &self.externals, globals, overrides)?;
         values.extend_from_slice(&self.values)?;
         Ok(values)
     }
@@ -119,19 +126,22 @@ impl TaskImage {
     }
 
     /// What a scan of the task starts from at this moment, where the global variables have these
-    /// values.
+    /// values, but for overrides.
     pub(crate) fn snapshot(
         &self,
         alloc: Global,
         globals: &[Value],
+        overrides: &[Override],
         moment: u64,
     ) -> Result<Snapshot, AllocError>
-        requires { HasGlobals self.now.layout globals.now }
+        requires { HasGlobals self.now.layout (globals_under overrides.now globals.now) }
         ensures { IfOk result (λ snapshot. snapshot ≡ start_of self.now.layout.verified
-            (record { slots = slot_values globals.now self.now; blocks = self.now.own.blocks })
-            moment) }
+            (record {
+              slots = slot_values (globals_under overrides.now globals.now) self.now;
+              blocks = self.now.own.blocks;
+            }) moment) }
     {
-        let values = self.slot_values(alloc, globals)?;
+        let values = self.slot_values(alloc, globals, overrides)?;
         let blocks = self.copy_blocks()?;
         let verified = self.verified.clone()?;
         Ok(Snapshot::of(verified, values, blocks, moment))
@@ -152,19 +162,28 @@ impl TaskImage {
     }
 }
 
-/// The values of these global variables.
+/// The value of a global variable, of these, under overrides.
+fn global_value(globals: &[Value], overrides: &[Override], external: External) -> Value
+    requires { external.global < length globals.now }
+    ensures { result ≡ global_value (globals_under overrides.now globals.now) external }
+{
+    given_value(overrides, external.global, globals[external.global])
+}
+
+/// The values of these global variables under overrides.
 fn global_values(
     alloc: Global,
     externals: &[External],
     globals: &[Value],
+    overrides: &[Override],
 ) -> Result<Vec<Value>, AllocError>
     requires { All (λ external. external.global < length globals.now) externals.now }
-    ensures { IfOk result (λ values.
-        values.items ≡ map (global_value globals.now) externals.now) }
+    ensures { IfOk result (λ values. values.items
+        ≡ map (global_value (globals_under overrides.now globals.now)) externals.now) }
 {
     let mut values = Vec::new(alloc);
     for external in externals {
-        values.push(globals[external.global])?;
+        values.push(global_value(globals, overrides, *external))?;
     }
     Ok(values)
 }

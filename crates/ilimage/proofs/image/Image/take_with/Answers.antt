@@ -1,25 +1,16 @@
-use Rattle.std.proofs.Common.{◌∙◌, ◌<◌, List, Some, ap, sym, subst, length, All}
+use Rattle.std.proofs.Common.{◌∙◌, List, Some, ap, sym, subst}
 use Rattle.std.specs.Prelude.{slice_get}
 use Rattle.std.specs.Option.{option_map}
 use Rattle.std.proofs.lemmas.Result.{IfOk-weaker}
 use Rattle.iltypes.specs.declared.value.Value.{Value}
 use Rattle.iltypes.specs.Values.{AreOf}
-use Rattle.ilimage.specs.declared.overriding.Override.{Override}
-use Rattle.ilimage.specs.Images.{ProcessImage, TaskLayout, TaskImage, IsImage}
+use Rattle.ilimage.specs.Images.{ProcessImage, TaskLayout, TaskImage}
 use Rattle.ilimage.specs.ImageSteps.{HasGlobals, globals_under, slot_values}
 use Rattle.ilimage.specs.Snapshots.{ScanStart}
 use Rattle.ilimage.proofs.Places.{layout_at}
 use Rattle.ilimage.proofs.Commits.{read_task}
-use Rattle.ilimage.proofs.Overrides.{allowed_there, under_typed, slot_under}
+use Rattle.ilimage.proofs.Overrides.{under_typed, slot_under}
 use Rattle.ilimage.proofs.image.Image.take_with.Goals as goal
-
-pub override_globals-requires : goal.override_globals-requires
-override_globals-requires c =
-    let image = c.args.self.now in
-    let globals = c.deref.ensures.value ∙ ap (λ (i : ProcessImage). i.globals) c.self.view_is in
-    let whole = subst IsImage c.self.view_is c.self.invariant in
-    subst (λ (gs : List Value). All (λ (o : Override). o.global < length gs) c.args.overrides.now) (sym globals)
-    (allowed_there image.types image.globals c.args.overrides.now c.requires.in_types whole.globals)
 
 pub snapshot-requires : goal.snapshot-requires
 snapshot-requires c =
@@ -28,8 +19,7 @@ snapshot-requires c =
     let h = read_task image c.args.task c.index.result.now f.types.items f.globals.items f.tasks.items c.self.view_is
     c.self.invariant c.requires.task c.index.ensures in
     let globals = c.deref.ensures.value ∙ ap (λ (i : ProcessImage). i.globals) c.self.view_is in
-    let under = c.deref-2.ensures.value ∙ c.in_ok-globals.ensures
-    ∙ ap (globals_under c.args.overrides.now) globals in
+    let under = ap (globals_under c.args.overrides.now) globals in
     record {
       types = image.types;
       typed = h.lawful.typed;
@@ -57,7 +47,7 @@ returns-clause-values c =
     let h = read_task image c.args.task t f.types.items f.globals.items f.tasks.items c.self.view_is c.self.invariant
     c.requires.task c.index.ensures in
     let globals = c.deref.ensures.value ∙ ap (λ (i : ProcessImage). i.globals) c.self.view_is in
-    let under = c.deref-2.ensures.value ∙ c.in_ok-globals.ensures ∙ ap (globals_under overrides) globals in
+    let under = ap (globals_under overrides) globals in
     let typed = under_typed image.types overrides image.globals c.requires.in_types h.whole.globals in
     let has : HasGlobals t.layout (globals_under overrides image.globals) =
     record { types = image.types; typed = h.lawful.typed; values = typed } in

@@ -7,8 +7,9 @@ use Rattle.ilblocks.proofs.Blocks.{as_long}
 use Rattle.ilverify.specs.Verdicts.{Accepted}
 use Rattle.ilimage.specs.declared.external.External.{External}
 use Rattle.ilimage.specs.Images.{TaskImage, IsTaskImage}
-use Rattle.ilimage.specs.ImageSteps.{slot_values}
+use Rattle.ilimage.specs.ImageSteps.{globals_under, slot_values}
 use Rattle.ilimage.specs.Snapshots.{start_of}
+use Rattle.ilimage.proofs.Overrides.{length_under}
 use Rattle.ilimage.proofs.Places.{typed_there, slots_typed}
 use Rattle.ilimage.proofs.task.TaskImage.snapshot.Goals as goal
 
@@ -17,7 +18,8 @@ slot_values-requires c =
     let t = c.args.self.now.layout in
     let r = c.requires in
     subst (λ (n : ℕ). All (λ (e : External). e.global < n) t.externals)
-    (sym (as_long c.args.globals.now r.types r.values)) (typed_there r.types t.verified.code.slots t.externals r.typed)
+    (sym (sym (length_under c.args.overrides.now c.args.globals.now)
+    ∙ as_long (globals_under c.args.overrides.now c.args.globals.now) r.types r.values)) (typed_there r.types t.verified.code.slots t.externals r.typed)
 
 pub of-requires : goal.of-requires
 of-requires c =
@@ -26,7 +28,7 @@ of-requires c =
     let slots = t.layout.verified.code.slots in
     let whole = subst IsTaskImage c.self.view_is c.self.invariant in
     let code = c.in_ok-verified.ensures.cases ∙ ap (λ (t : TaskImage). t.layout.verified) c.self.view_is in
-    let values = slots_typed r.types slots c.args.globals.now t.layout.externals t.own.slots r.typed r.values whole.values
+    let values = slots_typed r.types slots (globals_under c.args.overrides.now c.args.globals.now) t.layout.externals t.own.slots r.typed r.values whole.values
     in
     let items = c.in_ok-values.values.items in
     let blocks = c.in_ok-blocks.blocks.items in
@@ -52,6 +54,6 @@ returns c =
       blocks = c.in_ok-blocks.blocks.items;
     }) c.args.moment) c.in_ok-values.ensures
     ∙ ap (λ (bs : List Block). start_of t.layout.verified (record {
-      slots = slot_values c.args.globals.now t;
+      slots = slot_values (globals_under c.args.overrides.now c.args.globals.now) t;
       blocks = bs;
     }) c.args.moment) c.in_ok-blocks.ensures
