@@ -140,7 +140,7 @@ pub fn task_line(setup: &Setup, task: usize) -> TaskLine<'_>
     let code = setup.code(task);
     TaskLine {
         name: setup.plan().task_name(task),
-        words: code.code().instructions().len(),
+        words: code.code().len(),
         bound: code.bound(),
     }
 }

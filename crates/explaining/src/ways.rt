@@ -98,8 +98,8 @@ fn is_reached(reached: &[bool], place: usize) -> bool {
 
 /// Whether control may go from a place to the next one.
 fn goes_on(code: &Code, place: usize) -> bool {
-    match code.instructions().get(place) {
-        Some(Word::Jump { condition, .. }) => *condition != Condition::Always,
+    match code.get(place) {
+        Some(Word::Jump { condition, .. }) => condition != Condition::Always,
         Some(_) => true,
         None => false,
     }
@@ -107,8 +107,8 @@ fn goes_on(code: &Code, place: usize) -> bool {
 
 /// Whether the word at a place jumps to another one.
 fn jumps_to(code: &Code, from: usize, place: usize) -> bool {
-    match code.instructions().get(from) {
-        Some(Word::Jump { target, .. }) => *target as usize == place,
+    match code.get(from) {
+        Some(Word::Jump { target, .. }) => target as usize == place,
         _ => false,
     }
 }
@@ -122,7 +122,7 @@ fn write_step<W: Write>(
     code: &Code,
     flow: &Flow,
 ) -> io::Result<()> {
-    let Some(word) = code.instructions().get(flow.place()) else {
+    let Some(word) = code.get(flow.place()) else {
         return Ok(());
     };
     let line = line_at(code, flow.place());
@@ -130,12 +130,12 @@ fn write_step<W: Write>(
         plan,
         code,
         task,
-        word: *word,
+        word,
     };
     let text = format!(in alloc; "{text}")?;
     write!(out, "{line:>6} | {text:<24}  ")?;
     match flow.entry() {
-        Some(entry) => write_known(out, plan, task, *word, entry),
+        Some(entry) => write_known(out, plan, task, word, entry),
         None => writeln!(out),
     }
 }
@@ -160,7 +160,7 @@ fn write_known<W: Write>(
 /// The line of a word.
 fn line_at(code: &Code, place: usize) -> usize {
     match code.lines().get(place) {
-        Some(line) => *line,
+        Some(line) => *line as usize,
         None => 0,
     }
 }

@@ -3,13 +3,14 @@
 ghost use Rattle.std.specs.Prelude.{◌≡◌, nat_lt, ◌&&◌};
 ghost use Rattle.std.specs.List.{list_any};
 
-use crate::word::Word;
 use ilblocks::BlockKind;
 use iltypes::{IlType, Value};
+use ilword::{PackedWord, Word};
 use std::marker::Model;
 
-/// The code of one task: its programs' instructions one after another, with what they name. No
-/// list is longer than its limit (crate `limits`), and each instruction has its line.
+/// The code of one task: its programs' words one after another, with what they name. No list is
+/// longer than its limit (crate `limits`), and each word has its line. A word takes 4 bytes, and its
+/// line 4 more.
 #[derive(Drop)]
 pub struct Code {
     buses: u8,
@@ -17,8 +18,8 @@ pub struct Code {
     slots: Vec<IlType>,
     kinds: Vec<BlockKind>,
     starts: Vec<usize>,
-    instructions: Vec<Word>,
-    lines: Vec<usize>,
+    words: Vec<PackedWord>,
+    lines: Vec<u32>,
 }
 
 impl Model for Code {
@@ -28,33 +29,33 @@ impl Model for Code {
 
     ghost view = { λ c.
         listing_of c.buses c.constants.items c.slots.items c.kinds.items c.starts.items
-        c.instructions.items c.lines.items };
+        c.words.items c.lines.items };
 
     ghost invariant = { λ c.
         IsLawful (listing_of c.buses c.constants.items c.slots.items c.kinds.items
-        c.starts.items c.instructions.items c.lines.items) };
+        c.starts.items c.words.items c.lines.items) };
 }
 
 impl Code {
-    ghost use Rattle.std.specs.Prelude.{◌≡◌};
+    ghost use Rattle.std.specs.Prelude.{◌≡◌, ◌<◌, Some, length, slice_get};
     ghost use Rattle.ilcode.specs.Listings.{Listing, IsLawful, listing_of};
     ghost use Rattle.ilcode.specs.Steps.{is_target};
 
     /// The code of these parts: buses, constants, the slots' types, the kinds of the block
-    /// instances, the places where programs begin, instructions, and a line for each of these.
+    /// instances, the places where programs begin, words, and a line for each of these.
     pub fn new(
         buses: u8,
         constants: Vec<Value>,
         slots: Vec<IlType>,
         kinds: Vec<BlockKind>,
         starts: Vec<usize>,
-        instructions: Vec<Word>,
-        lines: Vec<usize>,
+        words: Vec<PackedWord>,
+        lines: Vec<u32>,
     ) -> Code
         requires { IsLawful (listing_of buses constants.items slots.items kinds.items
-            starts.items instructions.items lines.items) }
+            starts.items words.items lines.items) }
         ensures { result ≡ listing_of buses constants.items slots.items kinds.items
-            starts.items instructions.items lines.items }
+            starts.items words.items lines.items }
     {
         Code {
             buses,
@@ -62,7 +63,7 @@ impl Code {
             slots,
             kinds,
             starts,
-            instructions,
+            words,
             lines,
         }
     }
@@ -103,12 +104,39 @@ impl Code {
         &self.starts
     }
 
-    /// The instructions, one at each place; no list is longer than its limit.
-    pub fn instructions(&self) -> &[Word]
+    /// The words, one at each place; no list is longer than its limit.
+    pub fn words(&self) -> &[PackedWord]
         ensures value { result.now ≡ self.now.instructions }
         ensures lawful { IsLawful self.now }
     {
-        &self.instructions
+        &self.words
+    }
+
+    /// The number of words, at most 65,536.
+    pub fn len(&self) -> usize
+        ensures value { result ≡ length self.now.instructions }
+        ensures lawful { IsLawful self.now }
+    {
+        self.words.len()
+    }
+
+    /// The word at a place.
+    pub fn word(&self, place: usize) -> Word
+        requires { place < length self.now.instructions }
+        ensures value { slice_get self.now.instructions place ≡ Some result }
+        ensures lawful { IsLawful self.now }
+    {
+        self.words[place].word()
+    }
+
+    /// The word at a place, if there is one.
+    pub fn get(&self, place: usize) -> Option<Word>
+        ensures { result ≡ slice_get self.now.instructions place }
+    {
+        match self.words.get(place) {
+            Some(word) => Some(word.word()),
+            None => None,
+        }
     }
 
     /// Whether a jump at the place may lead to the target: forward, no further than to the start of
@@ -116,13 +144,11 @@ impl Code {
     pub fn is_target(&self, place: usize, target: usize) -> bool
         ensures { result ≡ is_target self.now place target }
     {
-        place < target
-            && target <= self.instructions.len()
-            && !begins_between(&self.starts, place, target)
+        place < target && target <= self.words.len() && !begins_between(&self.starts, place, target)
     }
 
-    /// The line of the text that each instruction stands on, counted from 1.
-    pub fn lines(&self) -> &[usize]
+    /// The line of the text that each word stands on, counted from 1.
+    pub fn lines(&self) -> &[u32]
         ensures value { result.now ≡ self.now.lines }
     {
         &self.lines

@@ -1,6 +1,6 @@
 -- What is laid out for a task that keeps the limits has the shape of a code.
 use Rattle.std.proofs.Common.{◌≡◌, ℕ, zero, suc, ◌+◌, ◌<◌, ◌≤◌, List, [], ◌∷◌, ◌++◌, length, get_or}
-use Rattle.std.proofs.Common.{refl, sym, ap, ◌∙◌, arith, map}
+use Rattle.std.proofs.Common.{refl, sym, ap, ◌∙◌, arith, map, subst}
 use Rattle.std.specs.Prelude.{All, MatchOption, slice_get, flat_map}
 use Rattle.std.specs.List.Sorted.{IsNonDecreasing}
 use Rattle.std.proofs.lemmas.List.{length-map}
@@ -10,15 +10,20 @@ use Rattle.limits.specs.Limits as limits
 use Rattle.iltypes.specs.declared.value.IlType.{IlType}
 use Rattle.iltypes.specs.declared.value.Value.{Value}
 use Rattle.iltrees.specs.declared.instruction.Line.{Line}
+use Rattle.iltrees.specs.Uses.{uses_in}
 use Rattle.iltrees.specs.Words.{places_in}
 use Rattle.iltrees.specs.Words as counts
 use Rattle.ilblocks.specs.declared.kind.BlockKind.{BlockKind}
 use Rattle.ilplan.specs.declared.place.Place.{Place}
+use Rattle.ilplan.specs.Constants.{AreAmong}
+use Rattle.ilplan.proofs.Used.{uses_among}
 use Rattle.ilplan.specs.Plans.{PlannedInstance, PlannedTask, KeepsLimits, all_lines, types_of, kinds_of}
-use Rattle.ilcode.specs.declared.word.Word.{Word}
+use Rattle.ilword.specs.declared.word.Word.{Word}
 use Rattle.ilcode.specs.Listings.{IsLawful, listing_of}
 use Rattle.ilsource.specs.Places.{line_at}
 use Rattle.ilcompile.specs.Layout.{words_of_programs, places_of_programs, starts_from, programs_of, laid_out}
+use Rattle.ilcompile.proofs.Held.{AreHeld, all_held, line_numbers_small, program_words}
+use Rattle.ilcompile.proofs.Meant.{all_served}
 use Rattle.ilcompile.proofs.Sizes.{count_both, places_counted, programs_long}
 
 joined : {X Y Z : Type 0} (f : Y → List Z) (g : X → List Y) (xs : List X)
@@ -65,11 +70,20 @@ first_start : (constants : List Value) (programs : List (List (Line Place ℕ)))
 first_start constants [] = refl
 first_start constants (p ∷ ps) = refl
 
+-- ---- what the words name
+
+held_task : (t : PlannedTask) → KeepsLimits t → AreHeld t.constants (flat_map uses_in (all_lines t.instances))
+held_task t k =
+    let lines = all_lines t.instances in
+    let among = subst (λ cs. AreAmong cs (flat_map uses_in lines)) (sym k.constants) (uses_among lines) in
+    all_held t k.most_slots k.most_blocks k.most_constants (flat_map uses_in lines)
+    (all_served t (flat_map uses_in lines) among k.named) k.named
+
 -- ---- the code
 
 pub laid_out_lawful : (buses : ℕ) (text : List ℕ) (t : PlannedTask) → 1 ≤ buses → buses ≤ limits.most_buses
-    → KeepsLimits t → IsLawful (laid_out buses text t)
-laid_out_lawful buses text t low high k =
+    → length text ≤ limits.most_bytes → KeepsLimits t → IsLawful (laid_out buses text t)
+laid_out_lawful buses text t low high short k =
     let programs = programs_of t.instances in
     let ws = words_of_programs t.constants 0 programs in
     let ps = places_of_programs programs in
@@ -89,7 +103,9 @@ laid_out_lawful buses text t low high k =
       most_blocks = omega (arith, kinds, k.most_blocks);
       most_starts = omega (arith, starts, instances, k.most_instances);
       most_instructions = omega (arith, mine, k.most_words);
+      words = program_words t.constants t.instances 0 (omega (arith, k.most_words)) k.shallow (held_task t k);
       lines = omega (arith, numbers, mine, its, counted);
+      numbers = line_numbers_small text ps short;
       starts = record {
         ordered = starts_ordered 0 programs;
         within = starts_within 0 (length ws) t.instances (omega (arith, mine));

@@ -1,6 +1,7 @@
 pub mod Meant
 pub mod CallRuns
 pub mod CodeEnds
+pub mod Held
 pub mod Lawful
 pub mod LineRuns
 pub mod Runs

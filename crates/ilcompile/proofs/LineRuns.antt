@@ -7,7 +7,6 @@ use Rattle.std.specs.List.{list_any}
 use Rattle.std.specs.Option.{option_map, option_map_or, option_and_then}
 use Rattle.std.proofs.lemmas.Bool.Decides.{nat_tests}
 use Rattle.std.proofs.lemmas.List.{length-map, length-replicate}
-use Rattle.limits.specs.Limits.{most_blocks}
 use Rattle.iltypes.specs.declared.value.Value.{Value}
 use Rattle.iltypes.specs.declared.value.Value.TheVariants as values
 use Rattle.iltypes.specs.Modifiers.{opposite}
@@ -21,6 +20,8 @@ use Rattle.iltrees.specs.declared.instruction.Instruction.{Instruction}
 use Rattle.iltrees.specs.declared.instruction.Instruction.TheVariants as instructions
 use Rattle.iltrees.specs.declared.instruction.Line.{Line}
 use Rattle.iltrees.specs.declared.nested.Piece.{Piece}
+use Rattle.iltrees.specs.declared.operand.Operand.TheVariants.{Name}
+use Rattle.iltrees.specs.declared.uses.Purpose.TheVariants.{Call}
 use Rattle.iltrees.specs.Trees.{pieces_of}
 use Rattle.iltrees.specs.Uses.{uses_of_piece, uses_of_argument, uses_of, uses_in}
 use Rattle.iltrees.specs.Words.{place_of, places_of as places_in_text, IsShallow}
@@ -30,16 +31,16 @@ use Rattle.iltrees.specs.Meaning.{loaded, value, called, line_does}
 use Rattle.iltrees.specs.Passes.{has_label, takes, passes}
 use Rattle.ilblocks.specs.Stores.{Store}
 use Rattle.ilplan.specs.declared.place.Place.{Place}
-use Rattle.ilcode.specs.declared.word.Word.{Word}
-use Rattle.ilcode.specs.declared.word.Word.TheVariants as words
+use Rattle.ilword.specs.declared.word.Word.{Word}
+use Rattle.ilword.specs.declared.word.Word.TheVariants as words
 use Rattle.ilcode.specs.Listings.{Listing, shape_of}
 use Rattle.ilcode.specs.Steps.{Configuration, at, opened, stored_at, is_target, goes_to, jumps, effect}
 use Rattle.ilplan.specs.PlanMeaning.{places_of, with_place, number_same}
-use Rattle.ilcompile.specs.Layout.{place_of_label, variable_of, block_of, word_of_argument, words_of_call}
+use Rattle.ilcompile.specs.Layout.{place_of_label, number_of, variable_of, word_of_argument, words_of_call}
 use Rattle.ilcompile.specs.Layout.{word_of, words_of, words_in, words_of_lines}
 use Rattle.ilcompile.proofs.Runs.{Leads, none, leads_on}
 use Rattle.ilcompile.proofs.Stands.{Each, HasWords, words_front, words_back, has_mapped}
-use Rattle.ilcompile.proofs.Served.{AreServed, served_each}
+use Rattle.ilcompile.proofs.Served.{IsVariable, IsServedAs, AreServed, served_each}
 use Rattle.ilcompile.proofs.Sizes.{count_more, line_long}
 use Rattle.ilcompile.proofs.TreeRuns.{plain, Stuck, stuck_later, stuck_here, one_word, Comes, comes_by, Gives, gives_at}
 use Rattle.ilcompile.proofs.CallRuns.{stored_same, value_stored, call_runs}
@@ -131,219 +132,221 @@ module _ (code : Listing) (front : List Word) (base end : ℕ)
       (way : Way ℕ) (r : Option Value) (s : Store)
       → Enters p (entry p lines way) r s (passes number_same access lines way r s)
 
-  module _ (few : length code.kinds ≤ most_blocks) (lines : List (Line Place ℕ)) (p n : ℕ) (next : Run (p + n) lines)
-    where
-      abbrev rest : After ℕ Store → Option Store
-      rest x = passes number_same access lines x.way x.result x.store
+  module _ (lines : List (Line Place ℕ)) (p n : ℕ) (next : Run (p + n) lines) where
+    abbrev rest : After ℕ Store → Option Store
+    rest x = passes number_same access lines x.way x.result x.store
 
-      by_value : (s : Store) (r : Option Value) (o : Option Value)
-          → Gives code front (at p s r []) (p + n) s [] o
-          → Passes (at p s r []) (option_and_then rest (gives o s))
-      by_value s r None g = g
-      by_value s r (Some v) g =
-          passes_later (at p s r []) (at (p + n) s (Some v) [])
-          (passes number_same access lines On (Some v) s) g (next On (Some v) s).2
+    by_value : (s : Store) (r : Option Value) (o : Option Value)
+        → Gives code front (at p s r []) (p + n) s [] o
+        → Passes (at p s r []) (option_and_then rest (gives o s))
+    by_value s r None g = g
+    by_value s r (Some v) g =
+        passes_later (at p s r []) (at (p + n) s (Some v) [])
+        (passes number_same access lines On (Some v) s) g (next On (Some v) s).2
 
-      -- a store with this result
-      by_stores : (c : Configuration) (r : Option Value) (o : Option Store)
-          → Comes code front c (λ t. at (p + n) t r []) o → Passes c (option_and_then rest (leaves r o))
-      by_stores c r None g = g
-      by_stores c r (Some t) g =
-          passes_later c (at (p + n) t r []) (passes number_same access lines On r t) g (next On r t).2
+    -- a store with this result
+    by_stores : (c : Configuration) (r : Option Value) (o : Option Store)
+        → Comes code front c (λ t. at (p + n) t r []) o → Passes c (option_and_then rest (leaves r o))
+    by_stores c r None g = g
+    by_stores c r (Some t) g =
+        passes_later c (at (p + n) t r []) (passes number_same access lines On r t) g (next On r t).2
 
-      -- a store by one word
-      by_store : (s : Store) (r : Option Value) (o : Option Store)
-          → Comes code front (at p s r []) (λ t. at (p + 1) t r []) o → n ≡ 1
-          → Passes (at p s r []) (option_and_then rest (leaves r o))
-      by_store s r o g e =
-          let z : p + 1 ≡ p + n = omega arith in
-          by_stores (at p s r []) r o (subst (λ q. Comes code front (at p s r []) (λ t. at q t r []) o) z g)
+    -- a store by one word
+    by_store : (s : Store) (r : Option Value) (o : Option Store)
+        → Comes code front (at p s r []) (λ t. at (p + 1) t r []) o → n ≡ 1
+        → Passes (at p s r []) (option_and_then rest (leaves r o))
+    by_store s r o g e =
+        let z : p + 1 ≡ p + n = omega arith in
+        by_stores (at p s r []) r o (subst (λ q. Comes code front (at p s r []) (λ t. at q t r []) o) z g)
 
-      by_set : (s : Store) (r : Option Value) (m : Place) (v : Value) (w : Word) → slice_get front p ≡ Some w
-          → effect code (at p s r []) w ≡ option_map (λ t. at (p + 1) t r []) (stored_at code s (variable_of m) v)
-          → n ≡ 1 → Passes (at p s r []) (option_and_then rest (leaves r (with_place (shape_of code) s m v)))
-      by_set s r m v w is f e =
-          let on = λ (t : Store). at (p + 1) t r [] in
-          let o = with_place (shape_of code) s m v in
-          by_store s r o
-          (comes_by code front (at p s r []) on o w is (f ∙ ap (option_map on) (stored_same code few m s v))) e
+    by_set : (s : Store) (r : Option Value) (m : Place) → IsVariable m → (v : Value) (w : Word)
+        → slice_get front p ≡ Some w
+        → effect code (at p s r []) w ≡ option_map (λ t. at (p + 1) t r []) (stored_at code s (variable_of m) v)
+        → n ≡ 1 → Passes (at p s r []) (option_and_then rest (leaves r (with_place (shape_of code) s m v)))
+    by_set s r m variable v w is f e =
+        let on = λ (t : Store). at (p + 1) t r [] in
+        let o = with_place (shape_of code) s m v in
+        by_store s r o
+        (comes_by code front (at p s r []) on o w is (f ∙ ap (option_map on) (stored_same code m variable s v))) e
 
-      -- a jump: to where the way goes in, or on
-      goes_on : (s : Store) (r : Option Value) (target : ℕ) (w : Word) (o : Option ℕ) (x : Option Store)
-          → slice_get front p ≡ Some w → n ≡ 1 → base ≤ p
-          → effect code (at p s r []) w
-          ≡ cond (is_target code p target) (Some (goes_to (at p s r []) target)) None
-          → target ≡ or_zero o → Enters (p + n) o r s x → Passes (at p s r []) x
-      goes_on s r target w None x is e le f z h =
-          let c = at p s r [] in
-          let no : is_target code p target ≡ false =
-          subst (λ t. is_target code p t ≡ false) (sym z) (no_target code p) in
-          subst (Passes c) (sym h)
-          (stuck_here code front c w is (f ∙ ap (λ b. cond b (Some (goes_to c target)) None) no))
-      goes_on s r target w (Some q) x is e le f z h =
-          let c = at p s r [] in
-          let from = h.0 in
-          let yes : is_target code p target ≡ true =
-          subst (λ t. is_target code p t ≡ true) (sym z) (lawful p q le (omega arith) h.1) in
-          let there : Some (goes_to c target) ≡ Some (at q s r []) = ap (λ t. Some (at t s r [])) z in
-          passes_later c (at q s r []) x
-          (one_word code front c (at q s r []) w is
-          (f ∙ (ap (λ b. cond b (Some (goes_to c target)) None) yes ∙ there))) h.2
+    -- a jump: to where the way goes in, or on
+    goes_on : (s : Store) (r : Option Value) (target : ℕ) (w : Word) (o : Option ℕ) (x : Option Store)
+        → slice_get front p ≡ Some w → n ≡ 1 → base ≤ p
+        → effect code (at p s r []) w
+        ≡ cond (is_target code p target) (Some (goes_to (at p s r []) target)) None
+        → target ≡ or_zero o → Enters (p + n) o r s x → Passes (at p s r []) x
+    goes_on s r target w None x is e le f z h =
+        let c = at p s r [] in
+        let no : is_target code p target ≡ false =
+        subst (λ t. is_target code p t ≡ false) (sym z) (no_target code p) in
+        subst (Passes c) (sym h)
+        (stuck_here code front c w is (f ∙ ap (λ b. cond b (Some (goes_to c target)) None) no))
+    goes_on s r target w (Some q) x is e le f z h =
+        let c = at p s r [] in
+        let from = h.0 in
+        let yes : is_target code p target ≡ true =
+        subst (λ t. is_target code p t ≡ true) (sym z) (lawful p q le (omega arith) h.1) in
+        let there : Some (goes_to c target) ≡ Some (at q s r []) = ap (λ t. Some (at t s r [])) z in
+        passes_later c (at q s r []) x
+        (one_word code front c (at q s r []) w is
+        (f ∙ (ap (λ b. cond b (Some (goes_to c target)) None) yes ∙ there))) h.2
 
-      by_jump : (s : Store) (r : Option Value) (met : Option Bool) (way : Way ℕ) (target : ℕ) (w : Word)
-          → slice_get front p ≡ Some w → n ≡ 1 → base ≤ p
-          → effect code (at p s r []) w ≡ jumps code (at p s r []) target [] met
-          → target ≡ or_zero (entry (p + n) lines way)
-          → Passes (at p s r []) (option_and_then rest (chosen met (after way r s) (after On r s)))
-      by_jump s r None way target w is e le f z = stuck_here code front (at p s r []) w is f
-      by_jump s r (Some true) way target w is e le f z =
-          goes_on s r target w (entry (p + n) lines way) (passes number_same access lines way r s) is e le f z
-          (next way r s)
-      by_jump s r (Some false) way target w is e le f z =
-          let c = at p s r [] in
-          let there : Some (goes_to c (p + 1)) ≡ Some (at (p + n) s r []) =
-          ap (λ t. Some (at t s r [])) (omega arith) in
-          passes_later c (at (p + n) s r []) (passes number_same access lines On r s)
-          (one_word code front c (at (p + n) s r []) w is (f ∙ there)) (next On r s).2
+    by_jump : (s : Store) (r : Option Value) (met : Option Bool) (way : Way ℕ) (target : ℕ) (w : Word)
+        → slice_get front p ≡ Some w → n ≡ 1 → base ≤ p
+        → effect code (at p s r []) w ≡ jumps code (at p s r []) target [] met
+        → target ≡ or_zero (entry (p + n) lines way)
+        → Passes (at p s r []) (option_and_then rest (chosen met (after way r s) (after On r s)))
+    by_jump s r None way target w is e le f z = stuck_here code front (at p s r []) w is f
+    by_jump s r (Some true) way target w is e le f z =
+        goes_on s r target w (entry (p + n) lines way) (passes number_same access lines way r s) is e le f z
+        (next way r s)
+    by_jump s r (Some false) way target w is e le f z =
+        let c = at p s r [] in
+        let there : Some (goes_to c (p + 1)) ≡ Some (at (p + n) s r []) =
+        ap (λ t. Some (at t s r [])) (omega arith) in
+        passes_later c (at (p + n) s r []) (passes number_same access lines On r s)
+        (one_word code front c (at (p + n) s r []) w is (f ∙ there)) (next On r s).2
 
-      -- a call, whose words stand from this place on
-      call_at : (q k : ℕ) (m : Place) (xs : List (Argument Place)) (s : Store) (r : Option Value)
-          → HasWords front q (words_of_call code.constants m xs)
-          → AreServed code.constants (flat_map (uses_of_argument k) xs) → q + length xs + 1 ≡ p + n
-          → Comes code front (at q s r []) (λ t. at (p + n) t None []) (called access m xs s)
-      call_at q k m xs s r has sv e =
-          let f = word_of_argument code.constants in
-          let last = words.Call (block_of m) ∷ [] in
-          let own = has_mapped f (λ x. AreServed code.constants (uses_of_argument k x)) front q xs
-          (served_each code.constants (uses_of_argument k) xs sv) (words_front front q (map f xs) last has) in
-          let back = subst (λ z. slice_get front (q + z) ≡ Some (words.Call (block_of m))) (length-map xs f)
-          (words_back front q (map f xs) last has).0 in
-          subst (λ z. Comes code front (at q s r []) (λ t. at z t None []) (called access m xs s)) e
-          (call_runs code few front k m xs q s r own back)
+    -- a call, whose words stand from this place on
+    call_at : (q k : ℕ) (m : Place) → IsServedAs code.constants Call (Name m) → (xs : List (Argument Place)) (s : Store)
+        (r : Option Value)
+        → HasWords front q (words_of_call code.constants m xs)
+        → AreServed code.constants (flat_map (uses_of_argument k) xs) → q + length xs + 1 ≡ p + n
+        → Comes code front (at q s r []) (λ t. at (p + n) t None []) (called access m xs s)
+    call_at q k m called_one xs s r has sv e =
+        let f = word_of_argument code.constants in
+        let last = words.Call (number_of m) ∷ [] in
+        let own = has_mapped f (λ x. AreServed code.constants (uses_of_argument k x)) front q xs
+        (served_each code.constants (uses_of_argument k) xs sv) (words_front front q (map f xs) last has) in
+        let back = subst (λ z. slice_get front (q + z) ≡ Some (words.Call (number_of m))) (length-map xs f)
+        (words_back front q (map f xs) last has).0 in
+        subst (λ z. Comes code front (at q s r []) (λ t. at z t None []) (called access m xs s)) e
+        (call_runs code front k m called_one xs q s r own back)
 
-      -- a call behind a jump over it
-      by_call : (s : Store) (r : Option Value) (met skipped : Option Bool) (w : Word) (o : Option Store)
-          → slice_get front p ≡ Some w → base ≤ p → 0 < n
-          → effect code (at p s r []) w ≡ jumps code (at p s r []) (p + n) [] skipped
-          → skipped ≡ option_map opposite met
-          → Comes code front (at (p + 1) s r []) (λ t. at (p + n) t None []) o
-          → Passes (at p s r []) (option_and_then rest (chosen met (leaves None o) (after On r s)))
-      by_call s r None skipped w o is le lt f z g =
-          let c = at p s r [] in
-          stuck_here code front c w is (f ∙ ap (jumps code c (p + n) []) z)
-      by_call s r (Some true) skipped w o is le lt f z g =
-          let c = at p s r [] in
-          passes_later c (at (p + 1) s r []) (option_and_then rest (leaves None o))
-          (one_word code front c (at (p + 1) s r []) w is (f ∙ ap (jumps code c (p + n) []) z))
-          (by_stores (at (p + 1) s r []) None o g)
-      by_call s r (Some false) skipped w o is le lt f z g =
-          let c = at p s r [] in
-          let on = next On r s in
-          let yes : is_target code p (p + n) ≡ true = lawful p (p + n) le (omega arith) on.1 in
-          passes_later c (at (p + n) s r []) (passes number_same access lines On r s)
-          (one_word code front c (at (p + n) s r []) w is
-          (f ∙ (ap (jumps code c (p + n) []) z ∙ ap (λ b. cond b (Some (goes_to c (p + n))) None) yes))) on.2
+    -- a call behind a jump over it
+    by_call : (s : Store) (r : Option Value) (met skipped : Option Bool) (w : Word) (o : Option Store)
+        → slice_get front p ≡ Some w → base ≤ p → 0 < n
+        → effect code (at p s r []) w ≡ jumps code (at p s r []) (p + n) [] skipped
+        → skipped ≡ option_map opposite met
+        → Comes code front (at (p + 1) s r []) (λ t. at (p + n) t None []) o
+        → Passes (at p s r []) (option_and_then rest (chosen met (leaves None o) (after On r s)))
+    by_call s r None skipped w o is le lt f z g =
+        let c = at p s r [] in
+        stuck_here code front c w is (f ∙ ap (jumps code c (p + n) []) z)
+    by_call s r (Some true) skipped w o is le lt f z g =
+        let c = at p s r [] in
+        passes_later c (at (p + 1) s r []) (option_and_then rest (leaves None o))
+        (one_word code front c (at (p + 1) s r []) w is (f ∙ ap (jumps code c (p + n) []) z))
+        (by_stores (at (p + 1) s r []) None o g)
+    by_call s r (Some false) skipped w o is le lt f z g =
+        let c = at p s r [] in
+        let on = next On r s in
+        let yes : is_target code p (p + n) ≡ true = lawful p (p + n) le (omega arith) on.1 in
+        passes_later c (at (p + n) s r []) (passes number_same access lines On r s)
+        (one_word code front c (at (p + n) s r []) w is
+        (f ∙ (ap (jumps code c (p + n) []) z ∙ ap (λ b. cond b (Some (goes_to c (p + n))) None) yes))) on.2
 
-      -- one line
-      line_passes : (s : Store) (r : Option Value) (k : ℕ) (i : Option (Instruction Place ℕ))
-          → HasWords front p (option_map_or (words_of code.constants end (p + n) (place_of_label (p + n) lines)) i [])
-          → n ≡ length (option_map_or (places_in_text k) i []) → base ≤ p → IsShallow i
-          → AreServed code.constants (option_map_or (uses_of k) i [])
-          → Passes (at p s r []) (option_and_then rest (line_does access i r s))
-      line_passes s r k None has e le sh sv =
-          let z : p + n ≡ p = omega arith in
-          subst (λ q. Passes (at q s r []) (passes number_same access lines On r s)) z (next On r s).2
-      line_passes s r k (Some (instructions.Load negated x)) has e le sh sv =
-          let o = loaded access s negated x in
-          by_value s r o
-          (gives_at code front (at p s r []) (p + 1) (p + n) s [] o (omega arith)
-          (load_gives code front p s [] negated x r sv.0 has.0))
-      line_passes s r k (Some (instructions.Apply operator x)) has e le sh sv =
-          let o = both operator r (operand_value access s x) in
-          by_value s r o
-          (gives_at code front (at p s r []) (p + 1) (p + n) s [] o (omega arith)
-          (apply_gives code front p s [] operator x r sv.0 has.0))
-      line_passes s None k (Some (instructions.Deferred operator t close)) has e le sh sv =
-          stuck_here code front (at p s None []) (words.Open operator) has.0 refl
-      line_passes s (Some v) k (Some (instructions.Deferred operator t close)) has e le sh sv =
-          let c = at p s (Some v) [] in
-          let f = λ (x : Piece Place). word_of code.constants x.action in
-          let m = map f (pieces_of t) in
-          let q = p + 1 + length (pieces_of t) in
-          let back = subst (λ z. slice_get front (p + 1 + z) ≡ Some words.Close) (length-map (pieces_of t) f)
-          (words_back front (p + 1) m (words.Close ∷ []) has.2).0 in
-          let inner = has_mapped f (λ x. AreServed code.constants (uses_of_piece x)) front (p + 1) (pieces_of t)
-          (served_each code.constants uses_of_piece (pieces_of t) sv)
-          (words_front front (p + 1) m (words.Close ∷ []) has.2) in
-          let o = both operator (Some v) (value access s t) in
-          let long = length-append m (words.Close ∷ []) in
-          let mapped = length-map (pieces_of t) f in
-          let places = length-append (map (place_of {N = Place}) (pieces_of t)) (close ∷ []) in
-          let placed = length-map (pieces_of t) (place_of {N = Place}) in
-          by_value s (Some v) o
-          (gives_at code front c (q + 1) (p + n) s [] o (omega arith)
-          (then_deferred code front c p q s [] operator (Some v) (value access s t) has.0 back
-          (omega arith)
-          (λ w. tree_runs code front t (p + 1) s None (opened operator w ∷ []) inner (omega arith))
-          (none (plain code front) c)))
-      line_passes s r k (Some (instructions.Transform function)) has e le sh sv =
-          let o = option_and_then (value_of_function function) r in
-          by_value s r o
-          (gives_at code front (at p s r []) (p + 1) (p + n) s [] o (omega arith)
-          (transform_gives code front p s [] function r has.0))
-      line_passes s r k (Some (instructions.Limit low high)) has e le sh sv =
-          let c = at p s r [] in
-          let o = both Max r (operand_value access s low) in
-          let both_of = both Min o (operand_value access s high) in
-          by_value s r both_of
-          (gives_at code front c (p + 1 + 1) (p + n) s [] both_of (omega arith)
-          (then_apply code front c (p + 1) s [] Min high o sv.1.0 has.2.0
-          (apply_gives code front p s [] Max low r sv.0 has.0)))
-      line_passes s r k (Some (instructions.Store negated m)) has e le sh sv =
-          let on = λ (t : Store). at (p + 1) t r [] in
-          let v = option_and_then (modified negated) r in
-          let o = option_and_then (with_place (shape_of code) s m) v in
-          by_store s r o
-          (comes_by code front (at p s r []) on o (words.Store negated (variable_of m)) has.0
-          (ap (option_map on) (value_stored code few m s v))) e
-      line_passes s None k (Some (instructions.Set m)) has e le sh sv =
-          stuck_here code front (at p s None []) (words.Set (variable_of m)) has.0 refl
-      line_passes s (Some (values.Int z)) k (Some (instructions.Set m)) has e le sh sv =
-          stuck_here code front (at p s (Some (values.Int z)) []) (words.Set (variable_of m)) has.0 refl
-      line_passes s (Some (values.Bool true)) k (Some (instructions.Set m)) has e le sh sv =
-          by_set s (Some (values.Bool true)) m (values.Bool true) (words.Set (variable_of m)) has.0 refl e
-      line_passes s (Some (values.Bool false)) k (Some (instructions.Set m)) has e le sh sv =
-          let r = Some (values.Bool false) in
-          by_store s r (Some s)
-          (comes_by code front (at p s r []) (λ t. at (p + 1) t r []) (Some s) (words.Set (variable_of m)) has.0 refl) e
-      line_passes s None k (Some (instructions.Reset m)) has e le sh sv =
-          stuck_here code front (at p s None []) (words.Reset (variable_of m)) has.0 refl
-      line_passes s (Some (values.Int z)) k (Some (instructions.Reset m)) has e le sh sv =
-          stuck_here code front (at p s (Some (values.Int z)) []) (words.Reset (variable_of m)) has.0 refl
-      line_passes s (Some (values.Bool true)) k (Some (instructions.Reset m)) has e le sh sv =
-          by_set s (Some (values.Bool true)) m (values.Bool false) (words.Reset (variable_of m)) has.0 refl e
-      line_passes s (Some (values.Bool false)) k (Some (instructions.Reset m)) has e le sh sv =
-          let r = Some (values.Bool false) in
-          by_store s r (Some s)
-          (comes_by code front (at p s r []) (λ t. at (p + 1) t r []) (Some s) (words.Reset (variable_of m)) has.0 refl)
-          e
-      line_passes s r k (Some (instructions.Jump condition l)) has e le sh sv =
-          let target = place_of_label (p + n) lines l in
-          by_jump s r (holds condition r) (To l) target (words.Jump condition target) has.0 e le refl
-          (is_place (p + n) lines l)
-      line_passes s r k (Some (instructions.Return condition)) has e le sh sv =
-          by_jump s r (holds condition r) Out end (words.Jump condition end) has.0 e le refl refl
-      line_passes s r k (Some (instructions.Call Always m xs)) has e le sh sv =
-          let long = length-replicate (length xs + 1) k in
-          by_stores (at p s r []) None (called access m xs s) (call_at p k m xs s r has sv.1 (omega arith))
-      line_passes s r k (Some (instructions.Call IfTrue m xs)) has e le sh sv =
-          let long = length-replicate (length xs + 2) k in
-          by_call s r (holds IfTrue r) (holds IfFalse r) (words.Jump IfFalse (p + n)) (called access m xs s) has.0 le
-          (omega arith) refl (holds_not r) (call_at (p + 1) k m xs s r has.2 sv.1 (omega arith))
-      line_passes s r k (Some (instructions.Call IfFalse m xs)) has e le sh sv =
-          let long = length-replicate (length xs + 2) k in
-          by_call s r (holds IfFalse r) (holds IfTrue r) (words.Jump IfTrue (p + n)) (called access m xs s) has.0 le
-          (omega arith) refl (holds_not_not r) (call_at (p + 1) k m xs s r has.2 sv.1 (omega arith))
+    -- one line
+    line_passes : (s : Store) (r : Option Value) (k : ℕ) (i : Option (Instruction Place ℕ))
+        → HasWords front p (option_map_or (words_of code.constants end (p + n) (place_of_label (p + n) lines)) i [])
+        → n ≡ length (option_map_or (places_in_text k) i []) → base ≤ p → IsShallow i
+        → AreServed code.constants (option_map_or (uses_of k) i [])
+        → Passes (at p s r []) (option_and_then rest (line_does access i r s))
+    line_passes s r k None has e le sh sv =
+        let z : p + n ≡ p = omega arith in
+        subst (λ q. Passes (at q s r []) (passes number_same access lines On r s)) z (next On r s).2
+    line_passes s r k (Some (instructions.Load negated x)) has e le sh sv =
+        let o = loaded access s negated x in
+        by_value s r o
+        (gives_at code front (at p s r []) (p + 1) (p + n) s [] o (omega arith)
+        (load_gives code front p s [] negated x r sv.0 has.0))
+    line_passes s r k (Some (instructions.Apply operator x)) has e le sh sv =
+        let o = both operator r (operand_value access s x) in
+        by_value s r o
+        (gives_at code front (at p s r []) (p + 1) (p + n) s [] o (omega arith)
+        (apply_gives code front p s [] operator x r sv.0 has.0))
+    line_passes s None k (Some (instructions.Deferred operator t close)) has e le sh sv =
+        stuck_here code front (at p s None []) (words.Open operator) has.0 refl
+    line_passes s (Some v) k (Some (instructions.Deferred operator t close)) has e le sh sv =
+        let c = at p s (Some v) [] in
+        let f = λ (x : Piece Place). word_of code.constants x.action in
+        let m = map f (pieces_of t) in
+        let q = p + 1 + length (pieces_of t) in
+        let back = subst (λ z. slice_get front (p + 1 + z) ≡ Some words.Close) (length-map (pieces_of t) f)
+        (words_back front (p + 1) m (words.Close ∷ []) has.2).0 in
+        let inner = has_mapped f (λ x. AreServed code.constants (uses_of_piece x)) front (p + 1) (pieces_of t)
+        (served_each code.constants uses_of_piece (pieces_of t) sv)
+        (words_front front (p + 1) m (words.Close ∷ []) has.2) in
+        let o = both operator (Some v) (value access s t) in
+        let long = length-append m (words.Close ∷ []) in
+        let mapped = length-map (pieces_of t) f in
+        let places = length-append (map (place_of {N = Place}) (pieces_of t)) (close ∷ []) in
+        let placed = length-map (pieces_of t) (place_of {N = Place}) in
+        let room = sh.2 in
+        by_value s (Some v) o
+        (gives_at code front c (q + 1) (p + n) s [] o (omega arith)
+        (then_deferred code front c p q s [] operator (Some v) (value access s t) has.0 back
+        (omega arith)
+        (λ w. tree_runs code front t (p + 1) s None (opened operator w ∷ []) inner (omega arith))
+        (none (plain code front) c)))
+    line_passes s r k (Some (instructions.Transform function)) has e le sh sv =
+        let o = option_and_then (value_of_function function) r in
+        by_value s r o
+        (gives_at code front (at p s r []) (p + 1) (p + n) s [] o (omega arith)
+        (transform_gives code front p s [] function r has.0))
+    line_passes s r k (Some (instructions.Limit low high)) has e le sh sv =
+        let c = at p s r [] in
+        let o = both Max r (operand_value access s low) in
+        let both_of = both Min o (operand_value access s high) in
+        by_value s r both_of
+        (gives_at code front c (p + 1 + 1) (p + n) s [] both_of (omega arith)
+        (then_apply code front c (p + 1) s [] Min high o sv.1.0 has.2.0
+        (apply_gives code front p s [] Max low r sv.0 has.0)))
+    line_passes s r k (Some (instructions.Store negated m)) has e le sh sv =
+        let on = λ (t : Store). at (p + 1) t r [] in
+        let v = option_and_then (modified negated) r in
+        let o = option_and_then (with_place (shape_of code) s m) v in
+        by_store s r o
+        (comes_by code front (at p s r []) on o (words.Store negated (variable_of m)) has.0
+        (ap (option_map on) (value_stored code m sv.0 s v))) e
+    line_passes s None k (Some (instructions.Set m)) has e le sh sv =
+        stuck_here code front (at p s None []) (words.Set (variable_of m)) has.0 refl
+    line_passes s (Some (values.Int z)) k (Some (instructions.Set m)) has e le sh sv =
+        stuck_here code front (at p s (Some (values.Int z)) []) (words.Set (variable_of m)) has.0 refl
+    line_passes s (Some (values.Bool true)) k (Some (instructions.Set m)) has e le sh sv =
+        by_set s (Some (values.Bool true)) m sv.0 (values.Bool true) (words.Set (variable_of m)) has.0 refl e
+    line_passes s (Some (values.Bool false)) k (Some (instructions.Set m)) has e le sh sv =
+        let r = Some (values.Bool false) in
+        by_store s r (Some s)
+        (comes_by code front (at p s r []) (λ t. at (p + 1) t r []) (Some s) (words.Set (variable_of m)) has.0 refl) e
+    line_passes s None k (Some (instructions.Reset m)) has e le sh sv =
+        stuck_here code front (at p s None []) (words.Reset (variable_of m)) has.0 refl
+    line_passes s (Some (values.Int z)) k (Some (instructions.Reset m)) has e le sh sv =
+        stuck_here code front (at p s (Some (values.Int z)) []) (words.Reset (variable_of m)) has.0 refl
+    line_passes s (Some (values.Bool true)) k (Some (instructions.Reset m)) has e le sh sv =
+        by_set s (Some (values.Bool true)) m sv.0 (values.Bool false) (words.Reset (variable_of m)) has.0 refl e
+    line_passes s (Some (values.Bool false)) k (Some (instructions.Reset m)) has e le sh sv =
+        let r = Some (values.Bool false) in
+        by_store s r (Some s)
+        (comes_by code front (at p s r []) (λ t. at (p + 1) t r []) (Some s) (words.Reset (variable_of m)) has.0 refl)
+        e
+    line_passes s r k (Some (instructions.Jump condition l)) has e le sh sv =
+        let target = place_of_label (p + n) lines l in
+        by_jump s r (holds condition r) (To l) target (words.Jump condition target) has.0 e le refl
+        (is_place (p + n) lines l)
+    line_passes s r k (Some (instructions.Return condition)) has e le sh sv =
+        by_jump s r (holds condition r) Out end (words.Jump condition end) has.0 e le refl refl
+    line_passes s r k (Some (instructions.Call Always m xs)) has e le sh sv =
+        let long = length-replicate (length xs + 1) k in
+        by_stores (at p s r []) None (called access m xs s) (call_at p k m sv.0 xs s r has sv.1 (omega arith))
+    line_passes s r k (Some (instructions.Call IfTrue m xs)) has e le sh sv =
+        let long = length-replicate (length xs + 2) k in
+        by_call s r (holds IfTrue r) (holds IfFalse r) (words.Jump IfFalse (p + n)) (called access m xs s) has.0 le
+        (omega arith) refl (holds_not r) (call_at (p + 1) k m sv.0 xs s r has.2 sv.1 (omega arith))
+    line_passes s r k (Some (instructions.Call IfFalse m xs)) has e le sh sv =
+        let long = length-replicate (length xs + 2) k in
+        by_call s r (holds IfFalse r) (holds IfTrue r) (words.Jump IfTrue (p + n)) (called access m xs s) has.0 le
+        (omega arith) refl (holds_not_not r) (call_at (p + 1) k m sv.0 xs s r has.2 sv.1 (omega arith))
 
   -- a line, and those after it, from each way on
   by_way : (lines : List (Line Place ℕ)) (p n : ℕ) (label : Option ℕ) (f : Option Value → Store → Option Store)
@@ -358,18 +361,18 @@ module _ (code : Listing) (front : List Word) (base end : ℕ)
   by_way lines p n label f next here le Out r s = (omega arith, omega arith, (next Out r s).2)
 
   -- all lines that are left
-  pub lines_run : (few : length code.kinds ≤ most_blocks) (lines : List (Line Place ℕ)) (p : ℕ)
+  pub lines_run : (lines : List (Line Place ℕ)) (p : ℕ)
       → HasWords front p (words_of_lines code.constants end p lines)
       → Each (IsFit code.constants) lines → base ≤ p → p + counts.words_of_lines lines ≡ end → Run p lines
-  lines_run few [] p has fit le e On r s =
+  lines_run [] p has fit le e On r s =
       let z : at p s r [] ≡ at end s r [] = ap (λ q. at q s r []) (omega arith) in (
         omega arith,
         omega arith,
         (r, subst (λ c. Leads (plain code front) (at p s r []) c) z (none (plain code front) (at p s r []))),
       )
-  lines_run few [] p has fit le e (To l) r s = refl
-  lines_run few [] p has fit le e Out r s = (omega arith, omega arith, (r, none (plain code front) (at end s r [])))
-  lines_run few (line ∷ lines) p has fit le e way r s =
+  lines_run [] p has fit le e (To l) r s = refl
+  lines_run [] p has fit le e Out r s = (omega arith, omega arith, (r, none (plain code front) (at end s r [])))
+  lines_run (line ∷ lines) p has fit le e way r s =
       let n = counts.words_in line in
       let target = place_of_label (p + n) lines in
       let mine = words_in code.constants end (p + n) target line in
@@ -378,9 +381,9 @@ module _ (code : Listing) (front : List Word) (base end : ℕ)
       let more = count_more line lines in
       let behind = subst (λ q. HasWords front q others) long (words_back front p mine others has) in
       let next : Run (p + n) lines =
-      lines_run few lines (p + n) behind fit.1 (omega arith) (omega arith) in
+      lines_run lines (p + n) behind fit.1 (omega arith) (omega arith) in
       let here = λ (r : Option Value) (s : Store).
-      line_passes few lines p n next s r line.at line.instruction (words_front front p mine others has) refl le
+      line_passes lines p n next s r line.at line.instruction (words_front front p mine others has) refl le
       fit.0.0 fit.0.1 in
       by_way lines p n line.label
       (λ r s. option_and_then (λ x. passes number_same access lines x.way x.result x.store)

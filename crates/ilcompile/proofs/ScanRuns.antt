@@ -6,7 +6,6 @@ use Rattle.std.specs.Option.{option_and_then}
 use Rattle.std.proofs.lemmas.Bool.Decides.{nat_tests}
 use Rattle.std.proofs.lemmas.List.{append-nil}
 use Rattle.std.proofs.lemmas.Option.{slice_get_within}
-use Rattle.limits.specs.Limits.{most_blocks}
 use Rattle.iltypes.specs.declared.value.Value.{Value}
 use Rattle.iltrees.specs.declared.instruction.Line.{Line}
 use Rattle.iltrees.specs.Meaning.{Access, On}
@@ -14,7 +13,7 @@ use Rattle.iltrees.specs.Passes.{passes, scan}
 use Rattle.iltrees.specs.Words as counts
 use Rattle.ilblocks.specs.Stores.{Store}
 use Rattle.ilplan.specs.declared.place.Place.{Place}
-use Rattle.ilcode.specs.declared.word.Word.{Word}
+use Rattle.ilword.specs.declared.word.Word.{Word}
 use Rattle.ilcode.specs.Listings.{Listing, shape_of}
 use Rattle.ilcode.specs.Steps.{Configuration, at, effect, is_start, is_target, if_closed, entered, step_by, step}
 use Rattle.ilcode.proofs.Runs.{effect_leads, leads_forward}
@@ -292,32 +291,32 @@ module _ (code : Listing) where
       (subst (λ n. Comes (at n s1 b.0 []) left) l.place (next s1 b.0 b.2))
 
   -- all programs that are left
-  programs_run : (few : length code.kinds ≤ most_blocks) (programs : Programs) (front : List Word)
+  programs_run : (programs : Programs) (front : List Word)
       (before : List ℕ) (p : ℕ)
       → Left front before p programs → Each (Each (IsFit code.constants)) programs → (s : Store) (r : Option Value)
       → Ready programs r → Comes (at p s r []) (scan number_same access programs s)
-  programs_run few [] front before p l fit s r ready =
+  programs_run [] front before p l fit s r ready =
       let e = ends_code front before p [] l refl in
       (r, subst (λ n. Leads (step code) (at p s r []) (at n s r [])) (sym e) (none (step code) (at p s r [])))
-  programs_run few (lines ∷ more) front before p l fit s r ready =
+  programs_run (lines ∷ more) front before p l fit s r ready =
       let ws = words_at p lines in
       let q = end_of p lines in
       let l' = next_left front before p lines more l in
       let has = subst (λ n. HasWords (front ++ ws) n ws) (sym l.place) (has_rest ws front) in
       let passed = passes number_same access lines On None s in
       let lawful = lawful_here (front ++ ws) before p q more l' l.behind in
-      let comes = (lines_run code (front ++ ws) p q lawful few lines p has fit.0 (omega arith) refl On None s).2 in
+      let comes = (lines_run code (front ++ ws) p q lawful lines p has fit.0 (omega arith) refl On None s).2 in
       subst (λ x. Comes (at p s x []) (option_and_then (scan number_same access more) passed)) (sym ready)
       (go_on front before p lines more l l' s passed comes
-      (λ s1 r1 rd. programs_run few more (front ++ ws) (before ++ p ∷ []) q l' fit.1 s1 r1 rd))
+      (λ s1 r1 rd. programs_run more (front ++ ws) (before ++ p ∷ []) q l' fit.1 s1 r1 rd))
 
   -- from the first word on
-  pub all_run : (few : length code.kinds ≤ most_blocks) (programs : Programs)
+  pub all_run : (programs : Programs)
       → code.instructions ≡ words_of_programs code.constants 0 programs
       → code.starts ≡ starts_from 0 programs → Each (Each (IsFit code.constants)) programs
       → (s : Store) → Comes (at 0 s None []) (scan number_same access programs s)
-  all_run few programs words starts fit s =
-      programs_run few programs [] [] 0 (record { place = refl; words = words; starts = starts; behind = tt }) fit s
+  all_run programs words starts fit s =
+      programs_run programs [] [] 0 (record { place = refl; words = words; starts = starts; behind = tt }) fit s
       None (first programs)
     where
       first : (ps : Programs) → Ready ps None

@@ -1,11 +1,11 @@
 -- Operands whose constants are in the table mean in the code what they mean in the plan.
-use Rattle.std.proofs.Common.{◌≡◌, ◌≤◌, List, [], ◌∷◌, ◌++◌, length, Some, refl}
+use Rattle.std.proofs.Common.{◌≡◌, List, [], ◌∷◌, ◌++◌, Some, refl}
 use Rattle.std.specs.Prelude.{slice_get, flat_map, ⊤}
-use Rattle.std.proofs.lemmas.Option.{slice_get_past}
-use Rattle.limits.specs.Limits.{most_constants}
 use Rattle.iltypes.specs.declared.value.Value.{Value}
 use Rattle.iltrees.specs.declared.operand.Operand.{Operand}
 use Rattle.iltrees.specs.declared.operand.Operand.TheVariants.{Name, Constant}
+use Rattle.iltrees.specs.declared.uses.Purpose.{Purpose}
+use Rattle.iltrees.specs.declared.uses.Purpose.TheVariants.{Read, Write, Call, Pass}
 use Rattle.iltrees.specs.declared.uses.Use.{Use}
 use Rattle.iltrees.specs.Meaning.{operand_value}
 use Rattle.ilblocks.specs.Stores.{Store}
@@ -17,21 +17,33 @@ use Rattle.ilcompile.specs.Layout.{constant_number, operand_of}
 use Rattle.ilplan.specs.PlanMeaning.{places_of}
 use Rattle.ilcompile.proofs.Stands.{Each}
 
--- the table has the operand's constant at its number, and ends before the number of what has no value
+-- a variable or a port, and not a block instance
+abbrev pub IsVariable : Place → Type 0
+IsVariable (places.Block block) = ⊥
+IsVariable place = ⊤
+
+-- the table has an operand's constant at its number, and names are of what may stand there
+abbrev pub IsServedAs : List Value → Purpose → Operand Place → Type 0
+IsServedAs constants Read (Name place) = IsVariable place
+IsServedAs constants Read (Constant value) = slice_get constants (constant_number constants value) ≡ Some value
+IsServedAs constants Write (Name place) = IsVariable place
+IsServedAs constants Write (Constant value) = ⊤
+IsServedAs constants Call (Name (places.Block block)) = ⊤
+IsServedAs constants Call operand = ⊥
+IsServedAs constants Pass (Name (places.Port block port)) = ⊤
+IsServedAs constants Pass operand = ⊥
+
 abbrev pub IsServed : List Value → Operand Place → Type 0
-IsServed constants (Name (places.Slot slot)) = ⊤
-IsServed constants (Name (places.Port block port)) = ⊤
-IsServed constants (Name (places.Block block)) = length constants ≤ most_constants
-IsServed constants (Constant value) = slice_get constants (constant_number constants value) ≡ Some value
+IsServed constants o = IsServedAs constants Read o
 
 abbrev pub AreServed : List Value → List (Use Place) → Type 0
-AreServed constants uses = Each (λ u. IsServed constants u.operand) uses
+AreServed constants uses = Each (λ u. IsServedAs constants u.purpose u.operand) uses
 
 pub served_value : (code : Listing) (s : Store) (o : Operand Place) → IsServed code.constants o
     → value_of code s (operand_of code.constants o) ≡ operand_value (places_of (shape_of code)) s o
 served_value code s (Name (places.Slot slot)) h = refl
 served_value code s (Name (places.Port block port)) h = refl
-served_value code s (Name (places.Block block)) h = slice_get_past code.constants most_constants h
+served_value code s (Name (places.Block block)) h = absurd h
 served_value code s (Constant value) h = h
 
 module _ (constants : List Value) where

@@ -19,8 +19,8 @@ use Rattle.iltrees.specs.Words.{place_of, places_of, places_in}
 use Rattle.iltrees.specs.Words as counts
 use Rattle.ilplan.specs.declared.place.Place.{Place}
 use Rattle.ilplan.specs.Plans.{PlannedInstance, all_lines}
-use Rattle.ilcode.specs.declared.word.Word.TheVariants as words
-use Rattle.ilcompile.specs.Layout.{place_of_label, word_of, word_of_argument, words_of_call, block_of, jump_over}
+use Rattle.ilword.specs.declared.word.Word.TheVariants as words
+use Rattle.ilcompile.specs.Layout.{place_of_label, word_of, word_of_argument, words_of_call, number_of, jump_over}
 use Rattle.ilcompile.specs.Layout.{words_of, words_in, words_of_lines, words_of_programs}
 
 -- one line more
@@ -52,7 +52,7 @@ module _ (constants : List Value) (end next : ℕ) where
       called : length (words_of_call constants n xs) ≡ length xs + 1
       called =
           let ws = map (word_of_argument constants) xs in
-          omega (arith, length-append ws (words.Call (block_of n) ∷ []), length-map xs (word_of_argument constants))
+          omega (arith, length-append ws (words.Call (number_of n) ∷ []), length-map xs (word_of_argument constants))
 
       go : (condition : Condition) → length (jump_over next condition ++ words_of_call constants n xs)
           ≡ length (places_of {L = ℕ} at (instructions.Call condition n xs))

@@ -4,7 +4,6 @@
 use Rattle.std.specs.Prelude.{ℕ, ◌+◌, List, [], ◌∷◌, ◌++◌, map, flat_map, if◌then◌else◌}
 use Rattle.std.specs.Option.{option_map_or}
 use Rattle.std.specs.List.{position_or_len}
-use Rattle.limits.specs.Limits.{most_constants, most_blocks}
 use Rattle.iltypes.specs.declared.value.Value.{Value}
 use Rattle.iloperators.specs.declared.condition.Condition.{Condition}
 use Rattle.iloperators.specs.declared.condition.Condition.TheVariants.{Always, IfTrue, IfFalse}
@@ -27,43 +26,40 @@ use Rattle.ilplan.specs.PlanMeaning.{number_same}
 use Rattle.ilplan.specs.declared.place.Place.{Place}
 use Rattle.ilplan.specs.declared.place.Place.TheVariants as places
 use Rattle.ilplan.specs.Plans.{PlannedInstance, PlannedTask, types_of, kinds_of}
-use Rattle.ilcode.specs.declared.word.WordOperand.{WordOperand}
-use Rattle.ilcode.specs.declared.word.WordOperand.TheVariants as operands
-use Rattle.ilcode.specs.declared.word.Target.{Target}
-use Rattle.ilcode.specs.declared.word.Target.TheVariants as variables
-use Rattle.ilcode.specs.declared.word.Word.{Word}
-use Rattle.ilcode.specs.declared.word.Word.TheVariants as words
+use Rattle.ilword.specs.declared.word.WordOperand.{WordOperand}
+use Rattle.ilword.specs.declared.word.WordOperand.TheVariants as operands
+use Rattle.ilword.specs.declared.word.Target.{Target}
+use Rattle.ilword.specs.declared.word.Target.TheVariants as variables
+use Rattle.ilword.specs.declared.word.Word.{Word}
+use Rattle.ilword.specs.declared.word.Word.TheVariants as words
 use Rattle.ilcode.specs.Listings.{Listing, listing_of}
 
 -- the number of a constant: its place in the table
 abbrev pub constant_number : List Value → Value → ℕ
 constant_number constants value = position_or_len (same_value value) constants
 
--- an operand by its number; an instance has no value, and is past the last constant
+-- what is named, by numbers. In a plan an operand and what is stored to is a variable or a port, an argument is given to
+-- a port, and a block instance is called: the other cases stand in no plan
+abbrev pub number_of : Place → ℕ
+number_of (places.Slot slot) = slot
+number_of (places.Port block port) = block
+number_of (places.Block block) = block
+
 abbrev pub operand_of : List Value → Operand Place → WordOperand
-operand_of constants (Name (places.Slot slot)) = operands.Slot slot
 operand_of constants (Name (places.Port block port)) = operands.Port port block
-operand_of constants (Name (places.Block block)) = operands.Constant most_constants
+operand_of constants (Name place) = operands.Slot (number_of place)
 operand_of constants (Constant value) = operands.Constant (constant_number constants value)
 
--- what is stored to; an instance is not, and its port is that of an instance past the last
 abbrev pub variable_of : Place → Target
-variable_of (places.Slot slot) = variables.Slot slot
 variable_of (places.Port block port) = variables.Port port block
-variable_of (places.Block block) = variables.Port 0 most_blocks
+variable_of place = variables.Slot (number_of place)
 
--- the instance that is called; what is none is past the last
-abbrev pub block_of : Place → ℕ
-block_of (places.Block block) = block
-block_of _ = most_blocks
-
--- the word of an argument; a variable is no port
-abbrev pub pass_to : Place → WordOperand → Word
-pass_to (places.Port block port) operand = words.Pass port block operand
-pass_to _ operand = words.Pass 0 most_blocks operand
+abbrev pub port_of : Place → ℕ
+port_of (places.Port block port) = port
+port_of place = 0
 
 abbrev pub word_of_argument : List Value → Argument Place → Word
-word_of_argument constants x = pass_to x.port (operand_of constants x.operand)
+word_of_argument constants x = words.Pass (port_of x.port) (number_of x.port) (operand_of constants x.operand)
 
 -- the word of a piece of what stands in parentheses
 abbrev pub word_of : List Value → Action Place → Word
@@ -83,7 +79,7 @@ place_of_label place (line ∷ lines) label =
 
 -- the arguments one after another, and the call
 abbrev pub words_of_call : List Value → Place → List (Argument Place) → List Word
-words_of_call constants n xs = map (word_of_argument constants) xs ++ words.Call (block_of n) ∷ []
+words_of_call constants n xs = map (word_of_argument constants) xs ++ words.Call (number_of n) ∷ []
 
 -- the jump over a call that is not carried out
 abbrev pub jump_over : ℕ → Condition → List Word

@@ -25,11 +25,11 @@ use Rattle.ilplan.specs.declared.place.Place.{Place}
 use Rattle.ilplan.specs.declared.place.Place.TheVariants as places
 use Rattle.ilplan.specs.Constants.{different_constants}
 use Rattle.ilplan.specs.Plans.{PlannedTask, task_of}
-use Rattle.ilcode.specs.declared.word.WordOperand.TheVariants as operands
-use Rattle.ilcode.specs.declared.word.Target.{Target}
-use Rattle.ilcode.specs.declared.word.Target.TheVariants as variables
-use Rattle.ilcode.specs.declared.word.Word.{Word}
-use Rattle.ilcode.specs.declared.word.Word.TheVariants as words
+use Rattle.ilword.specs.declared.word.WordOperand.TheVariants as operands
+use Rattle.ilword.specs.declared.word.Target.{Target}
+use Rattle.ilword.specs.declared.word.Target.TheVariants as variables
+use Rattle.ilword.specs.declared.word.Word.{Word}
+use Rattle.ilword.specs.declared.word.Word.TheVariants as words
 use Rattle.ilcode.specs.Listings.{listing_of}
 use Rattle.ilcompile.specs.Layout.{laid_out}
 
@@ -242,18 +242,6 @@ words_over_call =
     words.Load false (operands.Slot 0) ∷ words.Jump IfTrue 6 ∷ words.Jump IfFalse 6
     ∷ words.Pass 0 0 (operands.Slot 0) ∷ words.Pass 1 0 (operands.Constant 0) ∷ words.Call 0
     ∷ words.Store false in_b ∷ []
-
--- LD t, ST t, S e, CAL a, CAL t(a := b): no table has what is none
-abbrev pub misnamed : List (Line Place ℕ)
-misnamed =
-    ld 2 (Name t) ∷ line 3 (instructions.Store false t) ∷ line 4 (instructions.Set e)
-    ∷ call 5 Always (places.Slot 0) []
-    ∷ call 6 Always t (record { port = places.Slot 0; operand = b } ∷ []) ∷ []
-
-abbrev pub words_misnamed : List Word
-words_misnamed =
-    words.Load false (operands.Constant 4096) ∷ words.Store false (variables.Port 0 256)
-    ∷ words.Set (variables.Port 0 256) ∷ words.Call 256 ∷ words.Pass 0 256 (operands.Slot 1) ∷ words.Call 0 ∷ []
 
 -- each line loads a constant
 abbrev pub AreLoads : List (Line Place ℕ) → Type 0

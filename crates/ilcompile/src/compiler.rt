@@ -1,7 +1,7 @@
 //! From plans to code: each instance's lines one after another, as words.
 
 ghost use Rattle.std.specs.Prelude.{◌≡◌, ◌≤◌, ◌<◌, length, map, slice_get, IfOk, IfSome};
-ghost use Rattle.limits.specs.Limits.{most_buses};
+ghost use Rattle.limits.specs.Limits.{most_buses, most_bytes};
 ghost use Rattle.ilplan.specs.Plans.{KeepsLimits};
 ghost use Rattle.ilcompile.specs.Layout.{laid_out};
 ghost use Rattle.ilcompile.specs.Meant.{IsMeant};
@@ -12,6 +12,7 @@ use ilblocks::BlockKind;
 use ilcode::Code;
 use ilplan::{FunctionBlock, Plan, Slot, Task};
 use iltypes::IlType;
+use ilword::pack;
 use std::alloc::{AllocError, Global};
 
 /// The code of a task: its instances' words in order, with a start for each instance, the
@@ -34,6 +35,7 @@ pub fn compile(alloc: Global, plan: &Plan, task: usize) -> Result<Code, AllocErr
 fn lay_out(alloc: Global, buses: u8, text: &[u8], task: &Task) -> Result<Code, AllocError>
     requires first { 1 ≤ buses }
     requires last { buses ≤ most_buses }
+    requires short { length text.now ≤ most_bytes }
     requires limits { KeepsLimits task.now }
     ensures layout { IfOk result (λ code. code ≡ laid_out buses text.now task.now) }
     ensures meaning { IfOk result (λ code. IsMeant buses task.now code) }
@@ -42,6 +44,7 @@ fn lay_out(alloc: Global, buses: u8, text: &[u8], task: &Task) -> Result<Code, A
     let slots = slot_types(alloc, task.slots())?;
     let kinds = block_kinds(alloc, task.blocks())?;
     let (starts, words) = words(alloc, task.constants(), task.instances())?;
+    let words = pack(alloc, &words)?;
     let lines = line_numbers(alloc, text, task.instances())?;
     Ok(Code::new(buses, constants, slots, kinds, starts, words, lines))
 }

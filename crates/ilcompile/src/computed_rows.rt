@@ -13,7 +13,6 @@ ghost use Rattle.ilcompile.specs.Rows.{astray, words_astray};
 ghost use Rattle.ilcompile.specs.Rows.{calling, words_calling};
 ghost use Rattle.ilcompile.specs.Rows.{calling_if, words_calling_if};
 ghost use Rattle.ilcompile.specs.Rows.{over_call, words_over_call};
-ghost use Rattle.ilcompile.specs.Rows.{misnamed, words_misnamed};
 
 /// Words in parentheses stand on lines of their own; a program without lines has a start; equal
 /// constants have one number, and 1 is not TRUE.
@@ -43,8 +42,7 @@ fn jumps()
 {}
 
 /// A call after its arguments, in their order, and ports as operands; calls that a condition passes
-/// over, to a label, to the next program and to the end; a jump over a call; and what is stored to,
-/// called or given that cannot be.
+/// over, to a label, to the next program and to the end; and a jump over a call.
 fn calls()
     ensures calling { AreLaidOut (calling ∷ []) (whole 500 ∷ []) (0 ∷ [])
         words_calling (3 ∷ 4 ∷ 4 ∷ 4 ∷ 5 ∷ 6 ∷ 7 ∷ []) }
@@ -52,6 +50,4 @@ fn calls()
         words_calling_if (3 ∷ 4 ∷ 4 ∷ 4 ∷ 5 ∷ 6 ∷ 6 ∷ 7 ∷ 8 ∷ 8 ∷ 8 ∷ 8 ∷ []) }
     ensures over_call { AreLaidOut (over_call ∷ []) (whole 7 ∷ []) (0 ∷ [])
         words_over_call (3 ∷ 4 ∷ 5 ∷ 5 ∷ 5 ∷ 5 ∷ 6 ∷ []) }
-    ensures misnamed { AreLaidOut (misnamed ∷ []) [] (0 ∷ [])
-        words_misnamed (3 ∷ 4 ∷ 5 ∷ 6 ∷ 7 ∷ 7 ∷ []) }
 {}

@@ -1,6 +1,7 @@
 //! The lines of the text that words stand on.
 
-ghost use Rattle.std.specs.Prelude.{◌≡◌, ◌++◌, map, flat_map, IfOk, OnOk};
+ghost use Rattle.std.specs.Prelude.{◌≡◌, ◌≤◌, ◌++◌, length, map, flat_map, IfOk, OnOk};
+ghost use Rattle.limits.specs.Limits.{most_bytes};
 ghost use Rattle.iltrees.specs.Words.{places_in};
 ghost use Rattle.ilsource.specs.Places.{line_at};
 ghost use Rattle.ilcompile.specs.Layout.{places_of_programs, programs_of};
@@ -15,7 +16,8 @@ pub(crate) fn line_numbers(
     alloc: Global,
     text: &[u8],
     instances: &[ProgramInstance],
-) -> Result<Vec<usize>, AllocError>
+) -> Result<Vec<u32>, AllocError>
+    requires { length text.now ≤ most_bytes }
     ensures { IfOk result (λ numbers. numbers.items
         ≡ map (line_at text.now) (places_of_programs (programs_of instances.now))) }
 {
@@ -23,7 +25,7 @@ pub(crate) fn line_numbers(
     let mut counter = LineCounter::new(text);
     let mut numbers = Vec::new(alloc);
     for at in &places {
-        numbers.push(counter.line_of(*at))?;
+        numbers.push(counter.line_of(*at) as u32)?;
     }
     Ok(numbers)
 }

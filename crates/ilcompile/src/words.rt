@@ -4,8 +4,9 @@ ghost use Rattle.std.specs.Prelude.{◌≡◌, ◌≤◌, ◌+◌, ◌∷◌, �
 ghost use Rattle.limits.specs.Limits.{most_constants, most_words};
 ghost use Rattle.iltrees.specs.Words as counts;
 ghost use Rattle.ilplan.specs.Plans.{all_lines};
-ghost use Rattle.ilcode.specs.declared.word.Word.TheVariants as variants;
-ghost use Rattle.ilcompile.specs.Layout.{operand_of, variable_of, block_of, word_of_argument};
+ghost use Rattle.ilword.specs.declared.word.Word.TheVariants as variants;
+ghost use Rattle.ilcompile.specs.Layout.{number_of, operand_of, port_of, variable_of};
+ghost use Rattle.ilcompile.specs.Layout.{word_of_argument};
 ghost use Rattle.ilcompile.specs.Layout.{word_of, jump_over, words_of, words_in, words_of_lines};
 ghost use Rattle.ilcompile.specs.Layout.{words_of_programs, starts_from, programs_of};
 
@@ -14,7 +15,6 @@ use ilcode::{Target, Word, WordOperand};
 use iloperators::{Condition, Operator};
 use ilplan::{Constants, Place, ProgramInstance};
 use iltrees::{Action, Argument, Instruction, Line, Operand, Piece};
-use limits::{MOST_BLOCKS, MOST_CONSTANTS};
 use std::alloc::{AllocError, Global};
 
 /// The place where each instance's first word stands, or would stand, and the words of all.
@@ -127,7 +127,7 @@ fn push_words(
         } => {
             push_jump_over(words, next, *condition)?;
             push_arguments(words, constants, arguments.as_slice())?;
-            push(words, Word::Call(block(*instance)))
+            push(words, Word::Call(number_of(*instance)))
         }
     }
 }
@@ -231,18 +231,10 @@ fn pass(constants: &Constants, argument: Argument<Place>) -> Word
     requires few { length constants.now ≤ most_constants }
     ensures { result ≡ word_of_argument constants.now argument }
 {
-    let operand = numbered(constants, argument.operand);
-    match argument.port {
-        Place::Port { block, port } => Word::Pass {
-            port,
-            block,
-            operand,
-        },
-        Place::Slot(_) | Place::Block(_) => Word::Pass {
-            port: 0,
-            block: MOST_BLOCKS as u16,
-            operand,
-        },
+    Word::Pass {
+        port: port_of(argument.port),
+        block: number_of(argument.port),
+        operand: numbered(constants, argument.operand),
     }
 }
 
@@ -259,9 +251,8 @@ fn numbered(constants: &Constants, operand: Operand<Place>) -> WordOperand
     ensures { result ≡ operand_of constants.now operand }
 {
     match operand {
-        Operand::Name(Place::Slot(slot)) => WordOperand::Slot(slot),
         Operand::Name(Place::Port { block, port }) => WordOperand::Port { port, block },
-        Operand::Name(Place::Block(_)) => WordOperand::Constant(MOST_CONSTANTS as u16),
+        Operand::Name(place) => WordOperand::Slot(number_of(place)),
         Operand::Constant(value) => WordOperand::Constant(constants.number_of(value) as u16),
     }
 }
@@ -271,21 +262,27 @@ fn variable(place: Place) -> Target
     ensures { result ≡ variable_of place }
 {
     match place {
-        Place::Slot(slot) => Target::Slot(slot),
         Place::Port { block, port } => Target::Port { port, block },
-        Place::Block(_) => Target::Port {
-            port: 0,
-            block: MOST_BLOCKS as u16,
-        },
+        _ => Target::Slot(number_of(place)),
     }
 }
 
-/// The block instance that is called.
-fn block(place: Place) -> u16
-    ensures { result ≡ block_of place }
+/// The number of a variable's slot, or of a block instance, which is called or has the port.
+fn number_of(place: Place) -> u16
+    ensures { result ≡ number_of place }
 {
     match place {
-        Place::Block(block) => block,
-        Place::Slot(_) | Place::Port { .. } => MOST_BLOCKS as u16,
+        Place::Slot(number) | Place::Block(number) => number,
+        Place::Port { block, .. } => block,
+    }
+}
+
+/// The number of a port.
+fn port_of(place: Place) -> u8
+    ensures { result ≡ port_of place }
+{
+    match place {
+        Place::Port { port, .. } => port,
+        Place::Slot(_) | Place::Block(_) => 0,
     }
 }

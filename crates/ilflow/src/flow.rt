@@ -32,7 +32,7 @@ impl Flow {
     /// The allocator is out of memory.
     pub fn new(alloc: Global, code: &Code) -> Result<Flow, AllocError> {
         let mut pending = Vec::new(alloc);
-        for _ in 0..code.instructions().len() {
+        for _ in 0..code.len() {
             pending.push(None)?;
         }
         let first = Entry::opening(alloc, code)?;
@@ -69,7 +69,7 @@ impl Flow {
     pub fn advance(&mut self, code: &Code) -> Result<Judged, AllocError> {
         let place = self.place;
         let next = place.saturating_add(1);
-        if place >= code.instructions().len() {
+        if place >= code.len() {
             return Ok(Judged::Past);
         }
         self.place = next;
@@ -96,10 +96,10 @@ impl Flow {
         met: bool,
         entry: &Entry,
     ) -> Result<Judged, AllocError> {
-        if place >= code.instructions().len() {
+        if place >= code.len() {
             return Ok(Judged::Past);
         }
-        let word = code.instructions()[place];
+        let word = code.word(place);
         match after_word(code, place, met, entry, word) {
             Ok(changes) => {
                 self.follow_ways(code, place, word, entry, changes)?;

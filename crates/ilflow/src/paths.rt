@@ -12,8 +12,8 @@ use std::alloc::{AllocError, Global};
 /// The allocator is out of memory.
 pub fn longest_paths(alloc: Global, code: &Code) -> Result<Vec<u32>, AllocError> {
     let mut longest = zeros(alloc, code)?;
-    for back in 0..code.instructions().len() {
-        let place = code.instructions().len() - 1 - back;
+    for back in 0..code.len() {
+        let place = code.len() - 1 - back;
         let words = most_after(code, place, &longest).saturating_add(1);
         set(&mut longest, place, words);
     }
@@ -27,9 +27,9 @@ pub fn longest_paths(alloc: Global, code: &Code) -> Result<Vec<u32>, AllocError>
 /// The allocator is out of memory.
 pub fn most_requests(alloc: Global, code: &Code) -> Result<u32, AllocError> {
     let mut most = zeros(alloc, code)?;
-    for back in 0..code.instructions().len() {
-        let place = code.instructions().len() - 1 - back;
-        let calls = u32::from(may_request(code, code.instructions()[place]));
+    for back in 0..code.len() {
+        let place = code.len() - 1 - back;
+        let calls = u32::from(may_request(code, code.word(place)));
         let requests = most_after(code, place, &most).saturating_add(calls);
         set(&mut most, place, requests);
     }
@@ -39,7 +39,7 @@ pub fn most_requests(alloc: Global, code: &Code) -> Result<u32, AllocError> {
 /// A zero for each place, and for the one behind the last word.
 fn zeros(alloc: Global, code: &Code) -> Result<Vec<u32>, AllocError> {
     let mut counts = Vec::new(alloc);
-    for _ in 0..code.instructions().len() {
+    for _ in 0..code.len() {
         counts.push(0)?;
     }
     counts.push(0)?;
@@ -49,9 +49,9 @@ fn zeros(alloc: Global, code: &Code) -> Result<Vec<u32>, AllocError> {
 /// Of the places that control may go to from a word, the greatest count.
 fn most_after(code: &Code, place: usize, counts: &[u32]) -> u32 {
     let next = at(counts, place.saturating_add(1));
-    match code.instructions().get(place) {
+    match code.get(place) {
         Some(Word::Jump { condition, target }) => {
-            let there = at(counts, *target as usize);
+            let there = at(counts, target as usize);
             match condition {
                 Condition::Always => there,
                 Condition::IfTrue | Condition::IfFalse => there.max(next),

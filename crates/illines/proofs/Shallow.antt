@@ -1,13 +1,13 @@
--- Lines that are read have no more parentheses open at once than the limit.
+-- Lines that are read have no more parentheses open at once than the limit, each after an operator that may be deferred.
 use Rattle.std.proofs.Common.{◌≡◌, ℕ, zero, suc, ◌+◌, ◌≤◌, Bool, true, false, List, [], ◌∷◌, Option, Some, None}
-use Rattle.std.specs.Prelude.{⊤}
-use Rattle.std.proofs.Common.{Ok, inl, inr, sym, subst, ◌∙◌, arith}
+use Rattle.std.specs.Prelude.{IsTrue, ⊤}
+use Rattle.std.proofs.Common.{Ok, inl, inr, refl, sym, subst, ◌∙◌, arith}
 use Rattle.limits.specs.Limits.{most_nesting}
 use Rattle.iloperators.specs.declared.operator.Operator.{Operator}
 use Rattle.iloperators.specs.Operators.{may_defer}
 use Rattle.iltrees.specs.declared.instruction.Instruction.TheVariants as instructions
 use Rattle.iltrees.specs.Trees.{Tree, depth}
-use Rattle.iltrees.specs.Words.{IsShallow, AreShallow}
+use Rattle.iltrees.specs.Words.{MayDefer, IsShallow, AreShallow}
 use Rattle.ilgrammar.specs.Items.{Item, alt, opt_whole, many_whole}
 use Rattle.ilsource.specs.declared.name.Name.{Name}
 use Rattle.ilsource.specs.declared.symbol.Symbol.{Symbol}
@@ -24,7 +24,8 @@ use Rattle.illines.proofs.InstructionLaws.{Lawful-lines}
 
 -- parentheses of the instruction have room, where so many may be open at once
 abbrev HasRoom : ℕ → Option TextInstruction → Type 0
-HasRoom more (Some (instructions.Deferred operator u close)) = depth u + 1 ≤ more
+HasRoom more (Some (instructions.Deferred operator u close)) =
+    IsTrue (may_defer operator) × MayDefer u × (depth u + 1 ≤ more)
 HasRoom more _ = ⊤
 
 abbrev Fits : ℕ → TextLine → Type 0
@@ -33,8 +34,11 @@ Fits more line = HasRoom more line.instruction
 abbrev AllFit : ℕ → Item Token TextLine → Type 0
 AllFit more item = (ts : List Token) (line : TextLine) → item.whole ts line → Fits more line
 
+abbrev Within : ℕ → Tree Symbol → Type 0
+Within more t = MayDefer t × (depth t ≤ more)
+
 abbrev AllWithin : ℕ → Item Token (Tree Symbol) → Type 0
-AllWithin more item = (ts : List Token) (t : Tree Symbol) → item.whole ts t → depth t ≤ more
+AllWithin more item = (ts : List Token) (t : Tree Symbol) → item.whole ts t → Within more t
 
 -- ---- what follows an operator
 
@@ -60,24 +64,26 @@ module _ (more : ℕ) where
   -- ---- what stands in parentheses
 
   grown_within : (t : Tree Symbol) (at : ℕ) (i : Option TextInstruction)
-      → depth t ≤ more → HasRoom more i → depth (grown t at i) ≤ more
-  grown_within t at (Some (instructions.Deferred operator u close)) h room = omega arith
+      → Within more t → HasRoom more i → Within more (grown t at i)
+  grown_within t at (Some (instructions.Deferred operator u close)) h room =
+      let low = h.1 in let high = room.2 in
+      ((h.0, room.0, room.1), omega arith)
   grown_within t at _ h room = h
 
   loads_within : AllWithin more load
   unfolding load
-  loads_within ts t w = subst (λ (u : Tree Symbol). depth u ≤ more) (sym w.2) (omega arith)
+  loads_within ts t w = subst (Within more) (sym w.2) (tt, omega arith)
 
   begins_within : (at : ℕ) → AllWithin more (beginning at)
   unfolding beginning
   begins_within at ts t (inl w) =
       let next = w.1.4 in let load_line = next.1.3 in
-      subst (λ (u : Tree Symbol). depth u ≤ more) (sym (w.2 ∙ next.2)) (loads_within _ _ load_line)
+      subst (Within more) (sym (w.2 ∙ next.2)) (loads_within _ _ load_line)
   begins_within at ts t (inr w) =
-      subst (λ (u : Tree Symbol). depth u ≤ more) (sym (w.2 ∙ w.1.3.2)) (omega arith)
+      subst (Within more) (sym (w.2 ∙ w.1.3.2)) (tt, omega arith)
 
   grows_within : (item : Item Token TextLine) (ts : List Token) (t : Tree Symbol) (lines : List TextLine)
-      → AllFit more item → depth t ≤ more → many_whole item ts lines → depth (grows_by t lines) ≤ more
+      → AllFit more item → Within more t → many_whole item ts lines → Within more (grows_by t lines)
   grows_within item ts t [] fit h w = h
   grows_within item ts t (l ∷ ls) fit h w =
       let first : Fits more l = fit w.0 l w.3 in
@@ -96,26 +102,28 @@ module _ (more : ℕ) where
     unfolding content_of
     content_within at ts t w =
         let first = begins_within at w.1.0 w.0.0 w.1.3 in
-        subst (λ (u : Tree Symbol). depth u ≤ more) (sym w.2)
+        subst (Within more) (sym w.2)
         (grows_within (ended (inner_of of)) w.1.1 w.0.0 w.0.1 (ended_fits (inner_of of) inner_fits) first w.1.4)
 
 -- ---- parentheses
 
 either_fits : (more : ℕ) (content : ℕ → Item Token (Tree Symbol)) → ((at : ℕ) → AllWithin more (content at))
-    → (may : Bool) (operator : Operator) (at : ℕ) → AllFit (suc more) (on_either may content operator at)
+    → (may : Bool) (operator : Operator) (at : ℕ) → may_defer operator ≡ may
+    → AllFit (suc more) (on_either may content operator at)
 unfolding on_content
-either_fits more content within true operator at ts l (inl w) =
+either_fits more content within true operator at e ts l (inl w) =
     let inside = within at w.1.4.0 w.0.1.0 w.1.4.3 in
-    subst (Fits (suc more)) (sym w.2) (omega arith)
-either_fits more content within true operator at ts l (inr w) = operand_fits (suc more) operator at ts l w
-either_fits more content within false operator at ts l w = operand_fits (suc more) operator at ts l w
+    let deep = inside.1 in
+    subst (Fits (suc more)) (sym w.2) (e, inside.0, omega arith)
+either_fits more content within true operator at e ts l (inr w) = operand_fits (suc more) operator at ts l w
+either_fits more content within false operator at e ts l w = operand_fits (suc more) operator at ts l w
 
 applied_fits : (more : ℕ) (operator : Operator) (at : ℕ) → AllFit more (applied more operator at)
 unfolding applied
 applied_fits zero operator at ts l w = operand_fits 0 operator at ts l w
 applied_fits (suc more) operator at ts l w =
     either_fits more (content_of (applied more)) (content_within more (applied more) (applied_fits more))
-    (may_defer operator) operator at ts l w
+    (may_defer operator) operator at refl ts l w
 
 -- ---- lines
 

@@ -15,11 +15,11 @@
 //! ```
 #![tactic(auto)]
 
-mod flat;
 mod left;
 mod loaded;
 mod machine;
 mod outbox;
+mod packed;
 mod scans;
 mod state;
 mod waiting;

@@ -1,7 +1,7 @@
 -- Plans as contracts see them, and what holds of each task (profile).
 use Rattle.std.specs.Prelude.{◌≡◌, ℕ, pos, ◌<◌, ◌≤◌, ◌==◌, List, [], ◌∷◌, flat_map, map, length, Bool, true, false, ⊤}
 use Rattle.std.specs.Prelude.{Option, None, Some, IfSome, slice_get, option_and_then, option_map, if◌then◌else◌}
-use Rattle.std.specs.Prelude.{All, AllPairs, Any, ◌≤ℤ◌}
+use Rattle.std.specs.Prelude.{All, AllPairs, Any, ◌≤ℤ◌, IsSomeAnd}
 use Rattle.std.specs.List.{AllByRecursion, list_any}
 use Rattle.limits.specs.Limits as limits
 use Rattle.iltypes.specs.declared.value.IlType.{IlType}
@@ -13,9 +13,9 @@ use Rattle.binding.specs.declared.sources.BoundSource.{BoundSource}
 use Rattle.binding.specs.Wirings.{Wiring, IsAt, IsWithinLimits}
 use Rattle.iltrees.specs.declared.instruction.Line.{Line}
 use Rattle.iltrees.specs.declared.operand.Operand.{Operand}
-use Rattle.iltrees.specs.declared.operand.Operand.TheVariants.{Name as Named}
+use Rattle.iltrees.specs.declared.operand.Operand.TheVariants.{Name as Named, Constant}
 use Rattle.iltrees.specs.declared.uses.Purpose.{Purpose}
-use Rattle.iltrees.specs.declared.uses.Purpose.TheVariants.{Write}
+use Rattle.iltrees.specs.declared.uses.Purpose.TheVariants.{Read, Write, Call, Pass}
 use Rattle.iltrees.specs.declared.uses.Use.{Use}
 use Rattle.iltrees.specs.Uses.{uses_in}
 use Rattle.iltrees.specs.Words.{words_of_lines, AreShallow}
@@ -24,6 +24,7 @@ use Rattle.ilsource.specs.Names.{text_of}
 use Rattle.gearcmd.specs.declared.requests.TaskKind.{TaskKind}
 use Rattle.gearcmd.specs.declared.requests.TaskKind.TheVariants as kinds
 use Rattle.ilblocks.specs.declared.kind.BlockKind.{BlockKind}
+use Rattle.ilblocks.specs.Ports.{ports_of}
 use Rattle.ilblocks.specs.Stores.{Shape}
 use Rattle.ilplan.specs.declared.activation.Activation.{Activation}
 use Rattle.ilplan.specs.declared.activation.Activation.TheVariants.{Cyclic, Event}
@@ -160,8 +161,33 @@ abbrev pub AreOrdered : List SlotOwner → Type 0
 AreOrdered [] = ⊤
 AreOrdered (variable ∷ variables) = AllByRecursion (Precedes variable) variables × AreOrdered variables
 
--- it has no more of anything than the limits, its constants are the different ones of its lines, each slot is at first
--- of its type, and global variables come first, in rising order
+-- the block instance of this number has the port of this number
+abbrev pub HasPort : PlannedTask → ℕ → ℕ → Type 0
+HasPort task block port = IsSomeAnd (slice_get (kinds_of task) block) (λ kind. port < length (ports_of kind))
+
+-- a variable or a port, as operands and stores name them
+abbrev pub HasPlace : PlannedTask → Place → Type 0
+HasPlace task (places.Slot slot) = slot < length task.slots
+HasPlace task (places.Port block port) = HasPort task block port
+HasPlace task (places.Block block) = ⊥
+
+-- what is named is in its table, and of the sort that may stand there: an operand is a constant, a variable or a port, a
+-- variable or a port is written, a block instance is called, and an argument is given to a port
+abbrev pub HasOperand : PlannedTask → Purpose → Operand Place → Type 0
+HasOperand task Read (Constant value) = ⊤
+HasOperand task Read (Named place) = HasPlace task place
+HasOperand task Write (Constant value) = ⊤
+HasOperand task Write (Named place) = HasPlace task place
+HasOperand task Call (Named (places.Block block)) = block < length task.blocks
+HasOperand task Call operand = ⊥
+HasOperand task Pass (Named (places.Port block port)) = HasPort task block port
+HasOperand task Pass operand = ⊥
+
+abbrev pub HasUse : PlannedTask → Use Place → Type 0
+HasUse task u = HasOperand task u.purpose u.operand
+
+-- it has no more of anything than the limits, what its lines name is there, its constants are the different ones of its
+-- lines, each slot is at first of its type, and global variables come first, in rising order
 pub record KeepsLimits (task : PlannedTask) : Type 0 where
   pub most_instances : length task.instances ≤ limits.most_instances
   pub most_slots : length task.slots ≤ limits.most_slots
@@ -169,6 +195,7 @@ pub record KeepsLimits (task : PlannedTask) : Type 0 where
   pub most_constants : length task.constants ≤ limits.most_constants
   pub most_words : words_of_lines (all_lines task.instances) ≤ limits.most_words
   pub shallow : AreShallow (all_lines task.instances)
+  pub named : AllByRecursion (HasUse task) (flat_map uses_in (all_lines task.instances))
   pub constants : task.constants ≡ different_constants (all_lines task.instances)
   pub initials : AreOf (initials_of task) (types_of task)
   pub ordered : AreOrdered (map (λ s. s.variable) task.slots)
@@ -244,9 +271,10 @@ IsTaskOf globals task =
     HasTrigger globals task.activation
     × AllByRecursion (λ s. IsDeclared globals s.variable s.value_type s.initial) task.slots
 
--- its buses and sources are those of a binding, its global variables are located where they may be, each at an address
--- of its own, and its tasks name what is there
+-- its text is no longer than the limit, its buses and sources are those of a binding, its global variables are located
+-- where they may be, each at an address of its own, and its tasks name what is there
 pub record IsLawful (plan : Planned) : Type 0 where
+  pub text : length plan.text ≤ limits.most_bytes
   pub wiring : IsWithinLimits (wiring_of plan)
   pub most_tasks : length plan.tasks ≤ limits.most_tasks
   pub located : All (IsLocatedIn (wiring_of plan)) plan.globals

@@ -161,7 +161,7 @@ fn is_closed_after(code: &Code, place: usize, met: bool) -> bool
     requires { place < length code.now.instructions }
     ensures { IsTrue result ↔ IsClosedAt code.now (place + 1) met }
 {
-    let end = code.instructions().len();
+    let end = code.len();
     let next = place + 1;
     is_start(code, next) || next == end || met
 }

@@ -7,7 +7,8 @@ use iltrees::Line;
 use std::marker::Model;
 
 /// `PROGRAM name { VAR .. END_VAR } { line } END_PROGRAM`. No more parentheses are open at once
-/// than [`limits::MOST_NESTING`].
+/// than [`limits::MOST_NESTING`], each after an operator that may be deferred, and what a line names
+/// may stand there.
 #[derive(Drop)]
 pub struct Program {
     name: Name,
@@ -23,7 +24,7 @@ impl Model for Program {
     ghost use Rattle.iltrees.specs.TreeSteps.{tree_of, tree_again};
     ghost use Rattle.iltrees.specs.Words.{AreShallow};
     ghost use Rattle.ilsource.specs.declared.symbol.Symbol.{Symbol};
-    ghost use Rattle.ilsource.specs.Programs.{Written};
+    ghost use Rattle.ilsource.specs.Programs.{Written, AreSorted};
 
     ghost Value = { Written };
 
@@ -38,13 +39,13 @@ impl Model for Program {
       lines = p.lines.items;
     } };
 
-    ghost invariant = { λ p. AreShallow p.lines.items };
+    ghost invariant = { λ p. AreShallow p.lines.items × AreSorted p.lines.items };
 }
 
 impl Program {
     ghost use Rattle.std.specs.Prelude.{◌≡◌};
     ghost use Rattle.iltrees.specs.Words.{AreShallow};
-    ghost use Rattle.ilsource.specs.Programs.{Written};
+    ghost use Rattle.ilsource.specs.Programs.{Written, AreSorted};
 
     /// The program of these declarations and lines.
     pub fn new(
@@ -53,6 +54,7 @@ impl Program {
         lines: Vec<Line<Symbol, Name>>,
     ) -> Program
         requires shallow { AreShallow lines.items }
+        requires sorted { AreSorted lines.items }
         ensures name { result.name ≡ name }
         ensures declarations { result.declarations ≡ declarations.items }
         ensures lines { result.lines ≡ lines.items }
@@ -82,6 +84,7 @@ impl Program {
     pub fn lines(&self) -> &[Line<Symbol, Name>]
         ensures value { result.now ≡ self.now.lines }
         ensures shallow { AreShallow self.now.lines }
+        ensures sorted { AreSorted self.now.lines }
     {
         &self.lines
     }

@@ -13,7 +13,7 @@ pub enum Element {
 }
 
 /// What a text spells: its types and programs in order, its configuration, and the bytes that its
-/// names stand in.
+/// names stand in, which are no more than [`limits::MOST_BYTES`].
 #[derive(Drop)]
 pub struct Source {
     text: Vec<u8>,
@@ -22,7 +22,9 @@ pub struct Source {
 }
 
 impl Model for Source {
+    ghost use Rattle.std.specs.Prelude.{◌≤◌, length};
     ghost use Rattle.std.specs.Coded.{codes};
+    ghost use Rattle.limits.specs.Limits.{most_bytes};
     ghost use Rattle.ilsource.specs.contracts.source.Element as element;
     ghost use Rattle.ilsource.specs.Trees.{Tree};
 
@@ -35,10 +37,13 @@ impl Model for Source {
       elements = s.elements.items;
       configuration = s.configuration;
     } };
+
+    ghost invariant = { λ s. length s.text.items ≤ most_bytes };
 }
 
 impl Source {
-    ghost use Rattle.std.specs.Prelude.{◌≡◌, option_map};
+    ghost use Rattle.std.specs.Prelude.{◌≡◌, ◌≤◌, length, option_map};
+    ghost use Rattle.limits.specs.Limits.{most_bytes};
     ghost use Rattle.ilsource.specs.Trees.{Tree};
 
     /// The source program of these types and programs and this configuration, whose names stand in
@@ -48,6 +53,7 @@ impl Source {
         elements: Vec<Element>,
         configuration: Option<Configuration>,
     ) -> Source
+        requires { length text.items ≤ most_bytes }
         ensures text { result.text ≡ text.items }
         ensures elements { result.elements ≡ elements.items }
         ensures configuration { result.configuration ≡ configuration }
@@ -61,7 +67,8 @@ impl Source {
 
     /// The bytes of the text.
     pub fn text(&self) -> &[u8]
-        ensures { result.now ≡ self.now.text }
+        ensures value { result.now ≡ self.now.text }
+        ensures short { length self.now.text ≤ most_bytes }
     {
         &self.text
     }

@@ -5,6 +5,7 @@ pub mod FaultParts
 pub mod GlobalLocations
 pub mod LabelRenaming
 pub mod Lists
+pub mod Named
 pub mod NumberingGlobals
 pub mod NumberingInstances
 pub mod NumberingLabels

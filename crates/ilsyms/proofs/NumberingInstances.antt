@@ -34,13 +34,13 @@ use Rattle.ilsyms.proofs.NumberingPlaces.{NonePass, number_among, found_among, p
 abbrev variables_in : NamedProgram → List DeclaredVariable
 variables_in i = i.program.variables
 
-abbrev blocks_in : NamedProgram → List DeclaredBlock
+abbrev pub blocks_in : NamedProgram → List DeclaredBlock
 blocks_in i = i.program.blocks
 
 abbrev slot_of : NamedProgram → DeclaredVariable → Slot
 slot_of i = own_slot i.name
 
-abbrev block_of : NamedProgram → DeclaredBlock → FunctionBlock
+abbrev pub block_of : NamedProgram → DeclaredBlock → FunctionBlock
 block_of i = function_block i.name
 
 abbrev is_meant : List ℕ → Name → Name → Slot → Bool
@@ -69,16 +69,16 @@ module _ (text : List ℕ) (instance name : Name) where
   other_slots [] o = tt
   other_slots (i ∷ is) o = ((λ v. let e = o.0 in rw e refl), other_slots is o.1)
 
-  other_blocks : (is : List NamedProgram) → AreOthers text instance is
+  pub other_blocks : (is : List NamedProgram) → AreOthers text instance is
       → NonePass blocks_in block_of (is_block_under text instance name) is
   other_blocks [] o = tt
   other_blocks (i ∷ is) o = ((λ b. let e = o.0 in rw e refl), other_blocks is o.1)
 
   -- one of the instance is meant where its name is
-  own_is : (v : DeclaredVariable) → is_meant text instance name (own_slot instance v) ≡ same_name text name v.name
+  pub own_is : (v : DeclaredVariable) → is_meant text instance name (own_slot instance v) ≡ same_name text name v.name
   own_is v = let e = same_as text instance instance refl in rw e refl
 
-  own_block : (b : DeclaredBlock)
+  pub own_block : (b : DeclaredBlock)
       → is_block_under text instance name (function_block instance b) ≡ same_name text name b.name
   own_block b = let e = same_as text instance instance refl in rw e refl
 

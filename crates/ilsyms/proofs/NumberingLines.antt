@@ -36,7 +36,7 @@ left_shallow (x ∷ xs) ys h = let rest = left_shallow xs ys h.1 in ((h.0, rest.
 -- of one instance's lines
 module _ (tree : Tree) (slots : List Slot) (blocks : List FunctionBlock) (instance : NamedProgram) (label : Name → ℕ)
   where
-    abbrev renamed : List (Line Symbol Name) → List (Line Place ℕ)
+    abbrev pub renamed : List (Line Symbol Name) → List (Line Place ℕ)
     renamed lines = map (rename_line (new_places tree slots blocks instance) label) lines
 
     places_of : (lines : List (Line Symbol Name)) → flat_map places_in (renamed lines) ≡ flat_map places_in lines
@@ -78,7 +78,7 @@ module _ (tree : Tree) (slots : List Slot) (blocks : List FunctionBlock) (instan
 
 -- of all instances
 module _ (tree : Tree) (slots : List Slot) (blocks : List FunctionBlock) where
-  abbrev planned : List NamedProgram → List (Line Place ℕ)
+  abbrev pub planned : List NamedProgram → List (Line Place ℕ)
   planned is = all_lines (map (planned_instance tree slots blocks) is)
 
   own_places : (i : NamedProgram)

@@ -1,13 +1,14 @@
 -- The plan of a source program that has no fault is lawful: its global variables are located where they may be, and its
 -- tasks name what is there.
 use Rattle.std.proofs.Common.{◌≡◌, ℕ, zero, suc, List, [], ◌∷◌, map, refl, sym, ap, ◌∙◌, subst, inl, inr, arith}
-use Rattle.std.proofs.Common.{◌⊎◌}
+use Rattle.std.proofs.Common.{◌⊎◌, ◌≤◌, length}
 use Rattle.std.proofs.Math.ListN.{length-map}
 use Rattle.std.proofs.lemmas.Option.{slice_get-map}
 use Rattle.std.specs.Prelude.{Option, Some, None, IfSome, IsSomeAnd, All, bytes_eq, slice_get, option_and_then}
 use Rattle.std.specs.Prelude.{option_map, unwrap_or}
 use Rattle.std.specs.List.{AllByRecursion}
 use Rattle.std.specs.Option.{option_map_or}
+use Rattle.limits.specs.Limits.{most_bytes}
 use Rattle.binding.specs.Wirings.{Wiring, IsWithinLimits}
 use Rattle.iltypes.specs.Values.{AreOf}
 use Rattle.iltokens.specs.declared.lexed.AddressKind.{AddressKind}
@@ -147,10 +148,11 @@ initials_typed [] h = tt
 initials_typed (g ∷ gs) h = (h 0 g (omega arith), initials_typed gs (λ k d below. h (suc k) d (omega arith)))
 
 -- the plan of a text without fault is lawful
-pub lawful : (tree : Tree) (wiring : Wiring) → IsWithinLimits wiring → IsWellNamed tree wiring
-    → IsLawful (plan_of_tree tree wiring)
-lawful tree wiring limits named =
+pub lawful : (tree : Tree) (wiring : Wiring) → length tree.text ≤ most_bytes → IsWithinLimits wiring
+    → IsWellNamed tree wiring → IsLawful (plan_of_tree tree wiring)
+lawful tree wiring short limits named =
     record {
+      text = short;
       wiring = limits;
       most_tasks = omega (arith, few_tasks tree wiring named, length-map (tasks_of tree) (planned_task tree));
       located = all_located tree wiring named;

@@ -12,6 +12,7 @@ use Rattle.iltrees.specs.Words.{places_in, words_of_lines, AreShallow}
 use Rattle.ilsource.specs.Configurations.{Configured}
 use Rattle.ilsource.specs.declared.configuration.TaskDeclaration.{TaskDeclaration}
 use Rattle.ilsource.specs.Names.{folded}
+use Rattle.ilsource.specs.Programs.{AreSorted}
 use Rattle.ilsource.specs.declared.name.Name.{Name}
 use Rattle.ilsource.specs.Trees.{Tree}
 use Rattle.ildeclared.specs.declared.fault.NameCause.TheVariants.{Twice, TooMany, BadDeclaration}
@@ -30,6 +31,7 @@ use Rattle.ilsyms.specs.Tasks.{instance_in, instance_named, SourceTask, declared
 use Rattle.ilsyms.specs.Variables.{slots_of, blocks_of, lines_of}
 use Rattle.ilsyms.proofs.CountingUses.{few_constants}
 use Rattle.ilsyms.proofs.TaskNames.{declared_apart, programs_apart}
+use Rattle.ilsyms.proofs.Named.{all_named}
 use Rattle.ilsyms.proofs.SlotOrder.{ordered}
 use Rattle.ilsyms.proofs.NumberingLines.{same_places, same_constants, all_shallow}
 use Rattle.ilsyms.proofs.TaskCases.{IsDeclaredTask, IsMainTask, task_is, typed}
@@ -177,8 +179,9 @@ module _ (tree : Tree) (wiring : Wiring) (named : IsWellNamed tree wiring) where
         let counted = length-flat_map places_in (all_lines (planned_task tree t).instances) in
         omega (arith, least, same, counted)
 
-    pub keeps_limits : AreShallow (lines_of t.instances) → KeepsLimits (planned_task tree t)
-    keeps_limits shallow =
+    pub keeps_limits : AreShallow (lines_of t.instances) → AreSorted (lines_of t.instances)
+        → KeepsLimits (planned_task tree t)
+    keeps_limits shallow sorted =
         let slots = slots_of tree t.instances in
         let blocks = blocks_of t.instances in
         record {
@@ -193,6 +196,7 @@ module _ (tree : Tree) (wiring : Wiring) (named : IsWellNamed tree wiring) where
               (inr (inr (inr (at_some _ (tasks_of tree) number t at (inr (inr (inr m))))))));
           most_words = few_words;
           shallow = all_shallow tree slots blocks t.instances shallow;
+          named = all_named tree wiring named number t at names_apart sorted;
           constants = sym (same_constants tree slots blocks t.instances);
           initials = slots_typed tree t.instances (typed tree number t at);
           ordered = ordered tree t.instances;

@@ -6,9 +6,14 @@ use Rattle.std.proofs.Math.Seq.{drop-cons}
 use Rattle.std.proofs.lemmas.Grind.{flat_map-append}
 use Rattle.std.proofs.lemmas.List.{append-nil, map-append, take-append-drop}
 use Rattle.std.proofs.lemmas.List.Folds.{length-flat_map-take}
+use Rattle.std.proofs.lemmas.Option.{get_or_from_slice_get}
+use Rattle.std.specs.Prelude.{Some, flat_map, slice_get}
+use Rattle.std.specs.List.{AllByRecursion}
 use Rattle.iltrees.specs.declared.instruction.Line.{Line}
 use Rattle.iltrees.specs.Words.{AreShallow}
 use Rattle.iltrees.specs.Renaming.{by_name, rename_line}
+use Rattle.iltrees.specs.Uses.{uses_in}
+use Rattle.ilsource.specs.Programs.{AreSorted, MayBeUsed}
 use Rattle.ilsource.specs.declared.name.Name.{Name}
 use Rattle.ilsource.specs.declared.symbol.Symbol.{Symbol}
 use Rattle.ilsource.specs.Trees.{Tree}
@@ -19,16 +24,22 @@ use Rattle.ilplan.specs.declared.slot.Slot.{Slot}
 use Rattle.ilplan.specs.declared.place.Place.{Place}
 use Rattle.ilplan.specs.Plans.{PlannedInstance}
 use Rattle.iluses.specs.Labels.{AreNumbered}
+use Rattle.ilsyms.specs.NumberingSteps.{label_of, Numbering, numbering_of, numbers}
 use Rattle.ilsyms.specs.PlanningSteps.{AreApart}
-use Rattle.ilsyms.specs.NumberingSteps.{Numbering, label_of, numbering_of, numbers}
-use Rattle.ilsyms.specs.Resolved.{new_places, label_number, planned_instance}
+use Rattle.ilsyms.specs.Resolved.{label_number, new_places, planned_instance}
 use Rattle.ilsyms.specs.Tasks.{NamedProgram}
-use Rattle.ilsyms.specs.Variables.{own_slot, slots_in, own_slots, global_slots, slots_of, lines_of}
-use Rattle.ilsyms.specs.Variables.{function_block, blocks_in, blocks_of}
-use Rattle.ilsyms.proofs.TaskNames.{others_around}
+use Rattle.ilsyms.specs.Variables.{blocks_in, blocks_of, function_block, global_slots, lines_of, own_slot, own_slots}
+use Rattle.ilsyms.specs.Variables.{slots_in, slots_of}
+use Rattle.ilsyms.proofs.Lists.{below_end}
 use Rattle.ilsyms.proofs.NumberingInstances.{numbering, place_is}
 use Rattle.ilsyms.proofs.NumberingLabels.{label_is_number}
 use Rattle.ilsyms.proofs.NumberingLines.{shallow_append}
+use Rattle.ilsyms.proofs.TaskNames.{others_around}
+
+all_append : {X : Type 0} (P : X → Type 0) (xs ys : List X) → AllByRecursion P xs → AllByRecursion P ys
+    → AllByRecursion P (xs ++ ys)
+all_append P [] ys h k = k
+all_append P (x ∷ xs) ys h k = (h.0, all_append P xs ys h.1 k)
 
 -- a list in which an element stands
 parted : {X : Type 0} (xs : List X) (i : ℕ) (x : X) → x ≡ get_or xs i x → i < length xs
@@ -38,6 +49,10 @@ parted xs i x is below =
     (ap (λ y. take i xs ++ y ∷ drop (suc i) xs) is
     ∙ ap (λ ys. take i xs ++ ys) (sym (drop-cons xs i x below))
     ∙ take-append-drop i xs)
+
+pub parted_at : {X : Type 0} (xs : List X) (i : ℕ) (x : X) → slice_get xs i ≡ Some x
+    → take i xs ++ x ∷ drop (i + 1) xs ≡ xs
+parted_at xs i x e = parted xs i x (sym (get_or_from_slice_get xs i x x e)) (below_end xs i x e)
 
 -- the places that are given are the places in the store
 numbers_are : (tree : Tree) (front back : List NamedProgram) (p : NamedProgram) (labels : Kept ℕ)
@@ -157,3 +172,11 @@ module _ (tree : Tree) (ps : List NamedProgram) (i : ℕ) (p : NamedProgram) (is
       → AreShallow (lines_of (take (i + 1) ps))
   shallow_more before own =
       subst AreShallow (sym lines_more) (shallow_append (lines_of (take i ps)) p.program.program.lines before own)
+
+  pub sorted_more : AreSorted (lines_of (take i ps)) → AreSorted p.program.program.lines
+      → AreSorted (lines_of (take (i + 1) ps))
+  sorted_more before own =
+      let before_lines = lines_of (take i ps) in
+      subst AreSorted (sym lines_more)
+      (subst (AllByRecursion MayBeUsed) (sym (flat_map-append uses_in before_lines p.program.program.lines))
+      (all_append MayBeUsed (flat_map uses_in before_lines) (flat_map uses_in p.program.program.lines) before own))

@@ -3,6 +3,7 @@
 ghost use Rattle.std.specs.Prelude.{◌≡◌, ◌≤◌, IfOk, OnOk, Some, length};
 ghost use Rattle.std.specs.List.{position_or_len};
 ghost use Rattle.iltrees.specs.Words.{AreShallow};
+ghost use Rattle.ilsource.specs.Programs.{AreSorted};
 ghost use Rattle.limits.specs.Limits.{most_blocks, most_slots};
 ghost use Rattle.ilsyms.specs.TaskSteps.{AreThere, instances_of};
 ghost use Rattle.ilsyms.specs.PlanningSteps.{AreApart};
@@ -39,6 +40,8 @@ pub(crate) fn plan_instances(
         (instances_of scope.now.tree instances.now)) }
     ensures shallow { OnOk result
         (AreShallow (lines_of (instances_of scope.now.tree instances.now))) }
+    ensures sorted { OnOk result
+        (AreSorted (lines_of (instances_of scope.now.tree instances.now))) }
 {
     let mut planned = Vec::new(alloc);
     let global_slots = global_slots(alloc, slots, scope.globals().len())?;

@@ -1,6 +1,7 @@
 //! From bytes to a source program.
 
 ghost use Rattle.std.specs.Prelude.{◌≡◌, ◌≤◌, length, IfOk, IfErr, All};
+ghost use Rattle.limits.specs.Limits.{most_bytes};
 ghost use Rattle.ilsource.specs.Trees.{Tree};
 ghost use Rattle.iltext.specs.Parsing.{IsText, IsReadAs, IsTextFault, IsFault};
 ghost use Rattle.iltext.specs.ParsingSteps.{IsParsed, IsSourceOf};
@@ -50,7 +51,8 @@ pub fn parse(alloc: Global, text: &[u8]) -> Result<Source, TextFault>
 
 /// What the tokens of `text` are read as.
 fn parse_tokens(alloc: Global, text: &[u8], ts: &[Token]) -> Result<Source, TextFault>
-    requires { All (λ t. t.from ≤ length text.now) ts.now }
+    requires places { All (λ t. t.from ≤ length text.now) ts.now }
+    requires short { length text.now ≤ most_bytes }
     ensures { IsParsed text.now ts.now result }
 {
     match whole_text(alloc, ts) {
@@ -70,6 +72,7 @@ fn with_text(
     elements: Vec<Element>,
     configuration: Option<Configuration>,
 ) -> Result<Source, TextFault>
+    requires { length text.now ≤ most_bytes }
     ensures { IsSourceOf text.now elements.items configuration result }
 {
     match Vec::from_slice(alloc, text) {

@@ -1,4 +1,4 @@
--- Renamed lines have their words at the same places, as many parentheses, and the same uses under their new names.
+-- Renamed lines have their words at the same places, the same parentheses, and the same uses under their new names.
 use Rattle.std.proofs.Common.{◌≡◌, refl, sym, ap, ◌∙◌, ℕ, ◌+◌, List, [], ◌∷◌, ◌++◌, replicate, map, flat_map}
 use Rattle.std.proofs.Common.{Option, Some, None}
 use Rattle.std.specs.Option.{option_map, option_map_or}
@@ -13,7 +13,7 @@ use Rattle.iltrees.specs.declared.nested.Action.{Action}
 use Rattle.iltrees.specs.declared.nested.Action.TheVariants as actions
 use Rattle.iltrees.specs.declared.operand.Operand.TheVariants.{Name}
 use Rattle.iltrees.specs.Trees.{Tree, Load, Reload, Apply, Transform, Deferred, piece, pieces_of, depth}
-use Rattle.iltrees.specs.Words.{place_of, places_of, IsShallow}
+use Rattle.iltrees.specs.Words.{place_of, places_of, MayDefer, IsShallow}
 use Rattle.iltrees.specs.Uses.{uses_of_action, uses_of_piece, uses_of_argument, uses_of}
 use Rattle.iltrees.specs.Renaming.{NewNames, rename_action, rename_piece, rename_tree}
 use Rattle.iltrees.specs.Renaming.{rename_argument, rename_use, rename}
@@ -58,6 +58,13 @@ module _ {N M : Type 0} (new : NewNames N M) where
   depth_same (Transform t at function) = depth_same t
   depth_same (Deferred t at operator u close) = let e = depth_same t in let g = depth_same u in rw (e, g) refl
 
+  still_may_defer : (t : Tree N) → MayDefer t → MayDefer (rename_tree new t)
+  still_may_defer (Load at negated o) h = tt
+  still_may_defer (Reload t at negated o) h = still_may_defer t h
+  still_may_defer (Apply t at operator o) h = still_may_defer t h
+  still_may_defer (Transform t at function) h = still_may_defer t h
+  still_may_defer (Deferred t at operator u close) h = (still_may_defer t h.0, h.1, still_may_defer u h.2)
+
   places_same : (t : Tree N) → map place_of (pieces_of (rename_tree new t)) ≡ map place_of (pieces_of t)
   places_same t = ap (map place_of) (pieces_same t) ∙ map-map place_of (rename_piece new) (pieces_of t)
 
@@ -99,7 +106,8 @@ module _ {N M L K : Type 0} (new : NewNames N M) (label : L → K) where
   places_kept at _ = refl
 
   pub still_shallow : (i : Option (Instruction N L)) → IsShallow i → IsShallow (option_map (rename new label) i)
-  still_shallow (Some (instructions.Deferred operator t close)) k = let e = depth_same new t in rw e k
+  still_shallow (Some (instructions.Deferred operator t close)) k =
+      let e = depth_same new t in (k.0, still_may_defer new t k.1, rw e k.2)
   still_shallow _ k = tt
 
   pub uses_kept : ((n : N) → new.operand (Name n) ≡ Name (new.name n)) → (at : ℕ) (i : Option (Instruction N L))

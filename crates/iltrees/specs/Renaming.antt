@@ -116,7 +116,7 @@ ScansAreKept N M L K S T =
     → AreRenamed same same' new programs others → (s : S)
     → scan same' b others (view s) ≡ option_map view (scan same a programs s)
 
--- a renamed line has its words at the same places, and no more parentheses open at once
+-- a renamed line has its words at the same places, and parentheses as lawful
 abbrev pub SizesAreKept : (N M L K : Type 0) → Type 0
 SizesAreKept N M L K =
     (new : NewNames N M) (label : L → K) (line : Line N L)

@@ -2,15 +2,16 @@
 -- and MIN); one for each piece between the two of `OP(` and `)`; one for each argument before that of CAL, and of CALC
 -- and CALCN a jump before all.
 use Rattle.std.specs.Prelude.{ℕ, ◌+◌, ◌≤◌, List, [], ◌∷◌, ◌++◌, map, length, replicate, sum_by}
-use Rattle.std.specs.Prelude.{Option, Some, ⊤}
+use Rattle.std.specs.Prelude.{Option, Some, IsTrue, ⊤}
 use Rattle.std.specs.Option.{option_map_or}
 use Rattle.limits.specs.Limits.{most_nesting}
 use Rattle.iloperators.specs.declared.condition.Condition.TheVariants.{Always, IfTrue, IfFalse}
+use Rattle.iloperators.specs.Operators.{may_defer}
 use Rattle.iltrees.specs.declared.instruction.Instruction.{Instruction}
 use Rattle.iltrees.specs.declared.instruction.Instruction.TheVariants as instructions
 use Rattle.iltrees.specs.declared.instruction.Line.{Line}
 use Rattle.iltrees.specs.declared.nested.Piece.{Piece}
-use Rattle.iltrees.specs.Trees.{depth, pieces_of}
+use Rattle.iltrees.specs.Trees.{Tree, Load, Reload, Apply, Transform, Deferred, depth, pieces_of}
 
 abbrev pub place_of : {N : Type 0} → Piece N → ℕ
 place_of p = p.at
@@ -38,9 +39,18 @@ words_in line = length (places_in line)
 abbrev pub words_of_lines : {N L : Type 0} → List (Line N L) → ℕ
 words_of_lines lines = sum_by words_in lines
 
--- no more parentheses are open at once than the limit
+-- each parenthesis in a tree stands after an operator that may be deferred
+abbrev pub MayDefer : {N : Type 0} → Tree N → Type 0
+MayDefer (Load at negated o) = ⊤
+MayDefer (Reload t at negated o) = MayDefer t
+MayDefer (Apply t at operator o) = MayDefer t
+MayDefer (Transform t at function) = MayDefer t
+MayDefer (Deferred t at operator u close) = MayDefer t × IsTrue (may_defer operator) × MayDefer u
+
+-- parentheses stand after operators that may be deferred, and no more are open at once than the limit
 abbrev pub IsShallow : {N L : Type 0} → Option (Instruction N L) → Type 0
-IsShallow (Some (instructions.Deferred operator t close)) = depth t + 1 ≤ most_nesting
+IsShallow (Some (instructions.Deferred operator t close)) =
+    IsTrue (may_defer operator) × MayDefer t × (depth t + 1 ≤ most_nesting)
 IsShallow _ = ⊤
 
 abbrev pub AreShallow : {N L : Type 0} → List (Line N L) → Type 0

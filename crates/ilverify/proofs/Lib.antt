@@ -1,5 +1,4 @@
 pub mod Bounds
-pub mod FlatLists
 mod Lists
 mod PassEntries
 mod PassForward

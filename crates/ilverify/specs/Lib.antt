@@ -1,6 +1,5 @@
 pub mod BoundSteps
 pub mod Certificates
-pub mod FlatWords
 pub mod PassSteps
 pub mod Printed
 pub mod RequestSteps

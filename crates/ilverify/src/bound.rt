@@ -12,7 +12,7 @@ use std::alloc::{AllocError, Global};
 pub(crate) fn greatest_path(alloc: Global, code: &Code) -> Result<u32, AllocError>
     ensures { IfOk result (λ bound. IsBound code.now bound) }
 {
-    let mut longest = vec![in alloc; 0u32; code.instructions().len()]?;
+    let mut longest = vec![in alloc; 0u32; code.len()]?;
     for place in (0..longest.len()).rev() {
         longest[place] = longest_from(code, place, &longest);
     }
@@ -47,7 +47,7 @@ fn longest_from(code: &Code, place: usize, longest: &[u32]) -> u32
     ensures { IsLongestFrom code.now place result }
 {
     let next = words_at(longest, place + 1);
-    let after = match code.instructions()[place] {
+    let after = match code.word(place) {
         Word::Jump { condition, target } => {
             let there = words_from_target(code, place, target, longest);
             match condition {

@@ -5,9 +5,8 @@
 //! run ends and makes few requests, and the bound is the greatest number of words on a path
 //! (`IsVerified`, specs/Verdicts.antt, to be read first). The verdict is defined by certificates
 //! (specs/Certificates.antt): an entry for each word, consistent by the rules of `ilranges`; and by
-//! the calls of request blocks on each path (specs/Requests.antt). A `Verified` has its words and
-//! its constants in the form in which the machine runs them, too ([`Flat`], specs/FlatWords.antt, and
-//! `ilcells::Cell`).
+//! the calls of request blocks on each path (specs/Requests.antt). A `Verified` has its
+//! constants in the form in which the machine reads them, too (`ilcells::Cell`).
 //!
 //! ```text
 //! let verified = verify(alloc, code)?;
@@ -15,14 +14,12 @@
 #![tactic(auto)]
 
 mod bound;
-mod flat;
 mod pass;
 mod refusal;
 mod requests;
 mod verified;
 mod verifier;
 
-pub use flat::Flat;
 pub use refusal::{Refusal, VerifyError};
 pub use verified::Verified;
 pub use verifier::verify;

@@ -161,15 +161,6 @@ fn follow_ways(
     follow_next(code, pending, place + 1, entry, changes.next)
 }
 
-/// The word at the place.
-pub(crate) fn word_at(code: &Code, place: usize) -> Word
-    requires { place < length code.now.instructions }
-    ensures value { slice_get code.now.instructions place ≡ Some result }
-    ensures lawful { IsLawful code.now }
-{
-    code.instructions()[place]
-}
-
 /// Judges the word at the place, where it is reached, and follows the ways from it.
 fn advance(
     code: &Code,
@@ -185,7 +176,7 @@ fn advance(
     let Some(entry) = pending[place].take() else {
         return Ok(None);
     };
-    let word = word_at(code, place);
+    let word = code.word(place);
     let met = is_met(pending, place + 1);
     match after_word(code, place, met, &entry, word) {
         Ok(changes) => {
@@ -194,7 +185,7 @@ fn advance(
         }
         Err(cause) => Ok(Some(Refusal {
             word: place,
-            line: code.lines()[place],
+            line: code.lines()[place] as usize,
             cause,
         })),
     }
@@ -204,7 +195,7 @@ fn advance(
 fn begin(alloc: Global, code: &Code) -> Result<Vec<Option<Entry>>, AllocError>
     ensures { IfOk result (λ pending. IsFound code.now 0 pending.items) }
 {
-    let mut pending = unreached(alloc, code.instructions().len())?;
+    let mut pending = unreached(alloc, code.len())?;
     let first = Entry::opening(alloc, code)?;
     meet(&mut pending, 0, first)?;
     Ok(pending)
@@ -218,7 +209,7 @@ pub(crate) fn judge(alloc: Global, code: &Code) -> Result<Option<Refusal>, Alloc
         (IsRangeRefusal code.now)) }
 {
     let mut pending = begin(alloc, code)?;
-    for place in 0..code.instructions().len() {
+    for place in 0..code.len() {
         let refusal = advance(code, &mut pending, place)?;
         if refusal.is_some() {
             return Ok(refusal);

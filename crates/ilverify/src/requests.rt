@@ -9,7 +9,6 @@ ghost use Rattle.ilverify.specs.Requests.{HasFewRequests};
 ghost use Rattle.ilverify.specs.RequestSteps.{raised, raised_target};
 ghost use Rattle.ilverify.specs.RequestSteps.{raised_after, IsFirstOverfull};
 
-use crate::pass::word_at;
 use ilcode::{Code, Word};
 use iloperators::Condition;
 use limits::MOST_REQUESTS;
@@ -23,11 +22,11 @@ pub(crate) fn first_overfull(alloc: Global, code: &Code) -> Result<Option<usize>
     ensures nowhere { IfOk result (λ found. (found ≡ None) ↔ HasFewRequests code.now) }
     ensures lawful { IsLawful code.now }
 {
-    let mut most = vec![in alloc; None; code.instructions().len()]?;
+    let mut most = vec![in alloc; None; code.len()]?;
     raise(&mut most, 0, 0);
-    for place in 0..code.instructions().len() {
+    for place in 0..code.len() {
         if let Some(before) = most[place] {
-            let word = word_at(code, place);
+            let word = code.word(place);
             let requests = before + u8::from(may_request(code, word));
             if usize::from(requests) > MOST_REQUESTS {
                 return Ok(Some(place));

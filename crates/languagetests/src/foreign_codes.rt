@@ -2,12 +2,17 @@
 //! instances that are not there, parentheses that are not opened or not closed, and jumps that are
 //! not lawful. And that thousands of entries share their slots, which no clause can say.
 
+ghost use Rattle.std.specs.Prelude.{IsTrue};
+ghost use Rattle.std.specs.List.{AllByRecursion};
+ghost use Rattle.ilword.specs.Words.{HasWord};
+
 use ilblocks::BlockKind;
-use ilcode::{Code, Target, Word, WordOperand};
+use ilcode::{Code, PackedWord, Target, Word, WordOperand};
 use iloperators::{Condition, Operator};
 use ilranges::{Known, Slots};
 use iltypes::{IlType, Range, Value};
 use ilverify::{VerifyError, verify};
+use ilword::pack;
 use std::alloc::{AllocError, Global};
 use std::test::Fail;
 
@@ -494,9 +499,20 @@ const SHAPES: [Row; 47] = [
     ("back, if not, of no result", 1, &[JMPCN_0], (3, 0)),
 ];
 
+/// Whether 32 bits can hold each word.
+fn may_pack(words: &[Word]) -> bool
+    ensures { IsTrue result → AllByRecursion HasWord words.now }
+{
+    match words {
+        [] => true,
+        [word, words @ ..] => word.may_pack() && may_pack(words),
+    }
+}
+
 /// The code of the words, of which the second program begins at a place; all stand on line 1.
+#[tactic(auto, using(crate::proofs::Ones::ones_small))]
 fn code(alloc: Global, start: usize, words: &[Word]) -> Result<Option<Code>, AllocError> {
-    if start > words.len() || words.len() > 65_536 {
+    if start > words.len() || words.len() > 65_536 || !may_pack(words) {
         return Ok(None);
     }
     let constants = vec![in alloc;
@@ -508,8 +524,8 @@ fn code(alloc: Global, start: usize, words: &[Word]) -> Result<Option<Code>, All
     let slots = vec![in alloc; LEVEL, IlType::Bool, FEW]?;
     let kinds = vec![in alloc; BlockKind::Ton, BlockKind::GearDo]?;
     let starts = vec![in alloc; 0usize, start]?;
-    let lines = vec![in alloc; 1usize; words.len()]?;
-    let words = Vec::from_slice(alloc, words)?;
+    let lines = vec![in alloc; 1u32; words.len()]?;
+    let words = pack(alloc, words)?;
     Ok(Some(Code::new(1, constants, slots, kinds, starts, words, lines)))
 }
 
@@ -563,8 +579,8 @@ fn the_33rd_parenthesis_is_refused(rt: HostRuntime) -> Result<(), Fail> {
         let found = verdict(rt.alloc(), words.len(), &words)?;
         assert_eq!(rt; found, wanted, "{depth}");
     }
-    // A code of 65,536 words is to have half a megabyte.
-    assert_eq!(rt; size_of::<Word>(), 8);
+    // A code of 65,536 words is to have a quarter of a megabyte, beside its lines.
+    assert_eq!(rt; size_of::<PackedWord>(), 4);
     Ok(())
 }
 

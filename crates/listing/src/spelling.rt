@@ -41,7 +41,7 @@ pub(crate) fn function_text(function: Function) -> &'static str {
 /// How a jump to a word of a code is written: one to where a program begins, or past the last word,
 /// as a return.
 pub(crate) fn jump_text(code: &Code, condition: Condition, target: usize) -> &'static str {
-    let is_return = target >= code.instructions().len() || code.starts().contains(&target);
+    let is_return = target >= code.len() || code.starts().contains(&target);
     match (condition, is_return) {
         (Condition::Always, true) => "RET",
         (Condition::IfTrue, true) => "RETC",

@@ -42,7 +42,7 @@ pub fn write_task<W: Write>(
     let code = verified.code();
     let longest = longest_paths(alloc, code)?;
     let name = setup.plan().task_name(task);
-    let words = code.instructions().len();
+    let words = code.len();
     let bound = verified.bound();
     writeln!(out, "task {name} words {words} bound {bound}")?;
     writeln!(
@@ -63,7 +63,7 @@ pub fn write_task<W: Write>(
 fn write_words<W: Write>(out: &mut W, table: &Table) -> io::Result<()> {
     let mut flow = Flow::new(table.alloc, table.code)?;
     let mut longest_at = 0;
-    for place in 0..table.code.instructions().len() {
+    for place in 0..table.code.len() {
         let is_longest = place == longest_at;
         if is_longest {
             longest_at = next_of_longest(table, place);
@@ -87,10 +87,10 @@ fn left_at(table: &Table, place: usize) -> u32 {
 /// Where the longest path goes on from a place: to the next word where both ways are as long.
 fn next_of_longest(table: &Table, place: usize) -> usize {
     let next = place.saturating_add(1);
-    match table.code.instructions().get(place) {
+    match table.code.get(place) {
         Some(Word::Jump { condition, target }) => {
-            let target = *target as usize;
-            let is_only = *condition == Condition::Always;
+            let target = target as usize;
+            let is_only = condition == Condition::Always;
             if is_only || left_at(table, target) > left_at(table, next) {
                 target
             } else {
@@ -109,7 +109,7 @@ fn write_word<W: Write>(
     place: usize,
     is_longest: bool,
 ) -> io::Result<()> {
-    let Some(word) = table.code.instructions().get(place) else {
+    let Some(word) = table.code.get(place) else {
         return Ok(());
     };
     write_numbers(out, table, place, is_longest)?;
@@ -118,12 +118,12 @@ fn write_word<W: Write>(
         plan: table.plan,
         code: table.code,
         task: table.task,
-        word: *word,
+        word,
     };
     let text = format!(in alloc; "{text}")?;
     write!(out, "{text:<24}  ")?;
-    write_known(out, table, flow, *word)?;
-    write_ways(out, table, place, *word)?;
+    write_known(out, table, flow, word)?;
+    write_ways(out, table, place, word)?;
     writeln!(out)
 }
 
@@ -137,7 +137,7 @@ fn write_numbers<W: Write>(
     let star = if is_longest { "*" } else { " " };
     let left = left_at(table, place);
     let line = match table.code.lines().get(place) {
-        Some(line) => *line,
+        Some(line) => *line as usize,
         None => 0,
     };
     write!(out, "{star} {place:>5} {line:>5} {left:>5}  ")

@@ -40,7 +40,7 @@ impl WordText<'_> {
         name: &str,
         target: usize,
     ) -> fmt::Result {
-        if target >= self.code.instructions().len() || self.code.starts().contains(&target) {
+        if target >= self.code.len() || self.code.starts().contains(&target) {
             write!(f, "{name}")
         } else {
             write!(f, "{name} {target}")

@@ -38,7 +38,7 @@ fn write_unreached_of<W: Write>(
 ) -> io::Result<()> {
     let mut flow = Flow::new(alloc, code)?;
     let mut was_reached = true;
-    for place in 0..code.instructions().len() {
+    for place in 0..code.len() {
         let is_reached = flow.entry().is_some();
         if was_reached && !is_reached {
             let line = line_at(code, place);

@@ -40,9 +40,9 @@ pub(crate) fn uses_of(alloc: Global, code: &Code) -> Result<Vec<Use>, AllocError
     for _ in 0..code.slots().len() {
         uses.push(UNUSED)?;
     }
-    for place in 0..code.instructions().len() {
+    for place in 0..code.len() {
         let line = line_at(code, place);
-        add_word(&mut uses, code.instructions()[place], line);
+        add_word(&mut uses, code.word(place), line);
     }
     Ok(uses)
 }
@@ -50,7 +50,7 @@ pub(crate) fn uses_of(alloc: Global, code: &Code) -> Result<Vec<Use>, AllocError
 /// The line of a word.
 pub(crate) fn line_at(code: &Code, place: usize) -> usize {
     match code.lines().get(place) {
-        Some(line) => *line,
+        Some(line) => *line as usize,
         None => 0,
     }
 }

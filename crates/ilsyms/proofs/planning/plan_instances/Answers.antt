@@ -3,24 +3,25 @@ use Rattle.std.specs.List.{position_or_len}
 use Rattle.std.proofs.lemmas.List.{take_all}
 use Rattle.iltrees.specs.declared.instruction.Line.{Line}
 use Rattle.iltrees.specs.Words.{AreShallow}
-use Rattle.ilsource.specs.Programs.{Written}
+use Rattle.ilsource.specs.Programs.{Written, AreSorted}
 use Rattle.ilsource.specs.declared.name.Name.{Name}
 use Rattle.ilsource.specs.declared.symbol.Symbol.{Symbol}
 use Rattle.ildeclared.specs.declared.global.DeclaredGlobal.{DeclaredGlobal}
 use Rattle.ilplan.specs.Plans.{PlannedInstance}
 use Rattle.ilplan.specs.declared.slot.Slot.{Slot}
 use Rattle.ilplan.specs.declared.instance.FunctionBlock.{FunctionBlock}
-use Rattle.iluses.specs.Labels.{AreNumbered}
 use Rattle.ilsyms.specs.declared.tasks.TaskInstance.{TaskInstance}
-use Rattle.ilsyms.specs.TaskSteps.{instances_of}
+use Rattle.iluses.specs.Labels.{AreNumbered}
 use Rattle.ilsyms.specs.NumberingSteps.{AreGlobalSlots}
 use Rattle.ilsyms.specs.PlanningSteps.{is_of_instance}
 use Rattle.ilsyms.specs.Resolved.{planned_instance}
+use Rattle.ilsyms.specs.TaskSteps.{instances_of}
 use Rattle.ilsyms.specs.Tasks.{NamedProgram}
-use Rattle.ilsyms.specs.Variables.{slots_of, blocks_of, lines_of}
+use Rattle.ilsyms.specs.Variables.{blocks_of, lines_of, slots_of}
+use Rattle.ilsyms.proofs.PlanningInstances.{blocks_fit, blocks_more, planned_more, renamed, shallow_more, slots_fit}
+use Rattle.ilsyms.proofs.PlanningInstances.{slots_more, sorted_more}
 use Rattle.ilsyms.proofs.SlotOrder.{first_own}
-use Rattle.ilsyms.proofs.PlanningInstances.{planned_more, slots_fit, slots_more, blocks_fit, blocks_more, shallow_more, renamed}
-use Rattle.ilsyms.proofs.TaskInstances.{number_there, stands, among, as_many}
+use Rattle.ilsyms.proofs.TaskInstances.{among, as_many, number_there, stands}
 use Rattle.ilsyms.proofs.planning.plan_instances.Goals as goal
 
 no_instance : TaskInstance
@@ -72,6 +73,7 @@ loop-instance-init c =
       first_slot = omega (arith, first, here);
       first_block = omega arith;
       shallow = tt;
+      sorted = tt;
     }
 
 pub loop-instance-preserved : goal.loop-instance-preserved
@@ -113,6 +115,7 @@ loop-instance-preserved c =
           omega (arith, more, own, first);
       shallow =
           shallow_more tree all k _ is within so_far.shallow (subst AreShallow lines c.lines-lines.ensures.shallow);
+      sorted = sorted_more tree all k _ is within so_far.sorted (subst AreSorted lines c.lines-lines.ensures.sorted);
     }
 
 pub returns : goal.returns
@@ -127,4 +130,5 @@ returns c =
           ∙ ap (λ (is : List NamedProgram). map (planned_instance tree (slots_of tree all) (blocks_of all)) is)
           whole;
       shallow = subst (λ (is : List NamedProgram). AreShallow (lines_of is)) whole c.loop-instance.invariant.shallow;
+      sorted = subst (λ (is : List NamedProgram). AreSorted (lines_of is)) whole c.loop-instance.invariant.sorted;
     }

@@ -1,5 +1,6 @@
 use Rattle.std.proofs.Common.{◌≡◌, ◌+◌, length, map, take}
 use Rattle.iltrees.specs.Words.{AreShallow}
+use Rattle.ilsource.specs.Programs.{AreSorted}
 use Rattle.ilsyms.specs.TaskSteps.{instances_of}
 use Rattle.ilsyms.specs.Resolved.{planned_instance}
 use Rattle.ilsyms.specs.Variables.{lines_of, slots_of, own_slots, global_slots, blocks_of}
@@ -15,4 +16,5 @@ invariant-loop-instance l =
       first_slot : l.first_slot ≡ length (global_slots l.fn.scope.tree is) + length (own_slots front);
       first_block : l.first_block ≡ length (blocks_of front);
       shallow : AreShallow (lines_of front);
+      sorted : AreSorted (lines_of front);
     }

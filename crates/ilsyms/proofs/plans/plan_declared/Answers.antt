@@ -57,7 +57,7 @@ task_with-requires-clause-task c =
     ∙ ap printed_name
     (c.text-2.ensures
     ∙ ap (λ (text : List ℕ). text_of text declared.name)
-    (c.text.ensures ∙ ap (λ (t : Tree). t.text) c.source.ensures.value))
+    (c.text.ensures.value ∙ ap (λ (t : Tree). t.text) c.source.ensures.value))
     in (
       c.args.number,
       at ∙ (λ i. Some (task_with (sym name i) (sym c.activation_of-activation.ensures i)
@@ -83,7 +83,7 @@ returns c =
     ∙ ap printed_name
     (c.text-2.ensures
     ∙ ap (λ (text : List ℕ). text_of text declared.name)
-    (c.text.ensures ∙ ap (λ (t : Tree). t.text) c.source.ensures.value))
+    (c.text.ensures.value ∙ ap (λ (t : Tree). t.text) c.source.ensures.value))
     in
     let t = task_with (string_bytes c.in_ok-name.name) c.activation_of-activation.result c.priority_of-priority.result
     (instances_of tree c.args.instances.now)

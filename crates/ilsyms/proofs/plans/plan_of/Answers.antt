@@ -1,4 +1,5 @@
-use Rattle.std.proofs.Common.{◌≡◌, ◌∙◌, ap, sym, subst}
+use Rattle.std.proofs.Common.{◌≡◌, ◌≤◌, ◌∙◌, ap, sym, subst, length}
+use Rattle.limits.specs.Limits.{most_bytes}
 use Rattle.binding.specs.Wirings.{Wiring, IsWithinLimits}
 use Rattle.ilsource.specs.Trees.{Tree}
 use Rattle.ilplan.specs.Plans.{Planned, IsLawful, plan_of}
@@ -12,7 +13,7 @@ parts : (c : goal.In_ok-sources)
     c.in_ok-tasks.tasks.items
     ≡ plan_of_tree c.args.scope.now.tree c.args.scope.now.wiring
 parts c =
-    let text = c.in_ok-text.ensures.items ∙ c.text.ensures ∙ ap (λ (t : Tree). t.text) c.source.ensures.value in
+    let text = c.in_ok-text.ensures.items ∙ c.text.ensures.value ∙ ap (λ (t : Tree). t.text) c.source.ensures.value in
     let buses = c.buses-buses.ensures.buses ∙ ap (λ (w : Wiring). w.buses) c.requires.wiring in
     let sources = c.in_ok-sources.ensures.items ∙ c.sources.ensures.value
     ∙ ap (λ (w : Wiring). w.sources) c.requires.wiring in
@@ -21,8 +22,9 @@ parts c =
 pub new-requires : goal.new-requires
 new-requires c =
     let limits = subst (λ (w : Wiring). IsWithinLimits w) c.requires.wiring c.buses-buses.ensures.limits in
+    let short = subst (λ (t : Tree). length t.text ≤ most_bytes) c.source.ensures.value c.text.ensures.short in
     subst (λ (p : Planned). IsLawful p) (sym (parts c))
-    (lawful c.args.scope.now.tree c.args.scope.now.wiring limits c.requires.named)
+    (lawful c.args.scope.now.tree c.args.scope.now.wiring short limits c.requires.named)
 
 pub returns : goal.returns
 returns c = c.new.ensures ∙ parts c.before

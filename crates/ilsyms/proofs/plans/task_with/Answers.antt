@@ -71,7 +71,7 @@ pub new-requires : goal.new-requires
 new-requires c =
     subst (λ (t : PlannedTask). KeepsLimits t) (sym (parts c))
     (keeps_limits c.args.scope.now.tree c.args.scope.now.wiring c.requires.named c.requires.task.0 _ c.requires.task.1
-    c.in_ok-planned.ensures.shallow)
+    c.in_ok-planned.ensures.shallow c.in_ok-planned.ensures.sorted)
 
 pub returns : goal.returns
 returns c = if_ok c.new.result _ _ (λ task e. e ∙ parts c.before) c.new.ensures

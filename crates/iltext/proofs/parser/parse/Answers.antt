@@ -3,6 +3,10 @@ use Rattle.limits.specs.Limits.{most_bytes}
 use Rattle.iltext.proofs.Sources.{short_of, is_found, is_only, is_fault, is_one, is_one_fault, is_no_fault}
 use Rattle.iltext.proofs.parser.parse.Goals as goal
 
+pub parse_tokens-requires-clause-short : goal.parse_tokens-requires-clause-short
+parse_tokens-requires-clause-short c =
+    short_of c.is_too_long.result most_bytes (length c.args.text.now) c.is_too_long.ensures c.if-is_too_long.false
+
 pub returns-in-Ok-clause-found : goal.returns-in-Ok-clause-found
 returns-in-Ok-clause-found c =
     let short : length c.args.text.now ≤ most_bytes = short_of c.is_too_long.result most_bytes

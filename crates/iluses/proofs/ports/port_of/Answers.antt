@@ -21,7 +21,7 @@ returns-in_err-port c p at =
     let spelled : text_of text c.args.port ≡ c.text-2.result.now =
     sym (c.text-2.ensures
     ∙ ap (λ (t : List ℕ). text_of t c.args.port)
-    (c.text.ensures ∙ ap (λ (t : Tree). t.text) c.source.ensures.value))
+    (c.text.ensures.value ∙ ap (λ (t : Tree). t.text) c.source.ensures.value))
     in
     c.from_residual-in_err-port.ensures
     ∙ sym (port_by_found text c.args.port p c.args.block c.block.result (c.block.ensures.number p at)
@@ -37,7 +37,7 @@ returns c p at =
     let spelled : text_of text c.args.port ≡ c.text-2.result.now =
     sym (c.text-2.ensures
     ∙ ap (λ (t : List ℕ). text_of t c.args.port)
-    (c.text.ensures ∙ ap (λ (t : Tree). t.text) c.source.ensures.value))
+    (c.text.ensures.value ∙ ap (λ (t : Tree). t.text) c.source.ensures.value))
     in
     sym (port_by_found text c.args.port p c.args.block c.block.result (c.block.ensures.number p at)
     (c.block.ensures.kind p at)

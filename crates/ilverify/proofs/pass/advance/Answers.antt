@@ -53,7 +53,7 @@ returns-in_ok-follow_ways-in-Ok c =
     let ln : n < length pending = omega (arith, f.long, c.requires.within) in
     let e : slice_get pending n ≡ Some c.take.result = slice_get-get_or pending n _ ln
     ∙ ap Some (sym (c.take.ensures.value ∙ c.index_mut.ensures.value)) in
-    let word = c.word_at-word.result in
+    let word = c.word-word.result in
     let met = c.is_met-met.ensures ∙ ap (λ (p : Certificate). is_met p (n + 1))
     (c.deref.ensures.value ∙ ap (λ (x : Option Entry). slice_set pending n x) c.take.ensures.after) in
     let rule = subst (λ (m : Bool). IsRule code n m entry word (ways_of entry changes)) met c.in-Ok.ensures in
@@ -62,7 +62,7 @@ returns-in_ok-follow_ways-in-Ok c =
     (slice_set pending n x) c.follow_ways.new.pending.items)
     c.take.ensures.after c.in_ok-follow_ways-in-Ok.ensures in
     found_next code n entry word changes pending c.follow_ways.new.pending.items f (e ∙ ap Some c.in-Some.is)
-    c.word_at-word.ensures.value rule ways
+    c.word-word.ensures.value rule ways
 
 pub returns-in-Err : goal.returns-in-Err
 returns-in-Err c =
@@ -74,14 +74,14 @@ returns-in-Err c =
     let ln : n < length pending = omega (arith, f.long, c.requires.within) in
     let e : slice_get pending n ≡ Some c.take.result = slice_get-get_or pending n _ ln
     ∙ ap Some (sym (c.take.ensures.value ∙ c.index_mut.ensures.value)) in
-    let word = c.word_at-word.result in
+    let word = c.word-word.result in
     let lines : n < length c.lines.result.now = omega
-    (arith, ap length c.lines.ensures.value, c.word_at-word.ensures.lawful.lines, c.requires.within) in
+    (arith, ap length c.lines.ensures.value, c.word-word.ensures.lawful.lines, c.requires.within) in
     let li = ap (λ l. slice_get l n) (sym c.lines.ensures.value) ∙ slice_get-get_or c.lines.result.now n 0 lines in
     let met = c.is_met-met.ensures ∙ ap (λ (p : Certificate). is_met p (n + 1))
     (c.deref.ensures.value ∙ ap (λ (x : Option Entry). slice_set pending n x) c.take.ensures.after)
     ∙ ap is_closed (rest_same code n pending f (n + 1) (omega arith)) in
     let least = subst (λ (m : Bool). IsLeastCause
     (ArisesAtWord code n m entry word) c.in-Err.cause) met c.in-Err.ensures in
-    refused code f.certificate n _ c.in-Err.cause entry word f.closest c.word_at-word.ensures.value
+    refused code f.certificate n _ c.in-Err.cause entry word f.closest c.word-word.ensures.value
     (sym (f.same n (omega arith)) ∙ e ∙ ap Some c.in-Some.is) li least

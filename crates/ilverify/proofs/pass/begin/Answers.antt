@@ -10,14 +10,14 @@ use Rattle.ilverify.proofs.pass.begin.Goals as goal
 pub meet-requires : goal.meet-requires
 meet-requires c =
     subst (λ (p : Certificate). CanMeetAt (slice_get p 0) c.in_ok-first.first) (sym c.in_ok-pending.ensures)
-    (none_meets (length c.instructions.result.now) 0 c.in_ok-first.first)
+    (none_meets c.len.result 0 c.in_ok-first.first)
 
 pub returns : goal.returns
 returns c =
     let code = c.args.code.now in
     let new = c.meet.new.pending.items in
     let pending : c.in_ok-pending.pending.items ≡ replicate (length code.instructions) None = c.in_ok-pending.ensures
-    ∙ ap (λ l. replicate (length l) None) c.instructions.ensures.value in
+    ∙ ap (λ n. replicate n None) c.len.ensures.value in
     found_first code new
     (subst (λ (p : Certificate). Meets p 0 (opening code) new) pending
     (subst (λ (x : Entry). Meets c.in_ok-pending.pending.items 0 x new) c.in_ok-first.ensures c.in_ok-meet.ensures))

@@ -8,5 +8,5 @@ returns c =
     let code = c.args.code.now in
     let f = c.loop-place.invariant in
     let end : c.loop-place.place ≡ length code.instructions = omega
-    (arith, ap length c.instructions-place-end.ensures.value) in
+    (arith, c.len-place-end.ensures.value) in
     certified code f.certificate (subst (IsClosest code f.certificate) end f.closest)

@@ -3,7 +3,7 @@ use Rattle.std.proofs.Common.{replicate, rules, sym, ap, subst, arith, refl}
 use Rattle.std.specs.Prelude.{slice_get, get_or}
 use Rattle.std.specs.Option.{option_map_or}
 use Rattle.std.proofs.lemmas.Option.{slice_get-get_or}
-use Rattle.ilcode.specs.declared.word.Word.{Word}
+use Rattle.ilword.specs.declared.word.Word.{Word}
 use Rattle.ilcode.specs.Listings.{Listing}
 use Rattle.ilcode.specs.Paths.{may_request}
 use Rattle.ilverify.specs.Requests.{HasFewRequests}
@@ -40,7 +40,7 @@ pub loop-place-init : goal.loop-place-init
 loop-place-init c =
     let code = c.args.code.now in
     let blank = c.in_ok-most.ensures.items_if_clones_equal (search rules)
-    ∙ ap (λ l. replicate (length l) None) c.instructions.ensures.value in
+    ∙ ap (λ n. replicate n None) c.len.ensures.value in
     subst (λ (l : List (Option ℕ)). AreMost code l 0)
     (sym (c.raise.ensures ∙ ap (λ (l : List (Option ℕ)). raised l 0 0) blank)) (most_at_first code)
 
@@ -61,7 +61,7 @@ first c =
     let n = c.loop-place.place in
     let at = kept c.loop-place.most.items n (Some c.in-Some.before) c.index.result.now (search rules) c.index.ensures
     c.in-Some.is in
-    let more = added code n c.word_at-word.result c.may_request.result c.from.result c.word_at-word.ensures.value
+    let more = added code n c.word-word.result c.may_request.result c.from.result c.word-word.ensures.value
     c.may_request.ensures c.from.ensures in
     overfull code c.loop-place.most.items n c.in-Some.before c.loop-place.invariant at
     (omega (arith, more, c.if-from-gt-MOST_REQUESTS.true, c.from-in-Some.ensures))
@@ -88,14 +88,14 @@ loop-place-preserved c =
     let n = c.loop-place.place in
     let most = c.loop-place.most.items in
     let within : n < length most = omega
-    (arith, m.long, ap length c.instructions-place-end.ensures.value, c.loop-place-test.true) in
+    (arith, m.long, c.len-place-end.ensures.value, c.loop-place-test.true) in
     elim c.match-index.branch [
       | in-Some+else-from-gt-MOST_REQUESTS w ↦
           let at = kept most n (Some w.in-Some.before) c.index.result.now within c.index.ensures w.in-Some.is in
-          let more = added code n w.word_at-word.result w.may_request.result w.from.result w.word_at-word.ensures.value
+          let more = added code n w.word-word.result w.may_request.result w.from.result w.word-word.ensures.value
           w.may_request.ensures w.from.ensures in
           let passed = most_passed code most n w.in-Some.before (w.in-Some.before + w.from.result)
-          w.word_at-word.result m w.word_at-word.ensures.value at (omega (arith, more))
+          w.word-word.result m w.word-word.ensures.value at (omega (arith, more))
           (omega (arith, w.if-from-gt-MOST_REQUESTS.false, w.from-in-Some.ensures)) in
           subst (λ (l : List (Option ℕ)). AreMost code l (n + 1)) (cc) passed
       | in_default w ↦
@@ -109,7 +109,7 @@ loop-place-preserved c =
 few : (c : goal.After-drop-most-2) → HasFewRequests c.args.code.now
 few c =
     few_up_to c.args.code.now c.loop-place.place c.loop-place.invariant.few
-    (omega (arith, ap length c.instructions-place-end.ensures.value, c.loop-place-test.false))
+    (omega (arith, c.len-place-end.ensures.value, c.loop-place-test.false))
 
 -- src/requests.rt:17:1
 pub returns-clause-there : goal.returns-clause-there

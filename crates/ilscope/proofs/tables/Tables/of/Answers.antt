@@ -22,7 +22,7 @@ invariant_of-tables c =
     let g = elements.gathering in
     let configured = c.in_ok-configured.configured in
     let says = c.in_ok-configured.ensures in
-    let lower_is : lower ≡ lowered tree.text = c.in_ok-lower.ensures ∙ ap lowered c.text.ensures in
+    let lower_is : lower ≡ lowered tree.text = c.in_ok-lower.ensures ∙ ap lowered c.text.ensures.value in
     let gathered =
     moved_gathered c.deref.result.now lower c.elements.result.now tree.elements g.types g.programs.items
     g.variable_numbers.items g.block_numbers.items g.external_numbers.items g.least c.deref.ensures.value
@@ -55,7 +55,7 @@ returns-clause-least c =
     let g = elements.gathering in
     let configured = c.in_ok-configured.configured in
     let says = c.in_ok-configured.ensures in
-    let lower_is : lower ≡ lowered tree.text = c.in_ok-lower.ensures ∙ ap lowered c.text.ensures in
+    let lower_is : lower ≡ lowered tree.text = c.in_ok-lower.ensures ∙ ap lowered c.text.ensures.value in
     let gathered =
     moved_gathered c.deref.result.now lower c.elements.result.now tree.elements g.types g.programs.items
     g.variable_numbers.items g.block_numbers.items g.external_numbers.items g.least c.deref.ensures.value

@@ -1,0 +1,4 @@
+pub mod LowBytes
+pub mod Reading
+pub mod Rows
+pub mod Words
