@@ -1,0 +1,163 @@
+-- How long the parts of a file are, and where they stand in it.
+use Rattle.std.proofs.Common.{◌≡◌, ℕ, ◌+◌, ◌*◌, ◌≤◌, ◌<◌, ◌^◌, List, [], ◌∷◌, ◌++◌, take, drop, length, refl, ap}
+use Rattle.std.proofs.Common.{◌∙◌, arith, length-append, suc}
+use Rattle.std.specs.List.{AllByRecursion}
+use Rattle.std.specs.Prelude.{All}
+use Rattle.std.proofs.lemmas.List.{take_at, drop_at}
+use Rattle.std.proofs.lemmas.Nat.{from_le_bytes-to_le_bytes_4}
+use Rattle.iltypes.specs.declared.value.IlType.{IlType}
+use Rattle.iltypes.specs.declared.value.IlType.TheVariants as types
+use Rattle.iltypes.specs.declared.value.Value.{Value}
+use Rattle.iltypes.specs.declared.value.Value.TheVariants as values
+use Rattle.ilblocks.specs.declared.kind.BlockKind.{BlockKind}
+use Rattle.ilword.specs.declared.word.Word.{Word}
+use Rattle.ilcode.specs.Listings.{Listing, IsLawful}
+use Rattle.codefile.specs.Files.{HasFile, block, blocks, constant, constants, file, number, numbers, slot}
+use Rattle.codefile.specs.Files.{slots, tables, word, words}
+use Rattle.codefile.specs.Faults.{AreBuses, AreFew, BeginsWell, Counts, HasHead, counts_in, size}
+
+-- ---- tables
+
+pub constant_long : (v : Value) → length (constant v) ≡ 16
+constant_long (values.Bool b) = refl
+constant_long (values.Int z) = refl
+
+pub slot_long : (t : IlType) → length (slot t) ≡ 24
+slot_long types.Bool = refl
+slot_long (types.Int range) = refl
+
+pub block_long : (kind : BlockKind) → length (block kind) ≡ 1
+block_long kind = refl
+
+pub number_long : (n : ℕ) → length (number n) ≡ 4
+number_long n = refl
+
+pub word_long : (w : Word) → length (word w) ≡ 4
+word_long w = refl
+
+pub constants_long : (xs : List Value) → length (constants xs) ≡ 16 * length xs
+constants_long [] = refl
+constants_long (x ∷ xs) =
+    let one = constant_long x in
+    let rest = constants_long xs in
+    length-append (constant x) (constants xs) ∙ omega arith
+
+pub slots_long : (xs : List IlType) → length (slots xs) ≡ 24 * length xs
+slots_long [] = refl
+slots_long (x ∷ xs) =
+    let one = slot_long x in
+    let rest = slots_long xs in
+    length-append (slot x) (slots xs) ∙ omega arith
+
+pub blocks_long : (xs : List BlockKind) → length (blocks xs) ≡ length xs
+blocks_long [] = refl
+blocks_long (x ∷ xs) = let rest = blocks_long xs in length-append (block x) (blocks xs) ∙ omega arith
+
+pub numbers_long : (xs : List ℕ) → length (numbers xs) ≡ 4 * length xs
+numbers_long [] = refl
+numbers_long (x ∷ xs) = let rest = numbers_long xs in length-append (number x) (numbers xs) ∙ omega arith
+
+pub words_long : (xs : List Word) → length (words xs) ≡ 4 * length xs
+words_long [] = refl
+words_long (x ∷ xs) = let rest = words_long xs in length-append (word x) (words xs) ∙ omega arith
+
+-- a table at the front, and what follows it
+pub record Split (bytes front back : List ℕ) (n : ℕ) : Type 0 where
+  pub taken : take n bytes ≡ front
+  pub dropped : drop n bytes ≡ back
+
+pub split : (bytes front back : List ℕ) (n : ℕ) → bytes ≡ front ++ back → length front ≡ n → Split bytes front back n
+split bytes front back n e long =
+    record {
+      taken = ap (take n) e ∙ take_at front back n long;
+      dropped = ap (drop n) e ∙ drop_at front back n long;
+    }
+
+-- ---- the head
+
+-- the counts of a code
+abbrev pub counts_of : Listing → Counts
+counts_of code =
+    record {
+      constants = length code.constants;
+      slots = length code.slots;
+      blocks = length code.kinds;
+      starts = length code.starts;
+      words = length code.instructions;
+    }
+
+pub few_counts : (code : Listing) → HasFile code → AreFew (counts_of code)
+few_counts code h =
+    let l = h.lawful in
+    record {
+      constants = l.most_constants;
+      slots = l.most_slots;
+      blocks = l.most_blocks;
+      starts = l.most_starts;
+      words = l.most_instructions;
+    }
+
+pub counts_are : (code : Listing) → HasFile code → counts_in (file code) ≡ counts_of code
+counts_are code h =
+    let few = few_counts code h in
+    let c = few.constants in
+    let s = few.slots in
+    let b = few.blocks in
+    let t = few.starts in
+    let w = few.words in
+    λ i. record {
+      constants = from_le_bytes-to_le_bytes_4 (length code.constants) (omega arith) i;
+      slots = from_le_bytes-to_le_bytes_4 (length code.slots) (omega arith) i;
+      blocks = from_le_bytes-to_le_bytes_4 (length code.kinds) (omega arith) i;
+      starts = from_le_bytes-to_le_bytes_4 (length code.starts) (omega arith) i;
+      words = from_le_bytes-to_le_bytes_4 (length code.instructions) (omega arith) i;
+    }
+
+tables_long : (code : Listing) → length code.lines ≡ length code.instructions
+    → 28 + length (tables code) ≡ size (counts_of code)
+tables_long code each =
+    let cs = constants_long code.constants in
+    let ss = slots_long code.slots in
+    let bs = blocks_long code.kinds in
+    let ts = numbers_long code.starts in
+    let ws = words_long code.instructions in
+    let ls = numbers_long code.lines in
+    let a = length-append (words code.instructions) (numbers code.lines) in
+    let b = length-append (numbers code.starts) (words code.instructions ++ numbers code.lines) in
+    let c = length-append (blocks code.kinds)
+    (numbers code.starts ++ (words code.instructions ++ numbers code.lines)) in
+    let d = length-append (slots code.slots)
+    (blocks code.kinds ++ (numbers code.starts ++ (words code.instructions ++ numbers code.lines))) in
+    let e = length-append (constants code.constants)
+    (slots code.slots
+    ++ (blocks code.kinds ++ (numbers code.starts ++ (words code.instructions ++ numbers code.lines)))) in
+    omega arith
+
+pub file_long : (code : Listing) → HasFile code → length (file code) ≡ size (counts_of code)
+file_long code h =
+    let own : length (file code) ≡ 28 + length (tables code) = omega arith in
+    own ∙ tables_long code h.lawful.lines
+
+pub has_head : (code : Listing) → HasFile code → HasHead (file code)
+has_head code h =
+    let long = file_long code h in
+    (begins code, omega arith)
+  where
+    begins : (code : Listing) → BeginsWell (file code)
+    begins code = refl
+
+pub has_buses : (code : Listing) → HasFile code → AreBuses (file code)
+has_buses code h =
+    record { least = h.lawful.bus; most = h.lawful.most_buses; first = refl; second = refl }
+
+-- starts are not beyond the end, and so they are small
+pub small_starts : (code : Listing) → IsLawful code → AllByRecursion (λ (n : ℕ). n < 2 ^ 32) code.starts
+small_starts code lawful = small code.starts lawful.starts.within
+  where
+    small : (starts : List ℕ) → All (λ start. start ≤ length code.instructions) starts
+        → AllByRecursion (λ (n : ℕ). n < 2 ^ 32) starts
+    small [] within = tt
+    small (start ∷ starts) within =
+        let most = lawful.most_instructions in
+        let first = within 0 start (omega arith) in
+        (omega arith, small starts (λ k d below. within (suc k) d (omega arith)))

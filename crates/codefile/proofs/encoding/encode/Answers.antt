@@ -1,0 +1,9 @@
+use Rattle.std.proofs.Common.{sym, subst, List, ℕ, ◌<◌, ◌^◌}
+use Rattle.std.specs.List.{AllByRecursion}
+use Rattle.codefile.proofs.Lengths.{small_starts}
+use Rattle.codefile.proofs.encoding.encode.Goals as goal
+
+pub push_starts-requires : goal.push_starts-requires
+push_starts-requires c =
+    subst (λ (ns : List ℕ). AllByRecursion (λ (n : ℕ). n < 2 ^ 32) ns) (sym c.starts-2.ensures.value)
+    (small_starts c.args.code.now c.buses.ensures.lawful)

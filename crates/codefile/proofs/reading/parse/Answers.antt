@@ -1,0 +1,92 @@
+use Rattle.std.proofs.Common.{◌≡◌, ℕ, List, refl, sym, ap, ◌∙◌}
+use Rattle.std.specs.Prelude.{slice_index}
+use Rattle.ilcode.specs.Listings.{listing_of}
+use Rattle.codefile.specs.Faults.{Counts, size}
+use Rattle.codefile.specs.FaultSteps.{counted}
+use Rattle.codefile.specs.FieldSteps.{BeginPrograms}
+use Rattle.codefile.proofs.Parts.{parts}
+use Rattle.codefile.proofs.Lawful.{lawful}
+use Rattle.codefile.proofs.Lengths.{small_starts}
+use Rattle.codefile.proofs.Starts.{starts_begin}
+use Rattle.codefile.proofs.reading.parse.Goals as goal
+
+pub tables_in-tables-requires : goal.tables_in-tables-requires
+tables_in-tables-requires c = c.requires.shaped.long ∙ ap size (sym c.requires.counts)
+
+pub returns-in_default-clause-exact : goal.returns-in_default-clause-exact
+returns-in_default-clause-exact c =
+    λ code h e.
+    let p = parts code c.args.bytes.now (counted c.args.counts) h e c.requires.counts in
+    rw c.in_default.is at
+    (c.in_ok-slots.ensures.exact code.slots (sym (ap (λ (m : Counts). m.slots) p.counts)) h.slots
+    (c.tables_in-tables.ensures.slots.is ∙ p.slots))
+
+pub returns-in_default-2-clause-exact : goal.returns-in_default-2-clause-exact
+returns-in_default-2-clause-exact c =
+    λ code h e.
+    let p = parts code c.args.bytes.now (counted c.args.counts) h e c.requires.counts in
+    rw c.in_default-2.is at
+    (c.in_ok-kinds.ensures.exact code.kinds (sym (ap (λ (m : Counts). m.blocks) p.counts))
+    (c.tables_in-tables.ensures.blocks.is ∙ p.blocks))
+
+pub returns-in_default-3-clause-exact : goal.returns-in_default-3-clause-exact
+returns-in_default-3-clause-exact c =
+    λ code h e.
+    let p = parts code c.args.bytes.now (counted c.args.counts) h e c.requires.counts in
+    rw c.in_default-3.is at
+    (c.in_ok-words.ensures.exact code.instructions (sym (ap (λ (m : Counts). m.words) p.counts)) h.lawful.words
+    (c.tables_in-tables.ensures.words.is ∙ p.words))
+
+pub returns-then-not-are_starts-clause-exact : goal.returns-then-not-are_starts-clause-exact
+returns-then-not-are_starts-clause-exact c =
+    λ code h e.
+    let p = parts code c.args.bytes.now (counted c.args.counts) h e c.requires.counts in
+    let starts = c.in_ok-starts.ensures.exact code.starts (sym (ap (λ (m : Counts). m.starts) p.counts))
+    (small_starts code h.lawful) (c.tables_in-tables.ensures.starts.is ∙ p.starts) in
+    let words = rw c.in-Some-3.is at (c.in_ok-words.ensures.exact code.instructions
+    (sym (ap (λ (m : Counts). m.words) p.counts)) h.lawful.words (c.tables_in-tables.ensures.words.is ∙ p.words)) in
+    let begin : BeginPrograms c.deref.result.now c.deref-2.result.now =
+    rw (c.deref.ensures.value ∙ starts, c.deref-2.ensures.value ∙ words)
+    (starts_begin code.starts code.instructions h.lawful.starts) in
+    let yes = c.are_starts.ensures.1 begin in
+    let not = c.if-not-are_starts.true in
+    absurd (cc)
+
+pub new-requires : goal.new-requires
+new-requires c =
+    let held = rw c.in-Some-3.is at c.in_ok-words.ensures.held in
+    let begin : BeginPrograms c.deref.result.now c.deref-2.result.now =
+    c.are_starts.ensures.0 c.if-not-are_starts.false in
+    lawful c.args.bytes.now (counted c.args.counts) c.requires.shaped c.requires.counts _ _ _ _ _ _ _
+    refl
+    c.in_ok-constants.ensures.long
+    (rw c.in-Some.is at c.in_ok-slots.ensures.fits).1
+    (rw c.in-Some-2.is at c.in_ok-kinds.ensures.long)
+    c.in_ok-starts.ensures.long
+    held.1
+    c.in_ok-lines.ensures.long
+    held.0
+    c.in_ok-lines.ensures.small
+    (rw (c.deref.ensures.value, c.deref-2.ensures.value) at begin)
+
+pub returns-clause-exact : goal.returns-clause-exact
+returns-clause-exact c =
+    λ code h e.
+    let p = parts code c.args.bytes.now (counted c.args.counts) h e c.requires.counts in
+    let t = c.tables_in-tables.ensures in
+    let long = sym (ap (λ (m : Counts). m.words) p.counts) in
+    let buses : slice_index c.args.bytes.now 5 ≡ code.buses = ap (λ (bs : List ℕ). slice_index bs 5) (sym e) in
+    let constants = c.in_ok-constants.ensures.exact code.constants
+    (sym (ap (λ (m : Counts). m.constants) p.counts)) h.constants (t.constants.is ∙ p.constants) in
+    let slots = rw c.in-Some.is at (c.in_ok-slots.ensures.exact code.slots
+    (sym (ap (λ (m : Counts). m.slots) p.counts)) h.slots (t.slots.is ∙ p.slots)) in
+    let kinds = rw c.in-Some-2.is at (c.in_ok-kinds.ensures.exact code.kinds
+    (sym (ap (λ (m : Counts). m.blocks) p.counts)) (t.blocks.is ∙ p.blocks)) in
+    let starts = c.in_ok-starts.ensures.exact code.starts (sym (ap (λ (m : Counts). m.starts) p.counts))
+    (small_starts code h.lawful) (t.starts.is ∙ p.starts) in
+    let words = rw c.in-Some-3.is at (c.in_ok-words.ensures.exact code.instructions long h.lawful.words
+    (t.words.is ∙ p.words)) in
+    let lines = c.in_ok-lines.ensures.exact code.lines (h.lawful.lines ∙ long) h.lawful.numbers
+    (t.lines ∙ p.lines) in
+    c.new.ensures
+    ∙ (λ i. listing_of (buses i) (constants i) (slots i) (kinds i) (starts i) (words i) (lines i))

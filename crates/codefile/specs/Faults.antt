@@ -1,0 +1,101 @@
+-- What stands against bytes that are no code file: the first that holds, in this order. Bytes that begin otherwise, as
+-- far as they go; fewer than the head; a number of buses other than 1 to 16, or a byte after it that is not 0; a count
+-- beyond its limit; a length other than the counts say; and any other field.
+use Rattle.std.specs.Prelude.{◌≡◌, ℕ, ◌+◌, ◌*◌, ◌≤◌, ◌<◌, ◌⊎◌, List, length, take, drop, slice_index}
+use Rattle.std.specs.Prelude.{Result, Ok, Err, ⊤}
+use Rattle.std.specs.Int.{w32, from_le_bytes}
+use Rattle.limits.specs.Limits as limits
+use Rattle.ilcode.specs.Listings.{Listing}
+use Rattle.codefile.specs.Files.{HasFile, file, magic}
+use Rattle.codefile.specs.declared.fault.FileCause.{FileCause}
+use Rattle.codefile.specs.declared.fault.FileCause.TheVariants.{Magic, Cut, Trailing, BadField, TooMany}
+use Rattle.codefile.specs.declared.fault.FileFault.{FileFault}
+use Rattle.codefile.specs.declared.fault.FileFault.TheVariants as faults
+
+-- as far as they go they begin with the magic
+abbrev pub BeginsWell : List ℕ → Type 0
+BeginsWell bytes = take 5 bytes ≡ take (length bytes) magic
+
+abbrev pub HasHead : List ℕ → Type 0
+HasHead bytes = BeginsWell bytes × (28 ≤ length bytes)
+
+-- buses, and two zeros
+pub record AreBuses (bytes : List ℕ) : Type 0 where
+  pub least : 1 ≤ slice_index bytes 5
+  pub most : slice_index bytes 5 ≤ limits.most_buses
+  pub first : slice_index bytes 6 ≡ 0
+  pub second : slice_index bytes 7 ≡ 0
+
+-- the counts, which are the five numbers from byte 8 on
+pub record Counts : Type 0 where
+  pub constants : ℕ
+  pub slots : ℕ
+  pub blocks : ℕ
+  pub starts : ℕ
+  pub words : ℕ
+
+abbrev pub number_at : List ℕ → ℕ → ℕ
+number_at bytes place = from_le_bytes w32 (take 4 (drop place bytes))
+
+abbrev pub counts_in : List ℕ → Counts
+counts_in bytes =
+    record {
+      constants = number_at bytes 8;
+      slots = number_at bytes 12;
+      blocks = number_at bytes 16;
+      starts = number_at bytes 20;
+      words = number_at bytes 24;
+    }
+
+pub record AreFew (c : Counts) : Type 0 where
+  pub constants : c.constants ≤ limits.most_constants
+  pub slots : c.slots ≤ limits.most_slots
+  pub blocks : c.blocks ≤ limits.most_blocks
+  pub starts : c.starts ≤ limits.most_instances
+  pub words : c.words ≤ limits.most_words
+
+-- the length that they ask for
+abbrev pub size : Counts → ℕ
+size c = 28 + 16 * c.constants + 24 * c.slots + c.blocks + 4 * c.starts + 8 * c.words
+
+-- the bytes of a code
+abbrev pub IsFile : List ℕ → Type 0
+IsFile bytes = (code : Listing) × HasFile code × (file code ≡ bytes)
+
+-- ---- the first fault
+
+abbrev pub IsFirst : List ℕ → FileCause → Type 0
+IsFirst bytes Magic = ¬ BeginsWell bytes
+IsFirst bytes Cut =
+    (BeginsWell bytes × (length bytes < 28))
+    ⊎ (HasHead bytes × AreBuses bytes × AreFew (counts_in bytes) × (length bytes < size (counts_in bytes)))
+IsFirst bytes TooMany = HasHead bytes × AreBuses bytes × (¬ AreFew (counts_in bytes))
+IsFirst bytes Trailing =
+    HasHead bytes × AreBuses bytes × AreFew (counts_in bytes) × (size (counts_in bytes) < length bytes)
+IsFirst bytes BadField =
+    (HasHead bytes × (¬ AreBuses bytes))
+    ⊎ (HasHead bytes × AreBuses bytes × AreFew (counts_in bytes) × (length bytes ≡ size (counts_in bytes))
+    × (¬ IsFile bytes))
+
+abbrev pub IsFault : List ℕ → FileFault → Type 0
+IsFault bytes faults.Memory = ⊤
+IsFault bytes (faults.Of cause) = IsFirst bytes cause
+
+-- the code is read, or memory ran out
+abbrev pub IsReadAs : Listing → Result Listing FileFault → Type 0
+IsReadAs code (Ok read) = read ≡ code
+IsReadAs code (Err faults.Memory) = ⊤
+IsReadAs code (Err (faults.Of cause)) = ⊥
+
+-- ---- numbers of causes
+
+abbrev pub cause_number : FileCause → ℕ
+cause_number Magic = 2
+cause_number Cut = 3
+cause_number Trailing = 4
+cause_number BadField = 5
+cause_number TooMany = 6
+
+abbrev pub fault_number : FileFault → ℕ
+fault_number faults.Memory = 1
+fault_number (faults.Of cause) = cause_number cause

@@ -1,0 +1,118 @@
+-- Code files, version 1 (profile): the bytes of a code, field after field. Numbers are little-endian.
+use Rattle.std.specs.Prelude.{ℕ, ℤ, pos, Bool, true, false, List, [], ◌∷◌, ◌++◌, flat_map, length, FitsSigned, ⊤}
+use Rattle.std.specs.Int.{w32, w64, cast_unsigned, to_le_bytes}
+use Rattle.std.specs.List.{AllByRecursion}
+use Rattle.iltypes.specs.declared.value.IlType.{IlType}
+use Rattle.iltypes.specs.declared.value.IlType.TheVariants as types
+use Rattle.iltypes.specs.declared.value.Value.{Value}
+use Rattle.iltypes.specs.declared.value.Value.TheVariants as values
+use Rattle.ilblocks.specs.declared.kind.BlockKind.{BlockKind}
+use Rattle.ilblocks.specs.declared.kind.BlockKind.TheVariants as kinds
+use Rattle.ilword.specs.Words.{spelling}
+use Rattle.ilword.specs.declared.word.Word.{Word}
+use Rattle.ilcode.specs.Listings.{Listing, IsLawful}
+
+-- ---- fields
+
+-- a count, a start, the bits of a word, or a line: 4 bytes
+abbrev pub number : ℕ → List ℕ
+number n = to_le_bytes w32 n
+
+-- a whole number of 64 signed bits: 8 bytes, in two's complement
+abbrev pub whole : ℤ → List ℕ
+whole z = to_le_bytes w64 (cast_unsigned w64 z)
+
+-- what a constant or a slot is, 0 of BOOL and 1 of whole numbers: a byte, and seven zeros
+abbrev pub tag : ℕ → List ℕ
+tag kind = kind ∷ 0 ∷ 0 ∷ 0 ∷ 0 ∷ 0 ∷ 0 ∷ 0 ∷ []
+
+-- FALSE is 0 and TRUE is 1
+abbrev pub truth : Bool → ℤ
+truth false = pos 0
+truth true = pos 1
+
+-- 16 bytes
+abbrev pub constant : Value → List ℕ
+constant (values.Bool b) = tag 0 ++ whole (truth b)
+constant (values.Int z) = tag 1 ++ whole z
+
+-- 24 bytes: the least and the greatest value
+abbrev pub slot : IlType → List ℕ
+slot types.Bool = tag 0 ++ (whole (pos 0) ++ whole (pos 1))
+slot (types.Int range) = tag 1 ++ (whole range.lo ++ whole range.hi)
+
+-- one byte
+abbrev pub block_number : BlockKind → ℕ
+block_number kinds.RTrig = 0
+block_number kinds.Ctu = 1
+block_number kinds.Ton = 2
+block_number kinds.GearLevel = 3
+block_number kinds.GearDo = 4
+block_number kinds.GearSet = 5
+block_number kinds.GearPair = 6
+block_number kinds.GearAsk = 7
+block_number kinds.GearRead = 8
+block_number kinds.DevDo = 9
+block_number kinds.DevScheme = 10
+block_number kinds.DevAsk = 11
+
+abbrev pub block : BlockKind → List ℕ
+block kind = block_number kind ∷ []
+
+abbrev pub word : Word → List ℕ
+word w = number (spelling w)
+
+-- ---- files
+
+-- `DLIL`, and the version
+abbrev pub magic : List ℕ
+magic = 68 ∷ 76 ∷ 73 ∷ 76 ∷ 1 ∷ []
+
+abbrev pub constants : List Value → List ℕ
+constants xs = flat_map constant xs
+
+abbrev pub slots : List IlType → List ℕ
+slots xs = flat_map slot xs
+
+abbrev pub blocks : List BlockKind → List ℕ
+blocks xs = flat_map block xs
+
+abbrev pub numbers : List ℕ → List ℕ
+numbers xs = flat_map number xs
+
+abbrev pub words : List Word → List ℕ
+words xs = flat_map word xs
+
+-- how many there are of each
+abbrev pub counts : Listing → List ℕ → List ℕ
+counts code rest =
+    number (length code.constants)
+    ++ (number (length code.slots)
+    ++ (number (length code.kinds)
+    ++ (number (length code.starts) ++ (number (length code.instructions) ++ rest))))
+
+abbrev pub tables : Listing → List ℕ
+tables code =
+    constants code.constants
+    ++ (slots code.slots
+    ++ (blocks code.kinds ++ (numbers code.starts ++ (words code.instructions ++ numbers code.lines))))
+
+-- the file of a code
+abbrev pub file : Listing → List ℕ
+file code = 68 ∷ 76 ∷ 73 ∷ 76 ∷ 1 ∷ code.buses ∷ 0 ∷ 0 ∷ counts code (tables code)
+
+-- ---- which codes have one
+
+-- whole numbers have 64 signed bits
+abbrev pub FitsValue : Value → Type 0
+FitsValue (values.Bool b) = ⊤
+FitsValue (values.Int z) = FitsSigned w64 z
+
+abbrev pub FitsType : IlType → Type 0
+FitsType types.Bool = ⊤
+FitsType (types.Int range) = FitsSigned w64 range.lo × FitsSigned w64 range.hi
+
+pub record HasFile (code : Listing) : Type 0 where
+  pub lawful : IsLawful code
+  pub constants : AllByRecursion FitsValue code.constants
+  pub slots : AllByRecursion FitsType code.slots

@@ -1,0 +1,166 @@
+//! Codes as bytes.
+
+ghost use Rattle.std.specs.Prelude.{◌≡◌, ◌++◌, ◌<◌, ◌^◌, IfOk, OnOk};
+ghost use Rattle.std.specs.List.{AllByRecursion};
+ghost use Rattle.codefile.specs.Files.{blocks, constant, constants, file, number, numbers, slot};
+ghost use Rattle.codefile.specs.Files.{slots, tag, whole, word, words};
+ghost use Rattle.ilword.specs.Words.{HasWord};
+
+use crate::fields::block_number;
+use ilblocks::BlockKind;
+use ilcode::Code;
+use iltypes::{IlType, Value};
+use ilword::PackedWord;
+use std::alloc::{AllocError, Global};
+
+/// The file of a code.
+///
+/// # Errors
+///
+/// The allocator is out of memory.
+pub fn encode(alloc: Global, code: &Code) -> Result<Vec<u8>, AllocError>
+    ensures { IfOk result (λ bytes. bytes.items ≡ file code.now) }
+{
+    let mut bytes = Vec::new(alloc);
+    bytes.extend_from_slice(&[68, 76, 73, 76, 1, code.buses(), 0, 0])?;
+    push_number(&mut bytes, code.constants().len())?;
+    push_number(&mut bytes, code.slots().len())?;
+    push_number(&mut bytes, code.kinds().len())?;
+    push_number(&mut bytes, code.starts().len())?;
+    push_number(&mut bytes, code.len())?;
+    push_constants(&mut bytes, code.constants())?;
+    push_slots(&mut bytes, code.slots())?;
+    push_blocks(&mut bytes, code.kinds())?;
+    push_starts(&mut bytes, code.starts())?;
+    push_words(&mut bytes, code.words())?;
+    push_lines(&mut bytes, code.lines())?;
+    Ok(bytes)
+}
+
+/// Adds constants.
+fn push_constants(bytes: &mut Vec<u8>, values: &[Value]) -> Result<(), AllocError>
+    ensures { OnOk result (bytes.new.items ≡ bytes.old.items ++ constants values.now) }
+{
+    for value in values {
+        push_constant(bytes, *value)?;
+    }
+    Ok(())
+}
+
+/// Adds a constant.
+fn push_constant(bytes: &mut Vec<u8>, value: Value) -> Result<(), AllocError>
+    ensures { OnOk result (bytes.new.items ≡ bytes.old.items ++ constant value) }
+{
+    match value {
+        Value::Bool(false) => {
+            push_tag(bytes, 0)?;
+            push_whole(bytes, 0)
+        }
+        Value::Bool(true) => {
+            push_tag(bytes, 0)?;
+            push_whole(bytes, 1)
+        }
+        Value::Int(number) => {
+            push_tag(bytes, 1)?;
+            push_whole(bytes, number)
+        }
+    }
+}
+
+/// Adds the types of slots.
+fn push_slots(bytes: &mut Vec<u8>, types: &[IlType]) -> Result<(), AllocError>
+    ensures { OnOk result (bytes.new.items ≡ bytes.old.items ++ slots types.now) }
+{
+    for slot in types {
+        push_slot(bytes, *slot)?;
+    }
+    Ok(())
+}
+
+/// Adds the type of a slot.
+fn push_slot(bytes: &mut Vec<u8>, il_type: IlType) -> Result<(), AllocError>
+    ensures { OnOk result (bytes.new.items ≡ bytes.old.items ++ slot il_type) }
+{
+    match il_type {
+        IlType::Bool => {
+            push_tag(bytes, 0)?;
+            push_whole(bytes, 0)?;
+            push_whole(bytes, 1)
+        }
+        IlType::Int(range) => {
+            push_tag(bytes, 1)?;
+            push_whole(bytes, range.lo)?;
+            push_whole(bytes, range.hi)
+        }
+    }
+}
+
+/// Adds the kinds of block instances.
+fn push_blocks(bytes: &mut Vec<u8>, kinds: &[BlockKind]) -> Result<(), AllocError>
+    ensures { OnOk result (bytes.new.items ≡ bytes.old.items ++ blocks kinds.now) }
+{
+    for kind in kinds {
+        bytes.push(block_number(*kind))?;
+    }
+    Ok(())
+}
+
+/// Adds words.
+fn push_words(bytes: &mut Vec<u8>, given: &[PackedWord]) -> Result<(), AllocError>
+    ensures { OnOk result (bytes.new.items ≡ bytes.old.items ++ words given.now) }
+{
+    for word in given {
+        push_word(bytes, *word)?;
+    }
+    Ok(())
+}
+
+/// Adds a word.
+fn push_word(bytes: &mut Vec<u8>, given: PackedWord) -> Result<(), AllocError>
+    ensures { OnOk result (bytes.new.items ≡ bytes.old.items ++ word given) }
+{
+    bytes.extend_from_slice(&given.bits().to_le_bytes())
+}
+
+/// Adds starts.
+fn push_starts(bytes: &mut Vec<u8>, given: &[usize]) -> Result<(), AllocError>
+    requires { AllByRecursion (λ n. n < 2 ^ 32) given.now }
+    ensures { OnOk result (bytes.new.items ≡ bytes.old.items ++ numbers given.now) }
+{
+    for number in given {
+        push_number(bytes, *number)?;
+    }
+    Ok(())
+}
+
+/// Adds lines.
+fn push_lines(bytes: &mut Vec<u8>, given: &[u32]) -> Result<(), AllocError>
+    ensures { OnOk result (bytes.new.items ≡ bytes.old.items ++ numbers given.now) }
+{
+    for line in given {
+        bytes.extend_from_slice(&line.to_le_bytes())?;
+    }
+    Ok(())
+}
+
+/// Adds a number of 32 bits.
+fn push_number(bytes: &mut Vec<u8>, given: usize) -> Result<(), AllocError>
+    requires { given < 2 ^ 32 }
+    ensures { OnOk result (bytes.new.items ≡ bytes.old.items ++ number given) }
+{
+    bytes.extend_from_slice(&(given as u32).to_le_bytes())
+}
+
+/// Adds what a constant or a slot is.
+fn push_tag(bytes: &mut Vec<u8>, kind: u8) -> Result<(), AllocError>
+    ensures { OnOk result (bytes.new.items ≡ bytes.old.items ++ tag kind) }
+{
+    bytes.extend_from_slice(&[kind, 0, 0, 0, 0, 0, 0, 0])
+}
+
+/// Adds a whole number of 64 bits.
+fn push_whole(bytes: &mut Vec<u8>, number: i64) -> Result<(), AllocError>
+    ensures { OnOk result (bytes.new.items ≡ bytes.old.items ++ whole number) }
+{
+    bytes.extend_from_slice(&number.to_le_bytes())
+}

@@ -1,0 +1,15 @@
+//! Laws of the definitions, each by the lemma that crates above cite.
+
+ghost use Rattle.std.specs.Prelude.{◌≡◌};
+ghost use Rattle.ilcode.specs.Listings.{Listing};
+ghost use Rattle.codefile.specs.Faults.{IsFile, IsFirst};
+ghost use Rattle.codefile.specs.Files.{HasFile, file};
+ghost use Rattle.codefile.specs.declared.fault.FileCause.{FileCause as AnyCause};
+ghost use Rattle.std.specs.Prelude.{ℕ, List};
+
+/// A file has one code, and no fault stands against it.
+fn a_file_has_one_code()
+    ensures one { (a b : Listing) → HasFile a → HasFile b → file a ≡ file b → a ≡ b }
+    ensures no_fault { (bytes : List ℕ) (cause : AnyCause) → IsFile bytes
+        → ¬ IsFirst bytes cause }
+{}

@@ -1,0 +1,120 @@
+//! What bytes say of their length, before any field of a table is read.
+
+ghost use Rattle.std.specs.Prelude.{◌≡◌, ◌+◌, ◌≤◌, ◌↔◌, length, IfErr, IfOk, IsTrue};
+ghost use Rattle.codefile.specs.Faults.{AreBuses, AreFew, BeginsWell, HasHead, IsFirst};
+ghost use Rattle.codefile.specs.Faults.{counts_in, number_at, size};
+ghost use Rattle.codefile.specs.FaultSteps.{IsShaped, counted};
+
+use crate::fault::FileCause;
+use crate::fields::number_at;
+use limits::{MOST_BLOCKS, MOST_BUSES, MOST_CONSTANTS, MOST_INSTANCES, MOST_SLOTS, MOST_WORDS};
+
+/// What a code file of version 1 begins with.
+const MAGIC: [u8; 5] = [68, 76, 73, 76, 1];
+
+/// How many there are of each: constants, slots, block instances, starts, words.
+#[derive(Clone, Copy)]
+pub(crate) struct FileCounts {
+    pub(crate) constants: usize,
+    pub(crate) slots: usize,
+    pub(crate) blocks: usize,
+    pub(crate) starts: usize,
+    pub(crate) words: usize,
+}
+
+/// The counts of bytes that are as long as these ask for, or the first fault.
+pub(crate) fn shape(bytes: &[u8]) -> Result<FileCounts, FileCause>
+    ensures counts { IfOk result (λ counts. counted counts ≡ counts_in bytes.now) }
+    ensures shaped { IfOk result (λ counts. IsShaped bytes.now) }
+    ensures err { IfErr result (IsFirst bytes.now) }
+{
+    if !begins_well(bytes) {
+        return Err(FileCause::Magic);
+    }
+    if bytes.len() < 28 {
+        return Err(FileCause::Cut);
+    }
+    if !are_buses(bytes) {
+        return Err(FileCause::BadField);
+    }
+    let counts = counts_in(bytes);
+    if !are_few(counts) {
+        return Err(FileCause::TooMany);
+    }
+    let size = size(counts);
+    if bytes.len() < size {
+        return Err(FileCause::Cut);
+    }
+    if bytes.len() > size {
+        return Err(FileCause::Trailing);
+    }
+    Ok(counts)
+}
+
+/// Whether bytes begin as a code file, as far as they go.
+fn begins_well(bytes: &[u8]) -> bool
+    ensures { IsTrue result ↔ BeginsWell bytes.now }
+{
+    if bytes.len() < 5 {
+        let (wanted, _) = MAGIC.split_at(bytes.len());
+        bytes == wanted
+    } else {
+        let (front, _) = bytes.split_at(5);
+        front == MAGIC.as_slice()
+    }
+}
+
+/// Whether the buses are 1 to 16, and the two bytes after them 0.
+fn are_buses(bytes: &[u8]) -> bool
+    requires { 28 ≤ length bytes.now }
+    ensures { IsTrue result ↔ AreBuses bytes.now }
+{
+    1 <= bytes[5] && bytes[5] <= MOST_BUSES && bytes[6] == 0 && bytes[7] == 0
+}
+
+/// The five counts.
+fn counts_in(bytes: &[u8]) -> FileCounts
+    requires { 28 ≤ length bytes.now }
+    ensures { counted result ≡ counts_in bytes.now }
+{
+    FileCounts {
+        constants: count_at(bytes, 8),
+        slots: count_at(bytes, 12),
+        blocks: count_at(bytes, 16),
+        starts: count_at(bytes, 20),
+        words: count_at(bytes, 24),
+    }
+}
+
+/// The count at a place.
+fn count_at(bytes: &[u8], place: usize) -> usize
+    requires { place + 4 ≤ length bytes.now }
+    ensures { result ≡ number_at bytes.now place }
+{
+    let (_, rest) = bytes.split_at(place);
+    let (count, _) = number_at(rest);
+    count as usize
+}
+
+/// Whether no count is beyond its limit.
+fn are_few(counts: FileCounts) -> bool
+    ensures { IsTrue result ↔ AreFew (counted counts) }
+{
+    counts.constants <= MOST_CONSTANTS
+        && counts.slots <= MOST_SLOTS
+        && counts.blocks <= MOST_BLOCKS
+        && counts.starts <= MOST_INSTANCES
+        && counts.words <= MOST_WORDS
+}
+
+/// The length that the counts ask for.
+fn size(counts: FileCounts) -> usize
+    requires { AreFew (counted counts) }
+    ensures { result ≡ size (counted counts) }
+{
+    28 + 16 * counts.constants
+        + 24 * counts.slots
+        + counts.blocks
+        + 4 * counts.starts
+        + 8 * counts.words
+}
