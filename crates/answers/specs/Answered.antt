@@ -36,6 +36,11 @@ pub record IsFirstCalled (plan : Planned) (name : List ℕ) (task : ℕ) : Type 
 abbrev pub NoneIsCalled : Planned → List ℕ → Type 0
 NoneIsCalled plan name = (k : ℕ) → k < length plan.tasks → ¬ (IsCalled plan name k)
 
+-- the setup of a text, and its first task of the name
+pub record IsFound (wiring : Wiring) (bytes name : List ℕ) (setup : Loaded) (task : ℕ) : Type 0 where
+  pub loaded : IsSetup wiring bytes setup
+  pub called : IsFirstCalled setup.plan name task
+
 -- ---- what stands against a text
 
 -- the allocator is out of memory, which may be at any time, or it is such a stop

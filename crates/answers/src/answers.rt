@@ -7,8 +7,8 @@ ghost use Rattle.ilplan.specs.Plans.{KeepsLimits, first_values, types_of};
 ghost use Rattle.std.specs.Option.{option_copied};
 ghost use Rattle.ilsetup.specs.Loaded.{Loaded};
 ghost use Rattle.plantload.specs.Loading.{IsSetup};
-ghost use Rattle.answers.specs.Answered.{IsCheckStop, IsChecked, IsFirstCalled, IsStep, IsStepStop};
-ghost use Rattle.answers.specs.Answered.{IsStepped, NoneIsCalled, IsStopOrMemory};
+ghost use Rattle.answers.specs.Answered.{IsCheckStop, IsChecked, IsFirstCalled, IsFound, IsStep};
+ghost use Rattle.answers.specs.Answered.{IsStepStop, IsStepped, NoneIsCalled, IsStopOrMemory};
 ghost use Rattle.answers.specs.Connected.{IsConnected, IsBindingStop};
 ghost use Rattle.answers.specs.Responses.{IsAnswer, IsMade};
 ghost use Rattle.answers.specs.Stepping.{AreScansOf, Run};
@@ -98,6 +98,30 @@ pub fn check(alloc: Global, binding: &Binding, text: &[u8]) -> Result<Setup, Sto
     Ok(load(alloc, text, binding)?)
 }
 
+/// The setup of a text, and the number of the first task of a name, in any letter case.
+///
+/// # Errors
+///
+/// The text's first fault, else the least fault of its names, else that no task has the name, else
+/// the first task whose code is refused; or that the allocator is out of memory.
+pub fn find_task(
+    alloc: Global,
+    binding: &Binding,
+    text: &[u8],
+    task: &str,
+) -> Result<(Setup, usize), Stop>
+    ensures found { IfOk result
+        (λ found. IsFound binding.now text.now task.now found.0 found.1) }
+    ensures stop { IfErr result (IsStopOrMemory (IsStepStop binding.now text.now task.now)) }
+{
+    let plan = plan_of(alloc, text, binding)?;
+    let Some(number) = task_number(&plan, task) else {
+        return Err(Stop::NoTask(AskedName::of(alloc, task)?));
+    };
+    let setup = setup_of(alloc, plan)?;
+    Ok((setup, number))
+}
+
 /// The requests of this many scans of a task, and its variables after them: the first scan from
 /// their initial values, but TRUE at an event task's trigger, and from block instances before their
 /// first call, `every` milliseconds apart.
@@ -120,11 +144,7 @@ pub fn step(
     ensures one { (a b : Result Run Stop) → IsStep binding.now text.now task.now scans every a
         → IsStep binding.now text.now task.now scans every b → a ≡ b }
 {
-    let plan = plan_of(alloc, text, binding)?;
-    let Some(number) = task_number(&plan, task) else {
-        return Err(Stop::NoTask(AskedName::of(alloc, task)?));
-    };
-    let setup = setup_of(alloc, plan)?;
+    let (setup, number) = find_task(alloc, binding, text, task)?;
     let made = run(alloc, &setup, number, scans, every)?;
     Ok(Stepped::new(setup, number, made))
 }

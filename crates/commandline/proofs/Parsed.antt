@@ -1,13 +1,17 @@
 -- What `clap` finds in the words of the command line.
-use Rattle.std.proofs.Common.{◌≡◌, ◌∙◌, ap, ap₂, subst, List, Option, Some, None, true, Result, refl, sym}
-use Rattle.std.specs.Prelude.{option_map, unwrap_or}
-use Rattle.clap.specs.Words.{App, FailsBy, HasMatchesOf, Row, Text, fault_of, is_simple, subcommand_name_of}
+use Rattle.std.proofs.Common.{◌≡◌, ◌∙◌, ap, ap₂, subst, List, [], ◌∷◌, Option, Some, None, true, Result, Ok, Err, refl}
+use Rattle.std.proofs.Common.{sym, inl, inr}
+use Rattle.std.specs.Prelude.{option_map, unwrap_or, IfErr, IfOk}
+use Rattle.clap.specs.Words.{App, HasKind, HasMatchesOf, Row, Text, fault_of, is_simple, subcommand_name_of}
 use Rattle.clap.specs.Words.{subcommand_of, subcommand_rows_of}
 use Rattle.clap.specs.Faults.{is_simple_and_free}
 use Rattle.clap.specs.declared.error.Error.{Error}
 use Rattle.clap.specs.declared.parser.matches.ArgMatches.{ArgMatches}
 use Rattle.clap.specs.declared.parser.matches.ArgMatches.TheViews.{out-ArgMatches}
-use Rattle.commandline.specs.CommandLine.{command_line}
+use Rattle.clap.specs.declared.error.kind.ErrorKind.TheVariants.{ArgumentConflict}
+use Rattle.invocations.specs.Invocations.{IsOfCommand}
+use Rattle.invocations.specs.declared.invocations.Invocation.{Invocation}
+use Rattle.commandline.specs.CommandLine.{AreTaken, IsInvocation, NamesBoth, SpellBoth, command_line}
 
 is_free : is_simple_and_free command_line ≡ true
 is_free = refl
@@ -33,11 +37,13 @@ name_in_rows : (m : ArgMatches) → subcommand_name_of m ≡ option_map (λ p. p
 name_in_rows m = option_map_twice (λ (p : Text × List Row). p.0) _ (out-ArgMatches m).subcommand
 
 module _ (words : List Text) (app : App) (is : app ≡ command_line) where
-  pub taken : {T : Type 0} (parsed : Result T Error)
-      → (is_simple_and_free app ≡ true → FailsBy (fault_of app words) parsed)
-      → FailsBy (fault_of command_line words) parsed
-  taken parsed fails =
-      subst (λ (a : App). FailsBy (fault_of a words) parsed) is (fails (ap is_simple_and_free is ∙ is_free))
+  pub no_fault : (is_simple_and_free app ≡ true → fault_of app words ≡ []) → fault_of command_line words ≡ []
+  no_fault none = subst (λ (a : App). fault_of a words ≡ []) is (none (ap is_simple_and_free is ∙ is_free))
+
+  pub its_fault : (error : Error) → (is_simple_and_free app ≡ true → HasKind (fault_of app words) error)
+      → HasKind (fault_of command_line words) error
+  its_fault error fails =
+      subst (λ (a : App). HasKind (fault_of a words) error) is (fails (ap is_simple_and_free is ∙ is_free))
 
   pub entered : (m : ArgMatches) → HasMatchesOf app words m → subcommand_rows_of m ≡ subcommand_of command_line words
   entered m matches = (matches (ap is_simple is ∙ is_plain)).1 ∙ ap (λ (a : App). subcommand_of a words) is
@@ -50,3 +56,27 @@ module _ (words : List Text) (app : App) (is : app ≡ command_line) where
       let first = is_name ∙ name_in_rows m ∙ ap (option_map (λ (p : Text × List Row). p.0)) both in
       let second = is_found ∙ ap (option_map (λ (p : Text × List Row). p.1)) both in
       paired _ name found first second
+
+module _ (words : List Text) (name : Text) (found : List Row)
+    (is : subcommand_of command_line words ≡ Some (name, found)) where
+  -- where `clap` finds nothing at fault
+  pub answered : (T : Type 0) (read : Result T Error) → fault_of command_line words ≡ []
+      → IfOk read (λ _. ¬ NamesBoth name found)
+      → IfErr read (λ error. NamesBoth name found × HasKind (ArgumentConflict ∷ []) error)
+      → AreTaken {T = T} words read
+  answered T (Ok done) free alone conflict = (free, λ both. alone (names both))
+    where
+      names : SpellBoth words → NamesBoth name found
+      names both =
+          let pairs = ap (λ (o : Option (Text × List Row)). unwrap_or o (name, found)) (sym both.2 ∙ is) in
+          subst (λ (p : Text × List Row). NamesBoth p.0 p.1) pairs both.3
+  answered T (Err error) free alone conflict =
+      elim conflict.1 as (λ _. AreTaken {T = T} words (Err error)) [
+        | inl memory ↦ inl (inl memory)
+        | inr (inl kind) ↦ inr (free, (name, found, is, conflict.0), kind)
+        | inr (inr none) ↦ absurd none
+      ]
+
+  pub spelled : (read : Result Invocation Error) → IfOk read (IsOfCommand name found) → IfOk read (IsInvocation words)
+  spelled (Ok invocation) of = (name, found, is, of)
+  spelled (Err error) of = tt

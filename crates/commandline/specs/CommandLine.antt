@@ -1,12 +1,16 @@
--- The command line (profile): `check FILE [--bind FILE]`, `step FILE TASK [--bind FILE] [--scans N] [--every MS]`,
--- `play TEXT BIND SCENARIO [--limit N]`, `run TEXT BIND SCENARIO [--limit N] [--workers W]` and
--- `look FILE SCENARIO --bind FILE [--text]`, `notes FILE [--bind FILE]`, `list FILE [TASK] [--bind FILE]` and
--- `explain FILE [SCENARIO] [--bind FILE]`, with the reading of words that `clap` has.
-use Rattle.std.specs.Prelude.{◌≡◌, ℕ, List, Some, true, pos, codes}
-use Rattle.clap.specs.Words.{App, Row, Rule, Text, new_app, new_rule, subcommand_of, with_rule, with_subcommand}
+-- The command line (profile): `check FILE [--bind FILE]`, `check --code FILE`, `step FILE TASK [--bind FILE] [--scans N]
+-- [--every MS]`, `play TEXT BIND SCENARIO [--limit N]`, `run TEXT BIND SCENARIO [--limit N] [--workers W]`,
+-- `look FILE SCENARIO --bind FILE [--text]`, `notes FILE [--bind FILE]`, `list FILE [TASK] [--bind FILE]`,
+-- `explain FILE [SCENARIO] [--bind FILE]` and `code FILE TASK OUT [--bind FILE]`, with the reading of words that `clap`
+-- has.
+use Rattle.std.specs.Prelude.{◌≡◌, ℕ, ◌⊎◌, List, [], Some, true, pos, codes, IsSome, Result, Ok, Err}
+use Rattle.clap.specs.Words.{App, HasKind, Row, Rule, Text, fault_of, first_of, kind_of, new_app, new_rule, one_of}
+use Rattle.clap.specs.Words.{subcommand_of, with_rule, with_subcommand}
 use Rattle.clap.specs.Simple.{on_top}
 use Rattle.clap.specs.declared.builder.action.ArgAction.TheVariants.{Set, SetTrue}
 use Rattle.clap.specs.declared.builder.value_parser.ValueParser.TheVariants as parsers
+use Rattle.clap.specs.declared.error.Error.{Error}
+use Rattle.clap.specs.declared.error.kind.ErrorKind.TheVariants.{ArgumentConflict}
 use Rattle.invocations.specs.Invocations.{IsOfCommand}
 use Rattle.invocations.specs.declared.invocations.Invocation.{Invocation}
 
@@ -36,8 +40,11 @@ flag id = record (new_rule id) { long = Some id; action = Some SetTrue }
 abbrev pub number_option : Text → ℕ → ℕ → Rule
 number_option id least most = record (option id) { parser = Some (parsers.Signed (pos least) (pos most)) }
 
+abbrev pub check_files : App
+check_files = with_rule (with_rule (new_app (codes "check")) (wanted (codes "FILE"))) (option (codes "bind"))
+
 abbrev pub check_command : App
-check_command = with_rule (with_rule (new_app (codes "check")) (wanted (codes "FILE"))) (option (codes "bind"))
+check_command = with_rule check_files (flag (codes "code"))
 
 abbrev pub step_files : App
 step_files =
@@ -84,6 +91,14 @@ explain_command =
     with_rule (with_rule (with_rule (new_app (codes "explain")) (wanted (codes "FILE"))) (optional (codes "SCENARIO")))
     (option (codes "bind"))
 
+abbrev pub code_files : App
+code_files =
+    with_rule (with_rule (with_rule (new_app (codes "code")) (wanted (codes "FILE"))) (wanted (codes "TASK")))
+    (wanted (codes "OUT"))
+
+abbrev pub code_command : App
+code_command = with_rule code_files (option (codes "bind"))
+
 abbrev pub program : App
 program = on_top (λ top. record top { subcommand_required = true }) (new_app (codes "dalictl"))
 
@@ -105,8 +120,11 @@ note_line = with_subcommand look_line notes_command.top
 abbrev pub list_line : App
 list_line = with_subcommand note_line list_command.top
 
+abbrev pub explain_line : App
+explain_line = with_subcommand list_line explain_command.top
+
 abbrev pub command_line : App
-command_line = with_subcommand list_line explain_command.top
+command_line = with_subcommand explain_line code_command.top
 
 -- ---- what they say
 
@@ -115,3 +133,22 @@ abbrev pub IsInvocation : List Text → Invocation → Type 0
 IsInvocation words invocation =
     (name : Text) × (found : List Row) × (subcommand_of command_line words ≡ Some (name, found))
     × IsOfCommand name found invocation
+
+-- ---- how they are taken
+
+-- what was found under `check` names a binding beside a code file, which has none
+abbrev pub NamesBoth : Text → List Row → Type 0
+NamesBoth name found =
+    (name ≡ codes "check") × (one_of (codes "code") found ≡ Some (codes "true"))
+    × IsSome (first_of (codes "bind") found)
+
+abbrev pub SpellBoth : List Text → Type 0
+SpellBoth words =
+    (name : Text) × (found : List Row) × (subcommand_of command_line words ≡ Some (name, found)) × NamesBoth name found
+
+-- what `clap` finds at fault comes first, then a binding beside a code file; and the allocator may be out of memory
+abbrev pub AreTaken : {T : Type 0} → List Text → Result T Error → Type 0
+AreTaken words (Ok taken) = (fault_of command_line words ≡ []) × ¬ SpellBoth words
+AreTaken words (Err error) =
+    HasKind (fault_of command_line words) error
+    ⊎ ((fault_of command_line words ≡ []) × SpellBoth words × (kind_of error ≡ ArgumentConflict))

@@ -2,8 +2,9 @@
 //!
 //! What crosses the boundary: [`read`] takes the words that follow the program's name, and gives
 //! the [`Invocation`] that they spell, whose types and meaning are those of `invocations`: an
-//! [`Inquiry`] or a [`Question`] of a text, or files that are played, run or looked at. The
-//! definitions to read first are `command_line` and `IsInvocation` (specs/CommandLine.antt).
+//! [`Inquiry`] or a [`Question`] of a text, files that are played, run or looked at, or a code file
+//! that is written or judged. The definitions to read first are `command_line` and `IsInvocation`
+//! (specs/CommandLine.antt).
 //!
 //! ```text
 //! match commandline::read(alloc, words)? {
@@ -12,6 +13,7 @@
 //! ```
 #![tactic(auto)]
 
+mod coding;
 mod options;
 mod questions;
 

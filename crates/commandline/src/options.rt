@@ -1,16 +1,21 @@
 //! The command line, read with `clap`.
 
-ghost use Rattle.std.specs.Prelude.{◌≡◌, IfOk, codes, false, map, string_bytes};
-ghost use Rattle.clap.specs.Words.{FailsBy, app_of, fault_of, rule_of};
+ghost use Rattle.std.specs.Prelude.{◌≡◌, ◌↔◌, [], ◌∷◌, IfErr, IfOk, IsSome, IsTrue, Some, codes};
+ghost use Rattle.std.specs.Prelude.{false, map, string_bytes};
+ghost use Rattle.clap.specs.Words.{HasKind, app_of, first_of, found_of, one_of, rows_of, rule_of};
 ghost use Rattle.clap.specs.declared.builder.command.Command.TheViews.{out-Command};
-ghost use Rattle.commandline.specs.CommandLine.{IsInvocation, check_command, command_line, flag};
+ghost use Rattle.invocations.specs.Invocations.{IsOfCommand};
+ghost use Rattle.commandline.specs.CommandLine.{AreTaken, IsInvocation, NamesBoth, check_command};
+ghost use Rattle.commandline.specs.CommandLine.{check_files, command_line, flag};
 ghost use Rattle.commandline.specs.CommandLine.{inquiry_line, look_command, look_files, look_line};
 ghost use Rattle.commandline.specs.CommandLine.{number_option, option, play_command, played_line};
 ghost use Rattle.commandline.specs.CommandLine.{run_command, run_line, scenario_files};
 ghost use Rattle.commandline.specs.CommandLine.{step_command, step_files, wanted, wanted_option};
 
-use crate::questions::{explain, listing};
-use clap::{Arg, ArgAction, Command, Error};
+use crate::coding::code;
+use crate::questions::explaining;
+use clap::error::ErrorKind;
+use clap::{Arg, ArgAction, ArgMatches, Command, Error};
 use invocations::{Invocation, invocation_of};
 use std::alloc::{AllocError, Global};
 
@@ -18,26 +23,71 @@ use std::alloc::{AllocError, Global};
 ///
 /// # Errors
 ///
-/// What `clap` says of words that spell none, and the help where it is asked for.
+/// What `clap` says of words that spell none, and the help where it is asked for; or that a binding
+/// is named beside a code file.
 pub fn read<'a>(alloc: Global, words: &'a [String]) -> Result<Invocation<'a>, Error>
     // Exactly the words that the command line takes are taken, unless memory is refused,
-    ensures taken { FailsBy
-        (fault_of command_line (map (λ word. string_bytes word) words.entry.now)) result }
+    ensures taken { AreTaken (map (λ word. string_bytes word) words.entry.now) result }
     // and the invocation is the one that they spell.
     ensures invocation { IfOk result
         (IsInvocation (map (λ word. string_bytes word) words.entry.now)) }
 {
     let mut matches = command(alloc)?.try_get_matches_from(words)?;
     match matches.remove_subcommand() {
-        Some((name, found)) => Ok(invocation_of(name, &found)),
+        Some((name, found)) => invocation(alloc, name, &found),
         None => unreachable!(),
     }
+}
+
+/// The invocation of what was found under a command's name.
+///
+/// # Errors
+///
+/// A binding is named beside a code file, which has none.
+fn invocation<'a>(
+    alloc: Global,
+    name: &str,
+    found: &ArgMatches<'a>,
+) -> Result<Invocation<'a>, Error>
+    ensures taken { IfOk result (λ _. ¬ NamesBoth name.now (rows_of (found_of found.now))) }
+    ensures conflict { IfErr result (λ error. NamesBoth name.now (rows_of (found_of found.now))
+        × HasKind (ErrorKind.ArgumentConflict ∷ []) error) }
+    ensures invocation { IfOk result
+        (IsOfCommand name.now (rows_of (found_of found.now))) }
+{
+    if names_both(name, found) {
+        let message = "the argument '--code' cannot be used with '--bind <FILE>'";
+        let mut command = check(alloc)?;
+        return Err(command.error(ErrorKind::ArgumentConflict, message)?);
+    }
+    Ok(invocation_of(name, found))
+}
+
+/// Whether a binding is named beside a code file.
+fn names_both(name: &str, found: &ArgMatches) -> bool
+    ensures { IsTrue result ↔ NamesBoth name.now (rows_of (found_of found.now)) }
+{
+    name == "check" && is_on(found, "code") && is_given(found, "bind")
+}
+
+/// Whether a flag is given.
+fn is_on(found: &ArgMatches, id: &str) -> bool
+    ensures { IsTrue result ↔ (one_of id.now (rows_of (found_of found.now)) ≡ Some (codes "true")) }
+{
+    found.get_one::<bool>(id).unwrap_or(false)
+}
+
+/// Whether a word is given.
+fn is_given(found: &ArgMatches, id: &str) -> bool
+    ensures { IsTrue result ↔ IsSome (first_of id.now (rows_of (found_of found.now))) }
+{
+    found.get_str(id).is_some()
 }
 
 fn command<'a>(alloc: Global) -> Result<Command<'a>, AllocError>
     ensures { IfOk result (λ c. app_of c ≡ command_line) }
 {
-    listing(alloc)?.subcommand(explain(alloc)?)
+    explaining(alloc)?.subcommand(code(alloc)?)
 }
 
 pub(crate) fn looking<'a>(alloc: Global) -> Result<Command<'a>, AllocError>
@@ -74,6 +124,13 @@ fn inquiries<'a>(alloc: Global) -> Result<Command<'a>, AllocError>
 
 fn check<'a>(alloc: Global) -> Result<Command<'a>, AllocError>
     ensures shape { IfOk result (λ c. app_of c ≡ check_command) }
+    ensures local { IfOk result (λ c. (out-Command c).has_globals ≡ false) }
+{
+    check_files(alloc)?.arg(of_code(alloc))
+}
+
+fn check_files<'a>(alloc: Global) -> Result<Command<'a>, AllocError>
+    ensures shape { IfOk result (λ c. app_of c ≡ check_files) }
     ensures local { IfOk result (λ c. (out-Command c).has_globals ≡ false) }
 {
     Command::new(alloc, "check")
@@ -161,7 +218,7 @@ pub(crate) fn text<'a>(alloc: Global) -> Arg<'a>
         .help("The text of the programs")
 }
 
-fn task<'a>(alloc: Global) -> Arg<'a>
+pub(crate) fn task<'a>(alloc: Global) -> Arg<'a>
     ensures rule { rule_of result ≡ wanted (codes "TASK") }
     ensures local { result.global ≡ false }
 {
@@ -232,6 +289,16 @@ fn as_text<'a>(alloc: Global) -> Arg<'a>
         .long("text")
         .action(ArgAction::SetTrue)
         .help("Prints lines for a terminal in place of an SVG")
+}
+
+fn of_code<'a>(alloc: Global) -> Arg<'a>
+    ensures rule { rule_of result ≡ flag (codes "code") }
+    ensures local { result.global ≡ false }
+{
+    Arg::new(alloc, "code")
+        .long("code")
+        .action(ArgAction::SetTrue)
+        .help("FILE is a code file, which has no binding")
 }
 
 fn limit<'a>(alloc: Global) -> Arg<'a>

@@ -3,14 +3,22 @@
 ghost use Rattle.std.specs.Prelude.{◌≡◌, IfOk, codes, false};
 ghost use Rattle.clap.specs.Words.{app_of, rule_of};
 ghost use Rattle.clap.specs.declared.builder.command.Command.TheViews.{out-Command};
-ghost use Rattle.commandline.specs.CommandLine.{explain_command, list_command, list_line};
+ghost use Rattle.commandline.specs.CommandLine.{explain_command, explain_line};
+ghost use Rattle.commandline.specs.CommandLine.{list_command, list_line};
 ghost use Rattle.commandline.specs.CommandLine.{note_line, notes_command, optional};
 
 use crate::options::{binding, looking, text};
 use clap::{Arg, ArgAction, Command};
 use std::alloc::{AllocError, Global};
 
-pub(crate) fn listing<'a>(alloc: Global) -> Result<Command<'a>, AllocError>
+pub(crate) fn explaining<'a>(alloc: Global) -> Result<Command<'a>, AllocError>
+    ensures shape { IfOk result (λ c. app_of c ≡ explain_line) }
+    ensures local { IfOk result (λ c. (out-Command c).has_globals ≡ false) }
+{
+    listing(alloc)?.subcommand(explain(alloc)?)
+}
+
+fn listing<'a>(alloc: Global) -> Result<Command<'a>, AllocError>
     ensures shape { IfOk result (λ c. app_of c ≡ list_line) }
     ensures local { IfOk result (λ c. (out-Command c).has_globals ≡ false) }
 {
@@ -45,7 +53,7 @@ fn list<'a>(alloc: Global) -> Result<Command<'a>, AllocError>
         .arg(binding(alloc))
 }
 
-pub(crate) fn explain<'a>(alloc: Global) -> Result<Command<'a>, AllocError>
+fn explain<'a>(alloc: Global) -> Result<Command<'a>, AllocError>
     ensures shape { IfOk result (λ c. app_of c ≡ explain_command) }
     ensures local { IfOk result (λ c. (out-Command c).has_globals ≡ false) }
 {

@@ -3,3 +3,4 @@ mod PlaysOut
 mod ReportedLines
 mod RunsOut
 mod ScenarioFaults
+mod StoppedCodes

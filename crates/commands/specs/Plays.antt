@@ -18,9 +18,9 @@ use Rattle.invocations.specs.declared.files.PlayFiles.{PlayFiles}
 use Rattle.exits.specs.declared.play_stop.PlayStop.{PlayStop}
 use Rattle.exits.specs.declared.play_stop.PlayStop.TheVariants.{Text, Scenario, Start}
 use Rattle.answers.specs.declared.stop.Stop.{Stop}
-use Rattle.commands.specs.declared.reading.Unread.{Unread}
+use Rattle.commands.specs.declared.reading.DiskFault.{DiskFault}
 use Rattle.commands.specs.declared.serving.Unserved.{Unserved}
-use Rattle.commands.specs.declared.serving.Unserved.TheVariants.{NotRead, NotPrinted}
+use Rattle.commands.specs.declared.serving.Unserved.TheVariants.{NotRead, NotWritten, NotPrinted}
 use Rattle.answers.specs.Answered.{IsCheckStop, IsStopOrMemory}
 use Rattle.answers.specs.Connected.{IsConnected, IsBindingStop}
 use Rattle.exits.specs.ExitStatuses.{status_of_ending, status_of_play_stop}
@@ -108,7 +108,7 @@ pub record IsPlayed (gives : List ℕ → List ℕ → Type 0) (files : PlayFile
 
 -- the binding at this path isn't read; or it is, and the text at this path isn't; or both are, and the scenario at this
 -- path isn't
-abbrev pub IsFirstFileUnread : (List ℕ → List ℕ → Type 0) → (List ℕ → Unread → Type 0) → PlayFiles → List ℕ → Unread
+abbrev pub IsFirstFileUnread : (List ℕ → List ℕ → Type 0) → (List ℕ → DiskFault → Type 0) → PlayFiles → List ℕ → DiskFault
     → Type 0
 IsFirstFileUnread gives fails files path why =
     ((path ≡ files.binding.now) × fails path why)
@@ -117,6 +117,7 @@ IsFirstFileUnread gives fails files path why =
     ⊎ (((text : List ℕ) × gives files.text.now text) × (path ≡ files.scenario.now) × fails path why)))
 
 -- the first of the named files that isn't read is reported; of a failure of the writer nothing is said
-abbrev pub IsUnplayed : (List ℕ → List ℕ → Type 0) → (List ℕ → Unread → Type 0) → PlayFiles → Unserved → Type 0
+abbrev pub IsUnplayed : (List ℕ → List ℕ → Type 0) → (List ℕ → DiskFault → Type 0) → PlayFiles → Unserved → Type 0
 IsUnplayed gives fails files (NotRead path why) = IsFirstFileUnread gives fails files path.now why
+IsUnplayed gives fails files (NotWritten path why) = ⊥
 IsUnplayed gives fails files (NotPrinted error) = ⊤

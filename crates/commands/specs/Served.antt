@@ -2,12 +2,12 @@
 -- (profile). The disk is two relations: at a path it gives bytes, and at a path it fails for a reason.
 use Rattle.std.specs.Prelude.{◌≡◌, ℕ, List, Option, Some, None, ◌⊎◌, ⊤}
 use Rattle.std.specs.Option.{option_copied}
-use Rattle.commands.specs.declared.reading.Unread.{Unread}
+use Rattle.commands.specs.declared.reading.DiskFault.{DiskFault}
 use Rattle.invocations.specs.declared.files.Files.{Files}
 use Rattle.invocations.specs.declared.inquiries.Inquiry.{Inquiry}
 use Rattle.exits.specs.declared.exit_status.ExitStatus.{ExitStatus}
 use Rattle.commands.specs.declared.serving.Unserved.{Unserved}
-use Rattle.commands.specs.declared.serving.Unserved.TheVariants.{NotRead, NotPrinted}
+use Rattle.commands.specs.declared.serving.Unserved.TheVariants.{NotRead, NotWritten, NotPrinted}
 use Rattle.commands.specs.Reports.{IsReport}
 use Rattle.invocations.specs.Inquiries.{files_of}
 
@@ -27,18 +27,20 @@ pub record IsServed (gives : List ℕ → List ℕ → Type 0) (inquiry : Inquir
   pub report : IsReport inquiry binding bytes before after status
 
 -- the binding at this path isn't read; or it is, and the text at this path isn't
-abbrev pub IsFirstUnread : (List ℕ → List ℕ → Type 0) → (List ℕ → Unread → Type 0) → Files → List ℕ → Unread → Type 0
+abbrev pub IsFirstUnread : (List ℕ → List ℕ → Type 0) → (List ℕ → DiskFault → Type 0) → Files → List ℕ → DiskFault → Type 0
 IsFirstUnread gives fails files path why =
     ((option_copied files.binding ≡ Some path) × fails path why)
     ⊎ (((binding : Option (List ℕ)) × IsGiven gives (option_copied files.binding) binding)
     × (path ≡ files.text.now) × fails path why)
 
 -- the first of the named files that isn't read is reported; of a failure of the writer nothing is said
-abbrev pub IsUnserved : (List ℕ → List ℕ → Type 0) → (List ℕ → Unread → Type 0) → Inquiry → Unserved → Type 0
+abbrev pub IsUnserved : (List ℕ → List ℕ → Type 0) → (List ℕ → DiskFault → Type 0) → Inquiry → Unserved → Type 0
 IsUnserved gives fails inquiry (NotRead path why) = IsFirstUnread gives fails (files_of inquiry) path.now why
+IsUnserved gives fails inquiry (NotWritten path why) = ⊥
 IsUnserved gives fails inquiry (NotPrinted error) = ⊤
 
 -- that the file at a path isn't read is reported
-abbrev pub IsNotRead : (List ℕ → Unread → Type 0) → List ℕ → Unserved → Type 0
+abbrev pub IsNotRead : (List ℕ → DiskFault → Type 0) → List ℕ → Unserved → Type 0
 IsNotRead fails path (NotRead named why) = (named.now ≡ path) × fails path why
+IsNotRead fails path (NotWritten named why) = ⊥
 IsNotRead fails path (NotPrinted error) = ⊥

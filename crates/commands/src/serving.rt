@@ -4,7 +4,7 @@ ghost use Rattle.std.specs.Prelude.{IfErr, IfOk, IsSomeAnd, option_map};
 ghost use Rattle.std.specs.Option.{option_copied};
 ghost use Rattle.commands.specs.Served.{IsGiven, IsNotRead, IsServed, IsUnserved};
 
-use crate::reading::{Disk, Unread};
+use crate::reading::{Disk, DiskFault};
 use crate::report;
 use answers::respond;
 use commandline::Inquiry;
@@ -13,11 +13,13 @@ use std::alloc::Global;
 use std::io;
 use std::io::Write;
 
-/// Why an inquiry isn't served.
+/// Why a command isn't served.
 #[derive(Drop)]
 pub enum Unserved<'a> {
     /// A file wasn't read.
-    NotRead { path: &'a str, why: Unread },
+    NotRead { path: &'a str, why: DiskFault },
+    /// A file wasn't written.
+    NotWritten { path: &'a str, why: DiskFault },
     /// The answer wasn't printed.
     NotPrinted(io::Error),
 }

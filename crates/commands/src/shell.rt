@@ -1,8 +1,9 @@
 //! The program over a runtime: its words, its files, its terminal and its threads.
 
+use crate::code_files::{serve_check_code, serve_code};
 use crate::looking::serve_look;
 use crate::playing::serve_play;
-use crate::reading::{HostDisk, Unread};
+use crate::reading::{DiskFault, HostDisk};
 use crate::running::serve_run;
 use crate::serving::{Unserved, serve};
 use crate::telling::serve_question;
@@ -73,19 +74,30 @@ fn run_invocation<R: Files + Print + Eprint + AllocGlobal, T: Threads + Wait + T
         Invocation::Run { files, size } => serve_run(threads, alloc, &disk, out, files, size),
         Invocation::Look { files, is_text } => serve_look(alloc, &disk, out, files, is_text),
         Invocation::Tell { files, question } => serve_question(alloc, &disk, out, files, question),
+        Invocation::Code { files, task, to } => serve_code(alloc, &disk, out, files, task, to),
+        Invocation::CheckCode { path } => serve_check_code(alloc, &disk, out, path),
     };
     match served {
         Ok((_, status)) => status,
         Err(Unserved::NotRead { path, why }) => not_read(rt, path, why),
+        Err(Unserved::NotWritten { path, why }) => not_written(rt, path, why),
         Err(Unserved::NotPrinted(error)) => printed(rt, Err(error), ExitStatus::Failed),
     }
 }
 
 /// Reports that a file wasn't read.
-fn not_read<R: Print + Eprint>(rt: &R, path: &str, why: Unread) -> ExitStatus {
+fn not_read<R: Print + Eprint>(rt: &R, path: &str, why: DiskFault) -> ExitStatus {
     match why {
-        Unread::Memory => no_memory(rt),
-        Unread::Failed => printed(rt, eprintln!(rt; "cannot read {path}"), ExitStatus::Failed),
+        DiskFault::Memory => no_memory(rt),
+        DiskFault::Failed => printed(rt, eprintln!(rt; "cannot read {path}"), ExitStatus::Failed),
+    }
+}
+
+/// Reports that a file wasn't written.
+fn not_written<R: Print + Eprint>(rt: &R, path: &str, why: DiskFault) -> ExitStatus {
+    match why {
+        DiskFault::Memory => no_memory(rt),
+        DiskFault::Failed => printed(rt, eprintln!(rt; "cannot write {path}"), ExitStatus::Failed),
     }
 }
 

@@ -7,6 +7,8 @@ use Rattle.plantplay.specs.declared.playing.Ending.{Ending}
 use Rattle.plantplay.specs.declared.playing.Ending.TheVariants as endings
 use Rattle.workers.specs.declared.ended.Ended.{Ended}
 use Rattle.workers.specs.declared.ended.Ended.TheVariants.{Asked}
+use Rattle.coding.specs.declared.answer.CodeAnswer.{CodeAnswer}
+use Rattle.coding.specs.declared.answer.CodeAnswer.TheVariants as answers
 use Rattle.exits.specs.declared.exit_status.ExitStatus.{ExitStatus}
 use Rattle.exits.specs.declared.exit_status.ExitStatus.TheVariants.{Accepted, Refused, Misused, Failed}
 use Rattle.exits.specs.declared.play_stop.PlayStop.{PlayStop}
@@ -43,6 +45,13 @@ status_of_run ended is_down = Failed
 abbrev pub status_of_stop : Stop → ExitStatus
 status_of_stop stops.Memory = Failed
 status_of_stop _ = Refused
+
+-- of what is answered to a code file: its code is accepted; or it is refused, or there is none; or out of memory
+abbrev pub status_of_code_answer : CodeAnswer → ExitStatus
+status_of_code_answer (answers.Accepted words bound) = Accepted
+status_of_code_answer (answers.Refused refusal) = Refused
+status_of_code_answer (answers.Faulty cause) = Refused
+status_of_code_answer answers.Memory = Failed
 
 -- of what stands against playing or running a scenario: what stands against the text, as above; the scenario is out of
 -- memory, or a line of it is at fault; the plant does not start

@@ -2,6 +2,7 @@
 
 use answers::Stop;
 use clap::error::ErrorKind;
+use coding::CodeAnswer;
 use plantplay::Ending;
 use workers::Ended;
 
@@ -20,8 +21,9 @@ pub enum ExitStatus {
 
 impl ExitStatus {
     ghost use Rattle.std.specs.Prelude.{◌≡◌};
-    ghost use Rattle.exits.specs.ExitStatuses.{number_of_status, status_of_ending};
-    ghost use Rattle.exits.specs.ExitStatuses.{status_of_run, status_of_stop, status_of_words};
+    ghost use Rattle.exits.specs.ExitStatuses.{number_of_status, status_of_code_answer};
+    ghost use Rattle.exits.specs.ExitStatuses.{status_of_ending, status_of_run, status_of_stop};
+    ghost use Rattle.exits.specs.ExitStatuses.{status_of_words};
 
     /// The number that the program exits with.
     pub fn number(self) -> u8
@@ -73,6 +75,17 @@ impl ExitStatus {
         match stop {
             Stop::Memory => ExitStatus::Failed,
             _ => ExitStatus::Refused,
+        }
+    }
+
+    /// Of what is answered to a code file.
+    pub fn of_code_answer(answer: &CodeAnswer) -> ExitStatus
+        ensures { result ≡ status_of_code_answer answer.now }
+    {
+        match answer {
+            CodeAnswer::Accepted { .. } => ExitStatus::Accepted,
+            CodeAnswer::Refused(_) | CodeAnswer::Faulty(_) => ExitStatus::Refused,
+            CodeAnswer::Memory => ExitStatus::Failed,
         }
     }
 }

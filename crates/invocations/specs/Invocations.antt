@@ -9,7 +9,8 @@ use Rattle.invocations.specs.declared.files.PlayFiles.{PlayFiles}
 use Rattle.invocations.specs.declared.inquiries.Inquiry.{Inquiry}
 use Rattle.invocations.specs.declared.inquiries.Inquiry.TheVariants.{Check, Step}
 use Rattle.invocations.specs.declared.invocations.Invocation.{Invocation}
-use Rattle.invocations.specs.declared.invocations.Invocation.TheVariants.{Ask, Look, Play, Run, Tell}
+use Rattle.invocations.specs.declared.invocations.Invocation.TheVariants.{Ask, CheckCode, Code, Look, Play}
+use Rattle.invocations.specs.declared.invocations.Invocation.TheVariants.{Run, Tell}
 use Rattle.invocations.specs.declared.invocations.RunSize.{RunSize}
 use Rattle.invocations.specs.declared.questions.Question.{Question}
 use Rattle.invocations.specs.declared.questions.Question.TheVariants.{Faults, Notes, Words}
@@ -45,7 +46,8 @@ pub record AreScans (found : List Row) (task : Bor Text) (scans every : ℕ) : T
 
 -- what was found under a command's name is the inquiry
 abbrev pub IsOfInquiry : Text → List Row → Inquiry → Type 0
-IsOfInquiry name found (Check files) = (name ≡ codes "check") × AreFiles found files
+IsOfInquiry name found (Check files) =
+    (name ≡ codes "check") × IsFlag (one_of (codes "code") found) false × AreFiles found files
 IsOfInquiry name found (Step files task scans every) =
     ¬ (name ≡ codes "check") × AreFiles found files × AreScans found task scans every
 
@@ -78,6 +80,17 @@ pub record IsRunSize (found : List Row) (size : RunSize) : Type 0 where
   pub limit : IsNumber 100000 (one_of (codes "limit") found) size.limit
   pub workers : IsNumber 2 (one_of (codes "workers") found) size.workers
 
+-- the task whose code is asked for, and the path to which its code file goes
+pub record AreCodeWords (found : List Row) (task to : Bor Text) : Type 0 where
+  pub of_task : task.now ≡ given (first_of (codes "TASK") found)
+  pub out : to.now ≡ given (first_of (codes "OUT") found)
+
+-- no scenario, no code and no question is asked for under this name
+abbrev pub IsInquiryName : Text → Type 0
+IsInquiryName name =
+    ¬ (name ≡ codes "play") × ¬ (name ≡ codes "run") × ¬ (name ≡ codes "look") × ¬ (name ≡ codes "code")
+    × IsNoQuestion name
+
 -- what was found under a command's name is the invocation; a played history has 100,000 events at most where nothing
 -- else is said
 abbrev pub IsOfCommand : Text → List Row → Invocation → Type 0
@@ -86,9 +99,12 @@ IsOfCommand name found (Play files limit) =
 IsOfCommand name found (Run files size) = (name ≡ codes "run") × ArePlayFiles found files × IsRunSize found size
 IsOfCommand name found (Look files is_text) =
     (name ≡ codes "look") × AreLookFiles found files × IsFlag (one_of (codes "text") found) is_text
-IsOfCommand name found (Ask inquiry) =
-    ¬ (name ≡ codes "play") × ¬ (name ≡ codes "run") × ¬ (name ≡ codes "look") × IsNoQuestion name
-    × IsOfInquiry name found inquiry
+IsOfCommand name found (Code files task to) =
+    (name ≡ codes "code") × AreFiles found files × AreCodeWords found task to
+IsOfCommand name found (CheckCode path) =
+    (name ≡ codes "check") × IsFlag (one_of (codes "code") found) true
+    × (path.now ≡ given (first_of (codes "FILE") found))
+IsOfCommand name found (Ask inquiry) = IsInquiryName name × IsOfInquiry name found inquiry
 IsOfCommand name found (Tell files question) =
-    ¬ (name ≡ codes "play") × ¬ (name ≡ codes "run") × ¬ (name ≡ codes "look")
+    ¬ (name ≡ codes "play") × ¬ (name ≡ codes "run") × ¬ (name ≡ codes "look") × ¬ (name ≡ codes "code")
     × AreFiles found files × IsQuestion name found question

@@ -29,6 +29,16 @@ pub enum Invocation<'a> {
         files: Files<'a>,
         question: Question<'a>,
     },
+    /// `code FILE TASK OUT [--bind FILE]`: the code file of the task of this name goes to this path.
+    Code {
+        files: Files<'a>,
+        task: &'a str,
+        to: &'a str,
+    },
+    /// `check --code FILE`: whether the code of the code file at this path is accepted.
+    CheckCode {
+        path: &'a str,
+    },
 }
 
 /// How large a run may become.

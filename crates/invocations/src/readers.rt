@@ -1,9 +1,9 @@
 //! The readers of what `clap` found.
 
-ghost use Rattle.std.specs.Prelude.{◌≡◌};
+ghost use Rattle.std.specs.Prelude.{◌≡◌, codes};
 ghost use Rattle.clap.specs.Words.{first_of, found_of, one_of, rows_of};
 ghost use Rattle.invocations.specs.Invocations.{AreFiles, AreLookFiles, ArePlayFiles, IsFlag};
-ghost use Rattle.invocations.specs.Invocations.{IsNumber, IsOfCommand, IsOfInquiry, IsRunSize};
+ghost use Rattle.invocations.specs.Invocations.{IsInquiryName, IsNumber, IsOfCommand, IsRunSize};
 ghost use Rattle.invocations.specs.Invocations.{given};
 
 use crate::files::{Files, PlayFiles};
@@ -34,29 +34,50 @@ pub fn invocation_of<'a>(name: &str, found: &ArgMatches<'a>) -> Invocation<'a>
             is_text: flag_in(found, "text"),
         };
     }
+    if name == "code" {
+        return Invocation::Code {
+            files: files_in(found),
+            task: text_in(found, "TASK"),
+            to: text_in(found, "OUT"),
+        };
+    }
     match question_of(name, found) {
         Some(question) => Invocation::Tell {
             files: files_in(found),
             question,
         },
-        None => Invocation::Ask(inquiry_of(name, found)),
+        None => inquiry_of(name, found),
     }
 }
 
-/// What is asked of a text, by what was found under the name of another command.
-fn inquiry_of<'a>(name: &str, found: &ArgMatches<'a>) -> Inquiry<'a>
-    ensures { IsOfInquiry name.now (rows_of (found_of found.now)) result }
+/// What is asked of a text, or of a code file, by what was found under the name of another command.
+fn inquiry_of<'a>(name: &str, found: &ArgMatches<'a>) -> Invocation<'a>
+    requires { IsInquiryName name.now }
+    ensures { IsOfCommand name.now (rows_of (found_of found.now)) result }
 {
-    let files = files_in(found);
     if name == "check" {
-        return Inquiry::Check { files };
+        return check_in(found);
     }
-    Inquiry::Step {
-        files,
+    Invocation::Ask(Inquiry::Step {
+        files: files_in(found),
         task: text_in(found, "TASK"),
         scans: number_in(found, "scans", 1),
         every: number_in(found, "every", 100),
+    })
+}
+
+/// What is asked by what was found under `check`.
+fn check_in<'a>(found: &ArgMatches<'a>) -> Invocation<'a>
+    ensures { IsOfCommand (codes "check") (rows_of (found_of found.now)) result }
+{
+    if flag_in(found, "code") {
+        return Invocation::CheckCode {
+            path: text_in(found, "FILE"),
+        };
     }
+    Invocation::Ask(Inquiry::Check {
+        files: files_in(found),
+    })
 }
 
 /// The files that are named.

@@ -1,5 +1,7 @@
 //! The body of a part of a row: lines, some of them repeated.
 
+ghost use Rattle.std.specs.Prelude.{◌<◌};
+
 use std::alloc::{AllocError, Global};
 
 /// The bytes that the lines of a part spell so far.
@@ -124,6 +126,26 @@ pub fn bytes_of_hex(alloc: Global, digits: &[u8]) -> Result<Option<Vec<u8>>, All
         }
     }
     Ok(if high.is_none() { Some(bytes) } else { None })
+}
+
+/// The hex digits of bytes.
+pub fn hex_of_bytes(alloc: Global, bytes: &[u8]) -> Result<String, AllocError> {
+    let mut digits = String::new(alloc);
+    for byte in bytes {
+        digits.push(hex_digit(*byte >> 4))?;
+        digits.push(hex_digit(*byte & 15))?;
+    }
+    Ok(digits)
+}
+
+/// The hex digit of a value.
+fn hex_digit(value: u8) -> char
+    requires { value < 16 }
+{
+    match value {
+        0..=9 => char::from(b'0' + value),
+        _ => char::from(b'a' + value - 10),
+    }
 }
 
 /// The value of a hex digit.

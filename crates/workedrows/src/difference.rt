@@ -14,6 +14,8 @@ pub enum Difference {
     Printed(String),
     /// It complained of something else: this.
     Complained(String),
+    /// It wrote another file: these hex digits.
+    Wrote(String),
 }
 
 impl Difference {
@@ -24,6 +26,7 @@ impl Difference {
             Difference::Status(_) => "status",
             Difference::Printed(_) => "printed",
             Difference::Complained(_) => "complained",
+            Difference::Wrote(_) => "wrote",
         }
     }
 }
@@ -35,6 +38,7 @@ impl fmt::Display for Difference {
             Difference::Status(status) => write!(f, "ended with status {status}"),
             Difference::Printed(text) => write!(f, "printed\n{text}"),
             Difference::Complained(text) => write!(f, "complained\n{text}"),
+            Difference::Wrote(digits) => write!(f, "wrote\n{digits}"),
         }
     }
 }

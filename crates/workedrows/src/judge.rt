@@ -1,10 +1,11 @@
 //! Reading rows line by line, running their commands, and comparing.
 
-use crate::body::{Body, bytes_of_hex};
+use crate::body::{Body, bytes_of_hex, hex_of_bytes};
 use crate::command_line::CommandLine;
 use crate::difference::{Difference, Stop};
-use crate::machine::{Machine, Output, StoredFile, Terminal};
+use crate::machine::{Machine, Output, StoredFile, Terminal, bytes_at};
 use std::alloc::{AllocError, Global};
+use std::cell::RefCell;
 use std::{io, mem};
 
 /// What the lines that come are the body of.
@@ -26,6 +27,8 @@ enum Part {
     Complained,
     /// What stands somewhere on standard error.
     ComplainedParts,
+    /// A file that was written, as hex digits.
+    Written,
 }
 
 /// How a command ended.
@@ -42,7 +45,7 @@ pub struct Judge {
     rows: u32,
     /// The row's name.
     row: String,
-    files: Vec<StoredFile>,
+    files: RefCell<Vec<StoredFile>>,
     terminal: Terminal,
     /// How its last command ended, where one ran.
     outcome: Option<Outcome>,
@@ -59,7 +62,7 @@ impl Judge {
             alloc,
             rows: 0,
             row: String::new(alloc),
-            files: Vec::new(alloc),
+            files: RefCell::new(Vec::new(alloc)),
             terminal: Terminal::WHOLE,
             outcome: None,
             part: Part::Comment,
@@ -114,7 +117,7 @@ impl Judge {
         self.end_part()?;
         self.rows = self.rows.saturating_add(1);
         self.row = String::from_str(self.alloc, name)?;
-        self.files = Vec::new(self.alloc);
+        self.files = RefCell::new(Vec::new(self.alloc));
         self.terminal = Terminal::WHOLE;
         self.outcome = None;
         Ok(())
@@ -153,6 +156,7 @@ impl Judge {
             ("file", _) => Part::File,
             ("text", _) => Part::Text,
             ("hex", _) => Part::Hex,
+            ("out", _) => Part::Written,
             ("stdout", "") => Part::Printed,
             ("stdout", "has") => Part::PrintedLines,
             ("stderr", "") => Part::Complained,
@@ -202,19 +206,25 @@ impl Judge {
             Part::PrintedLines => self.find_printed(&body.into_bytes()),
             Part::Complained => self.compare_complained(&body.into_bytes()),
             Part::ComplainedParts => self.find_complained(&body.into_bytes()),
+            Part::Written => self.compare_written(&body.into_bytes()),
         }
     }
 
     /// Keeps a file, under the name in the part's heading, in place of one of the same name.
     fn keep_file(&mut self, bytes: Vec<u8>) -> Result<(), Stop> {
-        let path = match self.heading.split_once(' ') {
-            Some((_, name)) => String::from_str(self.alloc, name)?,
-            None => String::new(self.alloc),
-        };
-        self.files
-            .retain(|file| file.path.as_str() != path.as_str());
-        let pushed = self.files.push(StoredFile { path, bytes });
+        let path = String::from_str(self.alloc, self.path())?;
+        let files = self.files.get_mut();
+        files.retain(|file| file.path.as_str() != path.as_str());
+        let pushed = files.push(StoredFile { path, bytes });
         Ok(pushed.map_err(AllocError::from)?)
+    }
+
+    /// The path in the part's heading.
+    fn path(&self) -> &str {
+        match self.heading.split_once(' ') {
+            Some((_, path)) => path,
+            None => "",
+        }
     }
 
     /// Keeps a file with the text of one program.
@@ -291,6 +301,25 @@ impl Judge {
             return Ok(());
         }
         Err(self.difference(Difference::Complained(self.shown(found)?))?)
+    }
+
+    /// Compares a file with bytes that are given as hex digits.
+    fn compare_written(&self, digits: &[u8]) -> Result<(), Stop> {
+        let Some(wanted) = bytes_of_hex(self.alloc, digits)? else {
+            return Err(self.difference(Difference::Line)?);
+        };
+        let found = bytes_at(self.alloc, &self.files, self.path())?;
+        match found {
+            Some(bytes) if bytes == wanted => Ok(()),
+            Some(bytes) => {
+                let shown = hex_of_bytes(self.alloc, &bytes)?;
+                Err(self.difference(Difference::Wrote(shown))?)
+            }
+            None => {
+                let shown = String::from_str(self.alloc, "no file")?;
+                Err(self.difference(Difference::Wrote(shown))?)
+            }
+        }
     }
 
     /// Looks for each of these lines in what was printed on standard error.

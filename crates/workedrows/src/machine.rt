@@ -2,13 +2,13 @@
 
 ghost use Rattle.std.specs.Io.{WritesAtMost};
 
-use std::alloc::{Allocator, Global};
+use std::alloc::{AllocError, Allocator, Global};
 use std::cell::RefCell;
 use std::env::FillError;
 use std::fmt::Display;
 use std::fs::{Metadata, OpenFile, OpenOptions};
 use std::io;
-use std::io::{Read, Seek, SeekFrom, Write};
+use std::io::{Cursor, Read, Seek, SeekFrom, Write};
 use std::rt::{Env, Files};
 
 /// A file on the machine's disk.
@@ -34,13 +34,14 @@ impl Terminal {
 }
 
 /// A machine with a command line, files and a terminal. Its file `torn` can't be read to its end,
-/// and its file `starved` isn't read for lack of memory.
+/// its file `starved` is neither read nor written for lack of memory, and its file `full` takes
+/// nothing, since the disk is full.
 #[derive(Drop)]
 pub struct Machine<'a> {
     pub alloc: Global,
     /// The words of the command line, without the program's name.
     pub words: &'a [Vec<u8>],
-    pub files: &'a [StoredFile],
+    pub files: &'a RefCell<Vec<StoredFile>>,
     pub terminal: Terminal,
     /// What was printed.
     pub printed: RefCell<Vec<u8>>,
@@ -55,11 +56,21 @@ pub struct Output {
     pub complained: Vec<u8>,
 }
 
-/// A file that is read: the bytes that are left, and how it ends.
+/// A file that is open.
 #[derive(Drop)]
-pub struct Page<'a> {
-    left: &'a [u8],
-    end: Option<io::ErrorKind>,
+pub enum Page<'a> {
+    /// It is read: its bytes, and how it ends.
+    Read {
+        bytes: Cursor<Vec<u8>>,
+        end: Option<io::ErrorKind>,
+    },
+    /// It is written, as the file of this number among those of the disk.
+    Written {
+        files: &'a RefCell<Vec<StoredFile>>,
+        number: usize,
+    },
+    /// It takes nothing, since the disk is full.
+    Full,
 }
 
 impl<'a> Machine<'a> {
@@ -67,7 +78,7 @@ impl<'a> Machine<'a> {
     pub fn new(
         alloc: Global,
         words: &'a [Vec<u8>],
-        files: &'a [StoredFile],
+        files: &'a RefCell<Vec<StoredFile>>,
         terminal: Terminal,
     ) -> Machine<'a> {
         Machine {
@@ -104,13 +115,83 @@ impl<'a> Machine<'a> {
     }
 }
 
-impl Page<'_> {
+impl<'a> Page<'a> {
     /// A file that ends with an error after its first line.
-    fn broken(end: io::ErrorKind) -> Self {
-        Page {
-            left: b"PROGRAM p\n",
+    fn broken(alloc: Global, end: io::ErrorKind) -> io::Result<Page<'a>> {
+        Ok(Page::Read {
+            bytes: Cursor::new(Vec::from_slice(alloc, b"PROGRAM p\n")?),
             end: Some(end),
+        })
+    }
+
+    /// The file at a path, to be read.
+    fn of(alloc: Global, files: &'a RefCell<Vec<StoredFile>>, path: &str) -> io::Result<Page<'a>> {
+        match bytes_at(alloc, files, path)? {
+            Some(bytes) => Ok(Page::Read {
+                bytes: Cursor::new(bytes),
+                end: None,
+            }),
+            None => Err(io::Error::from(io::ErrorKind::NotFound)),
         }
+    }
+
+    /// The file at a path, to be written: an empty one, in place of one that is there.
+    fn empty(
+        alloc: Global,
+        files: &'a RefCell<Vec<StoredFile>>,
+        path: &str,
+    ) -> io::Result<Page<'a>> {
+        let file = StoredFile {
+            path: String::from_str(alloc, path)?,
+            bytes: Vec::new(alloc),
+        };
+        Ok(Page::Written {
+            files,
+            number: place(files, file)?,
+        })
+    }
+}
+
+/// The bytes of the file at a path, where there is one.
+pub(crate) fn bytes_at(
+    alloc: Global,
+    files: &RefCell<Vec<StoredFile>>,
+    path: &str,
+) -> Result<Option<Vec<u8>>, AllocError> {
+    let Ok(files) = files.try_borrow() else {
+        return Ok(None);
+    };
+    match files.iter().find(|file| file.path.as_str() == path) {
+        Some(file) => Ok(Some(Vec::from_slice(alloc, &file.bytes)?)),
+        None => Ok(None),
+    }
+}
+
+/// Puts a file on the disk, in place of one at the same path; its number there.
+fn place(files: &RefCell<Vec<StoredFile>>, file: StoredFile) -> io::Result<usize> {
+    let Ok(mut files) = files.try_borrow_mut() else {
+        return Err(io::Error::from(io::ErrorKind::Other));
+    };
+    let path = file.path.as_str();
+    files.retain(|stored| stored.path.as_str() != path);
+    let number = files.len();
+    files.push(file).map_err(AllocError::from)?;
+    Ok(number)
+}
+
+/// Adds bytes to the file of a number.
+fn extend(files: &RefCell<Vec<StoredFile>>, number: usize, bytes: &[u8]) -> io::Result<usize>
+    ensures { WritesAtMost result bytes.now }
+{
+    let Ok(mut files) = files.try_borrow_mut() else {
+        return Err(io::Error::from(io::ErrorKind::Other));
+    };
+    match files.get_mut(number) {
+        Some(file) => {
+            file.bytes.extend_from_slice(bytes)?;
+            Ok(bytes.len())
+        }
+        None => Err(io::Error::from(io::ErrorKind::Other)),
     }
 }
 
@@ -199,18 +280,14 @@ impl<'a> Files for Machine<'a> {
 
     type Dir = Page<'a>;
 
-    fn open_file(&self, _how: &OpenOptions, path: &str) -> io::Result<Page<'a>> {
-        match path {
-            "torn" => return Ok(Page::broken(io::ErrorKind::Other)),
-            "starved" => return Ok(Page::broken(io::ErrorKind::OutOfMemory)),
-            _ => {}
-        }
-        match self.files.iter().find(|file| file.path.as_str() == path) {
-            Some(file) => Ok(Page {
-                left: file.bytes.as_slice(),
-                end: None,
-            }),
-            None => Err(io::Error::from(io::ErrorKind::NotFound)),
+    fn open_file(&self, how: &OpenOptions, path: &str) -> io::Result<Page<'a>> {
+        match (path, how.asks_write()) {
+            ("torn", false) => Page::broken(self.alloc, io::ErrorKind::Other),
+            ("starved", false) => Page::broken(self.alloc, io::ErrorKind::OutOfMemory),
+            ("starved", true) => Err(io::Error::from(io::ErrorKind::OutOfMemory)),
+            ("full", true) => Ok(Page::Full),
+            (_, false) => Page::of(self.alloc, self.files, path),
+            (_, true) => Page::empty(self.alloc, self.files, path),
         }
     }
 
@@ -253,27 +330,28 @@ impl<'a> Files for Machine<'a> {
 
 impl Read for Page<'_> {
     fn read(&mut self, buf: &mut [u8]) -> io::Result<usize> {
-        if self.left.is_empty() {
-            return match self.end {
-                None => Ok(0),
-                Some(kind) => Err(io::Error::from(kind)),
-            };
+        let Page::Read { bytes, end } = self else {
+            return Err(io::Error::from(io::ErrorKind::Unsupported));
+        };
+        let many = bytes.read(buf)?;
+        match end {
+            Some(kind) if many == 0 => Err(io::Error::from(*kind)),
+            _ => Ok(many),
         }
-        let many = self.left.len().min(buf.len());
-        let (now, later) = self.left.split_at(many);
-        buf[..many].copy_from_slice(now);
-        self.left = later;
-        Ok(many)
     }
 }
 
 impl Write for Page<'_> {
-    fn write(&mut self, _bytes: &[u8]) -> io::Result<usize> {
-        Err(io::Error::from(io::ErrorKind::Unsupported))
+    fn write(&mut self, bytes: &[u8]) -> io::Result<usize> {
+        match self {
+            Page::Written { files, number } => extend(files, *number, bytes),
+            Page::Full => Err(io::Error::from(io::ErrorKind::StorageFull)),
+            Page::Read { .. } => Err(io::Error::from(io::ErrorKind::Unsupported)),
+        }
     }
 
     fn flush(&mut self) -> io::Result<()> {
-        unsupported()
+        Ok(())
     }
 }
 

@@ -1,0 +1,17 @@
+use Rattle.std.proofs.Common.{subst, sym}
+use Rattle.ilplan.specs.Plans.{Planned}
+use Rattle.answers.specs.Answered.{IsFirstCalled}
+use Rattle.answers.proofs.MeantScans.{setup_is}
+use Rattle.answers.proofs.answers.find_task.Goals as goal
+
+pub returns-clause-found : goal.returns-clause-found
+returns-clause-found c =
+    let setup = c.in_ok-setup.setup in
+    let loaded = c.in_ok-setup.ensures in
+    record {
+      loaded =
+          setup_is c.args.binding.now c.args.text.now c.in_ok-plan.plan setup c.in_ok-plan.ensures.plan loaded.plan
+          loaded.codes;
+      called =
+          subst (λ (p : Planned). IsFirstCalled p c.args.task.now c.in-Some.number) (sym loaded.plan) c.in-Some.ensures;
+    }

@@ -1,0 +1,2 @@
+pub mod Coding
+pub mod Printed

@@ -1,0 +1,54 @@
+//! The code file of a task, and the judgement of bytes that may be one.
+
+ghost use Rattle.std.specs.Prelude.{IfErr, IfOk};
+ghost use Rattle.answers.specs.Answered.{IsStepStop, IsStopOrMemory};
+ghost use Rattle.coding.specs.Coding.{IsCodeAnswer, IsCodeFile, IsVerdict};
+
+use crate::answer::CodeAnswer;
+use answers::{Stop, find_task};
+use binding::Binding;
+use codefile::{FileFault, decode, encode};
+use ilcode::Code;
+use ilverify::{VerifyError, verify};
+use std::alloc::Global;
+
+/// The code file of the first task of a name, in any letter case.
+///
+/// # Errors
+///
+/// The text's first fault, else the least fault of its names, else that no task has the name, else
+/// the first task whose code is refused; or that the allocator is out of memory.
+pub fn code_of(alloc: Global, binding: &Binding, text: &[u8], task: &str) -> Result<Vec<u8>, Stop>
+    ensures file { IfOk result
+        (λ bytes. IsCodeFile binding.now text.now task.now bytes.items) }
+    ensures stop { IfErr result (IsStopOrMemory (IsStepStop binding.now text.now task.now)) }
+{
+    let (setup, number) = find_task(alloc, binding, text, task)?;
+    let bytes = encode(alloc, setup.code(number).code())?;
+    Ok(bytes)
+}
+
+/// The answer to bytes: their code is accepted or refused, or they are no code file.
+pub fn judge(alloc: Global, bytes: &[u8]) -> CodeAnswer
+    ensures { IsCodeAnswer bytes.now result }
+{
+    match decode(alloc, bytes) {
+        Ok(code) => judge_code(alloc, code),
+        Err(FileFault::Of(cause)) => CodeAnswer::Faulty(cause),
+        Err(FileFault::Memory) => CodeAnswer::Memory,
+    }
+}
+
+/// The answer to a code.
+fn judge_code(alloc: Global, code: Code) -> CodeAnswer
+    ensures { IsVerdict code result }
+{
+    match verify(alloc, code) {
+        Ok(verified) => CodeAnswer::Accepted {
+            words: verified.code().len(),
+            bound: verified.bound(),
+        },
+        Err(VerifyError::Refused(refusal)) => CodeAnswer::Refused(refusal),
+        Err(VerifyError::Memory(_)) => CodeAnswer::Memory,
+    }
+}
