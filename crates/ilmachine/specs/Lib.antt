@@ -1,2 +1,3 @@
 pub mod MachineSteps
+pub mod PackedSteps
 pub mod Scans
