@@ -8,8 +8,7 @@ use Rattle.ilblocks.specs.declared.kind.BlockKind.{BlockKind}
 use Rattle.ilword.specs.declared.word.Word.{Word}
 use Rattle.ilword.specs.Words.{HasWord}
 use Rattle.ilcode.specs.Listings.{IsLawful, listing_of}
-use Rattle.codefile.specs.Faults.{Counts, counts_in}
-use Rattle.codefile.specs.FaultSteps.{IsShaped}
+use Rattle.codefile.specs.Faults.{Counts, IsShaped, counts_in}
 use Rattle.codefile.specs.FieldSteps.{BeginPrograms}
 use Rattle.codefile.proofs.Starts.{starts_are}
 

@@ -58,6 +58,13 @@ pub record AreFew (c : Counts) : Type 0 where
 abbrev pub size : Counts → ℕ
 size c = 28 + 16 * c.constants + 24 * c.slots + c.blocks + 4 * c.starts + 8 * c.words
 
+-- nothing stands against the head and the length
+pub record IsShaped (bytes : List ℕ) : Type 0 where
+  pub head : HasHead bytes
+  pub buses : AreBuses bytes
+  pub few : AreFew (counts_in bytes)
+  pub long : length bytes ≡ size (counts_in bytes)
+
 -- the bytes of a code
 abbrev pub IsFile : List ℕ → Type 0
 IsFile bytes = (code : Listing) × HasFile code × (file code ≡ bytes)
@@ -77,8 +84,9 @@ IsFirst bytes BadField =
     ⊎ (HasHead bytes × AreBuses bytes × AreFew (counts_in bytes) × (length bytes ≡ size (counts_in bytes))
     × (¬ IsFile bytes))
 
+-- what is told: the first fault; or that memory ran out, which no head and no length that are wrong wait for
 abbrev pub IsFault : List ℕ → FileFault → Type 0
-IsFault bytes faults.Memory = ⊤
+IsFault bytes faults.Memory = IsShaped bytes
 IsFault bytes (faults.Of cause) = IsFirst bytes cause
 
 -- the code is read, or memory ran out

@@ -2,8 +2,8 @@
 
 ghost use Rattle.std.specs.Prelude.{◌≡◌, ◌↔◌, IfErr, IfOk, IsTrue};
 ghost use Rattle.ilcode.specs.Listings.{Listing};
-ghost use Rattle.codefile.specs.Faults.{IsFault, IsReadAs, counts_in};
-ghost use Rattle.codefile.specs.FaultSteps.{IsShaped, counted};
+ghost use Rattle.codefile.specs.Faults.{IsFault, IsReadAs, IsShaped, counts_in};
+ghost use Rattle.codefile.specs.FaultSteps.{counted};
 ghost use Rattle.codefile.specs.Files.{HasFile, file};
 
 use crate::encoding::encode;

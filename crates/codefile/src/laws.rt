@@ -7,9 +7,11 @@ ghost use Rattle.codefile.specs.Files.{HasFile, file};
 ghost use Rattle.codefile.specs.declared.fault.FileCause.{FileCause as AnyCause};
 ghost use Rattle.std.specs.Prelude.{ℕ, List};
 
-/// A file has one code, and no fault stands against it.
+/// A file has one code, and no fault stands against it; what is no file has one first fault at most.
 fn a_file_has_one_code()
     ensures one { (a b : Listing) → HasFile a → HasFile b → file a ≡ file b → a ≡ b }
     ensures no_fault { (bytes : List ℕ) (cause : AnyCause) → IsFile bytes
         → ¬ IsFirst bytes cause }
+    ensures one_fault { (bytes : List ℕ) (a b : AnyCause) → IsFirst bytes a → IsFirst bytes b
+        → a ≡ b }
 {}

@@ -12,8 +12,8 @@ ghost use Rattle.ilcode.specs.Listings.{Listing};
 ghost use Rattle.codefile.specs.FieldSteps.{BeginPrograms, Rise};
 ghost use Rattle.codefile.specs.Files.{FitsType, FitsValue, HasFile, blocks, constants, file};
 ghost use Rattle.codefile.specs.Files.{numbers, slots, words};
-ghost use Rattle.codefile.specs.Faults.{counts_in};
-ghost use Rattle.codefile.specs.FaultSteps.{IsShaped, counted};
+ghost use Rattle.codefile.specs.Faults.{IsShaped, counts_in};
+ghost use Rattle.codefile.specs.FaultSteps.{counted};
 
 use crate::fields::{block_at, constant_at, number_at, slot_at, word_at};
 use crate::shape::FileCounts;

@@ -2,8 +2,8 @@
 
 ghost use Rattle.std.specs.Prelude.{◌≡◌, ◌+◌, ◌≤◌, ◌↔◌, length, IfErr, IfOk, IsTrue};
 ghost use Rattle.codefile.specs.Faults.{AreBuses, AreFew, BeginsWell, HasHead, IsFirst};
-ghost use Rattle.codefile.specs.Faults.{counts_in, number_at, size};
-ghost use Rattle.codefile.specs.FaultSteps.{IsShaped, counted};
+ghost use Rattle.codefile.specs.Faults.{IsShaped, counts_in, number_at, size};
+ghost use Rattle.codefile.specs.FaultSteps.{counted};
 
 use crate::fault::FileCause;
 use crate::fields::number_at;

@@ -3,7 +3,7 @@ use Rattle.std.specs.Prelude.{◌≡◌, ℕ, List, length, Some, slice_get, ⊤
 use Rattle.binding.specs.Wirings.{Wiring}
 use Rattle.ilcode.specs.Listings.{Listing}
 use Rattle.ilcode.specs.Paths.{IsBound}
-use Rattle.codefile.specs.Faults.{IsFirst}
+use Rattle.codefile.specs.Faults.{IsFirst, IsShaped}
 use Rattle.codefile.specs.Files.{HasFile, file}
 use Rattle.ilverify.specs.Certificates.{IsAccepted, IsRefusal}
 use Rattle.ilverify.specs.Verdicts.{Accepted as AcceptedCode}
@@ -34,12 +34,13 @@ IsVerdict code Memory = ⊤
 abbrev pub IsOfSome : List ℕ → CodeAnswer → Type 0
 IsOfSome bytes answer = (code : Listing) × HasFile code × (file code ≡ bytes) × IsVerdict code answer
 
--- what is answered to bytes: to the file of a code what is answered to the code, and else the first fault of the bytes
+-- what is answered to bytes: to the file of a code what is answered to the code, and else the first fault of the bytes;
+-- a head and a length that are wrong are told whatever memory there is
 abbrev pub IsJudged : List ℕ → CodeAnswer → Type 0
 IsJudged bytes (Accepted words bound) = IsOfSome bytes (Accepted words bound)
 IsJudged bytes (Refused refusal) = IsOfSome bytes (Refused refusal)
 IsJudged bytes (Faulty cause) = IsFirst bytes cause
-IsJudged bytes Memory = ⊤
+IsJudged bytes Memory = IsShaped bytes
 
 -- where the bytes are the file of a code, there is no other answer
 pub record IsCodeAnswer (bytes : List ℕ) (answer : CodeAnswer) : Type 0 where

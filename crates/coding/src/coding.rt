@@ -29,6 +29,7 @@ pub fn code_of(alloc: Global, binding: &Binding, text: &[u8], task: &str) -> Res
 }
 
 /// The answer to bytes: their code is accepted or refused, or they are no code file.
+#[tactic(auto, using(codefile::proofs::FirstFaults::shaped))]
 pub fn judge(alloc: Global, bytes: &[u8]) -> CodeAnswer
     ensures { IsCodeAnswer bytes.now result }
 {
