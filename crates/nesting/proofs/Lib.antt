@@ -1,0 +1,12 @@
+pub mod Causes
+pub mod Counts
+pub mod Declared
+pub mod Depths
+pub mod Following
+pub mod Free
+pub mod Inner
+pub mod Instructions
+pub mod Operators
+pub mod Tame
+pub mod Texts
+pub mod Tokens
