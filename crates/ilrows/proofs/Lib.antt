@@ -1,0 +1,7 @@
+pub mod BitEnds
+pub mod Bits
+pub mod Places
+pub mod RowAccess
+pub mod RowEnds
+pub mod RowWrites
+pub mod Rows
