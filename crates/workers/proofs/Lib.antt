@@ -1,3 +1,4 @@
+mod Left
 pub mod Lists
 pub mod Parting
 pub mod Told

@@ -1,7 +1,6 @@
 pub mod Beginnings
 pub mod Closings
 pub mod Crews
-pub mod Open
 pub mod Started
 pub mod Starts
 pub mod Teams

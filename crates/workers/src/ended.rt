@@ -17,6 +17,11 @@ pub enum Ended {
 }
 
 impl From<CallError> for Ended {
+    ghost use Rattle.std.specs.Prelude.{◌≡◌};
+    ghost use Rattle.workers.specs.declared.ended.Ended.TheVariants.{Asked};
+
+    ghost from_gives = { λ _ ended. ¬ (ended ≡ Asked) };
+
     /// A worker is refused for want of memory, or of places in the history.
     fn from(error: CallError) -> Self {
         match error {

@@ -18,11 +18,11 @@ mod closed_plant;
 mod closing;
 mod crew;
 mod ended;
+mod leaving;
 mod pairing;
 mod running;
 mod scan_threads;
 mod serving;
-mod settling;
 mod team;
 mod working;
 

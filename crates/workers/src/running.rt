@@ -3,17 +3,16 @@
 ghost use Rattle.std.specs.Prelude.{◌≡◌, ◌≤◌, [], length, map, vec_len, IfOk, IfErr, OnOk};
 ghost use Rattle.plant.specs.declared.open_fault.OpenFault.TheVariants.{Memory};
 ghost use Rattle.plant.specs.Shown.{IsWorkerCount, IsLimit, plant_of};
-ghost use Rattle.workers.specs.Closings.{IsClosed};
+ghost use Rattle.workers.specs.Closings.{IsClosed, HasNothingLeft};
 ghost use Rattle.workers.specs.Starts.{AreCounts, IsStartFault};
-ghost use Rattle.workers.specs.Teams.{IsTeam, HasSameCounts};
+ghost use Rattle.workers.specs.declared.ended.Ended.TheVariants.{Asked};
 
 use crate::beginning::{Begun, begin};
 use crate::closed::{Closed, NotStarted};
 use crate::closing::close;
 use crate::crew::Floor;
 use crate::ended::{End, Ended};
-use crate::settling::settle;
-use crate::team::Team;
+use crate::leaving::leave;
 use crate::working::{Crew, work};
 use buslink::{Bus, Clock};
 use ilsetup::Setup;
@@ -46,31 +45,6 @@ fn new_cells(alloc: Global, count: u64) -> Result<Vec<OnceLock<NotedPart>>, Allo
     Ok(cells)
 }
 
-/// Why it ended, once what was left is done where the clock came to its end.
-fn conclude<'a, B: Bus, C: Clock, J: Basis + Links, T: Seated, K: Tallies<T>, G: Gate, R: Wait>(
-    rt: &R,
-    alloc: Global,
-    gate: &G,
-    shared: &Shared<'a, J, T, K>,
-    end: &End,
-    team: &mut Team<'a, B, C, J, T>,
-) -> Ended
-    requires some { 1 ≤ vec_len team.old.workers }
-    requires few { vec_len team.old.buses ≤ 64 }
-    requires team { IsTeam J.buses J.clock B.log C.log team.old }
-    ensures team { IsTeam J.buses J.clock B.log C.log team.new }
-    ensures same { HasSameCounts team.old team.new }
-{
-    match end.told() {
-        Some(Ended::Asked) | None => {}
-        Some(other) => return other,
-    }
-    match settle(rt, alloc, gate, shared, team) {
-        Ok(()) => Ended::Asked,
-        Err(error) => Ended::from(error),
-    }
-}
-
 /// A run over cells and ledgers that are new.
 fn run_named<
     'a,
@@ -97,6 +71,8 @@ fn run_named<
     requires workers { IsWorkerCount J.start.plant.workers }
     requires buses { (vec_len lines ≡ J.start.plant.plan.buses) × (vec_len lines ≤ 64) }
     ensures closed { IfOk result (IsClosed J.start.plant J.buses J.clock B.log C.log) }
+    ensures left { IfOk result (λ c. c.ended ≡ Asked
+        → HasNothingLeft c.plant (map B.log c.buses.items)) }
     ensures count { IfOk result (λ c. length c.buses.items ≡ vec_len lines) }
     ensures err { IfErr result (λ e. (e.fault ≡ Memory) × (e.buses.items ≡ lines.items)
         × (e.clock ≡ clock)) }
@@ -119,9 +95,10 @@ fn run_named<
         team,
         rooms,
     };
-    let mut team = work(rt, crew);
-    let ended = conclude(rt, alloc, gate, &shared, &end, &mut team);
-    Ok(close(shared, team, bench, ended))
+    let team = work(rt, crew);
+    let ended = end.told().unwrap_or(Ended::Asked);
+    let closed = close(shared, team, bench, ended);
+    Ok(leave(alloc, gate, closed))
 }
 
 /// Runs a plant over its buses and its clock, in a thread for each scan worker and each bus, until
@@ -144,6 +121,8 @@ pub fn run<B: Bus + Send, C: Clock + Send, G: Gate, R: Threads + Wait + Timer + 
 ) -> Result<Closed<B, C>, NotStarted<B, C>>
     ensures closed { IfOk result (IsClosed (plant_of opening.setup workers) (map B.log buses.items)
         (C.log clock) B.log C.log) }
+    ensures left { IfOk result (λ c. c.ended ≡ Asked
+        → HasNothingLeft c.plant (map B.log c.buses.items)) }
     ensures count { IfOk result (λ c. length c.buses.items ≡ vec_len buses) }
     ensures counts { OnOk result (AreCounts opening.setup workers (vec_len buses)) }
     ensures limit { OnOk result (IsLimit opening.limit) }

@@ -1,0 +1,3 @@
+pub mod Finishing
+pub mod FinishSteps
+pub mod Open

@@ -1,0 +1,59 @@
+//! What is left after the clock came to its end, done on the caller's thread.
+
+ghost use Rattle.std.specs.Prelude.{◌≡◌, ◌<◌, List, length, map, vec_len};
+ghost use Rattle.buslink.specs.BusLog.{BusLog};
+ghost use Rattle.buslink.specs.ClockLog.{ClockLog};
+ghost use Rattle.plantevents.specs.Plants.{Plant as Planted};
+ghost use Rattle.workers.specs.Closings.{IsClosed, HasNothingLeft};
+ghost use Rattle.workers.specs.declared.ended.Ended.TheVariants.{Asked};
+
+use crate::closed::Closed;
+use crate::closed_plant::ClosedPlant;
+use crate::ended::Ended;
+use buslink::{Bus, Clock};
+use finishing::settle;
+use std::alloc::Global;
+use turns::Gate;
+
+/// Does what is left where the clock came to its end: scans, sends and hears until there is nothing
+/// left to be done, the history is full, or memory is wanting.
+pub(crate) fn leave<B: Bus, C: Clock, G: Gate>(
+    alloc: Global,
+    gate: &G,
+    closed: Closed<B, C>,
+) -> Closed<B, C>
+    requires workers { 0 < closed.plant.plant.workers }
+    requires count { vec_len closed.buses ≡ closed.plant.plant.plan.buses }
+    ensures closed { (p : Planted) (logs : List BusLog) (first : ClockLog)
+        → IsClosed p logs first B.log C.log closed → IsClosed p logs first B.log C.log result }
+    ensures left { result.ended ≡ Asked
+        → HasNothingLeft result.plant (map B.log result.buses.items) }
+    ensures count { length result.buses.items ≡ vec_len closed.buses }
+{
+    let Closed {
+        plant,
+        mut buses,
+        clock,
+        ended,
+    } = closed;
+    if !matches!(ended, Ended::Asked) {
+        return Closed {
+            plant,
+            buses,
+            clock,
+            ended,
+        };
+    }
+    let mut plant = plant.into_plant();
+    let ended = match settle(alloc, gate, &mut plant, &mut buses) {
+        Ok(()) => Ended::Asked,
+        Err(error) => Ended::from(error),
+    };
+    let _events = plant.len();
+    Closed {
+        plant: ClosedPlant { plant },
+        buses,
+        clock,
+        ended,
+    }
+}
