@@ -72,7 +72,7 @@ impl Stepped {
     pub fn variables(&self) -> usize
         ensures { result ≡ length self.now.left.slots }
     {
-        self.left.values().len()
+        self.left.slots()
     }
 
     /// What is printed of the scan of this number, counted from 0.
@@ -121,7 +121,7 @@ impl Stepped {
     {
         VariableLine {
             name: self.setup.plan().slot_name(self.task, slot),
-            value: self.left.values()[slot],
+            value: self.left.value(slot),
         }
     }
 }

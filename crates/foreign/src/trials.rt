@@ -1,7 +1,7 @@
 //! What becomes of bytes that may be a code file.
 
 use crate::tally::Ending;
-use crate::values::{Choice, are_of, values_of};
+use crate::values::{Choice, are_of, is_row_of, values_of};
 use codefile::{FileFault, decode, encode};
 use ilcode::Code;
 use ilimage::Snapshot;
@@ -68,5 +68,5 @@ fn are_good(
 /// Whether the scan stayed within the bound of its code and left each slot a value of its type.
 fn is_good(scan: &ScanResult) -> bool {
     let code = scan.snapshot().verified();
-    scan.steps() <= code.bound() && are_of(scan.values(), code.code().slots())
+    scan.steps() <= code.bound() && is_row_of(scan.row(), code.code().slots())
 }

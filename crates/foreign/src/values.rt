@@ -3,6 +3,7 @@
 ghost use Rattle.std.specs.Prelude.{IsTrue};
 ghost use Rattle.iltypes.specs.Values.{AreOf};
 
+use ilrows::ValueRow;
 use iltypes::{IlType, Range, Value};
 use std::alloc::{AllocError, Global};
 
@@ -69,4 +70,17 @@ pub(crate) fn are_of(values: &[Value], types: &[IlType]) -> bool
             [value_type, types @ ..] => value_type.holds(*value) && are_of(values, types),
         },
     }
+}
+
+/// Whether each value of the row is in its type.
+pub(crate) fn is_row_of(row: &ValueRow, types: &[IlType]) -> bool {
+    if row.len() != types.len() {
+        return false;
+    }
+    for (slot, value_type) in types.iter().enumerate() {
+        if !value_type.holds(row.get(slot)) {
+            return false;
+        }
+    }
+    true
 }

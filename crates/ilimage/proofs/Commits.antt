@@ -1,23 +1,21 @@
 -- What a scan of a task leaves of the image.
-use Rattle.std.proofs.Common.{◌≡◌, ◌≢◌, ℕ, zero, suc, ◌+◌, ◌-◌, ◌<◌, ◌≤◌, List, [], ◌∷◌, map, drop, length, Bool, true}
-use Rattle.std.proofs.Common.{get_or, false, cond, Option, Some, None, refl, sym, ap, ◌∙◌, subst, inl, inr, arith}
+use Rattle.std.proofs.Common.{◌≡◌, ◌≢◌, ℕ, zero, suc, ◌+◌, ◌-◌, ◌≤◌, List, [], ◌∷◌, map, drop, length, Bool, true}
+use Rattle.std.proofs.Common.{false, cond, Option, Some, None, refl, sym, ap, ◌∙◌, subst, inl, inr, arith}
 use Rattle.std.specs.Prelude.{slice_get, slice_set}
-use Rattle.std.specs.Option.{option_map, option_and_then, IsSomeAnd}
+use Rattle.std.specs.Option.{option_map, option_and_then}
 use Rattle.std.proofs.lemmas.Bool.{cases_eq}
-use Rattle.std.proofs.lemmas.Option.{slice_get_past, slice_get-get_or, cond_some}
+use Rattle.std.proofs.lemmas.Option.{slice_get_past, cond_some}
 use Rattle.iltypes.specs.declared.value.IlType.{IlType}
 use Rattle.iltypes.specs.declared.value.Value.{Value}
 use Rattle.iltypes.specs.Values.{IsOf, AreOf}
 use Rattle.ilblocks.specs.Calls.{Block}
 use Rattle.ilblocks.proofs.Blocks.{set_typed, value_at}
-use Rattle.ilverify.specs.Verdicts.{Accepted}
 use Rattle.ilimage.specs.declared.external.External.{External}
 use Rattle.ilimage.specs.Images.{TaskLayout, TaskImage, ProcessImage, ImageVariable, Global, Own, image_of, layout_of}
-use Rattle.ilimage.specs.Images.{value_of, verified_of, blocks_of, written_at, written_in, AreTyped, AreApart}
+use Rattle.ilimage.specs.Images.{value_of, blocks_of, written_at, written_in, AreTyped, AreApart}
 use Rattle.ilimage.specs.Images.{IsLawful, IsLawfulTask, IsImage}
 use Rattle.ilimage.specs.ImageSteps.{task_of, stored_globals}
-use Rattle.ilimage.specs.Snapshots.{IsLastingOf}
-use Rattle.ilimage.proofs.Places.{at_all, layout_at, with_task}
+use Rattle.ilimage.proofs.Places.{at_all, layout_at}
 
 -- ---- an item that is set
 
@@ -35,7 +33,7 @@ get_set_same [] place x y e = absurd (cc)
 get_set_same (z ∷ xs) zero x y e = refl
 get_set_same (z ∷ xs) (suc place) x y e = get_set_same xs place x y e
 
-get_drop : {A : Type 0} (xs : List A) (number place : ℕ)
+pub get_drop : {A : Type 0} (xs : List A) (number place : ℕ)
     → slice_get (drop number xs) place ≡ slice_get xs (number + place)
 get_drop xs zero place = let q : place ≡ 0 + place = omega arith in ap (slice_get xs) q
 get_drop [] (suc number) place = refl
@@ -108,30 +106,6 @@ written_global types (type ∷ slots) (x ∷ more) (v ∷ others) globals (suc s
     written_global types slots more others (one_stored x v globals x.stored) slot e t.1 apart.1 a.1
     (one_typed types x v globals type x.stored t.0 a.0 g) is s
 
-stored_more : (externals : List External) (vs globals : List Value) (place : ℕ) (e : External) (v : Value)
-    → slice_get externals place ≡ Some e → slice_get vs place ≡ Some v
-    → stored_globals (drop place externals) (drop place vs) globals
-    ≡ stored_globals (drop (suc place) externals) (drop (suc place) vs) (one_stored e v globals e.stored)
-stored_more [] vs globals place e v p q = absurd (cc)
-stored_more (x ∷ externals) [] globals place e v p q = absurd (cc)
-stored_more (x ∷ externals) (y ∷ vs) globals zero e v p q =
-    let a : x ≡ e = cc in
-    let b : y ≡ v = cc in
-    ap (λ (z : External). stored_globals externals vs (one_stored z y globals z.stored)) a
-    ∙ ap (λ (z : Value). stored_globals externals vs (one_stored e z globals e.stored)) b
-stored_more (x ∷ externals) (y ∷ vs) globals (suc place) e v p q = stored_more externals vs globals place e v p q
-
--- one turn of the loop over the globals
-pub turn : (externals : List External) (vs globals after first : List Value) (place : ℕ) (e : External) (v : Value)
-    → slice_get externals place ≡ Some e → slice_get vs place ≡ Some v → after ≡ one_stored e v globals e.stored
-    → stored_globals (drop place externals) (drop place vs) globals ≡ stored_globals externals vs first
-    → stored_globals (drop (place + 1) externals) (drop (place + 1) vs) after ≡ stored_globals externals vs first
-turn externals vs globals after first place e v p q a h =
-    let one : place + 1 ≡ suc place = omega arith in
-    ap (λ (n : ℕ). stored_globals (drop n externals) (drop n vs) after) one
-    ∙ ap (stored_globals (drop (suc place) externals) (drop (suc place) vs)) a
-    ∙ sym (stored_more externals vs globals place e v p q) ∙ h
-
 -- ---- the image after a scan
 
 abbrev pub left : TaskImage → List Value → List Block → TaskImage
@@ -141,21 +115,6 @@ abbrev pub committed : ProcessImage → ℕ → TaskImage → List Value → Lis
 committed image task t vs blocks =
     image_of image.types (stored_globals t.layout.externals vs image.globals)
     (slice_set image.tasks task (left t vs blocks))
-
--- what the fields are then
-pub is_committed : (image : ProcessImage) (task : ℕ) (t kept : TaskImage) (vs : List Value) (blocks : List Block)
-    (types : List IlType) (globals gs : List Value) (tasks : List TaskImage) → image_of types globals tasks ≡ image
-    → gs ≡ stored_globals t.layout.externals vs image.globals → kept ≡ left t vs blocks
-    → image_of types gs (slice_set tasks task kept) ≡ committed image task t vs blocks
-is_committed image task t kept vs blocks types globals gs tasks view g k =
-    let by_types = ap (λ (i : ProcessImage). i.types) view in
-    let by_tasks = ap (λ (i : ProcessImage). i.tasks) view in
-    ap (λ (x : List IlType). image_of x gs (slice_set tasks task kept)) by_types
-    ∙ ap (λ (x : List Value). image_of image.types x (slice_set tasks task kept)) g
-    ∙ ap (λ (x : List TaskImage). image_of image.types (stored_globals t.layout.externals vs image.globals)
-    (slice_set x task kept)) by_tasks
-    ∙ ap (λ (x : TaskImage). image_of image.types (stored_globals t.layout.externals vs image.globals)
-    (slice_set image.tasks task x)) k
 
 -- a task of the image in which a scan was made that left these values
 pub record IsScanned (image : ProcessImage) (task : ℕ) (t : TaskImage) (vs : List Value) : Type 0 where
@@ -190,49 +149,6 @@ image_stays image task t vs blocks h =
       lawful = subst IsLawful (sym (layout_stays image task t vs blocks h.is)) h.whole.lawful;
       globals = stored_typed image.types t.layout.verified.code.slots t.layout.externals vs image.globals
           lawful.typed h.typed h.whole.globals;
-    }
-
--- a task that an index reads from the fields
-pub record IsRead (image : ProcessImage) (task : ℕ) (t : TaskImage) : Type 0 where
-  pub whole : IsImage image
-  pub is : slice_get image.tasks task ≡ Some t
-  pub lawful : IsLawfulTask image.types t.layout
-
-pub read_task : (image : ProcessImage) (task : ℕ) (t : TaskImage) (types : List IlType) (globals : List Value)
-    (tasks : List TaskImage) → image_of types globals tasks ≡ image → IsImage (image_of types globals tasks)
-    → task < length image.tasks → t ≡ get_or tasks task t → IsRead image task t
-read_task image task t types globals tasks view i within read =
-    let whole = subst IsImage view i in
-    let same = ap (λ (i : ProcessImage). i.tasks) view in
-    let there = slice_get-get_or image.tasks task t within in
-    let item : get_or image.tasks task t ≡ t = ap (λ (ts : List TaskImage). get_or ts task t) (sym same) ∙ sym read in
-    let is = there ∙ ap Some item in
-    record { whole = whole; is = is; lawful = lawful_task image task t whole is }
-
--- the task of a scan, as the fields have it
-pub record IsCommitting (image : ProcessImage) (task : ℕ) (vs : List Value) (blocks : List Block)
-    (tasks : List TaskImage) : Type 0 where
-  pub of : TaskImage
-  pub inside : tasks ≡ image.tasks
-  pub scanned : IsScanned image task of vs
-  pub lasting : IsLastingOf of.layout.verified.code (record { slots = vs; blocks = blocks })
-  pub lawful : IsLawfulTask image.types of.layout
-
-pub committing : (image : ProcessImage) (task : ℕ) (vs : List Value) (blocks : List Block) (types : List IlType)
-    (globals : List Value) (tasks : List TaskImage) → image_of types globals tasks ≡ image
-    → IsImage (image_of types globals tasks)
-    → IsSomeAnd (verified_of (layout_of image) task)
-    (λ (v : Accepted). IsLastingOf v.code (record { slots = vs; blocks = blocks }))
-    → IsCommitting image task vs blocks tasks
-committing image task vs blocks types globals tasks view i h =
-    let t = with_task image task (λ (v : Accepted). IsLastingOf v.code (record { slots = vs; blocks = blocks })) h in
-    let whole = subst IsImage view i in
-    record {
-      of = t.of;
-      inside = ap (λ (i : ProcessImage). i.tasks) view;
-      scanned = record { whole = whole; is = t.is; typed = t.holds.values };
-      lasting = t.holds;
-      lawful = lawful_task image task t.of whole t.is;
     }
 
 -- what a scan writes from a slot

@@ -8,7 +8,7 @@ use Rattle.ilblocks.specs.Calls.{Block}
 use Rattle.ilimage.specs.Images.{TaskLayout, TaskImage, ProcessImage, Layout, Global, Own, image_of}
 use Rattle.ilimage.specs.Laws.{AreAlike}
 
-same_items : {A : Type 0} (xs ys : List A) → ((place : ℕ) → slice_get xs place ≡ slice_get ys place) → xs ≡ ys
+pub same_items : {A : Type 0} (xs ys : List A) → ((place : ℕ) → slice_get xs place ≡ slice_get ys place) → xs ≡ ys
 same_items [] [] h = refl
 same_items [] (y ∷ ys) h = let e = h 0 in absurd (cc)
 same_items (x ∷ xs) [] h = let e = h 0 in absurd (cc)

@@ -1,5 +1,14 @@
 pub mod Commits
 pub mod Equality
-pub mod Places
 pub mod Overrides
+pub mod Places
+pub mod RowCommits
+pub mod RowIndex
+pub mod RowKinds
+pub mod RowOpening
+pub mod RowOverrides
+pub mod RowReady
+pub mod RowSlots
+pub mod RowTaking
 pub mod SameStarts
+pub mod StoredSlots

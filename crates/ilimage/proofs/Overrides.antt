@@ -1,10 +1,9 @@
 -- What a snapshot has under overrides.
-use Rattle.std.proofs.Common.{◌≡◌, ℕ, ◌<◌, ◌==◌, List, [], ◌∷◌, length, Bool, true, false, cond}
-use Rattle.std.proofs.Common.{Option, Some, None, refl, sym, ap, ◌∙◌, arith}
-use Rattle.std.specs.Prelude.{All, slice_get, slice_index_or, slice_set}
+use Rattle.std.proofs.Common.{◌≡◌, ℕ, ◌==◌, List, [], ◌∷◌, Bool, true, false, cond}
+use Rattle.std.proofs.Common.{Option, Some, None, refl, sym, ap, ◌∙◌}
+use Rattle.std.specs.Prelude.{All, slice_get, slice_set}
 use Rattle.std.specs.Option.{option_and_then}
 use Rattle.std.proofs.lemmas.Bool.{eqb-true, eqb-false}
-use Rattle.std.proofs.lemmas.List.{get_or-set_other, get_or-set_same, length-set}
 use Rattle.std.proofs.lemmas.List.Elements.{All-head, All-tail}
 use Rattle.iltypes.specs.declared.value.IlType.{IlType}
 use Rattle.iltypes.specs.declared.value.Value.{Value}
@@ -13,7 +12,7 @@ use Rattle.ilblocks.proofs.Blocks.{set_typed, value_at}
 use Rattle.ilimage.specs.declared.overriding.Override.{Override}
 use Rattle.ilimage.specs.Images.{TaskImage, ProcessImage, ImageVariable, Global, Own, image_of, layout_of, value_of}
 use Rattle.ilimage.specs.Images.{overridden, value_under, variable_in}
-use Rattle.ilimage.specs.ImageSteps.{given_value, globals_under, slot_values, HasGlobals}
+use Rattle.ilimage.specs.ImageSteps.{globals_under, slot_values, HasGlobals}
 use Rattle.ilimage.specs.Snapshots.{MayHave}
 use Rattle.ilimage.proofs.Places.{there, slot_value}
 use Rattle.ilimage.proofs.Commits.{get_set_same, get_set_other}
@@ -24,34 +23,6 @@ Allows types o = MayHave types o.global o.value
 
 abbrev pub AreAllowed : List IlType → List Override → Type 0
 AreAllowed types overrides = All (Allows types) overrides
-
--- ---- one value under overrides
-
-pub length_under : (overrides : List Override) (globals : List Value)
-    → length (globals_under overrides globals) ≡ length globals
-length_under [] globals = refl
-length_under (o ∷ more) globals =
-    length_under more (slice_set globals o.global o.value) ∙ length-set globals o.global o.value
-
-one_given : (globals : List Value) (o : Override) (number : ℕ) (d : Value) (same : Bool) → number < length globals
-    → (o.global == number) ≡ same
-    → slice_index_or (slice_set globals o.global o.value) number d ≡ cond same o.value (slice_index_or globals number d)
-one_given globals o number d true lt e =
-    let is : o.global ≡ number = eqb-true o.global number e in
-    ap (λ (n : ℕ). slice_index_or (slice_set globals n o.value) number d) is
-    ∙ get_or-set_same globals number o.value d lt
-one_given globals o number d false lt e =
-    get_or-set_other globals o.global number o.value d (λ q. eqb-false o.global number e (sym q))
-
-pub under_at : (overrides : List Override) (globals : List Value) (number : ℕ) (d : Value) → number < length globals
-    → given_value overrides number (slice_index_or globals number d)
-    ≡ slice_index_or (globals_under overrides globals) number d
-under_at [] globals number d lt = refl
-under_at (o ∷ more) globals number d lt =
-    let after = slice_set globals o.global o.value in
-    let long = length-set globals o.global o.value in
-    ap (given_value more number) (sym (one_given globals o number d (o.global == number) lt refl))
-    ∙ under_at more after number d (omega (arith, long, lt))
 
 -- ---- the values under overrides
 

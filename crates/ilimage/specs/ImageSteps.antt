@@ -1,5 +1,5 @@
 -- What single steps of the process image do.
-use Rattle.std.specs.Prelude.{ℕ, ◌==◌, List, [], ◌∷◌, ◌++◌, map, false, if◌then◌else◌, slice_set, slice_index_or}
+use Rattle.std.specs.Prelude.{List, [], ◌∷◌, ◌++◌, map, false, if◌then◌else◌, slice_set, slice_index_or}
 use Rattle.iltypes.specs.declared.value.IlType.{IlType}
 use Rattle.iltypes.specs.declared.value.Value.{Value}
 use Rattle.iltypes.specs.declared.value.Value.TheVariants as values
@@ -30,12 +30,6 @@ stored_globals (external ∷ more) (value ∷ others) globals =
     stored_globals more others (if external.stored then slice_set globals external.global value else globals)
 stored_globals [] others globals = globals
 stored_globals (external ∷ more) [] globals = globals
-
--- the value of a global variable under overrides, where without them it is this one: that of the last override of it
-abbrev pub given_value : List Override → ℕ → Value → Value
-given_value [] number value = value
-given_value (given ∷ more) number value =
-    given_value more number (if given.global == number then given.value else value)
 
 -- the values of the global variables under overrides
 abbrev pub globals_under : List Override → List Value → List Value

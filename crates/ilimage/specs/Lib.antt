@@ -1,5 +1,7 @@
 pub mod Images
 pub mod ImageSteps
 pub mod Laws
+pub mod RowSteps
 pub mod Rows
 pub mod Snapshots
+pub mod TaskRows

@@ -1,58 +1,77 @@
 //! The process image.
 
-ghost use Rattle.std.specs.Prelude.{◌≡◌, ◌<◌, ◌≤◌, All, length};
-ghost use Rattle.ilimage.specs.ImageSteps.{stored_globals};
-
 use crate::external::External;
-use crate::overriding::Override;
+use crate::index::index_of;
+use crate::overriding::{Override, put_overrides};
+use crate::row_writes::give;
+use crate::scan_writes::store;
+use crate::slots::TaskSlot;
 use crate::snapshot::Snapshot;
 use crate::task::TaskImage;
+use crate::task_row::{TaskRow, rows_of};
 use ilblocks::BlockState;
+use ilrows::ValueRow;
 use iltypes::{IlType, Value};
 use std::alloc::{AllocError, Global};
 use std::marker::Model;
 
 /// A value for each global variable of a plant, and for each task the values of its own variables
-/// and its block instances. Each value is in its variable's type.
+/// and its block instances. Each value is in its variable's type. Each task has a row that is kept
+/// ready: in each slot is the value that gathering would give. The index has the slots of each
+/// global variable.
 #[derive(Drop)]
 pub struct Image {
     types: Vec<IlType>,
     globals: Vec<Value>,
-    tasks: Vec<TaskImage>,
+    tasks: Vec<TaskRow>,
+    index: Vec<Vec<TaskSlot>>,
 }
 
 impl Model for Image {
-    ghost use Rattle.ilimage.specs.Images.{ProcessImage, IsImage, image_of};
+    ghost use Rattle.ilimage.specs.Images.{ProcessImage};
+    ghost use Rattle.ilimage.specs.TaskRows.{shown_image};
+    ghost use Rattle.ilimage.specs.RowSteps.{IsKept, lists_of};
 
     ghost Value = { ProcessImage };
 
-    ghost view = { λ i. image_of i.types.items i.globals.items i.tasks.items };
+    ghost view = { λ i. shown_image i.types.items i.globals.items i.tasks.items };
 
-    ghost invariant = { λ i. IsImage (image_of i.types.items i.globals.items i.tasks.items) };
+    ghost invariant = { λ i. IsKept i.types.items i.globals.items i.tasks.items
+        (lists_of (λ slots. slots.items) i.index.items) };
 }
 
 impl Image {
-    ghost use Rattle.std.specs.Prelude.{◌≡◌, ◌≢◌, ℕ, ◌<◌, All, IfOk, Some, length};
+    ghost use Rattle.std.specs.Prelude.{◌≡◌, ◌≢◌, ℕ, ◌<◌, All, IfOk, IfSome, Some, length};
     ghost use Rattle.std.specs.Prelude.{slice_get};
-    ghost use Rattle.std.specs.Option.{IsSomeAnd, option_and_then};
+    ghost use Rattle.std.specs.Option.{IsSomeAnd, option_and_then, option_map};
     ghost use Rattle.iltypes.specs.Values.{AreOf};
     ghost use Rattle.ilblocks.specs.Stores.{Lasting};
-    ghost use Rattle.ilimage.specs.Images.{ProcessImage, ImageVariable, IsImage, image_of};
+    ghost use Rattle.ilimage.specs.Images.{ProcessImage, ImageVariable, IsImage, IsTaskImage};
+    ghost use Rattle.ilimage.specs.Images.{image_of};
     ghost use Rattle.ilimage.specs.Images.{layout_of, value_of, verified_of, blocks_of};
     ghost use Rattle.ilimage.specs.Images.{variable_in, written_in, value_under};
     ghost use Rattle.ilimage.specs.Images.{Global as GlobalVariable};
     ghost use Rattle.ilimage.specs.Snapshots.{ScanStart, IsLastingOf, MayHave};
 
     /// The image with these global variables, each with a value of its type, and these tasks.
-    pub fn new(types: Vec<IlType>, globals: Vec<Value>, tasks: Vec<TaskImage>) -> Image
-        requires { IsImage (image_of types.items globals.items tasks.items) }
-        ensures { result ≡ image_of types.items globals.items tasks.items }
+    pub fn new(
+        alloc: Global,
+        types: Vec<IlType>,
+        globals: Vec<Value>,
+        tasks: &[TaskImage],
+    ) -> Result<Image, AllocError>
+        requires { IsImage (image_of types.items globals.items tasks.now) }
+        ensures { IfOk result (λ image.
+            image ≡ image_of types.items globals.items tasks.now) }
     {
-        Image {
+        let tasks = rows_of(alloc, tasks, &globals)?;
+        let index = index_of(alloc, globals.len(), &tasks)?;
+        Ok(Image {
             types,
             globals,
             tasks,
-        }
+            index,
+        })
     }
 
     /// The value of a global variable.
@@ -79,17 +98,22 @@ impl Image {
         &self.types
     }
 
-    /// The tasks.
-    pub fn tasks(&self) -> &[TaskImage]
-        ensures value { result.now ≡ self.now.tasks }
+    /// The global variables in the first slots of a task's code.
+    pub fn externals(&self, task: usize) -> &[External]
+        requires { task < length self.now.tasks }
+        ensures value { option_map (λ t. t.layout.externals) (slice_get self.now.tasks task)
+            ≡ Some result.now }
         ensures image { IsImage self.now }
+        ensures own { IfSome (slice_get self.now.tasks task) IsTaskImage }
     {
-        &self.tasks
+        let named = &self.tasks[task];
+        let _typed = named.row();
+        named.externals()
     }
 
     /// What a scan of a task starts from at this moment, in milliseconds: its code, under each slot
     /// the value of the slot's variable, and its block instances.
-    pub fn take(&self, alloc: Global, task: usize, moment: u64) -> Result<Snapshot, AllocError>
+    pub fn take(&self, task: usize, moment: u64) -> Result<Snapshot, AllocError>
         requires { task < length self.now.tasks }
         ensures verified { IfOk result (λ snapshot.
             verified_of (layout_of self.now) task ≡ Some snapshot.verified) }
@@ -100,7 +124,8 @@ impl Image {
             blocks_of self.now task ≡ Some snapshot.lasting.blocks) }
         ensures moment { IfOk result (λ snapshot. snapshot.moment ≡ moment) }
     {
-        self.tasks[task].snapshot(alloc, &self.globals, &[], moment)
+        let taken = &self.tasks[task];
+        taken.begin(taken.row().copy()?, moment)
     }
 
     /// As [`Image::take`], under overrides: in the slot of a global variable that they name is the
@@ -108,7 +133,6 @@ impl Image {
     /// with the information and count of the event that activated it.
     pub fn take_with(
         &self,
-        alloc: Global,
         task: usize,
         moment: u64,
         overrides: &[Override],
@@ -126,13 +150,16 @@ impl Image {
             blocks_of self.now task ≡ Some snapshot.lasting.blocks) }
         ensures moment { IfOk result (λ snapshot. snapshot.moment ≡ moment) }
     {
-        self.tasks[task].snapshot(alloc, &self.globals, overrides, moment)
+        let taken = &self.tasks[task];
+        let mut row = taken.row().copy()?;
+        put_overrides(&mut row, &self.index, task, overrides);
+        taken.begin(row, moment)
     }
 
     /// Writes what a scan of a task left, a value in its type for each slot of the code and block
     /// instances of its kinds: the globals that the task stores, its own variables and its block
     /// instances. It takes no memory.
-    pub fn commit(&mut self, task: usize, values: &[Value], blocks: Vec<BlockState>)
+    pub fn commit(&mut self, task: usize, values: &ValueRow, blocks: Vec<BlockState>)
         requires { IsSomeAnd (verified_of (layout_of self.old) task) (λ verified.
             IsLastingOf verified.code (record { slots = values.now; blocks = blocks.items })) }
         ensures layout { layout_of self.new ≡ layout_of self.old }
@@ -146,7 +173,13 @@ impl Image {
         ensures others { (other : ℕ) → other ≢ task
             → blocks_of self.new other ≡ blocks_of self.old other }
     {
-        store_globals(&mut self.globals, self.tasks[task].externals(), values);
+        store(
+            &mut self.globals,
+            &mut self.tasks,
+            &self.index,
+            task,
+            values,
+        );
         self.tasks[task].keep(values, blocks);
     }
 
@@ -159,19 +192,12 @@ impl Image {
             → value_of self.new variable ≡ value_of self.old variable }
         ensures blocks { (task : ℕ) → blocks_of self.new task ≡ blocks_of self.old task }
     {
-        self.globals[global] = value;
-    }
-}
-
-/// Writes, of the values in a task's first slots, those of the global variables that it stores.
-fn store_globals(globals: &mut [Value], externals: &[External], values: &[Value])
-    requires there { All (λ external. external.global < length globals.old) externals.now }
-    requires values { length externals.now ≤ length values.now }
-    ensures { globals.new ≡ stored_globals externals.now values.now globals.old }
-{
-    for (slot, external) in externals.iter().enumerate() {
-        if external.stored {
-            globals[external.global] = values[slot];
-        }
+        give(
+            &mut self.globals,
+            &mut self.tasks,
+            &self.index,
+            global,
+            value,
+        );
     }
 }

@@ -7,21 +7,28 @@
 //! [`Image::take_with`] is for an event task: by [`Override`]s its snapshot has the trigger TRUE,
 //! and the information and count of the event that activated it.
 //! Which variable stands in which slot, and which a scan writes, is `variable_in` and `written_in`
-//! (specs/Images.antt, to be read first).
+//! (specs/Images.antt, to be read first). The image keeps for each task the row that `take` copies
+//! (`IsReady`, specs/TaskRows.antt).
 //!
 //! ```text
-//! let snapshot = image.take(alloc, task, moment)?;
-//! image.commit(task, &values, blocks);
+//! let snapshot = image.take(task, moment)?;
+//! image.commit(task, &row, blocks);
 //! ```
 #![tactic(auto)]
 
+mod code_rows;
 mod computed_rows;
 mod external;
 mod image;
+mod index;
 mod law;
 mod overriding;
+mod row_writes;
+mod scan_writes;
+mod slots;
 mod snapshot;
 mod task;
+mod task_row;
 
 pub use external::External;
 pub use image::Image;

@@ -1,9 +1,8 @@
 //! Snapshots.
 
-ghost use Rattle.std.specs.Prelude.{◌≡◌, IfOk};
-ghost use Rattle.ilblocks.specs.Stores.{blocks_at_first};
-
-use ilblocks::{BlockKind, BlockState};
+use crate::code_rows::{first_blocks, row_of};
+use ilblocks::BlockState;
+use ilrows::ValueRow;
 use iltypes::Value;
 use ilverify::Verified;
 use std::alloc::{AllocError, Global};
@@ -15,7 +14,7 @@ use std::sync::Arc;
 #[derive(Drop)]
 pub struct Snapshot {
     verified: Arc<Verified, Global>,
-    values: Vec<Value>,
+    row: ValueRow,
     blocks: Vec<BlockState>,
     moment: u64,
 }
@@ -27,14 +26,14 @@ impl Model for Snapshot {
     ghost Value = { ScanStart };
 
     ghost view = { λ s. start_of (arc_value s.verified)
-        (record { slots = s.values.items; blocks = s.blocks.items }) s.moment };
+        (record { slots = s.row; blocks = s.blocks.items }) s.moment };
 
     ghost invariant = { λ s. IsLastingOf (arc_value s.verified).code
-        (record { slots = s.values.items; blocks = s.blocks.items }) };
+        (record { slots = s.row; blocks = s.blocks.items }) };
 }
 
 impl Snapshot {
-    ghost use Rattle.std.specs.Prelude.{◌≡◌, IfOk, slice_set};
+    ghost use Rattle.std.specs.Prelude.{◌≡◌, ◌<◌, IfOk, Some, length, slice_get, slice_set};
     ghost use Rattle.std.specs.List.{AllZip};
     ghost use Rattle.std.specs.Arc.{arc_value};
     ghost use Rattle.iltypes.specs.Values.{AreOf};
@@ -55,11 +54,11 @@ impl Snapshot {
         ensures { IfOk result (λ snapshot.
             snapshot ≡ first_start (arc_value verified) values.now moment) }
     {
-        let values = Vec::from_slice(alloc, values)?;
+        let row = row_of(alloc, verified.code(), values)?;
         let blocks = first_blocks(alloc, verified.code().kinds())?;
         Ok(Snapshot {
             verified,
-            values,
+            row,
             blocks,
             moment,
         })
@@ -69,19 +68,19 @@ impl Snapshot {
     /// code's kinds.
     pub(crate) fn of(
         verified: Arc<Verified, Global>,
-        values: Vec<Value>,
+        row: ValueRow,
         blocks: Vec<BlockState>,
         moment: u64,
     ) -> Snapshot
-        requires values { AreOf values.items (arc_value verified).code.slots }
+        requires values { AreOf row (arc_value verified).code.slots }
         requires blocks { AllZip (IsBlockOf (arc_value verified).code.buses) blocks.items
             (arc_value verified).code.kinds }
         ensures { result ≡ start_of (arc_value verified)
-            (record { slots = values.items; blocks = blocks.items }) moment }
+            (record { slots = row; blocks = blocks.items }) moment }
     {
         Snapshot {
             verified,
-            values,
+            row,
             blocks,
             moment,
         }
@@ -89,29 +88,29 @@ impl Snapshot {
 
     /// The snapshot of the same code with these values, one in its type for each slot, these block
     /// instances, each of its kind, and this moment. It takes no memory.
-    pub fn with(self, values: Vec<Value>, blocks: Vec<BlockState>, moment: u64) -> Snapshot
-        requires values { AreOf values.items self.verified.code.slots }
+    pub fn with(self, row: ValueRow, blocks: Vec<BlockState>, moment: u64) -> Snapshot
+        requires values { AreOf row self.verified.code.slots }
         requires blocks { AllZip (IsBlockOf self.verified.code.buses) blocks.items
             self.verified.code.kinds }
         ensures { result ≡ start_of self.verified
-            (record { slots = values.items; blocks = blocks.items }) moment }
+            (record { slots = row; blocks = blocks.items }) moment }
     {
         Snapshot {
             verified: self.verified,
-            values,
+            row,
             blocks,
             moment,
         }
     }
 
     /// Copies of the values and of the block instances, for a scan to work on.
-    pub fn copy_lasting(&self) -> Result<(Vec<Value>, Vec<BlockState>), AllocError>
-        ensures values { IfOk result (λ copies. copies.0.items ≡ self.now.lasting.slots) }
+    pub fn copy_lasting(&self) -> Result<(ValueRow, Vec<BlockState>), AllocError>
+        ensures values { IfOk result (λ copies. copies.0 ≡ self.now.lasting.slots) }
         ensures blocks { IfOk result (λ copies. copies.1.items ≡ self.now.lasting.blocks) }
         ensures in_types { IfOk result (λ copies. IsLastingOf self.now.verified.code
-            (record { slots = copies.0.items; blocks = copies.1.items })) }
+            (record { slots = copies.0; blocks = copies.1.items })) }
     {
-        Ok((self.values.clone()?, self.blocks.clone()?))
+        Ok((self.row.copy()?, self.blocks.clone()?))
     }
 
     /// Gives a slot another value of its type.
@@ -121,7 +120,7 @@ impl Snapshot {
             (record self.old.lasting { slots = slice_set self.old.lasting.slots slot value })
             self.old.moment }
     {
-        self.values[slot] = value;
+        self.row.set(slot, value);
     }
 
     /// The verified code.
@@ -132,11 +131,26 @@ impl Snapshot {
     }
 
     /// A value for each slot of the code.
-    pub fn values(&self) -> &[Value]
+    pub fn row(&self) -> &ValueRow
         ensures value { result.now ≡ self.now.lasting.slots }
         ensures in_types { AreOf self.now.lasting.slots self.now.verified.code.slots }
     {
-        &self.values
+        &self.row
+    }
+
+    /// The number of slots.
+    pub fn slots(&self) -> usize
+        ensures value { result ≡ length self.now.lasting.slots }
+    {
+        self.row.len()
+    }
+
+    /// The value of a slot.
+    pub fn value(&self, slot: usize) -> Value
+        requires { slot < length self.now.lasting.slots }
+        ensures value { slice_get self.now.lasting.slots slot ≡ Some result }
+    {
+        self.row.get(slot)
     }
 
     /// What each block instance of the code keeps.
@@ -154,18 +168,4 @@ impl Snapshot {
     {
         self.moment
     }
-}
-
-/// Instances of these kinds before their first call.
-pub(crate) fn first_blocks(
-    alloc: Global,
-    kinds: &[BlockKind],
-) -> Result<Vec<BlockState>, AllocError>
-    ensures { IfOk result (λ blocks. blocks.items ≡ blocks_at_first kinds.now) }
-{
-    let mut blocks = Vec::new(alloc);
-    for kind in kinds {
-        blocks.push(BlockState::at_first(*kind))?;
-    }
-    Ok(blocks)
 }

@@ -1,11 +1,10 @@
 //! Tasks in the process image.
 
 ghost use Rattle.std.specs.Prelude.{◌≡◌, ◌<◌, All, IfOk, length, map};
-ghost use Rattle.ilimage.specs.ImageSteps.{global_value, globals_under};
+ghost use Rattle.ilimage.specs.ImageSteps.{global_value};
 
+use crate::code_rows::first_blocks;
 use crate::external::External;
-use crate::overriding::{Override, given_value};
-use crate::snapshot::{Snapshot, first_blocks};
 use ilblocks::BlockState;
 use iltypes::Value;
 use ilverify::Verified;
@@ -38,14 +37,13 @@ impl Model for TaskImage {
 }
 
 impl TaskImage {
-    ghost use Rattle.std.specs.Prelude.{◌≡◌, ◌<◌, ◌≤◌, All, IfOk, drop, length};
+    ghost use Rattle.std.specs.Prelude.{◌≡◌, ◌<◌, All, IfOk, drop, length};
     ghost use Rattle.std.specs.List.{AllZip};
     ghost use Rattle.std.specs.Arc.{arc_value};
     ghost use Rattle.iltypes.specs.Values.{AreOf};
     ghost use Rattle.ilblocks.specs.Calls.{IsBlockOf};
     ghost use Rattle.ilimage.specs.Images.{TaskLayout, TaskImage, own_types, first_task};
-    ghost use Rattle.ilimage.specs.ImageSteps.{HasGlobals, globals_under, task_of, slot_values};
-    ghost use Rattle.ilimage.specs.Snapshots.{start_of};
+    ghost use Rattle.ilimage.specs.ImageSteps.{slot_values};
 
     /// A task of this code, whose first slots are these global variables, with these values of its
     /// own variables, one in its type for each slot that is left, and with each block instance as
@@ -101,89 +99,42 @@ impl TaskImage {
         &self.blocks
     }
 
-    /// The values of the code's slots, of these of the global variables under overrides.
-    fn slot_values(
+    /// The values of the code's slots, of these of the global variables.
+    pub(crate) fn slot_values(
         &self,
         alloc: Global,
         globals: &[Value],
-        overrides: &[Override],
     ) -> Result<Vec<Value>, AllocError>
         requires { All (λ external. external.global < length globals.now)
             self.now.layout.externals }
-        ensures { IfOk result (λ values.
-            values.items ≡ slot_values (globals_under overrides.now globals.now) self.now) }
+        ensures { IfOk result (λ values. values.items ≡ slot_values globals.now self.now) }
     {
-        let mut values = global_values(alloc, &self.externals, globals, overrides)?;
+        let mut values = global_values(alloc, &self.externals, globals)?;
         values.extend_from_slice(&self.values)?;
         Ok(values)
     }
 
     /// A copy of the block instances.
-    fn copy_blocks(&self) -> Result<Vec<BlockState>, AllocError>
+    pub(crate) fn copy_blocks(&self) -> Result<Vec<BlockState>, AllocError>
         ensures { IfOk result (λ blocks. blocks.items ≡ self.now.own.blocks) }
     {
         self.blocks.clone()
     }
-
-    /// What a scan of the task starts from at this moment, where the global variables have these
-    /// values, but for overrides.
-    pub(crate) fn snapshot(
-        &self,
-        alloc: Global,
-        globals: &[Value],
-        overrides: &[Override],
-        moment: u64,
-    ) -> Result<Snapshot, AllocError>
-        requires { HasGlobals self.now.layout (globals_under overrides.now globals.now) }
-        ensures { IfOk result (λ snapshot. snapshot ≡ start_of self.now.layout.verified
-            (record {
-              slots = slot_values (globals_under overrides.now globals.now) self.now;
-              blocks = self.now.own.blocks;
-            }) moment) }
-    {
-        let values = self.slot_values(alloc, globals, overrides)?;
-        let blocks = self.copy_blocks()?;
-        let verified = self.verified.clone()?;
-        Ok(Snapshot::of(verified, values, blocks, moment))
-    }
-
-    /// Keeps what a scan left: of the values of the code's slots those of the task's own variables,
-    /// and the block instances.
-    pub(crate) fn keep(&mut self, values: &[Value], blocks: Vec<BlockState>)
-        requires values { AreOf values.now self.old.layout.verified.code.slots }
-        requires externals { length self.old.layout.externals ≤ length values.now }
-        requires blocks { AllZip (IsBlockOf self.old.layout.verified.code.buses) blocks.items
-            self.old.layout.verified.code.kinds }
-        ensures { self.new ≡ task_of self.old.layout.verified self.old.layout.externals
-            (drop (length self.old.layout.externals) values.now) blocks.items }
-    {
-        self.values.copy_from_slice(&values[self.externals.len()..]);
-        self.blocks = blocks;
-    }
 }
 
-/// The value of a global variable, of these, under overrides.
-fn global_value(globals: &[Value], overrides: &[Override], external: External) -> Value
-    requires { external.global < length globals.now }
-    ensures { result ≡ global_value (globals_under overrides.now globals.now) external }
-{
-    given_value(overrides, external.global, globals[external.global])
-}
-
-/// The values of these global variables under overrides.
+/// The values of these global variables.
 fn global_values(
     alloc: Global,
     externals: &[External],
     globals: &[Value],
-    overrides: &[Override],
 ) -> Result<Vec<Value>, AllocError>
     requires { All (λ external. external.global < length globals.now) externals.now }
-    ensures { IfOk result (λ values. values.items
-        ≡ map (global_value (globals_under overrides.now globals.now)) externals.now) }
+    ensures { IfOk result (λ values.
+        values.items ≡ map (global_value globals.now) externals.now) }
 {
     let mut values = Vec::new(alloc);
     for external in externals {
-        values.push(global_value(globals, overrides, *external))?;
+        values.push(globals[external.global])?;
     }
     Ok(values)
 }

@@ -1,3 +1,3 @@
 pub mod MachineSteps
-pub mod PackedSteps
+pub mod ReadySteps
 pub mod Scans

@@ -18,9 +18,11 @@
 mod left;
 mod loaded;
 mod machine;
+mod other_words;
 mod outbox;
-mod packed;
+mod ready;
 mod scans;
+mod slot_words;
 mod state;
 mod waiting;
 mod word;

@@ -9,7 +9,7 @@ use crate::state::State;
 use gearcmd::Request;
 use ilblocks::BlockState;
 use ilimage::Snapshot;
-use iltypes::Value;
+use ilrows::ValueRow;
 use std::alloc::AllocError;
 use std::marker::Model;
 
@@ -101,12 +101,12 @@ impl ScanResult {
     }
 
     /// The values of the slots at the end of the run, each in its slot's type.
-    pub fn values(&self) -> &[Value]
+    pub fn row(&self) -> &ValueRow
         ensures value { result.now ≡ self.now.after.slots }
         ensures run { IsScan self.now.snapshot.verified (store_of self.now.snapshot)
             self.now.steps self.now.after }
     {
-        self.left.values()
+        self.left.row()
     }
 
     /// What each block instance keeps at the end of the run.
@@ -133,16 +133,16 @@ impl ScanResult {
 
     /// What the scan began from, and the values and the block instances as the scan left them. It
     /// takes no memory.
-    pub fn into_parts(self) -> (Snapshot, Vec<Value>, Vec<BlockState>)
+    pub fn into_parts(self) -> (Snapshot, ValueRow, Vec<BlockState>)
         ensures snapshot { result.0 ≡ self.snapshot }
-        ensures values { result.1.items ≡ self.after.slots }
+        ensures values { result.1 ≡ self.after.slots }
         ensures blocks { result.2.items ≡ self.after.blocks }
         ensures in_types { IsLastingOf self.snapshot.verified.code
-            (record { slots = result.1.items; blocks = result.2.items }) }
+            (record { slots = result.1; blocks = result.2.items }) }
         ensures run { IsScan self.snapshot.verified (store_of self.snapshot) self.steps self.after }
     {
-        let (values, blocks) = self.left.into_lasting();
-        (self.snapshot, values, blocks)
+        let (row, blocks) = self.left.into_lasting();
+        (self.snapshot, row, blocks)
     }
 
     /// What the next scan of the code begins from, at this moment in milliseconds: the values and
@@ -150,8 +150,8 @@ impl ScanResult {
     pub fn into_next(self, moment: u64) -> Snapshot
         ensures { result ≡ next_start self moment }
     {
-        let (snapshot, values, blocks) = self.into_parts();
-        snapshot.with(values, blocks, moment)
+        let (snapshot, row, blocks) = self.into_parts();
+        snapshot.with(row, blocks, moment)
     }
 }
 

@@ -160,5 +160,5 @@ pub(crate) fn first_image(alloc: Global, setup: &Setup) -> Result<Image, AllocEr
     let values = initials(alloc, setup.plan())?;
     let tasks = task_images(alloc, setup)?;
     let _lawful = setup.plan().buses();
-    Ok(Image::new(types, values, tasks))
+    Image::new(alloc, types, values, &tasks)
 }

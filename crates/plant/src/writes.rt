@@ -21,8 +21,8 @@ pub(crate) fn write_scan(image: &mut Image, task: usize, scan: ScanResult)
         → ImageFollows p h image.old → histories.scan w h ≡ Some running → running.task ≡ task
         → ImageFollows p (Commit w n scan ∷ h) image.new }
 {
-    let _own = image.tasks()[task].values();
+    let _own = image.externals(task);
     what_a_scan_writes();
-    let (_snapshot, values, blocks) = scan.into_parts();
-    image.commit(task, &values, blocks);
+    let (_snapshot, row, blocks) = scan.into_parts();
+    image.commit(task, &row, blocks);
 }

@@ -4,7 +4,7 @@ use Rattle.std.proofs.Common.{Option, Some, None, sym, ap, ◌∙◌, refl, subs
 use Rattle.std.proofs.lemmas.Bool.{or_from}
 use Rattle.std.proofs.lemmas.List.{length-map}
 use Rattle.std.specs.Prelude.{if◌then◌else◌, IfSome, slice_get, map}
-use Rattle.std.specs.Option.{option_and_then}
+use Rattle.std.specs.Option.{option_and_then, option_map}
 use Rattle.std.specs.Int.{bit_at}
 use Rattle.gearcmd.specs.declared.requests.Request.{Request}
 use Rattle.gearcmd.specs.declared.requests.TaskKind.{TaskKind}
@@ -62,6 +62,23 @@ place_known plan g x place lawful there is =
     (level_known plan g x x.location lawful there refl)
 
 -- ---- what a task names
+
+-- the task that names these global variables
+pub record IsNaming (image : ProcessImage) (t : ℕ) (externals : List External) : Type 0 where
+  pub of : TaskImage
+  pub is : slice_get image.tasks t ≡ Some of
+  pub same : externals ≡ of.layout.externals
+
+naming_by : (image : ProcessImage) (t : ℕ) (externals : List External) (o : Option TaskImage)
+    → slice_get image.tasks t ≡ o → option_map (λ (u : TaskImage). u.layout.externals) o ≡ Some externals
+    → IsNaming image t externals
+naming_by image t externals None there e = absurd (cc)
+naming_by image t externals (Some of) there e = record { of = of; is = there; same = cc }
+
+pub naming : (image : ProcessImage) (t : ℕ) (externals : List External)
+    → option_map (λ (u : TaskImage). u.layout.externals) (slice_get image.tasks t) ≡ Some externals
+    → IsNaming image t externals
+naming image t externals e = naming_by image t externals (slice_get image.tasks t) refl e
 
 pub external_there : (plan : Planned) (image : ProcessImage) (t : ℕ) (of : TaskImage) (externals : List External)
     (i : ℕ) (e : External) → IsImage image → slice_get image.tasks t ≡ Some of → externals ≡ of.layout.externals

@@ -93,7 +93,7 @@ pub fn note_stores(
         → OwedBeside p h (externals_at (layout_of image.now) task) owed.old.items
         → OwedFollow p h owed.new.items }
 {
-    let externals = image.tasks()[task].externals();
+    let externals = image.externals(task);
     for number in 0..externals.len() {
         note_store(owed, plan, outputs, buses, image, externals[number]);
     }

@@ -41,7 +41,7 @@ impl Plant {
         ensures none { result ≡ None → ¬ IsOpenScan self.now worker scan.now }
     {
         let task = self.open_task(worker, scan)?;
-        let _run = scan.values();
+        let _run = scan.row();
         let _limits = self.setup.plan().task(task);
         Some(task)
     }

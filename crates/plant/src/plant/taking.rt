@@ -104,7 +104,7 @@ impl Plant {
     {
         let _codes = self.setup.plan();
         let given = self.overrides_for(alloc, task)?;
-        self.image.take_with(alloc, task, self.moment, &given)
+        self.image.take_with(task, self.moment, &given)
     }
 
     /// Takes the next task for a scan worker: of those that are ready without an open scan the one

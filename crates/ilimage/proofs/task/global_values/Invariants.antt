@@ -1,7 +1,6 @@
 use Rattle.std.proofs.Common.{◌≡◌, map, take}
-use Rattle.ilimage.specs.ImageSteps.{global_value, globals_under}
+use Rattle.ilimage.specs.ImageSteps.{global_value}
 use Rattle.ilimage.proofs.task.global_values.Given as goal
 
 abbrev pub invariant-loop-external : goal.invariant-loop-external
-invariant-loop-external l =
-    l.values.items ≡ map (global_value (globals_under l.overrides l.globals)) (take l.external-index l.externals)
+invariant-loop-external l = l.values.items ≡ map (global_value l.globals) (take l.external-index l.externals)

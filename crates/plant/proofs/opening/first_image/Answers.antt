@@ -1,7 +1,7 @@
-use Rattle.std.proofs.Common.{◌∙◌, ap, map, subst}
+use Rattle.std.proofs.Common.{◌∙◌, ap, map, sym, subst}
 use Rattle.ilplan.specs.declared.global.Global.{Global as GlobalVariable}
 use Rattle.ilplan.specs.Plans.{Planned, IsLawful}
-use Rattle.plant.specs.OpeningSteps.{global_types}
+use Rattle.plant.specs.OpeningSteps.{AreLawfulTasks, global_types}
 use Rattle.plant.proofs.FirstImages.{is_image}
 use Rattle.plant.proofs.opening.first_image.Goals as goal
 
@@ -11,4 +11,4 @@ new-requires c =
     (c.in_ok-types.ensures ∙ ap global_types c.plan.ensures.value)
     (c.in_ok-values.ensures ∙ ap (λ (p : Planned). map (λ (g : GlobalVariable). g.initial) p.globals)
     c.plan-2.ensures.value)
-    c.in_ok-tasks.ensures.lawful
+    (subst (AreLawfulTasks c.args.setup.now) (sym c.deref.ensures.value) c.in_ok-tasks.ensures.lawful)

@@ -1,12 +1,12 @@
 use Rattle.std.proofs.Common.{◌≡◌, List, Option, Some, refl, sym, ap, ◌∙◌, subst}
-use Rattle.std.specs.Prelude.{slice_get}
+use Rattle.std.specs.Prelude.{IfSome, slice_get}
 use Rattle.std.specs.Option.{IsSomeAnd}
 use Rattle.iltypes.specs.declared.value.Value.{Value}
 use Rattle.iltypes.specs.Values.{AreOf}
 use Rattle.ilverify.specs.Verdicts.{Accepted}
 use Rattle.ilblocks.specs.Calls.{Block}
-use Rattle.ilimage.specs.Images.{TaskImage, layout_of, own_types}
-use Rattle.ilimage.proofs.Places.{with_task, item_read, layout_at}
+use Rattle.ilimage.specs.Images.{TaskImage, IsTaskImage, layout_of}
+use Rattle.ilimage.proofs.Places.{with_task, layout_at}
 use Rattle.plant.proofs.Written.{IsCommitted, is_ended, image_committed}
 use Rattle.plant.proofs.writes.write_scan.Goals as goal
 
@@ -18,16 +18,15 @@ returns c = λ p w n running h follows busy of_task.
     let parts = c.into_parts-snapshot.ensures in
     let code = λ (v : Accepted). v ≡ scan.snapshot.verified in
     let here = with_task image t code (subst (λ (o : Option Accepted). IsSomeAnd o code) (sym c.requires) refl) in
-    let read = item_read c.tasks.result.now image.tasks t here.of c.index-tasks-task.result c.tasks.ensures.value
-    here.is c.index-tasks-task.is in
-    let owned = subst (λ (u : TaskImage). AreOf u.own.slots (own_types u.layout)) read c.values-own.ensures.in_types in
+    let own : IsTaskImage here.of = subst (λ (o : Option TaskImage). IfSome o IsTaskImage) here.is
+    c.externals-own.ensures.own in
     let typed = subst (λ (a : Accepted). AreOf scan.after.slots a.code.slots) (sym here.holds)
     parts.run.in_types.slots in
-    let ended = is_ended image t here.of scan.after.slots c.tasks.ensures.image here.is owned typed in
-    let slots = c.deref.ensures.value ∙ parts.values in
+    let ended = is_ended image t here.of scan.after.slots c.externals-own.ensures.image here.is own.values typed in
     let done : IsCommitted image c.commit.new.self t scan.after.slots scan.after.blocks = record {
       same = c.commit.ensures.layout;
-      written = λ slot v from. c.commit.ensures.written slot v from ∙ ap (λ (vs : List Value). slice_get vs slot) slots;
+      written = λ slot v from.
+          c.commit.ensures.written slot v from ∙ ap (λ (vs : List Value). slice_get vs slot) parts.values;
       kept = c.commit.ensures.kept;
       here = c.commit.ensures.blocks ∙ ap (λ (bs : List Block). Some bs) parts.blocks;
       others = c.commit.ensures.others;

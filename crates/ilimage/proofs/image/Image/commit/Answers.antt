@@ -1,125 +1,133 @@
-use Rattle.std.proofs.Common.{◌≤◌, ◌<◌, ◌∙◌, ℕ, List, ap, sym, subst, length, All, arith}
-use Rattle.std.proofs.lemmas.List.{with_items_is}
-use Rattle.std.proofs.lemmas.Option.{slice_get_within}
+use Rattle.std.proofs.Common.{◌≡◌, ◌∙◌, ◌≤◌, List, ap, sym, subst, length, arith, Vec, Global}
+use Rattle.std.specs.Prelude.{slice_set}
 use Rattle.std.specs.List.{AllZip}
-use Rattle.std.specs.Vec.{with_items}
-use Rattle.iltypes.specs.declared.value.Value.{Value}
+use Rattle.std.proofs.lemmas.List.{length-map}
 use Rattle.iltypes.specs.Values.{AreOf}
 use Rattle.ilblocks.specs.Calls.{IsBlockOf}
 use Rattle.ilblocks.proofs.Blocks.{as_long}
-use Rattle.ilimage.specs.declared.external.External.{External}
-use Rattle.ilimage.specs.Images.{ProcessImage, TaskImage, IsImage, layout_of, value_of, blocks_of}
-use Rattle.ilimage.specs.ImageSteps.{stored_globals}
-use Rattle.ilimage.proofs.Places.{item_read, typed_there, externals_fit}
-use Rattle.ilimage.proofs.Commits.{left, committing, is_committed, layout_stays, image_stays, written, kept, blocks_are}
-use Rattle.ilimage.proofs.Commits.{other_blocks}
+use Rattle.ilimage.specs.declared.slots.TaskSlot.{TaskSlot}
+use Rattle.ilimage.specs.Images.{TaskLayout, ProcessImage, layout_of, value_of, blocks_of, written_in}
+use Rattle.ilimage.specs.TaskRows.{TaskRow, shown, shown_image}
+use Rattle.ilimage.specs.RowSteps.{IsIndex, IsKept, layouts_of, lists_of}
+use Rattle.ilimage.proofs.Places.{externals_fit}
+use Rattle.ilimage.proofs.Commits.{committed, layout_stays, written, kept, blocks_are, other_blocks}
+use Rattle.ilimage.proofs.RowSlots.{read_there}
+use Rattle.ilimage.proofs.RowCommits.{leaving, storable, IsStored, layout_read, task_within, after_commit, scanned}
+use Rattle.ilimage.proofs.RowCommits.{commit_kept}
 use Rattle.ilimage.proofs.image.Image.commit.Goals as goal
 
-pub store_globals-requires : goal.store_globals-requires
-store_globals-requires c =
-    let image = c.args.self.now in
+pub store-requires : goal.store-requires
+store-requires c =
     let f = c.self.inside in
     let vs = c.args.values.now in
-    let h = committing image c.args.task vs c.args.blocks.items f.types.items f.globals.items f.tasks.items
-    c.self.view_is c.self.invariant c.requires in
-    let read = item_read f.tasks.items image.tasks c.args.task h.of c.index.result.now h.inside h.scanned.is
-    c.index.ensures in
-    let externals = c.externals.ensures.value ∙ ap (λ (t : TaskImage). t.layout.externals) read in
-    let long = ap length c.deref_mut.ensures.value ∙ ap (λ (i : ProcessImage). length i.globals) c.self.view_is
-    ∙ as_long image.globals image.types h.scanned.whole.globals in
-    let slots = h.of.layout.verified.code.slots in
-    let all = typed_there image.types slots h.of.layout.externals h.lawful.typed in
-    let fit = externals_fit image.types slots h.of.layout.externals h.lawful.typed in
-    let filled = as_long vs slots h.lasting.values in
-    let count = ap length externals in
+    let items = λ (v : Vec TaskSlot Global). v.items in
+    let index = lists_of items f.index.items in
+    let h = leaving f.types.items f.globals.items f.tasks.items index c.args.self.now c.args.task vs c.args.blocks.items
+    c.self.invariant c.self.view_is c.requires in
     record {
-      there = subst (λ (es : List External). All (λ (e : External). e.global < length c.deref_mut.result.now) es)
-          (sym externals)
-          (subst (λ (n : ℕ). All (λ (e : External). e.global < n) h.of.layout.externals) (sym long) all);
-      values = omega (arith, fit, filled, count);
+      each = ap length c.deref.ensures.value ∙ sym (length-map f.index.items items) ∙ c.self.invariant.each;
+      storable = storable f.types.items f.globals.items f.tasks.items index c.args.task vs c.args.blocks.items
+          c.self.invariant h;
+      ready = c.self.invariant.ready;
+      indexed = subst (λ (ix : List (Vec TaskSlot Global)). IsIndex (layouts_of f.tasks.items) (lists_of items ix))
+          (sym c.deref.ensures.value) c.self.invariant.indexed;
     }
 
 pub index_mut-requires : goal.index_mut-requires
 index_mut-requires c =
-    let image = c.args.self.now in
     let f = c.self.inside in
-    let h = committing image c.args.task c.args.values.now c.args.blocks.items f.types.items f.globals.items
-    f.tasks.items c.self.view_is c.self.invariant c.requires in
-    let within = slice_get_within image.tasks c.args.task h.of h.scanned.is in
-    let long = ap length h.inside in
-    omega (arith, within, long, f.tasks.ok.0)
+    let index = lists_of (λ (v : Vec TaskSlot Global). v.items) f.index.items in
+    let h = leaving f.types.items f.globals.items f.tasks.items index c.args.self.now c.args.task c.args.values.now
+    c.args.blocks.items c.self.invariant c.self.view_is c.requires in
+    let within = task_within c.store.new.tasks.items f.tasks.items c.args.task h.of.layout c.store.ensures.layouts
+    h.layout in
+    omega (arith, within, c.store.new.tasks.ok.0)
 
 pub keep-requires : goal.keep-requires
 keep-requires c =
-    let image = c.args.self.now in
     let f = c.self.inside in
     let vs = c.args.values.now in
-    let h = committing image c.args.task vs c.args.blocks.items f.types.items f.globals.items f.tasks.items
-    c.self.view_is c.self.invariant c.requires in
-    let read = item_read f.tasks.items image.tasks c.args.task h.of c.index_mut.result.now h.inside h.scanned.is
-    c.index_mut.ensures.value in
+    let index = lists_of (λ (v : Vec TaskSlot Global). v.items) f.index.items in
+    let h = leaving f.types.items f.globals.items f.tasks.items index c.args.self.now c.args.task vs c.args.blocks.items
+    c.self.invariant c.self.view_is c.requires in
+    let same = layout_read c.store.new.tasks.items f.tasks.items c.args.task c.index_mut.result.now h.of.layout
+    c.store.ensures.layouts h.layout c.index_mut.ensures.value in
     let slots = h.of.layout.verified.code.slots in
-    let fit = externals_fit image.types slots h.of.layout.externals h.lawful.typed in
+    let fit = externals_fit f.types.items slots h.of.layout.externals h.lawful.typed in
     let filled = as_long vs slots h.lasting.values in
     let enough : length h.of.layout.externals ≤ length vs = omega (arith, fit, filled) in
     record {
-      values = subst (λ (t : TaskImage). AreOf vs t.layout.verified.code.slots) (sym read) h.lasting.values;
-      externals = subst (λ (t : TaskImage). length t.layout.externals ≤ length vs) (sym read) enough;
-      blocks = subst (λ (t : TaskImage). AllZip (IsBlockOf t.layout.verified.code.buses) c.args.blocks.items
-          t.layout.verified.code.kinds) (sym read) h.lasting.blocks;
+      values = subst (λ (l : TaskLayout). AreOf vs l.verified.code.slots) (sym same) h.lasting.values;
+      externals = subst (λ (l : TaskLayout). length l.externals ≤ length vs) (sym same) enough;
+      blocks = subst (λ (l : TaskLayout). AllZip (IsBlockOf l.verified.code.buses) c.args.blocks.items
+          l.verified.code.kinds) (sym same) h.lasting.blocks;
     }
 
 pub invariant_of-self : goal.invariant_of-self
 invariant_of-self c =
-    let image = c.args.self.now in
     let f = c.self.inside in
     let vs = c.args.values.now in
     let blocks = c.args.blocks.items in
     let task = c.args.task in
-    let h = committing image task vs blocks f.types.items f.globals.items f.tasks.items c.self.view_is
-    c.self.invariant c.requires in
-    let read = item_read f.tasks.items image.tasks task h.of c.index.result.now h.inside h.scanned.is c.index.ensures in
-    let again = item_read f.tasks.items image.tasks task h.of c.index_mut.result.now h.inside h.scanned.is
-    c.index_mut.ensures.value in
-    let externals = c.externals.ensures.value ∙ ap (λ (t : TaskImage). t.layout.externals) read in
-    let globals = c.deref_mut.ensures.value ∙ ap (λ (i : ProcessImage). i.globals) c.self.view_is in
-    let stored = with_items_is f.globals c.store_globals.new.globals
-    (c.store_globals.auto.globals ∙ c.deref_mut.ensures.len)
-    ∙ c.store_globals.ensures ∙ ap (λ (es : List External). stored_globals es vs c.deref_mut.result.now) externals
-    ∙ ap (λ (gs : List Value). stored_globals h.of.layout.externals vs gs) globals in
-    let left_is = c.keep.ensures ∙ ap (λ (t : TaskImage). left t vs blocks) again in
-    let after = is_committed image task h.of c.keep.new.self vs blocks f.types.items f.globals.items
-    (with_items f.globals c.store_globals.new.globals).items f.tasks.items c.self.view_is stored left_is in
-    subst IsImage (sym after) (image_stays image task h.of vs blocks h.scanned)
+    let gs = c.store.new.globals.items in
+    let after = c.store.new.tasks.items in
+    let index = lists_of (λ (v : Vec TaskSlot Global). v.items) f.index.items in
+    let h = leaving f.types.items f.globals.items f.tasks.items index c.args.self.now task vs blocks c.self.invariant
+    c.self.view_is c.requires in
+    let read = c.index_mut.result.now in
+    let s : IsStored f.globals.items gs f.tasks.items after task vs = record {
+      written = c.store.ensures.globals;
+      layouts = c.store.ensures.layouts;
+      shown = c.store.ensures.shown;
+      ready = c.store.ensures.ready;
+    } in
+    let same = layout_read after f.tasks.items task read h.of.layout s.layouts h.layout c.index_mut.ensures.value in
+    let within = task_within after f.tasks.items task h.of.layout s.layouts h.layout in
+    let is = read_there after task read within c.index_mut.ensures.value in
+    subst (λ (t : TaskRow). IsKept f.types.items gs (slice_set after task t) index) (sym c.keep.ensures)
+    (commit_kept f.types.items f.globals.items gs f.tasks.items after index task vs blocks read c.self.invariant h s is
+    same)
 
 pub returns : goal.returns
 returns c =
-    let image = c.args.self.now in
     let f = c.self.inside in
     let vs = c.args.values.now in
     let blocks = c.args.blocks.items in
     let task = c.args.task in
-    let h = committing image task vs blocks f.types.items f.globals.items f.tasks.items c.self.view_is
-    c.self.invariant c.requires in
-    let read = item_read f.tasks.items image.tasks task h.of c.index.result.now h.inside h.scanned.is c.index.ensures in
-    let again = item_read f.tasks.items image.tasks task h.of c.index_mut.result.now h.inside h.scanned.is
-    c.index_mut.ensures.value in
-    let externals = c.externals.ensures.value ∙ ap (λ (t : TaskImage). t.layout.externals) read in
-    let globals = c.deref_mut.ensures.value ∙ ap (λ (i : ProcessImage). i.globals) c.self.view_is in
-    let stored = with_items_is f.globals c.store_globals.new.globals
-    (c.store_globals.auto.globals ∙ c.deref_mut.ensures.len)
-    ∙ c.store_globals.ensures ∙ ap (λ (es : List External). stored_globals es vs c.deref_mut.result.now) externals
-    ∙ ap (λ (gs : List Value). stored_globals h.of.layout.externals vs gs) globals in
-    let left_is = c.keep.ensures ∙ ap (λ (t : TaskImage). left t vs blocks) again in
-    let after = is_committed image task h.of c.keep.new.self vs blocks f.types.items f.globals.items
-    (with_items f.globals c.store_globals.new.globals).items f.tasks.items c.self.view_is stored left_is in
+    let globals = f.globals.items in
+    let gs = c.store.new.globals.items in
+    let after = c.store.new.tasks.items in
+    let index = lists_of (λ (v : Vec TaskSlot Global). v.items) f.index.items in
+    let h = leaving f.types.items globals f.tasks.items index c.args.self.now task vs blocks c.self.invariant
+    c.self.view_is c.requires in
+    let read = c.index_mut.result.now in
+    let s : IsStored globals gs f.tasks.items after task vs = record {
+      written = c.store.ensures.globals;
+      layouts = c.store.ensures.layouts;
+      shown = c.store.ensures.shown;
+      ready = c.store.ensures.ready;
+    } in
+    let same = layout_read after f.tasks.items task read h.of.layout s.layouts h.layout c.index_mut.ensures.value in
+    let within = task_within after f.tasks.items task h.of.layout s.layouts h.layout in
+    let is = read_there after task read within c.index_mut.ensures.value in
+    let image = shown_image f.types.items globals f.tasks.items in
+    let t = shown h.of in
+    let done = scanned f.types.items globals f.tasks.items index task vs blocks c.self.invariant h in
+    let new : shown_image f.types.items gs (slice_set after task c.keep.new.self) ≡ committed image task t vs blocks =
+    ap (λ (u : TaskRow). shown_image f.types.items gs (slice_set after task u)) c.keep.ensures
+    ∙ after_commit f.types.items globals gs f.tasks.items after task vs blocks read h s (s.ready.rows task read is)
+    same in
     record {
-      layout = ap layout_of after ∙ layout_stays image task h.of vs blocks h.scanned.is;
-      written = λ slot variable w. ap (λ (i : ProcessImage). value_of i variable) after
-          ∙ written image task slot h.of vs blocks variable h.scanned w;
-      kept = λ variable n. ap (λ (i : ProcessImage). value_of i variable) after
-          ∙ kept image task h.of vs blocks variable h.scanned.is n;
-      blocks = ap (λ (i : ProcessImage). blocks_of i task) after ∙ blocks_are image task h.of vs blocks h.scanned.is;
-      others = λ other n. ap (λ (i : ProcessImage). blocks_of i other) after
-          ∙ other_blocks image task other h.of vs blocks n;
+      layout = ap layout_of new ∙ layout_stays image task t vs blocks done.is ∙ ap layout_of c.self.view_is;
+      written = λ slot variable w. ap (λ (i : ProcessImage). value_of i variable) new
+          ∙ written image task slot t vs blocks variable done
+          (ap (λ (i : ProcessImage). written_in (layout_of i) task slot) c.self.view_is ∙ w);
+      kept = λ variable n. ap (λ (i : ProcessImage). value_of i variable) new
+          ∙ kept image task t vs blocks variable done.is
+          (λ slot e. n slot (sym (ap (λ (i : ProcessImage). written_in (layout_of i) task slot) c.self.view_is) ∙ e))
+          ∙ ap (λ (i : ProcessImage). value_of i variable) c.self.view_is;
+      blocks = ap (λ (i : ProcessImage). blocks_of i task) new ∙ blocks_are image task t vs blocks done.is;
+      others = λ other n. ap (λ (i : ProcessImage). blocks_of i other) new
+          ∙ other_blocks image task other t vs blocks n
+          ∙ ap (λ (i : ProcessImage). blocks_of i other) c.self.view_is;
     }

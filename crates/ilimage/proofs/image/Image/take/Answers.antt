@@ -1,63 +1,48 @@
-use Rattle.std.proofs.Common.{◌∙◌, List, Some, ap, sym, subst}
+use Rattle.std.proofs.Common.{◌∙◌, List, Some, ap, sym, subst, length, arith, Vec, Global}
 use Rattle.std.specs.Prelude.{slice_get}
-use Rattle.std.specs.Option.{option_map}
+use Rattle.std.proofs.lemmas.List.{length-map}
 use Rattle.std.proofs.lemmas.Result.{IfOk-weaker}
 use Rattle.iltypes.specs.declared.value.Value.{Value}
 use Rattle.iltypes.specs.Values.{AreOf}
-use Rattle.ilimage.specs.Images.{ProcessImage, TaskLayout, TaskImage}
-use Rattle.ilimage.specs.ImageSteps.{HasGlobals, slot_values}
+use Rattle.ilimage.specs.declared.slots.TaskSlot.{TaskSlot}
+use Rattle.ilimage.specs.Images.{ProcessImage}
 use Rattle.ilimage.specs.Snapshots.{ScanStart}
-use Rattle.ilimage.proofs.Places.{layout_at, slot_value}
-use Rattle.ilimage.proofs.Commits.{read_task}
+use Rattle.ilimage.specs.TaskRows.{shown}
+use Rattle.ilimage.specs.RowSteps.{lists_of}
+use Rattle.ilimage.proofs.RowTaking.{row_read, taken}
 use Rattle.ilimage.proofs.image.Image.take.Goals as goal
 
-pub snapshot-requires : goal.snapshot-requires
-snapshot-requires c =
-    let image = c.args.self.now in
+pub index-taken-requires : goal.index-taken-requires
+index-taken-requires c =
     let f = c.self.inside in
-    let h = read_task image c.args.task c.index.result.now f.types.items f.globals.items f.tasks.items c.self.view_is
-    c.self.invariant c.requires c.index.ensures in
-    let globals = c.deref.ensures.value ∙ ap (λ (i : ProcessImage). i.globals) c.self.view_is in
+    let n = ap (λ (i : ProcessImage). length i.tasks) c.self.view_is in
+    let m = length-map f.tasks.items shown in
+    let h = c.requires in
+    omega (arith, n, m, h, f.tasks.ok.0)
+
+pub begin-requires : goal.begin-requires
+begin-requires c =
+    let t = c.index-taken.result.now in
+    let row = c.in_ok-copy.ensures ∙ c.row.ensures.value in
+    subst (λ (vs : List Value). AreOf vs t.layout.verified.code.slots) (sym row) c.row.ensures.in_types.values
+
+pub returns : goal.returns
+returns c =
+    let f = c.self.inside in
+    let t = c.index-taken.result.now in
+    let index = lists_of (λ (v : Vec TaskSlot Global). v.items) f.index.items in
+    let read = row_read f.types.items f.globals.items f.tasks.items c.args.self.now c.args.task t c.self.view_is
+    c.requires c.index-taken.ensures in
+    let of = taken f.types.items f.globals.items f.tasks.items index c.args.self.now c.args.task t c.self.invariant
+    c.self.view_is read in
+    let row = c.in_ok-copy.ensures ∙ c.row.ensures.value in
     record {
-      types = image.types;
-      typed = h.lawful.typed;
-      values = subst (λ (gs : List Value). AreOf gs image.types) (sym globals) h.whole.globals;
+      verified = IfOk-weaker c.begin.result _ _
+          (λ s e. of.verified ∙ ap Some (sym (ap (λ (s : ScanStart). s.verified) e))) c.begin.ensures;
+      values = IfOk-weaker c.begin.result _ _
+          (λ s e slot. ap (λ (s : ScanStart). slice_get s.lasting.slots slot) e
+          ∙ ap (λ (vs : List Value). slice_get vs slot) row ∙ of.values slot) c.begin.ensures;
+      blocks = IfOk-weaker c.begin.result _ _
+          (λ s e. of.blocks ∙ ap Some (sym (ap (λ (s : ScanStart). s.lasting.blocks) e))) c.begin.ensures;
+      moment = IfOk-weaker c.begin.result _ _ (λ s e. ap (λ (s : ScanStart). s.moment) e) c.begin.ensures;
     }
-
-pub returns-clause-verified : goal.returns-clause-verified
-returns-clause-verified c =
-    let image = c.args.self.now in
-    let f = c.self.inside in
-    let h = read_task image c.args.task c.index.result.now f.types.items f.globals.items f.tasks.items c.self.view_is
-    c.self.invariant c.requires c.index.ensures in
-    IfOk-weaker c.snapshot.result _ _
-    (λ s e. ap (option_map (λ (l : TaskLayout). l.verified)) (layout_at image c.args.task c.index.result.now h.is)
-    ∙ ap Some (sym (ap (λ (s : ScanStart). s.verified) e)))
-    c.snapshot.ensures
-
-pub returns-clause-values : goal.returns-clause-values
-returns-clause-values c =
-    let image = c.args.self.now in
-    let f = c.self.inside in
-    let t = c.index.result.now in
-    let h = read_task image c.args.task t f.types.items f.globals.items f.tasks.items c.self.view_is c.self.invariant
-    c.requires c.index.ensures in
-    let globals = c.deref.ensures.value ∙ ap (λ (i : ProcessImage). i.globals) c.self.view_is in
-    let has : HasGlobals t.layout image.globals =
-    record { types = image.types; typed = h.lawful.typed; values = h.whole.globals } in
-    IfOk-weaker c.snapshot.result _ _
-    (λ s e slot. ap (λ (s : ScanStart). slice_get s.lasting.slots slot) e
-    ∙ ap (λ (gs : List Value). slice_get (slot_values gs t) slot) globals
-    ∙ slot_value image c.args.task slot t h.is has)
-    c.snapshot.ensures
-
-pub returns-clause-blocks : goal.returns-clause-blocks
-returns-clause-blocks c =
-    let image = c.args.self.now in
-    let f = c.self.inside in
-    let h = read_task image c.args.task c.index.result.now f.types.items f.globals.items f.tasks.items c.self.view_is
-    c.self.invariant c.requires c.index.ensures in
-    IfOk-weaker c.snapshot.result _ _
-    (λ s e. ap (option_map (λ (t : TaskImage). t.own.blocks)) h.is
-    ∙ ap Some (sym (ap (λ (s : ScanStart). s.lasting.blocks) e)))
-    c.snapshot.ensures

@@ -1,69 +1,98 @@
-use Rattle.std.proofs.Common.{◌∙◌, List, Some, ap, sym, subst}
-use Rattle.std.specs.Prelude.{slice_get}
-use Rattle.std.specs.Option.{option_map}
+use Rattle.std.proofs.Common.{◌≡◌, ◌∙◌, ◌<◌, ℕ, List, Some, ap, sym, subst, length, arith, Vec, Global}
+use Rattle.std.specs.Prelude.{All, slice_get}
+use Rattle.std.proofs.lemmas.List.{length-map}
 use Rattle.std.proofs.lemmas.Result.{IfOk-weaker}
 use Rattle.iltypes.specs.declared.value.Value.{Value}
 use Rattle.iltypes.specs.Values.{AreOf}
-use Rattle.ilimage.specs.Images.{ProcessImage, TaskLayout, TaskImage}
-use Rattle.ilimage.specs.ImageSteps.{HasGlobals, globals_under, slot_values}
+use Rattle.ilimage.specs.declared.overriding.Override.{Override}
+use Rattle.ilimage.specs.declared.slots.TaskSlot.{TaskSlot}
+use Rattle.ilimage.specs.Images.{ProcessImage}
 use Rattle.ilimage.specs.Snapshots.{ScanStart}
-use Rattle.ilimage.proofs.Places.{layout_at}
-use Rattle.ilimage.proofs.Commits.{read_task}
-use Rattle.ilimage.proofs.Overrides.{under_typed, slot_under}
+use Rattle.ilimage.specs.TaskRows.{shown}
+use Rattle.ilimage.specs.RowSteps.{MaySet, lists_of, row_under, slots_at}
+use Rattle.ilimage.proofs.Overrides.{AreAllowed}
+use Rattle.ilimage.proofs.RowTaking.{row_read, taken, taken_under, are_known, overrides_fit, under_in_types}
 use Rattle.ilimage.proofs.image.Image.take_with.Goals as goal
 
-pub snapshot-requires : goal.snapshot-requires
-snapshot-requires c =
-    let image = c.args.self.now in
+pub index-taken-requires : goal.index-taken-requires
+index-taken-requires c =
     let f = c.self.inside in
-    let h = read_task image c.args.task c.index.result.now f.types.items f.globals.items f.tasks.items c.self.view_is
-    c.self.invariant c.requires.task c.index.ensures in
-    let globals = c.deref.ensures.value ∙ ap (λ (i : ProcessImage). i.globals) c.self.view_is in
-    let under = ap (globals_under c.args.overrides.now) globals in
+    let n = ap (λ (i : ProcessImage). length i.tasks) c.self.view_is in
+    let m = length-map f.tasks.items shown in
+    let h = c.requires.task in
+    omega (arith, n, m, h, f.tasks.ok.0)
+
+pub put_overrides-requires : goal.put_overrides-requires
+put_overrides-requires c =
+    let f = c.self.inside in
+    let task = c.args.task in
+    let overrides = c.args.overrides.now in
+    let items = λ (v : Vec TaskSlot Global). v.items in
+    let index = lists_of items f.index.items in
+    let t = c.index-taken.result.now in
+    let read = row_read f.types.items f.globals.items f.tasks.items c.args.self.now task t c.self.view_is
+    c.requires.task c.index-taken.ensures in
+    let allowed = subst (λ (i : ProcessImage). AreAllowed i.types overrides) (sym c.self.view_is) c.requires.in_types in
+    let row = c.in_ok-row.ensures ∙ c.row.ensures.value in
+    let typed = subst (λ (vs : List Value). AreOf vs t.layout.verified.code.slots) (sym row)
+    c.row.ensures.in_types.values in
+    let known = are_known f.types.items f.globals.items f.tasks.items index overrides c.self.invariant allowed in
+    let fit = overrides_fit f.types.items f.globals.items f.tasks.items index task t overrides c.in_ok-row.row
+    c.self.invariant read allowed typed in
+    let long = length-map f.index.items items ∙ sym (ap length c.deref.ensures.value) in
     record {
-      types = image.types;
-      typed = h.lawful.typed;
-      values = subst (λ (gs : List Value). AreOf gs image.types) (sym under)
-          (under_typed image.types c.args.overrides.now image.globals c.requires.in_types h.whole.globals);
+      known = subst (λ (n : ℕ). All (λ (o : Override). o.global < n) overrides) long known;
+      kinds = subst (λ (ix : List (Vec TaskSlot Global)). All (λ (o : Override). All (λ (one : TaskSlot).
+          one.task ≡ task → MaySet c.in_ok-row.row one.slot o.value) (slots_at (lists_of items ix) o.global)) overrides)
+          (sym c.deref.ensures.value) fit;
     }
 
-pub returns-clause-verified : goal.returns-clause-verified
-returns-clause-verified c =
-    let image = c.args.self.now in
+pub begin-requires : goal.begin-requires
+begin-requires c =
     let f = c.self.inside in
-    let h = read_task image c.args.task c.index.result.now f.types.items f.globals.items f.tasks.items c.self.view_is
-    c.self.invariant c.requires.task c.index.ensures in
-    IfOk-weaker c.snapshot.result _ _
-    (λ s e. ap (option_map (λ (l : TaskLayout). l.verified)) (layout_at image c.args.task c.index.result.now h.is)
-    ∙ ap Some (sym (ap (λ (s : ScanStart). s.verified) e)))
-    c.snapshot.ensures
-
-pub returns-clause-values : goal.returns-clause-values
-returns-clause-values c =
-    let image = c.args.self.now in
+    let task = c.args.task in
     let overrides = c.args.overrides.now in
-    let f = c.self.inside in
-    let t = c.index.result.now in
-    let h = read_task image c.args.task t f.types.items f.globals.items f.tasks.items c.self.view_is c.self.invariant
-    c.requires.task c.index.ensures in
-    let globals = c.deref.ensures.value ∙ ap (λ (i : ProcessImage). i.globals) c.self.view_is in
-    let under = ap (globals_under overrides) globals in
-    let typed = under_typed image.types overrides image.globals c.requires.in_types h.whole.globals in
-    let has : HasGlobals t.layout (globals_under overrides image.globals) =
-    record { types = image.types; typed = h.lawful.typed; values = typed } in
-    IfOk-weaker c.snapshot.result _ _
-    (λ s e slot. ap (λ (s : ScanStart). slice_get s.lasting.slots slot) e
-    ∙ ap (λ (gs : List Value). slice_get (slot_values gs t) slot) under
-    ∙ slot_under overrides image c.args.task slot t h.is c.requires.in_types h.whole.globals has)
-    c.snapshot.ensures
+    let items = λ (v : Vec TaskSlot Global). v.items in
+    let index = lists_of items f.index.items in
+    let t = c.index-taken.result.now in
+    let slots = t.layout.verified.code.slots in
+    let read = row_read f.types.items f.globals.items f.tasks.items c.args.self.now task t c.self.view_is
+    c.requires.task c.index-taken.ensures in
+    let allowed = subst (λ (i : ProcessImage). AreAllowed i.types overrides) (sym c.self.view_is) c.requires.in_types in
+    let row = c.put_overrides.ensures
+    ∙ ap (λ (ix : List (Vec TaskSlot Global)). row_under (lists_of items ix) task overrides c.in_ok-row.row)
+    c.deref.ensures.value
+    ∙ ap (row_under index task overrides) (c.in_ok-row.ensures ∙ c.row.ensures.value) in
+    subst (λ (vs : List Value). AreOf vs slots) (sym row)
+    (under_in_types f.types.items f.globals.items f.tasks.items index task t overrides c.self.invariant read allowed
+    c.row.ensures.in_types)
 
-pub returns-clause-blocks : goal.returns-clause-blocks
-returns-clause-blocks c =
-    let image = c.args.self.now in
+pub returns : goal.returns
+returns c =
     let f = c.self.inside in
-    let h = read_task image c.args.task c.index.result.now f.types.items f.globals.items f.tasks.items c.self.view_is
-    c.self.invariant c.requires.task c.index.ensures in
-    IfOk-weaker c.snapshot.result _ _
-    (λ s e. ap (option_map (λ (t : TaskImage). t.own.blocks)) h.is
-    ∙ ap Some (sym (ap (λ (s : ScanStart). s.lasting.blocks) e)))
-    c.snapshot.ensures
+    let task = c.args.task in
+    let overrides = c.args.overrides.now in
+    let items = λ (v : Vec TaskSlot Global). v.items in
+    let index = lists_of items f.index.items in
+    let t = c.index-taken.result.now in
+    let read = row_read f.types.items f.globals.items f.tasks.items c.args.self.now task t c.self.view_is
+    c.requires.task c.index-taken.ensures in
+    let allowed = subst (λ (i : ProcessImage). AreAllowed i.types overrides) (sym c.self.view_is) c.requires.in_types in
+    let of = taken f.types.items f.globals.items f.tasks.items index c.args.self.now task t c.self.invariant
+    c.self.view_is read in
+    let row = c.put_overrides.ensures
+    ∙ ap (λ (ix : List (Vec TaskSlot Global)). row_under (lists_of items ix) task overrides c.in_ok-row.row)
+    c.deref.ensures.value
+    ∙ ap (row_under index task overrides) (c.in_ok-row.ensures ∙ c.row.ensures.value) in
+    record {
+      verified = IfOk-weaker c.begin.result _ _
+          (λ s e. of.verified ∙ ap Some (sym (ap (λ (s : ScanStart). s.verified) e))) c.begin.ensures;
+      values = IfOk-weaker c.begin.result _ _
+          (λ s e slot. ap (λ (s : ScanStart). slice_get s.lasting.slots slot) e
+          ∙ ap (λ (vs : List Value). slice_get vs slot) row
+          ∙ taken_under f.types.items f.globals.items f.tasks.items index c.args.self.now task t overrides
+          c.self.invariant c.self.view_is read allowed slot) c.begin.ensures;
+      blocks = IfOk-weaker c.begin.result _ _
+          (λ s e. of.blocks ∙ ap Some (sym (ap (λ (s : ScanStart). s.lasting.blocks) e))) c.begin.ensures;
+      moment = IfOk-weaker c.begin.result _ _ (λ s e. ap (λ (s : ScanStart). s.moment) e) c.begin.ensures;
+    }

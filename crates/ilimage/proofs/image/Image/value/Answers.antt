@@ -12,7 +12,7 @@ use Rattle.ilimage.proofs.image.Image.value.Goals as goal
 pub returns-clause-in_type : goal.returns-clause-in_type
 returns-clause-in_type c =
     let image = c.args.self.now in
-    let whole = subst IsImage c.self.view_is c.self.invariant in
+    let whole = subst IsImage c.self.view_is c.self.invariant.image in
     let same = ap (λ (i : ProcessImage). i.globals) c.self.view_is in
     let long = ap length same in
     let is = slice_get_read c.self.inside.globals.items (length c.self.inside.globals.items) c.args.global

@@ -11,15 +11,20 @@ use Rattle.ilcode.specs.Listings.{Listing}
 use Rattle.ilverify.specs.Verdicts.{Accepted}
 use Rattle.ilimage.proofs.snapshot.Snapshot.new.Goals as goal
 
+pub row_of-requires : goal.row_of-requires
+row_of-requires c =
+    let code = c.code.ensures.value ∙ ap (λ (v : Accepted). v.code) c.deref.ensures in
+    subst (λ (l : Listing). AreOf c.args.values.now l.slots) (sym code) c.requires
+
 pub invariant_of-result : goal.invariant_of-result
 invariant_of-result c =
     let code = (arc_value c.args.verified).code in
     let kinds : c.kinds.result.now ≡ code.kinds =
-    c.kinds.ensures.value ∙ ap (λ (l : Listing). l.kinds) c.code.ensures.value
-    ∙ ap (λ (v : Accepted). v.code.kinds) c.deref.ensures in
+    c.kinds.ensures.value ∙ ap (λ (l : Listing). l.kinds) c.code-2.ensures.value
+    ∙ ap (λ (v : Accepted). v.code.kinds) c.deref-2.ensures in
     let blocks = c.in_ok-blocks.ensures ∙ ap (λ (ks : List BlockKind). blocks_at_first ks) kinds in
     record {
-      values = subst (λ (vs : List Value). AreOf vs code.slots) (sym c.in_ok-values.ensures.items) c.requires;
+      values = subst (λ (vs : List Value). AreOf vs code.slots) (sym c.in_ok-row.ensures) c.requires;
       blocks = subst (λ (bs : List Block). AllZip (IsBlockOf code.buses) bs code.kinds) (sym blocks)
           (at_first_are code.buses code.kinds);
     }

@@ -22,4 +22,4 @@ returns-clause-allowed c =
     c.task-limits.ensures.value in
     subst (λ (p : Shown). IsScanOfTask p w scan t) c.self.view_is
     (open_committed _ _ w t task scan c.self.invariant c.plan.ensures.codes is is_task c.task-limits.ensures.limits
-    c.values-run.ensures.run)
+    c.row-run.ensures.run)
