@@ -13,6 +13,7 @@
 //! ```
 #![tactic(auto)]
 
+mod builders;
 mod coding;
 mod options;
 mod questions;

@@ -7,77 +7,76 @@ ghost use Rattle.commandline.specs.CommandLine.{explain_command, explain_line};
 ghost use Rattle.commandline.specs.CommandLine.{list_command, list_line};
 ghost use Rattle.commandline.specs.CommandLine.{note_line, notes_command, optional};
 
-use crate::options::{binding, looking, text};
-use clap::{Arg, ArgAction, Command};
+use crate::builders::{beside, optional, with};
+use crate::options::{binding, looking, of_text};
+use clap::{Arg, Command};
 use std::alloc::{AllocError, Global};
 
 pub(crate) fn explaining<'a>(alloc: Global) -> Result<Command<'a>, AllocError>
     ensures shape { IfOk result (λ c. app_of c ≡ explain_line) }
     ensures local { IfOk result (λ c. (out-Command c).has_globals ≡ false) }
 {
-    listing(alloc)?.subcommand(explain(alloc)?)
+    beside(listing(alloc)?, explain(alloc))
 }
 
 fn listing<'a>(alloc: Global) -> Result<Command<'a>, AllocError>
     ensures shape { IfOk result (λ c. app_of c ≡ list_line) }
     ensures local { IfOk result (λ c. (out-Command c).has_globals ≡ false) }
 {
-    noting(alloc)?.subcommand(list(alloc)?)
+    beside(noting(alloc)?, list(alloc))
 }
 
 fn noting<'a>(alloc: Global) -> Result<Command<'a>, AllocError>
     ensures shape { IfOk result (λ c. app_of c ≡ note_line) }
     ensures local { IfOk result (λ c. (out-Command c).has_globals ≡ false) }
 {
-    looking(alloc)?.subcommand(notes(alloc)?)
+    beside(looking(alloc)?, notes(alloc))
 }
 
 fn notes<'a>(alloc: Global) -> Result<Command<'a>, AllocError>
     ensures shape { IfOk result (λ c. app_of c ≡ notes_command) }
     ensures local { IfOk result (λ c. (out-Command c).has_globals ≡ false) }
 {
-    Command::new(alloc, "notes")
-        .about("Prints what is likely not meant in an accepted text")
-        .arg(text(alloc))?
-        .arg(binding(alloc))
+    let about = "Prints what is likely not meant in an accepted text";
+    with(of_text(alloc, "notes", about)?, binding(alloc))
 }
 
 fn list<'a>(alloc: Global) -> Result<Command<'a>, AllocError>
     ensures shape { IfOk result (λ c. app_of c ≡ list_command) }
     ensures local { IfOk result (λ c. (out-Command c).has_globals ≡ false) }
 {
-    Command::new(alloc, "list")
-        .about("Prints the words of tasks, what is known before each, and the longest path")
-        .arg(text(alloc))?
-        .arg(listed(alloc))?
-        .arg(binding(alloc))
+    let about = "Prints the words of tasks, what is known before each, and the longest path";
+    with(
+        with(of_text(alloc, "list", about)?, listed(alloc))?,
+        binding(alloc),
+    )
 }
 
 fn explain<'a>(alloc: Global) -> Result<Command<'a>, AllocError>
     ensures shape { IfOk result (λ c. app_of c ≡ explain_command) }
     ensures local { IfOk result (λ c. (out-Command c).has_globals ≡ false) }
 {
-    Command::new(alloc, "explain")
-        .about("Explains the first thing that stands against a text, or prints notes on it")
-        .arg(text(alloc))?
-        .arg(explained(alloc))?
-        .arg(binding(alloc))
+    let about = "Explains the first thing that stands against a text, or prints notes on it";
+    with(
+        with(of_text(alloc, "explain", about)?, explained(alloc))?,
+        binding(alloc),
+    )
 }
 
 fn listed<'a>(alloc: Global) -> Arg<'a>
     ensures rule { rule_of result ≡ optional (codes "TASK") }
     ensures local { result.global ≡ false }
 {
-    Arg::new(alloc, "TASK")
-        .action(ArgAction::Set)
-        .help("The task's name, in any letter case [default: all tasks]")
+    optional(
+        alloc,
+        "TASK",
+        "The task's name, in any letter case [default: all tasks]",
+    )
 }
 
 fn explained<'a>(alloc: Global) -> Arg<'a>
     ensures rule { rule_of result ≡ optional (codes "SCENARIO") }
     ensures local { result.global ≡ false }
 {
-    Arg::new(alloc, "SCENARIO")
-        .action(ArgAction::Set)
-        .help("A scenario that is explained too")
+    optional(alloc, "SCENARIO", "A scenario that is explained too")
 }
