@@ -1,5 +1,5 @@
 -- A log that goes with a history goes with it after what happens on its bus, and so does each other log.
-use Rattle.std.proofs.Common.{◌≡◌, ◌≢◌, ◌⊎◌, inl, inr, ⊎_elim, ℕ, eqb, ◌-◌, ◌^◌, ◌<◌, ◌≤◌, Bool, List, ◌++◌}
+use Rattle.std.proofs.Common.{◌≡◌, ◌≢◌, inl, inr, ⊎_elim, ℕ, eqb, ◌-◌, ◌^◌, ◌<◌, Bool, List, ◌++◌}
 use Rattle.std.proofs.Common.{refl, sym, ap, ◌∙◌, subst, eq-eqb, arith}
 use Rattle.std.proofs.lemmas.Bool.{ne_eqb}
 use Rattle.std.proofs.lemmas.List.{append_assoc}
@@ -7,7 +7,7 @@ use Rattle.std.specs.Prelude.{if◌then◌else◌}
 use Rattle.buslink.specs.BusLog.{BusLog}
 use Rattle.plantevents.specs.declared.event.Event.{Event}
 use Rattle.plant.specs.Shown.{Shown}
-use Rattle.turns.specs.Logs.{more_failures}
+use Rattle.turns.specs.Logs.{HasGrown, more_failures}
 use Rattle.finishing.specs.Finishing.{IsLinked, IsAsked, HasHeard}
 use Rattle.finishing.specs.FinishSteps.{IsSameOn, IsLater, IsBusStep}
 
@@ -47,7 +47,7 @@ heard_then first second log one two =
     ⊎_elim (λ (same : log.hears ≡ second.hears).
     ⊎_elim (λ (was : second.hears ≡ first.hears). inl (same ∙ was))
     (λ (was : IsAsked first second).
-    inr (subst (λ (n : ℕ). (n ≤ 2 ^ 64 - 1) × ((first.hears < n) ⊎ (n ≡ 2 ^ 64 - 1))) (sym same) was)) one)
+    inr (subst (λ (n : ℕ). HasGrown first.hears n) (sym same) was)) one)
     (λ (asked : IsAsked second log). inr (asked_since first second log one asked)) two
 
 pub later_then : (p q r : Shown) → IsLater p q → IsLater q r → IsLater p r

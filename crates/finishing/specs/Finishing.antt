@@ -1,5 +1,5 @@
 -- What is left of a run is done on one thread, until nothing is left (profile).
-use Rattle.std.specs.Prelude.{◌≡◌, ◌⊎◌, ℕ, ◌-◌, ◌^◌, ◌<◌, ◌≤◌, true, List, [], ◌++◌, length, ⊤}
+use Rattle.std.specs.Prelude.{◌≡◌, ◌⊎◌, ℕ, ◌<◌, true, List, [], ◌++◌, length, ⊤}
 use Rattle.buslink.specs.BusLog.{BusLog}
 use Rattle.plantevents.specs.declared.event.Event.{Event}
 use Rattle.plantevents.specs.Histories.{is_down, sent_in, heard_in, downs_in, given_in}
@@ -10,7 +10,7 @@ use Rattle.plant.specs.declared.refusal.CallError.TheVariants.{Memory, Refused}
 use Rattle.plant.specs.declared.refusal.CallRefusal.TheVariants.{Full}
 use Rattle.plant.specs.Refusals.{none_free}
 use Rattle.plant.specs.Shown.{Shown, is_full}
-use Rattle.turns.specs.Logs.{log_of, more_failures}
+use Rattle.turns.specs.Logs.{HasGrown, log_of, more_failures}
 use Rattle.finishing.specs.Open.{HasNothingOpen}
 
 -- since the first log this bus sent the attempts of its reports in the history, one after another; the history has the
@@ -26,7 +26,7 @@ AreLinked firsts h logs = Each (λ b log. IsLinked (log_of firsts b) b h log) 0 
 
 -- the bus was asked to hear since the first log; the count of these calls is kept at 2^64 - 1 once there
 abbrev pub IsAsked : BusLog → BusLog → Type 0
-IsAsked first log = (log.hears ≤ 2 ^ 64 - 1) × ((first.hears < log.hears) ⊎ (log.hears ≡ 2 ^ 64 - 1))
+IsAsked first log = HasGrown first.hears log.hears
 
 -- or it was not
 abbrev pub HasHeard : BusLog → BusLog → Type 0

@@ -11,7 +11,7 @@ use Rattle.plantevents.specs.Plants.{Plant}
 use Rattle.workers.specs.declared.closed.Closed.{Closed}
 use Rattle.finishing.specs.Finishing.{IsLinked}
 use Rattle.workers.specs.Closings.{IsClosed}
-use Rattle.turns.specs.Logs.{log_of, no_frame, no_moment}
+use Rattle.turns.specs.Logs.{IsNoLess, log_of, no_frame, no_moment}
 use Rattle.workers.specs.Starts.{IsStartFault}
 use Rattle.ilsetup.specs.Loaded.{Loaded}
 use Rattle.plant.specs.declared.open_fault.OpenFault.{OpenFault}
@@ -42,6 +42,11 @@ no_log scenario (suc buses) b =
     (map-append sim_log (buses_of scenario buses) (after_all_arrivals (bus_of scenario buses) ∷ []))
     ∙ (with_default (map sim_log (buses_of scenario buses)) no_frame b ∙ no_log scenario buses b)
 
+no_log_of : (scenario : List Statement) (buses b : ℕ) (items : List Simulated) → items ≡ buses_of scenario buses
+    → log_of (map sim_log items) b ≡ no_frame
+no_log_of scenario buses b items are =
+    ap (λ (those : List Simulated). log_of (map sim_log those) b) are ∙ no_log scenario buses b
+
 count_of : (scenario : List Statement) (buses : ℕ) → length (buses_of scenario buses) ≡ buses
 count_of scenario zero = refl
 count_of scenario (suc buses) =
@@ -62,9 +67,11 @@ closed_from_nothing p scenario buses items first left are none closed = record {
   legal = closed.legal;
   idle = closed.idle;
   buses = λ b bus is.
-      let was : log_of (map sim_log items) (0 + b) ≡ no_frame =
-      ap (λ (those : List Simulated). log_of (map sim_log those) (0 + b)) are ∙ no_log scenario buses (0 + b) in
-      subst (λ (log : BusLog). IsLinked log (0 + b) left.plant.history (sim_log bus)) was (closed.buses b bus is);
+      subst (λ (log : BusLog). IsLinked log (0 + b) left.plant.history (sim_log bus))
+      (no_log_of scenario buses (0 + b) items are) (closed.buses b bus is);
+  hears = λ b bus is.
+      subst (λ (log : BusLog). IsNoLess log.hears (sim_log bus).hears) (no_log_of scenario buses (0 + b) items are)
+      (closed.hears b bus is);
   clock =
       subst (λ (log : ClockLog). (tick_log left.clock).given ≡ log.given ++ given_in left.plant.history) none
       closed.clock;

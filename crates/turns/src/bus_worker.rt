@@ -1,9 +1,9 @@
 //! A turn of the worker of a bus.
 
-ghost use Rattle.std.specs.Prelude.{◌≡◌, false};
+ghost use Rattle.std.specs.Prelude.{◌≡◌, false, OnOk};
 ghost use Rattle.plantevents.specs.Parts.{shown_down};
 ghost use Rattle.receipts.specs.Receipts.{whole};
-ghost use Rattle.turns.specs.Logs.{HasFailed, IsServed, log_of};
+ghost use Rattle.turns.specs.Logs.{HasFailed, HasGrown, IsServed, log_of};
 
 use crate::gate::Gate;
 use crate::links::Links;
@@ -40,6 +40,7 @@ fn go_down<'a, B: Bus, J: Basis + Links, T: Seated, K: Tallies<T>, R: Wait>(
     requires up { shown_down (whole served.old.share) ≡ false }
     requires failed { HasFailed (log_of J.buses bus) bus served.old.share (B.log served.old.line) }
     ensures served { IsServed (log_of J.buses bus) bus served.new.share (B.log served.new.line) }
+    ensures line { served.new.line ≡ served.old.line }
 {
     let Ok(()) = shared.down(rt, &mut served.share, bus) else {
         unreachable!()
@@ -76,7 +77,8 @@ fn send_once<'a, B: Bus, J: Basis + Links, T: Seated, K: Tallies<T>, G: Gate, R:
 }
 
 /// Keeps a place back under the lock, hears outside the lock, and notes the frame under the lock.
-/// Where the bus interface failed, the bus goes down.
+/// Where the bus interface failed, the bus goes down. Where it succeeds, the bus was asked.
+#[tactic(auto, using(crate::proofs::Counts::grown_once))]
 fn hear_once<'a, B: Bus, J: Basis + Links, T: Seated, K: Tallies<T>, R: Wait>(
     rt: &R,
     shared: &Shared<'a, J, T, K>,
@@ -85,6 +87,8 @@ fn hear_once<'a, B: Bus, J: Basis + Links, T: Seated, K: Tallies<T>, R: Wait>(
 ) -> Result<Turn, CallError>
     requires served { IsServed (log_of J.buses bus) bus served.old.share (B.log served.old.line) }
     ensures served { IsServed (log_of J.buses bus) bus served.new.share (B.log served.new.line) }
+    ensures asked { OnOk result
+        (HasGrown (B.log served.old.line).hears (B.log served.new.line).hears) }
 {
     served.line.room(1)?;
     shared.may_hear(rt, &mut served.share, bus)?;

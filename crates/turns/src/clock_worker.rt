@@ -1,6 +1,7 @@
 //! A turn of the worker of the clock.
 
-ghost use Rattle.turns.specs.Logs.{IsTimed};
+ghost use Rattle.std.specs.Prelude.{◌≡◌, false, IfOk};
+ghost use Rattle.turns.specs.Logs.{HasEnded, IsTimed};
 
 use crate::links::Links;
 use buslink::Clock;
@@ -17,11 +18,13 @@ pub struct Timed<'a, C: Clock, J: Basis, T: Seated> {
 }
 
 /// Keeps a place back under the lock, asks the clock outside the lock, and notes the moment under
-/// the lock. Answers whether the clock gave one. What it gave stays what the Share has receipts for.
+/// the lock. Answers whether the clock gave one; if not, it was asked here and came to its end. What
+/// it gave stays what the Share has receipts for.
 ///
 /// # Errors
 ///
 /// The allocator is out of memory, or the history is full. The clock wasn't asked.
+#[tactic(auto, using(crate::proofs::Counts::grown_by_one))]
 pub fn tick_once<'a, C: Clock, J: Basis + Links, T: Seated, K: Tallies<T>, R: Wait>(
     rt: &R,
     shared: &Shared<'a, J, T, K>,
@@ -29,6 +32,8 @@ pub fn tick_once<'a, C: Clock, J: Basis + Links, T: Seated, K: Tallies<T>, R: Wa
 ) -> Result<bool, CallError>
     requires timed { IsTimed J.clock timed.old.share (C.log timed.old.clock) }
     ensures timed { IsTimed J.clock timed.new.share (C.log timed.new.clock) }
+    ensures ended { IfOk result (λ given. given ≡ false
+        → HasEnded J.clock (C.log timed.new.clock)) }
 {
     shared.may_tick(rt, &mut timed.share)?;
     let Some(moment) = timed.clock.now() else {

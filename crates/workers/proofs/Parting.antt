@@ -40,6 +40,7 @@ fresh_served start b s log empty is =
       sent = sym (ap (λ (x : List Placed). log.sent ++ shown_sent x) none ∙ append-nil log.sent);
       heard = sym (ap (λ (x : List Placed). log.heard ++ shown_heard x) none ∙ append-nil log.heard);
       failed = sym (ap (λ (x : List Placed). more_failures (shown_downs x) log.failures) none);
+      hears = omega arith;
     }
 
 pub fresh_timed : (start : Shown) (s : ShareParts) (log : ClockLog) → start.history ≡ [] → IsFresh start Clock s
@@ -50,6 +51,7 @@ fresh_timed start s log empty is =
       role = is.role;
       given = sym (ap (λ (x : List Placed). log.given ++ shown_given x) none ∙ append-nil log.given);
       in_time = λ m not_before. subst (λ (x : List Placed). shown_moment x ≤ m) (sym none) (omega arith);
+      asks = omega arith;
     }
 
 -- each line has its own log among those of all

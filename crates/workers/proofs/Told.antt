@@ -15,7 +15,7 @@ use Rattle.receipts.specs.Each.{Each}
 use Rattle.receipts.specs.Receipts.{ShareParts, HasPart, HaveParts, whole}
 use Rattle.finishing.specs.Finishing.{IsLinked}
 use Rattle.finishing.specs.Open.{HasNothingOpen}
-use Rattle.turns.specs.Logs.{IsServed, IsTimed, IsWorker, log_of, more_failures}
+use Rattle.turns.specs.Logs.{IsNoLess, IsServed, IsTimed, IsWorker, log_of, more_failures}
 use Rattle.workers.specs.Teams.{AreServed, AreWorkers}
 use Rattle.turns.specs.declared.bus_worker.Served.{Served}
 use Rattle.workers.proofs.Lists.{each_at}
@@ -51,11 +51,11 @@ timed first log s h is has given =
 
 -- ---- all Shares
 
-record There {X : Type 0} (xs : List X) (k : ℕ) : Type 0 where
+pub record There {X : Type 0} (xs : List X) (k : ℕ) : Type 0 where
   pub x : X
   pub is : slice_get xs k ≡ Some x
 
-there : {X : Type 0} (xs : List X) (k : ℕ) → k < length xs → There xs k
+pub there : {X : Type 0} (xs : List X) (k : ℕ) → k < length xs → There xs k
 there [] k inside = absurd (omega arith)
 there (y ∷ ys) zero inside = record { x = y; is = refl }
 there (y ∷ ys) (suc k) inside =
@@ -111,6 +111,14 @@ all_linked logs log h served are have sent heard downs k line at =
     (linked (log_of logs k) (log s.x.line) k s.x.share h
     (each_at (λ n t. IsServed (log_of logs n) n t.share (log t.line)) served k s.x are s.is)
     (has_at h served k s.x s.is have) (sent k h) (heard k h) (downs k h)))
+
+pub all_no_less : {B J T : Type 0} (logs : List BusLog) (log : B → BusLog) (served : List (Served B J T))
+    → AreServed logs log 0 served
+    → Each (λ b line. IsNoLess (log_of logs b).hears (log line).hears) 0 (map (λ s. s.line) served)
+all_no_less logs log served are k line at =
+    let s = from_map (λ t. t.line) served k line at in
+    let is : IsServed (log_of logs (0 + k)) (0 + k) s.x.share (log s.x.line) = are k s.x s.is in
+    subst (λ l. IsNoLess (log_of logs (0 + k)).hears (log l).hears) s.of is.hears
 
 -- nothing is open in a plant of which these Shares have the parts
 pub nothing_open : {B J T : Type 0} (p : Shown) (start : Plant) (logs : List BusLog) (log : B → BusLog)

@@ -37,6 +37,7 @@ pub(crate) fn close<'a, B: Bus, C: Clock, J: Basis + Links, T: Seated, K: Tallie
     requires team { IsTeam J.buses J.clock B.log C.log team }
     ensures closed { IsClosed J.start.plant J.buses J.clock B.log C.log result }
     ensures count { length result.buses.items ≡ length team.entry.buses.items }
+    ensures clock { result.clock ≡ team.entry.timed.clock }
     ensures ended { result.ended ≡ ended }
 {
     what_a_part_shows();

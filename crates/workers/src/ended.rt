@@ -38,6 +38,9 @@ pub struct End {
 }
 
 impl End {
+    ghost use Rattle.std.specs.Prelude.{◌≡◌, IfSome};
+    ghost use Rattle.workers.specs.declared.ended.Ended.TheVariants.{Asked};
+
     /// Nobody told the end yet.
     pub fn new() -> End {
         End {
@@ -53,6 +56,16 @@ impl End {
     /// Why it ended, if the end was told.
     pub fn told(&self) -> Option<Ended> {
         self.told.get().copied()
+    }
+
+    /// Why it ended, if the end was told and isn't that of the clock.
+    pub fn cut_short(&self) -> Option<Ended>
+        ensures { IfSome result (λ ended. ¬ (ended ≡ Asked)) }
+    {
+        match self.told()? {
+            Ended::Asked => None,
+            other => Some(other),
+        }
     }
 
     /// Whether the end was told.

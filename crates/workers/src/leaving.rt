@@ -4,7 +4,8 @@ ghost use Rattle.std.specs.Prelude.{◌≡◌, ◌<◌, List, length, map, vec_l
 ghost use Rattle.buslink.specs.BusLog.{BusLog};
 ghost use Rattle.buslink.specs.ClockLog.{ClockLog};
 ghost use Rattle.plantevents.specs.Plants.{Plant as Planted};
-ghost use Rattle.workers.specs.Closings.{IsClosed, HasNothingLeft};
+ghost use Rattle.finishing.specs.Finishing.{IsQuiet};
+ghost use Rattle.workers.specs.Closings.{IsClosed};
 ghost use Rattle.workers.specs.declared.ended.Ended.TheVariants.{Asked};
 
 use crate::closed::Closed;
@@ -26,8 +27,11 @@ pub(crate) fn leave<B: Bus, C: Clock, G: Gate>(
     requires count { vec_len closed.buses ≡ closed.plant.plant.plan.buses }
     ensures closed { (p : Planted) (logs : List BusLog) (first : ClockLog)
         → IsClosed p logs first B.log C.log closed → IsClosed p logs first B.log C.log result }
-    ensures left { result.ended ≡ Asked
-        → HasNothingLeft result.plant (map B.log result.buses.items) }
+    ensures left { (p : Planted) (logs : List BusLog) (first : ClockLog)
+        → IsClosed p logs first B.log C.log closed → result.ended ≡ Asked
+        → IsQuiet result.plant logs (map B.log result.buses.items) }
+    ensures clock { result.clock ≡ closed.clock }
+    ensures asked { result.ended ≡ Asked → closed.ended ≡ Asked }
     ensures count { length result.buses.items ≡ vec_len closed.buses }
 {
     let Closed {

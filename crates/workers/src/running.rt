@@ -3,7 +3,9 @@
 ghost use Rattle.std.specs.Prelude.{◌≡◌, ◌≤◌, [], length, map, vec_len, IfOk, IfErr, OnOk};
 ghost use Rattle.plant.specs.declared.open_fault.OpenFault.TheVariants.{Memory};
 ghost use Rattle.plant.specs.Shown.{IsWorkerCount, IsLimit, plant_of};
-ghost use Rattle.workers.specs.Closings.{IsClosed, HasNothingLeft};
+ghost use Rattle.turns.specs.Logs.{HasEnded};
+ghost use Rattle.finishing.specs.Finishing.{IsQuiet};
+ghost use Rattle.workers.specs.Closings.{IsClosed};
 ghost use Rattle.workers.specs.Starts.{AreCounts, IsStartFault};
 ghost use Rattle.workers.specs.declared.ended.Ended.TheVariants.{Asked};
 
@@ -11,9 +13,9 @@ use crate::beginning::{Begun, begin};
 use crate::closed::{Closed, NotStarted};
 use crate::closing::close;
 use crate::crew::Floor;
-use crate::ended::{End, Ended};
+use crate::ended::End;
 use crate::leaving::leave;
-use crate::working::{Crew, work};
+use crate::working::{Crew, Worked, work};
 use buslink::{Bus, Clock};
 use ilsetup::Setup;
 use plant::{OpenFault, Plant};
@@ -72,7 +74,8 @@ fn run_named<
     requires buses { (vec_len lines ≡ J.start.plant.plan.buses) × (vec_len lines ≤ 64) }
     ensures closed { IfOk result (IsClosed J.start.plant J.buses J.clock B.log C.log) }
     ensures left { IfOk result (λ c. c.ended ≡ Asked
-        → HasNothingLeft c.plant (map B.log c.buses.items)) }
+        → IsQuiet c.plant J.buses (map B.log c.buses.items)) }
+    ensures asked { IfOk result (λ c. c.ended ≡ Asked → HasEnded J.clock (C.log c.clock)) }
     ensures count { IfOk result (λ c. length c.buses.items ≡ vec_len lines) }
     ensures err { IfErr result (λ e. (e.fault ≡ Memory) × (e.buses.items ≡ lines.items)
         × (e.clock ≡ clock)) }
@@ -95,8 +98,8 @@ fn run_named<
         team,
         rooms,
     };
-    let team = work(rt, crew);
-    let ended = end.told().unwrap_or(Ended::Asked);
+    let Worked { team, ended } = work(rt, crew);
+    let ended = end.cut_short().unwrap_or(ended);
     let closed = close(shared, team, bench, ended);
     Ok(leave(alloc, gate, closed))
 }
@@ -104,7 +107,8 @@ fn run_named<
 /// Runs a plant over its buses and its clock, in a thread for each scan worker and each bus, until
 /// the clock gives no moment more, the history is full, or memory or threads are wanting. Then
 /// nothing is open: the history is legal, and what went over each link since the start is what the
-/// history says. After the clock's end, what is left to be done is done here.
+/// history says. After the clock's end, what is left to be done is done here. Where the run ended so,
+/// the clock was asked in it, and each bus that isn't down was asked to hear.
 ///
 /// # Errors
 ///
@@ -122,7 +126,8 @@ pub fn run<B: Bus + Send, C: Clock + Send, G: Gate, R: Threads + Wait + Timer + 
     ensures closed { IfOk result (IsClosed (plant_of opening.setup workers) (map B.log buses.items)
         (C.log clock) B.log C.log) }
     ensures left { IfOk result (λ c. c.ended ≡ Asked
-        → HasNothingLeft c.plant (map B.log c.buses.items)) }
+        → IsQuiet c.plant (map B.log buses.items) (map B.log c.buses.items)) }
+    ensures asked { IfOk result (λ c. c.ended ≡ Asked → HasEnded (C.log clock) (C.log c.clock)) }
     ensures count { IfOk result (λ c. length c.buses.items ≡ vec_len buses) }
     ensures counts { OnOk result (AreCounts opening.setup workers (vec_len buses)) }
     ensures limit { OnOk result (IsLimit opening.limit) }

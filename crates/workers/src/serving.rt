@@ -1,6 +1,8 @@
 //! The loops of the workers, until the end is told.
 
-ghost use Rattle.turns.specs.Logs.{IsServed, IsTimed, IsWorker, log_of};
+ghost use Rattle.std.specs.Prelude.{◌≡◌};
+ghost use Rattle.turns.specs.Logs.{HasEnded, IsServed, IsTimed, IsWorker, log_of};
+ghost use Rattle.workers.specs.declared.ended.Ended.TheVariants.{Asked};
 
 use crate::ended::{End, Ended};
 use buslink::{Bus, Clock};
@@ -78,29 +80,32 @@ pub fn serve_tasks<'a, J: Basis, T: Seated, K: Tallies<T>, G: Gate, R: Wait + Ti
     unreachable!()
 }
 
-/// Asks the clock until it gives no moment more, and tells the end.
+/// Asks the clock until it gives no moment more, tells the end and answers why. Where another worker
+/// told an end, that is why. Where it answers `Asked`, the clock was asked here and came to its end.
 pub fn serve_clock<'a, C: Clock, J: Basis + Links, T: Seated, K: Tallies<T>, R: Wait + Timer>(
     rt: &R,
     shared: &Shared<'a, J, T, K>,
     end: &End,
     timed: &mut Timed<'a, C, J, T>,
-)
+) -> Ended
     requires timed { IsTimed J.clock timed.old.share (C.log timed.old.clock) }
     ensures timed { IsTimed J.clock timed.new.share (C.log timed.new.clock) }
+    ensures asked { result ≡ Asked → HasEnded J.clock (C.log timed.new.clock) }
 {
     for _ in rt.forever() {
-        if end.is_told() {
-            return;
+        if let Some(ended) = end.cut_short() {
+            return ended;
         }
         match tick_once(rt, shared, timed) {
             Ok(true) => pause(rt),
             Ok(false) => {
                 end.tell(rt, Ended::Asked);
-                return;
+                return Ended::Asked;
             }
             Err(error) => {
-                end.tell(rt, Ended::from(error));
-                return;
+                let ended = Ended::from(error);
+                end.tell(rt, ended);
+                return ended;
             }
         }
     }

@@ -1,11 +1,14 @@
 //! All workers, until the end is told.
 
-ghost use Rattle.std.specs.Prelude.{IfOk};
+ghost use Rattle.std.specs.Prelude.{◌≡◌, IfOk};
+ghost use Rattle.turns.specs.Logs.{HasEnded};
 ghost use Rattle.workers.specs.Crews.{IsCrew, HasRooms};
 ghost use Rattle.workers.specs.Teams.{IsTeam, HasSameCounts};
+ghost use Rattle.workers.specs.declared.ended.Ended.TheVariants.{Asked};
 
 use crate::bus_threads::StartedBus;
 use crate::crew::{Floor, finish_buses, finish_workers, start_buses, start_workers};
+use crate::ended::Ended;
 use crate::scan_threads::StartedScans;
 use crate::serving::serve_clock;
 use crate::team::Team;
@@ -42,6 +45,13 @@ pub(crate) struct Crew<
     pub floor: Floor<'s, 'a, J, T, K, G>,
     pub team: Team<'a, B, C, J, T>,
     pub rooms: Rooms<'a, B, J, T>,
+}
+
+/// A team that has worked, and why the worker of the clock ended.
+#[derive(Drop)]
+pub(crate) struct Worked<'a, B: Bus, C: Clock, J: Basis, T: Seated> {
+    pub team: Team<'a, B, C, J, T>,
+    pub ended: Ended,
 }
 
 impl<'a, B: Bus, J: Basis + Links, T: Seated> Rooms<'a, B, J, T> {
@@ -81,7 +91,7 @@ fn work_in<
     K: Tallies<T> + Send,
     G: Gate,
     R: Threads + Wait + Timer + Sync,
->(rt: &'t R, scope: &Scope<'t, E>, crew: Crew<'s, 'a, B, C, J, T, K, G>) -> Team<'a, B, C, J, T>
+>(rt: &'t R, scope: &Scope<'t, E>, crew: Crew<'s, 'a, B, C, J, T, K, G>) -> Worked<'a, B, C, J, T>
 where
     's: 't,
     'a: 't,
@@ -91,8 +101,9 @@ where
     K: 't,
     G: 't,
     requires crew { IsCrew J.buses J.clock B.log C.log crew }
-    ensures team { IsTeam J.buses J.clock B.log C.log result }
-    ensures same { HasSameCounts crew.entry.team result }
+    ensures team { IsTeam J.buses J.clock B.log C.log result.team }
+    ensures same { HasSameCounts crew.entry.team result.team }
+    ensures asked { result.ended ≡ Asked → HasEnded J.clock (C.log result.team.timed.clock) }
 {
     let Crew {
         floor,
@@ -101,10 +112,10 @@ where
     } = crew;
     start_workers(rt, scope, &floor, &mut team.workers, &mut rooms.workers);
     start_buses(rt, scope, &floor, &mut team.buses, &mut rooms.buses);
-    serve_clock(rt, floor.shared, floor.end, &mut team.timed);
+    let ended = serve_clock(rt, floor.shared, floor.end, &mut team.timed);
     finish_workers(rt, &mut rooms.workers, &mut team.workers);
     finish_buses(rt, &mut rooms.buses, &mut team.buses);
-    team
+    Worked { team, ended }
 }
 
 /// Lets all workers work until the end is told.
@@ -118,18 +129,21 @@ pub(crate) fn work<
     K: Tallies<T> + Send,
     G: Gate,
     R: Threads + Wait + Timer + Sync,
->(rt: &R, crew: Crew<'s, 'a, B, C, J, T, K, G>) -> Team<'a, B, C, J, T>
+>(rt: &R, crew: Crew<'s, 'a, B, C, J, T, K, G>) -> Worked<'a, B, C, J, T>
     requires crew { IsCrew J.buses J.clock B.log C.log crew }
-    ensures team { IsTeam J.buses J.clock B.log C.log result }
-    ensures same { HasSameCounts crew.entry.team result }
+    ensures team { IsTeam J.buses J.clock B.log C.log result.team }
+    ensures same { HasSameCounts crew.entry.team result.team }
+    ensures asked { result.ended ≡ Asked → HasEnded J.clock (C.log result.team.timed.clock) }
 {
     thread::scope(
         thread::scope_env(),
         rt,
         |scope|
             requires crew { IsCrew J.buses J.clock B.log C.log crew }
-            ensures team { IsTeam J.buses J.clock B.log C.log result }
-            ensures same { HasSameCounts crew.entry.team result }
+            ensures team { IsTeam J.buses J.clock B.log C.log result.team }
+            ensures same { HasSameCounts crew.entry.team result.team }
+            ensures asked { result.ended ≡ Asked
+                → HasEnded J.clock (C.log result.team.timed.clock) }
         { work_in(rt, scope, crew) },
     )
 }

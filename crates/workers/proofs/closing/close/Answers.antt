@@ -3,8 +3,8 @@ use Rattle.plantevents.specs.Legal.{AreLegal}
 use Rattle.receipts.specs.Each.{Each}
 use Rattle.receipts.specs.Receipts.{HasPart, HaveParts}
 use Rattle.finishing.specs.Finishing.{IsLinked}
-use Rattle.turns.specs.Logs.{log_of}
-use Rattle.workers.proofs.Told.{all_linked, nothing_open, timed}
+use Rattle.turns.specs.Logs.{IsNoLess, log_of}
+use Rattle.workers.proofs.Told.{all_linked, all_no_less, nothing_open, timed}
 use Rattle.workers.proofs.closing.close.Goals as goal
 
 pub returns-clause-closed : goal.returns-clause-closed
@@ -32,6 +32,9 @@ returns-clause-closed g c =
           subst (λ xs. Each (λ b line. IsLinked (log_of logs b) b h (log line)) 0 xs) (sym lines)
           (all_linked logs log h served c.requires.team.buses of_buses shows_links.sent shows_links.heard
           shows_links.downs);
+      hears =
+          subst (λ xs. Each (λ b line. IsNoLess (log_of logs b).hears (log line).hears) 0 xs) (sym lines)
+          (all_no_less logs log served c.requires.team.buses);
       clock =
           timed g.J.Links.clock (g.C.Clock.log c.args.team.timed.clock) c.args.team.timed.share h c.requires.team.timed
           (subst (λ s. HasPart s h) c.close-plant.ensures.clock parts.clock) (shows_links.given h);

@@ -1,7 +1,8 @@
-use Rattle.std.proofs.Common.{map, refl, subst, sym, ◌∙◌}
+use Rattle.std.proofs.Common.{map, refl, subst, sym, ap, arith, ◌∙◌}
+use Rattle.plant.specs.Shown.{Shown}
 use Rattle.finishing.specs.Finishing.{IsFinish}
 use Rattle.workers.specs.declared.closed.Closed.{Closed}
-use Rattle.workers.proofs.Left.{nothing_left, still_closed}
+use Rattle.workers.proofs.Left.{quiet_from_start, still_closed}
 use Rattle.workers.proofs.leaving.leave.Goals.{in-Ok, in-Err}
 use Rattle.workers.proofs.leaving.leave.Goals as goal
 
@@ -20,9 +21,12 @@ returns-clause-closed g c =
 
 pub returns-clause-left : goal.returns-clause-left
 returns-clause-left g c =
-    λ asked. elim c.match-settle.branch [
+    λ p logs first closed asked. elim c.match-settle.branch [
       | in-Ok w ↦
-          nothing_left c.settle.new.plant (map g.B.Bus.log c.args.closed.buses.items)
-          (map g.B.Bus.log c.settle.new.lines.items) w.in-Ok.ensures.quiet
+          quiet_from_start p logs first g.B.Bus.log g.C.Clock.log c.args.closed c.settle.new.plant
+          (map g.B.Bus.log c.settle.new.lines.items)
+          (let counted = c.requires.count in let long = c.args.closed.buses.ok.0 in omega (arith, counted, long))
+          (c.settle.ensures.finish.plant ∙ ap (λ (x : Shown). x.plant) c.into_plant-plant.ensures.plant) closed
+          w.in-Ok.ensures.quiet
       | in-Err w ↦ absurd (w.from-ended.ensures (sym w.ended-is ∙ asked))
     ]
