@@ -6,7 +6,7 @@ ghost use Rattle.plantevents.specs.declared.event.Event.TheVariants as event;
 ghost use Rattle.plantevents.specs.declared.role.Role.TheVariants as roles;
 ghost use Rattle.plantevents.specs.Histories.{moment as last_moment, is_down};
 ghost use Rattle.plantevents.specs.Legal.{AreLegal, IsUp};
-ghost use Rattle.plant.specs.Shown.{Shown, grown, reserving, is_reserved, is_full, opened};
+ghost use Rattle.plant.specs.Shown.{Shown, grown, kept, reserving, is_reserved, is_full, opened};
 ghost use Rattle.plant.specs.Shown.{IsWorkerCount, IsLimit, IsOpenFault};
 ghost use Rattle.plant.specs.Refusals.{GivesFirst, tick_cases, may_tick_cases, heard_cases};
 ghost use Rattle.plant.specs.Refusals.{down_cases, is_full_for};
@@ -172,9 +172,9 @@ impl Plant {
         })
     }
 
-    /// Raises the limit.
-    pub fn raise(&mut self, limit: u64)
-        requires above { self.old.limit ≤ limit }
+    /// Sets the limit, which leaves room for what happened and for what is kept for events to come.
+    pub fn set_limit(&mut self, limit: u64)
+        requires room { length self.old.history + kept self.old ≤ limit }
         requires most { limit ≤ 1000000 }
         ensures { self.new ≡ record self.old { limit = limit } }
     {

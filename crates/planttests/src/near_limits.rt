@@ -118,10 +118,10 @@ fn keeps_a_tick(plant: &mut Plant, frame: Frame24) -> bool {
 
 /// Whether a full plant has one place more where its limit is raised by one.
 fn has_room_once_raised(plant: &mut Plant) -> bool {
-    if plant.limit() > 101 {
+    if plant.limit() > 101 || plant.len() > 101 {
         return false;
     }
-    plant.raise(101);
+    plant.set_limit(101);
     ticks(plant) == 1
 }
 
