@@ -23,6 +23,7 @@ use Rattle.turns.specs.Logs.{more_failures}
 use Rattle.finishing.specs.Open.{HasNothingOpen}
 use Rattle.finishing.specs.Finishing.{IsLinked, IsAsked, HasHeard}
 use Rattle.finishing.specs.FinishSteps.{IsSameOn, IsBusStep}
+use Rattle.finishing.proofs.Handed.{has_failed}
 use Rattle.finishing.proofs.Linked.{at_own, elsewhere, same_on_then}
 
 -- ---- a call more that hears
@@ -268,3 +269,17 @@ step_sent_down b n origin t report p r s q log after spare handed now down is fa
           (down_elsewhere c b (reported b n origin t report p.history) other);
       hears = inl (ap (λ (l : BusLog). l.hears) is);
     })
+
+-- it was reported, and where it failed the bus went down
+pub step_reported : (b n : ℕ) (origin : Origin) (t : FrameList) (report : ReportParts) (p r q : Shown)
+    (log after : BusLog) (spare : ℕ) → r ≡ grown p (Hand b origin t)
+    → (report.outcome ≢ outcome.Failed → q ≡ grown r (Done b n report))
+    → (report.outcome ≡ outcome.Failed → q ≡ grown (grown r (Done b n report)) (Down b))
+    → after ≡ after_report report spare log → IsBusStep b p q log after
+step_reported b n origin t report p r q log after spare handed fine failed is =
+    ⊎_elim
+    (λ (fails : report.outcome ≡ outcome.Failed).
+    step_sent_down b n origin t report p r (grown r (Done b n report)) q log after spare handed refl (failed fails) is
+    fails)
+    (λ (other : report.outcome ≢ outcome.Failed).
+    step_sent b n origin t report p r q log after spare handed (fine other) is other) (has_failed report.outcome)

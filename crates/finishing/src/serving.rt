@@ -1,14 +1,40 @@
 //! What is sent and heard on a bus.
 
-ghost use Rattle.std.specs.Prelude.{◌<◌, IfErr};
+ghost use Rattle.std.specs.Prelude.{◌≡◌, ◌≢◌, ◌<◌, IfErr};
+ghost use Rattle.transact.specs.declared.marks.Outcome.TheVariants as outcomes;
+ghost use Rattle.plantevents.specs.declared.event.Event.TheVariants.{Done, Down};
+ghost use Rattle.plantevents.specs.Legal.{IsUp};
+ghost use Rattle.plant.specs.Matches.{IsOpenTransaction};
+ghost use Rattle.plant.specs.Shown.{grown};
 ghost use Rattle.finishing.specs.Finishing.{CannotGoOn, HasNoFrame, HasNoHandout};
 ghost use Rattle.finishing.specs.FinishSteps.{IsBusStep, Tells};
 ghost use Rattle.finishing.specs.Open.{HasNothingOpen};
 
 use buslink::{Bus, perform};
 use plant::{CallError, CallRefusal, Plant};
-use transact::{MOST_SENT, Outcome};
+use transact::{MOST_SENT, Outcome, Report};
 use turns::Gate;
+
+/// Notes the report of the transaction that a bus has open. Where the interface failed, the bus goes
+/// down.
+fn note_report(plant: &mut Plant, bus: u8, number: u64, report: Report)
+    requires open { IsOpenTransaction plant.old bus number report.transaction }
+    requires up { IsUp plant.old.plant plant.old.history bus }
+    ensures fine { report.outcome ≢ outcomes.Failed
+        → plant.new ≡ grown plant.old (Done bus number report) }
+    ensures failed { report.outcome ≡ outcomes.Failed
+        → plant.new ≡ grown (grown plant.old (Done bus number report)) (Down bus) }
+{
+    let has_failed = matches!(report.outcome(), Outcome::Failed);
+    let Ok(()) = plant.done(bus, number, report) else {
+        unreachable!()
+    };
+    if has_failed {
+        let Ok(()) = plant.down(bus) else {
+            unreachable!()
+        };
+    }
+}
 
 /// Hands a bus what is to be sent next, sends it, and notes its report. Where the interface failed,
 /// the bus goes down. Whether there was anything to send.
@@ -34,15 +60,7 @@ pub(crate) fn send_next<B: Bus, G: Gate>(
     let Ok(report) = perform(line, &handed.transaction) else {
         unreachable!()
     };
-    let outcome = report.outcome();
-    let Ok(()) = plant.done(bus, handed.number, report) else {
-        unreachable!()
-    };
-    if matches!(outcome, Outcome::Failed) {
-        let Ok(()) = plant.down(bus) else {
-            unreachable!()
-        };
-    }
+    note_report(plant, bus, handed.number, report);
     Ok(true)
 }
 
