@@ -1,7 +1,7 @@
-//! Two buses send at once, two tasks are scanned at once, and scans are made while the clock still
-//! gives moments.
+//! Two buses send at once, two tasks are scanned at once, scans are made while the clock still gives
+//! moments, and a run goes on where the clock does.
 
-use crate::watch::{WaitingClock, Watch, Watched};
+use crate::watch::{PausedClock, WaitingClock, Watch, Watched};
 use binding::Binding;
 use daliframe::BusNumber;
 use ilsetup::Setup;
@@ -13,7 +13,7 @@ use std::sync::Wait;
 use std::test::Fail;
 use std::thread::Threads;
 use std::time::Clock as Timer;
-use workers::{Closed, Ended, Opening, run};
+use workers::{Closed, Ended, Opening, run, run_again};
 
 /// A lamp on each of two buses, and one task.
 const LAMPS: &str = "PROGRAM p\nVAR x : BOOL; END_VAR\nLDN x\nST x\nEND_PROGRAM\n\
@@ -43,6 +43,8 @@ struct Row {
     holds: u64,
     /// So many began before the clock gives its next answer.
     waits: &'static [u64],
+    /// The clock comes to its end once after so many answers.
+    pause: u64,
     /// The scans of the first task.
     scans: u64,
 }
@@ -58,6 +60,7 @@ const ROWS: [Row; 3] = [
         watched: Watched::Transactions,
         holds: 2,
         waits: &[0, 2],
+        pause: 2,
         scans: 1,
     },
     Row {
@@ -70,6 +73,7 @@ const ROWS: [Row; 3] = [
         watched: Watched::Scans,
         holds: 2,
         waits: &[0, 2],
+        pause: 2,
         scans: 1,
     },
     Row {
@@ -82,9 +86,25 @@ const ROWS: [Row; 3] = [
         watched: Watched::Scans,
         holds: 0,
         waits: &[0, 1, 2, 3],
+        pause: 3,
         scans: 3,
     },
 ];
+
+/// A clock that comes to its end after three moments, and goes on with a fourth.
+const FOURTH: Row = Row {
+    name: "a run goes on with the clock",
+    text: LAMPS,
+    binding: "buses 2\n",
+    buses: 2,
+    scenario: "tick 0\ntick 100\ntick 200\ntick 300\n",
+    workers: 2,
+    watched: Watched::Scans,
+    holds: 0,
+    waits: &[0, 1, 2, 3, 3, 4],
+    pause: 3,
+    scans: 3,
+};
 
 /// The setup of a text.
 fn setup_of(alloc: Global, row: &Row) -> Result<Setup, Fail> {
@@ -108,33 +128,82 @@ fn buses_of(alloc: Global, scenario: &Scenario, count: u8) -> Result<Vec<SimBus>
     Ok(buses)
 }
 
-/// What a run of a row leaves.
-fn run_row<'w, 'r, R: Threads + Wait + Timer + Sync>(
-    rt: &R,
+/// The links of a row.
+#[derive(Drop)]
+struct Linked<'w, 'r, R> {
+    buses: Vec<SimBus>,
+    clock: WaitingClock<'w, 'r, R>,
+}
+
+/// The links of a row, over which nothing went.
+fn link<'w, 'r, R: Timer>(
     alloc: Global,
     watch: &'w Watch<'r, R>,
     row: &Row,
-) -> Result<Closed<SimBus, WaitingClock<'w, 'r, R>>, Fail> {
-    let setup = setup_of(alloc, row)?;
+) -> Result<Linked<'w, 'r, R>, Fail> {
     let Ok(scenario) = parse(alloc, row.scenario.as_bytes()) else {
         return Err(Fail::new("the scenario is refused"));
     };
     let buses = buses_of(alloc, &scenario, row.buses)?;
-    let clock = WaitingClock::new(ScriptedClock::of(alloc, &scenario)?, watch, row.waits);
-    let opening = Opening { setup, limit: 1000 };
-    match run(rt, alloc, opening, buses, clock, row.workers, watch) {
-        Ok(left) => Ok(left),
-        Err(_) => Err(Fail::new("the run doesn't start")),
-    }
+    let clock = PausedClock::new(ScriptedClock::of(alloc, &scenario)?, row.pause);
+    let clock = WaitingClock::new(clock, watch, row.waits);
+    Ok(Linked { buses, clock })
+}
+
+/// Whether the first task was scanned so often, and the clock came to its end.
+fn has_scanned<'w, 'r, R: Timer>(
+    left: &Closed<SimBus, WaitingClock<'w, 'r, R>>,
+    scans: u64,
+) -> bool {
+    let plant = left.plant.as_plant();
+    left.ended == Ended::Asked && 0 < plant.setup().plan().tasks() && plant.scans(0) == scans
 }
 
 /// Whether nobody waited in vain, the clock came to its end, and the scans were made.
 fn holds<R: Threads + Wait + Timer + Sync>(rt: &R, alloc: Global, row: &Row) -> Result<bool, Fail> {
     let watch = Watch::new(rt, row.watched, row.holds);
-    let left = run_row(rt, alloc, &watch, row)?;
-    let plant = left.plant.as_plant();
-    let has_scanned = 0 < plant.setup().plan().tasks() && plant.scans(0) == row.scans;
-    Ok(watch.is_kept() && left.ended == Ended::Asked && has_scanned)
+    let Linked { buses, clock } = link(alloc, &watch, row)?;
+    let setup = setup_of(alloc, row)?;
+    let opening = Opening { setup, limit: 1000 };
+    let Ok(left) = run(rt, alloc, opening, buses, clock, row.workers, &watch) else {
+        return Err(Fail::new("the run doesn't start"));
+    };
+    Ok(watch.is_kept() && has_scanned(&left, row.scans))
+}
+
+/// Whether a run goes on where its clock does and makes a scan more, under the limit of before; under
+/// one less it is refused, and what was left comes back.
+fn goes_on<R: Threads + Wait + Timer + Sync>(
+    rt: &R,
+    alloc: Global,
+    row: &Row,
+) -> Result<bool, Fail> {
+    let watch = Watch::new(rt, row.watched, row.holds);
+    let Linked { buses, clock } = link(alloc, &watch, row)?;
+    let setup = setup_of(alloc, row)?;
+    let opening = Opening { setup, limit: 1000 };
+    let Ok(left) = run(rt, alloc, opening, buses, clock, row.workers, &watch) else {
+        return Err(Fail::new("the run doesn't start"));
+    };
+    if !has_scanned(&left, row.scans) {
+        return Ok(false);
+    }
+    let before = left.plant.as_plant().len();
+    let Err(refused) = run_again(rt, alloc, left, 999, &watch) else {
+        return Ok(false);
+    };
+    let Ok(more) = run_again(rt, alloc, refused.closed, 1000, &watch) else {
+        return Err(Fail::new("the run doesn't go on"));
+    };
+    let has_grown = before < more.plant.as_plant().len();
+    Ok(watch.is_kept() && has_grown && has_scanned(&more, row.scans.saturating_add(1)))
+}
+
+#[test]
+fn a_run_goes_on(rt: HostRuntime) -> Result<(), Fail> {
+    let is_so = goes_on(&rt, rt.alloc(), &FOURTH)?;
+    assert!(rt; is_so, "{}", FOURTH.name);
+    Ok(())
 }
 
 #[test]

@@ -1,4 +1,5 @@
-//! A gate that counts what begins and holds it back, and a clock that waits for the count.
+//! A gate that counts what begins and holds it back, and a clock that waits for the count and comes
+//! to its end twice.
 
 use buslink::Clock;
 use simbus::ScriptedClock;
@@ -77,10 +78,52 @@ impl<'r, R: Timer + Sync> Gate for Watch<'r, R> {
     }
 }
 
-/// The clock of a scenario, each of whose answers waits until so many began.
+/// The clock of a scenario that comes to its end at one of its answers, and then goes on.
+#[derive(Drop)]
+pub struct PausedClock {
+    clock: ScriptedClock,
+    /// It gives no moment after so many answers.
+    pause: u64,
+    asks: u64,
+    gave_none: bool,
+}
+
+impl PausedClock {
+    /// The clock, which was not asked yet.
+    pub fn new(clock: ScriptedClock, pause: u64) -> PausedClock {
+        PausedClock {
+            clock,
+            pause,
+            asks: 0,
+            gave_none: false,
+        }
+    }
+}
+
+impl Clock for PausedClock {
+    ghost log = { λ c. record {
+      given = c.clock.log.given;
+      asks = c.asks;
+      gave_none = c.gave_none;
+    } };
+
+    fn now(&mut self) -> Option<u64> {
+        let answers = self.asks;
+        self.asks = self.asks.saturating_add(1);
+        if answers == self.pause {
+            self.gave_none = true;
+            return None;
+        }
+        let moment = self.clock.now();
+        self.gave_none = moment.is_none();
+        moment
+    }
+}
+
+/// Such a clock, each of whose answers waits until so many began.
 #[derive(Drop)]
 pub struct WaitingClock<'w, 'r, R> {
-    clock: ScriptedClock,
+    clock: PausedClock,
     watch: &'w Watch<'r, R>,
     waits: &'static [u64],
     answers: usize,
@@ -88,7 +131,7 @@ pub struct WaitingClock<'w, 'r, R> {
 
 impl<'w, 'r, R: Timer> WaitingClock<'w, 'r, R> {
     /// The clock, which was not asked yet. Its answer of the number `k` waits for `waits[k]`.
-    pub fn new(clock: ScriptedClock, watch: &'w Watch<'r, R>, waits: &'static [u64]) -> Self {
+    pub fn new(clock: PausedClock, watch: &'w Watch<'r, R>, waits: &'static [u64]) -> Self {
         WaitingClock {
             clock,
             watch,
@@ -99,7 +142,11 @@ impl<'w, 'r, R: Timer> WaitingClock<'w, 'r, R> {
 }
 
 impl<'w, 'r, R: Timer> Clock for WaitingClock<'w, 'r, R> {
-    ghost log = { λ c. c.clock.log };
+    ghost log = { λ c. record {
+      given = c.clock.clock.log.given;
+      asks = c.clock.asks;
+      gave_none = c.clock.gave_none;
+    } };
 
     fn now(&mut self) -> Option<u64> {
         if let Some(count) = self.waits.get(self.answers) {

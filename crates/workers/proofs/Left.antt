@@ -1,6 +1,6 @@
 -- What is left is done, and the run stays closed.
 use Rattle.std.proofs.Common.{◌≡◌, ℕ, zero, suc, ◌+◌, ◌<◌, List, [], ◌∷◌, ◌++◌, map, length, refl, sym, ap, ◌∙◌}
-use Rattle.std.proofs.Common.{subst, arith, inl, inr, Some}
+use Rattle.std.proofs.Common.{subst, arith, inl, inr, Some, true}
 use Rattle.std.proofs.lemmas.List.{length-map}
 use Rattle.std.proofs.lemmas.Option.{slice_get_within}
 use Rattle.std.specs.Prelude.{slice_get}
@@ -8,11 +8,13 @@ use Rattle.buslink.specs.BusLog.{BusLog}
 use Rattle.buslink.specs.ClockLog.{ClockLog}
 use Rattle.plantevents.specs.Legal.{AreLegal}
 use Rattle.plantevents.specs.Plants.{Plant}
-use Rattle.plant.specs.Shown.{Shown}
+use Rattle.plant.specs.declared.refusal.CallError.{CallError}
+use Rattle.plant.specs.declared.refusal.CallError.TheVariants.{Memory, Refused}
+use Rattle.plant.specs.Shown.{Shown, is_full}
 use Rattle.receipts.specs.Each.{Each}
 use Rattle.turns.specs.Logs.{IsNoLess, log_of}
 use Rattle.turns.proofs.Counts.{grown_since, no_less_since}
-use Rattle.finishing.specs.Finishing.{HasHeard, HasNoFrame, IsFinish, IsLinked, IsQuiet}
+use Rattle.finishing.specs.Finishing.{CannotGoOn, HasHeard, HasNoFrame, IsFinish, IsLinked, IsQuiet}
 use Rattle.finishing.proofs.Turned.{log_stands}
 use Rattle.workers.specs.Closings.{IsClosed}
 use Rattle.workers.specs.declared.closed.Closed.{Closed}
@@ -21,7 +23,7 @@ use Rattle.workers.proofs.Told.{there}
 
 -- ---- what is so of each of a list, and of each that a function makes of it
 
-made : {X Y : Type 0} (f : X → Y) (xs : List X) (k : ℕ) (x : X) → slice_get xs k ≡ Some x
+pub made : {X Y : Type 0} (f : X → Y) (xs : List X) (k : ℕ) (x : X) → slice_get xs k ≡ Some x
     → slice_get (map f xs) k ≡ Some (f x)
 made f [] k x is = absurd (cc)
 made f (y ∷ ys) zero x is =
@@ -126,3 +128,8 @@ quiet_from_start p logs first bus_log clock_log old q after count same closed qu
           frame_from q b (log_of logs b) (log_of (map bus_log old.buses.items) b) (log_of after b)
           (no_less_at logs bus_log old.buses.items closed.hears b inside) (quiet.heard b known);
     }
+
+-- where it can't go on, and not for want of memory, the history is full
+pub is_full_at : (q : Shown) (error : CallError) → CannotGoOn q error → ¬ (error ≡ Memory) → is_full q ≡ true
+is_full_at q Memory stops other = absurd (other refl)
+is_full_at q (Refused refusal) stops other = stops.1

@@ -1,3 +1,6 @@
+mod Earlier
+mod Following
+mod GoneOn
 mod Left
 pub mod Lists
 pub mod Parting

@@ -9,10 +9,6 @@ pub stands : {X : Type 0} → (xs : List X) (place : ℕ) (x : X) → place < le
     → slice_get xs place ≡ Some x
 stands xs place x inside read = slice_get-get_or xs place x inside ∙ ap Some (sym read)
 
-pub each_so : {X : Type 0} (P Q : ℕ → X → Type 0) → ((k : ℕ) (x : X) → P k x → Q k x) → (n : ℕ) (xs : List X)
-    → Each P n xs → Each Q n xs
-each_so P Q so n xs all k x is = so (n + k) x (all k x is)
-
 set_get : {X : Type 0} (P : ℕ → X → Type 0) (n : ℕ) (xs : List X) (place : ℕ) (y : X) (k : ℕ) (x : X) → Each P n xs
     → P (n + place) y → slice_get (slice_set xs place y) k ≡ Some x → P (n + k) x
 set_get P n [] place y k x all new is = absurd (cc)

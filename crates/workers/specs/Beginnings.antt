@@ -1,11 +1,24 @@
 -- What a run begins with.
-use Rattle.std.specs.Prelude.{◌≡◌, ◌≤◌, List, [], length, vec_capacity}
+use Rattle.std.specs.Prelude.{◌≡◌, ◌≤◌, List, [], ◌++◌, length, vec_capacity}
 use Rattle.buslink.specs.BusLog.{BusLog}
 use Rattle.buslink.specs.ClockLog.{ClockLog}
+use Rattle.plantevents.specs.Histories.{given_in}
 use Rattle.plantevents.specs.Plants.{Plant}
+use Rattle.plant.specs.Shown.{Shown}
+use Rattle.receipts.specs.Each.{Each}
+use Rattle.turns.specs.Logs.{IsNoLess, log_of}
+use Rattle.finishing.specs.Finishing.{IsLinked}
 use Rattle.workers.specs.declared.beginning.Begun.{Begun}
 use Rattle.workers.specs.Crews.{HasRooms}
 use Rattle.workers.specs.Teams.{IsTeam}
+
+-- since these logs each bus and the clock gave and took what the history at the start says
+pub record IsInStep {B C : Type 0} (start : Shown) (logs : List BusLog) (first : ClockLog) (bus_log : B → BusLog)
+    (clock_log : C → ClockLog) (lines : List B) (clock : C) : Type 0 where
+  pub buses : Each (λ b line. IsLinked (log_of logs b) b start.history (bus_log line)) 0 lines
+  pub hears : Each (λ b line. IsNoLess (log_of logs b).hears (bus_log line).hears) 0 lines
+  pub given : (clock_log clock).given ≡ first.given ++ given_in start.history
+  pub asks : IsNoLess first.asks (clock_log clock).asks
 
 -- a team for each scan worker and bus of the plant, with room for their threads and for the end
 pub record IsBegun {B C J N : Type 0} (p : Plant) (logs : List BusLog) (first : ClockLog) (bus_log : B → BusLog)

@@ -1,5 +1,6 @@
 -- When a run starts.
-use Rattle.std.specs.Prelude.{◌≡◌, ℕ}
+use Rattle.std.specs.Prelude.{◌≡◌, ℕ, ◌≤◌}
+use Rattle.limits.specs.Limits.{most_events}
 use Rattle.ilsetup.specs.Loaded.{Loaded}
 use Rattle.plant.specs.declared.open_fault.OpenFault.{OpenFault}
 use Rattle.plant.specs.declared.open_fault.OpenFault.TheVariants.{Memory, BadCount, Limit}
@@ -14,3 +15,13 @@ abbrev pub IsStartFault : Loaded → ℕ → ℕ → ℕ → OpenFault → Type 
 IsStartFault setup workers buses limit BadCount = ¬ AreCounts setup workers buses
 IsStartFault setup workers buses limit Limit = AreCounts setup workers buses × (¬ IsLimit limit)
 IsStartFault setup workers buses limit Memory = AreCounts setup workers buses × IsLimit limit
+
+-- a limit with which a run may go on that had this one
+abbrev pub IsNextLimit : ℕ → ℕ → Type 0
+IsNextLimit before limit = (before ≤ limit) × (limit ≤ most_events)
+
+-- why a run doesn't go on: the limit; else the allocator may be out of memory. The counts are those of before
+abbrev pub IsAgainFault : ℕ → ℕ → OpenFault → Type 0
+IsAgainFault before limit BadCount = ⊥
+IsAgainFault before limit Limit = ¬ IsNextLimit before limit
+IsAgainFault before limit Memory = IsNextLimit before limit

@@ -1,20 +1,20 @@
 //! The lock, the links with their Shares, and the rooms, before the first thread begins.
 
 ghost use Rattle.std.specs.Prelude.{◌≡◌, ◌≤◌, [], length, map, vec_len, vec_capacity, IfOk, IfErr};
-ghost use Rattle.plant.specs.declared.open_fault.OpenFault.TheVariants.{Memory};
+ghost use Rattle.finishing.specs.Open.{HasNothingOpen};
 ghost use Rattle.plant.specs.Shown.{IsWorkerCount};
 ghost use Rattle.std.specs.List.{range_with_len};
 ghost use Rattle.seats.specs.Openings.{fresh};
-ghost use Rattle.workers.specs.Beginnings.{IsBegun};
+ghost use Rattle.workers.specs.Beginnings.{IsBegun, IsInStep};
 ghost use Rattle.workers.specs.Crews.{HasRooms};
 
-use crate::closed::NotStarted;
 use crate::closing::Bench;
 use crate::pairing::put_together;
 use crate::team::Team;
 use crate::working::Rooms;
 use buslink::{Bus, Clock};
-use plant::{OpenFault, Plant};
+use plant::Plant;
+use plantevents::{what_a_part_shows, what_a_part_shows_of_links};
 use plantlock::{Basis, NotedPart, Shared, Shares};
 use seats::{Blanks, Books, Names, Tie};
 use std::alloc::{AllocError, Global};
@@ -28,6 +28,14 @@ pub(crate) struct Begun<'a, B: Bus, C: Clock, J: Basis + Links, N: Names> {
     pub team: Team<'a, B, C, J, Tie<N>>,
     pub bench: Bench<'a, B, J, Tie<N>>,
     pub rooms: Rooms<'a, B, J, Tie<N>>,
+}
+
+/// What didn't begin, as it was.
+#[derive(Drop)]
+pub(crate) struct NotBegun<B: Bus, C: Clock> {
+    pub plant: Plant,
+    pub lines: Vec<B>,
+    pub clock: C,
 }
 
 /// An empty list with room for so many.
@@ -73,11 +81,12 @@ fn furnish<'a, B: Bus, J: Basis + Links, N: Names>(
     })
 }
 
-/// The lock round the plant, and the team of its Shares.
+/// The lock round the plant, and the team of its Shares. What became of the links goes with the
+/// plant's history, in which nothing is open.
 ///
 /// # Errors
 ///
-/// The allocator is out of memory. The buses and the clock come back.
+/// The allocator is out of memory. All comes back as it was.
 pub(crate) fn begin<'a, B: Bus, C: Clock, J: Basis + Links, N: Names>(
     alloc: Global,
     plant: Plant,
@@ -85,23 +94,25 @@ pub(crate) fn begin<'a, B: Bus, C: Clock, J: Basis + Links, N: Names>(
     blanks: Blanks,
     lines: Vec<B>,
     clock: C,
-) -> Result<Begun<'a, B, C, J, N>, NotStarted<B, C>>
-    requires start { (plant ≡ J.start) × (J.start.history ≡ []) }
+) -> Result<Begun<'a, B, C, J, N>, NotBegun<B, C>>
+    requires start { plant ≡ J.start }
+    requires idle { HasNothingOpen J.start }
     requires cells { (cells.now ≡ J.cells) × (J.start.limit ≤ length J.cells) }
     requires names { blanks ≡ N.names }
-    requires links { (J.buses ≡ map B.log lines.items) × (J.clock ≡ C.log clock) }
+    requires links { IsInStep J.start J.buses J.clock B.log C.log lines.items clock }
     requires workers { IsWorkerCount J.start.plant.workers }
     requires buses { (vec_len lines ≡ J.start.plant.plan.buses) × (vec_len lines ≤ 64) }
     ensures begun { IfOk result (IsBegun J.start.plant J.buses J.clock B.log C.log) }
-    ensures err { IfErr result (λ e. (e.fault ≡ Memory) × (e.buses.items ≡ lines.items)
-        × (e.clock ≡ clock)) }
+    ensures err { IfErr result (λ e. (e.plant ≡ plant) × (e.lines ≡ lines) × (e.clock ≡ clock)) }
 {
+    what_a_part_shows();
+    what_a_part_shows_of_links();
     let mut lines = lines;
     let count = lines.len();
     let Ok(made) = furnish::<B, J, N>(alloc, blanks, count, plant.workers()) else {
-        return Err(NotStarted {
-            fault: OpenFault::Memory,
-            buses: lines,
+        return Err(NotBegun {
+            plant,
+            lines,
             clock,
         });
     };
@@ -111,12 +122,15 @@ pub(crate) fn begin<'a, B: Bus, C: Clock, J: Basis + Links, N: Names>(
         books,
         ties,
     } = made;
-    let Ok((shared, shares)) = Shared::new(alloc, plant, cells, books, ties) else {
-        return Err(NotStarted {
-            fault: OpenFault::Memory,
-            buses: lines,
-            clock,
-        });
+    let (shared, shares) = match Shared::new(alloc, plant, cells, books, ties) {
+        Ok(made) => made,
+        Err(plant) => {
+            return Err(NotBegun {
+                plant,
+                lines,
+                clock,
+            });
+        }
     };
     let Shares {
         workers,

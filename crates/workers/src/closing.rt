@@ -1,8 +1,11 @@
 //! The end of a run: the lock is opened for good.
 
-ghost use Rattle.std.specs.Prelude.{◌≡◌, ◌≤◌, [], length, vec_len, vec_capacity};
+ghost use Rattle.std.specs.Prelude.{◌≡◌, ◌≤◌, [], true, length, vec_len, vec_capacity};
+ghost use Rattle.plant.specs.Shown.{is_full};
+ghost use Rattle.plantlock.specs.Tied.{IsFront};
 ghost use Rattle.workers.specs.Closings.{IsClosed};
 ghost use Rattle.workers.specs.Teams.{IsTeam};
+ghost use Rattle.workers.specs.declared.ended.Ended.TheVariants.{Asked, Limit};
 
 use crate::closed::Closed;
 use crate::closed_plant::ClosedPlant;
@@ -10,6 +13,7 @@ use crate::ended::Ended;
 use crate::pairing::take_apart;
 use crate::team::Team;
 use buslink::{Bus, Clock};
+use plant::Plant;
 use plantevents::{what_a_part_shows, what_a_part_shows_of_links};
 use plantlock::{Basis, Final, Share, Shared, Shares};
 use seats::{Seated, Tallies};
@@ -20,6 +24,20 @@ use turns::{Links, Timed};
 pub(crate) struct Bench<'a, B: Bus, J: Basis, T: Seated> {
     pub lines: Vec<B>,
     pub shares: Vec<Share<'a, J, T>>,
+}
+
+/// Why a run ended, where this was told. That the history is full is looked up, since the cell in
+/// which the end is told proves nothing: it is, since a worker was refused a place and fullness
+/// never stops, so the other answer never comes.
+fn as_shown(plant: &Plant, told: Ended) -> Ended
+    ensures asked { result ≡ Asked → told ≡ Asked }
+    ensures full { result ≡ Limit → is_full plant.now ≡ true }
+    ensures told { (told ≡ Limit → is_full plant.now ≡ true) → result ≡ told }
+{
+    if matches!(told, Ended::Limit) && !plant.is_full() {
+        return Ended::NoMemory;
+    }
+    told
 }
 
 /// Opens the lock for good. What went over each link is what the plant's history says.
@@ -38,7 +56,11 @@ pub(crate) fn close<'a, B: Bus, C: Clock, J: Basis + Links, T: Seated, K: Tallie
     ensures closed { IsClosed J.start.plant J.buses J.clock B.log C.log result }
     ensures count { length result.buses.items ≡ length team.entry.buses.items }
     ensures clock { result.clock ≡ team.entry.timed.clock }
-    ensures ended { result.ended ≡ ended }
+    ensures front { IsFront J.start.history result.plant.history }
+    ensures limit { result.plant.limit ≡ J.start.limit }
+    ensures asked { result.ended ≡ Asked → ended ≡ Asked }
+    ensures full { result.ended ≡ Limit → is_full result.plant ≡ true }
+    ensures told { (ended ≡ Limit → is_full result.plant ≡ true) → result.ended ≡ ended }
 {
     what_a_part_shows();
     what_a_part_shows_of_links();
@@ -58,6 +80,7 @@ pub(crate) fn close<'a, B: Bus, C: Clock, J: Basis + Links, T: Seated, K: Tallie
         buses: shares,
         clock: share,
     });
+    let ended = as_shown(&plant, ended);
     Closed {
         plant: ClosedPlant { plant },
         buses: lines,

@@ -18,9 +18,10 @@ pub enum Ended {
 
 impl From<CallError> for Ended {
     ghost use Rattle.std.specs.Prelude.{◌≡◌};
-    ghost use Rattle.workers.specs.declared.ended.Ended.TheVariants.{Asked};
+    ghost use Rattle.plant.specs.declared.refusal.CallError.TheVariants.{Memory};
+    ghost use Rattle.workers.specs.declared.ended.Ended.TheVariants.{Asked, Limit};
 
-    ghost from_gives = { λ _ ended. ¬ (ended ≡ Asked) };
+    ghost from_gives = { λ error ended. (¬ (ended ≡ Asked)) × (ended ≡ Limit → ¬ (error ≡ Memory)) };
 
     /// A worker is refused for want of memory, or of places in the history.
     fn from(error: CallError) -> Self {

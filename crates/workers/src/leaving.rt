@@ -1,12 +1,14 @@
 //! What is left after the clock came to its end, done on the caller's thread.
 
-ghost use Rattle.std.specs.Prelude.{◌≡◌, ◌<◌, List, length, map, vec_len};
+ghost use Rattle.std.specs.Prelude.{◌≡◌, ◌<◌, List, true, length, map, vec_len};
 ghost use Rattle.buslink.specs.BusLog.{BusLog};
 ghost use Rattle.buslink.specs.ClockLog.{ClockLog};
 ghost use Rattle.plantevents.specs.Plants.{Plant as Planted};
+ghost use Rattle.plant.specs.Shown.{is_full};
+ghost use Rattle.plantlock.specs.Tied.{IsFront};
 ghost use Rattle.finishing.specs.Finishing.{IsQuiet};
 ghost use Rattle.workers.specs.Closings.{IsClosed};
-ghost use Rattle.workers.specs.declared.ended.Ended.TheVariants.{Asked};
+ghost use Rattle.workers.specs.declared.ended.Ended.TheVariants.{Asked, Limit};
 
 use crate::closed::Closed;
 use crate::closed_plant::ClosedPlant;
@@ -32,6 +34,10 @@ pub(crate) fn leave<B: Bus, C: Clock, G: Gate>(
         → IsQuiet result.plant logs (map B.log result.buses.items) }
     ensures clock { result.clock ≡ closed.clock }
     ensures asked { result.ended ≡ Asked → closed.ended ≡ Asked }
+    ensures front { IsFront closed.plant.history result.plant.history }
+    ensures limit { result.plant.limit ≡ closed.plant.limit }
+    ensures full { (closed.ended ≡ Limit → is_full closed.plant ≡ true) → result.ended ≡ Limit
+        → is_full result.plant ≡ true }
     ensures count { length result.buses.items ≡ vec_len closed.buses }
 {
     let Closed {

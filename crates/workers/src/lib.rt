@@ -3,14 +3,16 @@
 //! What crosses the boundary: [`run`] opens a plant on buses and a clock, lets a thread work for each
 //! scan worker and each bus until the end is told, and opens the lock for good. A [`Closed`] is what
 //! it leaves: the plant with its history, in which nothing is open, the buses, the clock, and why the
-//! run ended. The definition to read first is `IsClosed` (specs/Closings.antt).
+//! run ended. [`run_again`] goes on from it. The definitions to read first are `IsClosed` and
+//! `HasGoneOn` (specs/Closings.antt).
 //!
 //! ```text
 //! let left = run(rt, alloc, Opening { setup, limit }, buses, clock, 2, &OpenGate)?;
-//! let events = left.plant.as_plant().len();
+//! let more = run_again(rt, alloc, left, limit, &OpenGate)?; // its history goes on
 //! ```
 #![tactic(auto)]
 
+mod again;
 mod beginning;
 mod bus_threads;
 mod closed;
@@ -26,7 +28,8 @@ mod serving;
 mod team;
 mod working;
 
-pub use closed::{Closed, NotStarted};
+pub use again::run_again;
+pub use closed::{Closed, NotGoneOn, NotStarted};
 pub use closed_plant::ClosedPlant;
 pub use ended::Ended;
 pub use running::{Opening, run};

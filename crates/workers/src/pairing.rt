@@ -2,7 +2,9 @@
 
 ghost use Rattle.std.specs.Prelude.{◌≡◌, ◌≤◌, [], length, map, vec_len, vec_capacity};
 ghost use Rattle.plantevents.specs.declared.role.Role.TheVariants as roles;
-ghost use Rattle.receipts.specs.Receipts.{AreFresh};
+ghost use Rattle.receipts.specs.Each.{Each};
+ghost use Rattle.receipts.specs.Receipts.{ShareParts, AreFresh, IsFresh};
+ghost use Rattle.turns.specs.Logs.{IsServed, log_of};
 ghost use Rattle.workers.specs.Teams.{AreServed};
 
 use buslink::Bus;
@@ -16,8 +18,9 @@ pub(crate) fn put_together<'a, B: Bus, J: Basis + Links, T: Seated>(
     shares: &mut Vec<Share<'a, J, T>>,
     served: &mut Vec<Served<'a, B, J, T>>,
 )
-    requires empty { J.start.history ≡ [] }
-    requires logs { J.buses ≡ map B.log lines.old.items }
+    requires ready { Each (λ bus line. (share : ShareParts)
+        → IsFresh J.start (roles.Bus bus) share
+        → IsServed (log_of J.buses bus) bus share (B.log line)) 0 lines.old.items }
     requires fresh { AreFresh J.start roles.Bus (vec_len lines.old) shares.old.items }
     requires none { served.old.items ≡ [] }
     requires room { vec_len lines.old ≤ vec_capacity served.old }

@@ -1,15 +1,18 @@
 //! A run, from the plant's opening to its close.
 
-ghost use Rattle.std.specs.Prelude.{◌≡◌, ◌≤◌, [], length, map, vec_len, IfOk, IfErr, OnOk};
+ghost use Rattle.std.specs.Prelude.{◌≡◌, ◌≤◌, true, length, map, vec_len, IfOk, IfErr, OnOk};
 ghost use Rattle.plant.specs.declared.open_fault.OpenFault.TheVariants.{Memory};
-ghost use Rattle.plant.specs.Shown.{IsWorkerCount, IsLimit, plant_of};
+ghost use Rattle.plant.specs.Shown.{IsWorkerCount, IsLimit, is_full, plant_of};
+ghost use Rattle.plantlock.specs.Tied.{IsFront};
 ghost use Rattle.turns.specs.Logs.{HasEnded};
 ghost use Rattle.finishing.specs.Finishing.{IsQuiet};
-ghost use Rattle.workers.specs.Closings.{IsClosed};
+ghost use Rattle.finishing.specs.Open.{HasNothingOpen};
+ghost use Rattle.workers.specs.Beginnings.{IsInStep};
+ghost use Rattle.workers.specs.Closings.{IsClosed, IsLeft};
 ghost use Rattle.workers.specs.Starts.{AreCounts, IsStartFault};
-ghost use Rattle.workers.specs.declared.ended.Ended.TheVariants.{Asked};
+ghost use Rattle.workers.specs.declared.ended.Ended.TheVariants.{Asked, Limit};
 
-use crate::beginning::{Begun, begin};
+use crate::beginning::{Begun, NotBegun, begin};
 use crate::closed::{Closed, NotStarted};
 use crate::closing::close;
 use crate::crew::Floor;
@@ -37,7 +40,7 @@ pub struct Opening {
 }
 
 /// So many cells, none of which was written.
-fn new_cells(alloc: Global, count: u64) -> Result<Vec<OnceLock<NotedPart>>, AllocError>
+pub(crate) fn new_cells(alloc: Global, count: u64) -> Result<Vec<OnceLock<NotedPart>>, AllocError>
     ensures { IfOk result (λ cells. length cells.items ≡ count) }
 {
     let mut cells = Vec::new(alloc);
@@ -47,8 +50,8 @@ fn new_cells(alloc: Global, count: u64) -> Result<Vec<OnceLock<NotedPart>>, Allo
     Ok(cells)
 }
 
-/// A run over cells and ledgers that are new.
-fn run_named<
+/// A run over cells and ledgers that are new, from a plant in which nothing is open.
+pub(crate) fn run_named<
     'a,
     B: Bus + Send,
     C: Clock + Send,
@@ -65,20 +68,23 @@ fn run_named<
     lines: Vec<B>,
     clock: C,
     gate: &G,
-) -> Result<Closed<B, C>, NotStarted<B, C>>
-    requires start { (plant ≡ J.start) × (J.start.history ≡ []) }
+) -> Result<Closed<B, C>, NotBegun<B, C>>
+    requires start { plant ≡ J.start }
+    requires idle { HasNothingOpen J.start }
     requires cells { (cells.now ≡ J.cells) × (J.start.limit ≤ length J.cells) }
     requires names { blanks ≡ N.names }
-    requires links { (J.buses ≡ map B.log lines.items) × (J.clock ≡ C.log clock) }
+    requires links { IsInStep J.start J.buses J.clock B.log C.log lines.items clock }
     requires workers { IsWorkerCount J.start.plant.workers }
     requires buses { (vec_len lines ≡ J.start.plant.plan.buses) × (vec_len lines ≤ 64) }
     ensures closed { IfOk result (IsClosed J.start.plant J.buses J.clock B.log C.log) }
     ensures left { IfOk result (λ c. c.ended ≡ Asked
         → IsQuiet c.plant J.buses (map B.log c.buses.items)) }
     ensures asked { IfOk result (λ c. c.ended ≡ Asked → HasEnded J.clock (C.log c.clock)) }
+    ensures full { IfOk result (λ c. c.ended ≡ Limit → is_full c.plant ≡ true) }
+    ensures front { IfOk result (λ c. IsFront J.start.history c.plant.history) }
+    ensures limit { IfOk result (λ c. c.plant.limit ≡ J.start.limit) }
     ensures count { IfOk result (λ c. length c.buses.items ≡ vec_len lines) }
-    ensures err { IfErr result (λ e. (e.fault ≡ Memory) × (e.buses.items ≡ lines.items)
-        × (e.clock ≡ clock)) }
+    ensures err { IfErr result (λ e. (e.plant ≡ plant) × (e.lines ≡ lines) × (e.clock ≡ clock)) }
 {
     let begun = begin::<B, C, J, N>(alloc, plant, cells, blanks, lines, clock)?;
     let Begun {
@@ -104,11 +110,25 @@ fn run_named<
     Ok(leave(alloc, gate, closed))
 }
 
+/// A run that doesn't start for want of memory.
+fn not_started<B: Bus, C: Clock>(refused: NotBegun<B, C>) -> NotStarted<B, C>
+    ensures fault { result.fault ≡ Memory }
+    ensures links { (result.buses ≡ refused.lines) × (result.clock ≡ refused.clock) }
+{
+    let NotBegun { lines, clock, .. } = refused;
+    NotStarted {
+        fault: OpenFault::Memory,
+        buses: lines,
+        clock,
+    }
+}
+
 /// Runs a plant over its buses and its clock, in a thread for each scan worker and each bus, until
 /// the clock gives no moment more, the history is full, or memory or threads are wanting. Then
 /// nothing is open: the history is legal, and what went over each link since the start is what the
 /// history says. After the clock's end, what is left to be done is done here. Where the run ended so,
-/// the clock was asked in it, and each bus that isn't down was asked to hear.
+/// the clock was asked in it, and each bus that isn't down was asked to hear. Where the history is
+/// full, its length and the places that are kept leave none for an event and the one that it keeps.
 ///
 /// # Errors
 ///
@@ -128,6 +148,8 @@ pub fn run<B: Bus + Send, C: Clock + Send, G: Gate, R: Threads + Wait + Timer + 
     ensures left { IfOk result (λ c. c.ended ≡ Asked
         → IsQuiet c.plant (map B.log buses.items) (map B.log c.buses.items)) }
     ensures asked { IfOk result (λ c. c.ended ≡ Asked → HasEnded (C.log clock) (C.log c.clock)) }
+    ensures full { IfOk result (λ c. c.ended ≡ Limit → is_full c.plant ≡ true) }
+    ensures again { IfOk result (IsLeft B.log C.log) }
     ensures count { IfOk result (λ c. length c.buses.items ≡ vec_len buses) }
     ensures counts { OnOk result (AreCounts opening.setup workers (vec_len buses)) }
     ensures limit { OnOk result (IsLimit opening.limit) }
@@ -161,7 +183,7 @@ pub fn run<B: Bus + Send, C: Clock + Send, G: Gate, R: Threads + Wait + Timer + 
             clock,
         });
     };
-    run_named::<B, C, Brand, Brand, G, R>(
+    let run = run_named::<B, C, Brand, Brand, G, R>(
         rt,
         alloc,
         plant,
@@ -170,5 +192,9 @@ pub fn run<B: Bus + Send, C: Clock + Send, G: Gate, R: Threads + Wait + Timer + 
         buses,
         clock,
         gate,
-    )
+    );
+    match run {
+        Ok(left) => Ok(left),
+        Err(refused) => Err(not_started(refused)),
+    }
 }

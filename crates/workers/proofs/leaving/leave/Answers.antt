@@ -1,8 +1,8 @@
-use Rattle.std.proofs.Common.{map, refl, subst, sym, ap, arith, ◌∙◌}
+use Rattle.std.proofs.Common.{◌++◌, map, refl, subst, sym, ap, arith, ◌∙◌}
 use Rattle.plant.specs.Shown.{Shown}
 use Rattle.finishing.specs.Finishing.{IsFinish}
 use Rattle.workers.specs.declared.closed.Closed.{Closed}
-use Rattle.workers.proofs.Left.{quiet_from_start, still_closed}
+use Rattle.workers.proofs.Left.{is_full_at, quiet_from_start, still_closed}
 use Rattle.workers.proofs.leaving.leave.Goals.{in-Ok, in-Err}
 use Rattle.workers.proofs.leaving.leave.Goals as goal
 
@@ -28,5 +28,22 @@ returns-clause-left g c =
           (let counted = c.requires.count in let long = c.args.closed.buses.ok.0 in omega (arith, counted, long))
           (c.settle.ensures.finish.plant ∙ ap (λ (x : Shown). x.plant) c.into_plant-plant.ensures.plant) closed
           w.in-Ok.ensures.quiet
-      | in-Err w ↦ absurd (w.from-ended.ensures (sym w.ended-is ∙ asked))
+      | in-Err w ↦ absurd (w.from-ended.ensures.0 (sym w.ended-is ∙ asked))
+    ]
+
+pub returns-clause-front : goal.returns-clause-front
+returns-clause-front g c = record {
+  later = c.settle.ensures.finish.later;
+  is =
+      c.settle.ensures.finish.history
+      ∙ ap (λ (p : Shown). c.settle.ensures.finish.later ++ p.history) c.into_plant-plant.ensures.plant;
+}
+
+pub returns-clause-full : goal.returns-clause-full
+returns-clause-full g c =
+    λ was limit. elim c.match-settle.branch [
+      | in-Ok w ↦ absurd (cc (limit, w.ended-is))
+      | in-Err w ↦
+          is_full_at c.settle.new.plant w.in-Err.error w.in-Err.ensures.stops
+          (w.from-ended.ensures.1 (sym w.ended-is ∙ limit))
     ]

@@ -1,11 +1,10 @@
 use Rattle.std.proofs.Common.{◌≡◌, ◌+◌, ◌<◌, ◌∙◌, length, arith, refl, subst, sym, ap}
 use Rattle.plantevents.specs.declared.role.Role.TheVariants.{Bus}
 use Rattle.receipts.specs.Each.{Each}
-use Rattle.receipts.specs.Receipts.{IsFresh}
+use Rattle.receipts.specs.Receipts.{ShareParts, IsFresh}
 use Rattle.receipts.proofs.Eaching.{each_first, each_rest, each_push, each_none}
 use Rattle.turns.specs.Logs.{IsServed, log_of}
 use Rattle.workers.specs.Teams.{AreServed}
-use Rattle.workers.proofs.Parting.{fresh_served, logs_of_lines}
 use Rattle.workers.proofs.pairing.put_together.Goals as goal
 
 pub loop-bus-init : goal.loop-bus-init
@@ -14,7 +13,7 @@ loop-bus-init g c =
     let log = g.B.Bus.log in
     let lines_ok = c.args.lines.now.ok.0 in
     let shares_count = c.requires.fresh.0 in (
-      logs_of_lines log logs c.args.lines.now.items c.requires.logs,
+      c.requires.ready,
       c.requires.fresh.1,
       subst (λ zs. AreServed logs log 0 zs) (sym c.requires.none)
           (each_none (λ k s. IsServed (log_of logs k) k s.share (log s.line)) 0),
@@ -46,16 +45,17 @@ loop-bus-preserved g c =
     let share = c.remove-share.result in
     let some_line : 0 < length lines = omega (arith, fewer_lines, lines_was) in
     let some_share : 0 < length shares = omega (arith, fewer_shares, shares_was) in
-    let of_log : log line ≡ log_of logs n =
-    each_first (λ k l. log l ≡ log_of logs k) n lines line some_line inv.0 c.remove-line.ensures.value in
     let fresh : IsFresh start (Bus n) share =
     each_first (λ k s. IsFresh start (Bus k) s) n shares share some_share inv.1 c.remove-share.ensures.value in
     let mine : IsServed (log_of logs n) n share (log line) =
-    subst (λ first. IsServed first n share (log line)) of_log (fresh_served start n share (log line) c.requires.empty fresh) in
+    each_first (λ k l. (s : ShareParts) → IsFresh start (Bus k) s → IsServed (log_of logs k) k s (log l)) n lines line
+    some_line inv.0 c.remove-line.ensures.value share fresh in
     let count = inv.5 in
     let last : n ≡ 0 + length served = omega (arith, count) in (
-      subst (λ zs. Each (λ k l. log l ≡ log_of logs k) (n + 1) zs) (sym c.remove-line.ensures.items)
-          (each_rest (λ k l. log l ≡ log_of logs k) n lines inv.0),
+      subst (λ zs. Each (λ k l. (s : ShareParts) → IsFresh start (Bus k) s → IsServed (log_of logs k) k s (log l)) (n + 1) zs)
+          (sym c.remove-line.ensures.items)
+          (each_rest (λ k l. (s : ShareParts) → IsFresh start (Bus k) s → IsServed (log_of logs k) k s (log l)) n lines
+          inv.0),
       subst (λ zs. Each (λ k s. IsFresh start (Bus k) s) (n + 1) zs) (sym c.remove-share.ensures.items)
           (each_rest (λ k s. IsFresh start (Bus k) s) n shares inv.1),
       subst (λ zs. AreServed logs log 0 zs) (sym c.push_reserved.ensures.items)

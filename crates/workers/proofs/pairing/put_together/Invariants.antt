@@ -2,14 +2,15 @@ use Rattle.std.proofs.Common.{◌≡◌, ◌+◌, length}
 use Rattle.std.specs.Prelude.{vec_len, vec_capacity}
 use Rattle.plantevents.specs.declared.role.Role.TheVariants.{Bus}
 use Rattle.receipts.specs.Each.{Each}
-use Rattle.receipts.specs.Receipts.{IsFresh}
-use Rattle.turns.specs.Logs.{log_of}
+use Rattle.receipts.specs.Receipts.{ShareParts, IsFresh}
+use Rattle.turns.specs.Logs.{IsServed, log_of}
 use Rattle.workers.specs.Teams.{AreServed}
 use Rattle.workers.proofs.pairing.put_together.Given as goal
 
 abbrev pub invariant-loop-bus : goal.invariant-loop-bus
 invariant-loop-bus g l =
-    Each (λ k line. g.B.Bus.log line ≡ log_of g.J.Links.buses k) l._bus l.lines.items
+    Each (λ k line. (s : ShareParts) → IsFresh g.J.Basis.start (Bus k) s
+    → IsServed (log_of g.J.Links.buses k) k s (g.B.Bus.log line)) l._bus l.lines.items
     × Each (λ k s. IsFresh g.J.Basis.start (Bus k) s) l._bus l.shares.items
     × AreServed g.J.Links.buses g.B.Bus.log 0 l.served.items
     × (l._bus + length l.lines.items ≡ vec_len l.fn.lines)

@@ -1,0 +1,16 @@
+use Rattle.std.proofs.Common.{map}
+use Rattle.workers.proofs.Earlier.{buses_before, clock_before}
+use Rattle.workers.proofs.again.run_again.Given as goal
+
+abbrev pub ghosts-run_named-J-Basis : goal.ghosts-run_named-J-Basis
+ghosts-run_named-J-Basis g a = record { start = a.plant; cells = a.cells.now }
+
+-- the logs of before the history, so far as those of now tell them
+abbrev pub ghosts-run_named-J-Links : goal.ghosts-run_named-J-Links
+ghosts-run_named-J-Links g a = record {
+  buses = buses_before 0 a.plant.history (map g.B.Bus.log a.lines.items);
+  clock = clock_before a.plant.history (g.C.Clock.log a.clock);
+}
+
+abbrev pub ghosts-run_named-N-Names : goal.ghosts-run_named-N-Names
+ghosts-run_named-N-Names g a = record { names = a.blanks }
