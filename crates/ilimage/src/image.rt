@@ -19,12 +19,23 @@ use std::marker::Model;
 /// and its block instances. Each value is in its variable's type. Each task has a row that is kept
 /// ready: in each slot is the value that gathering would give. The index has the slots of each
 /// global variable.
-#[derive(Drop)]
 pub struct Image {
     types: Vec<IlType>,
     globals: Vec<Value>,
     tasks: Vec<TaskRow>,
     index: Vec<Vec<TaskSlot>>,
+}
+
+/// Written out, so that it is proved here alone.
+impl Drop for Image {
+    fn drop(self) {
+        let Self {
+            types: _,
+            globals: _,
+            tasks: _,
+            index: _,
+        } = self;
+    }
 }
 
 impl Model for Image {

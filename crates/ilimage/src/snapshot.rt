@@ -11,12 +11,23 @@ use std::sync::Arc;
 
 /// What a scan starts from: the verified code of a task, a value for each of its slots, what each
 /// of its block instances keeps, and a moment in milliseconds.
-#[derive(Drop)]
 pub struct Snapshot {
     verified: Arc<Verified, Global>,
     row: ValueRow,
     blocks: Vec<BlockState>,
     moment: u64,
+}
+
+/// Written out, so that it is proved here alone.
+impl Drop for Snapshot {
+    fn drop(self) {
+        let Self {
+            verified: _,
+            row: _,
+            blocks: _,
+            moment: _,
+        } = self;
+    }
 }
 
 impl Model for Snapshot {
@@ -95,8 +106,14 @@ impl Snapshot {
         ensures { result ≡ start_of self.verified
             (record { slots = row; blocks = blocks.items }) moment }
     {
+        let Self {
+            verified,
+            row: _,
+            blocks: _,
+            moment: _,
+        } = self;
         Snapshot {
-            verified: self.verified,
+            verified,
             row,
             blocks,
             moment,

@@ -33,12 +33,23 @@ impl Model for Work {
 }
 
 /// A scan that was made.
-#[derive(Drop)]
 pub struct ScanResult {
     number: u64,
     snapshot: Snapshot,
     steps: u32,
     left: Left,
+}
+
+/// Written out, so that it is proved here alone.
+impl Drop for ScanResult {
+    fn drop(self) {
+        let Self {
+            number: _,
+            snapshot: _,
+            steps: _,
+            left: _,
+        } = self;
+    }
 }
 
 impl Model for ScanResult {
@@ -141,8 +152,14 @@ impl ScanResult {
             (record { slots = result.1; blocks = result.2.items }) }
         ensures run { IsScan self.snapshot.verified (store_of self.snapshot) self.steps self.after }
     {
-        let (row, blocks) = self.left.into_lasting();
-        (self.snapshot, row, blocks)
+        let Self {
+            number: _,
+            snapshot,
+            steps: _,
+            left,
+        } = self;
+        let (row, blocks) = left.into_lasting();
+        (snapshot, row, blocks)
     }
 
     /// What the next scan of the code begins from, at this moment in milliseconds: the values and

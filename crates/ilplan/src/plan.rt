@@ -10,13 +10,25 @@ use std::marker::Model;
 
 /// What a source program's tasks do, over slots in place of names. It has 1 to
 /// [`limits::MOST_BUSES`] buses, and at most [`limits::MOST_TASKS`] tasks.
-#[derive(Drop)]
 pub struct Plan {
     text: Vec<u8>,
     buses: u8,
     sources: Vec<BoundSource>,
     globals: Vec<Global>,
     tasks: Vec<Task>,
+}
+
+/// Written out, so that it is proved here alone.
+impl Drop for Plan {
+    fn drop(self) {
+        let Self {
+            text: _,
+            buses: _,
+            sources: _,
+            globals: _,
+            tasks: _,
+        } = self;
+    }
 }
 
 impl Model for Plan {

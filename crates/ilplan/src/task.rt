@@ -11,7 +11,6 @@ use std::marker::Model;
 
 /// A task: its instances, which run in order, their variables and their constants. It keeps the
 /// limits of the crate `limits`.
-#[derive(Drop)]
 pub struct Task {
     name: String,
     activation: Activation,
@@ -22,6 +21,22 @@ pub struct Task {
     instances: Vec<ProgramInstance>,
     /// For each slot whether a line stores to it.
     stored: Vec<bool>,
+}
+
+/// Written out, so that it is proved here alone.
+impl Drop for Task {
+    fn drop(self) {
+        let Self {
+            name: _,
+            activation: _,
+            priority: _,
+            slots: _,
+            blocks: _,
+            constants: _,
+            instances: _,
+            stored: _,
+        } = self;
+    }
 }
 
 impl Model for Task {

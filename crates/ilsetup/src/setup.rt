@@ -6,11 +6,20 @@ use std::marker::Model;
 use std::sync::Arc;
 
 /// A plan with the verified code of each of its tasks.
-#[derive(Drop)]
 pub struct Setup {
     plan: Plan,
     /// One for each task, in the plan's order.
     verified: Vec<Arc<Verified>>,
+}
+
+/// Written out, so that it is proved here alone.
+impl Drop for Setup {
+    fn drop(self) {
+        let Self {
+            plan: _,
+            verified: _,
+        } = self;
+    }
 }
 
 impl Model for Setup {

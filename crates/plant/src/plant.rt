@@ -43,7 +43,6 @@ use taskset::{Tasks, other_events_leave_tasks};
 use trace::Trace;
 
 /// A plan with its verified codes, scan workers and buses, as it runs. Its history has no bytes.
-#[derive(Drop)]
 pub struct Plant {
     setup: Setup,
     workers: usize,
@@ -70,6 +69,32 @@ pub struct Plant {
     /// How many events there were, and how many places are kept for events to come.
     length: u64,
     kept: u64,
+}
+
+/// Written out, so that it is proved here alone.
+impl Drop for Plant {
+    fn drop(self) {
+        let Self {
+            setup: _,
+            workers: _,
+            limit: _,
+            history: _,
+            tasks: _,
+            image: _,
+            counts: _,
+            takes: _,
+            scans: _,
+            buses: _,
+            inputs: _,
+            outputs: _,
+            owed: _,
+            clock_place: _,
+            bus_places: _,
+            moment: _,
+            length: _,
+            kept: _,
+        } = self;
+    }
 }
 
 impl Model for Plant {

@@ -27,9 +27,15 @@ use transact::Report;
 const SEATS: usize = 81;
 
 /// The lock round the plant.
-#[derive(Drop)]
 pub struct Shared<'a, J: Basis, T: Seated, K: Tallies<T>> {
     tied: Mutex<TiedPlant<'a, J, T, K>>,
+}
+
+/// Written out, so that it is proved here alone.
+impl<'a, J: Basis, T: Seated, K: Tallies<T>> Drop for Shared<'a, J, T, K> {
+    fn drop(self) {
+        let Self { tied: _ } = self;
+    }
 }
 
 /// The plant after the lock was opened for good, and the Shares.

@@ -48,9 +48,15 @@ impl Receipt {
 
 /// What a cell holds, for contracts alone: the receipts of a role up to the event of this cell, the
 /// newest first.
-#[derive(Drop)]
 pub struct NotedPart {
     receipts: Memo<Vec<Receipt>>,
+}
+
+/// Written out, so that it is proved here alone.
+impl Drop for NotedPart {
+    fn drop(self) {
+        let Self { receipts: _ } = self;
+    }
 }
 
 impl Model for NotedPart {

@@ -20,7 +20,6 @@ use std::sync::{OnceLock, OnceToken, Wait};
 pub const MOST_ROOM: usize = 4;
 
 /// The part of one role: its receipts, and what ties them to the plant under the lock.
-#[derive(Drop)]
 pub struct Share<'a, J: Basis, T: Seated> {
     role: Role,
     receipts: Vec<Receipt>,
@@ -31,6 +30,21 @@ pub struct Share<'a, J: Basis, T: Seated> {
     tie: T,
     newest: Option<OnceToken<'a, NotedPart>>,
     basis: PhantomData<J>,
+}
+
+/// Written out, so that it is proved here alone.
+impl<'a, J: Basis, T: Seated> Drop for Share<'a, J, T> {
+    fn drop(self) {
+        let Self {
+            role: _,
+            receipts: _,
+            reserved: _,
+            reach: _,
+            tie: _,
+            newest: _,
+            basis: _,
+        } = self;
+    }
 }
 
 impl<'a, J: Basis, T: Seated> Model for Share<'a, J, T> {

@@ -8,7 +8,6 @@ use seatgroups::{GroupBooks, GroupTie, Names};
 use std::marker::Model;
 
 /// A book for each seat. Contracts see their totals, by groups of nine.
-#[derive(Drop)]
 pub struct Books<N: Names> {
     pub(crate) g0: GroupBooks<N, 0>,
     pub(crate) g1: GroupBooks<N, 1>,
@@ -19,6 +18,23 @@ pub struct Books<N: Names> {
     pub(crate) g6: GroupBooks<N, 6>,
     pub(crate) g7: GroupBooks<N, 7>,
     pub(crate) g8: GroupBooks<N, 8>,
+}
+
+/// Written out, so that it is proved here alone.
+impl<N: Names> Drop for Books<N> {
+    fn drop(self) {
+        let Self {
+            g0: _,
+            g1: _,
+            g2: _,
+            g3: _,
+            g4: _,
+            g5: _,
+            g6: _,
+            g7: _,
+            g8: _,
+        } = self;
+    }
 }
 
 impl<N: Names> Model for Books<N> {
@@ -44,9 +60,15 @@ pub enum Half<N: Names> {
 }
 
 /// The whole share of the ledger of a seat. Contracts see the seat and the amount.
-#[derive(Drop)]
 pub struct Tie<N: Names> {
     pub(crate) half: Half<N>,
+}
+
+/// Written out, so that it is proved here alone.
+impl<N: Names> Drop for Tie<N> {
+    fn drop(self) {
+        let Self { half: _ } = self;
+    }
 }
 
 impl<N: Names> Model for Tie<N> {

@@ -6,7 +6,7 @@ pub returns-in-Err-clause-fault : goal.returns-in-Err-clause-fault
 returns-in-Err-clause-fault c =
     let turn = c.loop-task in
     let below : turn.task < length c.args.plan.tasks = omega (arith, c.loop-task-test.true, turn.invariant.1) in
-    code_fault c.args.plan turn.plan turn.task _ c.in-Err.error _ turn.invariant.0 below turn.invariant.2
+    code_fault c.args.plan _ turn.task _ c.in-Err.error _ turn.invariant.0 below turn.invariant.2
     c.in-Err.ensures.error c.fault_of.ensures
 
 pub loop-task-preserved : goal.loop-task-preserved
