@@ -104,13 +104,13 @@ fn hear_once<'a, B: Bus, J: Basis + Links, T: Seated, K: Tallies<T>, R: Wait>(
     }
 }
 
-/// Sends what is to be sent next on a bus, and hears what came. What was sent and heard stays what
-/// the Share has receipts for, and nothing is open afterwards.
+/// Sends what is to be sent next on a bus, if anything is. What was sent and heard stays what the
+/// Share has receipts for, and nothing is open afterwards.
 ///
 /// # Errors
 ///
 /// The allocator is out of memory, or the history is full.
-pub fn bus_turn<'a, B: Bus, J: Basis + Links, T: Seated, K: Tallies<T>, G: Gate, R: Wait>(
+pub fn send_turn<'a, B: Bus, J: Basis + Links, T: Seated, K: Tallies<T>, G: Gate, R: Wait>(
     rt: &R,
     gate: &G,
     shared: &Shared<'a, J, T, K>,
@@ -120,15 +120,28 @@ pub fn bus_turn<'a, B: Bus, J: Basis + Links, T: Seated, K: Tallies<T>, G: Gate,
     requires served { IsServed (log_of J.buses bus) bus served.old.share (B.log served.old.line) }
     ensures served { IsServed (log_of J.buses bus) bus served.new.share (B.log served.new.line) }
 {
-    let sent = match send_once(rt, gate, shared, bus, served) {
-        Ok(turn) => turn,
-        Err(error) => idle_where_refused(error)?,
-    };
-    if matches!(sent, Turn::Down) {
-        return Ok(Turn::Down);
+    match send_once(rt, gate, shared, bus, served) {
+        Ok(turn) => Ok(turn),
+        Err(error) => idle_where_refused(error),
     }
+}
+
+/// Hears what came on a bus, if anything did. What was sent and heard stays what the Share has
+/// receipts for.
+///
+/// # Errors
+///
+/// The allocator is out of memory, or the history is full.
+pub fn hear_turn<'a, B: Bus, J: Basis + Links, T: Seated, K: Tallies<T>, R: Wait>(
+    rt: &R,
+    shared: &Shared<'a, J, T, K>,
+    bus: u8,
+    served: &mut Served<'a, B, J, T>,
+) -> Result<Turn, CallError>
+    requires served { IsServed (log_of J.buses bus) bus served.old.share (B.log served.old.line) }
+    ensures served { IsServed (log_of J.buses bus) bus served.new.share (B.log served.new.line) }
+{
     match hear_once(rt, shared, bus, served) {
-        Ok(Turn::Idle) => Ok(sent),
         Ok(turn) => Ok(turn),
         Err(error) => idle_where_refused(error),
     }

@@ -1,13 +1,14 @@
 //! One turn of each worker: of a bus, of a scan worker, and of the clock.
 //!
-//! What crosses the boundary: [`bus_turn`] sends what is to be sent next and hears what came,
-//! [`scan_turn`] makes the next scan, and [`tick_once`] asks the clock. Each takes the plant's lock for
-//! its events alone: frames are sent, scans are made and the clock is asked outside it. A turn begins
-//! and ends with nothing open, and what went over a link is what its Share has receipts for. The
-//! definitions to read first are `IsServed`, `IsWorker` and `IsTimed` (specs/Logs.antt).
+//! What crosses the boundary: [`send_turn`] sends what is to be sent next on a bus, [`hear_turn`]
+//! hears what came there, [`scan_turn`] makes the next scan, and [`tick_once`] asks the clock. Each
+//! takes the plant's lock for its events alone: frames are sent, scans are made and the clock is asked
+//! outside it. A turn begins and ends with nothing open, and what went over a link is what its Share
+//! has receipts for. The definitions to read first are `IsServed`, `IsWorker` and `IsTimed`
+//! (specs/Logs.antt).
 //!
 //! ```text
-//! match bus_turn(rt, gate, shared, bus, &mut served) {
+//! match send_turn(rt, gate, shared, bus, &mut served) {
 //!     Ok(Turn::Down) => return, // the bus interface failed
 //!     turn => ..
 //! }
@@ -21,7 +22,7 @@ mod links;
 mod scan_worker;
 mod turn;
 
-pub use bus_worker::{Served, bus_turn};
+pub use bus_worker::{Served, hear_turn, send_turn};
 pub use clock_worker::{Timed, tick_once};
 pub use gate::{Gate, OpenGate};
 pub use links::Links;

@@ -6,13 +6,14 @@ ghost use Rattle.workers.specs.declared.ended.Ended.TheVariants.{Asked};
 
 use crate::ended::{End, Ended};
 use buslink::{Bus, Clock};
+use plant::CallError;
 use plantlock::{Basis, Share, Shared};
 use seats::{Seated, Tallies};
 use std::alloc::Global;
 use std::sync::Wait;
 use std::thread;
 use std::time::{Clock as Timer, Duration};
-use turns::{Gate, Links, Served, Timed, Turn, bus_turn, scan_turn, tick_once};
+use turns::{Gate, Links, Served, Timed, Turn, hear_turn, scan_turn, send_turn, tick_once};
 
 /// How long an idle worker sleeps, in microseconds.
 const PAUSE: u64 = 50;
@@ -20,6 +21,28 @@ const PAUSE: u64 = 50;
 /// Lets others work for a while.
 pub(crate) fn pause<R: Timer>(rt: &R) {
     thread::sleep(rt, Duration::from_micros(PAUSE));
+}
+
+/// Sends what is to be sent next on a bus, and hears what came, where the end wasn't told meanwhile.
+fn serve_once<'a, B: Bus, J: Basis + Links, T: Seated, K: Tallies<T>, G: Gate, R: Wait>(
+    rt: &R,
+    gate: &G,
+    shared: &Shared<'a, J, T, K>,
+    end: &End,
+    bus: u8,
+    served: &mut Served<'a, B, J, T>,
+) -> Result<Turn, CallError>
+    requires served { IsServed (log_of J.buses bus) bus served.old.share (B.log served.old.line) }
+    ensures served { IsServed (log_of J.buses bus) bus served.new.share (B.log served.new.line) }
+{
+    let sent = send_turn(rt, gate, shared, bus, served)?;
+    if matches!(sent, Turn::Down) || end.is_told() {
+        return Ok(sent);
+    }
+    match hear_turn(rt, shared, bus, served)? {
+        Turn::Idle => Ok(sent),
+        heard => Ok(heard),
+    }
 }
 
 /// Serves a bus until the end is told, or the bus goes down.
@@ -38,7 +61,7 @@ pub fn serve_bus<'a, B: Bus, J: Basis + Links, T: Seated, K: Tallies<T>, G: Gate
         if end.is_told() {
             return;
         }
-        match bus_turn(rt, gate, shared, bus, served) {
+        match serve_once(rt, gate, shared, end, bus, served) {
             Ok(Turn::Worked) => {}
             Ok(Turn::Idle) => pause(rt),
             Ok(Turn::Down) => return,
