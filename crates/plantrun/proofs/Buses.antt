@@ -9,14 +9,14 @@ use Rattle.simbus.specs.Simulated.{Simulated, after_all_arrivals}
 use Rattle.plantplay.specs.Installations.{bus_of, sim_log}
 use Rattle.plantevents.specs.Plants.{Plant}
 use Rattle.workers.specs.declared.closed.Closed.{Closed}
-use Rattle.finishing.specs.Finishing.{IsLinked}
+use Rattle.finishing.specs.Finishing.{HasNoFrame, IsLinked, IsQuiet}
 use Rattle.workers.specs.Closings.{IsClosed}
 use Rattle.turns.specs.Logs.{IsNoLess, log_of, no_frame, no_moment}
 use Rattle.workers.specs.Starts.{IsStartFault}
 use Rattle.ilsetup.specs.Loaded.{Loaded}
 use Rattle.plant.specs.declared.open_fault.OpenFault.{OpenFault}
 use Rattle.plant.specs.declared.open_fault.OpenFault.TheVariants.{Memory, BadCount, Limit}
-use Rattle.plant.specs.Shown.{IsOpenFault}
+use Rattle.plant.specs.Shown.{IsOpenFault, Shown}
 use Rattle.plantevents.specs.Histories.{given_in}
 use Rattle.buslink.specs.BusLog.{BusLog}
 use Rattle.buslink.specs.ClockLog.{ClockLog}
@@ -75,6 +75,17 @@ closed_from_nothing p scenario buses items first left are none closed = record {
   clock =
       subst (λ (log : ClockLog). (tick_log left.clock).given ≡ log.given ++ given_in left.plant.history) none
       closed.clock;
+}
+
+-- nothing is left to do, with nothing for the logs before it
+pub quiet_from_nothing : (p : Shown) (scenario : List Statement) (buses : ℕ) (items : List Simulated)
+    (logs : List BusLog) → items ≡ buses_of scenario buses → IsQuiet p (map sim_log items) logs → IsQuiet p [] logs
+quiet_from_nothing p scenario buses items logs are quiet = record {
+  scanned = quiet.scanned;
+  sent = quiet.sent;
+  heard = λ b few.
+      subst (λ (log : BusLog). HasNoFrame p b log (log_of logs b)) (no_log_of scenario buses b items are)
+      (quiet.heard b few);
 }
 
 -- with a bus for each of the plan a run doesn't start for what the plant isn't opened for

@@ -150,6 +150,7 @@ pub fn run<B: Bus + Send, C: Clock + Send, G: Gate, R: Threads + Wait + Timer + 
     ensures asked { IfOk result (λ c. c.ended ≡ Asked → HasEnded (C.log clock) (C.log c.clock)) }
     ensures full { IfOk result (λ c. c.ended ≡ Limit → is_full c.plant ≡ true) }
     ensures again { IfOk result (IsLeft B.log C.log) }
+    ensures kept { IfOk result (λ c. c.plant.limit ≡ opening.limit) }
     ensures count { IfOk result (λ c. length c.buses.items ≡ vec_len buses) }
     ensures counts { OnOk result (AreCounts opening.setup workers (vec_len buses)) }
     ensures limit { OnOk result (IsLimit opening.limit) }

@@ -1,8 +1,11 @@
-use Rattle.std.proofs.Common.{◌≡◌, ◌∙◌, ap}
+use Rattle.std.proofs.Common.{◌≡◌, ◌∙◌, ap, map, subst}
+use Rattle.buslink.specs.ClockLog.{ClockLog}
 use Rattle.ilplan.specs.Plans.{Planned}
 use Rattle.plant.specs.Shown.{plant_of}
+use Rattle.plantplay.specs.Installations.{sim_log}
 use Rattle.plantrun.specs.Runs.{tick_log}
-use Rattle.plantrun.proofs.Buses.{as_many, closed_from_nothing, not_opened}
+use Rattle.turns.specs.Logs.{HasEnded}
+use Rattle.plantrun.proofs.Buses.{as_many, closed_from_nothing, not_opened, quiet_from_nothing}
 use Rattle.plantrun.proofs.running.run.Goals as goal
 
 pub returns-in-Ok-clause-run : goal.returns-in-Ok-clause-run
@@ -15,6 +18,14 @@ returns-in-Ok-clause-run g c =
       closed =
           closed_from_nothing (plant_of setup c.args.workers) scenario c.buses.result made.buses.items
           (tick_log clock.clock) left made.ensures (ap tick_log clock.ensures) is.closed;
+      kept = is.kept;
+      quiet = λ asked.
+          quiet_from_nothing left.plant scenario c.buses.result made.buses.items (map sim_log left.buses.items)
+          made.ensures (is.left asked);
+      asked = λ asked.
+          subst (λ (first : ClockLog). HasEnded first (tick_log left.clock)) (ap tick_log clock.ensures)
+          (is.asked asked);
+      full = is.full;
     }
 
 pub returns-in-Err-clause-fault : goal.returns-in-Err-clause-fault
