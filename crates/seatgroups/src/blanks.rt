@@ -10,7 +10,6 @@ use std::marker::Model;
 use std::sync::ledger::Blank;
 
 /// A new ledger for each place of a group. Contracts see their names.
-#[derive(Drop)]
 pub struct GroupBlanks {
     b0: Blank,
     b1: Blank,
@@ -21,6 +20,23 @@ pub struct GroupBlanks {
     b6: Blank,
     b7: Blank,
     b8: Blank,
+}
+
+/// Written out, so that it is proved here alone.
+impl Drop for GroupBlanks {
+    fn drop(self) {
+        let Self {
+            b0: _,
+            b1: _,
+            b2: _,
+            b3: _,
+            b4: _,
+            b5: _,
+            b6: _,
+            b7: _,
+            b8: _,
+        } = self;
+    }
 }
 
 impl Model for GroupBlanks {

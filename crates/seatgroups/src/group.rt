@@ -7,7 +7,6 @@ use std::marker::Model;
 use std::sync::ledger::{Book, Share};
 
 /// The books of a group. Contracts see their totals.
-#[derive(Drop)]
 pub struct GroupBooks<N: Names, const G: usize> {
     pub(crate) b0: Book<Seat<N, G, 0>>,
     pub(crate) b1: Book<Seat<N, G, 1>>,
@@ -18,6 +17,23 @@ pub struct GroupBooks<N: Names, const G: usize> {
     pub(crate) b6: Book<Seat<N, G, 6>>,
     pub(crate) b7: Book<Seat<N, G, 7>>,
     pub(crate) b8: Book<Seat<N, G, 8>>,
+}
+
+/// Written out, so that it is proved here alone.
+impl<N: Names, const G: usize> Drop for GroupBooks<N, G> {
+    fn drop(self) {
+        let Self {
+            b0: _,
+            b1: _,
+            b2: _,
+            b3: _,
+            b4: _,
+            b5: _,
+            b6: _,
+            b7: _,
+            b8: _,
+        } = self;
+    }
 }
 
 impl<N: Names, const G: usize> Model for GroupBooks<N, G> {
@@ -45,9 +61,15 @@ pub enum GroupHalf<N: Names, const G: usize> {
 }
 
 /// The whole share of one of the ledgers of a group. Contracts see its place and its amount.
-#[derive(Drop)]
 pub struct GroupTie<N: Names, const G: usize> {
     pub(crate) half: GroupHalf<N, G>,
+}
+
+/// Written out, so that it is proved here alone.
+impl<N: Names, const G: usize> Drop for GroupTie<N, G> {
+    fn drop(self) {
+        let Self { half: _ } = self;
+    }
 }
 
 impl<N: Names, const G: usize> Model for GroupTie<N, G> {

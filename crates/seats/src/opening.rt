@@ -12,7 +12,6 @@ use std::alloc::{AllocError, Global};
 use std::marker::Model;
 
 /// A new ledger for each seat. Contracts see their names, by groups of nine.
-#[derive(Drop)]
 pub struct Blanks {
     g0: GroupBlanks,
     g1: GroupBlanks,
@@ -23,6 +22,23 @@ pub struct Blanks {
     g6: GroupBlanks,
     g7: GroupBlanks,
     g8: GroupBlanks,
+}
+
+/// Written out, so that it is proved here alone.
+impl Drop for Blanks {
+    fn drop(self) {
+        let Self {
+            g0: _,
+            g1: _,
+            g2: _,
+            g3: _,
+            g4: _,
+            g5: _,
+            g6: _,
+            g7: _,
+            g8: _,
+        } = self;
+    }
 }
 
 impl Model for Blanks {

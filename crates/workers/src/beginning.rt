@@ -70,9 +70,10 @@ fn furnish<'a, B: Bus, J: Basis + Links, N: Names>(
         (λ made. (made.served.items ≡ []) × (buses ≤ vec_capacity made.served)) }
     ensures ties { IfOk result (λ made. made.ties.items ≡ map fresh (range_with_len 0 81)) }
 {
+    // (first, so that nothing but the call lets go of the 81 blanks)
+    let (books, ties) = blanks.open::<N>(alloc)?;
     let rooms = Rooms::new(alloc, buses, workers)?;
     let served = room_for(alloc, buses)?;
-    let (books, ties) = blanks.open::<N>(alloc)?;
     Ok(Furniture {
         rooms,
         served,
