@@ -1,6 +1,7 @@
 -- What is kept under names.
-use Rattle.std.specs.Prelude.{ℕ, List, [], ◌∷◌, ◌++◌, Option, is_some, bytes_eq, if◌then◌else◌}
+use Rattle.std.specs.Prelude.{◌≡◌, ℕ, List, Option, Some, None, bytes_eq, if◌then◌else◌}
 use Rattle.std.specs.Map.{lookup}
+use Rattle.std.specs.Option.{option_or}
 use Rattle.ilsource.specs.Names.{text_of}
 use Rattle.ilsource.specs.declared.name.Name.{Name}
 use Rattle.ildeclared.specs.DataTypes.{TypeNames}
@@ -10,9 +11,11 @@ use Rattle.ildeclared.specs.declared.data_type.DataType.{DataType}
 abbrev pub Kept : Type 0 → Type 0
 Kept X = List (List ℕ × X)
 
--- with this too, where the name is new
-abbrev pub with_new : {X : Type 0} → Kept X → List ℕ → X → Kept X
-with_new kept key value = if is_some (lookup (bytes_eq key) kept) then kept else kept ++ (key, value) ∷ []
+-- what is kept is still kept, and this value too under this name, where the name is new
+abbrev pub KeepsToo : {X : Type 0} → List ℕ → X → Kept X → Kept X → Type 0
+KeepsToo name value before after =
+    (key : List ℕ) → lookup (bytes_eq key) after
+    ≡ option_or (lookup (bytes_eq key) before) (if bytes_eq key name then Some value else None)
 
 -- what is kept under a name of a text with letters in lower case
 abbrev pub kept_under : {X : Type 0} → List ℕ → Kept X → Name → Option X

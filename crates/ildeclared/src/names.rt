@@ -1,13 +1,13 @@
 //! What is kept under the names or the labels of a text.
 
-use indexmap::IndexMap;
 use std::alloc::{AllocError, Global};
+use std::collections::HashMap;
 use std::marker::Model;
 
 /// What is kept under different names in lower case, found by hashing.
 #[derive(Drop)]
 pub struct Names<T> {
-    entries: IndexMap<Vec<u8>, T>,
+    entries: HashMap<Vec<u8>, T>,
 }
 
 impl<T> Model for Names<T> {
@@ -23,14 +23,14 @@ impl<T: Copy> Names<T> {
     ghost use Rattle.std.specs.Prelude.{◌≡◌, ◌↔◌, [], ◌∷◌, ◌++◌, bytes_eq};
     ghost use Rattle.std.specs.Prelude.{None, OnErr, OnOk, IfOk, IsNone, IsTrue};
     ghost use Rattle.std.specs.Map.{lookup};
-    ghost use Rattle.ildeclared.specs.Kept.{with_new};
+    ghost use Rattle.ildeclared.specs.Kept.{KeepsToo};
 
     /// Nothing.
     pub fn new(alloc: Global) -> Names<T>
         ensures { result ≡ [] }
     {
         Names {
-            entries: IndexMap::new(alloc),
+            entries: HashMap::new(alloc),
         }
     }
 
@@ -44,7 +44,7 @@ impl<T: Copy> Names<T> {
     /// Keeps `value` under the name `key`, which is in lower case, where the name is new, and says
     /// whether it was.
     pub fn add(&mut self, alloc: Global, key: &[u8], value: T) -> Result<bool, AllocError>
-        ensures kept { OnOk result (self.new ≡ with_new self.old key.now value) }
+        ensures kept { OnOk result (KeepsToo key.now value self.old self.new) }
         ensures new { IfOk result (λ new.
             IsTrue new ↔ IsNone (lookup (bytes_eq key.now) self.old)) }
         ensures err { OnErr result (self.new ≡ self.old) }
@@ -59,7 +59,7 @@ impl<T: Copy> Names<T> {
     /// Keeps `value` under the name `key`, which is new.
     fn push(&mut self, alloc: Global, key: &[u8], value: T) -> Result<(), AllocError>
         requires { lookup (bytes_eq key.now) self.old ≡ None }
-        ensures ok { OnOk result (self.new ≡ self.old ++ (key.now, value) ∷ []) }
+        ensures ok { OnOk result (KeepsToo key.now value self.old self.new) }
         ensures err { OnErr result (self.new ≡ self.old) }
     {
         self.entries.insert(Vec::from_slice(alloc, key)?, value)?;

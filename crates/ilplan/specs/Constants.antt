@@ -1,8 +1,8 @@
 -- The different constants of lines.
-use Rattle.std.specs.Prelude.{◌≡◌, List, [], ◌∷◌, ◌++◌, filter, filter_map, flat_map, Option, Some, None, IfSome, ⊤}
+use Rattle.std.specs.Prelude.{◌≡◌, ℕ, List, [], ◌∷◌, ◌++◌, filter, filter_map, flat_map, Option, Some, None, IfSome, ⊤}
 use Rattle.std.specs.Prelude.{Bool, true, false, not, if◌then◌else◌}
 use Rattle.std.specs.Bool.{beq}
-use Rattle.std.specs.List.{list_any}
+use Rattle.std.specs.List.{list_any, position}
 use Rattle.std.specs.Ordering.{int_eq}
 use Rattle.iltypes.specs.declared.value.Value.{Value}
 use Rattle.iltypes.specs.declared.value.Value.TheVariants as values
@@ -21,6 +21,10 @@ same_value _ _ = false
 -- the values with one more, which goes last where it is new
 abbrev pub with_constant : List Value → Value → List Value
 with_constant known value = if list_any (same_value value) known then known else known ++ value ∷ []
+
+-- each value is told its number among those that are known, and no other has one
+abbrev pub AreNumbers : (Value → Option ℕ) → List Value → Type 0
+AreNumbers number_of known = (value : Value) → number_of value ≡ position (same_value value) known
 
 -- each of the values once, where it stands first: the first one, and of the others those that are not the same
 abbrev pub each_once : List Value → List Value

@@ -10,23 +10,29 @@ ghost use Rattle.ilplan.specs.Constants.{same_value, with_constant, each_once};
 ghost use Rattle.ilplan.specs.Constants.{different_constants, AreAmong};
 
 use iltypes::Value;
-use indexmap::IndexSet;
 use std::alloc::{AllocError, Global};
+use std::collections::HashMap;
 use std::marker::Model;
 
 /// Different values, with their numbers from 0. A number is found by hashing.
 #[derive(Drop)]
 pub struct Constants {
-    values: IndexSet<Value>,
+    values: Vec<Value>,
+    numbers: HashMap<Value, usize>,
 }
 
 impl Model for Constants {
     ghost use Rattle.std.specs.Prelude.{List};
+    ghost use Rattle.std.specs.HashMap.{get};
     ghost use Rattle.iltypes.specs.declared.value.Value as value;
+    ghost use Rattle.iltypes.specs.contracts.value.ValuePartialEq.TheImpl.{eq-value};
+    ghost use Rattle.ilplan.specs.Constants.{AreNumbers};
 
     ghost Value = { List value.Value };
 
-    ghost view = { λ c. c.values.keys };
+    ghost view = { λ c. c.values.items };
+
+    ghost invariant = { λ c. AreNumbers (get eq-value.it c.numbers) c.values.items };
 }
 
 impl Constants {
@@ -39,7 +45,8 @@ impl Constants {
         ensures { result ≡ [] }
     {
         Constants {
-            values: IndexSet::new(alloc),
+            values: Vec::new(alloc),
+            numbers: HashMap::new(alloc),
         }
     }
 
@@ -48,7 +55,12 @@ impl Constants {
         ensures ok { OnOk result (self.new ≡ with_constant self.old value) }
         ensures err { OnErr result (self.new ≡ self.old) }
     {
-        self.values.insert(value)?;
+        if self.numbers.contains_key(&value) {
+            return Ok(());
+        }
+        self.values.reserve(1)?;
+        self.numbers.insert(value, self.values.len())?;
+        self.values.push_reserved(value);
         Ok(())
     }
 
@@ -63,8 +75,8 @@ impl Constants {
     pub fn number_of(&self, value: Value) -> usize
         ensures value { result ≡ position_or_len (same_value value) self.now }
     {
-        match self.values.get_index_of(&value) {
-            Some(number) => number,
+        match self.numbers.get(&value) {
+            Some(number) => *number,
             None => self.values.len(),
         }
     }

@@ -8,7 +8,7 @@ use Rattle.std.proofs.lemmas.List.{get_or_default, length-map, length-take-le}
 use Rattle.std.proofs.lemmas.Slice.Eq.{bytes_eq-Decides}
 use Rattle.ilsource.specs.declared.name.Name.{Name}
 use Rattle.ildeclared.specs.Faults.{IsLeastOf, OfCause, SomeOf}
-use Rattle.ildeclared.specs.Kept.{Kept, with_new}
+use Rattle.ildeclared.specs.Kept.{Kept, KeepsToo}
 use Rattle.ildeclared.specs.Order.{lesser_of_two}
 use Rattle.ildeclared.specs.declared.fault.NameCause.TheVariants.{Twice}
 use Rattle.ildeclared.specs.declared.found.Found.{Found}
@@ -19,19 +19,6 @@ use Rattle.ilscope.specs.Faults.{IsTwiceIn}
 use Rattle.ilscope.specs.Tables.{first_at}
 
 -- ---- one key more
-
-later_key : {X : Type 0} (is : Bool) (x : X) (o p : Option X) (c : Bool) (y : X)
-    → p ≡ option_or o (if c then Some y else None) →
-    (if is then Some x else p) ≡ option_or (if is then Some x else o) (if c then Some y else None)
-later_key true x o p c y e = refl
-later_key false x o p c y e = e
-
-lookup-last : {X : Type 0} (kept : Kept X) (test : List ℕ → Bool) (k : List ℕ) (value : X) →
-    lookup test (kept ++ (k, value) ∷ []) ≡ option_or (lookup test kept) (if test k then Some value else None)
-lookup-last [] test k value = refl
-lookup-last (e ∷ es) test k value =
-    later_key (test e.0) e.1 (lookup test es) (lookup test (es ++ (k, value) ∷ [])) (test k) value
-    (lookup-last es test k value)
 
 later_place : (is : Bool) (o : Option ℕ) (c : Bool) (n : ℕ) →
     (if is then Some 0 else option_map suc (option_or o (if c then Some n else None))) ≡
@@ -46,31 +33,6 @@ pub first_at-last : {X : Type 0} (test : X → Bool) (xs : List X) (x : X) →
 first_at-last test [] x = refl
 first_at-last test (y ∷ ys) x =
     rw (first_at-last test ys x) (later_place (test y) (first_at test ys) (test x) (length ys))
-
--- where a key is known, nothing is new
-known : {X : Type 0} (kept : Kept X) (k key : List ℕ) (value : X) → is_some (lookup (bytes_eq k) kept) ≡ true →
-    lookup (bytes_eq key) kept ≡ option_or (lookup (bytes_eq key) kept) (if bytes_eq key k then Some value else None)
-known {X} kept k key value e = cases (lookup (bytes_eq key) kept) (bytes_eq key k) refl refl
-  where
-    cases : (o : Option X) (b : Bool) → lookup (bytes_eq key) kept ≡ o → bytes_eq key k ≡ b
-        → o ≡ option_or o (if b then Some value else None)
-    cases (Some x) b f g = refl
-    cases None false f g = refl
-    cases None true f g =
-        let same : key ≡ k = (bytes_eq-Decides key k).0 g in
-        let none : lookup (bytes_eq k) kept ≡ None = subst (λ (w : List ℕ). lookup (bytes_eq w) kept ≡ None) same f in
-        absurd cc
-
-pub lookup-with_new : {X : Type 0} (kept : Kept X) (k key : List ℕ) (value : X) →
-    lookup (bytes_eq key) (with_new kept k value) ≡ option_or (lookup (bytes_eq key) kept)
-    (if bytes_eq key k then Some value else None)
-lookup-with_new {X} kept k key value = cases (is_some (lookup (bytes_eq k) kept)) refl
-  where
-    cases : (b : Bool) → is_some (lookup (bytes_eq k) kept) ≡ b →
-        lookup (bytes_eq key) (if b then kept else kept ++ (k, value) ∷ []) ≡ option_or (lookup (bytes_eq key) kept)
-        (if bytes_eq key k then Some value else None)
-    cases true e = known kept k key value e
-    cases false e = lookup-last kept (bytes_eq key) k value
 
 -- ---- what is found
 
@@ -112,7 +74,7 @@ map_last f (y ∷ ys) x = rw (map_last f ys x) refl
 -- ---- one name more
 
 module _ (spelled : Name → List ℕ) (ns : List Name) (i : ℕ) (d : Name) (below : i < length ns) where
-  pub numbers_more : (table new : Kept ℕ) → new ≡ with_new table (spelled (get_or ns i d)) i →
+  pub numbers_more : (table new : Kept ℕ) → KeepsToo (spelled (get_or ns i d)) i table new →
       ((key : List ℕ) → lookup (bytes_eq key) table ≡ first_at (bytes_eq key) (map spelled (take i ns))) →
       (key : List ℕ) → lookup (bytes_eq key) new ≡ first_at (bytes_eq key) (map spelled (take (i + 1) ns))
   numbers_more table new e h key =
@@ -121,8 +83,7 @@ module _ (spelled : Name → List ℕ) (ns : List Name) (i : ℕ) (d : Name) (be
       take_more ns i next below (get_or_default ns i d next below) in
       let short : length (map spelled (take i ns)) ≡ i =
       length-map (take i ns) spelled ∙ length-take-le i ns (omega arith) in
-      ap (λ (kept : Kept ℕ). lookup (bytes_eq key) kept) e
-      ∙ lookup-with_new table (spelled (get_or ns i d)) key i
+      e key
       ∙ ap (λ (o : Option ℕ). option_or o (if bytes_eq key (spelled next) then Some i else None)) (h key)
       ∙ ap (λ (n : ℕ). option_or (first_at (bytes_eq key) (map spelled (take i ns)))
       (if bytes_eq key (spelled next) then Some n else None)) (sym short)

@@ -15,7 +15,7 @@ use Rattle.ilsource.specs.declared.source.Element.TheVariants as elements
 use Rattle.ildeclared.specs.DataTypes.{TypeNames, declared_type, types_below}
 use Rattle.ildeclared.specs.Declarations.{names_of}
 use Rattle.ildeclared.specs.Faults.{IsLeastOf, OfCause, SomeOf, IsFaultIn}
-use Rattle.ildeclared.specs.Kept.{Kept, types_in, with_new}
+use Rattle.ildeclared.specs.Kept.{Kept, KeepsToo, types_in}
 use Rattle.ildeclared.specs.Order.{lesser_of_two}
 use Rattle.ildeclared.specs.declared.data_type.DataType.{DataType}
 use Rattle.ildeclared.specs.declared.fault.NameCause.TheVariants.{Twice}
@@ -26,7 +26,6 @@ use Rattle.ilscope.specs.Declarations.{DeclaredProgram, Standing, above_next, de
 use Rattle.ilscope.specs.Faults.{IsTwiceIn}
 use Rattle.ilscope.specs.ScopeSteps.{AreAllNumbers, AreNumbersOf, IsFaultOfElement, IsGathered, above_all, block_names}
 use Rattle.ilscope.specs.ScopeSteps.{external_names, variable_names}
-use Rattle.ilscope.proofs.Numbered.{lookup-with_new}
 
 abbrev pub last_of : List TypeDeclaration → List Element → Element → Standing
 last_of above front element = record { above = above_all above front; element = element }
@@ -82,7 +81,7 @@ pub type_added : (lower : List ℕ) (front : List Element) (types new : Kept (Op
     IsGathered lower front types programs variables blocks externals least →
     IsLeastOf (IsFaultIn (types_in lower types) (declaration_of type)) fault →
     meaning ≡ declared_type (types_in lower types) type.specification type.initial →
-    new ≡ with_new types (text_of lower type.name) meaning →
+    KeepsToo (text_of lower type.name) meaning types new →
     IsGathered lower (front ++ elements.DerivedType type ∷ []) new programs variables blocks externals
     (lesser_of_two least fault)
 type_added lower front types new programs variables blocks externals least fault type meaning h f m e =
@@ -97,8 +96,7 @@ type_added lower front types new programs variables blocks externals least fault
     in
     record {
       meant = λ name.
-          ap (λ (kept : Kept (Option DataType)). lookup (bytes_eq (spelled name)) kept) e
-          ∙ lookup-with_new types (spelled type.name) (spelled name) meaning
+          e (spelled name)
           ∙ (λ i. option_or (h.meant name i)
           (if bytes_eq (spelled name) (spelled type.name) then Some (meant i) else None))
           ∙ ap (λ (a : List TypeDeclaration). types_below spelled a name)

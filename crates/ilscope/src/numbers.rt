@@ -5,7 +5,7 @@ ghost use Rattle.std.specs.Map.{lookup};
 ghost use Rattle.ilsource.specs.Names.{text_of};
 ghost use Rattle.ildeclared.specs.Declarations.{names_of};
 ghost use Rattle.ildeclared.specs.Faults.{IsLeastOf, OfCause};
-ghost use Rattle.ildeclared.specs.Kept.{with_new};
+ghost use Rattle.ildeclared.specs.Kept.{KeepsToo};
 ghost use Rattle.ildeclared.specs.declared.fault.NameCause.TheVariants.{Twice};
 ghost use Rattle.ilscope.specs.Configured.{task_declarations};
 ghost use Rattle.ilscope.specs.Declarations.{name_of};
@@ -52,7 +52,7 @@ fn add_name(
     number: usize,
 ) -> Result<Option<Found>, AllocError>
     ensures numbers { OnOk result
-        (numbers.new ≡ with_new numbers.old (text_of lower.now name) number) }
+        (KeepsToo (text_of lower.now name) number numbers.old numbers.new) }
     ensures twice { IfOk result (λ again. IsLeastOf (OfCause Twice (λ place.
         IsSome (lookup (bytes_eq (text_of lower.now name)) numbers.old) × (place ≡ name.from)))
         again) }

@@ -21,7 +21,7 @@ use Rattle.ilscope.specs.Faults.{IsTwiceIn}
 use Rattle.ilscope.specs.Tables.{first_at}
 use Rattle.ilscope.proofs.Numbered.{first_at-last, map_last}
 use Rattle.iluses.specs.Faults.{port_in}
-use Rattle.iluses.specs.LabelSteps.{IsKeptLabel, with_label}
+use Rattle.iluses.specs.LabelSteps.{IsKeptLabel, KeepsLabel}
 use Rattle.iluses.specs.SameNames.{same_name}
 use Rattle.iluses.proofs.LabelNumbers.{looked_up, again}
 
@@ -49,7 +49,7 @@ same_some false n m = refl
 
 module _ (text : List ℕ) where
   known_more : (front : List Name) (kept new : Kept ℕ) (o : Option Name) (number : ℕ)
-      → new ≡ with_label text kept o number → AreKnown text front kept → AreKnown text (front ++ cons_option o []) new
+      → KeepsLabel text o number kept new → AreKnown text front kept → AreKnown text (front ++ cons_option o []) new
   known_more front kept new None number e h x =
       ap (λ (k : Kept ℕ). is_some (lookup (bytes_eq (folded text x)) k)) e
       ∙ h x
@@ -57,8 +57,7 @@ module _ (text : List ℕ) where
       (sym (append-nil front))
   known_more front kept new (Some m) number e h x =
       let key = bytes_eq (folded text x) in
-      ap (λ (k : Kept ℕ). is_some (lookup key k)) e
-      ∙ ap (λ (o : Option ℕ). is_some o) (looked_up text kept (Some m) number x)
+      ap (λ (o : Option ℕ). is_some o) (looked_up text kept new (Some m) number e x)
       ∙ some_or _ _ _ _ (h x) (same_some (same_name text x m) number (length (map (folded text) front)))
       ∙ ap (λ (o : Option ℕ). is_some o)
       (sym (first_at-last key (map (folded text) front) (folded text m))
@@ -73,7 +72,7 @@ module _ (text : List ℕ) where
         ∙ filter_map-append (λ (y : Argument Symbol). port_in y.port) (take i xs) (get_or xs i d ∷ [])
         ∙ ap (λ (o : Option Name). given (take i xs) ++ cons_option o []) (sym is)
 
-    pub given_more : (kept new : Kept ℕ) → new ≡ with_label text kept port i
+    pub given_more : (kept new : Kept ℕ) → KeepsLabel text port i kept new
         → AreKnown text (given (take i xs)) kept → AreKnown text (given (take (i + 1) xs)) new
     given_more kept new e h =
         subst (λ (ns : List Name). AreKnown text ns new) (sym one_more)

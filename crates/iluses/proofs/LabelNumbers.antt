@@ -23,10 +23,10 @@ use Rattle.ildeclared.proofs.TwiceLast.{twice_last}
 use Rattle.ilscope.specs.Faults.{IsTwiceIn}
 use Rattle.ilscope.specs.Tables.{first_at}
 use Rattle.ilscope.proofs.LeastOfDeclarations.{some_of}
-use Rattle.ilscope.proofs.Numbered.{first_at-last, found_some, lookup-with_new, some_found}
+use Rattle.ilscope.proofs.Numbered.{first_at-last, found_some, some_found}
 use Rattle.iluses.specs.Faults.{labels_of}
 use Rattle.iluses.specs.Labels.{AreNumbered}
-use Rattle.iluses.specs.LabelSteps.{IsKeptLabel, with_label}
+use Rattle.iluses.specs.LabelSteps.{IsKeptLabel, KeepsLabel}
 use Rattle.iluses.specs.SameNames.{same_name}
 
 abbrev pub has : List ℕ → Name → Line Symbol Name → Bool
@@ -38,21 +38,22 @@ or_none (Some x) = refl
 
 -- ---- one line more
 
-pub looked_up : (text : List ℕ) (kept : Kept ℕ) (o : Option Name) (number : ℕ) (l : Name)
-    → lookup (bytes_eq (folded text l)) (with_label text kept o number)
-    ≡ option_or (lookup (bytes_eq (folded text l)) kept) (if has_label (same_name text) l o then Some number else None)
-looked_up text kept None number l = or_none (lookup (bytes_eq (folded text l)) kept)
-looked_up text kept (Some m) number l = lookup-with_new kept (folded text m) (folded text l) number
+pub looked_up : (text : List ℕ) (before after : Kept ℕ) (o : Option Name) (number : ℕ)
+    → KeepsLabel text o number before after
+    → (l : Name) → lookup (bytes_eq (folded text l)) after
+    ≡ option_or (lookup (bytes_eq (folded text l)) before) (if has_label (same_name text) l o then Some number else None)
+looked_up text before after None number e l =
+    ap (λ (k : Kept ℕ). lookup (bytes_eq (folded text l)) k) e ∙ or_none (lookup (bytes_eq (folded text l)) before)
+looked_up text before after (Some m) number e l = e (folded text l)
 
 module _ (text : List ℕ) (lines : List (Line Symbol Name)) (i : ℕ) (line : Line Symbol Name) (below : i < length lines)
     (is : line ≡ get_or lines i line) where
-  pub numbered_more : (kept new : Kept ℕ) → new ≡ with_label text kept line.label i
+  pub numbered_more : (kept new : Kept ℕ) → KeepsLabel text line.label i kept new
       → AreNumbered text (take i lines) kept → AreNumbered text (take (i + 1) lines) new
   numbered_more kept new e h label =
       let front : List (Line Symbol Name) = take i lines in
       let short : length front ≡ i = length-take-le i lines (omega (arith, below)) in
-      ap (λ (k : Kept ℕ). lookup (bytes_eq (folded text label)) k) e
-      ∙ looked_up text kept line.label i label
+      looked_up text kept new line.label i e label
       ∙ ap (λ (o : Option ℕ). option_or o (if has text label line then Some i else None)) (h label)
       ∙ ap (λ (n : ℕ). option_or (first_at (has text label) front) (if has text label line then Some n else None))
       (sym short)

@@ -7,7 +7,7 @@ ghost use Rattle.ildeclared.specs.declared.fault.NameCause.TheVariants.{Twice};
 ghost use Rattle.ilscope.specs.Faults.{IsTwiceIn};
 ghost use Rattle.iluses.specs.Faults.{labels_of};
 ghost use Rattle.iluses.specs.Labels.{AreNumbered};
-ghost use Rattle.iluses.specs.LabelSteps.{IsKeptLabel, with_label};
+ghost use Rattle.iluses.specs.LabelSteps.{IsKeptLabel, KeepsLabel};
 
 use ilscope::{Found, NameCause, Names, Scope, lesser_of};
 use ilsource::{Name, Symbol};
@@ -48,7 +48,7 @@ pub(crate) fn add_name(
     number: usize,
 ) -> Result<Option<Found>, AllocError>
     ensures numbers { OnOk result
-        (numbers.new ≡ with_label scope.now.tree.text numbers.old name number) }
+        (KeepsLabel scope.now.tree.text name number numbers.old numbers.new) }
     ensures twice { IfOk result (λ again. IsLeastOf
         (OfCause Twice (IsKeptLabel scope.now.tree.text numbers.old name)) again) }
 {

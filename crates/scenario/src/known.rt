@@ -5,8 +5,8 @@ ghost use Rattle.scenario.specs.Known.{declared_by};
 
 use crate::fault::ScenarioFault;
 use crate::statements::Statement;
-use indexmap::IndexSet;
 use std::alloc::Global;
+use std::collections::HashSet;
 use std::marker::Model;
 
 /// What a statement declares, which no later one may declare again: a key to be hashed, so the
@@ -28,25 +28,26 @@ pub(crate) enum Declaration {
 #[derive(Drop)]
 pub(crate) struct Known {
     statements: Vec<Statement>,
-    declared: IndexSet<Declaration>,
+    declared: HashSet<Declaration>,
 }
 
 impl Model for Known {
-    ghost use Rattle.std.specs.Prelude.{◌≡◌, List};
-    ghost use Rattle.scenario.specs.Known.{declarations};
+    ghost use Rattle.std.specs.Prelude.{List};
+    ghost use Rattle.std.specs.HashSet.{contains};
+    ghost use Rattle.scenario.specs.Known.{AreDeclared};
+    ghost use Rattle.scenario.specs.contracts.known.DeclarationPartialEq.TheImpl.{eq-value};
     ghost use Rattle.scenario.specs.declared.statements.Statement.{Statement};
 
     ghost Value = { List Statement };
 
     ghost view = { λ k. k.statements.items };
 
-    ghost invariant = { λ k. k.declared.keys ≡ declarations k.statements.items };
+    ghost invariant = { λ k. AreDeclared (contains eq-value.it k.declared) k.statements.items };
 }
 
 impl Known {
     ghost use Rattle.std.specs.Prelude.{◌≡◌, [], ◌∷◌, ◌++◌, IfOk, OnErr, Err};
     ghost use Rattle.std.specs.List.{list_any};
-    ghost use Rattle.scenario.specs.Following.{IsKnown};
     ghost use Rattle.scenario.specs.Known.{declares};
     ghost use Rattle.wordlines.specs.declared.fault.LineFault.TheVariants.{Memory};
 
@@ -56,7 +57,7 @@ impl Known {
     {
         Known {
             statements: Vec::new(alloc),
-            declared: IndexSet::new(alloc),
+            declared: HashSet::new(alloc),
         }
     }
 
@@ -67,9 +68,8 @@ impl Known {
         self.declared.contains(&declaration)
     }
 
-    /// These and one more, which may stand after them.
+    /// These and one more.
     pub(crate) fn with(mut self, statement: Statement) -> Result<Known, ScenarioFault>
-        requires { IsKnown self statement }
         ensures more { IfOk result (λ more. more ≡ self ++ statement ∷ []) }
         ensures memory { OnErr result (result ≡ Err Memory) }
     {

@@ -1,15 +1,16 @@
-use Rattle.std.proofs.Common.{◌≡◌, ◌∙◌, ap, refl}
+use Rattle.std.proofs.Common.{◌≡◌, sym}
 use Rattle.std.specs.Prelude.{bytes_eq, None}
 use Rattle.std.specs.Map.{lookup}
-use Rattle.ildeclared.proofs.Kept.{kept, kept-insert_entry}
+use Rattle.ildeclared.proofs.Kept.{keeps_too, kept}
 use Rattle.ildeclared.proofs.names.Names.push.Goals as goal
 
 pub returns-clause-ok : goal.returns-clause-ok
 returns-clause-ok g c =
-    let absent : lookup (bytes_eq c.in_ok-from_slice.field-0.items)
-    (kept (λ k. k.items) c.self.inside.entries.entries) ≡ None =
+    let before = c.self.inside.entries.entries in
+    let name = c.in_ok-from_slice.field-0 in
+    let updates = c.in_ok-insert.ensures.updates in
+    let absent : lookup (bytes_eq name.items) (kept (λ k. k.items) before) ≡ None =
     rw (c.in_ok-from_slice.ensures.items, c.self.view_is) c.requires
     in
-    ap (kept (λ k. k.items)) c.in_ok-insert.ensures.entries
-    ∙ kept-insert_entry (λ k. k.items) c.self.inside.entries.entries c.in_ok-from_slice.field-0 c.args.value absent
-    ∙ rw (c.in_ok-from_slice.ensures.items, c.self.view_is) refl
+    rw (sym c.in_ok-from_slice.ensures.items, sym c.self.view_is)
+    (keeps_too (λ k. k.items) before c.insert.new.self.entries name c.args.value absent updates.1 updates.3)

@@ -1,5 +1,5 @@
-use Rattle.std.proofs.Common.{◌∙◌, ap, List, ℕ}
-use Rattle.ildeclared.specs.Kept.{with_new}
+use Rattle.std.proofs.Common.{subst, List, ℕ}
+use Rattle.ildeclared.specs.Kept.{KeepsToo}
 use Rattle.ilscope.proofs.OneMore.{type_added}
 use Rattle.ilscope.proofs.gathering.Gathering.add_type.Goals as goal
 
@@ -11,5 +11,6 @@ returns c front h =
     c.args.self.now.least
     c.fault_of-fault.result c.args.declared c.declared_type-meaning.result h c.fault_of-fault.ensures
     c.declared_type-meaning.ensures
-    (c.in_ok-add.ensures.kept
-    ∙ ap (λ (key : List ℕ). with_new c.args.self.now.types key c.declared_type-meaning.result) c.text.ensures))
+    (subst
+    (λ (key : List ℕ). KeepsToo key c.declared_type-meaning.result c.args.self.now.types c.add.new.self)
+    c.text.ensures c.in_ok-add.ensures.kept))
