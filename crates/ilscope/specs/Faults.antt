@@ -1,7 +1,7 @@
 -- Faults of declarations in a source program: each stands at a place of the text, a byte's offset, and has a cause
 -- (IEC 61131-3, 2.3.3.1, 2.4.3 and 2.7.1: a name is declared once, a type above its use, an initial value is of the
 -- type, an external is a global variable of the same type, a program instance is one of a program, with a task).
-use Rattle.std.specs.Prelude.{◌≡◌, ◌≢◌, ◌⊎◌, ⊤, ℕ, ◌<◌, ℤ, pos, ◌<ℤ◌, List, [], map, Option, Some, None, IsSomeAnd}
+use Rattle.std.specs.Prelude.{◌≡◌, ◌≢◌, ◌⊎◌, ⊤, ℕ, pos, ◌<ℤ◌, List, [], map, Option, Some, None, IsSomeAnd}
 use Rattle.binding.specs.Wirings.{Wiring}
 use Rattle.iltypes.specs.declared.value.IlType.{IlType}
 use Rattle.iltokens.specs.declared.lexed.AddressKind.TheVariants as address_kinds

@@ -13,7 +13,6 @@ use ilsource::{Declared, Element, Name, Program, TypeDeclaration};
 use std::alloc::{AllocError, Global};
 
 /// What is gathered from the elements up to a place.
-#[derive(Drop)]
 pub(crate) struct Gathering<'a> {
     pub(crate) types: DeclaredTypes,
     pub(crate) programs: Vec<ProgramScope<'a>>,
@@ -21,6 +20,20 @@ pub(crate) struct Gathering<'a> {
     pub(crate) block_numbers: Vec<Names<usize>>,
     pub(crate) external_numbers: Vec<Names<usize>>,
     pub(crate) least: Option<Found>,
+}
+
+/// Written out, so that it is proved here alone.
+impl Drop for Gathering<'_> {
+    fn drop(self) {
+        let Self {
+            types: _,
+            programs: _,
+            variable_numbers: _,
+            block_numbers: _,
+            external_numbers: _,
+            least: _,
+        } = self;
+    }
 }
 
 impl<'a> Gathering<'a> {
@@ -45,6 +58,42 @@ impl<'a> Gathering<'a> {
             gathering.add(alloc, lower, element)?;
         }
         Ok(gathering)
+    }
+
+    /// Its parts. Only a method may take it apart, since its `Drop` is written out.
+    pub(crate) fn into_parts(
+        self,
+    ) -> (
+        DeclaredTypes,
+        Vec<ProgramScope<'a>>,
+        Vec<Names<usize>>,
+        Vec<Names<usize>>,
+        Vec<Names<usize>>,
+        Option<Found>,
+    )
+        ensures types { result.0 ≡ self.entry.types }
+        ensures programs { result.1 ≡ self.entry.programs }
+        ensures variable_numbers { result.2 ≡ self.entry.variable_numbers }
+        ensures block_numbers { result.3 ≡ self.entry.block_numbers }
+        ensures external_numbers { result.4 ≡ self.entry.external_numbers }
+        ensures least { result.5 ≡ self.entry.least }
+    {
+        let Gathering {
+            types,
+            programs,
+            variable_numbers,
+            block_numbers,
+            external_numbers,
+            least,
+        } = self;
+        (
+            types,
+            programs,
+            variable_numbers,
+            block_numbers,
+            external_numbers,
+            least,
+        )
     }
 
     /// Adds the next element.
@@ -124,13 +173,40 @@ impl<'a> Gathering<'a> {
             external_numbers,
             twice,
         } = tables;
+        add_numbers(
+            &mut self.variable_numbers,
+            &mut self.block_numbers,
+            &mut self.external_numbers,
+            variable_numbers,
+            block_numbers,
+            external_numbers,
+        )?;
         self.programs.push(scope)?;
-        self.variable_numbers.push(variable_numbers)?;
-        self.block_numbers.push(block_numbers)?;
-        self.external_numbers.push(external_numbers)?;
         self.least = lesser_of(self.least, lesser_of(twice, fault));
         Ok(())
     }
+}
+
+/// Adds the numbers of one program's names to those of the programs before it. It is apart from
+/// `add_program`, so that few values are let go at each early return.
+fn add_numbers(
+    variables: &mut Vec<Names<usize>>,
+    blocks: &mut Vec<Names<usize>>,
+    externals: &mut Vec<Names<usize>>,
+    its_variables: Names<usize>,
+    its_blocks: Names<usize>,
+    its_externals: Names<usize>,
+) -> Result<(), AllocError>
+    ensures variables { OnOk result
+        (variables.new.items ≡ variables.old.items ++ its_variables ∷ []) }
+    ensures blocks { OnOk result (blocks.new.items ≡ blocks.old.items ++ its_blocks ∷ []) }
+    ensures externals { OnOk result
+        (externals.new.items ≡ externals.old.items ++ its_externals ∷ []) }
+{
+    variables.push(its_variables)?;
+    blocks.push(its_blocks)?;
+    externals.push(its_externals)?;
+    Ok(())
 }
 
 /// The names of types and programs.

@@ -5,12 +5,23 @@ use ilsource::Program;
 use std::marker::Model;
 
 /// A program with its variables, block instances and externals.
-#[derive(Drop)]
 pub struct ProgramScope<'a> {
     program: &'a Program,
     variables: Vec<DeclaredVariable>,
     blocks: Vec<DeclaredBlock>,
     externals: Vec<DeclaredExternal>,
+}
+
+/// Written out, so that it is proved here alone.
+impl Drop for ProgramScope<'_> {
+    fn drop(self) {
+        let Self {
+            program: _,
+            variables: _,
+            blocks: _,
+            externals: _,
+        } = self;
+    }
 }
 
 impl<'a> Model for ProgramScope<'a> {

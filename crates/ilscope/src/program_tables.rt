@@ -1,8 +1,11 @@
 //! A program with what it declares, and tables in which its names are looked up.
 
 ghost use Rattle.std.specs.Prelude.{◌≡◌, IfOk};
+ghost use Rattle.ilsource.specs.Names.{text_of};
 ghost use Rattle.ildeclared.specs.Kept.{types_in};
 ghost use Rattle.ilscope.specs.Declarations.{with_declared};
+ghost use Rattle.ilscope.specs.ScopeSteps.{AreNumbersOf, block_names, external_names};
+ghost use Rattle.ilscope.specs.ScopeSteps.{variable_names};
 
 use crate::numbers::{
     name_given_twice, numbers_of_blocks, numbers_of_externals, numbers_of_variables,
@@ -24,13 +27,10 @@ pub(crate) struct ProgramTables<'a> {
 }
 
 impl<'a> ProgramTables<'a> {
-    ghost use Rattle.ilsource.specs.Names.{text_of};
     ghost use Rattle.ildeclared.specs.Declarations.{names_of};
     ghost use Rattle.ildeclared.specs.Faults.{IsLeastOf, OfCause};
     ghost use Rattle.ildeclared.specs.declared.fault.NameCause.TheVariants.{Twice};
     ghost use Rattle.ilscope.specs.Faults.{IsTwiceIn};
-    ghost use Rattle.ilscope.specs.ScopeSteps.{AreNumbersOf, block_names, external_names};
-    ghost use Rattle.ilscope.specs.ScopeSteps.{variable_names};
 
     /// The tables of a program below these types. `lower` is the text in lower case.
     pub(crate) fn of(
@@ -52,9 +52,7 @@ impl<'a> ProgramTables<'a> {
     {
         let twice = name_given_twice(alloc, lower, program)?;
         let scope = scope_of(alloc, lower, types, program)?;
-        let variable_numbers = numbers_of_variables(alloc, lower, scope.variables())?;
-        let block_numbers = numbers_of_blocks(alloc, lower, scope.blocks())?;
-        let external_numbers = numbers_of_externals(alloc, lower, scope.externals())?;
+        let (variable_numbers, block_numbers, external_numbers) = numbers_in(alloc, lower, &scope)?;
         Ok(ProgramTables {
             scope,
             variable_numbers,
@@ -63,6 +61,26 @@ impl<'a> ProgramTables<'a> {
             twice,
         })
     }
+}
+
+/// The numbers of a program's variables, block instances and externals. They are made apart from
+/// the rest, so that few values are let go at each early return.
+fn numbers_in(
+    alloc: Global,
+    lower: &[u8],
+    scope: &ProgramScope<'_>,
+) -> Result<(Names<usize>, Names<usize>, Names<usize>), AllocError>
+    ensures variables { IfOk result (λ r.
+        AreNumbersOf (text_of lower.now) (variable_names scope.now) r.0) }
+    ensures blocks { IfOk result (λ r.
+        AreNumbersOf (text_of lower.now) (block_names scope.now) r.1) }
+    ensures externals { IfOk result (λ r.
+        AreNumbersOf (text_of lower.now) (external_names scope.now) r.2) }
+{
+    let variables = numbers_of_variables(alloc, lower, scope.variables())?;
+    let blocks = numbers_of_blocks(alloc, lower, scope.blocks())?;
+    let externals = numbers_of_externals(alloc, lower, scope.externals())?;
+    Ok((variables, blocks, externals))
 }
 
 /// A program with what it declares below these types. `lower` is the text in lower case.

@@ -5,7 +5,6 @@ ghost use Rattle.ilscope.specs.Tables.{lowered};
 
 use crate::configuration_tables::ConfigurationTables;
 use crate::element_tables::ElementTables;
-use crate::gathering::Gathering;
 use crate::program_scope::ProgramScope;
 use ilblocks::BlockKind;
 use ildeclared::{DeclaredGlobal, DeclaredTypes, Found, Names, lesser_of};
@@ -15,7 +14,6 @@ use std::alloc::{AllocError, Global};
 use std::marker::Model;
 
 /// What a source program declares: its types, programs, global variables, tasks and names.
-#[derive(Drop)]
 pub(crate) struct Tables<'a> {
     pub(crate) source: &'a Source,
     pub(crate) lower: Vec<u8>,
@@ -29,6 +27,26 @@ pub(crate) struct Tables<'a> {
     pub(crate) global_numbers: Names<usize>,
     pub(crate) task_numbers: Names<usize>,
     pub(crate) program_numbers: Names<usize>,
+}
+
+/// Written out, so that it is proved here alone.
+impl Drop for Tables<'_> {
+    fn drop(self) {
+        let Self {
+            source: _,
+            lower: _,
+            types: _,
+            programs: _,
+            variable_numbers: _,
+            block_numbers: _,
+            external_numbers: _,
+            globals: _,
+            value_types: _,
+            global_numbers: _,
+            task_numbers: _,
+            program_numbers: _,
+        } = self;
+    }
 }
 
 impl<'a> Model for Tables<'a> {
@@ -77,14 +95,8 @@ impl<'a> Tables<'a> {
             program_numbers,
             element_twice,
         } = gathered;
-        let Gathering {
-            types,
-            programs,
-            variable_numbers,
-            block_numbers,
-            external_numbers,
-            least,
-        } = gathering;
+        let (types, programs, variable_numbers, block_numbers, external_numbers, least) =
+            gathering.into_parts();
         let ConfigurationTables {
             globals,
             value_types,

@@ -1,6 +1,6 @@
 //! Faults of tasks and of program instances.
 
-ghost use Rattle.std.specs.Prelude.{◌↔◌, IsTrue, option_and_then, slice_get};
+ghost use Rattle.std.specs.Prelude.{◌≡◌, ◌↔◌, IsTrue, option_and_then, option_map, slice_get};
 ghost use Rattle.ildeclared.specs.Faults.{IsLeastOf, OfCause, SomeOf};
 ghost use Rattle.ildeclared.specs.Kept.{kept_under};
 ghost use Rattle.ildeclared.specs.declared.fault.NameCause.TheVariants.{BadAddress, NoTask};
@@ -104,8 +104,21 @@ fn no_trigger(
         (kept_under lower.now numbers.now name)) place task.now)) result }
 {
     let name = task.single?;
-    let global = globals.get(numbers.get(name.text(lower))?)?;
+    let global = global_of(lower, numbers, globals, name)?;
     found_where(!is_trigger(global), name.from, NameCause::BadAddress)
+}
+
+/// The global variable of a name, if there is one.
+fn global_of<'a>(
+    lower: &[u8],
+    numbers: &Names<usize>,
+    globals: &'a [DeclaredGlobal],
+    name: Name,
+) -> Option<&'a DeclaredGlobal>
+    ensures { option_map (λ g. g.now) result
+        ≡ option_and_then (slice_get globals.now) (kept_under lower.now numbers.now name) }
+{
+    globals.get(numbers.get(name.text(lower))?)
 }
 
 /// Whether a global variable is the trigger of a source.

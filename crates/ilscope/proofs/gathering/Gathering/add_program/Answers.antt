@@ -16,9 +16,9 @@ returns c front h =
       c.lesser_of-self.ensures,
       c.lesser_of.ensures,
       c.in_ok-push.ensures.items,
-      c.in_ok-push-2.ensures.items,
-      c.in_ok-push-3.ensures.items,
-      c.in_ok-push-4.ensures.items,
+      c.in_ok-add_numbers.ensures.variables,
+      c.in_ok-add_numbers.ensures.blocks,
+      c.in_ok-add_numbers.ensures.externals,
     )
     (program_added c.args.lower.now front old.types old.programs.items old.variable_numbers.items
     old.block_numbers.items old.external_numbers.items old.least its.twice fault c.args.program.now its.scope

@@ -31,7 +31,9 @@ invariant_of-tables c =
     let global_names = map (λ g. g.name) configured.globals.items in
     let task_names = map (λ t. t.name) (task_declarations tree) in
     let program_names = map (λ p. p.program.name) g.programs.items in
-    filled tree lower g.types g.programs.items g.variable_numbers.items g.block_numbers.items g.external_numbers.items
+    let parts = c.into_parts-types.ensures in
+    rw (parts.types, parts.programs, parts.variable_numbers, parts.block_numbers, parts.external_numbers)
+    (filled tree lower g.types g.programs.items g.variable_numbers.items g.block_numbers.items g.external_numbers.items
     g.least lower_is gathered configured.globals.items configured.value_types.items configured.global_numbers
     configured.task_numbers elements.program_numbers
     (says.globals
@@ -45,7 +47,7 @@ invariant_of-tables c =
     (moved_numbers c.deref-2.result.now lower task_names task_names configured.task_numbers c.deref-2.ensures.value refl
     says.task_numbers)
     (moved_numbers c.deref.result.now lower program_names program_names elements.program_numbers c.deref.ensures.value
-    refl c.in_ok-gathered.ensures.programs)
+    refl c.in_ok-gathered.ensures.programs))
 
 pub returns-clause-least : goal.returns-clause-least
 returns-clause-least c =
@@ -62,7 +64,7 @@ returns-clause-least c =
     c.elements.ensures c.in_ok-gathered.ensures.gathered
     in
     let tasks = task_declarations tree in
-    rw (c.lesser_of-found.ensures, c.lesser_of.ensures)
+    rw (c.lesser_of-found.ensures, c.into_parts-types.ensures.least, c.lesser_of.ensures)
     (found_in_tables tree lower g.types g.programs.items g.variable_numbers.items g.block_numbers.items
     g.external_numbers.items g.least lower_is gathered configured.globals.items elements.element_twice
     configured.configured_twice
