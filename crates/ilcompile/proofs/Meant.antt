@@ -1,6 +1,6 @@
 -- The code of a task does what the task means.
 use Rattle.std.proofs.Common.{◌≡◌, ℕ, suc, ◌+◌, List, [], ◌∷◌, ◌++◌, Bool, true, false, cond, ◌||◌, Some, refl, sym}
-use Rattle.std.proofs.Common.{ap, subst, arith, length, ◌≤◌}
+use Rattle.std.proofs.Common.{ap, subst, arith}
 use Rattle.std.specs.Prelude.{slice_get, not, flat_map, map, IfSome}
 use Rattle.std.specs.List.{AllByRecursion, list_any}
 use Rattle.iltypes.specs.declared.value.Value.{Value}

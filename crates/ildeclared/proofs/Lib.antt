@@ -1,3 +1,4 @@
+pub mod Collected
 pub mod ExternalFaults
 pub mod FoundOrder
 pub mod Kept

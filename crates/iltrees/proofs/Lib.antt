@@ -1,3 +1,4 @@
+pub mod Grown
 pub mod KeptMeaning
 pub mod KeptSizes
 pub mod Spelled
