@@ -1,5 +1,5 @@
 -- What the lock knows of each role, when an event is filed.
-use Rattle.std.proofs.Common.{◌≡◌, ◌≢◌, ◌⊎◌, ⊎_elim, ℕ, zero, suc, ◌+◌, ◌*◌, ◌<◌, ◌≤◌, Bool, true, false}
+use Rattle.std.proofs.Common.{◌≡◌, ◌≢◌, ⊎_elim, ℕ, zero, suc, ◌+◌, ◌*◌, ◌<◌, ◌≤◌, Bool, true, false}
 use Rattle.std.proofs.Common.{List, [], ◌∷◌, ◌++◌, length, get_or, set, Option, None, refl, sym, ap, ◌∙◌, subst, arith}
 use Rattle.std.proofs.Math.ListN.{length-set}
 use Rattle.std.proofs.lemmas.List.{get_or-set_same, get_or-set_other}
@@ -16,7 +16,7 @@ use Rattle.receipts.specs.Receipts.{IsRole, index_of, seat_of, reserved_after}
 use Rattle.receipts.specs.Seats.{AreCounted}
 use Rattle.receipts.specs.Tokens.{Held, Says, one_if}
 use Rattle.receipts.proofs.Roles.{index_below, index_apart, seat_apart}
-use Rattle.plantlock.specs.Tied.{IsTied, IsFront, AreTied, HasPlace}
+use Rattle.plantlock.specs.Tied.{IsTied, AreTied, HasPlace}
 use Rattle.plantlock.proofs.Places.{reserved_mine, reserved_other, reserved_now, reserved_then}
 
 pub said_at : (cells : List Named) (n m r : ℕ) (t u : Option (OnceToken NotedPart)) (x y : Bool) (rs : List Placed)

@@ -1,2 +1,3 @@
 pub mod Filing
+pub mod Noted
 pub mod Places

@@ -10,7 +10,7 @@ ghost use Rattle.receipts.specs.Opened.{AreFreshShares, HaveAllParts};
 ghost use Rattle.receipts.specs.Receipts.{ShareParts, HasPart, HaveParts, IsNoted, IsReserved};
 ghost use Rattle.receipts.specs.Receipts.{IsSame, whole};
 ghost use Rattle.receipts.specs.Seats.{AreUnused};
-ghost use Rattle.plantlock.specs.Answers.{IsOwn, ShowsScan, ShowsTransaction};
+ghost use Rattle.plantlock.specs.Answers.{IsOwn, IsUnheard, ShowsScan, ShowsTransaction};
 ghost use Rattle.plantlock.specs.Tied.{IsFront};
 
 use crate::tied::TiedPlant;
@@ -146,6 +146,7 @@ impl<'a, J: Basis, T: Seated, K: Tallies<T>> Shared<'a, J, T, K> {
         requires role { share.old.role ≡ roles.Bus bus }
         ensures reserved { OnOk result (IsReserved share.old share.new) }
         ensures up { OnOk result (shown_down (whole share.old) ≡ false) }
+        ensures why { IfErr result (IsUnheard (whole share.old)) }
         ensures err { OnErr result (IsSame share.old share.new) }
     {
         self.tied.lock(rt).may_hear(share, bus)

@@ -1,6 +1,6 @@
 //! The plant with what ties the Shares to it: what lies under the lock.
 
-ghost use Rattle.std.specs.Prelude.{◌≡◌, ℕ, ◌<◌, ◌≤◌, None, true, false, OnOk, OnErr, IsOk};
+ghost use Rattle.std.specs.Prelude.{◌≡◌, ℕ, ◌<◌, ◌≤◌, None, true, false, OnOk, OnErr, IfErr, IsOk};
 ghost use Rattle.std.specs.Prelude.{length, slice_index_or};
 ghost use Rattle.plantevents.specs.declared.event.Event.TheVariants as event;
 ghost use Rattle.plantevents.specs.declared.role.Role.TheVariants as roles;
@@ -10,6 +10,7 @@ ghost use Rattle.plant.specs.Refusals.{GivesFirstOrMemory, tick_cases, may_tick_
 ghost use Rattle.plant.specs.Shown.{grown, reserving, is_reserved};
 ghost use Rattle.receipts.specs.Receipts.{IsNoted, IsReserved, IsSame, whole};
 ghost use Rattle.receipts.specs.Seats.{AreCounted};
+ghost use Rattle.plantlock.specs.Answers.{IsUnheard};
 ghost use Rattle.plantlock.specs.Tied.{IsFront};
 
 mod scanning;
@@ -153,6 +154,7 @@ impl<'a, J: Basis, T: Seated, K: Tallies<T>> TiedPlant<'a, J, T, K> {
         ensures reserved { OnOk result (IsReserved share.old share.new) }
         ensures up { OnOk result (shown_down (whole share.old) ≡ false) }
         ensures refused { GivesFirstOrMemory (heard_cases self.old bus) result }
+        ensures why { IfErr result (IsUnheard (whole share.old)) }
         ensures err { OnErr result ((self.new ≡ self.old) × IsSame share.old share.new) }
     {
         what_a_part_shows();

@@ -1,8 +1,11 @@
 //! A turn of the worker of a bus.
 
-ghost use Rattle.std.specs.Prelude.{◌≡◌, false, OnOk};
+ghost use Rattle.std.specs.Prelude.{◌≡◌, ◌⊎◌, false, OnOk, IfErr};
 ghost use Rattle.plantevents.specs.Parts.{shown_down};
+ghost use Rattle.plant.specs.declared.refusal.CallError.TheVariants.{Refused};
+ghost use Rattle.plant.specs.declared.refusal.CallRefusal.TheVariants.{BusDown, NothingReady};
 ghost use Rattle.receipts.specs.Receipts.{whole};
+ghost use Rattle.plantlock.specs.Answers.{IsUnheard};
 ghost use Rattle.turns.specs.Logs.{HasFailed, HasGrown, IsServed, log_of};
 
 use crate::gate::Gate;
@@ -23,7 +26,9 @@ pub struct Served<'a, B: Bus, J: Basis, T: Seated> {
 }
 
 /// Where there was nothing to do, or the bus is down, the turn is idle.
-pub(crate) fn idle_where_refused(error: CallError) -> Result<Turn, CallError> {
+pub(crate) fn idle_where_refused(error: CallError) -> Result<Turn, CallError>
+    ensures idle { OnOk result ((error ≡ Refused NothingReady) ⊎ (error ≡ Refused BusDown)) }
+{
     match error {
         CallError::Refused(CallRefusal::NothingReady | CallRefusal::BusDown) => Ok(Turn::Idle),
         other => Err(other),
@@ -89,6 +94,7 @@ fn hear_once<'a, B: Bus, J: Basis + Links, T: Seated, K: Tallies<T>, R: Wait>(
     ensures served { IsServed (log_of J.buses bus) bus served.new.share (B.log served.new.line) }
     ensures asked { OnOk result
         (HasGrown (B.log served.old.line).hears (B.log served.new.line).hears) }
+    ensures why { IfErr result (IsUnheard (whole served.old.share)) }
 {
     served.line.room(1)?;
     shared.may_hear(rt, &mut served.share, bus)?;
@@ -126,8 +132,8 @@ pub fn send_turn<'a, B: Bus, J: Basis + Links, T: Seated, K: Tallies<T>, G: Gate
     }
 }
 
-/// Hears what came on a bus, if anything did. What was sent and heard stays what the Share has
-/// receipts for.
+/// Hears what came on a bus, if anything did: the bus is asked, unless the Share shows that it is
+/// down. What was sent and heard stays what the Share has receipts for.
 ///
 /// # Errors
 ///
@@ -140,6 +146,8 @@ pub fn hear_turn<'a, B: Bus, J: Basis + Links, T: Seated, K: Tallies<T>, R: Wait
 ) -> Result<Turn, CallError>
     requires served { IsServed (log_of J.buses bus) bus served.old.share (B.log served.old.line) }
     ensures served { IsServed (log_of J.buses bus) bus served.new.share (B.log served.new.line) }
+    ensures asked { OnOk result (shown_down (whole served.old.share) ≡ false
+        → HasGrown (B.log served.old.line).hears (B.log served.new.line).hears) }
 {
     match hear_once(rt, shared, bus, served) {
         Ok(turn) => Ok(turn),

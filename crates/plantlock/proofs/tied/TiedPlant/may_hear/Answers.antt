@@ -1,10 +1,9 @@
-use Rattle.std.proofs.Common.{◌≡◌, ◌<◌, length, sym, ap, ◌∙◌, subst, arith}
+use Rattle.std.proofs.Common.{◌≡◌, ap, ◌∙◌, subst, arith}
 use Rattle.plantevents.specs.Plants.{Plant}
 use Rattle.plantevents.specs.declared.role.Role.{Role}
-use Rattle.plantevents.specs.declared.role.Role.TheVariants.{Bus, Clock}
-use Rattle.plant.specs.Shown.{Shown}
+use Rattle.plantevents.specs.declared.role.Role.TheVariants.{Bus}
 use Rattle.receipts.specs.Receipts.{ShareParts, IsRole}
-use Rattle.plantlock.specs.Tied.{AreTied, HasPlace}
+use Rattle.plantlock.specs.Tied.{HasPlace}
 use Rattle.plantlock.proofs.tied.TiedPlant.may_hear.Goals as goal
 
 pub invariant_of-self-2 : goal.invariant_of-self-2

@@ -1,10 +1,6 @@
-use Rattle.std.proofs.Common.{◌≡◌, ◌<◌, length, sym, ap, ◌∙◌, subst, arith}
-use Rattle.plantevents.specs.Plants.{Plant}
-use Rattle.plantevents.specs.declared.role.Role.{Role}
-use Rattle.plantevents.specs.declared.role.Role.TheVariants.{Bus, Clock}
-use Rattle.plant.specs.Shown.{Shown}
-use Rattle.receipts.specs.Receipts.{ShareParts, IsRole}
-use Rattle.plantlock.specs.Tied.{AreTied, HasPlace}
+use Rattle.std.proofs.Common.{◌≡◌, ap, ◌∙◌}
+use Rattle.plantevents.specs.declared.role.Role.TheVariants.{Clock}
+use Rattle.receipts.specs.Receipts.{ShareParts}
 use Rattle.plantlock.proofs.tied.TiedPlant.may_tick.Goals as goal
 
 pub invariant_of-self-2 : goal.invariant_of-self-2

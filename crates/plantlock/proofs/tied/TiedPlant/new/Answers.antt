@@ -1,4 +1,4 @@
-use Rattle.std.proofs.Common.{◌≡◌, sym, subst}
+use Rattle.std.proofs.Common.{sym, subst}
 use Rattle.plant.specs.Shown.{Shown}
 use Rattle.plantlock.specs.Tied.{AreTied}
 use Rattle.plantlock.proofs.Filing.{starts}

@@ -1,12 +1,9 @@
-use Rattle.std.proofs.Common.{◌≡◌, ◌≢◌, ℕ, ◌+◌, ◌*◌, ◌<◌, List, ◌++◌, ◌∷◌, Option, None, length, get_or, set}
+use Rattle.std.proofs.Common.{◌≡◌, ◌≢◌, ℕ, ◌+◌, ◌*◌, ◌<◌, List, ◌++◌, ◌∷◌, None, length, get_or, set}
 use Rattle.std.proofs.Common.{refl, sym, ap, ◌∙◌, subst, arith}
-use Rattle.std.specs.declared.sync.OnceToken.{OnceToken}
-use Rattle.plantevents.specs.declared.role.Role.{Role}
 use Rattle.plantevents.specs.Parts.{Placed, placed, part}
 use Rattle.plant.specs.Shown.{grown, is_reserved}
-use Rattle.receipts.specs.declared.receipt.NotedPart.{NotedPart}
-use Rattle.receipts.specs.Receipts.{IsRole, ShareParts, index_of, seat_of, reserved_after}
-use Rattle.receipts.specs.Tokens.{Held, Says, one_if}
+use Rattle.receipts.specs.Receipts.{ShareParts, index_of, seat_of, reserved_after}
+use Rattle.receipts.specs.Tokens.{Held, one_if}
 use Rattle.plantlock.specs.Tied.{AreTied}
 use Rattle.plantlock.proofs.Filing.{filed, said_at, get_or_any}
 use Rattle.plantlock.proofs.ties.Ties.file.Goals as goal
