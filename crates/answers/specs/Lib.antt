@@ -1,4 +1,6 @@
 pub mod Answered
+pub mod CodePrinted
+pub mod Coding
 pub mod Connected
 pub mod Printed
 pub mod Responses

@@ -104,7 +104,7 @@ pub fn check(alloc: Global, binding: &Binding, text: &[u8]) -> Result<Setup, Sto
 ///
 /// The text's first fault, else the least fault of its names, else that no task has the name, else
 /// the first task whose code is refused; or that the allocator is out of memory.
-pub fn find_task(
+pub(crate) fn find_task(
     alloc: Global,
     binding: &Binding,
     text: &[u8],

@@ -10,9 +10,9 @@ use Rattle.answers.specs.Answered.{IsStepStop, IsStopOrMemory}
 use Rattle.answers.specs.Connected.{IsBindingStop, IsConnected}
 use Rattle.answers.specs.Stops.{printed_stop}
 use Rattle.answers.specs.declared.stop.Stop.{Stop}
-use Rattle.coding.specs.Coding.{IsCodeAnswer, IsCodeFile}
-use Rattle.coding.specs.Printed.{printed}
-use Rattle.coding.specs.declared.answer.CodeAnswer.{CodeAnswer}
+use Rattle.answers.specs.Coding.{IsCodeAnswer, IsCodeFile}
+use Rattle.answers.specs.CodePrinted.{printed}
+use Rattle.answers.specs.declared.code_answer.CodeAnswer.{CodeAnswer}
 use Rattle.exits.specs.ExitStatuses.{status_of_code_answer, status_of_stop}
 use Rattle.exits.specs.declared.exit_status.ExitStatus.{ExitStatus}
 use Rattle.exits.specs.declared.exit_status.ExitStatus.TheVariants.{Accepted}

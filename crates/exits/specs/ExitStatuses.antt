@@ -7,8 +7,8 @@ use Rattle.plantplay.specs.declared.playing.Ending.{Ending}
 use Rattle.plantplay.specs.declared.playing.Ending.TheVariants as endings
 use Rattle.workers.specs.declared.ended.Ended.{Ended}
 use Rattle.workers.specs.declared.ended.Ended.TheVariants.{Asked}
-use Rattle.coding.specs.declared.answer.CodeAnswer.{CodeAnswer}
-use Rattle.coding.specs.declared.answer.CodeAnswer.TheVariants as answers
+use Rattle.answers.specs.declared.code_answer.CodeAnswer.{CodeAnswer}
+use Rattle.answers.specs.declared.code_answer.CodeAnswer.TheVariants as answers
 use Rattle.exits.specs.declared.exit_status.ExitStatus.{ExitStatus}
 use Rattle.exits.specs.declared.exit_status.ExitStatus.TheVariants.{Accepted, Refused, Misused, Failed}
 use Rattle.exits.specs.declared.play_stop.PlayStop.{PlayStop}

@@ -1,8 +1,7 @@
 //! How the program ends.
 
-use answers::Stop;
+use answers::{CodeAnswer, Stop};
 use clap::error::ErrorKind;
-use coding::CodeAnswer;
 use plantplay::Ending;
 use workers::Ended;
 

@@ -3,11 +3,10 @@
 ghost use Rattle.std.specs.Prelude.{◌<◌, length};
 
 use ilcode::{Code, Word};
-use ilflow::{Flow, Judged};
 use iloperators::Condition;
 use ilplan::Plan;
 use ilranges::Entry;
-use listing::{KnownText, WordText};
+use listing::{Flow, Judged, KnownText, WordText};
 use std::alloc::{AllocError, Global};
 use std::io;
 use std::io::Write;

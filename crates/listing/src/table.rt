@@ -2,10 +2,11 @@
 
 ghost use Rattle.std.specs.Prelude.{◌<◌, length};
 
+use crate::flow::{Flow, Judged};
 use crate::knowing::KnownText;
+use crate::paths::longest_paths;
 use crate::words::WordText;
 use ilcode::{Code, Word};
-use ilflow::{Flow, Judged, longest_paths};
 use iloperators::Condition;
 use ilplan::Plan;
 use ilsetup::Setup;

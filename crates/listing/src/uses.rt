@@ -8,7 +8,7 @@ use ilsetup::Setup;
 use std::alloc::{AllocError, Global};
 
 /// How a variable is used by the words of codes, reached or not.
-#[derive(Clone, Copy, PartialEq, Eq)]
+#[derive(Clone, Copy)]
 pub(crate) struct Use {
     /// The line of the first word that reads it, or 0 where none does.
     pub read: usize,

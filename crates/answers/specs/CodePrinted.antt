@@ -4,8 +4,8 @@ use Rattle.std.specs.Fmt.{decimal}
 use Rattle.codefile.specs.Printed as files
 use Rattle.codefile.specs.declared.fault.FileFault.TheVariants.{Of}
 use Rattle.ilverify.specs.Printed as refusals
-use Rattle.coding.specs.declared.answer.CodeAnswer.{CodeAnswer}
-use Rattle.coding.specs.declared.answer.CodeAnswer.TheVariants.{Accepted, Faulty, Memory, Refused}
+use Rattle.answers.specs.declared.code_answer.CodeAnswer.{CodeAnswer}
+use Rattle.answers.specs.declared.code_answer.CodeAnswer.TheVariants.{Accepted, Faulty, Memory, Refused}
 
 -- the words of an accepted code and the bound; the refusal of a code; the first fault of bytes that are no file
 abbrev pub printed : CodeAnswer → List ℕ

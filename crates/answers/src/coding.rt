@@ -2,10 +2,11 @@
 
 ghost use Rattle.std.specs.Prelude.{IfErr, IfOk};
 ghost use Rattle.answers.specs.Answered.{IsStepStop, IsStopOrMemory};
-ghost use Rattle.coding.specs.Coding.{IsCodeAnswer, IsCodeFile, IsVerdict};
+ghost use Rattle.answers.specs.Coding.{IsCodeAnswer, IsCodeFile, IsVerdict};
 
-use crate::answer::CodeAnswer;
-use answers::{Stop, find_task};
+use crate::answers::find_task;
+use crate::code_answer::CodeAnswer;
+use crate::stop::Stop;
 use binding::Binding;
 use codefile::{FileFault, decode, encode};
 use ilcode::Code;

@@ -9,8 +9,8 @@ use Rattle.ilverify.specs.Certificates.{IsAccepted, IsRefusal}
 use Rattle.ilverify.specs.Verdicts.{Accepted as AcceptedCode}
 use Rattle.ilsetup.specs.Loaded.{Loaded}
 use Rattle.answers.specs.Answered.{IsFound}
-use Rattle.coding.specs.declared.answer.CodeAnswer.{CodeAnswer}
-use Rattle.coding.specs.declared.answer.CodeAnswer.TheVariants.{Accepted, Faulty, Memory, Refused}
+use Rattle.answers.specs.declared.code_answer.CodeAnswer.{CodeAnswer}
+use Rattle.answers.specs.declared.code_answer.CodeAnswer.TheVariants.{Accepted, Faulty, Memory, Refused}
 
 -- the bytes are the file of the code that the text's setup has for its first task of the name
 pub record IsCodeFile (wiring : Wiring) (text name bytes : List ℕ) : Type 0 where

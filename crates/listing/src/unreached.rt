@@ -1,8 +1,9 @@
 //! Notes on words: those that no scan reaches, and those that make requests.
 
+use crate::flow::{Flow, Judged};
+use crate::paths::most_requests;
 use crate::uses::line_at;
 use ilcode::Code;
-use ilflow::{Flow, Judged, most_requests};
 use ilsetup::Setup;
 use std::alloc::Global;
 use std::io;

@@ -1,7 +1,7 @@
 //! What is answered to bytes that may be a code file.
 
 ghost use Rattle.std.specs.Prelude.{Some};
-ghost use Rattle.coding.specs.Printed.{printed};
+ghost use Rattle.answers.specs.CodePrinted.{printed};
 
 use codefile::{FileCause, FileFault};
 use ilverify::Refusal;

@@ -1,2 +1,0 @@
-pub mod Coding
-pub mod Printed
