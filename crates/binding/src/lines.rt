@@ -18,7 +18,7 @@ use limits::{MOST_BUSES, MOST_SOURCES};
 use wordlines::{Words, number_of, parts_around_dot};
 
 /// What a line of a binding says.
-#[derive(Clone, Copy, PartialEq, Eq)]
+#[derive(Clone, Copy)]
 pub(crate) enum BindingLine {
     /// The number of buses.
     Buses(u8),

@@ -6,7 +6,7 @@ ghost use Rattle.binding.specs.Wirings.{IsAt};
 use dalievent::EventSource;
 
 /// A source of events that is bound at a place of a bus.
-#[derive(Clone, Copy, PartialEq, Eq)]
+#[derive(Clone, Copy)]
 pub struct BoundSource {
     /// The bus, counted from 0, below the number of buses of its binding.
     pub bus: u8,

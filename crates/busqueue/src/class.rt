@@ -9,7 +9,7 @@ use gearcmd::{Request, TaskKind};
 
 /// The class of what waits for a bus, by the priority of its first frame: the least number is sent
 /// first (IEC 62386-101, clause 9; which request has which is the profile's).
-#[derive(Clone, Copy, PartialEq, Eq)]
+#[derive(Clone, Copy)]
 pub enum Class {
     /// 2: what an event task sends once.
     UserAction,

@@ -7,7 +7,7 @@ use crate::port::{
 use iltypes::IlType;
 
 /// A kind of function block.
-#[derive(Clone, Copy, PartialEq, Eq)]
+#[derive(Clone, Copy)]
 pub enum BlockKind {
     /// R_TRIG: a rising edge (IEC 61131-3, table 35).
     RTrig,

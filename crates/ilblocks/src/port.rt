@@ -8,7 +8,7 @@ use iltypes::{IlType, Range, Value};
 pub const MOST_PORTS: usize = 5;
 
 /// The name of a port.
-#[derive(Clone, Copy, PartialEq, Eq)]
+#[derive(Clone, Copy)]
 pub enum PortName {
     Clk,
     Q,
@@ -39,7 +39,7 @@ pub enum Direction {
 }
 
 /// What a port may be.
-#[derive(Clone, Copy, PartialEq, Eq)]
+#[derive(Clone, Copy)]
 pub enum PortValues {
     /// BOOL.
     Truth,
@@ -52,7 +52,7 @@ pub enum PortValues {
 }
 
 /// A port of a block.
-#[derive(Clone, Copy, PartialEq, Eq)]
+#[derive(Clone, Copy)]
 pub struct Port {
     pub name: PortName,
     pub direction: Direction,

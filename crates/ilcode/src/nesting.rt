@@ -5,7 +5,7 @@ use iltypes::Value;
 
 /// An open parenthesis (IEC 61131-3, 3.2.2): the operator before it, and the result that the
 /// operator waits with.
-#[derive(Clone, Copy, PartialEq, Eq)]
+#[derive(Clone, Copy)]
 pub struct Opened {
     pub operator: Operator,
     pub saved: Value,

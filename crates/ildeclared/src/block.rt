@@ -4,7 +4,7 @@ use ilblocks::BlockKind;
 use ilsource::Name;
 
 /// A function block instance of a program (IEC 61131-3, 2.5.2.2).
-#[derive(Clone, Copy, PartialEq, Eq)]
+#[derive(Clone, Copy)]
 pub struct DeclaredBlock {
     /// The name in its declaration.
     pub name: Name,

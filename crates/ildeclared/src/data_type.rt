@@ -7,7 +7,7 @@ use ilsource::Constant;
 use iltypes::{IlType, Range, Value};
 
 /// A type as a variable has it (IEC 61131-3, 2.3.3.2).
-#[derive(Clone, Copy, PartialEq, Eq)]
+#[derive(Clone, Copy)]
 pub struct DataType {
     /// The values of a variable.
     pub value_type: IlType,

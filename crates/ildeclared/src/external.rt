@@ -4,7 +4,7 @@ use ilsource::Name;
 use iltypes::IlType;
 
 /// A global variable as a program names it in VAR_EXTERNAL (IEC 61131-3, 2.4.3).
-#[derive(Clone, Copy, PartialEq, Eq)]
+#[derive(Clone, Copy)]
 pub struct DeclaredExternal {
     /// The name in its declaration, which is that of a global variable.
     pub name: Name,

@@ -4,7 +4,7 @@ use ilsource::{DirectAddress, Name};
 use iltypes::{IlType, Value};
 
 /// A global variable of a configuration, as it is declared (IEC 61131-3, 2.4.3).
-#[derive(Clone, Copy, PartialEq, Eq)]
+#[derive(Clone, Copy)]
 pub struct DeclaredGlobal {
     pub name: Name,
     /// Where it is located, if it is.

@@ -4,7 +4,7 @@ use ilsource::Name;
 use iltypes::{IlType, Value};
 
 /// A variable of a program, as it is declared (IEC 61131-3, 2.4.3).
-#[derive(Clone, Copy, PartialEq, Eq)]
+#[derive(Clone, Copy)]
 pub struct DeclaredVariable {
     pub name: Name,
     pub value_type: IlType,

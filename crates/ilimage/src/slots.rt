@@ -1,7 +1,7 @@
 //! Slots of tasks.
 
 /// A slot of a task of the image.
-#[derive(Clone, Copy, PartialEq, Eq)]
+#[derive(Clone, Copy)]
 pub(crate) struct TaskSlot {
     /// The number of the task.
     pub(crate) task: usize,
@@ -11,7 +11,7 @@ pub(crate) struct TaskSlot {
 }
 
 /// A slot of a task from which a scan stores to a global variable.
-#[derive(Clone, Copy, PartialEq, Eq)]
+#[derive(Clone, Copy)]
 pub(crate) struct StoredSlot {
     /// The number of the slot in the task's code.
     pub(crate) slot: usize,

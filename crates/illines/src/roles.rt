@@ -9,7 +9,7 @@ use iloperators::{Condition, Function, IntegerType, Operator};
 use iltokens::{Delimiter, Keyword, What};
 
 /// What an operator does, which also says what is written after it.
-#[derive(Clone, Copy, PartialEq, Eq)]
+#[derive(Clone, Copy)]
 pub enum OperatorRole {
     /// LD, LDN: an operand.
     Load { negated: bool },

@@ -6,7 +6,7 @@ ghost use Rattle.iloperators.specs.Functions.{value_of_function, modified, least
 use iltypes::{Range, Value};
 
 /// The type that a conversion names (IEC 61131-3, 2.3.1).
-#[derive(Clone, Copy, PartialEq, Eq)]
+#[derive(Clone, Copy)]
 pub enum IntegerType {
     Sint,
     Int,
@@ -44,7 +44,7 @@ impl IntegerType {
 
 /// What makes a result of the current result alone: NOT (IEC 61131-3, 3.2.2), ABS and the
 /// conversions (2.5.1.5).
-#[derive(Clone, Copy, PartialEq, Eq)]
+#[derive(Clone, Copy)]
 pub enum Function {
     Not,
     Abs,

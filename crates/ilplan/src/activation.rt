@@ -3,7 +3,7 @@
 use gearcmd::TaskKind;
 
 /// What starts a task (IEC 61131-3, 2.7.2).
-#[derive(Clone, Copy, PartialEq, Eq)]
+#[derive(Clone, Copy)]
 pub enum Activation {
     /// The clock, every so many milliseconds, 1 or more.
     Cyclic { interval: u32 },

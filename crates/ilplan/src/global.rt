@@ -4,7 +4,7 @@ use ilsource::Name;
 use iltypes::{IlType, Value};
 
 /// What a global variable is located at (profile). The numbers of buses count from 0.
-#[derive(Clone, Copy, PartialEq, Eq)]
+#[derive(Clone, Copy)]
 pub enum Location {
     /// `%QB b.a`: the level of short address, group or broadcast `a`, 0 to 80.
     Level { bus: u8, address: u8 },
@@ -33,7 +33,7 @@ impl Location {
 }
 
 /// A global variable.
-#[derive(Clone, Copy, PartialEq, Eq)]
+#[derive(Clone, Copy)]
 pub struct Global {
     /// Its name in the text.
     pub name: Name,

@@ -7,7 +7,7 @@ use iltrees::Line;
 use std::marker::Model;
 
 /// A function block instance of a program instance.
-#[derive(Clone, Copy, PartialEq, Eq)]
+#[derive(Clone, Copy)]
 pub struct FunctionBlock {
     /// The program instance's name in the text.
     pub instance: Name,

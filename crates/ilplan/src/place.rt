@@ -1,7 +1,7 @@
 //! Places in a store.
 
 /// What an instruction names, by numbers of variables, block instances and ports.
-#[derive(Clone, Copy, PartialEq, Eq)]
+#[derive(Clone, Copy)]
 pub enum Place {
     /// The variable in the slot of this number.
     Slot(u16),

@@ -4,7 +4,7 @@ use ilsource::Name;
 use iltypes::{IlType, Value};
 
 /// A variable that a task's programs name.
-#[derive(Clone, Copy, PartialEq, Eq)]
+#[derive(Clone, Copy)]
 pub enum SlotOwner {
     /// The global variable of this number.
     Global(usize),
@@ -13,7 +13,7 @@ pub enum SlotOwner {
 }
 
 /// A place for the value of a variable.
-#[derive(Clone, Copy, PartialEq, Eq)]
+#[derive(Clone, Copy)]
 pub struct Slot {
     pub variable: SlotOwner,
     pub value_type: IlType,

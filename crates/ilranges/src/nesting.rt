@@ -10,7 +10,7 @@ use std::marker::Model;
 
 /// An open parenthesis (IEC 61131-3, 3.2.2): the operator before it, and what is known of the
 /// result that the operator waits with.
-#[derive(Clone, Copy, PartialEq, Eq)]
+#[derive(Clone, Copy)]
 pub struct KnownOpened {
     pub operator: Operator,
     pub saved: Known,

@@ -4,7 +4,7 @@ use iltokens::AddressKind;
 
 /// A direct address such as `%QB0.5` (IEC 61131-3, 2.4.1.1): where a variable is located, as it is
 /// written. The numbers may be those of no bus and of no place there.
-#[derive(Clone, Copy, PartialEq, Eq)]
+#[derive(Clone, Copy)]
 pub struct DirectAddress {
     /// The place of its first byte in the text.
     pub at: usize,

@@ -79,7 +79,7 @@ impl GlobalDeclaration {
 }
 
 /// `TASK name (SINGLE := .., INTERVAL := .., PRIORITY := ..);` (IEC 61131-3, 2.7.2).
-#[derive(Clone, Copy, PartialEq, Eq)]
+#[derive(Clone, Copy)]
 pub struct TaskDeclaration {
     pub name: Name,
     /// The variable of SINGLE.
@@ -90,7 +90,7 @@ pub struct TaskDeclaration {
 }
 
 /// `PROGRAM name [WITH task] : program;`: an instance of a program (IEC 61131-3, 2.7.2).
-#[derive(Clone, Copy, PartialEq, Eq)]
+#[derive(Clone, Copy)]
 pub struct InstanceDeclaration {
     pub name: Name,
     /// The name after WITH.

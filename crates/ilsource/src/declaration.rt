@@ -6,7 +6,7 @@ use iloperators::IntegerType;
 use std::marker::Model;
 
 /// A constant as it is written.
-#[derive(Clone, Copy, PartialEq, Eq)]
+#[derive(Clone, Copy)]
 pub enum Constant {
     /// TRUE or FALSE.
     Bool(bool),
@@ -17,7 +17,7 @@ pub enum Constant {
 }
 
 /// A type as it is written.
-#[derive(Clone, Copy, PartialEq, Eq)]
+#[derive(Clone, Copy)]
 pub enum Specification {
     Bool,
     Time,
@@ -34,7 +34,7 @@ pub enum Specification {
 }
 
 /// `name ":" specification [":=" constant] ";"`, between TYPE and END_TYPE.
-#[derive(Clone, Copy, PartialEq, Eq)]
+#[derive(Clone, Copy)]
 pub struct TypeDeclaration {
     pub name: Name,
     pub specification: Specification,
@@ -43,7 +43,7 @@ pub struct TypeDeclaration {
 }
 
 /// What the names of a declaration are.
-#[derive(Clone, Copy, PartialEq, Eq)]
+#[derive(Clone, Copy)]
 pub enum Declared {
     /// Variables of one type, with the initial value that is written.
     Variables {

@@ -7,7 +7,7 @@ ghost use Rattle.ilsyms.specs.declared.task_sets.TaskSet.TheVariants.{Empty};
 use std::alloc::{AllocError, Global};
 
 /// What is kept of a set of tasks.
-#[derive(Clone, Copy, PartialEq, Eq)]
+#[derive(Clone, Copy)]
 pub(crate) enum TaskSet {
     /// It has no task.
     Empty,

@@ -13,7 +13,7 @@ use std::alloc::{AllocError, Global};
 use std::marker::Model;
 
 /// A program instance of a task.
-#[derive(Clone, Copy, PartialEq, Eq)]
+#[derive(Clone, Copy)]
 pub(crate) struct TaskInstance {
     /// Its name in the text.
     pub(crate) name: Name,
@@ -56,7 +56,7 @@ pub(crate) fn program_of<'a, 's>(scope: &'a Scope<'s>, number: usize) -> &'a Pro
 }
 
 /// A program instance with the number of its task.
-#[derive(Clone, Copy, PartialEq, Eq)]
+#[derive(Clone, Copy)]
 struct Assigned {
     task: usize,
     instance: TaskInstance,

@@ -7,7 +7,7 @@ use std::alloc::{AllocError, Global};
 use std::marker::Model;
 
 /// What a piece does.
-#[derive(Clone, Copy, PartialEq, Eq)]
+#[derive(Clone, Copy)]
 pub enum Action<N> {
     /// LD, LDN.
     Load { negated: bool, operand: Operand<N> },
@@ -22,7 +22,7 @@ pub enum Action<N> {
 }
 
 /// A piece of what stands in parentheses. Each is one word of code.
-#[derive(Clone, Copy, PartialEq, Eq)]
+#[derive(Clone, Copy)]
 pub struct Piece<N> {
     /// The place in the text of the first byte of the piece's instruction, or of `)`. The operator
     /// of `OP( x` and the LD that `x` is have the same.

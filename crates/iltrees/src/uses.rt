@@ -7,7 +7,7 @@ use crate::operand::Operand;
 use std::alloc::AllocError;
 
 /// What an instruction does with what it names.
-#[derive(Clone, Copy, PartialEq, Eq)]
+#[derive(Clone, Copy)]
 pub enum Purpose {
     /// It is an operand.
     Read,
@@ -20,7 +20,7 @@ pub enum Purpose {
 }
 
 /// An operand with the place of its instruction. What is stored to, set, reset or called is a name.
-#[derive(Clone, Copy, PartialEq, Eq)]
+#[derive(Clone, Copy)]
 pub struct Use<N> {
     /// The place in the text of the first byte of the instruction that uses it, in or out of
     /// parentheses.

@@ -11,7 +11,7 @@ use std::alloc::{AllocError, Global};
 use std::marker::Model;
 
 /// A word in 32 bits, which contracts see as the word that they spell.
-#[derive(Clone, Copy, PartialEq, Eq)]
+#[derive(Clone, Copy)]
 pub struct PackedWord {
     bits: u32,
 }

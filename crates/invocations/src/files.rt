@@ -1,7 +1,7 @@
 //! The files that commands read, by their paths.
 
 /// The files that a command reads.
-#[derive(Clone, Copy, PartialEq, Eq)]
+#[derive(Clone, Copy)]
 pub struct Files<'a> {
     /// The path of the text.
     pub text: &'a str,
@@ -10,7 +10,7 @@ pub struct Files<'a> {
 }
 
 /// The files that a scenario is played or run from.
-#[derive(Clone, Copy, PartialEq, Eq)]
+#[derive(Clone, Copy)]
 pub struct PlayFiles<'a> {
     /// The path of the text.
     pub text: &'a str,

@@ -3,7 +3,7 @@
 use crate::files::Files;
 
 /// What the user asks of a text.
-#[derive(Clone, Copy, PartialEq, Eq)]
+#[derive(Clone, Copy)]
 pub enum Inquiry<'a> {
     /// `check FILE [--bind FILE]`
     Check {

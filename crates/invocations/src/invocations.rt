@@ -5,7 +5,7 @@ use crate::inquiries::Inquiry;
 use crate::questions::Question;
 
 /// What the user asks for.
-#[derive(Clone, Copy, PartialEq, Eq)]
+#[derive(Clone, Copy)]
 pub enum Invocation<'a> {
     /// An answer to a text.
     Ask(Inquiry<'a>),
@@ -42,7 +42,7 @@ pub enum Invocation<'a> {
 }
 
 /// How large a run may become.
-#[derive(Clone, Copy, PartialEq, Eq)]
+#[derive(Clone, Copy)]
 pub struct RunSize {
     /// The most events of its history.
     pub limit: u32,

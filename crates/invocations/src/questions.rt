@@ -7,7 +7,7 @@ ghost use Rattle.invocations.specs.Invocations.{IsNoQuestion, IsQuestion};
 use clap::ArgMatches;
 
 /// What an installer asks of a text.
-#[derive(Clone, Copy, PartialEq, Eq)]
+#[derive(Clone, Copy)]
 pub enum Question<'a> {
     /// `notes FILE [--bind FILE]`: what is likely not meant.
     Notes,

@@ -25,7 +25,7 @@ pub struct Performed {
 }
 
 /// Why nothing was sent on a bus.
-#[derive(Clone, Copy, PartialEq, Eq)]
+#[derive(Clone, Copy)]
 pub enum SendError {
     /// 1: the allocator is out of memory.
     Memory,

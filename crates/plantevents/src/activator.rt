@@ -3,7 +3,7 @@
 use dalievent::EventSource;
 
 /// What activates a task (IEC 61131-3, 2.7.2).
-#[derive(Clone, Copy, PartialEq, Eq)]
+#[derive(Clone, Copy)]
 pub enum Activator {
     /// The clock, every so many milliseconds, 1 or more.
     Interval { milliseconds: u32 },
@@ -12,7 +12,7 @@ pub enum Activator {
 }
 
 /// An event message that activated a task, which has not been taken for it yet.
-#[derive(Clone, Copy, PartialEq, Eq)]
+#[derive(Clone, Copy)]
 pub struct PendingEvent {
     /// The place of the event in the history.
     pub place: u64,

@@ -6,7 +6,7 @@ use gearcmd::Request;
 use transact::{Report, Transaction};
 
 /// What a transaction was made of.
-#[derive(Clone, Copy, PartialEq, Eq)]
+#[derive(Clone, Copy)]
 pub enum Origin {
     /// A request that waited.
     Queued(Request),

@@ -1,7 +1,7 @@
 //! Roles.
 
 /// Who an event comes from.
-#[derive(Clone, Copy, PartialEq, Eq)]
+#[derive(Clone, Copy)]
 pub enum Role {
     /// The scan worker of this number.
     Worker(usize),

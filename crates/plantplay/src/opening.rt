@@ -19,7 +19,7 @@ use std::fmt;
 const WORKERS: usize = 1;
 
 /// Why a plant on simulated buses can't start.
-#[derive(Clone, Copy, PartialEq, Eq)]
+#[derive(Clone, Copy)]
 pub enum StartFault {
     /// The allocator had no memory for the simulated buses.
     Memory,

@@ -8,7 +8,7 @@ use daliframe::{BusNumber, Frame24};
 use std::marker::Model;
 
 /// What happens by a line of a scenario.
-#[derive(Clone, Copy, PartialEq, Eq)]
+#[derive(Clone, Copy)]
 pub enum Happening {
     /// The clock comes to this moment, in milliseconds.
     Tick { moment: u64 },

@@ -3,7 +3,7 @@
 use daliframe::{BusNumber, EventScheme, Frame24, InstanceNumber, InstanceType, ShortAddress};
 
 /// What becomes of a frame that is sent.
-#[derive(Clone, Copy, PartialEq, Eq)]
+#[derive(Clone, Copy)]
 pub enum FrameFate {
     /// It is lost, and reaches nobody.
     Lost,
@@ -14,7 +14,7 @@ pub enum FrameFate {
 }
 
 /// What a line of a scenario says.
-#[derive(Clone, Copy, PartialEq, Eq)]
+#[derive(Clone, Copy)]
 pub enum Statement {
     /// There is a control gear.
     Gear {

@@ -6,7 +6,7 @@ ghost use Rattle.simbus.specs.Commands.{level_query_at, group_query_at};
 use std::marker::Model;
 
 /// The number of a scene or of a group, 0 to 15.
-#[derive(Clone, Copy, PartialEq, Eq)]
+#[derive(Clone, Copy)]
 pub(crate) struct SceneOrGroup {
     number: u8,
 }
@@ -34,7 +34,7 @@ impl SceneOrGroup {
 }
 
 /// A command that acts when it is sent once.
-#[derive(Clone, Copy, PartialEq, Eq)]
+#[derive(Clone, Copy)]
 pub(crate) enum GearAction {
     Off,
     StepUp,
@@ -48,7 +48,7 @@ pub(crate) enum GearAction {
 }
 
 /// A command that acts when it is sent twice.
-#[derive(Clone, Copy, PartialEq, Eq)]
+#[derive(Clone, Copy)]
 pub(crate) enum Setting {
     Reset,
     StoreActualLevelInDtr0,
@@ -59,7 +59,7 @@ pub(crate) enum Setting {
 }
 
 /// A command that asks for an answer.
-#[derive(Clone, Copy, PartialEq, Eq)]
+#[derive(Clone, Copy)]
 pub(crate) enum Query {
     Status,
     ControlGearPresent,
@@ -78,7 +78,7 @@ pub(crate) enum Query {
 }
 
 /// What an opcode commands.
-#[derive(Clone, Copy, PartialEq, Eq)]
+#[derive(Clone, Copy)]
 pub(crate) enum GearCommand {
     Act(GearAction),
     Set(Setting),

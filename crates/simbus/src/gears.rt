@@ -15,14 +15,14 @@ pub(crate) const MAX_LEVEL: u8 = 254;
 const MASK: u8 = 255;
 
 /// Simulated control gear, as a scenario declares it.
-#[derive(Clone, Copy, PartialEq, Eq)]
+#[derive(Clone, Copy)]
 pub struct Gear {
     pub address: ShortAddress,
     pub lamp_failure: bool,
 }
 
 /// A byte of a memory bank of simulated control gear.
-#[derive(Clone, Copy, PartialEq, Eq)]
+#[derive(Clone, Copy)]
 pub struct MemoryByte {
     /// The gear.
     pub address: ShortAddress,
@@ -32,7 +32,7 @@ pub struct MemoryByte {
 }
 
 /// The variables of control gear (IEC 62386-102, clause 10).
-#[derive(Clone, Copy, PartialEq, Eq)]
+#[derive(Clone, Copy)]
 pub struct GearVariables {
     /// The actual level: 0 off, else 1 to 254.
     pub level: u8,

@@ -7,7 +7,7 @@ ghost use Rattle.simbus.specs.Histories.{is_instance};
 use daliframe::{EventScheme, Fields24, InstanceNumber, InstanceType, ShortAddress};
 
 /// A simulated instance of a control device, as a scenario declares it.
-#[derive(Clone, Copy, PartialEq, Eq)]
+#[derive(Clone, Copy)]
 pub struct InputInstance {
     /// The device.
     pub address: ShortAddress,
@@ -19,7 +19,7 @@ pub struct InputInstance {
 }
 
 /// What commands change of an instance.
-#[derive(Clone, Copy, PartialEq, Eq)]
+#[derive(Clone, Copy)]
 pub struct InstanceVariables {
     pub scheme: EventScheme,
     /// Whether ENABLE INSTANCE or DISABLE INSTANCE was the last of the two; at first it is enabled.
@@ -27,7 +27,7 @@ pub struct InstanceVariables {
 }
 
 /// What an opcode commands an instance of a control device.
-#[derive(Clone, Copy, PartialEq, Eq)]
+#[derive(Clone, Copy)]
 pub(crate) enum DeviceCommand {
     Enable,
     Disable,

@@ -6,7 +6,7 @@ use daliframe::Frame24;
 use scenario::FrameFate;
 
 /// What becomes of a frame that is sent, by its place.
-#[derive(Clone, Copy, PartialEq, Eq)]
+#[derive(Clone, Copy)]
 pub struct ScriptedReply {
     /// The place of the frame among those sent on the bus, from 1.
     pub place: u64,
@@ -14,7 +14,7 @@ pub struct ScriptedReply {
 }
 
 /// What a call that hears meets.
-#[derive(Clone, Copy, PartialEq, Eq)]
+#[derive(Clone, Copy)]
 pub enum Arrival {
     /// A frame.
     Frame(Frame24),

@@ -6,7 +6,7 @@ use daliframe::Frame;
 use std::fmt;
 
 /// What the bus answered to a frame.
-#[derive(Clone, Copy, Debug, PartialEq, Eq)]
+#[derive(Clone, Copy, PartialEq, Eq)]
 pub enum Reply {
     /// No backward frame: to a query, NO.
     Quiet,
@@ -19,7 +19,7 @@ pub enum Reply {
 }
 
 /// What became of a frame that was sent.
-#[derive(Clone, Copy, Debug, Default, PartialEq, Eq)]
+#[derive(Clone, Copy, Default, PartialEq, Eq)]
 pub enum Mark {
     /// No backward frame came.
     #[default]
@@ -84,7 +84,7 @@ impl From<Reply> for Mark {
 }
 
 /// A frame as it was sent.
-#[derive(Clone, Copy, Debug, Default, PartialEq, Eq)]
+#[derive(Clone, Copy, Default)]
 pub struct Sent {
     pub frame: Frame,
     /// 1 to 5, of which 1 is the highest (IEC 62386-101, clause 9).
@@ -94,7 +94,7 @@ pub struct Sent {
 }
 
 /// How a transaction ended.
-#[derive(Clone, Copy, Debug, PartialEq, Eq)]
+#[derive(Clone, Copy, PartialEq, Eq)]
 pub enum Outcome {
     /// All frames were sent; the reply is that to the last.
     Done(Reply),

@@ -23,7 +23,7 @@ pub const MOST_RETRIES: u8 = MOST_ATTEMPTS - 1;
 pub const MOST_SENT: usize = MOST_ATTEMPTS as usize * MOST_FRAMES;
 
 /// What became of a transaction: its attempts, one after another, and how it ended.
-#[derive(Debug, Drop, PartialEq, Eq)]
+#[derive(Drop)]
 pub struct Report {
     transaction: Transaction,
     attempts: ArrayVec<Sent, MOST_SENT>,

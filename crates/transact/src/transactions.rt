@@ -13,7 +13,7 @@ use std::marker::Model;
 
 /// One to three frames that are sent one after another, with no other frame of this controller
 /// between.
-#[derive(Debug, Drop, PartialEq, Eq)]
+#[derive(Drop, PartialEq, Eq)]
 pub struct Transaction {
     frames: ArrayVec<Frame, MOST_FRAMES>,
     first_priority: u8,
