@@ -15,6 +15,7 @@
 //! ```
 #![tactic(auto)]
 
+mod alike_words;
 mod left;
 mod loaded;
 mod machine;
