@@ -1,7 +1,8 @@
 -- The passes of the compiler over the lines of a program: the targets of jumps from the last line to the first, and the
 -- words from the first line to the last.
 use Rattle.std.proofs.Common.{◌≡◌, ℕ, suc, ◌+◌, ◌<◌, List, [], ◌∷◌, ◌++◌, length, reverse, Option, Some, None}
-use Rattle.std.proofs.Common.{refl, sym, ap, ◌∙◌, arith, append_assoc, length-append, get_or, drop, drop-cons, ◌≤◌}
+use Rattle.std.proofs.Common.{refl, sym, ap, ◌∙◌, arith, append_assoc, length-append, get_or, drop, drop-cons, ◌≤◌, map}
+use Rattle.std.proofs.lemmas.List.{append-nil, drop_all, drop_more}
 use Rattle.limits.specs.Limits.{most_words}
 use Rattle.std.specs.Option.{option_map_or}
 use Rattle.iltypes.specs.declared.value.Value.{Value}
@@ -17,6 +18,26 @@ use Rattle.ilcompile.specs.Layout.{place_of_label, words_of, words_in, words_of_
 use Rattle.ilcompile.specs.Layout.{words_of_programs, starts_from, programs_of}
 use Rattle.ilcompile.specs.LayoutSteps.{target_of, targets_of, IsTaken}
 use Rattle.ilcompile.proofs.Sizes.{count_more, count_both, line_long, lines_long}
+
+-- ---- a word for each element
+
+-- one more: the words of the elements that are left are still to come
+pub one_made : {X : Type 0} (f : X → Word) (xs : List X) (i : ℕ) (d : X) (made more all : List Word) (word : Word)
+    → i < length xs → made ++ map f (drop i xs) ≡ all → more ≡ made ++ word ∷ [] → word ≡ f (get_or xs i d)
+    → more ++ map f (drop (i + 1) xs) ≡ all
+one_made {X} f xs i d made more all word below so_far push is =
+    let rest = map f (drop (i + 1) xs) in
+    ap (λ (ws : List Word). ws ++ rest) push
+    ∙ (append_assoc made (word ∷ []) rest
+    ∙ (ap (λ (w : Word). made ++ w ∷ rest) is
+    ∙ (ap (λ (ys : List X). made ++ map f ys) (sym (drop_more xs i d below)) ∙ so_far)))
+
+pub all_made : {X : Type 0} (f : X → Word) (xs : List X) (n : ℕ) (made all : List Word)
+    → made ++ map f (drop n xs) ≡ all → length xs ≤ n → made ≡ all
+all_made {X} f xs n made all so_far past =
+    sym (append-nil made) ∙ (ap (λ (ys : List X). made ++ map f ys) (sym (drop_all n xs past)) ∙ so_far)
+
+-- ---- lines
 
 -- an instruction's words depend on no target but its own
 same_words : (constants : List Value) (end next : ℕ) (one other : ℕ → ℕ) (i : Option (Instruction Place ℕ))
@@ -76,6 +97,25 @@ pub the_next : {X : Type 0} (xs : List X) (i : ℕ) (x : X) → i < length xs �
 the_next xs i x h e =
     let z : suc i ≡ i + 1 = omega arith in
     drop-cons xs i x h ∙ (ap (λ y. y ∷ drop (suc i) xs) (sym e) ∙ ap (λ n. x ∷ drop n xs) z)
+
+-- one element more: the places of those that are left are still to come
+pub one_joined : {X : Type 0} (F : List X → List ℕ) (xs : List X) (i : ℕ) (x : X) (piece made more all : List ℕ)
+    → i < length xs → x ≡ get_or xs i x → F (x ∷ drop (i + 1) xs) ≡ piece ++ F (drop (i + 1) xs)
+    → made ++ F (drop i xs) ≡ all → more ≡ made ++ piece → more ++ F (drop (i + 1) xs) ≡ all
+one_joined {X} F xs i x piece made more all below is step so_far push =
+    let rest = F (drop (i + 1) xs) in
+    ap (λ (ps : List ℕ). ps ++ rest) push
+    ∙ (append_assoc made piece rest
+    ∙ (ap (λ (ps : List ℕ). made ++ ps) (sym step)
+    ∙ (ap (λ (ys : List X). made ++ F ys) (sym (the_next xs i x below is)) ∙ so_far)))
+
+-- where the lines that are left have room, the next one has
+pub next_fits : (place : ℕ) (lines : List (Line Place ℕ)) (i : ℕ) (line : Line Place ℕ) → i < length lines
+    → line ≡ get_or lines i line → place + counts.words_of_lines (drop i lines) ≤ most_words
+    → place + counts.words_in line ≤ most_words
+next_fits place lines i line below is room =
+    let left = ap (λ (ls : List (Line Place ℕ)). counts.words_of_lines ls) (the_next lines i line below is) in
+    omega (arith, left, count_more line (drop (i + 1) lines), room)
 
 module _ (constants : List Value) (all : List Word) (all_starts : List ℕ) where
   -- the programs that are left: their words and starts are those that are still to come

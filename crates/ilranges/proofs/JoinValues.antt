@@ -1,6 +1,7 @@
 -- What is known of a value where two ways meet: each way is within it, and it is within all that both are within;
 -- nothing holds values of two kinds.
-use Rattle.std.proofs.Common.{ℤ, inl, inr, true}
+use Rattle.std.proofs.Common.{ℤ, inl, inr, true, Option, Some, None, refl}
+use Rattle.std.specs.Prelude.{◌↔◌, IsNone, IsSome}
 use Rattle.iltypes.specs.declared.range.Range.{Range}
 use Rattle.iltypes.specs.declared.value.Value.{Value}
 use Rattle.iltypes.specs.declared.value.Value.TheVariants as values
@@ -12,6 +13,12 @@ use Rattle.ilranges.specs.declared.known.Known.TheVariants as knowns
 use Rattle.ilranges.specs.Knowns.{IsKnown, IsKnownWithin}
 use Rattle.ilranges.specs.Joins.{IsHeld, IsKnownAsEither, IsJoin}
 use Rattle.ilranges.proofs.Knowns.{known_wider, numbers_within, within_of_values, reached_self}
+
+-- what something holds has a join
+pub held_joins : (one other : Known) (join : Option Known) → (IsNone join ↔ ¬ IsHeld one other) → IsHeld one other
+    → IsSome join
+held_joins one other (Some known) none held = refl
+held_joins one other None none held = absurd (none.0 refl held)
 
 -- ---- values of two kinds
 

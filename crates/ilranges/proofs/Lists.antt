@@ -1,7 +1,10 @@
--- Lists: what stands at a place after others, and two lists of which a relation holds place by place.
-use Rattle.std.proofs.Common.{◌≡◌, ℕ, ◌+◌, ◌<◌, List, [], ◌∷◌, ◌++◌, length, refl, ap, subst, arith, zero, suc, Some}
+-- Lists: what stands at a place after others, two lists of which a relation holds place by place, and what is made of
+-- each element in turn.
+use Rattle.std.proofs.Common.{◌≡◌, ℕ, ◌+◌, ◌<◌, ◌≤◌, List, [], ◌∷◌, ◌++◌, length, refl, sym, ap, ◌∙◌, subst, arith}
+use Rattle.std.proofs.Common.{zero, suc, Some, get_or, map, take}
 use Rattle.std.specs.Prelude.{slice_get, slice_set}
 use Rattle.std.specs.List.{AllZip}
+use Rattle.std.proofs.lemmas.List.{map-append, take_all, take_more}
 
 pub get_left : {A : Type 0} (xs ys : List A) (n : ℕ) → n < length xs → slice_get (xs ++ ys) n ≡ slice_get xs n
 get_left [] ys n h = absurd (omega arith)
@@ -59,3 +62,17 @@ zip_through R S each (x ∷ xs) [] zs h g = absurd h
 zip_through R S each (x ∷ xs) (y ∷ ys) [] h g = absurd g
 zip_through R S each (x ∷ xs) (y ∷ ys) (z ∷ zs) h g =
     (each x y z h.0 g.0, zip_through R S each xs ys zs h.1 g.1)
+
+-- one element more
+pub mapped_more : {A B : Type 0} (f : A → B) (xs : List A) (i : ℕ) (x : A) (made more : List B) (y : B) → i < length xs
+    → made ≡ map f (take i xs) → more ≡ made ++ y ∷ [] → y ≡ f x → x ≡ get_or xs i x → more ≡ map f (take (i + 1) xs)
+mapped_more {A} {B} f xs i x made more y below so_far push is there =
+    push ∙ (ap (λ (ys : List B). ys ++ y ∷ []) so_far
+    ∙ (ap (λ (z : B). map f (take i xs) ++ z ∷ []) (is ∙ ap f there)
+    ∙ (sym (map-append f (take i xs) (get_or xs i x ∷ []))
+    ∙ ap (λ (ys : List A). map f ys) (sym (take_more xs i x below)))))
+
+-- all of them
+pub mapped_all : {A B : Type 0} (f : A → B) (xs : List A) (n : ℕ) (made : List B) → made ≡ map f (take n xs)
+    → length xs ≤ n → made ≡ map f xs
+mapped_all {A} f xs n made so_far past = so_far ∙ ap (λ (ys : List A). map f ys) (take_all n xs past)

@@ -18,6 +18,7 @@ use Rattle.illines.proofs.Ends.{NoEnd, Firm-name, Firm-spaced, word_no_end, name
 use Rattle.iltext.specs.Configurations.{body, resource_head, resource, end, contents, configuration}
 use Rattle.iltext.specs.Globals.{global_blocks, var_global}
 use Rattle.iltext.specs.Tasks.{tasks, task, program_instances, program_instance}
+use Rattle.iltext.proofs.Apart.{no_word, no_end}
 use Rattle.iltext.proofs.GlobalLaws.{NoGlobal, Lawful-global_blocks}
 use Rattle.iltext.proofs.TaskLaws.{NoTask, Lawful-tasks, NoInstance, Lawful-program_instances}
 
@@ -70,26 +71,20 @@ Firm-inside : Firm Token ((List TaskDeclaration × List InstanceDeclaration) × 
 unfolding body
 Firm-inside = Firm-lead Lawful-body (λ t e. end_resource_apart t e) (Firm-spaced (Firm-word words.EndResource))
 
-inside_word_apart : (w : Keyword) (f g : ℕ)
-    → (lead body (spaced (word words.EndResource))).starts (token_of (kinds.Good (whats.Keyword w)) f g) ≡ true
-    → NoGlobal (token_of (kinds.Good (whats.Keyword w)) f g)
-unfolding body tasks task program_instances program_instance var_global word
-inside_word_apart words.VarGlobal f g e = absurd cc
-inside_word_apart _ f g e = refl
-
 inside_apart : (k : TokenKind) (f g : ℕ) → (lead body (spaced (word words.EndResource))).starts (token_of k f g) ≡ true
     → NoEnd (token_of k f g) × NoGlobal (token_of k f g)
 unfolding body tasks task program_instances program_instance var_global word delimiter
-inside_apart (kinds.Good (whats.Keyword w)) f g e = (refl, inside_word_apart w f g e)
-inside_apart _ f g e = absurd cc
+inside_apart k f g e = (
+  no_end (lead body (spaced (word words.EndResource))).starts (λ f g. refl) k f g e,
+  no_word words.VarGlobal (lead body (spaced (word words.EndResource))).starts (λ f g. refl) k f g e,
+)
 
 abbrev begins_globals : Token → Bool
 begins_globals t = (lead global_blocks (lead body (spaced (word words.EndResource)))).starts t
 
 globals_no_end : (k : TokenKind) (f g : ℕ) → begins_globals (token_of k f g) ≡ true → NoEnd (token_of k f g)
 unfolding global_blocks body tasks task program_instances program_instance var_global word delimiter
-globals_no_end (kinds.Good (whats.Keyword w)) f g e = refl
-globals_no_end _ f g e = absurd cc
+globals_no_end k f g e = no_end begins_globals (λ f g. refl) k f g e
 
 Firm-resource : Firm Token Configured resource NoEnd
 unfolding resource
@@ -104,18 +99,10 @@ Firm-end : Firm Token Seen end NoEnd
 unfolding end
 Firm-end = Firm-spaced (Firm-word words.EndConfiguration)
 
-body_word_apart : (w : Keyword) (f g : ℕ)
-    → (lead body end).starts (token_of (kinds.Good (whats.Keyword w)) f g) ≡ true
-    → resource.starts (token_of (kinds.Good (whats.Keyword w)) f g) ≡ false
-unfolding end body tasks task program_instances program_instance resource resource_head word
-body_word_apart words.Resource f g e = absurd cc
-body_word_apart _ f g e = refl
-
 body_apart : (k : TokenKind) (f g : ℕ) → (lead body end).starts (token_of k f g) ≡ true
     → resource.starts (token_of k f g) ≡ false
 unfolding end body tasks task program_instances program_instance resource resource_head word
-body_apart (kinds.Good (whats.Keyword w)) f g e = body_word_apart w f g e
-body_apart _ f g e = absurd cc
+body_apart k f g e = no_word words.Resource (lead body end).starts (λ f g. refl) k f g e
 
 Firm-contents : Firm Token Configured contents NoEnd
 unfolding contents body end
@@ -124,18 +111,14 @@ Firm-contents = Firm-fewer NoEnd (λ t e. (e, e))
     (λ t e. body_apart t.kind t.from t.to e)
     (Firm-map _ (Firm-lead Lawful-body (λ t e. end_apart t e) Firm-end)))
 
-contents_word_apart : (w : Keyword) (f g : ℕ)
-    → contents.starts (token_of (kinds.Good (whats.Keyword w)) f g) ≡ true
-    → NoGlobal (token_of (kinds.Good (whats.Keyword w)) f g)
-unfolding contents end body tasks task program_instances program_instance resource resource_head var_global word
-contents_word_apart words.VarGlobal f g e = absurd cc
-contents_word_apart _ f g e = refl
-
 contents_apart : (k : TokenKind) (f g : ℕ) → contents.starts (token_of k f g) ≡ true
     → NoEnd (token_of k f g) × NoGlobal (token_of k f g)
-unfolding contents end body tasks task program_instances program_instance resource resource_head word delimiter
-contents_apart (kinds.Good (whats.Keyword w)) f g e = (refl, contents_word_apart w f g e)
-contents_apart _ f g e = absurd cc
+unfolding contents end body tasks task program_instances program_instance resource resource_head var_global word
+    delimiter
+contents_apart k f g e = (
+  no_end contents.starts (λ f g. refl) k f g e,
+  no_word words.VarGlobal contents.starts (λ f g. refl) k f g e,
+)
 
 contents_no_end : (k : TokenKind) (f g : ℕ) → (lead global_blocks contents).starts (token_of k f g) ≡ true
     → NoEnd (token_of k f g)

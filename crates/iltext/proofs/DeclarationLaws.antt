@@ -1,5 +1,6 @@
 -- The items of declarations are lawful.
 use Rattle.std.proofs.Common.{◌≡◌, ◌||◌, ℕ, ℤ, true, false, List, Option, refl}
+use Rattle.std.proofs.lemmas.Bool.{false≢true}
 use Rattle.iloperators.specs.declared.function.IntegerType.{IntegerType}
 use Rattle.iloperators.specs.declared.function.IntegerType.TheVariants as integers
 use Rattle.ilblocks.specs.declared.kind.BlockKind.{BlockKind}
@@ -65,15 +66,15 @@ Firm-range = Firm-map _ (Firm-fewer (λ t. NoEnd t × NoOpen t) (λ t e. (e.0, e
     (from_opt Firm-interval)))
 
 integer_apart : (w : Keyword) → is_in (integer_word w) ≡ true → is_in (simple_word w) ≡ false
-integer_apart words.Bool e = absurd cc
-integer_apart words.Time e = absurd cc
+integer_apart words.Bool e = absurd (false≢true e)
+integer_apart words.Time e = absurd (false≢true e)
 integer_apart _ e = refl
 
 range_apart : (k : TokenKind) (f g : ℕ) → range.starts (token_of k f g) ≡ true
     → (spaced simple).starts (token_of k f g) ≡ false
 unfolding range integer simple
 range_apart (kinds.Good (whats.Keyword w)) f g e = integer_apart w e
-range_apart _ f g e = absurd cc
+range_apart _ f g e = absurd (false≢true e)
 
 Firm-specification : Firm Token Specification specification (λ t. NoEnd t × NoOpen t)
 unfolding specification
@@ -83,7 +84,7 @@ Firm-specification = Firm-fewer (λ t. NoEnd t × NoOpen t) (λ t e. (e.0, e))
 pub specification_no_end : (k : TokenKind) (f g : ℕ) → specification.starts (token_of k f g) ≡ true
     → NoEnd (token_of k f g)
 unfolding specification range integer simple delimiter
-specification_no_end (kinds.Good (whats.Delimiter m)) f g e = absurd cc
+specification_no_end (kinds.Good (whats.Delimiter m)) f g e = absurd (false≢true e)
 specification_no_end _ f g e = refl
 
 Lawful-initial : Lawful Token (Option Constant) initial (λ t. NoEnd t × NoAssign t)
@@ -104,8 +105,8 @@ begins_value : (k : TokenKind) (f g : ℕ)
     ≡ true
     → NoEnd (token_of k f g) × NoOpen (token_of k f g)
 unfolding initial delimiter
-begins_value (kinds.Good (whats.Delimiter delimiters.LineEnd)) f g e = absurd cc
-begins_value (kinds.Good (whats.Delimiter delimiters.Open)) f g e = absurd cc
+begins_value (kinds.Good (whats.Delimiter delimiters.LineEnd)) f g e = absurd (false≢true e)
+begins_value (kinds.Good (whats.Delimiter delimiters.Open)) f g e = absurd (false≢true e)
 begins_value _ f g e = (refl, refl)
 
 pub Firm-typing : Firm Token (Specification × Option Constant) typing NoEnd
@@ -165,7 +166,7 @@ word_apart words.Dint e = refl
 word_apart words.Usint e = refl
 word_apart words.Uint e = refl
 word_apart words.Udint e = refl
-word_apart _ e = absurd cc
+word_apart _ e = absurd (false≢true e)
 
 typing_apart : (k : TokenKind) (f g : ℕ) → typing.starts (token_of k f g) ≡ true
     → instances.starts (token_of k f g) ≡ false
@@ -180,7 +181,7 @@ Firm-declared = Firm-fewer NoEnd (λ t e. (e, e))
 
 declared_no_end : (k : TokenKind) (f g : ℕ) → declared.starts (token_of k f g) ≡ true → NoEnd (token_of k f g)
 unfolding declared instances block typing specification range integer simple delimiter
-declared_no_end (kinds.Good (whats.Delimiter m)) f g e = absurd cc
+declared_no_end (kinds.Good (whats.Delimiter m)) f g e = absurd (false≢true e)
 declared_no_end _ f g e = refl
 
 pub Firm-declaration : Firm Token DeclaredNames declaration NoEnd
@@ -202,7 +203,7 @@ inside_no_end : (k : TokenKind) (f g : ℕ)
     → (lead declarations (spaced (word words.EndVar))).starts (token_of k f g) ≡ true
     → NoEnd (token_of k f g)
 unfolding declarations declaration names name word delimiter
-inside_no_end (kinds.Good (whats.Delimiter m)) f g e = absurd cc
+inside_no_end (kinds.Good (whats.Delimiter m)) f g e = absurd (false≢true e)
 inside_no_end _ f g e = refl
 
 Firm-vars : Firm Token (List DeclaredNames) vars NoEnd
@@ -233,7 +234,7 @@ external_no_end : (k : TokenKind) (f g : ℕ)
     → (lead externals (spaced (word words.EndVar))).starts (token_of k f g) ≡ true
     → NoEnd (token_of k f g)
 unfolding externals external name word delimiter
-external_no_end (kinds.Good (whats.Delimiter m)) f g e = absurd cc
+external_no_end (kinds.Good (whats.Delimiter m)) f g e = absurd (false≢true e)
 external_no_end _ f g e = refl
 
 Firm-var_external : Firm Token (List DeclaredNames) var_external NoEnd

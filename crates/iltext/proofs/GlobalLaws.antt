@@ -1,5 +1,6 @@
 -- The items of global variables are lawful.
 use Rattle.std.proofs.Common.{◌≡◌, ℕ, true, false, List, refl}
+use Rattle.std.proofs.lemmas.Bool.{false≢true}
 use Rattle.ilgrammar.specs.Items.{lead}
 use Rattle.ilgrammar.proofs.Laws.{Lawful, Lawful-map}
 use Rattle.ilgrammar.proofs.Firm.{Firm, Firm-one, Firm-map, Firm-seq, Firm-lead, Firm-alt, Firm-fewer, Firm-select}
@@ -29,7 +30,7 @@ Firm-address = Firm-one _ (token_of (kinds.Good (whats.Address addresses.OutputB
 
 address_no_end : (k : TokenKind) (f g : ℕ) → address.starts (token_of k f g) ≡ true → NoEnd (token_of k f g)
 unfolding address delimiter
-address_no_end (kinds.Good (whats.Delimiter m)) f g e = absurd cc
+address_no_end (kinds.Good (whats.Delimiter m)) f g e = absurd (false≢true e)
 address_no_end _ f g e = refl
 
 typing_no_end : (t : Token) → typing.starts t ≡ true → NoEnd t
@@ -51,7 +52,7 @@ module _ (first : Name) where
   unlocated_apart : (k : TokenKind) (f g : ℕ) → (unlocated first).starts (token_of k f g) ≡ true
       → (located first).starts (token_of k f g) ≡ false
   unfolding located unlocated names_after more_names next_name word delimiter
-  unlocated_apart (kinds.Good (whats.Keyword w)) f g e = absurd cc
+  unlocated_apart (kinds.Good (whats.Keyword w)) f g e = absurd (false≢true e)
   unlocated_apart _ f g e = refl
 
   Firm-global_named : Firm Token DeclaredGlobals (global_named first) NoEnd
@@ -62,7 +63,7 @@ module _ (first : Name) where
   named_no_end : (k : TokenKind) (f g : ℕ) → (global_named first).starts (token_of k f g) ≡ true
       → NoEnd (token_of k f g)
   unfolding global_named located unlocated names_after more_names next_name word delimiter
-  named_no_end (kinds.Good (whats.Delimiter delimiters.LineEnd)) f g e = absurd cc
+  named_no_end (kinds.Good (whats.Delimiter delimiters.LineEnd)) f g e = absurd (false≢true e)
   named_no_end _ f g e = refl
 
 pub Firm-global : Firm Token DeclaredGlobals global NoEnd
@@ -78,7 +79,7 @@ Lawful-globals = from_many (λ t e. name_no_end t.kind t.from t.to e) Firm-globa
 inside_no_end : (k : TokenKind) (f g : ℕ) → (lead globals (spaced (word words.EndVar))).starts (token_of k f g) ≡ true
     → NoEnd (token_of k f g)
 unfolding globals global name word delimiter
-inside_no_end (kinds.Good (whats.Delimiter m)) f g e = absurd cc
+inside_no_end (kinds.Good (whats.Delimiter m)) f g e = absurd (false≢true e)
 inside_no_end _ f g e = refl
 
 pub Firm-var_global : Firm Token (List DeclaredGlobals) var_global NoEnd

@@ -1,12 +1,12 @@
 -- Programs, TYPE blocks and texts are lawful.
-use Rattle.std.proofs.Common.{◌≡◌, ℕ, true, false, List, Option, refl}
+use Rattle.std.proofs.Common.{◌≡◌, ℕ, Bool, true, false, List, Option, refl}
+use Rattle.std.proofs.lemmas.Bool.{false≢true}
 use Rattle.ilgrammar.specs.Items.{lead, opt}
 use Rattle.ilgrammar.proofs.Laws.{Lawful, Lawful-map, Lawful-lead_open}
 use Rattle.ilgrammar.proofs.Firm.{Firm, Firm-map, Firm-seq, Firm-lead, Firm-alt, Firm-fewer, from_opt, from_many}
 use Rattle.ilsource.specs.Configurations.{Configured}
 use Rattle.ilsource.specs.Programs.{DeclaredNames, Written}
 use Rattle.ilsource.specs.declared.source.Element.{Element}
-use Rattle.iltokens.specs.declared.keyword.Keyword.{Keyword}
 use Rattle.iltokens.specs.declared.keyword.Keyword.TheVariants as words
 use Rattle.iltokens.specs.declared.lexed.Delimiter.TheVariants as delimiters
 use Rattle.iltokens.specs.declared.lexed.What.TheVariants as whats
@@ -22,6 +22,7 @@ use Rattle.illines.proofs.InstructionLaws.{NoLine, Lawful-lines}
 use Rattle.iltext.specs.Configurations.{configuration}
 use Rattle.iltext.specs.Declarations.{type_declaration, vars, var_external, variables}
 use Rattle.iltext.specs.Texts.{blocks, program, derived_type, derived_types, types, unit, units, text}
+use Rattle.iltext.proofs.Apart.{neither, no_word, no_end}
 use Rattle.iltext.proofs.ConfigurationLaws.{Firm-configuration}
 use Rattle.iltext.proofs.DeclarationLaws.{NoName, Firm-type_declaration, last_apart, Firm-variables}
 
@@ -43,27 +44,24 @@ Firm-body = Firm-lead Lawful-lines (λ t e. end_program_apart t e) (Firm-spaced 
 
 variables_no_end : (k : TokenKind) (f g : ℕ) → variables.starts (token_of k f g) ≡ true → NoEnd (token_of k f g)
 unfolding variables vars var_external word delimiter
-variables_no_end (kinds.Good (whats.Delimiter m)) f g e = absurd cc
+variables_no_end (kinds.Good (whats.Delimiter m)) f g e = absurd (false≢true e)
 variables_no_end _ f g e = refl
 
 Lawful-blocks : Lawful Token (List DeclaredNames) blocks (λ t. NoEnd t × NoVar t)
 unfolding blocks
 Lawful-blocks = Lawful-map _ _ _ _ _ _ (from_many (λ t e. variables_no_end t.kind t.from t.to e) Firm-variables)
 
-body_word_apart : (w : Keyword) (f g : ℕ)
-    → (lead lines (spaced (word words.EndProgram))).starts (token_of (kinds.Good (whats.Keyword w)) f g) ≡ true
-    → NoVar (token_of (kinds.Good (whats.Keyword w)) f g)
-unfolding variables vars var_external lines line with_label label name instruction role_of_word word
-body_word_apart words.Var f g e = absurd cc
-body_word_apart words.VarExternal f g e = absurd cc
-body_word_apart _ f g e = refl
+abbrev begins_body : Token → Bool
+begins_body t = (lead lines (spaced (word words.EndProgram))).starts t
 
-body_apart : (k : TokenKind) (f g : ℕ) → (lead lines (spaced (word words.EndProgram))).starts (token_of k f g) ≡ true
+body_apart : (k : TokenKind) (f g : ℕ) → begins_body (token_of k f g) ≡ true
     → NoEnd (token_of k f g) × NoVar (token_of k f g)
-unfolding variables vars var_external lines line with_label label name instruction word delimiter
-body_apart (kinds.Good (whats.Keyword w)) f g e = (refl, body_word_apart w f g e)
-body_apart (kinds.Good (whats.Delimiter delimiters.LineEnd)) f g e = absurd cc
-body_apart _ f g e = (refl, refl)
+unfolding variables vars var_external lines line with_label label name instruction role_of_word word delimiter
+body_apart k f g e = (
+  no_end begins_body (λ f g. refl) k f g e,
+  neither _ _ (no_word words.Var begins_body (λ f g. refl) k f g e)
+      (no_word words.VarExternal begins_body (λ f g. refl) k f g e),
+)
 
 Firm-inside : Firm Token (List DeclaredNames × (List TextLine × Seen))
     (lead blocks (lead lines (spaced (word words.EndProgram)))) NoEnd
@@ -75,7 +73,7 @@ inside_apart : (k : TokenKind) (f g : ℕ)
     → (lead blocks (lead lines (spaced (word words.EndProgram)))).starts (token_of k f g) ≡ true
     → NoEnd (token_of k f g)
 unfolding blocks variables vars var_external lines line with_label label name instruction word delimiter
-inside_apart (kinds.Good (whats.Delimiter delimiters.LineEnd)) f g e = absurd cc
+inside_apart (kinds.Good (whats.Delimiter delimiters.LineEnd)) f g e = absurd (false≢true e)
 inside_apart _ f g e = refl
 
 pub Firm-program : Firm Token Written program NoEnd
@@ -97,7 +95,7 @@ Lawful-derived_types = from_many (λ t e. name_no_end t.kind t.from t.to e) Firm
 types_no_end : (k : TokenKind) (f g : ℕ)
     → (lead derived_types (spaced (word words.EndType))).starts (token_of k f g) ≡ true → NoEnd (token_of k f g)
 unfolding derived_types derived_type type_declaration name word delimiter
-types_no_end (kinds.Good (whats.Delimiter m)) f g e = absurd cc
+types_no_end (kinds.Good (whats.Delimiter m)) f g e = absurd (false≢true e)
 types_no_end _ f g e = refl
 
 Firm-types : Firm Token (List Element) types NoEnd
@@ -121,26 +119,20 @@ NoUnit t = unit.starts t ≡ false
 
 unit_no_end : (k : TokenKind) (f g : ℕ) → unit.starts (token_of k f g) ≡ true → NoEnd (token_of k f g)
 unfolding unit types program word delimiter
-unit_no_end (kinds.Good (whats.Delimiter m)) f g e = absurd cc
+unit_no_end (kinds.Good (whats.Delimiter m)) f g e = absurd (false≢true e)
 unit_no_end _ f g e = refl
 
 Lawful-units : Lawful Token (List Element) units (λ t. NoEnd t × NoUnit t)
 unfolding units
 Lawful-units = Lawful-map _ _ _ _ _ _ (from_many (λ t e. unit_no_end t.kind t.from t.to e) Firm-unit)
 
-configuration_word_apart : (w : Keyword) (f g : ℕ)
-    → configuration.starts (token_of (kinds.Good (whats.Keyword w)) f g) ≡ true
-    → NoUnit (token_of (kinds.Good (whats.Keyword w)) f g)
-unfolding configuration unit types program word
-configuration_word_apart words.Type f g e = absurd cc
-configuration_word_apart words.Program f g e = absurd cc
-configuration_word_apart _ f g e = refl
-
 configuration_apart : (k : TokenKind) (f g : ℕ) → configuration.starts (token_of k f g) ≡ true
     → NoEnd (token_of k f g) × NoUnit (token_of k f g)
 unfolding configuration unit types program word delimiter
-configuration_apart (kinds.Good (whats.Keyword w)) f g e = (refl, configuration_word_apart w f g e)
-configuration_apart _ f g e = absurd cc
+configuration_apart k f g e = (
+  word_no_end words.Configuration (token_of k f g) e,
+  apart_word words.Configuration unit.starts (λ f g. refl) k f g e,
+)
 
 -- what may not follow types, programs and a configuration
 abbrev NoPart : Token → Type 0
@@ -154,7 +146,7 @@ Lawful-parts = Lawful-lead_open _ _ _ _ _ _ _ Lawful-units (from_opt Firm-config
 part_no_end : (k : TokenKind) (f g : ℕ) → (lead units (opt configuration)).starts (token_of k f g) ≡ true
     → NoEnd (token_of k f g)
 unfolding units unit types program configuration word delimiter
-part_no_end (kinds.Good (whats.Delimiter m)) f g e = absurd cc
+part_no_end (kinds.Good (whats.Delimiter m)) f g e = absurd (false≢true e)
 part_no_end _ f g e = refl
 
 pub Lawful-text : Lawful Token (List Element × Option Configured) text (λ t. NoEnd t × NoPart t)

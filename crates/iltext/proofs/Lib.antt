@@ -1,3 +1,4 @@
+pub mod Apart
 pub mod ConfigurationLaws
 pub mod Cut
 pub mod DeclarationLaws

@@ -1,12 +1,12 @@
 -- The items of tasks and of program instances are lawful.
 use Rattle.std.proofs.Common.{◌≡◌, ◌||◌, ℕ, ℤ, Bool, true, false, List, Option, refl}
+use Rattle.std.proofs.lemmas.Bool.{false≢true}
 use Rattle.ilgrammar.specs.Items.{lead, opt}
 use Rattle.ilgrammar.proofs.Laws.{Lawful}
 use Rattle.ilgrammar.proofs.Firm.{Firm, Firm-one, Firm-map, Firm-seq, Firm-lead, from_opt, from_many}
 use Rattle.ilsource.specs.declared.configuration.InstanceDeclaration.{InstanceDeclaration}
 use Rattle.ilsource.specs.declared.configuration.TaskDeclaration.{TaskDeclaration}
 use Rattle.ilsource.specs.declared.name.Name.{Name}
-use Rattle.iltokens.specs.declared.keyword.Keyword.{Keyword}
 use Rattle.iltokens.specs.declared.keyword.Keyword.TheVariants as words
 use Rattle.iltokens.specs.declared.lexed.Delimiter.TheVariants as delimiters
 use Rattle.iltokens.specs.declared.lexed.What.TheVariants as whats
@@ -19,6 +19,7 @@ use Rattle.illines.proofs.Ends.{NoEnd, Firm-name, Firm-number, Firm-spaced, word
 use Rattle.illines.proofs.Ends.{name_no_end, number_no_end}
 use Rattle.iltext.specs.Tasks.{duration, single, interval, priority, inputs, task, tasks}
 use Rattle.iltext.specs.Tasks.{with_task, program_instance, program_instances}
+use Rattle.iltext.proofs.Apart.{no_word, no_end}
 
 -- ---- tasks
 
@@ -28,7 +29,7 @@ Firm-duration = Firm-one _ (token_of (kinds.Good (whats.Time 0)) 0 0) 0 refl
 
 duration_no_end : (k : TokenKind) (f g : ℕ) → duration.starts (token_of k f g) ≡ true → NoEnd (token_of k f g)
 unfolding duration delimiter
-duration_no_end (kinds.Good (whats.Delimiter m)) f g e = absurd cc
+duration_no_end (kinds.Good (whats.Delimiter m)) f g e = absurd (false≢true e)
 duration_no_end _ f g e = refl
 
 Firm-single : Firm Token Name single NoEnd
@@ -61,19 +62,13 @@ priority_apart t e = (
   apart_word words.Priority (word words.Interval).starts (λ f g. refl) t.kind t.from t.to e,
 )
 
-interval_word_apart : (w : Keyword) (f g : ℕ)
-    → (lead (opt interval) priority).starts (token_of (kinds.Good (whats.Keyword w)) f g) ≡ true
-    → single.starts (token_of (kinds.Good (whats.Keyword w)) f g) ≡ false
-unfolding single interval priority word
-interval_word_apart words.Single f g e = absurd cc
-interval_word_apart _ f g e = refl
-
 interval_apart : (k : TokenKind) (f g : ℕ) → (lead (opt interval) priority).starts (token_of k f g) ≡ true
     → NoEnd (token_of k f g) × (single.starts (token_of k f g) ≡ false)
 unfolding single interval priority word delimiter
-interval_apart (kinds.Good (whats.Keyword w)) f g e = (refl, interval_word_apart w f g e)
-interval_apart (kinds.Good (whats.Delimiter m)) f g e = absurd cc
-interval_apart _ f g e = (refl, refl)
+interval_apart k f g e = (
+  no_end (lead (opt interval) priority).starts (λ f g. refl) k f g e,
+  no_word words.Single (lead (opt interval) priority).starts (λ f g. refl) k f g e,
+)
 
 Firm-inputs : Firm Token (Option Name × (Option ℕ × ℤ)) inputs NoEnd
 unfolding inputs priority
@@ -83,7 +78,7 @@ Firm-inputs = Firm-lead {b = lead (opt interval) priority} (from_opt Firm-single
 
 inputs_no_end : (k : TokenKind) (f g : ℕ) → inputs.starts (token_of k f g) ≡ true → NoEnd (token_of k f g)
 unfolding inputs single interval priority word delimiter
-inputs_no_end (kinds.Good (whats.Delimiter m)) f g e = absurd cc
+inputs_no_end (kinds.Good (whats.Delimiter m)) f g e = absurd (false≢true e)
 inputs_no_end _ f g e = refl
 
 pub Firm-task : Firm Token TaskDeclaration task NoEnd
@@ -121,7 +116,7 @@ of_task t = with_task.starts t || (delimiter delimiters.Colon).starts t
 
 of_task_no_end : (k : TokenKind) (f g : ℕ) → of_task (token_of k f g) ≡ true → NoEnd (token_of k f g)
 unfolding with_task word delimiter
-of_task_no_end (kinds.Good (whats.Delimiter delimiters.LineEnd)) f g e = absurd cc
+of_task_no_end (kinds.Good (whats.Delimiter delimiters.LineEnd)) f g e = absurd (false≢true e)
 of_task_no_end _ f g e = refl
 
 pub Firm-program_instance : Firm Token InstanceDeclaration program_instance NoEnd

@@ -293,7 +293,7 @@ fn lookup(mut table: &[(&[u8], Keyword)], text: &[u8]) -> Option<Keyword>
 }
 
 /// The word that is spelled like `text` in a table with a row for each first letter.
-fn lookup_by_letter(rows: &[&[(&[u8], Keyword)]], text: &[u8]) -> Option<Keyword>
+fn lookup_by_letter(rows: &[&[(&[u8], Keyword)]; 26], text: &[u8]) -> Option<Keyword>
     requires { AreByLetter (map row_view rows.now) }
     ensures { result ≡ lookup (all_words (map row_view rows.now)) text.now }
 {

@@ -4,4 +4,5 @@ mod Empty
 mod Histories
 mod Meaning
 mod Runs
+mod Sent
 mod Serving

@@ -3,6 +3,7 @@ mod Buses
 pub mod Connected
 pub mod Counting
 pub mod Following
+pub mod HandedOut
 pub mod Opened
 pub mod Resting
 pub mod Turns

@@ -32,6 +32,28 @@ one_more lines i line below is =
     ∙ ap (λ (x : Line Place ℕ). take i lines ++ x ∷ []) (sym is)) in
     omega (arith, all, last, one, none)
 
+pub overflow_cast-place-in-loop-index : goal.overflow_cast-place-in-loop-index
+overflow_cast-place-in-loop-index c =
+    let lines = c.args.lines.now in
+    let i = c.loop-index.index - 1 in
+    let on : i + 1 ≡ c.loop-index.index = omega (arith, c.loop-index-test.true) in
+    let below : i < length lines = omega (arith, on, c.loop-index.auto.index) in
+    let more = one_more lines i c.index-lines-index.result below c.index-lines-index.is in
+    let was : c.loop-index.place ≡ c.args.start + words_of_lines (take (i + 1) lines) =
+    c.loop-index.invariant.place ∙ ap (λ (n : ℕ). c.args.start + words_of_lines (take n lines)) (sym on) in
+    omega (arith, c.words.ensures, more, was, c.loop-index.auto.place-fits)
+
+pub overflow_sub-place : goal.overflow_sub-place
+overflow_sub-place c =
+    let lines = c.args.lines.now in
+    let i = c.loop-index.index - 1 in
+    let on : i + 1 ≡ c.loop-index.index = omega (arith, c.loop-index-test.true) in
+    let below : i < length lines = omega (arith, on, c.loop-index.auto.index) in
+    let more = one_more lines i c.index-lines-index.result below c.index-lines-index.is in
+    let was : c.loop-index.place ≡ c.args.start + words_of_lines (take (i + 1) lines) =
+    c.loop-index.invariant.place ∙ ap (λ (n : ℕ). c.args.start + words_of_lines (take n lines)) (sym on) in
+    omega (arith, c.words.ensures, more, was, c.loop-index.auto.place-fits)
+
 pub loop-index-preserved : goal.loop-index-preserved
 loop-index-preserved c =
     let lines = c.args.lines.now in

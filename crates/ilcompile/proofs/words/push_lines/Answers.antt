@@ -1,9 +1,35 @@
-use Rattle.std.proofs.Common.{◌≡◌, ◌+◌, ◌++◌, length, drop, subst, arith}
+use Rattle.std.proofs.Common.{◌≡◌, ℕ, ◌+◌, ◌++◌, List, ap, length, drop, refl, subst, sym, ◌∙◌, arith}
+use Rattle.std.proofs.lemmas.List.{append-nil, drop_all}
 use Rattle.iltrees.specs.Words as counts
+use Rattle.iltrees.specs.declared.instruction.Line.{Line}
+use Rattle.ilplan.specs.declared.place.Place.{Place}
 use Rattle.ilcompile.specs.Layout.{words_of_lines}
 use Rattle.ilcompile.proofs.Sizes.{count_more}
-use Rattle.ilcompile.proofs.TwoPasses.{the_next, AreLeft, fewer_left}
+use Rattle.ilcompile.specs.LayoutSteps.{targets_of}
+use Rattle.ilcompile.proofs.TwoPasses.{the_next, next_fits, AreLeft, fewer_left}
 use Rattle.ilcompile.proofs.words.push_lines.Goals as goal
+
+pub loop-line-init : goal.loop-line-init
+loop-line-init c =
+    let start : c.len-2.result ≡ length c.args.words.now.items =
+    omega (arith, c.len-2.ensures, c.args.words.now.ok.0) in
+    record {
+      words = refl;
+      targets = c.in_ok-targets.ensures ∙ ap (λ n. targets_of n c.args.lines.now) start;
+      limit = c.requires.limit;
+    }
+
+pub overflow_add-next : goal.overflow_add-next
+overflow_add-next c =
+    let fits = next_fits (length c.loop-line.words.items) c.args.lines.now c.loop-line.line-index c.line-item.result
+    c.loop-line-test.true c.line-item.is c.loop-line.invariant.limit in
+    omega (arith, c.len-in-loop-line.ensures, c.loop-line.words.ok.0, c.words.ensures, fits)
+
+pub overflow_cast-next : goal.overflow_cast-next
+overflow_cast-next c =
+    let fits = next_fits (length c.loop-line.words.items) c.args.lines.now c.loop-line.line-index c.line-item.result
+    c.loop-line-test.true c.line-item.is c.loop-line.invariant.limit in
+    omega (arith, c.len-in-loop-line.ensures, c.loop-line.words.ok.0, c.words.ensures, fits)
 
 pub loop-line-preserved : goal.loop-line-preserved
 loop-line-preserved c =
@@ -25,3 +51,17 @@ loop-line-preserved c =
     fewer_left constants end wanted c.loop-line.words.items c.push_line.new.words.items c.loop-line.targets.items
     c.next_target-target.new.targets.items _ c.next_target-target.result line (drop (i + 1) all) left
     c.next_target-target.ensures place c.in_ok-push_line.ensures
+
+pub returns : goal.returns
+returns c =
+    let lines = c.args.lines.now in
+    let before = c.args.words.now.items in
+    let words = c.loop-line.words.items in
+    let end = c.len.result + c.count.result in
+    let last : end ≡ length before + counts.words_of_lines lines =
+    omega (arith, c.len.ensures, c.args.words.now.ok.0, c.count.ensures) in
+    sym (append-nil words)
+    ∙ (ap (λ (ls : List (Line Place ℕ)). words ++ words_of_lines c.args.constants.now end (length words) ls)
+    (sym (drop_all c.loop-line.line-index lines c.loop-line-test.false))
+    ∙ (c.loop-line.invariant.words
+    ∙ ap (λ n. before ++ words_of_lines c.args.constants.now n (length before) lines) last))

@@ -1,7 +1,26 @@
-use Rattle.std.proofs.Common.{◌≡◌, ◌+◌, ◌∷◌, [], ◌++◌, length, drop, ap, ◌∙◌, subst, arith}
+use Rattle.std.proofs.Common.{◌≡◌, ℕ, ◌+◌, ◌<◌, ◌≤◌, List, ◌∷◌, [], ◌++◌, length, get_or, drop, ap, ◌∙◌, subst, arith}
+use Rattle.limits.specs.Limits.{most_words}
+use Rattle.iltrees.specs.Words as counts
+use Rattle.ilplan.specs.Plans.{PlannedInstance, all_lines}
+use Rattle.ilcompile.proofs.Sizes.{count_both}
 use Rattle.ilcompile.specs.Layout.{words_of_programs, starts_from, programs_of}
 use Rattle.ilcompile.proofs.TwoPasses.{the_next, ProgramsLeft, fewer_programs}
 use Rattle.ilcompile.proofs.words.words.Goals as goal
+
+-- where the programs that are left have room, the next one has
+program_fits : (place : ℕ) (all : List PlannedInstance) (i : ℕ) (instance : PlannedInstance) → i < length all
+    → instance ≡ get_or all i instance → place + counts.words_of_lines (all_lines (drop i all)) ≤ most_words
+    → place + counts.words_of_lines instance.lines ≤ most_words
+program_fits place all i instance below is room =
+    let left =
+    ap (λ (left : List PlannedInstance). counts.words_of_lines (all_lines left)) (the_next all i instance below is) in
+    omega (arith, left, count_both instance.lines (all_lines (drop (i + 1) all)), room)
+
+pub push_lines-requires-clause-limit : goal.push_lines-requires-clause-limit
+push_lines-requires-clause-limit c =
+    rw c.lines.ensures.value
+    (program_fits (length c.loop-instance.words.items) c.args.instances.now c.loop-instance.instance-index
+    c.instance-item.result c.loop-instance-test.true c.instance-item.is c.loop-instance.invariant.limit)
 
 pub loop-instance-preserved : goal.loop-instance-preserved
 loop-instance-preserved c =

@@ -3,7 +3,21 @@ use Rattle.std.proofs.lemmas.List.Elements.{length_all_zip}
 use Rattle.std.proofs.lemmas.Option.{slice_get_read}
 use Rattle.ilranges.specs.Joins.{IsJoin, IsHeld}
 use Rattle.ilranges.proofs.JoinRows.{each_more, each_all}
+use Rattle.ilranges.proofs.JoinValues.{held_joins}
+use Rattle.ilranges.proofs.Lists.{zip_at}
 use Rattle.ilranges.proofs.joins.joins.Goals as goal
+
+pub bounds-others-i : goal.bounds-others-i
+bounds-others-i c = let e = length_all_zip IsHeld _ _ c.requires in omega arith
+
+pub unwrap-requires : goal.unwrap-requires
+unwrap-requires c =
+    let e = length_all_zip IsHeld _ _ c.requires in
+    let r : c.loop-i.i < length c.args.ones.now = omega arith in
+    let o : c.loop-i.i < length c.args.others.now = omega arith in
+    held_joins c.index-ones-i.result c.index-others-i.result c.join.result c.join.ensures.none
+    (zip_at IsHeld _ _ c.loop-i.i _ _ c.requires (slice_get_read _ _ _ _ refl r c.index-ones-i.is)
+    (slice_get_read _ _ _ _ refl o c.index-others-i.is))
 
 pub loop-i-preserved : goal.loop-i-preserved
 loop-i-preserved c =
