@@ -1,7 +1,8 @@
 //! What commands and their arguments are built by.
 
 ghost use Rattle.std.specs.Prelude.{◌≡◌, IfOk, Some, false, true};
-ghost use Rattle.clap.specs.Words.{App, app_of, new_app, rule_of, with_rule, with_subcommand};
+ghost use Rattle.clap.specs.Words.{App, Rule, app_of, new_app, rule_of, with_rule};
+ghost use Rattle.clap.specs.Words.{with_subcommand};
 ghost use Rattle.clap.specs.Simple.{on_top};
 ghost use Rattle.clap.specs.declared.builder.command.Command.TheViews.{out-Command};
 ghost use Rattle.commandline.specs.CommandLine.{flag, option, optional, wanted};
@@ -28,7 +29,7 @@ pub(crate) fn needing_subcommand<'a>(command: Command<'a>) -> Command<'a>
 }
 
 /// The command with one argument more.
-pub(crate) fn with<'a>(command: Command<'a>, arg: Arg<'a>) -> Result<Command<'a>, AllocError>
+fn added<'a>(command: Command<'a>, arg: Arg<'a>) -> Result<Command<'a>, AllocError>
     requires local { (out-Command command).has_globals ≡ false }
     requires arg_local { arg.global ≡ false }
     ensures shape { IfOk result
@@ -38,8 +39,43 @@ pub(crate) fn with<'a>(command: Command<'a>, arg: Arg<'a>) -> Result<Command<'a>
     command.arg(arg)
 }
 
-/// The command with one subcommand more, unless there was no memory for that.
+/// The command with one argument more, unless there was no memory for the command.
+pub(crate) fn with<'a>(
+    command: Result<Command<'a>, AllocError>,
+    arg: Arg<'a>,
+) -> Result<Command<'a>, AllocError>
+    requires local { IfOk command (λ c. (out-Command c).has_globals ≡ false) }
+    requires arg_local { arg.global ≡ false }
+    ensures shape { (line : App) (rule : Rule) → IfOk command.entry (λ c. app_of c ≡ line)
+        → rule_of arg.entry ≡ rule → IfOk result (λ c. app_of c ≡ with_rule line rule) }
+    ensures local { IfOk result (λ c. (out-Command c).has_globals ≡ false) }
+{
+    match command {
+        Ok(command) => added(command, arg),
+        Err(error) => Err(error),
+    }
+}
+
+/// The command with one subcommand more, unless there was no memory for one of them.
 pub(crate) fn beside<'a>(
+    command: Result<Command<'a>, AllocError>,
+    subcommand: Result<Command<'a>, AllocError>,
+) -> Result<Command<'a>, AllocError>
+    requires local { IfOk command (λ c. (out-Command c).has_globals ≡ false) }
+    requires subcommand_local { IfOk subcommand (λ c. (out-Command c).has_globals ≡ false) }
+    ensures shape { (line added : App) → IfOk command.entry (λ c. app_of c ≡ line)
+        → IfOk subcommand.entry (λ c. app_of c ≡ added)
+        → IfOk result (λ c. app_of c ≡ with_subcommand line added.top) }
+    ensures local { IfOk result (λ c. (out-Command c).has_globals ≡ false) }
+{
+    match command {
+        Ok(command) => over(command, subcommand),
+        Err(error) => Err(error),
+    }
+}
+
+/// The command over one subcommand more, unless there was no memory for that.
+fn over<'a>(
     command: Command<'a>,
     subcommand: Result<Command<'a>, AllocError>,
 ) -> Result<Command<'a>, AllocError>
@@ -50,7 +86,10 @@ pub(crate) fn beside<'a>(
         → IfOk result (λ c. app_of c ≡ with_subcommand line added.top) }
     ensures local { IfOk result (λ c. (out-Command c).has_globals ≡ false) }
 {
-    command.subcommand(subcommand?)
+    match subcommand {
+        Ok(subcommand) => command.subcommand(subcommand),
+        Err(error) => Err(error),
+    }
 }
 
 /// A word that must be given.

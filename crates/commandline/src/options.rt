@@ -2,15 +2,14 @@
 
 ghost use Rattle.std.specs.Prelude.{◌≡◌, ◌↔◌, [], ◌∷◌, IfErr, IfOk, IsSome, IsTrue, Some, codes};
 ghost use Rattle.std.specs.Prelude.{false, map, string_bytes};
-ghost use Rattle.clap.specs.Words.{HasKind, app_of, first_of, found_of, new_app, one_of};
+ghost use Rattle.clap.specs.Words.{HasKind, app_of, first_of, found_of, kind_of, new_app, one_of};
 ghost use Rattle.clap.specs.Words.{rows_of, rule_of, with_rule};
 ghost use Rattle.clap.specs.declared.builder.command.Command.TheViews.{out-Command};
 ghost use Rattle.invocations.specs.Invocations.{IsOfCommand};
 ghost use Rattle.commandline.specs.CommandLine.{AreTaken, IsInvocation, NamesBoth, check_command};
-ghost use Rattle.commandline.specs.CommandLine.{check_files, command_line, flag};
-ghost use Rattle.commandline.specs.CommandLine.{inquiry_line, look_command, look_files, look_line};
-ghost use Rattle.commandline.specs.CommandLine.{number_option, option, play_command, played_line};
-ghost use Rattle.commandline.specs.CommandLine.{program, run_command, run_line, scenario_files};
+ghost use Rattle.commandline.specs.CommandLine.{command_line, inquiry_line, look_command};
+ghost use Rattle.commandline.specs.CommandLine.{look_line, number_option, option, play_command};
+ghost use Rattle.commandline.specs.CommandLine.{program, run_command, scenario_files};
 ghost use Rattle.commandline.specs.CommandLine.{step_command, step_files, wanted, wanted_option};
 
 use crate::builders::{beside, flag, named, needing_subcommand, option, parsed, wanted, with};
@@ -58,11 +57,17 @@ fn invocation<'a>(
         (IsOfCommand name.now (rows_of (found_of found.now))) }
 {
     if names_both(name, found) {
-        let message = "the argument '--code' cannot be used with '--bind <FILE>'";
-        let mut command = check(alloc)?;
-        return Err(command.error(ErrorKind::ArgumentConflict, message)?);
+        return Err(conflict(alloc)?);
     }
     Ok(invocation_of(name, found))
+}
+
+/// The fault of a binding that is named beside a code file.
+fn conflict(alloc: Global) -> Result<Error, AllocError>
+    ensures { IfOk result (λ error. kind_of error ≡ ErrorKind.ArgumentConflict) }
+{
+    let message = "the argument '--code' cannot be used with '--bind <FILE>'";
+    check(alloc)?.error(ErrorKind::ArgumentConflict, message)
 }
 
 /// Whether a binding is named beside a code file.
@@ -89,35 +94,24 @@ fn is_given(found: &ArgMatches, id: &str) -> bool
 fn command<'a>(alloc: Global) -> Result<Command<'a>, AllocError>
     ensures { IfOk result (λ c. app_of c ≡ command_line) }
 {
-    beside(explaining(alloc)?, code(alloc))
+    beside(explaining(alloc), code(alloc))
 }
 
 pub(crate) fn looking<'a>(alloc: Global) -> Result<Command<'a>, AllocError>
     ensures shape { IfOk result (λ c. app_of c ≡ look_line) }
     ensures local { IfOk result (λ c. (out-Command c).has_globals ≡ false) }
 {
-    beside(running(alloc)?, look(alloc))
-}
-
-fn running<'a>(alloc: Global) -> Result<Command<'a>, AllocError>
-    ensures shape { IfOk result (λ c. app_of c ≡ run_line) }
-    ensures local { IfOk result (λ c. (out-Command c).has_globals ≡ false) }
-{
-    beside(playing(alloc)?, run(alloc))
-}
-
-fn playing<'a>(alloc: Global) -> Result<Command<'a>, AllocError>
-    ensures shape { IfOk result (λ c. app_of c ≡ played_line) }
-    ensures local { IfOk result (λ c. (out-Command c).has_globals ≡ false) }
-{
-    beside(inquiries(alloc)?, play(alloc))
+    beside(
+        beside(beside(inquiries(alloc), play(alloc)), run(alloc)),
+        look(alloc),
+    )
 }
 
 fn inquiries<'a>(alloc: Global) -> Result<Command<'a>, AllocError>
     ensures shape { IfOk result (λ c. app_of c ≡ inquiry_line) }
     ensures local { IfOk result (λ c. (out-Command c).has_globals ≡ false) }
 {
-    beside(beside(program(alloc), check(alloc))?, step(alloc))
+    beside(beside(Ok(program(alloc)), check(alloc)), step(alloc))
 }
 
 fn program<'a>(alloc: Global) -> Command<'a>
@@ -132,22 +126,19 @@ fn check<'a>(alloc: Global) -> Result<Command<'a>, AllocError>
     ensures shape { IfOk result (λ c. app_of c ≡ check_command) }
     ensures local { IfOk result (λ c. (out-Command c).has_globals ≡ false) }
 {
-    with(check_files(alloc)?, of_code(alloc))
-}
-
-fn check_files<'a>(alloc: Global) -> Result<Command<'a>, AllocError>
-    ensures shape { IfOk result (λ c. app_of c ≡ check_files) }
-    ensures local { IfOk result (λ c. (out-Command c).has_globals ≡ false) }
-{
     let about = "Prints for each task its words and the bound of a scan, or the first fault";
-    with(of_text(alloc, "check", about)?, binding(alloc))
+    let help = "FILE is a code file, which has no binding";
+    with(
+        with(of_text(alloc, "check", about), binding(alloc)),
+        flag(alloc, "code", help),
+    )
 }
 
 fn step<'a>(alloc: Global) -> Result<Command<'a>, AllocError>
     ensures shape { IfOk result (λ c. app_of c ≡ step_command) }
     ensures local { IfOk result (λ c. (out-Command c).has_globals ≡ false) }
 {
-    with(with(step_files(alloc)?, scans(alloc))?, every(alloc))
+    with(with(step_files(alloc), scans(alloc)), every(alloc))
 }
 
 fn step_files<'a>(alloc: Global) -> Result<Command<'a>, AllocError>
@@ -156,7 +147,7 @@ fn step_files<'a>(alloc: Global) -> Result<Command<'a>, AllocError>
 {
     let about = "Runs scans of one task and prints its variables";
     with(
-        with(of_text(alloc, "step", about)?, task(alloc))?,
+        with(of_text(alloc, "step", about), task(alloc)),
         binding(alloc),
     )
 }
@@ -166,7 +157,7 @@ fn play<'a>(alloc: Global) -> Result<Command<'a>, AllocError>
     ensures local { IfOk result (λ c. (out-Command c).has_globals ≡ false) }
 {
     let about = "Plays a scenario on simulated buses and prints what happens";
-    with(scenario_files(alloc, "play", about)?, limit(alloc))
+    with(scenario_files(alloc, "play", about), limit(alloc))
 }
 
 fn run<'a>(alloc: Global) -> Result<Command<'a>, AllocError>
@@ -175,7 +166,7 @@ fn run<'a>(alloc: Global) -> Result<Command<'a>, AllocError>
 {
     let about = "Runs a scenario on simulated buses in threads and prints what it came to";
     with(
-        with(scenario_files(alloc, "run", about)?, limit(alloc))?,
+        with(scenario_files(alloc, "run", about), limit(alloc)),
         workers(alloc),
     )
 }
@@ -184,17 +175,14 @@ fn look<'a>(alloc: Global) -> Result<Command<'a>, AllocError>
     ensures shape { IfOk result (λ c. app_of c ≡ look_command) }
     ensures local { IfOk result (λ c. (out-Command c).has_globals ≡ false) }
 {
-    with(look_files(alloc)?, as_text(alloc))
-}
-
-fn look_files<'a>(alloc: Global) -> Result<Command<'a>, AllocError>
-    ensures shape { IfOk result (λ c. app_of c ≡ look_files) }
-    ensures local { IfOk result (λ c. (out-Command c).has_globals ≡ false) }
-{
     let about = "Plays a scenario on simulated buses and prints a picture of it";
+    let help = "Prints lines for a terminal in place of an SVG";
     with(
-        with(of_text(alloc, "look", about)?, played_scenario(alloc))?,
-        looked_binding(alloc),
+        with(
+            with(of_text(alloc, "look", about), played_scenario(alloc)),
+            looked_binding(alloc),
+        ),
+        flag(alloc, "text", help),
     )
 }
 
@@ -206,8 +194,16 @@ fn scenario_files<'a>(
     ensures shape { IfOk result (λ c. app_of c ≡ scenario_files name.now) }
     ensures local { IfOk result (λ c. (out-Command c).has_globals ≡ false) }
 {
-    let texts = with(named(alloc, name, about), played_text(alloc))?;
-    with(with(texts, played_binding(alloc))?, played_scenario(alloc))
+    with(
+        with(
+            with(
+                Ok(named(alloc, name, about)),
+                wanted(alloc, "TEXT", "The text of the programs"),
+            ),
+            wanted(alloc, "BIND", "The binding of buses"),
+        ),
+        played_scenario(alloc),
+    )
 }
 
 /// A command on a text.
@@ -220,14 +216,10 @@ pub(crate) fn of_text<'a>(
         (λ c. app_of c ≡ with_rule (new_app name.now) (wanted (codes "FILE"))) }
     ensures local { IfOk result (λ c. (out-Command c).has_globals ≡ false) }
 {
-    with(named(alloc, name, about), text(alloc))
-}
-
-fn text<'a>(alloc: Global) -> Arg<'a>
-    ensures rule { rule_of result ≡ wanted (codes "FILE") }
-    ensures local { result.global ≡ false }
-{
-    wanted(alloc, "FILE", "The text of the programs")
+    with(
+        Ok(named(alloc, name, about)),
+        wanted(alloc, "FILE", "The text of the programs"),
+    )
 }
 
 pub(crate) fn task<'a>(alloc: Global) -> Arg<'a>
@@ -249,20 +241,6 @@ pub(crate) fn binding<'a>(alloc: Global) -> Arg<'a>
     )
 }
 
-fn played_text<'a>(alloc: Global) -> Arg<'a>
-    ensures rule { rule_of result ≡ wanted (codes "TEXT") }
-    ensures local { result.global ≡ false }
-{
-    wanted(alloc, "TEXT", "The text of the programs")
-}
-
-fn played_binding<'a>(alloc: Global) -> Arg<'a>
-    ensures rule { rule_of result ≡ wanted (codes "BIND") }
-    ensures local { result.global ≡ false }
-{
-    wanted(alloc, "BIND", "The binding of buses")
-}
-
 fn played_scenario<'a>(alloc: Global) -> Arg<'a>
     ensures rule { rule_of result ≡ wanted (codes "SCENARIO") }
     ensures local { result.global ≡ false }
@@ -279,24 +257,6 @@ fn looked_binding<'a>(alloc: Global) -> Arg<'a>
     ensures local { result.global ≡ false }
 {
     option(alloc, "bind", "FILE", "The binding of buses").required(true)
-}
-
-fn as_text<'a>(alloc: Global) -> Arg<'a>
-    ensures rule { rule_of result ≡ flag (codes "text") }
-    ensures local { result.global ≡ false }
-{
-    flag(
-        alloc,
-        "text",
-        "Prints lines for a terminal in place of an SVG",
-    )
-}
-
-fn of_code<'a>(alloc: Global) -> Arg<'a>
-    ensures rule { rule_of result ≡ flag (codes "code") }
-    ensures local { result.global ≡ false }
-{
-    flag(alloc, "code", "FILE is a code file, which has no binding")
 }
 
 fn limit<'a>(alloc: Global) -> Arg<'a>

@@ -1,36 +1,24 @@
 //! The commands that installers ask of a text: `notes`, `list` and `explain`.
 
-ghost use Rattle.std.specs.Prelude.{◌≡◌, IfOk, codes, false};
-ghost use Rattle.clap.specs.Words.{app_of, rule_of};
+ghost use Rattle.std.specs.Prelude.{◌≡◌, IfOk, false};
+ghost use Rattle.clap.specs.Words.{app_of};
 ghost use Rattle.clap.specs.declared.builder.command.Command.TheViews.{out-Command};
 ghost use Rattle.commandline.specs.CommandLine.{explain_command, explain_line};
-ghost use Rattle.commandline.specs.CommandLine.{list_command, list_line};
-ghost use Rattle.commandline.specs.CommandLine.{note_line, notes_command, optional};
+ghost use Rattle.commandline.specs.CommandLine.{list_command, notes_command};
 
 use crate::builders::{beside, optional, with};
 use crate::options::{binding, looking, of_text};
-use clap::{Arg, Command};
+use clap::Command;
 use std::alloc::{AllocError, Global};
 
 pub(crate) fn explaining<'a>(alloc: Global) -> Result<Command<'a>, AllocError>
     ensures shape { IfOk result (λ c. app_of c ≡ explain_line) }
     ensures local { IfOk result (λ c. (out-Command c).has_globals ≡ false) }
 {
-    beside(listing(alloc)?, explain(alloc))
-}
-
-fn listing<'a>(alloc: Global) -> Result<Command<'a>, AllocError>
-    ensures shape { IfOk result (λ c. app_of c ≡ list_line) }
-    ensures local { IfOk result (λ c. (out-Command c).has_globals ≡ false) }
-{
-    beside(noting(alloc)?, list(alloc))
-}
-
-fn noting<'a>(alloc: Global) -> Result<Command<'a>, AllocError>
-    ensures shape { IfOk result (λ c. app_of c ≡ note_line) }
-    ensures local { IfOk result (λ c. (out-Command c).has_globals ≡ false) }
-{
-    beside(looking(alloc)?, notes(alloc))
+    beside(
+        beside(beside(looking(alloc), notes(alloc)), list(alloc)),
+        explain(alloc),
+    )
 }
 
 fn notes<'a>(alloc: Global) -> Result<Command<'a>, AllocError>
@@ -38,7 +26,7 @@ fn notes<'a>(alloc: Global) -> Result<Command<'a>, AllocError>
     ensures local { IfOk result (λ c. (out-Command c).has_globals ≡ false) }
 {
     let about = "Prints what is likely not meant in an accepted text";
-    with(of_text(alloc, "notes", about)?, binding(alloc))
+    with(of_text(alloc, "notes", about), binding(alloc))
 }
 
 fn list<'a>(alloc: Global) -> Result<Command<'a>, AllocError>
@@ -46,8 +34,9 @@ fn list<'a>(alloc: Global) -> Result<Command<'a>, AllocError>
     ensures local { IfOk result (λ c. (out-Command c).has_globals ≡ false) }
 {
     let about = "Prints the words of tasks, what is known before each, and the longest path";
+    let help = "The task's name, in any letter case [default: all tasks]";
     with(
-        with(of_text(alloc, "list", about)?, listed(alloc))?,
+        with(of_text(alloc, "list", about), optional(alloc, "TASK", help)),
         binding(alloc),
     )
 }
@@ -57,26 +46,12 @@ fn explain<'a>(alloc: Global) -> Result<Command<'a>, AllocError>
     ensures local { IfOk result (λ c. (out-Command c).has_globals ≡ false) }
 {
     let about = "Explains the first thing that stands against a text, or prints notes on it";
+    let help = "A scenario that is explained too";
     with(
-        with(of_text(alloc, "explain", about)?, explained(alloc))?,
+        with(
+            of_text(alloc, "explain", about),
+            optional(alloc, "SCENARIO", help),
+        ),
         binding(alloc),
     )
-}
-
-fn listed<'a>(alloc: Global) -> Arg<'a>
-    ensures rule { rule_of result ≡ optional (codes "TASK") }
-    ensures local { result.global ≡ false }
-{
-    optional(
-        alloc,
-        "TASK",
-        "The task's name, in any letter case [default: all tasks]",
-    )
-}
-
-fn explained<'a>(alloc: Global) -> Arg<'a>
-    ensures rule { rule_of result ≡ optional (codes "SCENARIO") }
-    ensures local { result.global ≡ false }
-{
-    optional(alloc, "SCENARIO", "A scenario that is explained too")
 }

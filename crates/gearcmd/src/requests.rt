@@ -114,7 +114,7 @@ impl Default for Request {
 }
 
 /// Whose answer a request brings.
-#[derive(Clone, Copy, Debug, PartialEq, Eq)]
+#[derive(Clone, Copy)]
 pub enum Answerer {
     /// The control gear of this short address.
     Gear(ShortAddress),

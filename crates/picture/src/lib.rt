@@ -15,6 +15,7 @@ mod moment;
 mod parts;
 mod sheet;
 mod svg;
+mod svg_elements;
 mod svg_marks;
 mod svg_rows;
 mod text;

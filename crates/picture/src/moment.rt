@@ -4,7 +4,7 @@ use std::fmt;
 use std::fmt::Write;
 
 /// A moment, in milliseconds: `0s`, `2.5s`, `1m30s`, `8h`.
-#[derive(Clone, Copy, PartialEq, Eq)]
+#[derive(Clone, Copy)]
 pub struct Moment {
     pub milliseconds: u64,
 }
@@ -33,42 +33,41 @@ impl fmt::Write for Counter {
 
 impl fmt::Display for Moment {
     fn fmt<W: fmt::Write>(&self, f: &mut fmt::Formatter<W>) -> fmt::Result {
-        let hours = self.milliseconds / 3_600_000;
-        let minutes = self.milliseconds / 60_000 % 60;
-        if hours > 0 {
-            write!(f, "{hours}h")?;
+        if self.milliseconds == 0 {
+            return f.write_str("0s");
         }
-        if minutes > 0 {
-            write!(f, "{minutes}m")?;
-        }
-        let rest = self.milliseconds % 60_000;
-        if rest > 0 || self.milliseconds == 0 {
-            write!(f, "{}", Seconds { milliseconds: rest })?;
-        }
-        Ok(())
+        write_part(f, self.milliseconds / 3_600_000, "h")?;
+        write_part(f, self.milliseconds / 60_000 % 60, "m")?;
+        write_seconds(f, self.milliseconds % 60_000)
     }
 }
 
-/// Less than a minute, in milliseconds.
-#[derive(Clone, Copy)]
-struct Seconds {
-    milliseconds: u64,
+/// Writes how many of a unit a moment has, where it has any.
+fn write_part<W: fmt::Write>(f: &mut fmt::Formatter<W>, many: u64, unit: &str) -> fmt::Result {
+    if many == 0 {
+        return Ok(());
+    }
+    write!(f, "{many}{unit}")
 }
 
-impl fmt::Display for Seconds {
-    fn fmt<W: fmt::Write>(&self, f: &mut fmt::Formatter<W>) -> fmt::Result {
-        let whole = self.milliseconds / 1000;
-        let rest = self.milliseconds % 1000;
-        let tens = rest / 10;
-        let hundreds = rest / 100;
-        if rest == 0 {
-            write!(f, "{whole}s")
-        } else if rest % 100 == 0 {
-            write!(f, "{whole}.{hundreds}s")
-        } else if rest % 10 == 0 {
-            write!(f, "{whole}.{tens:02}s")
-        } else {
-            write!(f, "{whole}.{rest:03}s")
-        }
+/// Writes less than a minute, in milliseconds, where it is more than none.
+fn write_seconds<W: fmt::Write>(f: &mut fmt::Formatter<W>, milliseconds: u64) -> fmt::Result {
+    let whole = milliseconds / 1000;
+    let rest = milliseconds % 1000;
+    if rest == 0 {
+        return write_part(f, whole, "s");
+    }
+    let (fraction, digits) = decimals_of(rest);
+    write!(f, "{whole}.{fraction:0digits$}s")
+}
+
+/// Thousandths as a fraction without zeros at its end, and its digits.
+fn decimals_of(thousandths: u64) -> (u64, usize) {
+    if thousandths % 100 == 0 {
+        (thousandths / 100, 1)
+    } else if thousandths % 10 == 0 {
+        (thousandths / 10, 2)
+    } else {
+        (thousandths, 3)
     }
 }

@@ -43,7 +43,7 @@ pub struct Row {
 }
 
 /// What happened in a column of a row.
-#[derive(Clone, Copy, PartialEq, Eq)]
+#[derive(Clone, Copy)]
 pub struct Mark {
     /// The column, counted from 0.
     pub column: usize,
@@ -125,8 +125,7 @@ impl Row {
 
     /// What happened in a column.
     pub(crate) fn sign_at(&self, column: usize) -> Option<Sign> {
-        let place = self.marks.partition_point(|mark| mark.column < column);
-        match self.marks.get(place) {
+        match self.marks.get(self.marks_before(column)) {
             Some(mark) if mark.column == column => Some(mark.sign),
             _ => None,
         }
@@ -134,14 +133,18 @@ impl Row {
 
     /// The level before a column, where there was one.
     pub(crate) fn level_before(&self, column: usize) -> Option<u8> {
-        let place = self.marks.partition_point(|mark| mark.column < column);
-        match place.checked_sub(1) {
+        match self.marks_before(column).checked_sub(1) {
             Some(before) => match self.marks.get(before) {
                 Some(mark) => level_of(mark.sign),
                 None => None,
             },
             None => self.level,
         }
+    }
+
+    /// How many marks stand before a column.
+    fn marks_before(&self, column: usize) -> usize {
+        self.marks.partition_point(|mark| mark.column < column)
     }
 }
 

@@ -1,9 +1,9 @@
 //! A picture as SVG.
 
-use crate::sheet::{EDGE, LAMP, LINE, MOMENTS, NOTE, Sheet, TASK};
-use crate::svg_marks::{write_bus_marks, write_level_marks, write_source_marks, write_task_marks};
-use crate::svg_rows::{Plain, write_heading, write_label};
-use crate::{Column, Moment, Picture, Row};
+use crate::sheet::{EDGE, MOMENTS, NOTE, Sheet};
+use crate::svg_elements::{Plain, write_stroke, write_words};
+use crate::svg_rows::write_rows;
+use crate::{Column, Moment, Picture};
 use std::io;
 use std::io::Write;
 
@@ -65,8 +65,7 @@ pub fn write_svg<W: Write>(out: &mut W, picture: &Picture) -> io::Result<()> {
     write_moments(out, picture, &sheet)?;
     write_rows(out, picture, &sheet)?;
     write_foot(out, picture, &sheet)?;
-    write_titles(out, picture, &sheet)?;
-    writeln!(out, "</svg>")
+    write_end(out, picture, &sheet)
 }
 
 /// Writes what stands before all that is drawn.
@@ -76,21 +75,22 @@ fn write_head<W: Write>(out: &mut W, sheet: &Sheet) -> io::Result<()> {
     writeln!(
         out,
         "<svg xmlns=\"http://www.w3.org/2000/svg\" width=\"{width}\" height=\"{height}\" \
-         font-family=\"system-ui, 'DejaVu Sans', sans-serif\" font-size=\"12\">"
-    )?;
-    writeln!(out, "<title>What the scenario did</title>")?;
-    writeln!(out, "{STYLE}")?;
-    writeln!(out, "<rect width=\"100%\" height=\"100%\" fill=\"#fff\"/>")
+         font-family=\"system-ui, 'DejaVu Sans', sans-serif\" font-size=\"12\">\n\
+         <title>What the scenario did</title>\n\
+         {STYLE}\n\
+         <rect width=\"100%\" height=\"100%\" fill=\"#fff\"/>"
+    )
 }
 
 /// Draws a line for each moment, and writes its name below where there is room.
 fn write_moments<W: Write>(out: &mut W, picture: &Picture, sheet: &Sheet) -> io::Result<()> {
     let mut free: usize = 0;
+    let end = sheet.bottom.saturating_add(4);
     for (column, step) in picture.columns.iter().enumerate() {
         if let Some(moment) = step.moment {
             let x = sheet.middle(column);
             let half = moment.width().saturating_mul(7) / 2;
-            write_moment_line(out, x, sheet.bottom)?;
+            write_stroke(out, "m", x, EDGE, 'V', end)?;
             if x >= free.saturating_add(half) {
                 write_moment(out, moment, x, sheet.bottom)?;
                 free = x.saturating_add(half).saturating_add(6);
@@ -109,112 +109,32 @@ fn write_moment<W: Write>(out: &mut W, moment: Moment, x: usize, bottom: usize) 
     )
 }
 
-/// Draws the line of a moment.
-fn write_moment_line<W: Write>(out: &mut W, x: usize, bottom: usize) -> io::Result<()> {
-    let end = bottom.saturating_add(4);
-    writeln!(out, "<path class=\"m\" d=\"M{x} {EDGE}V{end}\"/>")
-}
-
-/// Draws all rows, kind by kind.
-fn write_rows<W: Write>(out: &mut W, picture: &Picture, sheet: &Sheet) -> io::Result<()> {
-    let top = write_lamps(out, &picture.lamps, sheet, EDGE)?;
-    let top = write_sources(out, &picture.sources, sheet, top)?;
-    let top = write_tasks(out, &picture.tasks, sheet, top)?;
-    write_buses(out, &picture.buses, sheet, top)
-}
-
-/// Draws the lamps from a height down; where they end.
-fn write_lamps<W: Write>(
-    out: &mut W,
-    rows: &[Row],
-    sheet: &Sheet,
-    top: usize,
-) -> io::Result<usize> {
-    let mut top = write_heading(out, "LEVELS", rows, top)?;
-    for row in rows {
-        let base = top.saturating_add(LAMP - 6);
-        write_label(out, row, sheet, base)?;
-        write_level_marks(out, row, sheet, base)?;
-        top = top.saturating_add(LAMP);
-    }
-    Ok(top)
-}
-
-/// Draws the sources of events from a height down; where they end.
-fn write_sources<W: Write>(
-    out: &mut W,
-    rows: &[Row],
-    sheet: &Sheet,
-    top: usize,
-) -> io::Result<usize> {
-    let mut top = write_heading(out, "BUTTONS AND SENSORS", rows, top)?;
-    for row in rows {
-        let middle = top.saturating_add(LINE / 2);
-        write_label(out, row, sheet, middle.saturating_add(4))?;
-        write_source_marks(out, row, sheet, middle)?;
-        top = top.saturating_add(LINE);
-    }
-    Ok(top)
-}
-
-/// Draws the tasks from a height down; where they end.
-fn write_tasks<W: Write>(
-    out: &mut W,
-    rows: &[Row],
-    sheet: &Sheet,
-    top: usize,
-) -> io::Result<usize> {
-    let mut top = write_heading(out, "TASKS", rows, top)?;
-    for row in rows {
-        let middle = top.saturating_add(TASK / 2);
-        write_label(out, row, sheet, middle.saturating_add(4))?;
-        write_task_marks(out, row, sheet, middle)?;
-        top = top.saturating_add(TASK);
-    }
-    Ok(top)
-}
-
-/// Draws the buses from a height down.
-fn write_buses<W: Write>(out: &mut W, rows: &[Row], sheet: &Sheet, top: usize) -> io::Result<()> {
-    let mut top = write_heading(out, "FRAMES", rows, top)?;
-    for row in rows {
-        let base = top.saturating_add(LINE - 6);
-        write_label(out, row, sheet, base)?;
-        write_bus_marks(out, row, sheet, base)?;
-        top = top.saturating_add(LINE);
-    }
-    Ok(())
-}
-
 /// Writes what the signs mean, and the notes.
 fn write_foot<W: Write>(out: &mut W, picture: &Picture, sheet: &Sheet) -> io::Result<()> {
     let mut y = sheet.bottom.saturating_add(MOMENTS + NOTE - 4);
-    writeln!(out, "<g transform=\"translate({EDGE} {y})\">")?;
-    writeln!(out, "{SIGNS}")?;
-    writeln!(out, "</g>")?;
+    write_signs(out, y)?;
     for note in picture.notes.iter() {
         y = y.saturating_add(NOTE);
-        write_note(out, note, y)?;
+        write_words(out, "x", EDGE, y, note)?;
     }
     Ok(())
 }
 
-/// Writes a note.
-fn write_note<W: Write>(out: &mut W, note: &str, y: usize) -> io::Result<()> {
-    let note = Plain { text: note };
+/// Writes what the signs mean, on a line of text.
+fn write_signs<W: Write>(out: &mut W, y: usize) -> io::Result<()> {
     writeln!(
         out,
-        "<text class=\"x\" x=\"{EDGE}\" y=\"{y}\">{note}</text>"
+        "<g transform=\"translate({EDGE} {y})\">\n{SIGNS}\n</g>"
     )
 }
 
-/// Writes what happened in each column, over all rows.
-fn write_titles<W: Write>(out: &mut W, picture: &Picture, sheet: &Sheet) -> io::Result<()> {
+/// Writes what happened in each column, over all rows, and the end.
+fn write_end<W: Write>(out: &mut W, picture: &Picture, sheet: &Sheet) -> io::Result<()> {
     for (number, column) in picture.columns.iter().enumerate() {
         let x = sheet.left.saturating_add(number.saturating_mul(sheet.step));
         write_title(out, column, x, sheet)?;
     }
-    Ok(())
+    writeln!(out, "</svg>")
 }
 
 /// Writes what happened in a column that begins at `x`.
@@ -224,9 +144,9 @@ fn write_title<W: Write>(out: &mut W, column: &Column, x: usize, sheet: &Sheet) 
     };
     let width = sheet.step;
     let height = sheet.bottom;
-    write!(
+    writeln!(
         out,
-        "<rect class=\"c\" x=\"{x}\" width=\"{width}\" height=\"{height}\">"
-    )?;
-    writeln!(out, "<title>{title}</title></rect>")
+        "<rect class=\"c\" x=\"{x}\" width=\"{width}\" height=\"{height}\">\
+         <title>{title}</title></rect>"
+    )
 }

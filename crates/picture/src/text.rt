@@ -46,33 +46,45 @@ pub fn write_text<W: Write>(out: &mut W, picture: &Picture) -> io::Result<()> {
         };
         write_band(out, picture, &band)?;
     }
-    writeln!(out, "{SIGNS}")?;
+    write_line(out, SIGNS)?;
     for note in picture.notes.iter() {
-        writeln!(out, "{note}")?;
+        write_line(out, note)?;
     }
     Ok(())
 }
 
+/// Writes a line.
+fn write_line<W: Write>(out: &mut W, line: &str) -> io::Result<()> {
+    writeln!(out, "{line}")
+}
+
 /// All columns beside each other.
 fn whole_band(picture: &Picture) -> Band {
-    let mut band = Band {
+    let band = Band {
         first: 0,
         end: picture.columns.len(),
         names: 0,
         places: 0,
     };
-    for rows in [
-        &picture.lamps,
-        &picture.sources,
-        &picture.tasks,
-        &picture.buses,
-    ] {
-        for row in rows.iter() {
-            band.names = band.names.max(row.name.len());
-            band.places = band.places.max(row.place.len());
-        }
+    let band = widened(band, &picture.lamps);
+    let band = widened(band, &picture.sources);
+    let band = widened(band, &picture.tasks);
+    widened(band, &picture.buses)
+}
+
+/// A band in which the names and places of these rows have room too.
+fn widened(band: Band, rows: &[Row]) -> Band {
+    let mut names = band.names;
+    let mut places = band.places;
+    for row in rows {
+        names = names.max(row.name.len());
+        places = places.max(row.place.len());
     }
-    band
+    Band {
+        names,
+        places,
+        ..band
+    }
 }
 
 /// Draws the columns of a band, where there are any.
@@ -80,27 +92,42 @@ fn write_band<W: Write>(out: &mut W, picture: &Picture, band: &Band) -> io::Resu
     if band.first >= band.end {
         return Ok(());
     }
-    for row in picture.lamps.iter() {
-        write_name(out, row, band)?;
-        write_levels(out, row, band)?;
-    }
-    for rows in [&picture.sources, &picture.tasks, &picture.buses] {
-        for row in rows.iter() {
-            write_name(out, row, band)?;
-            write_signs(out, row, band)?;
-        }
-    }
+    write_level_rows(out, &picture.lamps, band)?;
+    write_sign_rows(out, &picture.sources, band)?;
+    write_sign_rows(out, &picture.tasks, band)?;
+    write_sign_rows(out, &picture.buses, band)?;
     write_moments(out, picture, band)?;
     writeln!(out)
 }
 
+/// Draws rows of levels.
+fn write_level_rows<W: Write>(out: &mut W, rows: &[Row], band: &Band) -> io::Result<()> {
+    for row in rows {
+        write_name(out, row, band)?;
+        write_levels(out, row, band)?;
+    }
+    Ok(())
+}
+
+/// Draws rows of other marks.
+fn write_sign_rows<W: Write>(out: &mut W, rows: &[Row], band: &Band) -> io::Result<()> {
+    for row in rows {
+        write_name(out, row, band)?;
+        write_signs(out, row, band)?;
+    }
+    Ok(())
+}
+
 /// Writes the name and the place of a row, in their widths.
 fn write_name<W: Write>(out: &mut W, row: &Row, band: &Band) -> io::Result<()> {
-    let gap = band.names.saturating_sub(row.name.len());
-    write!(out, "{}", row.name)?;
-    write_spaces(out, gap.saturating_add(2))?;
-    let gap = band.places.saturating_sub(row.place.len());
-    write!(out, "{}", row.place)?;
+    write_padded(out, &row.name, band.names)?;
+    write_padded(out, &row.place, band.places)
+}
+
+/// Writes a text in a width, and two spaces.
+fn write_padded<W: Write>(out: &mut W, text: &str, width: usize) -> io::Result<()> {
+    let gap = width.saturating_sub(text.len());
+    write!(out, "{text}")?;
     write_spaces(out, gap.saturating_add(2))
 }
 

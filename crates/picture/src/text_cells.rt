@@ -50,7 +50,7 @@ fn write_level<W: Write>(out: &mut W, level: u8, is_new: bool) -> io::Result<()>
     }
     let block = block_of(level);
     for _ in written..CELL {
-        write!(out, "{block}")?;
+        write_word(out, block, 1)?;
     }
     Ok(())
 }
@@ -80,9 +80,9 @@ pub(crate) fn write_signs<W: Write>(out: &mut W, row: &Row, band: &Band) -> io::
     for column in band.first..band.end {
         write_spaces(out, gap)?;
         let written = match row.sign_at(column) {
-            Some(sign) => write_sign(out, sign)?,
-            None => write_word(out, "·", 1)?,
-        };
+            Some(sign) => write_sign(out, sign),
+            None => write_word(out, "·", 1),
+        }?;
         gap = CELL.saturating_sub(written);
     }
     writeln!(out)
