@@ -4,8 +4,8 @@ ghost use Rattle.std.specs.Prelude.{◌≡◌, [], slice_index_or};
 ghost use Rattle.seatgroups.specs.Openings.{no_amounts, each_place};
 ghost use Rattle.seatgroups.specs.GroupTies.{ties_of};
 
-use crate::group::{GroupBooks, GroupHalf, GroupTie};
-use crate::names::{Names, Seat};
+use crate::group::{GroupBooks, GroupHalf, GroupTie, PlaceBook};
+use crate::names::Names;
 use std::marker::Model;
 use std::sync::ledger::Blank;
 
@@ -110,15 +110,15 @@ impl GroupBlanks {
             b7,
             b8,
         } = self;
-        let (b0, h0) = b0.open::<Seat<N, G, 0>>();
-        let (b1, h1) = b1.open::<Seat<N, G, 1>>();
-        let (b2, h2) = b2.open::<Seat<N, G, 2>>();
-        let (b3, h3) = b3.open::<Seat<N, G, 3>>();
-        let (b4, h4) = b4.open::<Seat<N, G, 4>>();
-        let (b5, h5) = b5.open::<Seat<N, G, 5>>();
-        let (b6, h6) = b6.open::<Seat<N, G, 6>>();
-        let (b7, h7) = b7.open::<Seat<N, G, 7>>();
-        let (b8, h8) = b8.open::<Seat<N, G, 8>>();
+        let (b0, h0) = PlaceBook::<N, G, 0>::open(b0);
+        let (b1, h1) = PlaceBook::<N, G, 1>::open(b1);
+        let (b2, h2) = PlaceBook::<N, G, 2>::open(b2);
+        let (b3, h3) = PlaceBook::<N, G, 3>::open(b3);
+        let (b4, h4) = PlaceBook::<N, G, 4>::open(b4);
+        let (b5, h5) = PlaceBook::<N, G, 5>::open(b5);
+        let (b6, h6) = PlaceBook::<N, G, 6>::open(b6);
+        let (b7, h7) = PlaceBook::<N, G, 7>::open(b7);
+        let (b8, h8) = PlaceBook::<N, G, 8>::open(b8);
         let books = GroupBooks {
             b0,
             b1,

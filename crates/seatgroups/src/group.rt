@@ -1,22 +1,82 @@
 //! Nine ledgers side by side: a group.
 
-ghost use Rattle.std.specs.Prelude.{◌≡◌, ◌+◌, ◌-◌, ◌<◌, ◌≤◌, length, slice_index, slice_set};
+ghost use Rattle.std.specs.Prelude.{◌≡◌, ◌+◌, ◌-◌, ◌<◌, ◌≤◌, [], length};
+ghost use Rattle.std.specs.Prelude.{slice_index, slice_index_or, slice_set};
 
 use crate::names::{Names, Seat};
 use std::marker::Model;
-use std::sync::ledger::{Book, Share};
+use std::sync::ledger::{Blank, Book, Share};
+
+/// The book of place `K` of a group. Contracts see its total.
+pub(crate) struct PlaceBook<N: Names, const G: usize, const K: usize> {
+    book: Book<Seat<N, G, K>>,
+}
+
+/// Written out, so that it is proved here alone.
+impl<N: Names, const G: usize, const K: usize> Drop for PlaceBook<N, G, K> {
+    fn drop(self) {
+        let Self { book: _ } = self;
+    }
+}
+
+impl<N: Names, const G: usize, const K: usize> Model for PlaceBook<N, G, K> {
+    ghost use Rattle.std.specs.Prelude.{ℕ};
+
+    ghost Value = { ℕ };
+
+    ghost view = { λ b. b.book.total };
+}
+
+impl<N: Names, const G: usize, const K: usize> PlaceBook<N, G, K> {
+    /// The book of a new ledger, and its whole share.
+    pub(crate) fn open(blank: Blank) -> (PlaceBook<N, G, K>, Share<Seat<N, G, K>>)
+        requires name { blank.name ≡ slice_index (slice_index_or N.names G []) K }
+        requires parts { blank.parts ≡ 1 }
+        ensures total { result.0 ≡ 0 }
+        ensures amount { result.1.amount ≡ 0 }
+        ensures parts { result.1.parts ≡ 1 }
+    {
+        let (book, share) = blank.open::<Seat<N, G, K>>();
+        (PlaceBook { book }, share)
+    }
+
+    /// The whole share has the total.
+    fn audit(&mut self, share: &mut Share<Seat<N, G, K>>)
+        requires { share.old.parts ≡ 1 }
+        ensures same { self.old ≡ share.old.amount }
+        ensures total { self.new ≡ self.old }
+        ensures amount { share.new.amount ≡ share.old.amount }
+        ensures parts { share.new.parts ≡ 1 }
+    {
+        self.book.audit(share)
+    }
+
+    /// The whole share has the total, and both grow by the first number and fall by the second.
+    fn add(&mut self, share: &mut Share<Seat<N, G, K>>, by: (u64, u64))
+        requires whole { share.old.parts ≡ 1 }
+        requires enough { by.1 ≤ share.old.amount }
+        ensures same { self.old ≡ share.old.amount }
+        ensures total { self.new ≡ share.new.amount }
+        ensures amount { share.new.amount + by.1 ≡ share.old.amount + by.0 }
+        ensures parts { share.new.parts ≡ 1 }
+    {
+        self.audit(share);
+        self.book.add(share, by.0);
+        self.book.sub(share, by.1);
+    }
+}
 
 /// The books of a group. Contracts see their totals.
 pub struct GroupBooks<N: Names, const G: usize> {
-    pub(crate) b0: Book<Seat<N, G, 0>>,
-    pub(crate) b1: Book<Seat<N, G, 1>>,
-    pub(crate) b2: Book<Seat<N, G, 2>>,
-    pub(crate) b3: Book<Seat<N, G, 3>>,
-    pub(crate) b4: Book<Seat<N, G, 4>>,
-    pub(crate) b5: Book<Seat<N, G, 5>>,
-    pub(crate) b6: Book<Seat<N, G, 6>>,
-    pub(crate) b7: Book<Seat<N, G, 7>>,
-    pub(crate) b8: Book<Seat<N, G, 8>>,
+    pub(crate) b0: PlaceBook<N, G, 0>,
+    pub(crate) b1: PlaceBook<N, G, 1>,
+    pub(crate) b2: PlaceBook<N, G, 2>,
+    pub(crate) b3: PlaceBook<N, G, 3>,
+    pub(crate) b4: PlaceBook<N, G, 4>,
+    pub(crate) b5: PlaceBook<N, G, 5>,
+    pub(crate) b6: PlaceBook<N, G, 6>,
+    pub(crate) b7: PlaceBook<N, G, 7>,
+    pub(crate) b8: PlaceBook<N, G, 8>,
 }
 
 /// Written out, so that it is proved here alone.
@@ -41,9 +101,7 @@ impl<N: Names, const G: usize> Model for GroupBooks<N, G> {
 
     ghost Value = { List ℕ };
 
-    ghost view = { λ r.
-        r.b0.total ∷ r.b1.total ∷ r.b2.total ∷ r.b3.total ∷ r.b4.total ∷ r.b5.total ∷ r.b6.total
-        ∷ r.b7.total ∷ r.b8.total ∷ [] };
+    ghost view = { λ r. r.b0 ∷ r.b1 ∷ r.b2 ∷ r.b3 ∷ r.b4 ∷ r.b5 ∷ r.b6 ∷ r.b7 ∷ r.b8 ∷ [] };
 }
 
 /// The whole share of one of the ledgers of a group.
@@ -84,23 +142,53 @@ impl<N: Names, const G: usize> Model for GroupTie<N, G> {
 }
 
 impl<N: Names, const G: usize> GroupBooks<N, G> {
+    /// The two agree, grow by the first number, and fall by the second.
+    fn change(&mut self, tie: &mut GroupTie<N, G>, by: (u64, u64))
+        requires { by.1 ≤ tie.old.1 }
+        ensures same { slice_index self.old tie.old.0 ≡ tie.old.1 }
+        ensures below { tie.old.0 < length self.old }
+        ensures place { tie.new.0 ≡ tie.old.0 }
+        ensures amount { tie.new.1 + by.1 ≡ tie.old.1 + by.0 }
+        ensures rows { self.new ≡ slice_set self.old tie.old.0 tie.new.1 }
+    {
+        match &mut tie.half {
+            GroupHalf::H0(share) => {
+                self.b0.add(share, by);
+            }
+            GroupHalf::H1(share) => {
+                self.b1.add(share, by);
+            }
+            GroupHalf::H2(share) => {
+                self.b2.add(share, by);
+            }
+            GroupHalf::H3(share) => {
+                self.b3.add(share, by);
+            }
+            GroupHalf::H4(share) => {
+                self.b4.add(share, by);
+            }
+            GroupHalf::H5(share) => {
+                self.b5.add(share, by);
+            }
+            GroupHalf::H6(share) => {
+                self.b6.add(share, by);
+            }
+            GroupHalf::H7(share) => {
+                self.b7.add(share, by);
+            }
+            GroupHalf::H8(share) => {
+                self.b8.add(share, by);
+            }
+        }
+    }
+
     /// The two agree.
     pub fn audit(&mut self, tie: &mut GroupTie<N, G>)
         ensures same { slice_index self.old tie.old.0 ≡ tie.old.1 }
         ensures rows { self.new ≡ self.old }
         ensures tie { tie.new ≡ tie.old }
     {
-        match &mut tie.half {
-            GroupHalf::H0(share) => self.b0.audit(share),
-            GroupHalf::H1(share) => self.b1.audit(share),
-            GroupHalf::H2(share) => self.b2.audit(share),
-            GroupHalf::H3(share) => self.b3.audit(share),
-            GroupHalf::H4(share) => self.b4.audit(share),
-            GroupHalf::H5(share) => self.b5.audit(share),
-            GroupHalf::H6(share) => self.b6.audit(share),
-            GroupHalf::H7(share) => self.b7.audit(share),
-            GroupHalf::H8(share) => self.b8.audit(share),
-        }
+        self.change(tie, (0, 0))
     }
 
     /// The two agree, and grow together.
@@ -110,44 +198,7 @@ impl<N: Names, const G: usize> GroupBooks<N, G> {
         ensures tie { tie.new ≡ (tie.old.0, tie.old.1 + by) }
         ensures below { tie.old.0 < length self.old }
     {
-        match &mut tie.half {
-            GroupHalf::H0(share) => {
-                self.b0.audit(share);
-                self.b0.add(share, by);
-            }
-            GroupHalf::H1(share) => {
-                self.b1.audit(share);
-                self.b1.add(share, by);
-            }
-            GroupHalf::H2(share) => {
-                self.b2.audit(share);
-                self.b2.add(share, by);
-            }
-            GroupHalf::H3(share) => {
-                self.b3.audit(share);
-                self.b3.add(share, by);
-            }
-            GroupHalf::H4(share) => {
-                self.b4.audit(share);
-                self.b4.add(share, by);
-            }
-            GroupHalf::H5(share) => {
-                self.b5.audit(share);
-                self.b5.add(share, by);
-            }
-            GroupHalf::H6(share) => {
-                self.b6.audit(share);
-                self.b6.add(share, by);
-            }
-            GroupHalf::H7(share) => {
-                self.b7.audit(share);
-                self.b7.add(share, by);
-            }
-            GroupHalf::H8(share) => {
-                self.b8.audit(share);
-                self.b8.add(share, by);
-            }
-        }
+        self.change(tie, (by, 0))
     }
 
     /// The two agree, and fall together.
@@ -158,43 +209,6 @@ impl<N: Names, const G: usize> GroupBooks<N, G> {
         ensures tie { tie.new ≡ (tie.old.0, tie.old.1 - by) }
         ensures below { tie.old.0 < length self.old }
     {
-        match &mut tie.half {
-            GroupHalf::H0(share) => {
-                self.b0.audit(share);
-                self.b0.sub(share, by);
-            }
-            GroupHalf::H1(share) => {
-                self.b1.audit(share);
-                self.b1.sub(share, by);
-            }
-            GroupHalf::H2(share) => {
-                self.b2.audit(share);
-                self.b2.sub(share, by);
-            }
-            GroupHalf::H3(share) => {
-                self.b3.audit(share);
-                self.b3.sub(share, by);
-            }
-            GroupHalf::H4(share) => {
-                self.b4.audit(share);
-                self.b4.sub(share, by);
-            }
-            GroupHalf::H5(share) => {
-                self.b5.audit(share);
-                self.b5.sub(share, by);
-            }
-            GroupHalf::H6(share) => {
-                self.b6.audit(share);
-                self.b6.sub(share, by);
-            }
-            GroupHalf::H7(share) => {
-                self.b7.audit(share);
-                self.b7.sub(share, by);
-            }
-            GroupHalf::H8(share) => {
-                self.b8.audit(share);
-                self.b8.sub(share, by);
-            }
-        }
+        self.change(tie, (0, by))
     }
 }

@@ -1,6 +1,7 @@
 //! Nine groups side by side: 81 ledgers.
 
-ghost use Rattle.std.specs.Prelude.{◌≡◌, ◌+◌, ◌-◌, ◌<◌, ◌≤◌, [], length, slice_set, slice_index_or};
+ghost use Rattle.std.specs.Prelude.{◌≡◌, ◌+◌, ◌<◌, ◌≤◌, [], length};
+ghost use Rattle.std.specs.Prelude.{slice_index, slice_set, slice_index_or};
 ghost use Rattle.seats.specs.Families.{number};
 
 use crate::tallies::{Seated, Tallies};
@@ -85,51 +86,46 @@ impl<N: Names> Seated for Tie<N> {
     ghost amount = { λ t. t.amount };
 }
 
-impl<N: Names> Books<N> {
-    /// The two agree, and grow together.
-    fn grow(&mut self, tie: &mut Tie<N>, by: u64)
-        ensures same { number self.old tie.old.seat ≡ tie.old.amount }
-        ensures group { tie.old.seat.0 < length self.old }
-        ensures place { tie.old.seat.1 < length (slice_index_or self.old tie.old.seat.0 []) }
-        ensures rows { self.new ≡ slice_set self.old tie.old.seat.0
-            (slice_set (slice_index_or self.old tie.old.seat.0 []) tie.old.seat.1
-            (tie.old.amount + by)) }
-        ensures tie { tie.new ≡ record tie.old { amount = tie.old.amount + by } }
-    {
-        match &mut tie.half {
-            Half::G0(tie) => self.g0.add(tie, by),
-            Half::G1(tie) => self.g1.add(tie, by),
-            Half::G2(tie) => self.g2.add(tie, by),
-            Half::G3(tie) => self.g3.add(tie, by),
-            Half::G4(tie) => self.g4.add(tie, by),
-            Half::G5(tie) => self.g5.add(tie, by),
-            Half::G6(tie) => self.g6.add(tie, by),
-            Half::G7(tie) => self.g7.add(tie, by),
-            Half::G8(tie) => self.g8.add(tie, by),
-        }
-    }
+/// The two agree, grow by the first number, and fall by the second.
+fn change_place<N: Names, const G: usize>(
+    books: &mut GroupBooks<N, G>,
+    tie: &mut GroupTie<N, G>,
+    by: (u64, u64),
+)
+    requires { by.1 ≤ tie.old.1 }
+    ensures same { slice_index books.old tie.old.0 ≡ tie.old.1 }
+    ensures below { tie.old.0 < length books.old }
+    ensures place { tie.new.0 ≡ tie.old.0 }
+    ensures amount { tie.new.1 + by.1 ≡ tie.old.1 + by.0 }
+    ensures rows { books.new ≡ slice_set books.old tie.old.0 tie.new.1 }
+{
+    books.add(tie, by.0);
+    books.sub(tie, by.1);
+}
 
-    /// The two agree, and fall together.
-    fn fall(&mut self, tie: &mut Tie<N>, by: u64)
-        requires { by ≤ tie.old.amount }
+impl<N: Names> Books<N> {
+    /// The two agree, grow by the first number, and fall by the second.
+    fn change(&mut self, tie: &mut Tie<N>, by: (u64, u64))
+        requires { by.1 ≤ tie.old.amount }
         ensures same { number self.old tie.old.seat ≡ tie.old.amount }
         ensures group { tie.old.seat.0 < length self.old }
         ensures place { tie.old.seat.1 < length (slice_index_or self.old tie.old.seat.0 []) }
+        ensures seat { tie.new.seat ≡ tie.old.seat }
+        ensures amount { tie.new.amount + by.1 ≡ tie.old.amount + by.0 }
         ensures rows { self.new ≡ slice_set self.old tie.old.seat.0
             (slice_set (slice_index_or self.old tie.old.seat.0 []) tie.old.seat.1
-            (tie.old.amount - by)) }
-        ensures tie { tie.new ≡ record tie.old { amount = tie.old.amount - by } }
+            tie.new.amount) }
     {
         match &mut tie.half {
-            Half::G0(tie) => self.g0.sub(tie, by),
-            Half::G1(tie) => self.g1.sub(tie, by),
-            Half::G2(tie) => self.g2.sub(tie, by),
-            Half::G3(tie) => self.g3.sub(tie, by),
-            Half::G4(tie) => self.g4.sub(tie, by),
-            Half::G5(tie) => self.g5.sub(tie, by),
-            Half::G6(tie) => self.g6.sub(tie, by),
-            Half::G7(tie) => self.g7.sub(tie, by),
-            Half::G8(tie) => self.g8.sub(tie, by),
+            Half::G0(tie) => change_place(&mut self.g0, tie, by),
+            Half::G1(tie) => change_place(&mut self.g1, tie, by),
+            Half::G2(tie) => change_place(&mut self.g2, tie, by),
+            Half::G3(tie) => change_place(&mut self.g3, tie, by),
+            Half::G4(tie) => change_place(&mut self.g4, tie, by),
+            Half::G5(tie) => change_place(&mut self.g5, tie, by),
+            Half::G6(tie) => change_place(&mut self.g6, tie, by),
+            Half::G7(tie) => change_place(&mut self.g7, tie, by),
+            Half::G8(tie) => change_place(&mut self.g8, tie, by),
         }
     }
 }
@@ -138,24 +134,14 @@ impl<N: Names> Tallies<Tie<N>> for Books<N> {
     ghost number = { number };
 
     fn audit(&mut self, tie: &mut Tie<N>) {
-        match &mut tie.half {
-            Half::G0(tie) => self.g0.audit(tie),
-            Half::G1(tie) => self.g1.audit(tie),
-            Half::G2(tie) => self.g2.audit(tie),
-            Half::G3(tie) => self.g3.audit(tie),
-            Half::G4(tie) => self.g4.audit(tie),
-            Half::G5(tie) => self.g5.audit(tie),
-            Half::G6(tie) => self.g6.audit(tie),
-            Half::G7(tie) => self.g7.audit(tie),
-            Half::G8(tie) => self.g8.audit(tie),
-        }
+        self.change(tie, (0, 0))
     }
 
     fn add(&mut self, tie: &mut Tie<N>, by: u64) {
-        self.grow(tie, by)
+        self.change(tie, (by, 0))
     }
 
     fn sub(&mut self, tie: &mut Tie<N>, by: u64) {
-        self.fall(tie, by)
+        self.change(tie, (0, by))
     }
 }

@@ -1,13 +1,14 @@
 //! Opening: all books without amounts, and the tie of each seat.
 
-ghost use Rattle.std.specs.Prelude.{◌≡◌, ℕ, ◌+◌, ◌≤◌, [], ◌++◌, IfOk, map, slice_index_or, vec_capacity, vec_len};
+ghost use Rattle.std.specs.Prelude.{◌≡◌, ℕ, ◌+◌, ◌≤◌, [], ◌∷◌, ◌++◌, IfOk, map};
+ghost use Rattle.std.specs.Prelude.{slice_index_or, vec_capacity, vec_len};
 ghost use Rattle.std.specs.List.{range_with_len};
 ghost use Rattle.seatgroups.specs.Openings.{no_amounts};
-ghost use Rattle.seats.specs.Families.{number};
+ghost use Rattle.seats.specs.Families.{Seating, number, seating_of};
 ghost use Rattle.seats.specs.Openings.{fresh, fresh_group};
 
 use crate::family::{Books, Half, Tie};
-use seatgroups::{GroupBlanks, GroupBooks, GroupTies, Names};
+use seatgroups::{GroupBlanks, GroupBooks, GroupTie, GroupTies, Names};
 use std::alloc::{AllocError, Global};
 use std::marker::Model;
 
@@ -49,292 +50,125 @@ impl Model for Blanks {
     ghost view = { λ b. b.g0 ∷ b.g1 ∷ b.g2 ∷ b.g3 ∷ b.g4 ∷ b.g5 ∷ b.g6 ∷ b.g7 ∷ b.g8 ∷ [] };
 }
 
-/// Opens group 0.
-fn open_0<N: Names>(blanks: GroupBlanks, ties: &mut Vec<Tie<N>>) -> GroupBooks<N, 0>
-    requires names { blanks ≡ slice_index_or N.names 0 [] }
-    requires room { vec_len ties.old + 9 ≤ vec_capacity ties.old }
-    ensures books { result ≡ no_amounts }
-    ensures ties { ties.new.items ≡ ties.old.items ++ fresh_group 0 }
-    ensures len { vec_len ties.new ≡ vec_len ties.old + 9 }
-    ensures capacity { vec_capacity ties.new ≡ vec_capacity ties.old }
-{
-    let (
-        books,
-        GroupTies {
-            t0,
-            t1,
-            t2,
-            t3,
-            t4,
-            t5,
-            t6,
-            t7,
-            t8,
-        },
-    ) = blanks.open::<N, 0>();
-    ties.push_reserved(Tie { half: Half::G0(t0) });
-    ties.push_reserved(Tie { half: Half::G0(t1) });
-    ties.push_reserved(Tie { half: Half::G0(t2) });
-    ties.push_reserved(Tie { half: Half::G0(t3) });
-    ties.push_reserved(Tie { half: Half::G0(t4) });
-    ties.push_reserved(Tie { half: Half::G0(t5) });
-    ties.push_reserved(Tie { half: Half::G0(t6) });
-    ties.push_reserved(Tie { half: Half::G0(t7) });
-    ties.push_reserved(Tie { half: Half::G0(t8) });
-    books
+/// The form that `Half` has for a group, so that what is done for one group stands once.
+trait OfGroup<N: Names, X> {
+    ghost seating: { X → Seating };
+
+    /// The tie, as one of this group.
+    fn half(tie: X) -> Half<N>
+        ensures { seating_of result ≡ seating tie };
 }
 
-/// Opens group 1.
-fn open_1<N: Names>(blanks: GroupBlanks, ties: &mut Vec<Tie<N>>) -> GroupBooks<N, 1>
-    requires names { blanks ≡ slice_index_or N.names 1 [] }
-    requires room { vec_len ties.old + 9 ≤ vec_capacity ties.old }
-    ensures books { result ≡ no_amounts }
-    ensures ties { ties.new.items ≡ ties.old.items ++ fresh_group 1 }
-    ensures len { vec_len ties.new ≡ vec_len ties.old + 9 }
-    ensures capacity { vec_capacity ties.new ≡ vec_capacity ties.old }
-{
-    let (
-        books,
-        GroupTies {
-            t0,
-            t1,
-            t2,
-            t3,
-            t4,
-            t5,
-            t6,
-            t7,
-            t8,
-        },
-    ) = blanks.open::<N, 1>();
-    ties.push_reserved(Tie { half: Half::G1(t0) });
-    ties.push_reserved(Tie { half: Half::G1(t1) });
-    ties.push_reserved(Tie { half: Half::G1(t2) });
-    ties.push_reserved(Tie { half: Half::G1(t3) });
-    ties.push_reserved(Tie { half: Half::G1(t4) });
-    ties.push_reserved(Tie { half: Half::G1(t5) });
-    ties.push_reserved(Tie { half: Half::G1(t6) });
-    ties.push_reserved(Tie { half: Half::G1(t7) });
-    ties.push_reserved(Tie { half: Half::G1(t8) });
-    books
+impl<N: Names> OfGroup<N, GroupTie<N, 0>> for Half<N> {
+    ghost seating = { λ t. record { seat = (0, t.0); amount = t.1 } };
+
+    fn half(tie: GroupTie<N, 0>) -> Half<N>
+        ensures { seating_of result ≡ record { seat = (0, tie.0); amount = tie.1 } }
+    {
+        Half::G0(tie)
+    }
 }
 
-/// Opens group 2.
-fn open_2<N: Names>(blanks: GroupBlanks, ties: &mut Vec<Tie<N>>) -> GroupBooks<N, 2>
-    requires names { blanks ≡ slice_index_or N.names 2 [] }
-    requires room { vec_len ties.old + 9 ≤ vec_capacity ties.old }
-    ensures books { result ≡ no_amounts }
-    ensures ties { ties.new.items ≡ ties.old.items ++ fresh_group 2 }
-    ensures len { vec_len ties.new ≡ vec_len ties.old + 9 }
-    ensures capacity { vec_capacity ties.new ≡ vec_capacity ties.old }
-{
-    let (
-        books,
-        GroupTies {
-            t0,
-            t1,
-            t2,
-            t3,
-            t4,
-            t5,
-            t6,
-            t7,
-            t8,
-        },
-    ) = blanks.open::<N, 2>();
-    ties.push_reserved(Tie { half: Half::G2(t0) });
-    ties.push_reserved(Tie { half: Half::G2(t1) });
-    ties.push_reserved(Tie { half: Half::G2(t2) });
-    ties.push_reserved(Tie { half: Half::G2(t3) });
-    ties.push_reserved(Tie { half: Half::G2(t4) });
-    ties.push_reserved(Tie { half: Half::G2(t5) });
-    ties.push_reserved(Tie { half: Half::G2(t6) });
-    ties.push_reserved(Tie { half: Half::G2(t7) });
-    ties.push_reserved(Tie { half: Half::G2(t8) });
-    books
+impl<N: Names> OfGroup<N, GroupTie<N, 1>> for Half<N> {
+    ghost seating = { λ t. record { seat = (1, t.0); amount = t.1 } };
+
+    fn half(tie: GroupTie<N, 1>) -> Half<N>
+        ensures { seating_of result ≡ record { seat = (1, tie.0); amount = tie.1 } }
+    {
+        Half::G1(tie)
+    }
 }
 
-/// Opens group 3.
-fn open_3<N: Names>(blanks: GroupBlanks, ties: &mut Vec<Tie<N>>) -> GroupBooks<N, 3>
-    requires names { blanks ≡ slice_index_or N.names 3 [] }
-    requires room { vec_len ties.old + 9 ≤ vec_capacity ties.old }
-    ensures books { result ≡ no_amounts }
-    ensures ties { ties.new.items ≡ ties.old.items ++ fresh_group 3 }
-    ensures len { vec_len ties.new ≡ vec_len ties.old + 9 }
-    ensures capacity { vec_capacity ties.new ≡ vec_capacity ties.old }
-{
-    let (
-        books,
-        GroupTies {
-            t0,
-            t1,
-            t2,
-            t3,
-            t4,
-            t5,
-            t6,
-            t7,
-            t8,
-        },
-    ) = blanks.open::<N, 3>();
-    ties.push_reserved(Tie { half: Half::G3(t0) });
-    ties.push_reserved(Tie { half: Half::G3(t1) });
-    ties.push_reserved(Tie { half: Half::G3(t2) });
-    ties.push_reserved(Tie { half: Half::G3(t3) });
-    ties.push_reserved(Tie { half: Half::G3(t4) });
-    ties.push_reserved(Tie { half: Half::G3(t5) });
-    ties.push_reserved(Tie { half: Half::G3(t6) });
-    ties.push_reserved(Tie { half: Half::G3(t7) });
-    ties.push_reserved(Tie { half: Half::G3(t8) });
-    books
+impl<N: Names> OfGroup<N, GroupTie<N, 2>> for Half<N> {
+    ghost seating = { λ t. record { seat = (2, t.0); amount = t.1 } };
+
+    fn half(tie: GroupTie<N, 2>) -> Half<N>
+        ensures { seating_of result ≡ record { seat = (2, tie.0); amount = tie.1 } }
+    {
+        Half::G2(tie)
+    }
 }
 
-/// Opens group 4.
-fn open_4<N: Names>(blanks: GroupBlanks, ties: &mut Vec<Tie<N>>) -> GroupBooks<N, 4>
-    requires names { blanks ≡ slice_index_or N.names 4 [] }
-    requires room { vec_len ties.old + 9 ≤ vec_capacity ties.old }
-    ensures books { result ≡ no_amounts }
-    ensures ties { ties.new.items ≡ ties.old.items ++ fresh_group 4 }
-    ensures len { vec_len ties.new ≡ vec_len ties.old + 9 }
-    ensures capacity { vec_capacity ties.new ≡ vec_capacity ties.old }
-{
-    let (
-        books,
-        GroupTies {
-            t0,
-            t1,
-            t2,
-            t3,
-            t4,
-            t5,
-            t6,
-            t7,
-            t8,
-        },
-    ) = blanks.open::<N, 4>();
-    ties.push_reserved(Tie { half: Half::G4(t0) });
-    ties.push_reserved(Tie { half: Half::G4(t1) });
-    ties.push_reserved(Tie { half: Half::G4(t2) });
-    ties.push_reserved(Tie { half: Half::G4(t3) });
-    ties.push_reserved(Tie { half: Half::G4(t4) });
-    ties.push_reserved(Tie { half: Half::G4(t5) });
-    ties.push_reserved(Tie { half: Half::G4(t6) });
-    ties.push_reserved(Tie { half: Half::G4(t7) });
-    ties.push_reserved(Tie { half: Half::G4(t8) });
-    books
+impl<N: Names> OfGroup<N, GroupTie<N, 3>> for Half<N> {
+    ghost seating = { λ t. record { seat = (3, t.0); amount = t.1 } };
+
+    fn half(tie: GroupTie<N, 3>) -> Half<N>
+        ensures { seating_of result ≡ record { seat = (3, tie.0); amount = tie.1 } }
+    {
+        Half::G3(tie)
+    }
 }
 
-/// Opens group 5.
-fn open_5<N: Names>(blanks: GroupBlanks, ties: &mut Vec<Tie<N>>) -> GroupBooks<N, 5>
-    requires names { blanks ≡ slice_index_or N.names 5 [] }
-    requires room { vec_len ties.old + 9 ≤ vec_capacity ties.old }
-    ensures books { result ≡ no_amounts }
-    ensures ties { ties.new.items ≡ ties.old.items ++ fresh_group 5 }
-    ensures len { vec_len ties.new ≡ vec_len ties.old + 9 }
-    ensures capacity { vec_capacity ties.new ≡ vec_capacity ties.old }
-{
-    let (
-        books,
-        GroupTies {
-            t0,
-            t1,
-            t2,
-            t3,
-            t4,
-            t5,
-            t6,
-            t7,
-            t8,
-        },
-    ) = blanks.open::<N, 5>();
-    ties.push_reserved(Tie { half: Half::G5(t0) });
-    ties.push_reserved(Tie { half: Half::G5(t1) });
-    ties.push_reserved(Tie { half: Half::G5(t2) });
-    ties.push_reserved(Tie { half: Half::G5(t3) });
-    ties.push_reserved(Tie { half: Half::G5(t4) });
-    ties.push_reserved(Tie { half: Half::G5(t5) });
-    ties.push_reserved(Tie { half: Half::G5(t6) });
-    ties.push_reserved(Tie { half: Half::G5(t7) });
-    ties.push_reserved(Tie { half: Half::G5(t8) });
-    books
+impl<N: Names> OfGroup<N, GroupTie<N, 4>> for Half<N> {
+    ghost seating = { λ t. record { seat = (4, t.0); amount = t.1 } };
+
+    fn half(tie: GroupTie<N, 4>) -> Half<N>
+        ensures { seating_of result ≡ record { seat = (4, tie.0); amount = tie.1 } }
+    {
+        Half::G4(tie)
+    }
 }
 
-/// Opens group 6.
-fn open_6<N: Names>(blanks: GroupBlanks, ties: &mut Vec<Tie<N>>) -> GroupBooks<N, 6>
-    requires names { blanks ≡ slice_index_or N.names 6 [] }
-    requires room { vec_len ties.old + 9 ≤ vec_capacity ties.old }
-    ensures books { result ≡ no_amounts }
-    ensures ties { ties.new.items ≡ ties.old.items ++ fresh_group 6 }
-    ensures len { vec_len ties.new ≡ vec_len ties.old + 9 }
-    ensures capacity { vec_capacity ties.new ≡ vec_capacity ties.old }
-{
-    let (
-        books,
-        GroupTies {
-            t0,
-            t1,
-            t2,
-            t3,
-            t4,
-            t5,
-            t6,
-            t7,
-            t8,
-        },
-    ) = blanks.open::<N, 6>();
-    ties.push_reserved(Tie { half: Half::G6(t0) });
-    ties.push_reserved(Tie { half: Half::G6(t1) });
-    ties.push_reserved(Tie { half: Half::G6(t2) });
-    ties.push_reserved(Tie { half: Half::G6(t3) });
-    ties.push_reserved(Tie { half: Half::G6(t4) });
-    ties.push_reserved(Tie { half: Half::G6(t5) });
-    ties.push_reserved(Tie { half: Half::G6(t6) });
-    ties.push_reserved(Tie { half: Half::G6(t7) });
-    ties.push_reserved(Tie { half: Half::G6(t8) });
-    books
+impl<N: Names> OfGroup<N, GroupTie<N, 5>> for Half<N> {
+    ghost seating = { λ t. record { seat = (5, t.0); amount = t.1 } };
+
+    fn half(tie: GroupTie<N, 5>) -> Half<N>
+        ensures { seating_of result ≡ record { seat = (5, tie.0); amount = tie.1 } }
+    {
+        Half::G5(tie)
+    }
 }
 
-/// Opens group 7.
-fn open_7<N: Names>(blanks: GroupBlanks, ties: &mut Vec<Tie<N>>) -> GroupBooks<N, 7>
-    requires names { blanks ≡ slice_index_or N.names 7 [] }
-    requires room { vec_len ties.old + 9 ≤ vec_capacity ties.old }
-    ensures books { result ≡ no_amounts }
-    ensures ties { ties.new.items ≡ ties.old.items ++ fresh_group 7 }
-    ensures len { vec_len ties.new ≡ vec_len ties.old + 9 }
-    ensures capacity { vec_capacity ties.new ≡ vec_capacity ties.old }
-{
-    let (
-        books,
-        GroupTies {
-            t0,
-            t1,
-            t2,
-            t3,
-            t4,
-            t5,
-            t6,
-            t7,
-            t8,
-        },
-    ) = blanks.open::<N, 7>();
-    ties.push_reserved(Tie { half: Half::G7(t0) });
-    ties.push_reserved(Tie { half: Half::G7(t1) });
-    ties.push_reserved(Tie { half: Half::G7(t2) });
-    ties.push_reserved(Tie { half: Half::G7(t3) });
-    ties.push_reserved(Tie { half: Half::G7(t4) });
-    ties.push_reserved(Tie { half: Half::G7(t5) });
-    ties.push_reserved(Tie { half: Half::G7(t6) });
-    ties.push_reserved(Tie { half: Half::G7(t7) });
-    ties.push_reserved(Tie { half: Half::G7(t8) });
-    books
+impl<N: Names> OfGroup<N, GroupTie<N, 6>> for Half<N> {
+    ghost seating = { λ t. record { seat = (6, t.0); amount = t.1 } };
+
+    fn half(tie: GroupTie<N, 6>) -> Half<N>
+        ensures { seating_of result ≡ record { seat = (6, tie.0); amount = tie.1 } }
+    {
+        Half::G6(tie)
+    }
 }
 
-/// Opens group 8.
-fn open_8<N: Names>(blanks: GroupBlanks, ties: &mut Vec<Tie<N>>) -> GroupBooks<N, 8>
-    requires names { blanks ≡ slice_index_or N.names 8 [] }
+impl<N: Names> OfGroup<N, GroupTie<N, 7>> for Half<N> {
+    ghost seating = { λ t. record { seat = (7, t.0); amount = t.1 } };
+
+    fn half(tie: GroupTie<N, 7>) -> Half<N>
+        ensures { seating_of result ≡ record { seat = (7, tie.0); amount = tie.1 } }
+    {
+        Half::G7(tie)
+    }
+}
+
+impl<N: Names> OfGroup<N, GroupTie<N, 8>> for Half<N> {
+    ghost seating = { λ t. record { seat = (8, t.0); amount = t.1 } };
+
+    fn half(tie: GroupTie<N, 8>) -> Half<N>
+        ensures { seating_of result ≡ record { seat = (8, tie.0); amount = tie.1 } }
+    {
+        Half::G8(tie)
+    }
+}
+
+/// Puts the tie of a seat after those that are there.
+fn put<N: Names, X, H: OfGroup<N, X>>(ties: &mut Vec<Tie<N>>, tie: X)
+    requires { vec_len ties.old + 1 ≤ vec_capacity ties.old }
+    ensures ties { ties.new.items ≡ ties.old.items ++ H.seating tie ∷ [] }
+    ensures len { vec_len ties.new ≡ vec_len ties.old + 1 }
+    ensures capacity { vec_capacity ties.new ≡ vec_capacity ties.old }
+{
+    ties.push_reserved(Tie { half: H::half(tie) });
+}
+
+/// Opens a group.
+fn open_group<N: Names, const G: usize, H: OfGroup<N, GroupTie<N, G>>>(
+    blanks: GroupBlanks,
+    ties: &mut Vec<Tie<N>>,
+) -> GroupBooks<N, G>
+    requires names { blanks ≡ slice_index_or N.names G [] }
     requires room { vec_len ties.old + 9 ≤ vec_capacity ties.old }
+    requires seats { (t : ℕ × ℕ) → H.seating t ≡ record { seat = (G, t.0); amount = t.1 } }
     ensures books { result ≡ no_amounts }
-    ensures ties { ties.new.items ≡ ties.old.items ++ fresh_group 8 }
+    ensures ties { ties.new.items ≡ ties.old.items ++ fresh_group G }
     ensures len { vec_len ties.new ≡ vec_len ties.old + 9 }
     ensures capacity { vec_capacity ties.new ≡ vec_capacity ties.old }
 {
@@ -351,16 +185,16 @@ fn open_8<N: Names>(blanks: GroupBlanks, ties: &mut Vec<Tie<N>>) -> GroupBooks<N
             t7,
             t8,
         },
-    ) = blanks.open::<N, 8>();
-    ties.push_reserved(Tie { half: Half::G8(t0) });
-    ties.push_reserved(Tie { half: Half::G8(t1) });
-    ties.push_reserved(Tie { half: Half::G8(t2) });
-    ties.push_reserved(Tie { half: Half::G8(t3) });
-    ties.push_reserved(Tie { half: Half::G8(t4) });
-    ties.push_reserved(Tie { half: Half::G8(t5) });
-    ties.push_reserved(Tie { half: Half::G8(t6) });
-    ties.push_reserved(Tie { half: Half::G8(t7) });
-    ties.push_reserved(Tie { half: Half::G8(t8) });
+    ) = blanks.open::<N, G>();
+    put::<N, GroupTie<N, G>, H>(ties, t0);
+    put::<N, GroupTie<N, G>, H>(ties, t1);
+    put::<N, GroupTie<N, G>, H>(ties, t2);
+    put::<N, GroupTie<N, G>, H>(ties, t3);
+    put::<N, GroupTie<N, G>, H>(ties, t4);
+    put::<N, GroupTie<N, G>, H>(ties, t5);
+    put::<N, GroupTie<N, G>, H>(ties, t6);
+    put::<N, GroupTie<N, G>, H>(ties, t7);
+    put::<N, GroupTie<N, G>, H>(ties, t8);
     books
 }
 
@@ -400,15 +234,15 @@ impl Blanks {
             g8,
         } = self;
         let books = Books {
-            g0: open_0(g0, &mut ties),
-            g1: open_1(g1, &mut ties),
-            g2: open_2(g2, &mut ties),
-            g3: open_3(g3, &mut ties),
-            g4: open_4(g4, &mut ties),
-            g5: open_5(g5, &mut ties),
-            g6: open_6(g6, &mut ties),
-            g7: open_7(g7, &mut ties),
-            g8: open_8(g8, &mut ties),
+            g0: open_group::<N, 0, Half<N>>(g0, &mut ties),
+            g1: open_group::<N, 1, Half<N>>(g1, &mut ties),
+            g2: open_group::<N, 2, Half<N>>(g2, &mut ties),
+            g3: open_group::<N, 3, Half<N>>(g3, &mut ties),
+            g4: open_group::<N, 4, Half<N>>(g4, &mut ties),
+            g5: open_group::<N, 5, Half<N>>(g5, &mut ties),
+            g6: open_group::<N, 6, Half<N>>(g6, &mut ties),
+            g7: open_group::<N, 7, Half<N>>(g7, &mut ties),
+            g8: open_group::<N, 8, Half<N>>(g8, &mut ties),
         };
         Ok((books, ties))
     }
