@@ -15,7 +15,6 @@
 //! ```
 #![tactic(auto)]
 
-mod alike_words;
 mod left;
 mod loaded;
 mod machine;
