@@ -14,9 +14,15 @@ pub struct Argument<N> {
 }
 
 /// The arguments of a call, in the order in which they are written.
-#[derive(Drop)]
 pub struct Arguments<N: Drop> {
     arguments: Vec<Argument<N>>,
+}
+
+/// Written out, so that it is proved here alone.
+impl<N: Drop> Drop for Arguments<N> {
+    fn drop(self) {
+        let Self { arguments: _ } = self;
+    }
 }
 
 impl<N: Drop> Model for Arguments<N> {

@@ -12,7 +12,6 @@ use iloperators::{Condition, Function, Operator};
 use std::alloc::AllocError;
 
 /// One instruction, over names `N` and labels `L`.
-#[derive(Drop)]
 pub enum Instruction<N: Drop, L: Drop> {
     /// LD, LDN: the operand becomes the current result.
     Load {
@@ -56,14 +55,57 @@ pub enum Instruction<N: Drop, L: Drop> {
     },
 }
 
+/// Written out, so that it is proved here alone.
+impl<N: Drop, L: Drop> Drop for Instruction<N, L> {
+    fn drop(self) {
+        match self {
+            Instruction::Load {
+                negated: _,
+                operand: _,
+            } => {}
+            Instruction::Apply(_, _) => {}
+            Instruction::Deferred {
+                operator: _,
+                nested: _,
+                close: _,
+            } => {}
+            Instruction::Transform(_) => {}
+            Instruction::Limit { low: _, high: _ } => {}
+            Instruction::Store {
+                negated: _,
+                variable: _,
+            } => {}
+            Instruction::Set(_) => {}
+            Instruction::Reset(_) => {}
+            Instruction::Jump(_, _) => {}
+            Instruction::Return(_) => {}
+            Instruction::Call {
+                condition: _,
+                instance: _,
+                arguments: _,
+            } => {}
+        }
+    }
+}
+
 /// A line that isn't empty: a label, an instruction, or both.
-#[derive(Drop)]
 pub struct Line<N: Drop, L: Drop> {
     /// The place in the text of the instruction's first byte, after its label; of a label alone the
     /// place of the label's first byte.
     pub at: usize,
     pub label: Option<L>,
     pub instruction: Option<Instruction<N, L>>,
+}
+
+/// Written out, so that it is proved here alone.
+impl<N: Drop, L: Drop> Drop for Line<N, L> {
+    fn drop(self) {
+        let Self {
+            at: _,
+            label: _,
+            instruction: _,
+        } = self;
+    }
 }
 
 impl<N: Drop, L: Drop> Instruction<N, L> {

@@ -31,9 +31,15 @@ pub struct Piece<N> {
 }
 
 /// The content of parentheses (IEC 61131-3, 3.2.2): flat in memory, a tree in contracts.
-#[derive(Drop)]
 pub struct Nested<N: Drop> {
     pieces: Vec<Piece<N>>,
+}
+
+/// Written out, so that it is proved here alone.
+impl<N: Drop> Drop for Nested<N> {
+    fn drop(self) {
+        let Self { pieces: _ } = self;
+    }
 }
 
 impl<N: Drop> Model for Nested<N> {
@@ -91,7 +97,7 @@ impl<N: Drop> Nested<N> {
     ) -> Result<Nested<N>, AllocError>
         ensures { IfOk result (λ tree. tree ≡ Apply self at operator operand) }
     {
-        let mut pieces = self.pieces;
+        let Self { mut pieces } = self;
         let action = Action::Apply(operator, operand);
         pieces.push(Piece { at, action })?;
         Ok(Nested { pieces })
