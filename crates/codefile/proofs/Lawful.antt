@@ -5,8 +5,8 @@ use Rattle.std.specs.List.{AllByRecursion}
 use Rattle.iltypes.specs.declared.value.IlType.{IlType}
 use Rattle.iltypes.specs.declared.value.Value.{Value}
 use Rattle.ilblocks.specs.declared.kind.BlockKind.{BlockKind}
-use Rattle.ilword.specs.declared.word.Word.{Word}
-use Rattle.ilword.specs.Words.{HasWord}
+use Rattle.ilcode.specs.declared.word.Word.{Word}
+use Rattle.ilcode.specs.Words.{HasWord}
 use Rattle.ilcode.specs.Listings.{IsLawful, listing_of}
 use Rattle.codefile.specs.Faults.{Counts, IsShaped, counts_in}
 use Rattle.codefile.specs.FieldSteps.{BeginPrograms}

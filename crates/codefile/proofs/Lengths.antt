@@ -10,7 +10,7 @@ use Rattle.iltypes.specs.declared.value.IlType.TheVariants as types
 use Rattle.iltypes.specs.declared.value.Value.{Value}
 use Rattle.iltypes.specs.declared.value.Value.TheVariants as values
 use Rattle.ilblocks.specs.declared.kind.BlockKind.{BlockKind}
-use Rattle.ilword.specs.declared.word.Word.{Word}
+use Rattle.ilcode.specs.declared.word.Word.{Word}
 use Rattle.ilcode.specs.Listings.{Listing, IsLawful}
 use Rattle.codefile.specs.Files.{HasFile, block, blocks, constant, constants, file, number, numbers, slot}
 use Rattle.codefile.specs.Files.{slots, tables, word, words}

@@ -14,9 +14,9 @@ use Rattle.iltypes.specs.declared.value.Value.{Value}
 use Rattle.iltypes.specs.declared.value.Value.TheVariants as values
 use Rattle.ilblocks.specs.declared.kind.BlockKind.{BlockKind}
 use Rattle.ilblocks.specs.declared.kind.BlockKind.TheVariants as kinds
-use Rattle.ilword.proofs.Spellings.{spelled_once, spelling_small}
-use Rattle.ilword.specs.Words.{HasWord, spelling}
-use Rattle.ilword.specs.declared.word.Word.{Word}
+use Rattle.ilcode.proofs.Spellings.{spelled_once, spelling_small}
+use Rattle.ilcode.specs.Words.{HasWord, spelling}
+use Rattle.ilcode.specs.declared.word.Word.{Word}
 use Rattle.ilcode.specs.Listings.{Listing, listing_of}
 use Rattle.codefile.specs.Faults.{Counts}
 use Rattle.codefile.specs.Files.{FitsType, FitsValue, HasFile, block, block_number, constant, file, number, slot}

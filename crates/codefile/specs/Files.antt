@@ -8,8 +8,8 @@ use Rattle.iltypes.specs.declared.value.Value.{Value}
 use Rattle.iltypes.specs.declared.value.Value.TheVariants as values
 use Rattle.ilblocks.specs.declared.kind.BlockKind.{BlockKind}
 use Rattle.ilblocks.specs.declared.kind.BlockKind.TheVariants as kinds
-use Rattle.ilword.specs.Words.{spelling}
-use Rattle.ilword.specs.declared.word.Word.{Word}
+use Rattle.ilcode.specs.Words.{spelling}
+use Rattle.ilcode.specs.declared.word.Word.{Word}
 use Rattle.ilcode.specs.Listings.{Listing, IsLawful}
 
 -- ---- fields

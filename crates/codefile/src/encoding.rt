@@ -4,13 +4,12 @@ ghost use Rattle.std.specs.Prelude.{◌≡◌, ◌++◌, ◌<◌, ◌^◌, IfOk,
 ghost use Rattle.std.specs.List.{AllByRecursion};
 ghost use Rattle.codefile.specs.Files.{blocks, constant, constants, file, number, numbers, slot};
 ghost use Rattle.codefile.specs.Files.{slots, tag, whole, word, words};
-ghost use Rattle.ilword.specs.Words.{HasWord};
+ghost use Rattle.ilcode.specs.Words.{HasWord};
 
 use crate::fields::block_number;
 use ilblocks::BlockKind;
-use ilcode::Code;
+use ilcode::{Code, PackedWord};
 use iltypes::{IlType, Value};
-use ilword::PackedWord;
 use std::alloc::{AllocError, Global};
 
 /// The file of a code.

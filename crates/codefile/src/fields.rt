@@ -9,15 +9,15 @@ ghost use Rattle.iltypes.specs.declared.value.IlType.{IlType as AnyType};
 ghost use Rattle.iltypes.specs.declared.value.IlType.TheVariants as types;
 ghost use Rattle.iltypes.specs.declared.value.Value.{Value as AnyValue};
 ghost use Rattle.ilblocks.specs.declared.kind.BlockKind.{BlockKind as AnyKind};
-ghost use Rattle.ilword.specs.Words.{HasWord, spelling};
-ghost use Rattle.ilword.specs.declared.word.Word.{Word as AnyWord};
+ghost use Rattle.ilcode.specs.Words.{HasWord, spelling};
+ghost use Rattle.ilcode.specs.declared.word.Word.{Word as AnyWord};
 ghost use Rattle.codefile.specs.FieldSteps.{Holds, HoldsType};
 ghost use Rattle.codefile.specs.Files.{FitsType, FitsValue, block, block_number, constant};
 ghost use Rattle.codefile.specs.Files.{slot, word};
 
 use ilblocks::BlockKind;
+use ilcode::PackedWord;
 use iltypes::{IlType, Range, Value};
-use ilword::PackedWord;
 
 /// The number of 32 bits at the front, and what follows.
 pub(crate) fn number_at(bytes: &[u8]) -> (u32, &[u8])

@@ -6,8 +6,8 @@ ghost use Rattle.std.specs.List.{AllByRecursion};
 ghost use Rattle.iltypes.specs.declared.value.IlType.{IlType as AnyType};
 ghost use Rattle.iltypes.specs.declared.value.Value.{Value as AnyValue};
 ghost use Rattle.ilblocks.specs.declared.kind.BlockKind.{BlockKind as AnyKind};
-ghost use Rattle.ilword.specs.Words.{HasWord};
-ghost use Rattle.ilword.specs.declared.word.Word.{Word as AnyWord};
+ghost use Rattle.ilcode.specs.Words.{HasWord};
+ghost use Rattle.ilcode.specs.declared.word.Word.{Word as AnyWord};
 ghost use Rattle.ilcode.specs.Listings.{Listing};
 ghost use Rattle.codefile.specs.FieldSteps.{BeginPrograms, Rise};
 ghost use Rattle.codefile.specs.Files.{FitsType, FitsValue, HasFile, blocks, constants, file};
@@ -19,9 +19,8 @@ use crate::fields::{block_at, constant_at, number_at, slot_at, word_at};
 use crate::shape::FileCounts;
 use crate::tables::tables_in;
 use ilblocks::BlockKind;
-use ilcode::Code;
+use ilcode::{Code, PackedWord};
 use iltypes::{IlType, Value};
-use ilword::PackedWord;
 use std::alloc::{AllocError, Global};
 
 /// The code of bytes that are as long as their counts ask for, if each field is one that a code may

@@ -19,10 +19,10 @@ use Rattle.ilblocks.specs.Calls.{Block, requested, rises}
 use Rattle.ilblocks.specs.Ports.{makes_requests}
 use Rattle.ilblocks.specs.Stores.{Store, with_input, type_of_input, listed, after_block, called}
 use Rattle.ilcode.specs.declared.nesting.Opened.{Opened}
-use Rattle.ilword.specs.declared.word.Word.{Word}
-use Rattle.ilword.specs.declared.word.Word.TheVariants as words
-use Rattle.ilword.specs.declared.word.Target.{Target}
-use Rattle.ilword.specs.declared.word.Target.TheVariants as variables
+use Rattle.ilcode.specs.declared.word.Word.{Word}
+use Rattle.ilcode.specs.declared.word.Word.TheVariants as words
+use Rattle.ilcode.specs.declared.word.Target.{Target}
+use Rattle.ilcode.specs.declared.word.Target.TheVariants as variables
 use Rattle.ilcode.specs.Listings.{Listing, shape_of}
 use Rattle.ilcode.specs.Paths.{may_request, requests_on}
 use Rattle.ilcode.specs.Steps.{Configuration, at, opened, value_of, stored_at, with_result, with_store, sets, calls}

@@ -7,11 +7,11 @@ use Rattle.gearcmd.specs.declared.requests.Request.{Request}
 use Rattle.ilblocks.specs.declared.kind.BlockKind.TheVariants.{Ton, GearDo}
 use Rattle.ilblocks.specs.Calls.{Block, at_first}
 use Rattle.ilblocks.specs.Stores.{Store}
-use Rattle.ilword.specs.declared.word.Word.{Word}
-use Rattle.ilword.specs.declared.word.Word.TheVariants.{Load, Pass, Call, Set, Reset}
-use Rattle.ilword.specs.declared.word.Word.TheVariants.{Store as St}
-use Rattle.ilword.specs.declared.word.WordOperand.TheVariants.{Slot, Port}
-use Rattle.ilword.specs.declared.word.Target.TheVariants as variables
+use Rattle.ilcode.specs.declared.word.Word.{Word}
+use Rattle.ilcode.specs.declared.word.Word.TheVariants.{Load, Pass, Call, Set, Reset}
+use Rattle.ilcode.specs.declared.word.Word.TheVariants.{Store as St}
+use Rattle.ilcode.specs.declared.word.WordOperand.TheVariants.{Slot, Port}
+use Rattle.ilcode.specs.declared.word.Target.TheVariants as variables
 use Rattle.ilcode.specs.Rows.{whole}
 
 -- t with these values of IN, PT, Q and ET, IN at its last call, and the moment at which that became TRUE

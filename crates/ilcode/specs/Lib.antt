@@ -1,5 +1,9 @@
 pub mod BlockRows
 pub mod Listings
+pub mod LowBytes
 pub mod Paths
+pub mod Reading
 pub mod Rows
 pub mod Steps
+pub mod WordRows
+pub mod Words

@@ -15,12 +15,12 @@ use Rattle.iloperators.specs.declared.operator.Operator.TheVariants.{And, Sub, D
 use Rattle.ilblocks.specs.declared.kind.BlockKind.{BlockKind}
 use Rattle.ilblocks.specs.declared.kind.BlockKind.TheVariants.{Ton, GearDo}
 use Rattle.ilblocks.specs.Stores.{Store, blocks_at_first}
-use Rattle.ilword.specs.declared.word.WordOperand.TheVariants.{Slot, Constant}
-use Rattle.ilword.specs.declared.word.Target.TheVariants as variables
-use Rattle.ilword.specs.declared.word.Word.{Word}
-use Rattle.ilword.specs.declared.word.Word.TheVariants.{Load, Apply, Transform, Set, Reset}
-use Rattle.ilword.specs.declared.word.Word.TheVariants.{Open, Close, Jump}
-use Rattle.ilword.specs.declared.word.Word.TheVariants.{Store as St}
+use Rattle.ilcode.specs.declared.word.WordOperand.TheVariants.{Slot, Constant}
+use Rattle.ilcode.specs.declared.word.Target.TheVariants as variables
+use Rattle.ilcode.specs.declared.word.Word.{Word}
+use Rattle.ilcode.specs.declared.word.Word.TheVariants.{Load, Apply, Transform, Set, Reset}
+use Rattle.ilcode.specs.declared.word.Word.TheVariants.{Open, Close, Jump}
+use Rattle.ilcode.specs.declared.word.Word.TheVariants.{Store as St}
 use Rattle.ilcode.specs.Listings.{Listing, listing_of}
 use Rattle.ilcode.specs.Steps.{at, after, start}
 

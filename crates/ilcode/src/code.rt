@@ -3,9 +3,10 @@
 ghost use Rattle.std.specs.Prelude.{◌≡◌, nat_lt, ◌&&◌};
 ghost use Rattle.std.specs.List.{list_any};
 
+use crate::packed::PackedWord;
+use crate::word::Word;
 use ilblocks::BlockKind;
 use iltypes::{IlType, Value};
-use ilword::{PackedWord, Word};
 use std::marker::Model;
 
 /// The code of one task: its programs' words one after another, with what they name. No list is

@@ -4,8 +4,8 @@
 ghost use Rattle.std.specs.Prelude.{◌≡◌, [], ◌∷◌, ◌++◌, true, false, Some, None};
 ghost use Rattle.daliframe.specs.declared.addressing.Address.TheVariants.{Short, Group};
 ghost use Rattle.iltypes.specs.declared.value.Value.TheVariants.{Bool as truth};
-ghost use Rattle.ilword.specs.declared.word.Word.TheVariants.{Call, Load, Pass};
-ghost use Rattle.ilword.specs.declared.word.WordOperand.TheVariants.{Constant, Port, Slot};
+ghost use Rattle.ilcode.specs.declared.word.Word.TheVariants.{Call, Load, Pass};
+ghost use Rattle.ilcode.specs.declared.word.WordOperand.TheVariants.{Constant, Port, Slot};
 ghost use Rattle.ilcode.specs.BlockRows.{gear, no_gear, no_timer, request, timer};
 ghost use Rattle.ilcode.specs.BlockRows.{with_blocks, with_timer};
 ghost use Rattle.ilcode.specs.BlockRows.{call_g, call_t, ld_et, ld_q, pass_in, pass_pt};

@@ -14,9 +14,9 @@ use Rattle.ilblocks.specs.Stores as stores
 use Rattle.ilplan.specs.declared.place.Place.{Place}
 use Rattle.ilplan.specs.declared.place.Place.TheVariants as places
 use Rattle.ilplan.specs.PlanMeaning.{places_of, with_place, passed_place, called_place}
-use Rattle.ilword.specs.declared.word.WordOperand.{WordOperand}
-use Rattle.ilword.specs.declared.word.Word.{Word}
-use Rattle.ilword.specs.declared.word.Word.TheVariants as words
+use Rattle.ilcode.specs.declared.word.WordOperand.{WordOperand}
+use Rattle.ilcode.specs.declared.word.Word.{Word}
+use Rattle.ilcode.specs.declared.word.Word.TheVariants as words
 use Rattle.ilcode.specs.Listings.{Listing, shape_of}
 use Rattle.ilcode.specs.Steps.{Configuration, at, value_of, stored_at, effect}
 use Rattle.ilcompile.specs.Layout.{number_of, operand_of, port_of, variable_of, word_of_argument}

@@ -37,9 +37,9 @@ use Rattle.ilplan.specs.PlanMeaning.{number_same}
 use Rattle.ilplan.specs.Plans.{PlannedInstance, PlannedTask, HasOperand, HasPlace, HasUse, all_lines, kinds_of}
 use Rattle.ilplan.specs.declared.place.Place.{Place}
 use Rattle.ilplan.specs.declared.place.Place.TheVariants as places
-use Rattle.ilword.specs.Words.{HasWord, IsNear, IsNearPort, IsNearTarget}
-use Rattle.ilword.specs.declared.word.Word.{Word}
-use Rattle.ilword.specs.declared.word.Word.TheVariants as words
+use Rattle.ilcode.specs.Words.{HasWord, IsNear, IsNearPort, IsNearTarget}
+use Rattle.ilcode.specs.declared.word.Word.{Word}
+use Rattle.ilcode.specs.declared.word.Word.TheVariants as words
 use Rattle.ilcompile.specs.Layout.{constant_number, number_of, operand_of, variable_of, jump_over, place_of_label}
 use Rattle.ilcompile.specs.Layout.{word_of, word_of_argument, words_in, words_of, words_of_lines}
 use Rattle.ilcompile.specs.Layout.{programs_of, words_of_programs}

@@ -18,7 +18,7 @@ use Rattle.ilplan.specs.declared.place.Place.{Place}
 use Rattle.ilplan.specs.Constants.{AreAmong}
 use Rattle.ilplan.proofs.Used.{uses_among}
 use Rattle.ilplan.specs.Plans.{PlannedInstance, PlannedTask, KeepsLimits, all_lines, types_of, kinds_of}
-use Rattle.ilword.specs.declared.word.Word.{Word}
+use Rattle.ilcode.specs.declared.word.Word.{Word}
 use Rattle.ilcode.specs.Listings.{IsLawful, listing_of}
 use Rattle.ilsource.specs.Places.{line_at}
 use Rattle.ilcompile.specs.Layout.{words_of_programs, places_of_programs, starts_from, programs_of, laid_out}

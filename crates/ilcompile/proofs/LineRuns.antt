@@ -31,8 +31,8 @@ use Rattle.iltrees.specs.Meaning.{loaded, value, called, line_does}
 use Rattle.iltrees.specs.Passes.{has_label, takes, passes}
 use Rattle.ilblocks.specs.Stores.{Store}
 use Rattle.ilplan.specs.declared.place.Place.{Place}
-use Rattle.ilword.specs.declared.word.Word.{Word}
-use Rattle.ilword.specs.declared.word.Word.TheVariants as words
+use Rattle.ilcode.specs.declared.word.Word.{Word}
+use Rattle.ilcode.specs.declared.word.Word.TheVariants as words
 use Rattle.ilcode.specs.Listings.{Listing, shape_of}
 use Rattle.ilcode.specs.Steps.{Configuration, at, opened, stored_at, is_target, goes_to, jumps, effect}
 use Rattle.ilplan.specs.PlanMeaning.{places_of, with_place, number_same}

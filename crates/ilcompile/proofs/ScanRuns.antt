@@ -13,7 +13,7 @@ use Rattle.iltrees.specs.Passes.{passes, scan}
 use Rattle.iltrees.specs.Words as counts
 use Rattle.ilblocks.specs.Stores.{Store}
 use Rattle.ilplan.specs.declared.place.Place.{Place}
-use Rattle.ilword.specs.declared.word.Word.{Word}
+use Rattle.ilcode.specs.declared.word.Word.{Word}
 use Rattle.ilcode.specs.Listings.{Listing, shape_of}
 use Rattle.ilcode.specs.Steps.{Configuration, at, effect, is_start, is_target, if_closed, entered, step_by, step}
 use Rattle.ilcode.proofs.Runs.{effect_leads, leads_forward}

@@ -19,7 +19,7 @@ use Rattle.iltrees.specs.Words.{place_of, places_of, places_in}
 use Rattle.iltrees.specs.Words as counts
 use Rattle.ilplan.specs.declared.place.Place.{Place}
 use Rattle.ilplan.specs.Plans.{PlannedInstance, all_lines}
-use Rattle.ilword.specs.declared.word.Word.TheVariants as words
+use Rattle.ilcode.specs.declared.word.Word.TheVariants as words
 use Rattle.ilcompile.specs.Layout.{place_of_label, word_of, word_of_argument, words_of_call, number_of, jump_over}
 use Rattle.ilcompile.specs.Layout.{words_of, words_in, words_of_lines, words_of_programs}
 

@@ -19,8 +19,8 @@ use Rattle.iltrees.specs.Meaning.{Access, operand_value, loaded, second, value}
 use Rattle.ilblocks.specs.Stores.{Store}
 use Rattle.ilplan.specs.declared.place.Place.{Place}
 use Rattle.ilcode.specs.declared.nesting.Opened.{Opened}
-use Rattle.ilword.specs.declared.word.Word.{Word}
-use Rattle.ilword.specs.declared.word.Word.TheVariants as words
+use Rattle.ilcode.specs.declared.word.Word.{Word}
+use Rattle.ilcode.specs.declared.word.Word.TheVariants as words
 use Rattle.ilcode.specs.Listings.{Listing, shape_of}
 use Rattle.ilcode.specs.Steps.{Configuration, at, opened, opens, effect}
 use Rattle.ilcompile.specs.Layout.{operand_of, word_of}

@@ -10,8 +10,8 @@ use Rattle.iltrees.specs.declared.instruction.Instruction.{Instruction}
 use Rattle.iltrees.specs.declared.instruction.Instruction.TheVariants as instructions
 use Rattle.iltrees.specs.declared.instruction.Line.{Line}
 use Rattle.iltrees.specs.Words as counts
-use Rattle.ilword.specs.declared.word.Word.{Word}
-use Rattle.ilword.specs.declared.word.Word.TheVariants as words
+use Rattle.ilcode.specs.declared.word.Word.{Word}
+use Rattle.ilcode.specs.declared.word.Word.TheVariants as words
 use Rattle.ilplan.specs.declared.place.Place.{Place}
 use Rattle.ilplan.specs.Plans.{PlannedInstance, all_lines}
 use Rattle.ilcompile.specs.Layout.{place_of_label, words_of, words_in, words_of_lines}

@@ -26,12 +26,12 @@ use Rattle.ilplan.specs.PlanMeaning.{number_same}
 use Rattle.ilplan.specs.declared.place.Place.{Place}
 use Rattle.ilplan.specs.declared.place.Place.TheVariants as places
 use Rattle.ilplan.specs.Plans.{PlannedInstance, PlannedTask, types_of, kinds_of}
-use Rattle.ilword.specs.declared.word.WordOperand.{WordOperand}
-use Rattle.ilword.specs.declared.word.WordOperand.TheVariants as operands
-use Rattle.ilword.specs.declared.word.Target.{Target}
-use Rattle.ilword.specs.declared.word.Target.TheVariants as variables
-use Rattle.ilword.specs.declared.word.Word.{Word}
-use Rattle.ilword.specs.declared.word.Word.TheVariants as words
+use Rattle.ilcode.specs.declared.word.WordOperand.{WordOperand}
+use Rattle.ilcode.specs.declared.word.WordOperand.TheVariants as operands
+use Rattle.ilcode.specs.declared.word.Target.{Target}
+use Rattle.ilcode.specs.declared.word.Target.TheVariants as variables
+use Rattle.ilcode.specs.declared.word.Word.{Word}
+use Rattle.ilcode.specs.declared.word.Word.TheVariants as words
 use Rattle.ilcode.specs.Listings.{Listing, listing_of}
 
 -- the number of a constant: its place in the table

@@ -25,11 +25,11 @@ use Rattle.ilplan.specs.declared.place.Place.{Place}
 use Rattle.ilplan.specs.declared.place.Place.TheVariants as places
 use Rattle.ilplan.specs.Constants.{different_constants}
 use Rattle.ilplan.specs.Plans.{PlannedTask, task_of}
-use Rattle.ilword.specs.declared.word.WordOperand.TheVariants as operands
-use Rattle.ilword.specs.declared.word.Target.{Target}
-use Rattle.ilword.specs.declared.word.Target.TheVariants as variables
-use Rattle.ilword.specs.declared.word.Word.{Word}
-use Rattle.ilword.specs.declared.word.Word.TheVariants as words
+use Rattle.ilcode.specs.declared.word.WordOperand.TheVariants as operands
+use Rattle.ilcode.specs.declared.word.Target.{Target}
+use Rattle.ilcode.specs.declared.word.Target.TheVariants as variables
+use Rattle.ilcode.specs.declared.word.Word.{Word}
+use Rattle.ilcode.specs.declared.word.Word.TheVariants as words
 use Rattle.ilcode.specs.Listings.{listing_of}
 use Rattle.ilcompile.specs.Layout.{laid_out}
 

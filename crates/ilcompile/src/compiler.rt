@@ -9,10 +9,9 @@ ghost use Rattle.ilcompile.specs.Meant.{IsMeant};
 use crate::lines::line_numbers;
 use crate::words::words;
 use ilblocks::BlockKind;
-use ilcode::Code;
+use ilcode::{Code, pack};
 use ilplan::{FunctionBlock, Plan, Slot, Task};
 use iltypes::IlType;
-use ilword::pack;
 use std::alloc::{AllocError, Global};
 
 /// The code of a task: its instances' words in order, with a start for each instance, the

@@ -4,7 +4,7 @@ ghost use Rattle.std.specs.Prelude.{◌≡◌, ◌≤◌, ◌+◌, ◌∷◌, �
 ghost use Rattle.limits.specs.Limits.{most_constants, most_words};
 ghost use Rattle.iltrees.specs.Words as counts;
 ghost use Rattle.ilplan.specs.Plans.{all_lines};
-ghost use Rattle.ilword.specs.declared.word.Word.TheVariants as variants;
+ghost use Rattle.ilcode.specs.declared.word.Word.TheVariants as variants;
 ghost use Rattle.ilcompile.specs.Layout.{number_of, operand_of, port_of, variable_of};
 ghost use Rattle.ilcompile.specs.Layout.{word_of_argument};
 ghost use Rattle.ilcompile.specs.Layout.{word_of, jump_over, words_of, words_in, words_of_lines};

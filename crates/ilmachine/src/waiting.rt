@@ -1,7 +1,7 @@
 //! Operators that wait for their parenthesis to be closed.
 
-use ilcells::Cell;
 use iloperators::Operator;
+use ilrows::Cell;
 use iltypes::Value;
 use std::marker::Model;
 

@@ -8,12 +8,12 @@ use Rattle.ilblocks.specs.Stores.{type_of_port}
 use Rattle.iloperators.specs.declared.function.Function.{Function}
 use Rattle.iloperators.specs.declared.function.Function.TheVariants as functions
 use Rattle.iloperators.specs.declared.operator.Operator.{Operator}
-use Rattle.ilword.specs.declared.word.WordOperand.{WordOperand}
-use Rattle.ilword.specs.declared.word.WordOperand.TheVariants as operands
-use Rattle.ilword.specs.declared.word.Target.{Target}
-use Rattle.ilword.specs.declared.word.Target.TheVariants as variables
-use Rattle.ilword.specs.declared.word.Word.{Word}
-use Rattle.ilword.specs.declared.word.Word.TheVariants as words
+use Rattle.ilcode.specs.declared.word.WordOperand.{WordOperand}
+use Rattle.ilcode.specs.declared.word.WordOperand.TheVariants as operands
+use Rattle.ilcode.specs.declared.word.Target.{Target}
+use Rattle.ilcode.specs.declared.word.Target.TheVariants as variables
+use Rattle.ilcode.specs.declared.word.Word.{Word}
+use Rattle.ilcode.specs.declared.word.Word.TheVariants as words
 use Rattle.ilcode.specs.Listings.{Listing, shape_of}
 use Rattle.ilranges.specs.declared.entry.Entry.{Entry}
 use Rattle.ilranges.specs.declared.known.Known.{Known}

@@ -13,7 +13,7 @@ use Rattle.iloperators.specs.declared.operator.Operator.{Operator}
 use Rattle.iloperators.specs.Conditions.{holds, chosen}
 use Rattle.iloperators.specs.Operators.{value_of_operator}
 use Rattle.ilcode.specs.declared.nesting.Opened.{Opened}
-use Rattle.ilword.specs.declared.word.Word.TheVariants as words
+use Rattle.ilcode.specs.declared.word.Word.TheVariants as words
 use Rattle.ilcode.specs.Listings.{Listing}
 use Rattle.ilcode.specs.Steps.{Configuration, effect, goes_to, jumps, is_target}
 use Rattle.ilranges.specs.declared.cause.Cause.TheVariants as causes

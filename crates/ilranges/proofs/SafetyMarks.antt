@@ -17,8 +17,8 @@ use Rattle.iloperators.specs.Functions.{modified, value_of_function}
 use Rattle.iloperators.specs.Operators.{both, number}
 use Rattle.iloperators.proofs.Comparisons.{has_outcome, has_opposite_outcome}
 use Rattle.ilblocks.specs.Stores.{Store}
-use Rattle.ilword.specs.declared.word.WordOperand.{WordOperand}
-use Rattle.ilword.specs.declared.word.WordOperand.TheVariants.{Slot, Constant, Port}
+use Rattle.ilcode.specs.declared.word.WordOperand.{WordOperand}
+use Rattle.ilcode.specs.declared.word.WordOperand.TheVariants.{Slot, Constant, Port}
 use Rattle.ilcode.specs.Listings.{Listing}
 use Rattle.ilcode.specs.Steps.{value_of}
 use Rattle.ilranges.specs.declared.known.Known.{Known}

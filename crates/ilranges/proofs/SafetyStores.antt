@@ -15,10 +15,10 @@ use Rattle.ilblocks.proofs.Blocks.{set_typed}
 use Rattle.ilblocks.proofs.Stores.{is_with_slot, and_then_made, with_port_is, with_port_typed, input_is_stored}
 use Rattle.ilblocks.proofs.Stores.{called_is, kind_is_called, called_typed}
 use Rattle.iloperators.specs.Functions.{modified}
-use Rattle.ilword.specs.declared.word.WordOperand.{WordOperand}
-use Rattle.ilword.specs.declared.word.Target.{Target}
-use Rattle.ilword.specs.declared.word.Target.TheVariants as variables
-use Rattle.ilword.specs.declared.word.Word.TheVariants as words
+use Rattle.ilcode.specs.declared.word.WordOperand.{WordOperand}
+use Rattle.ilcode.specs.declared.word.Target.{Target}
+use Rattle.ilcode.specs.declared.word.Target.TheVariants as variables
+use Rattle.ilcode.specs.declared.word.Word.TheVariants as words
 use Rattle.ilcode.specs.Listings.{Listing, shape_of}
 use Rattle.ilcode.specs.Steps.{Configuration, at, value_of, stored_at, with_store, sets, calls, effect}
 use Rattle.ilblocks.specs.declared.kind.BlockKind.{BlockKind}

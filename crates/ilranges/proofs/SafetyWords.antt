@@ -11,8 +11,8 @@ use Rattle.iltypes.specs.declared.value.Value.{Value}
 use Rattle.iloperators.specs.declared.operator.Operator.{Operator}
 use Rattle.iloperators.specs.Operators.{both}
 use Rattle.ilcode.specs.declared.nesting.Opened.{Opened}
-use Rattle.ilword.specs.declared.word.Word.{Word}
-use Rattle.ilword.specs.declared.word.Word.TheVariants as words
+use Rattle.ilcode.specs.declared.word.Word.{Word}
+use Rattle.ilcode.specs.declared.word.Word.TheVariants as words
 use Rattle.ilcode.specs.Listings.{Listing}
 use Rattle.ilcode.specs.Steps.{Configuration, at, opened, value_of, with_result, opens, closes, effect, is_target}
 use Rattle.ilranges.specs.declared.cause.Cause.TheVariants as causes

@@ -2,9 +2,9 @@
 use Rattle.std.proofs.Common.{◌≡◌, ℕ, ◌<◌, ◌+◌, ◌-◌, List, [], ◌∷◌, length, Option, Some, None, Bool, IsTrue, ◌⊎◌}
 use Rattle.std.proofs.Common.{inl, inr, ap, ◌∙◌, arith}
 use Rattle.iloperators.specs.declared.operator.Operator.{Operator}
-use Rattle.ilword.specs.declared.word.Word.{Word}
-use Rattle.ilword.specs.declared.word.Word.TheVariants as words
-use Rattle.ilword.specs.declared.word.Target.TheVariants.{Slot, Port}
+use Rattle.ilcode.specs.declared.word.Word.{Word}
+use Rattle.ilcode.specs.declared.word.Word.TheVariants as words
+use Rattle.ilcode.specs.declared.word.Target.TheVariants.{Slot, Port}
 use Rattle.ilcode.specs.Listings.{Listing}
 use Rattle.ilranges.specs.declared.cause.Cause.{Cause}
 use Rattle.ilranges.specs.declared.cause.Cause.TheVariants as causes

@@ -3,10 +3,10 @@ use Rattle.std.specs.Prelude.{Bool, true, Option, is_some, slice_get}
 use Rattle.std.specs.Option.{option_map}
 use Rattle.iltypes.specs.declared.value.IlType.{IlType}
 use Rattle.ilblocks.specs.Stores.{type_of_port, type_of_input}
-use Rattle.ilword.specs.declared.word.WordOperand.{WordOperand}
-use Rattle.ilword.specs.declared.word.WordOperand.TheVariants as operands
-use Rattle.ilword.specs.declared.word.Target.{Target}
-use Rattle.ilword.specs.declared.word.Target.TheVariants as variables
+use Rattle.ilcode.specs.declared.word.WordOperand.{WordOperand}
+use Rattle.ilcode.specs.declared.word.WordOperand.TheVariants as operands
+use Rattle.ilcode.specs.declared.word.Target.{Target}
+use Rattle.ilcode.specs.declared.word.Target.TheVariants as variables
 use Rattle.ilcode.specs.Listings.{Listing, shape_of}
 use Rattle.ilranges.specs.declared.entry.Entry.{Entry}
 use Rattle.ilranges.specs.declared.known.Known.{Known}

@@ -1,7 +1,7 @@
 -- Where a word has a rule no run goes wrong at it, and what is known after it holds.
 use Rattle.std.specs.Prelude.{◌≡◌, ◌≤◌, Bool, Some, slice_get}
 use Rattle.ilblocks.specs.Stores.{Store, IsStoreOf}
-use Rattle.ilword.specs.declared.word.Word.{Word}
+use Rattle.ilcode.specs.declared.word.Word.{Word}
 use Rattle.ilcode.specs.Listings.{Listing, shape_of}
 use Rattle.ilcode.specs.Paths.{LeadsTo}
 use Rattle.ilcode.specs.Steps.{Configuration, effect, step, start}

@@ -1,7 +1,7 @@
 -- What the steps of after_word give.
 use Rattle.std.specs.Prelude.{ℕ, nat_lt, if◌then◌else◌, Result, Ok, Err}
-use Rattle.ilword.specs.declared.word.Word.{Word}
-use Rattle.ilword.specs.declared.word.Word.TheVariants as words
+use Rattle.ilcode.specs.declared.word.Word.{Word}
+use Rattle.ilcode.specs.declared.word.Word.TheVariants as words
 use Rattle.ilcode.specs.Listings.{Listing}
 use Rattle.ilcode.specs.Steps.{is_target}
 use Rattle.ilranges.specs.declared.cause.Cause.{Cause}

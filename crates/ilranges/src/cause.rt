@@ -1,7 +1,7 @@
 //! Causes of a refusal, of which one is reported.
 
 ghost use Rattle.std.specs.Prelude.{◌≡◌};
-ghost use Rattle.ilword.specs.declared.word.Word.{Word};
+ghost use Rattle.ilcode.specs.declared.word.Word.{Word};
 ghost use Rattle.ilranges.specs.Refusals.{HasOneCause};
 
 use iltypes::Range;

@@ -2,7 +2,7 @@
 
 ghost use Rattle.iloperators.specs.declared.function.Function.{Function};
 ghost use Rattle.iloperators.specs.declared.operator.Operator.{Operator};
-ghost use Rattle.ilword.specs.declared.word.Word.{Word};
+ghost use Rattle.ilcode.specs.declared.word.Word.{Word};
 ghost use Rattle.ilranges.specs.Order.{KeepsOrder, KeepsRefusals};
 ghost use Rattle.ilranges.specs.Order.{FunctionKeepsOrder, FunctionKeepsRefusals};
 ghost use Rattle.ilranges.specs.Order.{KeepsEntryOrder, KeepsWordRefusals};

@@ -1,6 +1,6 @@
 //! The law that no run goes wrong at a word that has a rule.
 
-ghost use Rattle.ilword.specs.declared.word.Word.{Word};
+ghost use Rattle.ilcode.specs.declared.word.Word.{Word};
 ghost use Rattle.ilranges.specs.Safety.{IsSafeAt, IsFitAtStart, IsFitWider};
 
 /// On at least one bus, a step at a word that has a rule is defined, and leaves what the rule says;

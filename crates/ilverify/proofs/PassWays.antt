@@ -14,9 +14,9 @@ use Rattle.iltypes.specs.Ranges.{IsWithin}
 use Rattle.iltypes.specs.Values.{IsOf}
 use Rattle.iloperators.specs.declared.condition.Condition.TheVariants.{Always, IfTrue, IfFalse}
 use Rattle.iloperators.specs.declared.operator.Operator.{Operator}
-use Rattle.ilword.specs.declared.word.Word.{Word}
-use Rattle.ilword.specs.declared.word.Word.TheVariants as words
-use Rattle.ilword.specs.declared.word.Target.TheVariants.{Slot, Port}
+use Rattle.ilcode.specs.declared.word.Word.{Word}
+use Rattle.ilcode.specs.declared.word.Word.TheVariants as words
+use Rattle.ilcode.specs.declared.word.Target.TheVariants.{Slot, Port}
 use Rattle.ilcode.specs.Listings.{Listing}
 use Rattle.ilcode.specs.Steps.{is_start}
 use Rattle.ilranges.specs.declared.cause.Cause.TheVariants as causes

@@ -4,8 +4,8 @@ use Rattle.std.specs.Prelude.{slice_get, slice_set, get_or, max, ⊤}
 use Rattle.std.specs.Option.{unwrap_or}
 use Rattle.limits.specs.Limits.{most_requests}
 use Rattle.iloperators.specs.declared.condition.Condition.TheVariants.{Always}
-use Rattle.ilword.specs.declared.word.Word.{Word}
-use Rattle.ilword.specs.declared.word.Word.TheVariants as words
+use Rattle.ilcode.specs.declared.word.Word.{Word}
+use Rattle.ilcode.specs.declared.word.Word.TheVariants as words
 use Rattle.ilcode.specs.Listings.{Listing}
 use Rattle.ilcode.specs.Paths.{IsNext, requests_on}
 use Rattle.ilcode.specs.Steps.{is_target}

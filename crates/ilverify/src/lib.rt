@@ -7,7 +7,7 @@
 //! (specs/Certificates.antt): an entry for each word, consistent by the rules of `ilranges`; and by
 //! the calls of request blocks on each path (specs/Requests.antt). A `Verified` has its
 //! words and constants in the form in which the machine reads them, too (`ilready::ReadyWord`,
-//! `ilcells::Cell`).
+//! `ilrows::Cell`).
 //!
 //! ```text
 //! let verified = verify(alloc, code)?;

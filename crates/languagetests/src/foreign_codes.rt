@@ -4,15 +4,14 @@
 
 ghost use Rattle.std.specs.Prelude.{IsTrue};
 ghost use Rattle.std.specs.List.{AllByRecursion};
-ghost use Rattle.ilword.specs.Words.{HasWord};
+ghost use Rattle.ilcode.specs.Words.{HasWord};
 
 use ilblocks::BlockKind;
-use ilcode::{Code, PackedWord, Target, Word, WordOperand};
+use ilcode::{Code, PackedWord, Target, Word, WordOperand, pack};
 use iloperators::{Condition, Operator};
 use ilranges::{Known, Slots};
 use iltypes::{IlType, Range, Value};
 use ilverify::{VerifyError, verify};
-use ilword::pack;
 use std::alloc::{AllocError, Global};
 use std::test::Fail;
 

@@ -15,12 +15,9 @@ pub struct KnownText<'a> {
     pub entry: &'a Entry,
 }
 
-impl fmt::Display for KnownText<'_> {
-    fn fmt<W: fmt::Write>(&self, f: &mut fmt::Formatter<W>) -> fmt::Result {
-        match self.entry.result {
-            Some(known) => write!(f, "result {}", ValuesText { known })?,
-            None => write!(f, "no result")?,
-        }
+impl KnownText<'_> {
+    /// Writes what is known of the variable that the word names, where it names one.
+    fn write_variable<W: fmt::Write>(&self, f: &mut fmt::Formatter<W>) -> fmt::Result {
         let Some(slot) = slot_of(self.word) else {
             return Ok(());
         };
@@ -31,6 +28,16 @@ impl fmt::Display for KnownText<'_> {
             (Some(name), Some(known)) => write!(f, ", {name} {}", ValuesText { known }),
             _ => Ok(()),
         }
+    }
+}
+
+impl fmt::Display for KnownText<'_> {
+    fn fmt<W: fmt::Write>(&self, f: &mut fmt::Formatter<W>) -> fmt::Result {
+        match self.entry.result {
+            Some(known) => write!(f, "result {}", ValuesText { known })?,
+            None => f.write_str("no result")?,
+        }
+        self.write_variable(f)
     }
 }
 

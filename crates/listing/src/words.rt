@@ -33,6 +33,16 @@ impl WordText<'_> {
         })
     }
 
+    /// Writes a word that names one thing.
+    fn write_with<W: fmt::Write>(
+        &self,
+        f: &mut fmt::Formatter<W>,
+        name: &str,
+        operand: OperandText,
+    ) -> fmt::Result {
+        write!(f, "{name} {operand}")
+    }
+
     /// Writes a jump.
     fn write_jump<W: fmt::Write>(
         &self,
@@ -61,18 +71,18 @@ impl fmt::Display for WordText<'_> {
         match self.word {
             Word::Load { negated, operand } => {
                 let name = if negated { "LDN" } else { "LD" };
-                write!(f, "{name} {}", self.operand(operand))
+                self.write_with(f, name, self.operand(operand))
             }
             Word::Apply(applied, operand) => {
-                write!(f, "{} {}", operator_text(applied), self.operand(operand))
+                self.write_with(f, operator_text(applied), self.operand(operand))
             }
-            Word::Transform(applied) => write!(f, "{}", function_text(applied)),
+            Word::Transform(applied) => f.write_str(function_text(applied)),
             Word::Store { negated, variable } => {
                 let name = if negated { "STN" } else { "ST" };
-                write!(f, "{name} {}", self.target(variable))
+                self.write_with(f, name, self.target(variable))
             }
-            Word::Set(variable) => write!(f, "S {}", self.target(variable)),
-            Word::Reset(variable) => write!(f, "R {}", self.target(variable)),
+            Word::Set(variable) => self.write_with(f, "S", self.target(variable)),
+            Word::Reset(variable) => self.write_with(f, "R", self.target(variable)),
             Word::Pass {
                 port,
                 block,
@@ -83,7 +93,7 @@ impl fmt::Display for WordText<'_> {
             }
             Word::Call(block) => self.write_call(f, usize::from(block)),
             Word::Open(opened) => write!(f, "{}(", operator_text(opened)),
-            Word::Close => write!(f, ")"),
+            Word::Close => f.write_str(")"),
             Word::Jump { condition, target } => {
                 let name = jump_text(self.code, condition, target as usize);
                 self.write_jump(f, name, target as usize)

@@ -7,9 +7,9 @@ use Rattle.transact.specs.declared.marks.Mark.TheVariants as mark
 use Rattle.transact.specs.declared.marks.Reply.TheVariants as reply
 use Rattle.transact.specs.declared.marks.Outcome.TheVariants as outcome
 use Rattle.transact.specs.Attempts.{ReportParts}
-use Rattle.ilword.specs.declared.word.WordOperand.TheVariants.{Slot}
-use Rattle.ilword.specs.declared.word.Target.TheVariants as variables
-use Rattle.ilword.specs.declared.word.Word.TheVariants.{Load, Store as St}
+use Rattle.ilcode.specs.declared.word.WordOperand.TheVariants.{Slot}
+use Rattle.ilcode.specs.declared.word.Target.TheVariants as variables
+use Rattle.ilcode.specs.declared.word.Word.TheVariants.{Load, Store as St}
 use Rattle.ilcode.specs.Listings.{listing_of}
 use Rattle.ilplan.specs.Plans.{types_of}
 use Rattle.ilverify.specs.Verdicts.{Accepted}

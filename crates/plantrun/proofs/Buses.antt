@@ -9,7 +9,7 @@ use Rattle.simbus.specs.Simulated.{Simulated, after_all_arrivals}
 use Rattle.plantplay.specs.Installations.{bus_of, sim_log}
 use Rattle.plantevents.specs.Plants.{Plant}
 use Rattle.workers.specs.declared.closed.Closed.{Closed}
-use Rattle.finishing.specs.Finishing.{HasNoFrame, IsLinked, IsQuiet}
+use Rattle.turns.specs.Finishing.{HasNoFrame, IsLinked, IsQuiet}
 use Rattle.workers.specs.Closings.{IsClosed}
 use Rattle.turns.specs.Logs.{IsNoLess, log_of, no_frame, no_moment}
 use Rattle.workers.specs.Starts.{IsStartFault}

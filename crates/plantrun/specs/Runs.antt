@@ -5,7 +5,7 @@ use Rattle.scenario.specs.declared.statements.Statement.{Statement}
 use Rattle.simbus.specs.ScriptedTicks.{ScriptedTicks}
 use Rattle.simbus.specs.Simulated.{Simulated, after_all_arrivals}
 use Rattle.ilsetup.specs.Loaded.{Loaded}
-use Rattle.finishing.specs.Finishing.{IsQuiet}
+use Rattle.turns.specs.Finishing.{IsQuiet}
 use Rattle.plant.specs.Shown.{IsLimit, IsWorkerCount, is_full, plant_of}
 use Rattle.plantplay.specs.Installations.{bus_of, sim_log}
 use Rattle.workers.specs.declared.closed.Closed.{Closed}

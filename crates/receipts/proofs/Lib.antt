@@ -1,3 +1,5 @@
 pub mod Eaching
+pub mod Noting
+pub mod Outcomes
 pub mod Roles
 pub mod Seating

@@ -1,17 +1,18 @@
 -- The ties of the seats are taken one after another, and the numbers are those of the roles that have a seat.
-use Rattle.std.proofs.Common.{◌≡◌, ◌≢◌, ℕ, ◌+◌, ◌<◌, ◌≤◌, List, [], ◌∷◌, ◌++◌, length, remove}
-use Rattle.std.proofs.Common.{◌∙◌, ⊎_elim, subst, arith}
+use Rattle.std.proofs.Common.{◌≡◌, ◌≢◌, ℕ, ◌+◌, ◌-◌, ◌<◌, ◌≤◌, Bool, List, [], ◌∷◌, ◌++◌, length, remove}
+use Rattle.std.proofs.Common.{◌∙◌, ⊎_elim, refl, sym, ap, subst, arith}
 use Rattle.std.proofs.lemmas.List.{length-append}
 use Rattle.std.specs.Prelude.{slice_index_or, true, false}
 use Rattle.plantevents.specs.declared.role.Role.{Role}
 use Rattle.plantevents.specs.declared.role.Role.TheVariants.{Worker, Bus, Clock}
 use Rattle.plantevents.specs.Parts.{is_same_role}
 use Rattle.plantevents.proofs.Parting.{role_tells}
+use Rattle.ilplan.specs.Plans.{Planned}
 use Rattle.plant.specs.Shown.{Shown, is_reserved}
 use Rattle.receipts.specs.Receipts.{ShareParts, AreFresh, IsFresh, IsRole, index_of, seat_of, seat_at}
 use Rattle.receipts.specs.Seats.{AreCounted, AreUnused, IsNextTie}
 use Rattle.receipts.specs.Tokens.{one_if}
-use Rattle.receipts.proofs.Eaching.{each_first, each_rest, each_push}
+use Rattle.receipts.proofs.Eaching.{each_first, each_rest, each_push, each_none}
 use Rattle.receipts.proofs.Roles.{index_apart, seat_apart}
 
 length_remove : {T : Type 0} (ties : List T) → 0 < length ties → length (remove ties 0) + 1 ≡ length ties
@@ -33,8 +34,14 @@ next_unused {T = T} seat amount n ties tie low unused is =
       };
     }
 
+-- no Share yet
+pub fresh_none : (start : Shown) (role : ℕ → Role) (shares : List ShareParts) → shares ≡ []
+    → AreFresh start role 0 shares
+fresh_none start role shares none =
+    subst (λ xs. AreFresh start role 0 xs) (sym none) (refl, each_none (λ k s. IsFresh start (role k) s) 0)
+
 -- one Share more
-pub fresh_push : (start : Shown) (role : ℕ → Role) (n : ℕ) (shares : List ShareParts) (s : ShareParts)
+fresh_push : (start : Shown) (role : ℕ → Role) (n : ℕ) (shares : List ShareParts) (s : ShareParts)
     → AreFresh start role n shares → IsFresh start (role n) s → AreFresh start role (n + 1) (shares ++ s ∷ [])
 fresh_push start role n shares s fresh more =
     let many : length (shares ++ s ∷ []) ≡ n + 1 =
@@ -45,10 +52,41 @@ fresh_push start role n shares s fresh more =
           (subst (λ m. IsFresh start (role m) s) last more),
     )
 
+pub fresh_pushed : (start : Shown) (role : ℕ → Role) (n : ℕ) (shares after : List ShareParts) (s : ShareParts)
+    → AreFresh start role n shares → IsFresh start (role n) s → after ≡ shares ++ s ∷ []
+    → AreFresh start role (n + 1) after
+fresh_pushed start role n shares after s fresh more pushed =
+    subst (λ xs. AreFresh start role (n + 1) xs) (sym pushed) (fresh_push start role n shares s fresh more)
+
+-- ---- how many
+
+-- the plan says how many buses there are
+pub buses_known : (p q : Shown) (s t : Planned) (n : ℕ) → p ≡ q → s ≡ p.plant.plan → t ≡ s → n ≡ t.buses
+    → n ≡ q.plant.plan.buses
+buses_known p q s t n start plan value buses =
+    buses ∙ ap (λ (x : Planned). x.buses) (value ∙ plan) ∙ ap (λ (x : Shown). x.plant.plan.buses) start
+
+-- one of them is one of those that have a seat
+pub one_of : (k n count most : ℕ) → n ≡ count → count ≤ most → k < n → (k < count) × (k < most)
+one_of k n count most is few low = (omega arith, omega arith)
+
+-- the end of a loop over them
+pub at_end : (k n count : ℕ) → k ≤ n → n ≤ k → n ≡ count → k ≡ count
+at_end k n count low high is = omega arith
+
+-- the seats that are passed over after them
+pub workers_passed : (k n count left : ℕ) → k ≤ n → n ≤ k → n ≡ count → count ≤ 16 → left ≡ 16 - n
+    → (k + left ≡ 16) × (k + left < 82)
+workers_passed k n count left low high is few rest = (omega arith, omega arith)
+
+pub buses_passed : (k n count left : ℕ) → k ≤ n → n ≤ k → n ≡ count → count ≤ 64 → left ≡ 64 - n
+    → (16 + k + left ≡ 80) × (16 + k + left < 82)
+buses_passed k n count left low high is few rest = (omega arith, omega arith)
+
 -- ---- numbers
 
 -- the number of one role more
-pub counted_more : (start : Shown) (before after : ℕ × ℕ → ℕ) (role : Role) → IsRole start.plant role
+counted_more : (start : Shown) (before after : ℕ × ℕ → ℕ) (role : Role) → IsRole start.plant role
     → after (seat_of role) ≡ one_if (is_reserved role start)
     → ((k : ℕ × ℕ) → k ≢ seat_of role → after k ≡ before k) → AreCounted start before (index_of role)
     → AreCounted start after (index_of role + 1)
@@ -64,6 +102,19 @@ counted_more start before after role known mine others counted other is low =
     omega (arith, away)))
     (role_tells role other)
 
+pub counted_next : (start : Shown) (before after : ℕ × ℕ → ℕ) (role : Role) (seat : ℕ × ℕ) (reserved : Bool)
+    → IsRole start.plant role → seat ≡ seat_of role → reserved ≡ is_reserved role start → after seat ≡ one_if reserved
+    → ((k : ℕ × ℕ) → k ≢ seat → after k ≡ before k) → AreCounted start before (index_of role)
+    → AreCounted start after (index_of role + 1)
+counted_next start before after role seat reserved known seated kept mine others =
+    counted_more start before after role known
+    (subst (λ (k : ℕ × ℕ). after k ≡ one_if (is_reserved role start)) seated (mine ∙ ap one_if kept))
+    (subst (λ (s : ℕ × ℕ). (k : ℕ × ℕ) → k ≢ s → after k ≡ before k) seated others)
+
+-- there is no role below the first seat
+pub counted_none : (start : Shown) (number : ℕ × ℕ → ℕ) → AreCounted start number 0
+counted_none start number role known low = absurd (omega arith)
+
 -- no role has a seat between the workers and the buses, and between the buses and the clock
 pub workers_counted : (start : Shown) (number : ℕ × ℕ → ℕ) → AreCounted start number start.plant.workers
     → AreCounted start number 16
@@ -71,8 +122,8 @@ workers_counted start number counted (Worker w) is low = counted (Worker w) is i
 workers_counted start number counted (Bus b) is low = absurd (omega arith)
 workers_counted start number counted Clock is low = absurd (omega arith)
 
-pub buses_counted : (start : Shown) (number : ℕ × ℕ → ℕ) → start.plant.workers ≤ 16
+pub buses_counted : (start : Shown) (number : ℕ × ℕ → ℕ)
     → AreCounted start number (16 + start.plant.plan.buses) → AreCounted start number 80
-buses_counted start number few counted (Worker w) is low = let i = is.1 in counted (Worker w) is (omega arith)
-buses_counted start number few counted (Bus b) is low = let i = is.0 in counted (Bus b) is (omega arith)
-buses_counted start number few counted Clock is low = absurd (omega arith)
+buses_counted start number counted (Worker w) is low = let i = is.1 in counted (Worker w) is (omega arith)
+buses_counted start number counted (Bus b) is low = let i = is.0 in counted (Bus b) is (omega arith)
+buses_counted start number counted Clock is low = absurd (omega arith)

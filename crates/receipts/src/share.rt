@@ -5,7 +5,7 @@ ghost use Rattle.std.specs.Prelude.{OnOk, IfOk, IsOk, length};
 ghost use Rattle.plantevents.specs.Parts.{Placed, placed, part};
 ghost use Rattle.plant.specs.Shown.{is_reserved};
 ghost use Rattle.receipts.specs.Receipts.{IsFresh, IsRole, IsSame, IsNoted, IsReserved};
-ghost use Rattle.receipts.specs.Receipts.{seat_of, needs, whole, uses_place, reserved_after};
+ghost use Rattle.receipts.specs.Receipts.{seat_of, needs, whole, reserved_after};
 ghost use Rattle.receipts.specs.Tokens.{Held, Says, one_if};
 
 use crate::basis::Basis;
@@ -92,13 +92,13 @@ fn write<'a, R: Wait>(
     unreachable!()
 }
 
-/// Whether an event uses the place that is kept back for its role.
-fn uses_place(event: &Event) -> bool
-    ensures { result ≡ uses_place event.now }
+/// Whether a place is kept back for the role of an event after it: some use the one that was.
+fn reserved_after(event: &Event, reserved: bool) -> bool
+    ensures { result ≡ reserved_after event.now reserved }
 {
     match event {
-        Event::Tick { .. } | Event::Heard { .. } => true,
-        _ => false,
+        Event::Tick { .. } | Event::Heard { .. } => false,
+        _ => reserved,
     }
 }
 
@@ -241,9 +241,7 @@ impl<'a, J: Basis, T: Seated> Share<'a, J, T> {
     {
         numbers.audit(&mut self.tie);
         let was = 2 * self.reach + one_if(self.reserved);
-        if uses_place(&event) {
-            self.reserved = false;
-        }
+        self.reserved = reserved_after(&event, self.reserved);
         self.reach = index + 1;
         let is = 2 * self.reach + one_if(self.reserved);
         numbers.add(&mut self.tie, is - was);

@@ -1,1 +1,4 @@
+pub mod Finishing
+pub mod FinishSteps
 pub mod Logs
+pub mod Open

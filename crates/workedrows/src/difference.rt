@@ -4,7 +4,7 @@ use std::alloc::AllocError;
 use std::{fmt, io};
 
 /// What a row's command did that it shouldn't, or why its line isn't one of a row.
-#[derive(Debug, Drop)]
+#[derive(Drop)]
 pub enum Difference {
     /// The line is none of a row.
     Line,
@@ -44,7 +44,7 @@ impl fmt::Display for Difference {
 }
 
 /// Why the rows aren't judged to their end.
-#[derive(Debug, Drop)]
+#[derive(Drop)]
 pub enum Stop {
     Memory,
     /// A file of rows isn't read.

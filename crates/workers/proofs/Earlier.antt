@@ -10,7 +10,7 @@ use Rattle.buslink.specs.ClockLog.{ClockLog}
 use Rattle.plantevents.specs.declared.event.Event.{Event}
 use Rattle.plantevents.specs.Histories.{sent_in, heard_in, downs_in, given_in}
 use Rattle.turns.specs.Logs.{log_of, more_failures}
-use Rattle.finishing.specs.Finishing.{IsLinked}
+use Rattle.turns.specs.Finishing.{IsLinked}
 
 -- ---- what stood before the end of a list
 

@@ -10,7 +10,7 @@ use Rattle.plantevents.specs.declared.event.Event.{Event}
 use Rattle.plantevents.specs.declared.event.Event.TheVariants.{Tick, Heard, Take, Commit, Hand, Done, Down}
 use Rattle.plantevents.specs.Histories.{moment, sent_in, heard_in, downs_in, given_in}
 use Rattle.turns.specs.Logs.{more_failures}
-use Rattle.finishing.specs.Finishing.{IsLinked}
+use Rattle.turns.specs.Finishing.{IsLinked}
 
 -- ---- first what was before, then what follows
 

@@ -13,9 +13,9 @@ use Rattle.plantevents.specs.Plants.{Plant}
 use Rattle.plant.specs.Shown.{Shown, kept}
 use Rattle.plantlock.specs.Tied.{IsFront}
 use Rattle.turns.specs.Logs.{HasEnded, HasGrown, IsNoLess, log_of}
-use Rattle.finishing.specs.Finishing.{HasNoFrame, IsLinked, IsQuiet}
-use Rattle.finishing.specs.Open.{HasNothingOpen}
-use Rattle.finishing.proofs.Turned.{log_stands}
+use Rattle.turns.specs.Finishing.{HasNoFrame, IsLinked, IsQuiet}
+use Rattle.turns.specs.Open.{HasNothingOpen}
+use Rattle.turns.proofs.Turned.{log_stands}
 use Rattle.workers.specs.Beginnings.{IsInStep}
 use Rattle.workers.specs.Closings.{HasGoneOn, IsClosed}
 use Rattle.workers.specs.declared.closed.Closed.{Closed}

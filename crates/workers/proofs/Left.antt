@@ -14,8 +14,8 @@ use Rattle.plant.specs.Shown.{Shown, is_full}
 use Rattle.receipts.specs.Each.{Each}
 use Rattle.turns.specs.Logs.{IsNoLess, log_of}
 use Rattle.turns.proofs.Counts.{grown_since, no_less_since}
-use Rattle.finishing.specs.Finishing.{CannotGoOn, HasHeard, HasNoFrame, IsFinish, IsLinked, IsQuiet}
-use Rattle.finishing.proofs.Turned.{log_stands}
+use Rattle.turns.specs.Finishing.{CannotGoOn, HasHeard, HasNoFrame, IsFinish, IsLinked, IsQuiet}
+use Rattle.turns.proofs.Turned.{log_stands}
 use Rattle.workers.specs.Closings.{IsClosed}
 use Rattle.workers.specs.declared.closed.Closed.{Closed}
 use Rattle.workers.proofs.Lists.{each_at}

@@ -21,8 +21,8 @@ use Rattle.receipts.specs.Seats.{AreUnused}
 use Rattle.seats.specs.Families.{Seating}
 use Rattle.seats.specs.Openings.{fresh}
 use Rattle.turns.specs.Logs.{IsNoLess, IsServed, IsTimed, IsWorker, log_of, more_failures, no_frame}
-use Rattle.finishing.specs.Finishing.{IsLinked}
-use Rattle.finishing.specs.Open.{HasNothingOpen}
+use Rattle.turns.specs.Finishing.{IsLinked}
+use Rattle.turns.specs.Open.{HasNothingOpen}
 use Rattle.workers.specs.Beginnings.{IsInStep}
 use Rattle.workers.specs.Teams.{AreWorkers}
 use Rattle.workers.proofs.Following.{all_later, moment_within}

@@ -13,8 +13,8 @@ use Rattle.plantevents.specs.Plants.{Plant}
 use Rattle.plant.specs.Shown.{Shown}
 use Rattle.receipts.specs.Each.{Each}
 use Rattle.receipts.specs.Receipts.{ShareParts, HasPart, HaveParts, whole}
-use Rattle.finishing.specs.Finishing.{IsLinked}
-use Rattle.finishing.specs.Open.{HasNothingOpen}
+use Rattle.turns.specs.Finishing.{IsLinked}
+use Rattle.turns.specs.Open.{HasNothingOpen}
 use Rattle.turns.specs.Logs.{IsNoLess, IsServed, IsTimed, IsWorker, log_of, more_failures}
 use Rattle.workers.specs.Teams.{AreServed, AreWorkers}
 use Rattle.turns.specs.declared.bus_worker.Served.{Served}

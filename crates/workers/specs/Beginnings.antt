@@ -7,7 +7,7 @@ use Rattle.plantevents.specs.Plants.{Plant}
 use Rattle.plant.specs.Shown.{Shown}
 use Rattle.receipts.specs.Each.{Each}
 use Rattle.turns.specs.Logs.{IsNoLess, log_of}
-use Rattle.finishing.specs.Finishing.{IsLinked}
+use Rattle.turns.specs.Finishing.{IsLinked}
 use Rattle.workers.specs.declared.beginning.Begun.{Begun}
 use Rattle.workers.specs.Crews.{HasRooms}
 use Rattle.workers.specs.Teams.{IsTeam}

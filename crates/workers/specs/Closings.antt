@@ -9,8 +9,8 @@ use Rattle.plantevents.specs.Plants.{Plant}
 use Rattle.plant.specs.Shown.{IsWorkerCount}
 use Rattle.receipts.specs.Each.{Each}
 use Rattle.turns.specs.Logs.{IsNoLess, log_of}
-use Rattle.finishing.specs.Finishing.{IsLinked}
-use Rattle.finishing.specs.Open.{HasNothingOpen}
+use Rattle.turns.specs.Finishing.{IsLinked}
+use Rattle.turns.specs.Open.{HasNothingOpen}
 use Rattle.workers.specs.declared.closed.Closed.{Closed}
 
 -- A legal history of this plant in which nothing is open, and since the first logs each bus and the clock gave and took

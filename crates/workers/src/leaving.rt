@@ -6,7 +6,7 @@ ghost use Rattle.buslink.specs.ClockLog.{ClockLog};
 ghost use Rattle.plantevents.specs.Plants.{Plant as Planted};
 ghost use Rattle.plant.specs.Shown.{is_full};
 ghost use Rattle.plantlock.specs.Tied.{IsFront};
-ghost use Rattle.finishing.specs.Finishing.{IsQuiet};
+ghost use Rattle.turns.specs.Finishing.{IsQuiet};
 ghost use Rattle.workers.specs.Closings.{IsClosed};
 ghost use Rattle.workers.specs.declared.ended.Ended.TheVariants.{Asked, Limit};
 
@@ -14,9 +14,8 @@ use crate::closed::Closed;
 use crate::closed_plant::ClosedPlant;
 use crate::ended::Ended;
 use buslink::{Bus, Clock};
-use finishing::settle;
 use std::alloc::Global;
-use turns::Gate;
+use turns::{Gate, settle};
 
 /// Does what is left where the clock came to its end: scans, sends and hears until there is nothing
 /// left to be done, the history is full, or memory is wanting.

@@ -1,8 +1,8 @@
 use Rattle.std.proofs.Common.{◌≡◌, ◌∙◌, ℕ, Option, Some, None, sym}
 use Rattle.std.specs.Prelude.{◌≢◌, IfSome, IfNone, IsSomeAnd}
-use Rattle.ilword.specs.Words.{HasWord, spelling}
-use Rattle.ilword.specs.declared.word.Word.{Word}
-use Rattle.ilword.proofs.Spellings.{spelled_once}
+use Rattle.ilcode.specs.Words.{HasWord, spelling}
+use Rattle.ilcode.specs.declared.word.Word.{Word}
+use Rattle.ilcode.proofs.Spellings.{spelled_once}
 use Rattle.codefile.proofs.fields.unpack.Goals as goal
 
 -- what is found is the word that has the bits

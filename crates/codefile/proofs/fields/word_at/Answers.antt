@@ -1,5 +1,5 @@
-use Rattle.ilword.specs.Words.{spelling}
-use Rattle.ilword.proofs.Spellings.{spelling_small}
+use Rattle.ilcode.specs.Words.{spelling}
+use Rattle.ilcode.proofs.Spellings.{spelling_small}
 use Rattle.codefile.proofs.FieldLaws.{number_read}
 use Rattle.codefile.proofs.fields.word_at.Goals as goal
 

@@ -1,6 +1,6 @@
 use Rattle.std.proofs.Common.{◌+◌, length, ap, ◌∙◌, arith}
 use Rattle.std.proofs.lemmas.List.{length_push, length-drop}
-use Rattle.ilword.specs.Words.{HasWord}
+use Rattle.ilcode.specs.Words.{HasWord}
 use Rattle.codefile.specs.Files.{word}
 use Rattle.codefile.proofs.Sections.{all_read, fits_push, none_is, none_there, one_read, some_is}
 use Rattle.codefile.proofs.reading.words.Goals as goal

@@ -1,6 +1,6 @@
 use Rattle.std.proofs.Common.{◌≡◌, ◌*◌, ◌-◌, ◌≤◌, length}
 use Rattle.std.specs.List.{AllByRecursion}
-use Rattle.ilword.specs.Words.{HasWord}
+use Rattle.ilcode.specs.Words.{HasWord}
 use Rattle.codefile.specs.Files.{word}
 use Rattle.codefile.proofs.Sections.{IsReadUpTo}
 use Rattle.codefile.proofs.reading.words.Given as goal

@@ -1,6 +1,6 @@
 use Rattle.std.proofs.Common.{◌∙◌, sym, subst}
 use Rattle.std.specs.List.{AllByRecursion}
-use Rattle.ilword.specs.Words.{HasWord}
+use Rattle.ilcode.specs.Words.{HasWord}
 use Rattle.ilcode.specs.Listings.{IsLawful}
 use Rattle.ilcompile.specs.Meant.{IsMeant}
 use Rattle.ilcompile.proofs.Lawful.{laid_out_lawful, parts_are}

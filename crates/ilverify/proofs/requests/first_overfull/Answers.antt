@@ -3,7 +3,7 @@ use Rattle.std.proofs.Common.{replicate, rules, sym, ap, subst, arith, refl}
 use Rattle.std.specs.Prelude.{slice_get, get_or}
 use Rattle.std.specs.Option.{option_map_or}
 use Rattle.std.proofs.lemmas.Option.{slice_get-get_or}
-use Rattle.ilword.specs.declared.word.Word.{Word}
+use Rattle.ilcode.specs.declared.word.Word.{Word}
 use Rattle.ilcode.specs.Listings.{Listing}
 use Rattle.ilcode.specs.Paths.{may_request}
 use Rattle.ilverify.specs.Requests.{HasFewRequests}

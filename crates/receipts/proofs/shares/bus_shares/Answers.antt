@@ -1,11 +1,52 @@
-use Rattle.std.proofs.Common.{◌≡◌, ℕ, ◌+◌, ◌<◌, ◌≤◌, ap, arith, subst, sym}
+use Rattle.std.proofs.Common.{◌≡◌, ℕ, ◌+◌, ◌≤◌, arith, subst, sym}
+use Rattle.std.proofs.lemmas.Result.{IfOk-from_err}
 use Rattle.plantevents.specs.declared.role.Role.TheVariants.{Bus}
-use Rattle.ilplan.specs.Plans.{Planned}
-use Rattle.plant.specs.Shown.{Shown}
 use Rattle.receipts.specs.Receipts.{AreFresh}
 use Rattle.receipts.specs.Seats.{AreCounted, AreUnused}
-use Rattle.receipts.proofs.Seating.{fresh_push}
+use Rattle.receipts.proofs.Outcomes.{on_ok-from_err}
+use Rattle.receipts.proofs.Seating.{fresh_none, fresh_pushed, buses_known, one_of, at_end, buses_passed, buses_counted}
 use Rattle.receipts.proofs.shares.bus_shares.Goals as goal
+
+pub loop-bus-init : goal.loop-bus-init
+loop-bus-init g c = (
+  fresh_none g.J.Basis.start Bus c.new-shares.result.items c.new-shares.ensures.items,
+  c.requires.unused,
+  c.requires.counted,
+)
+
+pub next_share-requires-clause-start : goal.next_share-requires-clause-start
+next_share-requires-clause-start g c = c.requires.start
+
+pub next_share-requires-clause-known : goal.next_share-requires-clause-known
+next_share-requires-clause-known g c =
+    one_of c.loop-bus.bus c.buses-buses.result g.J.Basis.start.plant.plan.buses 64
+    (buses_known c.args.plant.now g.J.Basis.start c.setup.result.now.plan c.plan.result.now c.buses-buses.result
+    c.requires.start c.setup.ensures.plan c.plan.ensures.value c.buses-buses.ensures.value)
+    c.requires.seated c.loop-bus-test.true
+
+pub next_share-requires-clause-unused : goal.next_share-requires-clause-unused
+next_share-requires-clause-unused g c = let inv = c.loop-bus.invariant in inv.1
+
+pub returns-in_err-share-clause-shares : goal.returns-in_err-share-clause-shares
+returns-in_err-share-clause-shares g c = IfOk-from_err c.from_residual.result _ c.from_residual.ensures.0
+
+pub returns-in_err-share-clause-unused : goal.returns-in_err-share-clause-unused
+returns-in_err-share-clause-unused g c = on_ok-from_err c.from_residual.result _ c.from_residual.ensures.0
+
+pub returns-in_err-share-clause-counted : goal.returns-in_err-share-clause-counted
+returns-in_err-share-clause-counted g c = on_ok-from_err c.from_residual.result _ c.from_residual.ensures.0
+
+pub returns-in_err-push-clause-shares : goal.returns-in_err-push-clause-shares
+returns-in_err-push-clause-shares g c =
+    IfOk-from_err c.from_residual-in_err-push.result _ c.from_residual-in_err-push.ensures.0
+
+pub returns-in_err-push-clause-unused : goal.returns-in_err-push-clause-unused
+returns-in_err-push-clause-unused g c =
+    on_ok-from_err c.from_residual-in_err-push.result _ c.from_residual-in_err-push.ensures.0
+
+pub returns-in_err-push-clause-counted : goal.returns-in_err-push-clause-counted
+returns-in_err-push-clause-counted g c =
+    on_ok-from_err c.from_residual-in_err-push.result _ c.from_residual-in_err-push.ensures.0
 
 pub loop-bus-preserved : goal.loop-bus-preserved
 loop-bus-preserved g c =
@@ -13,24 +54,60 @@ loop-bus-preserved g c =
     let made = c.in_ok-share.ensures in
     let n = c.loop-bus.bus in
     let same : 16 + n + 1 ≡ 16 + (n + 1) = omega arith in (
-      subst (λ xs. AreFresh g.J.Basis.start Bus (n + 1) xs) (sym c.in_ok-push.ensures.items)
-          (fresh_push g.J.Basis.start Bus n c.loop-bus.shares.items c.in_ok-share.share inv.0 made.fresh),
+      fresh_pushed g.J.Basis.start Bus n c.loop-bus.shares.items c.push.new.self.items c.in_ok-share.share inv.0
+          made.fresh c.in_ok-push.ensures.items,
       subst (λ m. AreUnused g.T.Seated.seat g.T.Seated.amount m c.next_share.new.ties.items) same made.unused,
       subst (λ m. AreCounted g.J.Basis.start (g.K.Tallies.number c.next_share.new.books) m) same (made.counted inv.2),
     )
 
+pub overflow_sub-buses : goal.overflow_sub-buses
+overflow_sub-buses g c =
+    subst (λ (n : ℕ). n ≤ 64)
+    (sym
+    (buses_known c.args.plant.now g.J.Basis.start c.setup.result.now.plan c.plan.result.now c.buses-buses.result
+    c.requires.start c.setup.ensures.plan c.plan.ensures.value c.buses-buses.ensures.value))
+    c.requires.seated
+
+pub skip_ties-requires : goal.skip_ties-requires
+skip_ties-requires g c =
+    let inv = c.loop-bus.invariant in
+    let passed =
+    buses_passed c.loop-bus.bus c.buses-buses.result g.J.Basis.start.plant.plan.buses c.from.result
+    c.loop-bus.auto.bus-end c.loop-bus-test.false
+    (buses_known c.args.plant.now g.J.Basis.start c.setup.result.now.plan c.plan.result.now c.buses-buses.result
+    c.requires.start c.setup.ensures.plan c.plan.ensures.value c.buses-buses.ensures.value)
+    c.requires.seated c.from.ensures in
+    (16 + c.loop-bus.bus, passed.1, inv.1)
+
+pub returns-clause-shares : goal.returns-clause-shares
+returns-clause-shares g c =
+    let inv = c.loop-bus.invariant in
+    subst (λ (n : ℕ). AreFresh g.J.Basis.start Bus n c.loop-bus.shares.items)
+    (at_end c.loop-bus.bus c.buses-buses.result g.J.Basis.start.plant.plan.buses c.loop-bus.auto.bus-end
+    c.loop-bus-test.false
+    (buses_known c.args.plant.now g.J.Basis.start c.setup.result.now.plan c.plan.result.now c.buses-buses.result
+    c.requires.start c.setup.ensures.plan c.plan.ensures.value c.buses-buses.ensures.value))
+    inv.0
+
 pub returns-clause-unused : goal.returns-clause-unused
 returns-clause-unused g c =
     let inv = c.loop-bus.invariant in
-    let n = c.loop-bus.bus in
-    let end : n ≤ c.buses-buses.result = c.loop-bus.auto.bus-end in
-    let few = c.requires.seated in
-    let planned = ap (λ (p : Shown). p.plant.plan.buses) c.requires.start in
-    let plan = ap (λ (p : Planned). p.buses) c.setup.ensures.plan in
-    let value = c.buses-buses.ensures.value in
-    let of_plan = ap (λ (p : Planned). p.buses) c.plan.ensures.value in
-    let all : 16 + n + c.from.result ≡ 80 =
-    omega (arith, end, c.loop-bus-test.false, few, planned, plan, value, of_plan, c.from.ensures) in
-    let low : 16 + n + c.from.result < 82 = omega (arith, all) in
-    subst (λ m. AreUnused g.T.Seated.seat g.T.Seated.amount m c.skip_ties.new.ties.items) all
-    (c.skip_ties.ensures (16 + n) low inv.1)
+    let passed =
+    buses_passed c.loop-bus.bus c.buses-buses.result g.J.Basis.start.plant.plan.buses c.from.result
+    c.loop-bus.auto.bus-end c.loop-bus-test.false
+    (buses_known c.args.plant.now g.J.Basis.start c.setup.result.now.plan c.plan.result.now c.buses-buses.result
+    c.requires.start c.setup.ensures.plan c.plan.ensures.value c.buses-buses.ensures.value)
+    c.requires.seated c.from.ensures in
+    subst (λ m. AreUnused g.T.Seated.seat g.T.Seated.amount m c.skip_ties.new.ties.items) passed.0
+    (c.skip_ties.ensures (16 + c.loop-bus.bus) passed.1 inv.1)
+
+pub returns-clause-counted : goal.returns-clause-counted
+returns-clause-counted g c =
+    let inv = c.loop-bus.invariant in
+    buses_counted g.J.Basis.start (g.K.Tallies.number c.loop-bus.books)
+    (subst (λ (n : ℕ). AreCounted g.J.Basis.start (g.K.Tallies.number c.loop-bus.books) (16 + n))
+    (at_end c.loop-bus.bus c.buses-buses.result g.J.Basis.start.plant.plan.buses c.loop-bus.auto.bus-end
+    c.loop-bus-test.false
+    (buses_known c.args.plant.now g.J.Basis.start c.setup.result.now.plan c.plan.result.now c.buses-buses.result
+    c.requires.start c.setup.ensures.plan c.plan.ensures.value c.buses-buses.ensures.value))
+    inv.2)

@@ -1,32 +1,103 @@
-use Rattle.std.proofs.Common.{◌≡◌, ℕ, ◌+◌, ◌-◌, ◌<◌, ap, arith, subst, sym}
+use Rattle.std.proofs.Common.{ℕ, ◌-◌, ◌≤◌, ◌∙◌, ap, refl, subst, sym}
+use Rattle.std.proofs.lemmas.Result.{IfOk-from_err}
 use Rattle.plantevents.specs.declared.role.Role.TheVariants.{Worker}
 use Rattle.plant.specs.Shown.{Shown}
 use Rattle.receipts.specs.Receipts.{AreFresh}
 use Rattle.receipts.specs.Seats.{AreCounted, AreUnused}
-use Rattle.receipts.proofs.Seating.{fresh_push}
+use Rattle.receipts.proofs.Outcomes.{on_ok-from_err}
+use Rattle.receipts.proofs.Seating.{fresh_none, fresh_pushed, one_of, at_end, workers_passed}
+use Rattle.receipts.proofs.Seating.{counted_none, workers_counted}
 use Rattle.receipts.proofs.shares.worker_shares.Goals as goal
+
+pub loop-worker-init : goal.loop-worker-init
+loop-worker-init g c = (
+  fresh_none g.J.Basis.start Worker c.new-shares.result.items c.new-shares.ensures.items,
+  c.requires.unused,
+  counted_none g.J.Basis.start (g.K.Tallies.number c.args.books.now),
+)
+
+pub next_share-requires-clause-start : goal.next_share-requires-clause-start
+next_share-requires-clause-start g c = c.requires.start
+
+pub next_share-requires-clause-known : goal.next_share-requires-clause-known
+next_share-requires-clause-known g c =
+    one_of c.loop-worker.worker c.workers-workers.result g.J.Basis.start.plant.workers 16
+    (c.workers-workers.ensures.value ∙ ap (λ (p : Shown). p.plant.workers) c.requires.start) c.requires.seated
+    c.loop-worker-test.true
+
+pub next_share-requires-clause-unused : goal.next_share-requires-clause-unused
+next_share-requires-clause-unused g c = let inv = c.loop-worker.invariant in inv.1
+
+pub returns-in_err-share-clause-shares : goal.returns-in_err-share-clause-shares
+returns-in_err-share-clause-shares g c = IfOk-from_err c.from_residual.result _ c.from_residual.ensures.0
+
+pub returns-in_err-share-clause-unused : goal.returns-in_err-share-clause-unused
+returns-in_err-share-clause-unused g c = on_ok-from_err c.from_residual.result _ c.from_residual.ensures.0
+
+pub returns-in_err-share-clause-counted : goal.returns-in_err-share-clause-counted
+returns-in_err-share-clause-counted g c = on_ok-from_err c.from_residual.result _ c.from_residual.ensures.0
+
+pub returns-in_err-push-clause-shares : goal.returns-in_err-push-clause-shares
+returns-in_err-push-clause-shares g c =
+    IfOk-from_err c.from_residual-in_err-push.result _ c.from_residual-in_err-push.ensures.0
+
+pub returns-in_err-push-clause-unused : goal.returns-in_err-push-clause-unused
+returns-in_err-push-clause-unused g c =
+    on_ok-from_err c.from_residual-in_err-push.result _ c.from_residual-in_err-push.ensures.0
+
+pub returns-in_err-push-clause-counted : goal.returns-in_err-push-clause-counted
+returns-in_err-push-clause-counted g c =
+    on_ok-from_err c.from_residual-in_err-push.result _ c.from_residual-in_err-push.ensures.0
 
 pub loop-worker-preserved : goal.loop-worker-preserved
 loop-worker-preserved g c =
     let inv = c.loop-worker.invariant in
-    let made = c.in_ok-share.ensures in
-    let n = c.loop-worker.worker in (
-      subst (λ xs. AreFresh g.J.Basis.start Worker (n + 1) xs) (sym c.in_ok-push.ensures.items)
-          (fresh_push g.J.Basis.start Worker n c.loop-worker.shares.items c.in_ok-share.share inv.0 made.fresh),
+    let made = c.in_ok-share.ensures in (
+      fresh_pushed g.J.Basis.start Worker c.loop-worker.worker c.loop-worker.shares.items
+          c.push.new.self.items c.in_ok-share.share inv.0 made.fresh c.in_ok-push.ensures.items,
       made.unused,
       made.counted inv.2,
     )
 
+pub overflow_sub-workers : goal.overflow_sub-workers
+overflow_sub-workers g c =
+    subst (λ (n : ℕ). n ≤ 16)
+    (sym (c.workers-workers.ensures.value ∙ ap (λ (p : Shown). p.plant.workers) c.requires.start)) c.requires.seated
+
+pub skip_ties-requires : goal.skip_ties-requires
+skip_ties-requires g c =
+    let inv = c.loop-worker.invariant in
+    let passed =
+    workers_passed c.loop-worker.worker c.workers-workers.result g.J.Basis.start.plant.workers
+    (16 - c.workers-workers.result) c.loop-worker.auto.worker-end c.loop-worker-test.false
+    (c.workers-workers.ensures.value ∙ ap (λ (p : Shown). p.plant.workers) c.requires.start) c.requires.seated refl in
+    (c.loop-worker.worker, passed.1, inv.1)
+
+pub returns-clause-shares : goal.returns-clause-shares
+returns-clause-shares g c =
+    let inv = c.loop-worker.invariant in
+    subst (λ (n : ℕ). AreFresh g.J.Basis.start Worker n c.loop-worker.shares.items)
+    (at_end c.loop-worker.worker c.workers-workers.result g.J.Basis.start.plant.workers c.loop-worker.auto.worker-end
+    c.loop-worker-test.false
+    (c.workers-workers.ensures.value ∙ ap (λ (p : Shown). p.plant.workers) c.requires.start))
+    inv.0
+
 pub returns-clause-unused : goal.returns-clause-unused
 returns-clause-unused g c =
     let inv = c.loop-worker.invariant in
-    let n = c.loop-worker.worker in
-    let end = c.loop-worker.auto.worker-end in
-    let few = c.requires.seated in
-    let workers = ap (λ (p : Shown). p.plant.workers) c.requires.start in
-    let left = 16 - c.workers-workers.result in
-    let all : n + left ≡ 16 =
-    omega (arith, end, c.loop-worker-test.false, few, workers, c.workers-workers.ensures.value) in
-    let low : n + left < 82 = omega (arith, all) in
-    subst (λ m. AreUnused g.T.Seated.seat g.T.Seated.amount m c.skip_ties.new.ties.items) all
-    (c.skip_ties.ensures n low inv.1)
+    let passed =
+    workers_passed c.loop-worker.worker c.workers-workers.result g.J.Basis.start.plant.workers
+    (16 - c.workers-workers.result) c.loop-worker.auto.worker-end c.loop-worker-test.false
+    (c.workers-workers.ensures.value ∙ ap (λ (p : Shown). p.plant.workers) c.requires.start) c.requires.seated refl in
+    subst (λ m. AreUnused g.T.Seated.seat g.T.Seated.amount m c.skip_ties.new.ties.items) passed.0
+    (c.skip_ties.ensures c.loop-worker.worker passed.1 inv.1)
+
+pub returns-clause-counted : goal.returns-clause-counted
+returns-clause-counted g c =
+    let inv = c.loop-worker.invariant in
+    workers_counted g.J.Basis.start (g.K.Tallies.number c.loop-worker.books)
+    (subst (λ (n : ℕ). AreCounted g.J.Basis.start (g.K.Tallies.number c.loop-worker.books) n)
+    (at_end c.loop-worker.worker c.workers-workers.result g.J.Basis.start.plant.workers c.loop-worker.auto.worker-end
+    c.loop-worker-test.false
+    (c.workers-workers.ensures.value ∙ ap (λ (p : Shown). p.plant.workers) c.requires.start))
+    inv.2)

@@ -2,7 +2,7 @@ use Rattle.std.proofs.Common.{◌∙◌, map, subst, sym}
 use Rattle.plantevents.specs.Legal.{AreLegal}
 use Rattle.receipts.specs.Each.{Each}
 use Rattle.receipts.specs.Receipts.{HasPart, HaveParts}
-use Rattle.finishing.specs.Finishing.{IsLinked}
+use Rattle.turns.specs.Finishing.{IsLinked}
 use Rattle.turns.specs.Logs.{IsNoLess, log_of}
 use Rattle.workers.proofs.Told.{all_linked, all_no_less, nothing_open, timed}
 use Rattle.workers.proofs.closing.close.Goals as goal

@@ -1,6 +1,6 @@
 use Rattle.std.proofs.Common.{◌++◌, map, refl, subst, sym, ap, arith, ◌∙◌}
 use Rattle.plant.specs.Shown.{Shown}
-use Rattle.finishing.specs.Finishing.{IsFinish}
+use Rattle.turns.specs.Finishing.{IsFinish}
 use Rattle.workers.specs.declared.closed.Closed.{Closed}
 use Rattle.workers.proofs.Left.{is_full_at, quiet_from_start, still_closed}
 use Rattle.workers.proofs.leaving.leave.Goals.{in-Ok, in-Err}

@@ -1,3 +1,0 @@
-pub mod Finishing
-pub mod FinishSteps
-pub mod Open

@@ -1,4 +1,0 @@
-pub mod LowBytes
-pub mod Reading
-pub mod Rows
-pub mod Words

@@ -1,0 +1,101 @@
+use Rattle.std.proofs.Common.{◌≡◌, ◌∙◌, ◌+◌, ◌≤◌, ◌∷◌, length, refl, ap, sym, subst}
+use Rattle.transact.specs.Attempts.{ReportParts}
+use Rattle.plantevents.specs.declared.event.Event.{Event}
+use Rattle.plantevents.specs.declared.event.Event.TheVariants.{Done}
+use Rattle.plantevents.specs.Parts.{placed}
+use Rattle.plant.specs.Matches.{IsOpenTransaction}
+use Rattle.plant.specs.Shown.{Shown, grown}
+use Rattle.receipts.specs.Receipts.{ShareParts, needs, whole}
+use Rattle.plantlock.proofs.Ending.{hand_shown, transaction_open, room_of_done}
+use Rattle.plantlock.proofs.Fitting.{tied_still, same_when, place_below, place_small}
+use Rattle.plantlock.proofs.Noted.{noted_after, noted_as}
+use Rattle.plantlock.proofs.Refusing.{bus_known}
+use Rattle.plantlock.proofs.tied.TiedPlant.done.Goals as goal
+
+pub meet-requires : goal.meet-requires
+meet-requires g c = record { tied = (c.self.inside.plant, c.self.invariant.1) }
+
+pub invariant_of-self : goal.invariant_of-self
+invariant_of-self g c = (
+  c.meet.ensures.cells ∙ c.self.invariant.0,
+  tied_still g.J.Basis.cells g.J.Basis.start c.self.inside.plant c.done.new.self _ _ _ _ c.in-Err.ensures.err.0
+      (ap g.K.Tallies.number c.meet.ensures.numbers) c.meet.ensures.newest c.self.invariant.1,
+)
+
+pub returns-in-Err : goal.returns-in-Err
+returns-in-Err g c =
+    let p = c.self.inside.plant in
+    let share = c.args.share.now in
+    record {
+      event = tt;
+      noted = tt;
+      stranger = subst (λ (q : Shown). IsOpenTransaction q c.args.bus c.args.number c.args.report.transaction → ⊥)
+          c.self.view_is c.in-Err.ensures.stranger;
+      err = (c.in-Err.ensures.err.0 ∙ c.self.view_is, c.meet.ensures.same, c.in-Err.ensures.err.1);
+      «open» = λ shows. absurd (c.in-Err.ensures.stranger (transaction_open p (whole share) c.args.bus
+          c.args.number c.args.report.transaction
+          (bus_known g.J.Basis.start p _ c.args.bus c.requires.role c.meet.ensures.known c.self.invariant.1.same_plant)
+          (hand_shown p share c.args.bus c.requires.role (c.meet.ensures.agree p c.self.invariant.1).0
+          (c.what_a_part_shows.ensures.hand c.args.bus p.history)) shows));
+    }
+
+pub file-requires : goal.file-requires
+file-requires g c =
+    let p = c.self.inside.plant in
+    let share = c.args.share.now in
+    let index = c.len-index.result in
+    let filed = Done c.args.bus c.args.number c.unwrap-noted.result in
+    let event = Done c.args.bus c.args.number c.args.report in
+    record {
+      cells = (
+        c.meet.ensures.cells ∙ c.self.invariant.0,
+        place_below _ p c.done.new.self event index _ c.in-Ok.ensures.grown c.len-index.ensures.value
+            c.self.invariant.1.enough c.len-within.ensures.within,
+      );
+      small = place_small p c.done.new.self event index _ c.in-Ok.ensures.grown c.len-index.ensures.value
+          c.limit-most.ensures.most c.len-within.ensures.within;
+      tied = (
+        p,
+        sym c.len-index.ensures.value,
+        tied_still g.J.Basis.cells g.J.Basis.start p p _ _ _ _ refl (ap g.K.Tallies.number c.meet.ensures.numbers)
+            c.meet.ensures.newest c.self.invariant.1,
+      );
+      role = sym (ap (λ (s : ShareParts). s.role) c.meet.ensures.same ∙ c.requires.role);
+      room = subst (λ (s : ShareParts). needs s.role (placed index filed ∷ whole s) s.reserved + 1 ≤ s.room)
+          (sym c.meet.ensures.same)
+          (room_of_done p share index c.args.bus _ c.args.number c.args.report.transaction _ c.requires.role
+          (hand_shown p share c.args.bus c.requires.role (c.meet.ensures.agree p c.self.invariant.1).0
+          (c.what_a_part_shows.ensures.hand c.args.bus p.history))
+          c.in-Ok.ensures.open c.meet.ensures.enough);
+    }
+
+pub invariant_of-self-2 : goal.invariant_of-self-2
+invariant_of-self-2 g c =
+    let p = c.self.inside.plant in
+    let filed = Done c.args.bus c.args.number c.unwrap-noted.result in
+    let noted : filed ≡ Done c.args.bus c.args.number c.args.report =
+    ap (λ (r : ReportParts). Done c.args.bus c.args.number r) (rw c.unwrap-noted.ensures at c.clone.ensures.cases) in (
+      c.file.ensures.cells ∙ c.meet.ensures.cells ∙ c.self.invariant.0,
+      tied_still g.J.Basis.cells g.J.Basis.start (grown p filed) c.done.new.self _ _ _ _
+          (c.in-Ok.ensures.grown ∙ ap (λ (e : Event). grown p e) (sym noted)) refl refl
+          (c.file.ensures.tied p (sym c.len-index.ensures.value)
+          (tied_still g.J.Basis.cells g.J.Basis.start p p _ _ _ _ refl
+          (ap g.K.Tallies.number c.meet.ensures.numbers) c.meet.ensures.newest c.self.invariant.1)),
+    )
+
+pub returns : goal.returns
+returns g c =
+    let share = c.args.share.now in
+    let event = Done c.args.bus c.args.number c.args.report in
+    let filed = Done c.args.bus c.args.number c.unwrap-noted.result in
+    let noted : filed ≡ Done c.args.bus c.args.number c.args.report =
+    ap (λ (r : ReportParts). Done c.args.bus c.args.number r) (rw c.unwrap-noted.ensures at c.clone.ensures.cases) in
+    record {
+      event = c.in-Ok.ensures.grown ∙ ap (λ (q : Shown). grown q event) c.self.view_is;
+      noted = noted_after _ event share c.meet.new.share c.file.new.share (same_when _ _ c.meet.ensures.same)
+          (noted_as c.len-index.result _ filed event c.meet.new.share c.file.new.share
+          (c.len-index.ensures.value ∙ ap (λ (q : Shown). length q.history) c.self.view_is) noted c.file.ensures.noted);
+      stranger = tt;
+      err = tt;
+      «open» = λ _. refl;
+    }

@@ -1,0 +1,124 @@
+use Rattle.std.proofs.Common.{◌≡◌, ◌+◌, ◌*◌, Bool, ◌∙◌, ap, refl, sym, subst}
+use Rattle.plantevents.specs.Parts.{placed, part}
+use Rattle.receipts.specs.Receipts.{ShareParts, seat_of, reserved_after}
+use Rattle.receipts.specs.Tokens.{one_if}
+use Rattle.receipts.proofs.Noting.{not_later, twice_fits, was_fits, next_fits, next_twice_fits, is_fits, offset_fits}
+use Rattle.receipts.proofs.Noting.{grows, grown, others_stay, has_room, one_more, room_inside, room_left}
+use Rattle.receipts.proofs.Noting.{is_noted, noted_held}
+use Rattle.receipts.proofs.share.Share.note.Goals as goal
+
+pub overflow_mul-was : goal.overflow_mul-was
+overflow_mul-was g c =
+    twice_fits c.args.index c.self.inside.reach (one_if c.self.inside.reserved) c.requires.small
+    (not_later (g.K.Tallies.number c.args.numbers.now) g.J.Basis.cells (g.T.Seated.seat c.self.inside.tie)
+    (g.T.Seated.amount c.self.inside.tie) c.args.index c.self.inside.reach (one_if c.self.inside.reserved)
+    c.self.inside.newest _ c.args.self.now c.self.view_is c.audit.ensures.same c.self.invariant.seated
+    c.self.invariant.says refl c.requires.order)
+
+pub overflow_add-was : goal.overflow_add-was
+overflow_add-was g c =
+    was_fits c.args.index c.self.inside.reach c.one_if.result c.requires.small
+    (not_later (g.K.Tallies.number c.args.numbers.now) g.J.Basis.cells (g.T.Seated.seat c.self.inside.tie)
+    (g.T.Seated.amount c.self.inside.tie) c.args.index c.self.inside.reach c.one_if.result c.self.inside.newest _
+    c.args.self.now c.self.view_is c.audit.ensures.same c.self.invariant.seated c.self.invariant.says c.one_if.ensures
+    c.requires.order)
+
+pub overflow_add-self : goal.overflow_add-self
+overflow_add-self g c = next_fits c.args.index c.requires.small
+
+pub overflow_mul-is : goal.overflow_mul-is
+overflow_mul-is g c = next_twice_fits c.args.index c.requires.small
+
+pub overflow_add-is : goal.overflow_add-is
+overflow_add-is g c =
+    is_fits c.args.index c.one_if-2.result c.reserved_after-self-inside.result c.requires.small c.one_if-2.ensures
+
+pub overflow_sub-is : goal.overflow_sub-is
+overflow_sub-is g c =
+    grows (2 * c.self.inside.reach + c.one_if.result) c.args.index c.one_if-2.result
+    (not_later (g.K.Tallies.number c.args.numbers.now) g.J.Basis.cells (g.T.Seated.seat c.self.inside.tie)
+    (g.T.Seated.amount c.self.inside.tie) c.args.index c.self.inside.reach c.one_if.result c.self.inside.newest _
+    c.args.self.now c.self.view_is c.audit.ensures.same c.self.invariant.seated c.self.invariant.says c.one_if.ensures
+    c.requires.order)
+
+pub push_reserved-requires : goal.push_reserved-requires
+push_reserved-requires g c =
+    has_room _ _ _ _ (ap (λ (s : ShareParts). s.room) c.self.view_is) c.requires.room
+
+pub offset_bounds-cells-index : goal.offset_bounds-cells-index
+offset_bounds-cells-index g c = offset_fits c.args.index c.requires.small
+
+pub bounds-cells-index : goal.bounds-cells-index
+bounds-cells-index g c = c.requires.index
+
+pub invariant_of-self : goal.invariant_of-self
+invariant_of-self g c = record {
+  known = c.self.invariant.known;
+  seated = c.add.ensures.seat ∙ ap g.T.Seated.seat c.audit.ensures.tie ∙ c.self.invariant.seated;
+  says = record {
+    numbered =
+        grown (g.T.Seated.amount c.self.inside.tie) (g.T.Seated.amount c.audit.new.tie) c.self.inside.reach
+        c.args.index c.one_if.result c.one_if-2.result (g.T.Seated.amount c.add.new.tie) c.self.inside.reserved
+        c.reserved_after-self-inside.result (ap g.T.Seated.amount c.audit.ensures.tie)
+        c.self.invariant.says.numbered c.one_if.ensures c.one_if-2.ensures
+        (grows (2 * c.self.inside.reach + c.one_if.result) c.args.index c.one_if-2.result
+        (not_later (g.K.Tallies.number c.args.numbers.now) g.J.Basis.cells (g.T.Seated.seat c.self.inside.tie)
+        (g.T.Seated.amount c.self.inside.tie) c.args.index c.self.inside.reach c.one_if.result c.self.inside.newest _
+        c.args.self.now c.self.view_is c.audit.ensures.same c.self.invariant.seated c.self.invariant.says
+        c.one_if.ensures c.requires.order))
+        c.add.ensures.amount;
+    held =
+        noted_held c.args.cells.now g.J.Basis.cells c.args.index c.index-cells-index.result c.again.result _
+        c.requires.cells c.requires.index c.index-cells-index.is (c.again.ensures.0 ∙ c.write-token.ensures.of)
+        (c.again.ensures.1 ∙ c.write-token.ensures.value ∙ c.of-2.ensures);
+  };
+  enough =
+      room_left c.self.inside.role (part c.self.inside.role g.J.Basis.start.history) c.self.inside.receipts.items
+      c.push_reserved.new.self.items (placed c.args.index c.args.event) c.reserved_after-self-inside.result _ _ _ _
+      (one_more c.self.inside.receipts.items c.push_reserved.new.self.items c.of.result
+      (placed c.args.index c.args.event) c.push_reserved.ensures.items c.of.ensures)
+      (room_inside c.args.event (placed c.args.index c.args.event) c.reserved_after-self-inside.result _
+      c.args.self.now c.self.view_is c.reserved_after-self-inside.ensures c.requires.room)
+      c.push_reserved.ensures.len c.push_reserved.ensures.capacity;
+}
+
+pub returns-clause-noted : goal.returns-clause-noted
+returns-clause-noted g c =
+    is_noted c.args.index c.args.event _ c.args.self.now _ c.self.view_is refl
+    (one_more c.self.inside.receipts.items c.push_reserved.new.self.items c.of.result
+    (placed c.args.index c.args.event) c.push_reserved.ensures.items c.of.ensures)
+    refl c.reserved_after-self-inside.ensures
+
+pub returns-clause-held : goal.returns-clause-held
+returns-clause-held g c =
+    noted_held c.args.cells.now g.J.Basis.cells c.args.index c.index-cells-index.result c.write-token.result _
+    c.requires.cells c.requires.index c.index-cells-index.is c.write-token.ensures.of
+    (c.write-token.ensures.value ∙ c.of-2.ensures)
+
+pub returns-clause-mine : goal.returns-clause-mine
+returns-clause-mine g c =
+    subst (λ (s : ShareParts).
+    g.K.Tallies.number c.add.new.self (seat_of s.role)
+    ≡ 2 * (c.args.index + 1) + one_if (reserved_after c.args.event s.reserved)) c.self.view_is
+    (ap (g.K.Tallies.number c.add.new.self)
+    (sym (ap g.T.Seated.seat c.audit.ensures.tie ∙ c.self.invariant.seated))
+    ∙ grown (g.T.Seated.amount c.self.inside.tie) (g.T.Seated.amount c.audit.new.tie) c.self.inside.reach
+    c.args.index c.one_if.result c.one_if-2.result
+    (g.K.Tallies.number c.add.new.self (g.T.Seated.seat c.audit.new.tie)) c.self.inside.reserved
+    c.reserved_after-self-inside.result (ap g.T.Seated.amount c.audit.ensures.tie) c.self.invariant.says.numbered
+    c.one_if.ensures c.one_if-2.ensures
+    (grows (2 * c.self.inside.reach + c.one_if.result) c.args.index c.one_if-2.result
+    (not_later (g.K.Tallies.number c.args.numbers.now) g.J.Basis.cells (g.T.Seated.seat c.self.inside.tie)
+    (g.T.Seated.amount c.self.inside.tie) c.args.index c.self.inside.reach c.one_if.result c.self.inside.newest _
+    c.args.self.now c.self.view_is c.audit.ensures.same c.self.invariant.seated c.self.invariant.says
+    c.one_if.ensures c.requires.order))
+    c.add.ensures.mine
+    ∙ ap (λ (b : Bool). 2 * (c.args.index + 1) + one_if b) c.reserved_after-self-inside.ensures)
+
+pub returns-clause-others : goal.returns-clause-others
+returns-clause-others g c =
+    others_stay (g.K.Tallies.number c.add.new.self) (g.K.Tallies.number c.audit.new.self)
+    (g.K.Tallies.number c.args.numbers.now) (g.T.Seated.seat c.audit.new.tie) (seat_of c.args.self.now.role)
+    (ap g.T.Seated.seat c.audit.ensures.tie ∙ c.self.invariant.seated
+    ∙ ap (λ (s : ShareParts). seat_of s.role) c.self.view_is)
+    c.add.ensures.others (λ k. ap (λ (b : g.row.K.Denot). g.K.Tallies.number b k) c.audit.ensures.books)
