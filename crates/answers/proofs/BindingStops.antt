@@ -3,7 +3,7 @@ use Rattle.std.proofs.Common.{◌≡◌, ◌↔◌, Result, Err, ℕ, List, Some
 use Rattle.std.specs.Str.Lines.{lines}
 use Rattle.wordlines.specs.declared.fault.LineCause.TheVariants.{BadLine, TooLong}
 use Rattle.wordlines.specs.declared.fault.LineFault.TheVariants as bind_faults
-use Rattle.binding.specs.Bindings.{BindFault, IsBadBinding, IsTooLong, BindsSome}
+use Rattle.wordlines.specs.Bindings.{BindFault, IsBadBinding, IsTooLong, BindsSome}
 use Rattle.answers.specs.declared.stop.Stop.{Stop}
 use Rattle.answers.specs.Connected.{IsBindingStop}
 use Rattle.answers.specs.Stops.{of_binding}

@@ -7,10 +7,10 @@ use Rattle.std.proofs.lemmas.List.Elements.{All-nil, All-append, All-cons}
 use Rattle.iltypes.specs.declared.value.IlType.{IlType}
 use Rattle.iltypes.specs.declared.value.Value.{Value}
 use Rattle.iltypes.specs.Values.{AreOf}
-use Rattle.binding.specs.Wirings.{Wiring}
+use Rattle.wordlines.specs.Wirings.{Wiring}
 use Rattle.gearcmd.specs.declared.requests.Request.{Request}
 use Rattle.ilblocks.specs.Stores.{Lasting, Store, store_at}
-use Rattle.ilsource.specs.Trees.{Tree}
+use Rattle.ilsource.specs.SourceTrees.{Tree}
 use Rattle.ilplan.specs.declared.slot.Slot.{Slot}
 use Rattle.ilplan.specs.Plans.{Planned, PlannedTask, KeepsLimits, first_values, types_of}
 use Rattle.ilsyms.specs.Meaning.{source_scan}
@@ -22,9 +22,9 @@ use Rattle.ilcompile.specs.Meant.{IsMeant}
 use Rattle.ilcompile.proofs.Meant.{is_meant}
 use Rattle.ilverify.specs.Verdicts.{Accepted}
 use Rattle.ilmachine.specs.Scans.{IsScan}
-use Rattle.ilsetup.specs.Loaded.{AreCodes, IsCodeOf, Loaded}
+use Rattle.ilcompile.specs.Loaded.{AreCodes, IsCodeOf, Loaded}
 use Rattle.plantload.specs.Loading.{IsPlanOfText, IsSetup}
-use Rattle.ilsetup.proofs.CodeLemmas.{code_at}
+use Rattle.ilcompile.proofs.CodeLemmas.{code_at}
 use Rattle.answers.specs.Taking.{Taking}
 use Rattle.answers.specs.Answered.{IsFirstCalled, IsStepped, ScansMean}
 use Rattle.answers.specs.Stepping.{ScansTo, AreScansOf, HasTask, lasting_at_first, run_of}

@@ -6,8 +6,8 @@ use Rattle.ilblocks.specs.Stores.{Lasting, Store, lasting_of, store_at}
 use Rattle.ilplan.specs.Plans.{Planned, PlannedTask}
 use Rattle.ilcode.proofs.RunPaths.{one_end}
 use Rattle.ilverify.specs.Verdicts.{Accepted}
-use Rattle.binding.specs.Wirings.{Wiring}
-use Rattle.ilsetup.specs.Loaded.{Loaded}
+use Rattle.wordlines.specs.Wirings.{Wiring}
+use Rattle.ilcompile.specs.Loaded.{Loaded}
 use Rattle.plantload.specs.Loading.{IsLoadFault, IsPlanOfText}
 use Rattle.plantload.specs.declared.fault.LoadFault.{LoadFault}
 use Rattle.plantload.specs.declared.fault.LoadFault.TheVariants as load_faults

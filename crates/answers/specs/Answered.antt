@@ -3,16 +3,16 @@
 use Rattle.std.specs.Prelude.{◌≡◌, ℕ, zero, suc, ◌*◌, ◌<◌, ◌≤◌, List, [], ◌∷◌, ◌++◌, length, map, All, IfSome}
 use Rattle.std.specs.Prelude.{Result, Ok, Err, Some, slice_get, ⊤}
 use Rattle.std.specs.Char.{to_ascii_lowercase}
-use Rattle.binding.specs.Wirings.{Wiring}
+use Rattle.wordlines.specs.Wirings.{Wiring}
 use Rattle.gearcmd.specs.declared.requests.Request.{Request}
 use Rattle.ilblocks.specs.Stores.{Store, Lasting, lasting_of, store_at, blocks_at_first}
-use Rattle.ilsource.specs.Trees.{Tree}
+use Rattle.ilsource.specs.SourceTrees.{Tree}
 use Rattle.ilplan.specs.Plans.{Planned, first_values}
 use Rattle.ilsyms.specs.Meaning.{source_scan}
 use Rattle.ilsyms.specs.Resolved.{planned_task}
 use Rattle.ilsyms.specs.Tasks.{SourceTask, tasks_of}
 use Rattle.ilsyms.specs.Variables.{blocks_of}
-use Rattle.ilsetup.specs.Loaded.{Loaded}
+use Rattle.ilcompile.specs.Loaded.{Loaded}
 use Rattle.plantload.specs.Loading.{IsLoadFault, IsPlanOfText, IsSetup}
 use Rattle.plantload.specs.declared.fault.LoadFault.{LoadFault}
 use Rattle.plantload.specs.declared.fault.LoadFault.TheVariants as load_faults

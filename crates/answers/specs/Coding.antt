@@ -1,13 +1,13 @@
 -- The code file of a task of a text, and what is answered to bytes that may be a code file (profile).
 use Rattle.std.specs.Prelude.{◌≡◌, ℕ, List, length, Some, slice_get, ⊤}
-use Rattle.binding.specs.Wirings.{Wiring}
+use Rattle.wordlines.specs.Wirings.{Wiring}
 use Rattle.ilcode.specs.Listings.{Listing}
 use Rattle.ilcode.specs.Paths.{IsBound}
 use Rattle.codefile.specs.Faults.{IsFirst, IsShaped}
 use Rattle.codefile.specs.Files.{HasFile, file}
 use Rattle.ilverify.specs.Certificates.{IsAccepted, IsRefusal}
 use Rattle.ilverify.specs.Verdicts.{Accepted as AcceptedCode}
-use Rattle.ilsetup.specs.Loaded.{Loaded}
+use Rattle.ilcompile.specs.Loaded.{Loaded}
 use Rattle.answers.specs.Answered.{IsFound}
 use Rattle.answers.specs.declared.code_answer.CodeAnswer.{CodeAnswer}
 use Rattle.answers.specs.declared.code_answer.CodeAnswer.TheVariants.{Accepted, Faulty, Memory, Refused}

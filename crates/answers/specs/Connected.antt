@@ -3,8 +3,8 @@ use Rattle.std.specs.Prelude.{◌≡◌, ℕ, List, Option, Some, None}
 use Rattle.std.specs.Str.Lines.{lines}
 use Rattle.wordlines.specs.declared.fault.LineCause.TheVariants.{BadLine, TooLong}
 use Rattle.wordlines.specs.declared.fault.LineFault.TheVariants as bind_faults
-use Rattle.binding.specs.Bindings.{IsBinding, IsBadBinding, IsTooLong, BindsSome}
-use Rattle.binding.specs.Wirings.{Wiring, one_bus}
+use Rattle.wordlines.specs.Bindings.{IsBinding, IsBadBinding, IsTooLong, BindsSome}
+use Rattle.wordlines.specs.Wirings.{Wiring, one_bus}
 use Rattle.answers.specs.declared.stop.Stop.{Stop}
 use Rattle.answers.specs.declared.stop.Stop.TheVariants as stops
 

@@ -1,6 +1,6 @@
 -- What an inquiry is answered (profile): the fault of the binding, else of the text, else what was asked for.
 use Rattle.std.specs.Prelude.{ℕ, ◌⊎◌, List, Option}
-use Rattle.binding.specs.Wirings.{Wiring}
+use Rattle.wordlines.specs.Wirings.{Wiring}
 use Rattle.plantload.specs.Loading.{IsSetup}
 use Rattle.answers.specs.declared.answers.Answer.{Answer}
 use Rattle.answers.specs.declared.answers.Answer.TheVariants as answers

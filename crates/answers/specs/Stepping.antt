@@ -6,7 +6,7 @@ use Rattle.ilblocks.specs.Stores.{Store, Lasting, lasting_of, store_at, blocks_a
 use Rattle.ilplan.specs.Plans.{PlannedTask, first_values, kinds_of}
 use Rattle.ilverify.specs.Verdicts.{Accepted}
 use Rattle.ilmachine.specs.Scans.{IsScan}
-use Rattle.ilsetup.specs.Loaded.{Loaded}
+use Rattle.ilcompile.specs.Loaded.{Loaded}
 use Rattle.answers.specs.Taking.{Taking}
 
 -- a scan of the code from this at this moment leaves that, with its steps and its requests

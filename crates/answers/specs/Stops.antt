@@ -1,8 +1,8 @@
 -- What stands against running a text, by the fault that it comes from, and the line that is printed of it (profile).
 use Rattle.std.specs.Prelude.{ℕ, List, ◌++◌, codes}
-use Rattle.binding.specs.Bindings.{BindFault}
+use Rattle.wordlines.specs.Bindings.{BindFault}
 use Rattle.wordlines.specs.declared.fault.LineFault.TheVariants as bind_faults
-use Rattle.binding.specs.Printed.{printed_bind_fault}
+use Rattle.wordlines.specs.Printed.{printed_bind_fault}
 use Rattle.plantload.specs.declared.fault.LoadFault.{LoadFault}
 use Rattle.plantload.specs.declared.fault.LoadFault.TheVariants as load_faults
 use Rattle.plantload.specs.PrintedFaults.{printed_load_fault}

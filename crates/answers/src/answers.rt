@@ -5,7 +5,7 @@ ghost use Rattle.std.specs.Prelude.{MatchOption};
 ghost use Rattle.iltypes.specs.Values.{AreOf};
 ghost use Rattle.ilplan.specs.Plans.{KeepsLimits, first_values, types_of};
 ghost use Rattle.std.specs.Option.{option_copied};
-ghost use Rattle.ilsetup.specs.Loaded.{Loaded};
+ghost use Rattle.ilcompile.specs.Loaded.{Loaded};
 ghost use Rattle.plantload.specs.Loading.{IsSetup};
 ghost use Rattle.answers.specs.Answered.{IsCheckStop, IsChecked, IsFirstCalled, IsFound, IsStep};
 ghost use Rattle.answers.specs.Answered.{IsStepStop, IsStepped, NoneIsCalled, IsStopOrMemory};
@@ -18,12 +18,12 @@ use crate::scans;
 use crate::scans::Scans;
 use crate::stepped::Stepped;
 use crate::stop::{AskedName, Stop};
-use binding::Binding;
+use ilcompile::Setup;
 use ilplan::Plan;
-use ilsetup::Setup;
 use invocations::Inquiry;
 use plantload::{load, plan_of, setup_of};
 use std::alloc::{AllocError, Global};
+use wordlines::Binding;
 
 /// What an inquiry is answered.
 #[derive(Drop)]

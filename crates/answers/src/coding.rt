@@ -7,11 +7,11 @@ ghost use Rattle.answers.specs.Coding.{IsCodeAnswer, IsCodeFile, IsVerdict};
 use crate::answers::find_task;
 use crate::code_answer::CodeAnswer;
 use crate::stop::Stop;
-use binding::Binding;
 use codefile::{FileFault, decode, encode};
 use ilcode::Code;
 use ilverify::{VerifyError, verify};
 use std::alloc::Global;
+use wordlines::Binding;
 
 /// The code file of the first task of a name, in any letter case.
 ///

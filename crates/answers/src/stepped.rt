@@ -5,8 +5,8 @@ ghost use Rattle.std.specs.Prelude.{◌≡◌, ◌<◌, length, slice_get, Some,
 use crate::lines::{ScanLine, TaskLine, VariableLine};
 use crate::scans::{Scans, Taken};
 use gearcmd::{Request, TaskKind};
+use ilcompile::Setup;
 use ilimage::Snapshot;
-use ilsetup::Setup;
 use std::marker::Model;
 
 /// Scans of one task of a setup.
@@ -24,9 +24,9 @@ impl Model for Stepped {
     ghost use Rattle.std.specs.Prelude.{List};
     ghost use Rattle.std.specs.Coded.{codes, code_by};
     ghost use Rattle.ilplan.specs.declared.place.Place.{Place};
-    ghost use Rattle.iltrees.specs.declared.nested.Piece.{Piece};
-    ghost use Rattle.iltrees.specs.Trees.{pieces_of};
-    ghost use Rattle.iltrees.specs.TreeSteps.{tree_of, tree_again};
+    ghost use Rattle.ilsource.specs.declared.nested.Piece.{Piece};
+    ghost use Rattle.ilsource.specs.Trees.{pieces_of};
+    ghost use Rattle.ilsource.specs.TreeSteps.{tree_of, tree_again};
     ghost use Rattle.answers.specs.Stepping.{HasTask, Run, run_of};
 
     ghost Value = { Run };

@@ -1,11 +1,11 @@
 //! Why a text isn't run.
 
-use binding::BindFault;
 use plantload::LoadFault;
 use std::alloc::{AllocError, AllocFailed, Global};
 use std::error::Error;
 use std::fmt;
 use std::marker::Model;
+use wordlines::BindFault;
 
 /// A name that a user gave for a task.
 #[derive(Drop)]

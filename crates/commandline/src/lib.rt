@@ -14,9 +14,9 @@
 #![tactic(auto)]
 
 mod builders;
-mod coding;
 mod options;
-mod questions;
+mod tables;
+mod words;
 
 pub use invocations::{Files, Inquiry, Invocation, PlayFiles, Question, RunSize};
 pub use options::read;

@@ -1,15 +1,15 @@
 -- What a play leaves, from what it started with.
 use Rattle.std.proofs.Common.{◌≡◌, ℕ, List, ap, ◌∙◌}
-use Rattle.binding.specs.Wirings.{Wiring}
-use Rattle.scenario.specs.declared.statements.Statement.{Statement}
+use Rattle.wordlines.specs.Wirings.{Wiring}
+use Rattle.wordlines.specs.declared.statements.Statement.{Statement}
 use Rattle.simbus.specs.Simulated.{Simulated}
-use Rattle.ilsetup.specs.Loaded.{Loaded}
+use Rattle.ilcompile.specs.Loaded.{Loaded}
 use Rattle.plantevents.specs.declared.event.Event.{Event}
 use Rattle.plantevents.specs.Plants.{Plant}
 use Rattle.plantevents.specs.Legal.{AreLegal}
 use Rattle.plant.specs.Shown.{Shown}
 use Rattle.plantload.specs.Loading.{IsSetup}
-use Rattle.plantdrive.specs.Texts.{AreAsMeant}
+use Rattle.plantplay.specs.Texts.{AreAsMeant}
 use Rattle.plantplay.specs.Installations.{sim_log}
 use Rattle.plantplay.specs.Playing.{IsEnding, IsPlay, lines_of}
 use Rattle.plantplay.specs.declared.installation.Installation.{Installation}

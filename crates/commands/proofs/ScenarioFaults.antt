@@ -1,10 +1,10 @@
 -- What bytes come to as a scenario, as one fact.
 use Rattle.std.proofs.Common.{◌≡◌, ◌↔◌, Result, Ok, Err, ℕ, List, refl}
 use Rattle.std.specs.Str.Lines.{lines}
-use Rattle.scenario.specs.declared.statements.Statement.{Statement}
+use Rattle.wordlines.specs.declared.statements.Statement.{Statement}
 use Rattle.wordlines.specs.declared.fault.LineCause.TheVariants.{BadLine, TooLong}
 use Rattle.wordlines.specs.declared.fault.LineFault.TheVariants.{Memory, At}
-use Rattle.scenario.specs.Scenarios.{ScenarioFault, IsScenario, IsBadScenario, IsTooLong, AddsSome, IsJudged}
+use Rattle.wordlines.specs.Scenarios.{ScenarioFault, IsScenario, IsBadScenario, IsTooLong, AddsSome, IsJudged}
 
 pub judged : (bytes : List ℕ) (r : Result (List Statement) ScenarioFault)
     → ((statements : List Statement) → r ≡ Ok statements → IsScenario bytes statements)

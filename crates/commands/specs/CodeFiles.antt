@@ -4,7 +4,7 @@
 use Rattle.std.specs.Prelude.{◌≡◌, ℕ, List, Option, ◌⊎◌, ⊤}
 use Rattle.std.specs.Io.KnownBytes.{Appends}
 use Rattle.std.specs.Option.{option_copied}
-use Rattle.binding.specs.Wirings.{Wiring}
+use Rattle.wordlines.specs.Wirings.{Wiring}
 use Rattle.invocations.specs.declared.files.Files.{Files}
 use Rattle.answers.specs.Answered.{IsStepStop, IsStopOrMemory}
 use Rattle.answers.specs.Connected.{IsBindingStop, IsConnected}

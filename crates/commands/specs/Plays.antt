@@ -1,14 +1,14 @@
 -- What a scenario is played from, or what stands against that: the fault of the binding, else of the text, else of the
 -- scenario, else why the plant does not start (profile).
 use Rattle.std.specs.Prelude.{◌≡◌, ℕ, ◌⊎◌, List, Some, Err, ⊤}
-use Rattle.binding.specs.Wirings.{Wiring}
-use Rattle.ilsetup.specs.Loaded.{Loaded}
+use Rattle.wordlines.specs.Wirings.{Wiring}
+use Rattle.ilcompile.specs.Loaded.{Loaded}
 use Rattle.plantload.specs.Loading.{IsSetup}
-use Rattle.scenario.specs.declared.statements.Statement.{Statement}
-use Rattle.scenario.specs.Scenarios.{IsScenario, IsJudged}
+use Rattle.wordlines.specs.declared.statements.Statement.{Statement}
+use Rattle.wordlines.specs.Scenarios.{IsScenario, IsJudged}
 use Rattle.simbus.specs.Simulated.{Simulated}
 use Rattle.plantevents.specs.Legal.{AreLegal}
-use Rattle.plantdrive.specs.Texts.{AreAsMeant}
+use Rattle.plantplay.specs.Texts.{AreAsMeant}
 use Rattle.plantplay.specs.Installations.{IsInstallation, IsStartFault, sim_log}
 use Rattle.plantplay.specs.Playing.{IsAtRest, IsEnding, lines_of}
 use Rattle.plantplay.specs.declared.installation.Installation.{Installation}

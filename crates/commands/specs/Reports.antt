@@ -8,7 +8,7 @@ use Rattle.gearcmd.specs.declared.requests.TaskKind.{TaskKind}
 use Rattle.iltypes.specs.declared.value.Value.{Value}
 use Rattle.ilplan.specs.declared.slot.SlotOwner.{SlotOwner}
 use Rattle.ilplan.specs.Plans.{Planned, instance_name, slot_at, task_kind, variable_name}
-use Rattle.ilsetup.specs.Loaded.{Loaded}
+use Rattle.ilcompile.specs.Loaded.{Loaded}
 use Rattle.answers.specs.declared.answers.Answer.{Answer}
 use Rattle.answers.specs.declared.answers.Answer.TheVariants as answers
 use Rattle.invocations.specs.declared.inquiries.Inquiry.{Inquiry}

@@ -1,9 +1,9 @@
 -- What a run leaves, and how the program ends then (profile). What stands against a run is what stands against a play.
 use Rattle.std.specs.Prelude.{◌≡◌, ℕ, ◌⊎◌, List}
-use Rattle.ilsetup.specs.Loaded.{Loaded}
+use Rattle.ilcompile.specs.Loaded.{Loaded}
 use Rattle.simbus.specs.ScriptedTicks.{ScriptedTicks}
 use Rattle.simbus.specs.Simulated.{Simulated}
-use Rattle.plantdrive.specs.Texts.{AreAsMeant}
+use Rattle.plantplay.specs.Texts.{AreAsMeant}
 use Rattle.plantrun.specs.Downs.{has_down}
 use Rattle.plantrun.specs.Runs.{IsRun}
 use Rattle.workers.specs.declared.closed.Closed.{Closed}

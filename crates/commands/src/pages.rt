@@ -1,14 +1,14 @@
 //! The files of a scenario that is played or run: they are read, and judged.
 
 ghost use Rattle.std.specs.Prelude.{IfErr, IfOk};
-ghost use Rattle.scenario.specs.Scenarios.{IsJudged};
+ghost use Rattle.wordlines.specs.Scenarios.{IsJudged};
 ghost use Rattle.commands.specs.Plays.{AreGiven, IsSetupOf, IsTextStop, IsUnplayed};
 
 use crate::reading::Disk;
 use crate::serving::{Unserved, bytes_at};
 use answers::{Stop, binding_of, check};
 use commandline::PlayFiles;
-use ilsetup::Setup;
+use ilcompile::Setup;
 use simbus::{Scenario, ScenarioFault, parse};
 use std::alloc::Global;
 use std::marker::Model;

@@ -8,7 +8,7 @@ ghost use Rattle.commands.specs.Reports.{printed_answer, scan_lines, task_line, 
 use answers::{Answer, Stepped, task_line};
 use exits::ExitStatus;
 use gearcmd::RequestLine;
-use ilsetup::Setup;
+use ilcompile::Setup;
 use std::alloc::Global;
 use std::io;
 use std::io::{BufWriter, Write};

@@ -9,7 +9,7 @@ use crate::reading::Disk;
 use crate::serving::Unserved;
 use commandline::{PlayFiles, RunSize};
 use exits::{ExitStatus, PlayStop};
-use plantdrive::scans_are_as_meant;
+use plantplay::scans_are_as_meant;
 use plantrun::{has_down, run, write_run};
 use simbus::{ScriptedClock, SimBus};
 use std::alloc::Global;

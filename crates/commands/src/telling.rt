@@ -3,17 +3,17 @@
 use crate::reading::Disk;
 use crate::serving::{Unserved, binding_at, bytes_at};
 use answers::{AskedName, Stop, binding_of, check};
-use binding::Binding;
 use commandline::{Files, Question};
 use exits::{ExitStatus, PlayStop};
 use explaining::{explain_binding, explain_load, explain_scenario};
-use ilsetup::Setup;
+use ilcompile::Setup;
 use iltext::parse;
 use listing::{write_notes, write_task};
 use plantload::load;
 use std::alloc::Global;
 use std::io;
 use std::io::{BufWriter, Write};
+use wordlines::Binding;
 
 /// What the files hold that a question is about.
 #[derive(Drop)]

@@ -4,16 +4,14 @@ use crate::advice::{Advice, write_advice};
 use crate::marking::{line_of, write_found, write_line};
 use crate::ways::write_way;
 use crate::{code_causes, name_causes, text_causes};
-use binding::BindFault;
 use ilcompile::compile;
 use ilscope::NameFault;
 use iltext::TextFault;
 use plantload::{LoadFault, RefusedTask};
-use scenario::ScenarioFault;
 use std::alloc::Global;
 use std::io;
 use std::io::Write;
-use wordlines::LineFault;
+use wordlines::{BindFault, LineFault, ScenarioFault};
 
 /// Explains why a text isn't loaded.
 ///

@@ -3,9 +3,9 @@
 ghost use Rattle.std.specs.Prelude.{◌<◌, length};
 
 use ilcode::{Code, Word};
-use iloperators::Condition;
 use ilplan::Plan;
 use ilranges::Entry;
+use iltypes::Condition;
 use listing::{Flow, Judged, KnownText, WordText};
 use std::alloc::{AllocError, Global};
 use std::io;

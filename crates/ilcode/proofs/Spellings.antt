@@ -3,13 +3,13 @@ use Rattle.std.proofs.Common.{◌≡◌, ◌≢◌, ℕ, ◌+◌, ◌*◌, ◌/�
 use Rattle.std.proofs.Common.{arith, lit<}
 use Rattle.std.specs.Prelude.{◌==◌}
 use Rattle.std.proofs.lemmas.Bool.{both_ways, eq-eqb}
-use Rattle.iloperators.specs.declared.condition.Condition.{Condition}
-use Rattle.iloperators.specs.declared.condition.Condition.TheVariants.{Always, IfTrue, IfFalse}
-use Rattle.iloperators.specs.declared.function.Function.TheVariants.{Not, Abs, Convert}
-use Rattle.iloperators.specs.declared.function.IntegerType.{IntegerType}
-use Rattle.iloperators.specs.declared.function.IntegerType.TheVariants.{Sint, Int, Dint, Usint, Uint, Udint}
-use Rattle.iloperators.specs.declared.operator.Operator.{Operator}
-use Rattle.iloperators.specs.declared.operator.Operator.TheVariants as operators
+use Rattle.iltypes.specs.declared.condition.Condition.{Condition}
+use Rattle.iltypes.specs.declared.condition.Condition.TheVariants.{Always, IfTrue, IfFalse}
+use Rattle.iltypes.specs.declared.function.Function.TheVariants.{Not, Abs, Convert}
+use Rattle.iltypes.specs.declared.function.IntegerType.{IntegerType}
+use Rattle.iltypes.specs.declared.function.IntegerType.TheVariants.{Sint, Int, Dint, Usint, Uint, Udint}
+use Rattle.iltypes.specs.declared.operator.Operator.{Operator}
+use Rattle.iltypes.specs.declared.operator.Operator.TheVariants as operators
 use Rattle.ilcode.specs.declared.word.WordOperand.{WordOperand}
 use Rattle.ilcode.specs.declared.word.WordOperand.TheVariants as operands
 use Rattle.ilcode.specs.declared.word.Target.{Target}

@@ -8,10 +8,10 @@ use Rattle.iltypes.specs.declared.range.Range.{Range}
 use Rattle.iltypes.specs.declared.value.IlType.TheVariants as types
 use Rattle.iltypes.specs.declared.value.Value.{Value}
 use Rattle.iltypes.specs.declared.value.Value.TheVariants as values
-use Rattle.iloperators.specs.declared.condition.Condition.TheVariants.{Always, IfTrue, IfFalse}
-use Rattle.iloperators.specs.declared.function.Function.TheVariants.{Not, Convert}
-use Rattle.iloperators.specs.declared.function.IntegerType.TheVariants.{Usint}
-use Rattle.iloperators.specs.declared.operator.Operator.TheVariants.{And, Sub, Div}
+use Rattle.iltypes.specs.declared.condition.Condition.TheVariants.{Always, IfTrue, IfFalse}
+use Rattle.iltypes.specs.declared.function.Function.TheVariants.{Not, Convert}
+use Rattle.iltypes.specs.declared.function.IntegerType.TheVariants.{Usint}
+use Rattle.iltypes.specs.declared.operator.Operator.TheVariants.{And, Sub, Div}
 use Rattle.ilblocks.specs.declared.kind.BlockKind.{BlockKind}
 use Rattle.ilblocks.specs.declared.kind.BlockKind.TheVariants.{Ton, GearDo}
 use Rattle.ilblocks.specs.Stores.{Store, blocks_at_first}

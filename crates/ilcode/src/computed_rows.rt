@@ -1,7 +1,7 @@
 //! The definitions on worked codes: each clause is one, proved by computing it.
 
 ghost use Rattle.std.specs.Prelude.{[], ◌∷◌, true, false, Some, None};
-ghost use Rattle.iloperators.specs.declared.operator.Operator.TheVariants.{Sub};
+ghost use Rattle.iltypes.specs.declared.operator.Operator.TheVariants.{Sub};
 ghost use Rattle.ilcode.specs.declared.word.Word.TheVariants.{Open, Close};
 ghost use Rattle.iltypes.specs.declared.value.Value.TheVariants.{Bool as truth};
 ghost use Rattle.ilcode.specs.Rows.{Come, ComeIn, AreStuck, AreStuckAt, store_of, whole};
@@ -9,7 +9,7 @@ ghost use Rattle.ilcode.specs.Rows.{ld, ld_a, ld_b, ld_d, st_a, st_d, stn_d};
 ghost use Rattle.ilcode.specs.Rows.{deferred, quotient, converted, nested, set, reset};
 ghost use Rattle.ilcode.specs.Rows.{jump, jump_if, jump_unless, returning, jump_in_parentheses};
 ghost use Rattle.ilcode.specs.declared.word.Word.TheVariants.{Jump};
-ghost use Rattle.iloperators.specs.declared.condition.Condition.TheVariants.{IfTrue};
+ghost use Rattle.iltypes.specs.declared.condition.Condition.TheVariants.{IfTrue};
 
 /// Values: what has one, and what has none.
 fn values()

@@ -1,10 +1,10 @@
 //! Worked words, by the rows of the table: each clause is proved by computing it.
 
 ghost use Rattle.std.specs.Prelude.{true, false};
-ghost use Rattle.iloperators.specs.declared.condition.Condition.TheVariants as conditions;
-ghost use Rattle.iloperators.specs.declared.function.Function.TheVariants.{Not, Abs, Convert};
-ghost use Rattle.iloperators.specs.declared.function.IntegerType.TheVariants.{Sint, Uint};
-ghost use Rattle.iloperators.specs.declared.operator.Operator.TheVariants as operators;
+ghost use Rattle.iltypes.specs.declared.condition.Condition.TheVariants as conditions;
+ghost use Rattle.iltypes.specs.declared.function.Function.TheVariants.{Not, Abs, Convert};
+ghost use Rattle.iltypes.specs.declared.function.IntegerType.TheVariants.{Sint, Uint};
+ghost use Rattle.iltypes.specs.declared.operator.Operator.TheVariants as operators;
 ghost use Rattle.ilcode.specs.declared.word.WordOperand.TheVariants as operands;
 ghost use Rattle.ilcode.specs.declared.word.Target.TheVariants as variables;
 ghost use Rattle.ilcode.specs.declared.word.Word.TheVariants as words;

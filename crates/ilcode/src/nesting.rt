@@ -1,7 +1,6 @@
 //! Parentheses that are open.
 
-use iloperators::Operator;
-use iltypes::Value;
+use iltypes::{Operator, Value};
 
 /// An open parenthesis (IEC 61131-3, 3.2.2): the operator before it, and the result that the
 /// operator waits with.

@@ -4,7 +4,7 @@ ghost use Rattle.std.specs.Prelude.{◌≡◌, ◌<◌};
 ghost use Rattle.ilcode.specs.Reading.{meaning, operator_of, type_of, operand_of, target_of};
 
 use crate::word::{Target, Word, WordOperand};
-use iloperators::{Condition, Function, IntegerType, Operator};
+use iltypes::{Condition, Function, IntegerType, Operator};
 
 /// What the bits mean, if they are those of a word.
 pub(crate) fn meaning(bits: u32) -> Word

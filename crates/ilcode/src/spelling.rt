@@ -6,7 +6,7 @@ ghost use Rattle.ilcode.specs.Words.{on_operand, on_target, operator_number, typ
 ghost use Rattle.ilcode.specs.Words.{jump_number, port_number};
 
 use crate::word::{Target, Word, WordOperand};
-use iloperators::{Condition, Function, IntegerType, Operator};
+use iltypes::{Condition, Function, IntegerType, Operator};
 
 /// Whether the format can hold a word.
 pub(crate) fn has_word(word: &Word) -> bool

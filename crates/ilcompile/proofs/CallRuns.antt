@@ -4,11 +4,11 @@ use Rattle.std.proofs.Common.{subst, arith}
 use Rattle.std.specs.Prelude.{slice_get}
 use Rattle.std.specs.Option.{option_map, option_and_then}
 use Rattle.iltypes.specs.declared.value.Value.{Value}
-use Rattle.iltrees.specs.declared.arguments.Argument.{Argument}
-use Rattle.iltrees.specs.declared.operand.Operand.TheVariants.{Name}
-use Rattle.iltrees.specs.declared.uses.Purpose.TheVariants.{Call, Pass}
-use Rattle.iltrees.specs.Uses.{uses_of_argument}
-use Rattle.iltrees.specs.Meaning.{Access, operand_value, passed, called}
+use Rattle.ilsource.specs.declared.arguments.Argument.{Argument}
+use Rattle.ilsource.specs.declared.operand.Operand.TheVariants.{Name}
+use Rattle.ilsource.specs.declared.uses.Purpose.TheVariants.{Call, Pass}
+use Rattle.ilsource.specs.Uses.{uses_of_argument}
+use Rattle.ilsource.specs.Meaning.{Access, operand_value, passed, called}
 use Rattle.ilblocks.specs.Stores.{Shape, Store, with_port}
 use Rattle.ilblocks.specs.Stores as stores
 use Rattle.ilplan.specs.declared.place.Place.{Place}

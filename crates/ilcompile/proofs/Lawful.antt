@@ -9,10 +9,10 @@ use Rattle.std.proofs.lemmas.List.Elements.{All-nil, All-cons}
 use Rattle.limits.specs.Limits as limits
 use Rattle.iltypes.specs.declared.value.IlType.{IlType}
 use Rattle.iltypes.specs.declared.value.Value.{Value}
-use Rattle.iltrees.specs.declared.instruction.Line.{Line}
-use Rattle.iltrees.specs.Uses.{uses_in}
-use Rattle.iltrees.specs.Words.{places_in}
-use Rattle.iltrees.specs.Words as counts
+use Rattle.ilsource.specs.declared.instruction.Line.{Line}
+use Rattle.ilsource.specs.Uses.{uses_in}
+use Rattle.ilsource.specs.Words.{places_in}
+use Rattle.ilsource.specs.Words as counts
 use Rattle.ilblocks.specs.declared.kind.BlockKind.{BlockKind}
 use Rattle.ilplan.specs.declared.place.Place.{Place}
 use Rattle.ilplan.specs.Constants.{AreAmong}

@@ -1,14 +1,15 @@
-pub mod Meant
 pub mod CallRuns
 pub mod CodeEnds
+pub mod CodeLemmas
 pub mod Held
 pub mod Lawful
 pub mod LineRuns
+pub mod Meant
 pub mod Runs
 pub mod ScanRuns
 pub mod Served
 pub mod Sizes
 pub mod Stands
 pub mod Starts
-pub mod TwoPasses
 pub mod TreeRuns
+pub mod TwoPasses

@@ -10,25 +10,25 @@ use Rattle.std.proofs.lemmas.List.{length-map, length-replicate}
 use Rattle.iltypes.specs.declared.value.Value.{Value}
 use Rattle.iltypes.specs.declared.value.Value.TheVariants as values
 use Rattle.iltypes.specs.Modifiers.{opposite}
-use Rattle.iloperators.specs.declared.condition.Condition.TheVariants.{Always, IfTrue, IfFalse}
-use Rattle.iloperators.specs.declared.operator.Operator.TheVariants.{Min, Max}
-use Rattle.iloperators.specs.Conditions.{holds, chosen}
-use Rattle.iloperators.specs.Functions.{modified, value_of_function}
-use Rattle.iloperators.specs.Operators.{both}
-use Rattle.iltrees.specs.declared.arguments.Argument.{Argument}
-use Rattle.iltrees.specs.declared.instruction.Instruction.{Instruction}
-use Rattle.iltrees.specs.declared.instruction.Instruction.TheVariants as instructions
-use Rattle.iltrees.specs.declared.instruction.Line.{Line}
-use Rattle.iltrees.specs.declared.nested.Piece.{Piece}
-use Rattle.iltrees.specs.declared.operand.Operand.TheVariants.{Name}
-use Rattle.iltrees.specs.declared.uses.Purpose.TheVariants.{Call}
-use Rattle.iltrees.specs.Trees.{pieces_of}
-use Rattle.iltrees.specs.Uses.{uses_of_piece, uses_of_argument, uses_of, uses_in}
-use Rattle.iltrees.specs.Words.{place_of, places_of as places_in_text, IsShallow}
-use Rattle.iltrees.specs.Words as counts
-use Rattle.iltrees.specs.Meaning.{Access, Way, On, To, Out, After, after, gives, leaves, operand_value}
-use Rattle.iltrees.specs.Meaning.{loaded, value, called, line_does}
-use Rattle.iltrees.specs.Passes.{has_label, takes, passes}
+use Rattle.iltypes.specs.declared.condition.Condition.TheVariants.{Always, IfTrue, IfFalse}
+use Rattle.iltypes.specs.declared.operator.Operator.TheVariants.{Min, Max}
+use Rattle.iltypes.specs.Conditions.{holds, chosen}
+use Rattle.iltypes.specs.Functions.{modified, value_of_function}
+use Rattle.iltypes.specs.Operators.{both}
+use Rattle.ilsource.specs.declared.arguments.Argument.{Argument}
+use Rattle.ilsource.specs.declared.instruction.Instruction.{Instruction}
+use Rattle.ilsource.specs.declared.instruction.Instruction.TheVariants as instructions
+use Rattle.ilsource.specs.declared.instruction.Line.{Line}
+use Rattle.ilsource.specs.declared.nested.Piece.{Piece}
+use Rattle.ilsource.specs.declared.operand.Operand.TheVariants.{Name}
+use Rattle.ilsource.specs.declared.uses.Purpose.TheVariants.{Call}
+use Rattle.ilsource.specs.Trees.{pieces_of}
+use Rattle.ilsource.specs.Uses.{uses_of_piece, uses_of_argument, uses_of, uses_in}
+use Rattle.ilsource.specs.Words.{place_of, places_of as places_in_text, IsShallow}
+use Rattle.ilsource.specs.Words as counts
+use Rattle.ilsource.specs.Meaning.{Access, Way, On, To, Out, After, after, gives, leaves, operand_value}
+use Rattle.ilsource.specs.Meaning.{loaded, value, called, line_does}
+use Rattle.ilsource.specs.Passes.{has_label, takes, passes}
 use Rattle.ilblocks.specs.Stores.{Store}
 use Rattle.ilplan.specs.declared.place.Place.{Place}
 use Rattle.ilcode.specs.declared.word.Word.{Word}

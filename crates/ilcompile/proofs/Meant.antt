@@ -4,14 +4,14 @@ use Rattle.std.proofs.Common.{ap, subst, arith}
 use Rattle.std.specs.Prelude.{slice_get, not, flat_map, map, IfSome}
 use Rattle.std.specs.List.{AllByRecursion, list_any}
 use Rattle.iltypes.specs.declared.value.Value.{Value}
-use Rattle.iltrees.specs.declared.operand.Operand.{Operand}
-use Rattle.iltrees.specs.declared.operand.Operand.TheVariants.{Name, Constant}
-use Rattle.iltrees.specs.declared.instruction.Line.{Line}
-use Rattle.iltrees.specs.declared.uses.Purpose.{Purpose}
-use Rattle.iltrees.specs.declared.uses.Purpose.TheVariants.{Read, Write, Call, Pass}
-use Rattle.iltrees.specs.declared.uses.Use.{Use}
-use Rattle.iltrees.specs.Uses.{uses_in}
-use Rattle.iltrees.specs.Words.{AreShallow}
+use Rattle.ilsource.specs.declared.operand.Operand.{Operand}
+use Rattle.ilsource.specs.declared.operand.Operand.TheVariants.{Name, Constant}
+use Rattle.ilsource.specs.declared.instruction.Line.{Line}
+use Rattle.ilsource.specs.declared.uses.Purpose.{Purpose}
+use Rattle.ilsource.specs.declared.uses.Purpose.TheVariants.{Read, Write, Call, Pass}
+use Rattle.ilsource.specs.declared.uses.Use.{Use}
+use Rattle.ilsource.specs.Uses.{uses_in}
+use Rattle.ilsource.specs.Words.{AreShallow}
 use Rattle.ilplan.specs.declared.place.Place.{Place}
 use Rattle.ilplan.specs.declared.place.Place.TheVariants as places
 use Rattle.ilplan.specs.Constants.{same_value, constant_in, AreAmong}

@@ -7,10 +7,10 @@ use Rattle.std.proofs.lemmas.Bool.Decides.{nat_tests}
 use Rattle.std.proofs.lemmas.List.{append-nil}
 use Rattle.std.proofs.lemmas.Option.{slice_get_within}
 use Rattle.iltypes.specs.declared.value.Value.{Value}
-use Rattle.iltrees.specs.declared.instruction.Line.{Line}
-use Rattle.iltrees.specs.Meaning.{Access, On}
-use Rattle.iltrees.specs.Passes.{passes, scan}
-use Rattle.iltrees.specs.Words as counts
+use Rattle.ilsource.specs.declared.instruction.Line.{Line}
+use Rattle.ilsource.specs.Meaning.{Access, On}
+use Rattle.ilsource.specs.Passes.{passes, scan}
+use Rattle.ilsource.specs.Words as counts
 use Rattle.ilblocks.specs.Stores.{Store}
 use Rattle.ilplan.specs.declared.place.Place.{Place}
 use Rattle.ilcode.specs.declared.word.Word.{Word}

@@ -2,12 +2,12 @@
 use Rattle.std.proofs.Common.{◌≡◌, List, [], ◌∷◌, ◌++◌, Some, refl}
 use Rattle.std.specs.Prelude.{slice_get, flat_map, ⊤}
 use Rattle.iltypes.specs.declared.value.Value.{Value}
-use Rattle.iltrees.specs.declared.operand.Operand.{Operand}
-use Rattle.iltrees.specs.declared.operand.Operand.TheVariants.{Name, Constant}
-use Rattle.iltrees.specs.declared.uses.Purpose.{Purpose}
-use Rattle.iltrees.specs.declared.uses.Purpose.TheVariants.{Read, Write, Call, Pass}
-use Rattle.iltrees.specs.declared.uses.Use.{Use}
-use Rattle.iltrees.specs.Meaning.{operand_value}
+use Rattle.ilsource.specs.declared.operand.Operand.{Operand}
+use Rattle.ilsource.specs.declared.operand.Operand.TheVariants.{Name, Constant}
+use Rattle.ilsource.specs.declared.uses.Purpose.{Purpose}
+use Rattle.ilsource.specs.declared.uses.Purpose.TheVariants.{Read, Write, Call, Pass}
+use Rattle.ilsource.specs.declared.uses.Use.{Use}
+use Rattle.ilsource.specs.Meaning.{operand_value}
 use Rattle.ilblocks.specs.Stores.{Store}
 use Rattle.ilplan.specs.declared.place.Place.{Place}
 use Rattle.ilplan.specs.declared.place.Place.TheVariants as places

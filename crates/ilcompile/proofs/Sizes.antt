@@ -7,16 +7,16 @@ use Rattle.std.specs.Option.{option_map_or}
 use Rattle.std.proofs.lemmas.List.{length-map, length-replicate}
 use Rattle.std.proofs.lemmas.List.Sums.{sum_by-cons}
 use Rattle.iltypes.specs.declared.value.Value.{Value}
-use Rattle.iloperators.specs.declared.condition.Condition.{Condition}
-use Rattle.iloperators.specs.declared.condition.Condition.TheVariants.{Always, IfTrue, IfFalse}
-use Rattle.iltrees.specs.declared.arguments.Argument.{Argument}
-use Rattle.iltrees.specs.declared.instruction.Instruction.{Instruction}
-use Rattle.iltrees.specs.declared.instruction.Instruction.TheVariants as instructions
-use Rattle.iltrees.specs.declared.instruction.Line.{Line}
-use Rattle.iltrees.specs.declared.nested.Piece.{Piece}
-use Rattle.iltrees.specs.Trees.{pieces_of}
-use Rattle.iltrees.specs.Words.{place_of, places_of, places_in}
-use Rattle.iltrees.specs.Words as counts
+use Rattle.iltypes.specs.declared.condition.Condition.{Condition}
+use Rattle.iltypes.specs.declared.condition.Condition.TheVariants.{Always, IfTrue, IfFalse}
+use Rattle.ilsource.specs.declared.arguments.Argument.{Argument}
+use Rattle.ilsource.specs.declared.instruction.Instruction.{Instruction}
+use Rattle.ilsource.specs.declared.instruction.Instruction.TheVariants as instructions
+use Rattle.ilsource.specs.declared.instruction.Line.{Line}
+use Rattle.ilsource.specs.declared.nested.Piece.{Piece}
+use Rattle.ilsource.specs.Trees.{pieces_of}
+use Rattle.ilsource.specs.Words.{place_of, places_of, places_in}
+use Rattle.ilsource.specs.Words as counts
 use Rattle.ilplan.specs.declared.place.Place.{Place}
 use Rattle.ilplan.specs.Plans.{PlannedInstance, all_lines}
 use Rattle.ilcode.specs.declared.word.Word.TheVariants as words

@@ -6,16 +6,16 @@ use Rattle.std.specs.Option.{option_map, option_and_then}
 use Rattle.std.proofs.lemmas.Bool.Decides.{nat_tests}
 use Rattle.limits.specs.Limits.{most_nesting}
 use Rattle.iltypes.specs.declared.value.Value.{Value}
-use Rattle.iloperators.specs.declared.function.Function.{Function}
-use Rattle.iloperators.specs.declared.operator.Operator.{Operator}
-use Rattle.iloperators.specs.Functions.{modified, value_of_function}
-use Rattle.iloperators.specs.Operators.{both}
-use Rattle.iltrees.specs.declared.operand.Operand.{Operand}
-use Rattle.iltrees.specs.declared.nested.Action.TheVariants as actions
-use Rattle.iltrees.specs.declared.nested.Piece.{Piece}
-use Rattle.iltrees.specs.Trees.{Tree, Load, Reload, Apply, Transform, Deferred, piece, pieces_of, depth}
-use Rattle.iltrees.specs.Uses.{uses_of_piece}
-use Rattle.iltrees.specs.Meaning.{Access, operand_value, loaded, second, value}
+use Rattle.iltypes.specs.declared.function.Function.{Function}
+use Rattle.iltypes.specs.declared.operator.Operator.{Operator}
+use Rattle.iltypes.specs.Functions.{modified, value_of_function}
+use Rattle.iltypes.specs.Operators.{both}
+use Rattle.ilsource.specs.declared.operand.Operand.{Operand}
+use Rattle.ilsource.specs.declared.nested.Action.TheVariants as actions
+use Rattle.ilsource.specs.declared.nested.Piece.{Piece}
+use Rattle.ilsource.specs.Trees.{Tree, Load, Reload, Apply, Transform, Deferred, piece, pieces_of, depth}
+use Rattle.ilsource.specs.Uses.{uses_of_piece}
+use Rattle.ilsource.specs.Meaning.{Access, operand_value, loaded, second, value}
 use Rattle.ilblocks.specs.Stores.{Store}
 use Rattle.ilplan.specs.declared.place.Place.{Place}
 use Rattle.ilcode.specs.declared.nesting.Opened.{Opened}

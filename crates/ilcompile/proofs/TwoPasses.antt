@@ -6,10 +6,10 @@ use Rattle.std.proofs.lemmas.List.{append-nil, drop_all, drop_more}
 use Rattle.limits.specs.Limits.{most_words}
 use Rattle.std.specs.Option.{option_map_or}
 use Rattle.iltypes.specs.declared.value.Value.{Value}
-use Rattle.iltrees.specs.declared.instruction.Instruction.{Instruction}
-use Rattle.iltrees.specs.declared.instruction.Instruction.TheVariants as instructions
-use Rattle.iltrees.specs.declared.instruction.Line.{Line}
-use Rattle.iltrees.specs.Words as counts
+use Rattle.ilsource.specs.declared.instruction.Instruction.{Instruction}
+use Rattle.ilsource.specs.declared.instruction.Instruction.TheVariants as instructions
+use Rattle.ilsource.specs.declared.instruction.Line.{Line}
+use Rattle.ilsource.specs.Words as counts
 use Rattle.ilcode.specs.declared.word.Word.{Word}
 use Rattle.ilcode.specs.declared.word.Word.TheVariants as words
 use Rattle.ilplan.specs.declared.place.Place.{Place}

@@ -5,21 +5,21 @@ use Rattle.std.specs.Prelude.{ℕ, ◌+◌, List, [], ◌∷◌, ◌++◌, map, 
 use Rattle.std.specs.Option.{option_map_or}
 use Rattle.std.specs.List.{position_or_len}
 use Rattle.iltypes.specs.declared.value.Value.{Value}
-use Rattle.iloperators.specs.declared.condition.Condition.{Condition}
-use Rattle.iloperators.specs.declared.condition.Condition.TheVariants.{Always, IfTrue, IfFalse}
-use Rattle.iloperators.specs.declared.operator.Operator.TheVariants.{Min, Max}
-use Rattle.iltrees.specs.declared.arguments.Argument.{Argument}
-use Rattle.iltrees.specs.declared.operand.Operand.{Operand}
-use Rattle.iltrees.specs.declared.operand.Operand.TheVariants.{Name, Constant}
-use Rattle.iltrees.specs.declared.instruction.Instruction.{Instruction}
-use Rattle.iltrees.specs.declared.instruction.Instruction.TheVariants as instructions
-use Rattle.iltrees.specs.declared.instruction.Line.{Line}
-use Rattle.iltrees.specs.declared.nested.Action.{Action}
-use Rattle.iltrees.specs.declared.nested.Action.TheVariants as actions
-use Rattle.iltrees.specs.Trees.{pieces_of}
-use Rattle.iltrees.specs.Passes.{has_label}
-use Rattle.iltrees.specs.Words.{places_in}
-use Rattle.iltrees.specs.Words as counts
+use Rattle.iltypes.specs.declared.condition.Condition.{Condition}
+use Rattle.iltypes.specs.declared.condition.Condition.TheVariants.{Always, IfTrue, IfFalse}
+use Rattle.iltypes.specs.declared.operator.Operator.TheVariants.{Min, Max}
+use Rattle.ilsource.specs.declared.arguments.Argument.{Argument}
+use Rattle.ilsource.specs.declared.operand.Operand.{Operand}
+use Rattle.ilsource.specs.declared.operand.Operand.TheVariants.{Name, Constant}
+use Rattle.ilsource.specs.declared.instruction.Instruction.{Instruction}
+use Rattle.ilsource.specs.declared.instruction.Instruction.TheVariants as instructions
+use Rattle.ilsource.specs.declared.instruction.Line.{Line}
+use Rattle.ilsource.specs.declared.nested.Action.{Action}
+use Rattle.ilsource.specs.declared.nested.Action.TheVariants as actions
+use Rattle.ilsource.specs.Trees.{pieces_of}
+use Rattle.ilsource.specs.Passes.{has_label}
+use Rattle.ilsource.specs.Words.{places_in}
+use Rattle.ilsource.specs.Words as counts
 use Rattle.ilsource.specs.Places.{line_at}
 use Rattle.ilplan.specs.Constants.{same_value}
 use Rattle.ilplan.specs.PlanMeaning.{number_same}

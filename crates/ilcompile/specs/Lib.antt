@@ -1,4 +1,5 @@
 pub mod Layout
 pub mod LayoutSteps
+pub mod Loaded
 pub mod Meant
 pub mod Rows

@@ -4,16 +4,16 @@ use Rattle.std.specs.Prelude.{None, length, ⊤}
 use Rattle.iltypes.specs.declared.value.IlType.TheVariants as types
 use Rattle.iltypes.specs.declared.value.Value.{Value}
 use Rattle.iltypes.specs.declared.value.Value.TheVariants as values
-use Rattle.iloperators.specs.declared.condition.Condition.{Condition}
-use Rattle.iloperators.specs.declared.condition.Condition.TheVariants.{Always, IfTrue, IfFalse}
-use Rattle.iloperators.specs.declared.operator.Operator.TheVariants.{Mul, Sub, Eq, Min, Max}
-use Rattle.iltrees.specs.declared.arguments.Argument.{Argument}
-use Rattle.iltrees.specs.declared.operand.Operand.{Operand}
-use Rattle.iltrees.specs.declared.operand.Operand.TheVariants.{Name, Constant}
-use Rattle.iltrees.specs.declared.instruction.Instruction.{Instruction}
-use Rattle.iltrees.specs.declared.instruction.Instruction.TheVariants as instructions
-use Rattle.iltrees.specs.declared.instruction.Line.{Line}
-use Rattle.iltrees.specs.Trees as trees
+use Rattle.iltypes.specs.declared.condition.Condition.{Condition}
+use Rattle.iltypes.specs.declared.condition.Condition.TheVariants.{Always, IfTrue, IfFalse}
+use Rattle.iltypes.specs.declared.operator.Operator.TheVariants.{Mul, Sub, Eq, Min, Max}
+use Rattle.ilsource.specs.declared.arguments.Argument.{Argument}
+use Rattle.ilsource.specs.declared.operand.Operand.{Operand}
+use Rattle.ilsource.specs.declared.operand.Operand.TheVariants.{Name, Constant}
+use Rattle.ilsource.specs.declared.instruction.Instruction.{Instruction}
+use Rattle.ilsource.specs.declared.instruction.Instruction.TheVariants as instructions
+use Rattle.ilsource.specs.declared.instruction.Line.{Line}
+use Rattle.ilsource.specs.Trees as trees
 use Rattle.ilsource.specs.declared.name.Name.{Name as NameInText}
 use Rattle.ilblocks.specs.declared.kind.BlockKind.{BlockKind}
 use Rattle.ilblocks.specs.declared.kind.BlockKind.TheVariants as kinds

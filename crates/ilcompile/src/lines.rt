@@ -2,13 +2,12 @@
 
 ghost use Rattle.std.specs.Prelude.{◌≡◌, ◌≤◌, ◌++◌, length, map, flat_map, IfOk, OnOk};
 ghost use Rattle.limits.specs.Limits.{most_bytes};
-ghost use Rattle.iltrees.specs.Words.{places_in};
+ghost use Rattle.ilsource.specs.Words.{places_in};
 ghost use Rattle.ilsource.specs.Places.{line_at};
 ghost use Rattle.ilcompile.specs.Layout.{places_of_programs, programs_of};
 
 use ilplan::{Place, ProgramInstance};
-use ilsource::LineCounter;
-use iltrees::Line;
+use ilsource::{Line, LineCounter};
 use std::alloc::{AllocError, Global};
 
 /// The line of `text` for each word of the instances.

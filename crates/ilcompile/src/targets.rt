@@ -8,13 +8,13 @@
 
 ghost use Rattle.std.specs.Prelude.{◌≡◌, ℕ, ◌+◌, ◌++◌, ◌≤◌, reverse, if◌then◌else◌, IfOk, OnOk};
 ghost use Rattle.limits.specs.Limits.{most_words};
-ghost use Rattle.iltrees.specs.Passes.{has_label};
-ghost use Rattle.iltrees.specs.Words.{words_of_lines};
+ghost use Rattle.ilsource.specs.Passes.{has_label};
+ghost use Rattle.ilsource.specs.Words.{words_of_lines};
 ghost use Rattle.ilplan.specs.PlanMeaning.{number_same};
 ghost use Rattle.ilcompile.specs.LayoutSteps.{IsTaken, place_in, target_of, targets_of};
 
 use ilplan::Place;
-use iltrees::{Instruction, Line};
+use ilsource::{Instruction, Line};
 use std::alloc::{AllocError, Global};
 use std::collections::HashMap;
 

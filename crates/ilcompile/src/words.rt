@@ -2,7 +2,7 @@
 
 ghost use Rattle.std.specs.Prelude.{◌≡◌, ◌≤◌, ◌+◌, ◌∷◌, ◌++◌, [], length, map, IfOk, OnOk};
 ghost use Rattle.limits.specs.Limits.{most_constants, most_words};
-ghost use Rattle.iltrees.specs.Words as counts;
+ghost use Rattle.ilsource.specs.Words as counts;
 ghost use Rattle.ilplan.specs.Plans.{all_lines};
 ghost use Rattle.ilcode.specs.declared.word.Word.TheVariants as variants;
 ghost use Rattle.ilcompile.specs.Layout.{number_of, operand_of, port_of, variable_of};
@@ -12,9 +12,9 @@ ghost use Rattle.ilcompile.specs.Layout.{words_of_programs, starts_from, program
 
 use crate::targets::{count, next_target, targets};
 use ilcode::{Target, Word, WordOperand};
-use iloperators::{Condition, Operator};
 use ilplan::{Constants, Place, ProgramInstance};
-use iltrees::{Action, Argument, Instruction, Line, Operand, Piece};
+use ilsource::{Action, Argument, Instruction, Line, Operand, Piece};
+use iltypes::{Condition, Operator};
 use std::alloc::{AllocError, Global};
 
 /// The place where each instance's first word stands, or would stand, and the words of all.

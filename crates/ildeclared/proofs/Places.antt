@@ -1,7 +1,7 @@
 -- Places of words on a bus.
 use Rattle.std.proofs.Common.{◌≡◌, ℕ, ◌+◌, ◌<◌, Bool, inl, inr, subst, arith}
 use Rattle.std.specs.Prelude.{◌↔◌, IsTrue}
-use Rattle.binding.specs.Wirings.{Wiring}
+use Rattle.wordlines.specs.Wirings.{Wiring}
 use Rattle.iltokens.specs.declared.lexed.AddressKind.TheVariants.{InputWord}
 use Rattle.ildeclared.specs.Faults.{IsBound, IsThere}
 use Rattle.ildeclared.proofs.FoundOrder.{or_else}

@@ -3,8 +3,8 @@
 -- the type; addresses and what stands at them by the profile). Which of some faults is the least one.
 use Rattle.std.specs.Prelude.{◌≡◌, ◌⊎◌, ⊤, ℕ, ◌+◌, ◌<◌, ◌≤◌, ℤ, pos, ◌<ℤ◌, List, [], ◌∷◌, slice_get}
 use Rattle.std.specs.Prelude.{Option, Some, None, IsSome, IsSomeAnd, nat_lt, if◌then◌else◌}
-use Rattle.binding.specs.Wirings.{Wiring, IsAt}
-use Rattle.iloperators.specs.Functions.{least_of, greatest_of}
+use Rattle.wordlines.specs.Wirings.{Wiring, IsAt}
+use Rattle.iltypes.specs.Functions.{least_of, greatest_of}
 use Rattle.iltypes.specs.declared.value.IlType.{IlType}
 use Rattle.iltypes.specs.declared.value.IlType.TheVariants as types
 use Rattle.iltokens.specs.declared.lexed.AddressKind.{AddressKind}

@@ -1,7 +1,7 @@
 //! Faults of located global variables.
 
 ghost use Rattle.std.specs.Prelude.{◌≡◌, ◌↔◌, ◌<◌, IsTrue};
-ghost use Rattle.binding.specs.Wirings.{IsAt};
+ghost use Rattle.wordlines.specs.Wirings.{IsAt};
 ghost use Rattle.iltypes.specs.declared.value.IlType.TheVariants.{Int};
 ghost use Rattle.ildeclared.specs.Faults.{IsLeastOf, OfCause, SomeOf, IsBound, IsThere};
 ghost use Rattle.ildeclared.specs.Faults.{IsBadAddressAt, IsBadlyLocatedIn, IsOtherArea};
@@ -16,10 +16,10 @@ use crate::externals::values_of;
 use crate::fault::NameCause;
 use crate::found::{Found, found_where, lesser_of};
 use crate::types::DeclaredTypes;
-use binding::{Binding, BoundSource};
 use ilsource::{DirectAddress, GlobalDeclaration};
 use iltokens::AddressKind;
 use iltypes::{IlType, Range};
+use wordlines::{Binding, BoundSource};
 
 /// The least fault of an address of a bus, or of a place on it, that is not there.
 pub fn bad_addresses(wiring: &Binding, addresses: &[DirectAddress]) -> Option<Found>

@@ -7,9 +7,8 @@ ghost use Rattle.ildeclared.specs.Kept.{types_in};
 
 use crate::data_type::DataType;
 use crate::names::Names;
-use iloperators::IntegerType;
 use ilsource::{Constant, Name, Specification};
-use iltypes::Range;
+use iltypes::{IntegerType, Range};
 
 /// What each type that is declared above a place means; nothing where its declaration is at fault.
 pub type DeclaredTypes = Names<Option<DataType>>;

@@ -1,11 +1,11 @@
 -- The items of calls are lawful.
 use Rattle.std.proofs.Common.{◌≡◌, true, List, refl}
-use Rattle.ilgrammar.proofs.Laws.{Lawful, Lawful-map}
-use Rattle.ilgrammar.proofs.Firm.{Firm, Firm-map, Firm-seq, Firm-seq_open, Firm-fewer, Firm-select, from_opt, from_many}
+use Rattle.iltokens.proofs.Laws.{Lawful, Lawful-map}
+use Rattle.iltokens.proofs.Firm.{Firm, Firm-map, Firm-seq, Firm-seq_open, Firm-fewer, Firm-select, from_opt, from_many}
 use Rattle.ilsource.specs.declared.name.Name.{Name}
 use Rattle.ilsource.specs.declared.symbol.Symbol.{Symbol}
 use Rattle.iltokens.specs.declared.lexed.Delimiter.TheVariants as delimiters
-use Rattle.iltrees.specs.declared.arguments.Argument.{Argument}
+use Rattle.ilsource.specs.declared.arguments.Argument.{Argument}
 use Rattle.illines.specs.declared.token.Token.{Token}
 use Rattle.illines.specs.Terminals.{delimiter}
 use Rattle.illines.specs.Calls.{argument, next_argument, more_arguments, arguments, passed, call}

@@ -2,17 +2,17 @@
 use Rattle.std.proofs.Common.{◌≡◌, ℕ, zero, suc, ◌-◌, Bool, true, false, ◌&&◌, List, [], ◌∷◌, ◌++◌, flat_map}
 use Rattle.std.proofs.Common.{Option, Some, Result, Ok, Err, refl, sym, ap, ◌∙◌, append_assoc, arith}
 use Rattle.std.proofs.lemmas.List.{append-nil}
-use Rattle.iloperators.specs.declared.operator.Operator.{Operator}
-use Rattle.iloperators.specs.Operators.{may_defer}
-use Rattle.iltrees.specs.declared.instruction.Instruction.TheVariants as instructions
-use Rattle.iltrees.specs.declared.nested.Piece.{Piece}
-use Rattle.iltrees.specs.declared.operand.Operand.{Operand}
-use Rattle.iltrees.specs.Trees.{Tree, pieces_of}
-use Rattle.iltrees.specs.TreeSteps.{tree_of, tree_again}
-use Rattle.ilgrammar.specs.declared.ReadError.{ReadError}
-use Rattle.ilgrammar.specs.declared.ReadError.TheVariants as errors
-use Rattle.ilgrammar.specs.Items.{◌>>=◌, Item, begins, many}
-use Rattle.ilgrammar.specs.Results.{Fails, extend}
+use Rattle.iltypes.specs.declared.operator.Operator.{Operator}
+use Rattle.iltypes.specs.Operators.{may_defer}
+use Rattle.ilsource.specs.declared.instruction.Instruction.TheVariants as instructions
+use Rattle.ilsource.specs.declared.nested.Piece.{Piece}
+use Rattle.ilsource.specs.declared.operand.Operand.{Operand}
+use Rattle.ilsource.specs.Trees.{Tree, pieces_of}
+use Rattle.ilsource.specs.TreeSteps.{tree_of, tree_again}
+use Rattle.iltokens.specs.declared.read_error.ReadError.{ReadError}
+use Rattle.iltokens.specs.declared.read_error.ReadError.TheVariants as errors
+use Rattle.iltokens.specs.Items.{◌>>=◌, Item, begins, many}
+use Rattle.iltokens.specs.Results.{Fails, extend}
 use Rattle.ilsource.specs.declared.symbol.Symbol.{Symbol}
 use Rattle.iltokens.specs.declared.lexed.Delimiter.TheVariants as delimiters
 use Rattle.illines.specs.declared.token.Token.{Token}

@@ -1,8 +1,8 @@
 -- Words and delimiters as items, and what each is apart from.
 use Rattle.std.proofs.Common.{◌≡◌, ℕ, Bool, true, false, cond, Option, Some, None, refl, sym, ap, subst, rules}
 use denote.Enum.Bare.{same_true, true_same}
-use Rattle.ilgrammar.specs.Items.{is_in}
-use Rattle.ilgrammar.proofs.Firm.{Firm, Firm-one}
+use Rattle.iltokens.specs.Items.{is_in}
+use Rattle.iltokens.proofs.Firm.{Firm, Firm-one}
 use Rattle.iltokens.specs.declared.keyword.Keyword.{Keyword}
 use Rattle.iltokens.specs.declared.lexed.Delimiter.{Delimiter}
 use Rattle.iltokens.specs.contracts.keyword.Keyword.{the_type as all_words}

@@ -1,8 +1,8 @@
 -- Single tokens and the line ends after them: each is lawful, and none but a line end begins as one.
 use Rattle.std.proofs.Common.{◌≡◌, ℕ, ℤ, pos, true, false, refl}
-use Rattle.ilgrammar.specs.Items.{Item}
-use Rattle.ilgrammar.proofs.Laws.{Lawful, Lawful-fewer, Lawful-map}
-use Rattle.ilgrammar.proofs.Firm.{Firm, Firm-one, Firm-map, Firm-seq, Firm-seq_open, Firm-fewer, from_many}
+use Rattle.iltokens.specs.Items.{Item}
+use Rattle.iltokens.proofs.Laws.{Lawful, Lawful-fewer, Lawful-map}
+use Rattle.iltokens.proofs.Firm.{Firm, Firm-one, Firm-map, Firm-seq, Firm-seq_open, Firm-fewer, from_many}
 use Rattle.ilsource.specs.declared.name.Name.{Name}
 use Rattle.ilsource.specs.declared.declaration.Constant.{Constant}
 use Rattle.ilsource.specs.declared.declaration.Constant.TheVariants as constants

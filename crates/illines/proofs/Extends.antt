@@ -1,8 +1,8 @@
 -- Adding to a list what is read.
 use Rattle.std.proofs.Common.{◌≡◌, List, ◌++◌, Result, Ok, Err, refl, sym, ap}
-use Rattle.ilgrammar.specs.declared.ReadError.{ReadError}
-use Rattle.ilgrammar.specs.declared.ReadError.TheVariants as errors
-use Rattle.ilgrammar.specs.Results.{Fails, extend}
+use Rattle.iltokens.specs.declared.read_error.ReadError.{ReadError}
+use Rattle.iltokens.specs.declared.read_error.ReadError.TheVariants as errors
+use Rattle.iltokens.specs.Results.{Fails, extend}
 use Rattle.illines.specs.declared.token.Token.{Token}
 
 module _ (X A : Type 0) (f : X → List A) where

@@ -1,15 +1,15 @@
 -- The items of instructions are lawful, in parentheses to any depth and outside them.
 use Rattle.std.proofs.Common.{◌≡◌, ℕ, zero, suc, Bool, true, false, List, refl}
 use Rattle.limits.specs.Limits.{most_nesting}
-use Rattle.iloperators.specs.declared.operator.Operator.{Operator}
-use Rattle.iloperators.specs.Operators.{may_defer}
-use Rattle.iltrees.specs.declared.operand.Operand.{Operand}
-use Rattle.iltrees.specs.Trees.{Tree}
-use Rattle.ilgrammar.specs.Items.{Item, is_in}
-use Rattle.ilgrammar.proofs.Laws.{Lawful, Lawful-fewer}
-use Rattle.ilgrammar.proofs.Selects.{Lawful-empty}
-use Rattle.ilgrammar.proofs.Firm.{Firm, Firm-one, Firm-map, Firm-seq, Firm-seq_open, Firm-alt, Firm-fewer, Firm-select}
-use Rattle.ilgrammar.proofs.Firm.{from_opt, from_many}
+use Rattle.iltypes.specs.declared.operator.Operator.{Operator}
+use Rattle.iltypes.specs.Operators.{may_defer}
+use Rattle.ilsource.specs.declared.operand.Operand.{Operand}
+use Rattle.ilsource.specs.Trees.{Tree}
+use Rattle.iltokens.specs.Items.{Item, is_in}
+use Rattle.iltokens.proofs.Laws.{Lawful, Lawful-fewer}
+use Rattle.iltokens.proofs.Selects.{Lawful-empty}
+use Rattle.iltokens.proofs.Firm.{Firm, Firm-one, Firm-map, Firm-seq, Firm-seq_open, Firm-alt, Firm-fewer, Firm-select}
+use Rattle.iltokens.proofs.Firm.{from_opt, from_many}
 use Rattle.ilsource.specs.declared.name.Name.{Name}
 use Rattle.ilsource.specs.declared.symbol.Symbol.{Symbol}
 use Rattle.iltokens.specs.declared.keyword.Keyword.TheVariants as words

@@ -1,7 +1,7 @@
 -- Going over line ends.
 use Rattle.std.proofs.Common.{◌≡◌, true, false, List, [], ◌∷◌, drop, Option, Some, None, Result, Ok, Err, refl, sym}
-use Rattle.ilgrammar.specs.Items.{◌>>=◌, begins, many, one_read, one_read_at, is_in}
-use Rattle.ilgrammar.proofs.Repeats.{none_more, one_more}
+use Rattle.iltokens.specs.Items.{◌>>=◌, begins, many, one_read, one_read_at, is_in}
+use Rattle.iltokens.proofs.Repeats.{none_more, one_more}
 use Rattle.iltokens.specs.declared.lexed.Delimiter.TheVariants as delimiters
 use Rattle.illines.specs.declared.token.Token.{Token}
 use Rattle.illines.specs.Terminals.{Seen, delimiter_at, delimiter, line_ends}

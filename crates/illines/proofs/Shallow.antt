@@ -3,12 +3,12 @@ use Rattle.std.proofs.Common.{◌≡◌, ℕ, zero, suc, ◌+◌, ◌≤◌, Boo
 use Rattle.std.specs.Prelude.{IsTrue, ⊤}
 use Rattle.std.proofs.Common.{Ok, inl, inr, refl, sym, subst, ◌∙◌, arith}
 use Rattle.limits.specs.Limits.{most_nesting}
-use Rattle.iloperators.specs.declared.operator.Operator.{Operator}
-use Rattle.iloperators.specs.Operators.{may_defer}
-use Rattle.iltrees.specs.declared.instruction.Instruction.TheVariants as instructions
-use Rattle.iltrees.specs.Trees.{Tree, depth}
-use Rattle.iltrees.specs.Words.{MayDefer, IsShallow, AreShallow}
-use Rattle.ilgrammar.specs.Items.{Item, alt, opt_whole, many_whole}
+use Rattle.iltypes.specs.declared.operator.Operator.{Operator}
+use Rattle.iltypes.specs.Operators.{may_defer}
+use Rattle.ilsource.specs.declared.instruction.Instruction.TheVariants as instructions
+use Rattle.ilsource.specs.Trees.{Tree, depth}
+use Rattle.ilsource.specs.Words.{MayDefer, IsShallow, AreShallow}
+use Rattle.iltokens.specs.Items.{Item, alt, opt_whole, many_whole}
 use Rattle.ilsource.specs.declared.name.Name.{Name}
 use Rattle.ilsource.specs.declared.symbol.Symbol.{Symbol}
 use Rattle.illines.specs.declared.roles.OperatorRole.{OperatorRole}

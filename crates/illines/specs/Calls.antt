@@ -1,8 +1,8 @@
 -- What follows CAL, CALC and CALCN (IEC 61131-3, 3.2.3, with this project's profile), as items over tokens.
 use Rattle.std.specs.Prelude.{List, [], ◌∷◌, Option, Some, None}
-use Rattle.iltrees.specs.declared.arguments.Argument.{Argument}
-use Rattle.iltrees.specs.declared.operand.Operand.{Operand}
-use Rattle.ilgrammar.specs.Items.{Item, map, seq, select, opt, many}
+use Rattle.ilsource.specs.declared.arguments.Argument.{Argument}
+use Rattle.ilsource.specs.declared.operand.Operand.{Operand}
+use Rattle.iltokens.specs.Items.{Item, map, seq, select, opt, many}
 use Rattle.ilsource.specs.declared.name.Name.{Name}
 use Rattle.ilsource.specs.declared.symbol.Symbol.{Symbol}
 use Rattle.ilsource.specs.declared.symbol.Symbol.TheVariants as symbols

@@ -1,13 +1,13 @@
 -- The pieces that an instruction in parentheses adds, and when parentheses are opened there.
 use Rattle.std.specs.Prelude.{ℕ, zero, suc, Bool, false, ◌&&◌, List, [], ◌∷◌, ◌++◌, Option, Some}
-use Rattle.iloperators.specs.declared.operator.Operator.{Operator}
-use Rattle.iloperators.specs.declared.operator.Operator.TheVariants.{Min, Max}
-use Rattle.iltrees.specs.declared.instruction.Instruction.TheVariants as instructions
-use Rattle.iltrees.specs.declared.nested.Action.TheVariants as actions
-use Rattle.iltrees.specs.declared.nested.Piece.{Piece}
-use Rattle.iltrees.specs.Trees.{piece, pieces_of}
-use Rattle.iloperators.specs.Operators.{may_defer}
-use Rattle.ilgrammar.specs.Items.{begins}
+use Rattle.iltypes.specs.declared.operator.Operator.{Operator}
+use Rattle.iltypes.specs.declared.operator.Operator.TheVariants.{Min, Max}
+use Rattle.ilsource.specs.declared.instruction.Instruction.TheVariants as instructions
+use Rattle.ilsource.specs.declared.nested.Action.TheVariants as actions
+use Rattle.ilsource.specs.declared.nested.Piece.{Piece}
+use Rattle.ilsource.specs.Trees.{piece, pieces_of}
+use Rattle.iltypes.specs.Operators.{may_defer}
+use Rattle.iltokens.specs.Items.{begins}
 use Rattle.ilsource.specs.declared.symbol.Symbol.{Symbol}
 use Rattle.iltokens.specs.declared.lexed.Delimiter.TheVariants as delimiters
 use Rattle.illines.specs.declared.token.Token.{Token}

@@ -2,17 +2,17 @@
 -- tree, though each of its instructions has a line of the text of its own.
 use Rattle.std.specs.Prelude.{ℕ, zero, suc, Bool, true, false, List, [], ◌∷◌, Option, Some, None}
 use Rattle.limits.specs.Limits.{most_nesting}
-use Rattle.iloperators.specs.declared.condition.Condition.{Condition}
-use Rattle.iloperators.specs.declared.operator.Operator.{Operator}
-use Rattle.iloperators.specs.declared.operator.Operator.TheVariants.{Min, Max}
-use Rattle.iloperators.specs.Operators.{may_defer}
-use Rattle.iltrees.specs.declared.arguments.Argument.{Argument}
-use Rattle.iltrees.specs.declared.instruction.Instruction.{Instruction}
-use Rattle.iltrees.specs.declared.instruction.Instruction.TheVariants as instructions
-use Rattle.iltrees.specs.declared.instruction.Line.{Line}
-use Rattle.iltrees.specs.declared.operand.Operand.{Operand}
-use Rattle.iltrees.specs.Trees.{Tree, Load, Reload, Apply, Transform, Deferred}
-use Rattle.ilgrammar.specs.Items.{Item, one, empty, map, seq, select, opt, alt, many}
+use Rattle.iltypes.specs.declared.condition.Condition.{Condition}
+use Rattle.iltypes.specs.declared.operator.Operator.{Operator}
+use Rattle.iltypes.specs.declared.operator.Operator.TheVariants.{Min, Max}
+use Rattle.iltypes.specs.Operators.{may_defer}
+use Rattle.ilsource.specs.declared.arguments.Argument.{Argument}
+use Rattle.ilsource.specs.declared.instruction.Instruction.{Instruction}
+use Rattle.ilsource.specs.declared.instruction.Instruction.TheVariants as instructions
+use Rattle.ilsource.specs.declared.instruction.Line.{Line}
+use Rattle.ilsource.specs.declared.operand.Operand.{Operand}
+use Rattle.ilsource.specs.Trees.{Tree, Load, Reload, Apply, Transform, Deferred}
+use Rattle.iltokens.specs.Items.{Item, one, empty, map, seq, select, opt, alt, many}
 use Rattle.ilsource.specs.declared.name.Name.{Name}
 use Rattle.ilsource.specs.declared.symbol.Symbol.{Symbol}
 use Rattle.ilsource.specs.declared.symbol.Symbol.TheVariants as symbols

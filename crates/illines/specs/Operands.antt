@@ -1,11 +1,11 @@
 -- What instructions name, and their operands (IEC 61131-3, 2.4.1.1 and 3.2), as items over tokens.
 use Rattle.std.specs.Prelude.{pos, Option, Some, None, true, false}
-use Rattle.ilgrammar.specs.Items.{Item, one, map, seq, opt, alt}
+use Rattle.iltokens.specs.Items.{Item, one, map, seq, opt, alt}
 use Rattle.ilsource.specs.declared.name.Name.{Name}
 use Rattle.ilsource.specs.declared.symbol.Symbol.{Symbol}
 use Rattle.ilsource.specs.declared.symbol.Symbol.TheVariants as symbols
-use Rattle.iltrees.specs.declared.operand.Operand.{Operand}
-use Rattle.iltrees.specs.declared.operand.Operand.TheVariants as operands
+use Rattle.ilsource.specs.declared.operand.Operand.{Operand}
+use Rattle.ilsource.specs.declared.operand.Operand.TheVariants as operands
 use Rattle.iltypes.specs.declared.value.Value.{Value}
 use Rattle.iltypes.specs.declared.value.Value.TheVariants as values
 use Rattle.iltokens.specs.declared.keyword.Keyword.{Keyword}

@@ -1,12 +1,12 @@
 -- What operators do, by their words (IEC 61131-3, 3.2.2 and 2.5.1.5).
 use Rattle.std.specs.Prelude.{ℕ, Bool, true, false, if◌then◌else◌, Option, Some, None}
 use Rattle.std.specs.Option.{option_map, option_and_then}
-use Rattle.ilgrammar.specs.Items.{is_in}
-use Rattle.iloperators.specs.declared.condition.Condition.TheVariants as conditions
-use Rattle.iloperators.specs.declared.function.Function.TheVariants as functions
-use Rattle.iloperators.specs.declared.function.IntegerType.{IntegerType}
-use Rattle.iloperators.specs.declared.function.IntegerType.TheVariants as types
-use Rattle.iloperators.specs.declared.operator.Operator.TheVariants as operators
+use Rattle.iltokens.specs.Items.{is_in}
+use Rattle.iltypes.specs.declared.condition.Condition.TheVariants as conditions
+use Rattle.iltypes.specs.declared.function.Function.TheVariants as functions
+use Rattle.iltypes.specs.declared.function.IntegerType.{IntegerType}
+use Rattle.iltypes.specs.declared.function.IntegerType.TheVariants as types
+use Rattle.iltypes.specs.declared.operator.Operator.TheVariants as operators
 use Rattle.iltokens.specs.declared.keyword.Keyword.{Keyword}
 use Rattle.iltokens.specs.declared.keyword.Keyword.TheVariants as words
 use Rattle.iltokens.specs.declared.lexed.Delimiter.TheVariants as delimiters

@@ -4,8 +4,8 @@ use Rattle.std.specs.Prelude.{ℕ, ℤ, List, Option, Some, None, Result, Bool, 
 use denote.Enum.Bare.{sameb}
 use Rattle.iltokens.specs.contracts.keyword.Keyword.{the_type as all_words}
 use Rattle.iltokens.specs.contracts.lexed.Delimiter.{the_type as all_delimiters}
-use Rattle.ilgrammar.specs.Items.{Item, one, map, seq, many}
-use Rattle.ilgrammar.specs.Stops as stops
+use Rattle.iltokens.specs.Items.{Item, one, map, seq, many}
+use Rattle.iltokens.specs.Stops as stops
 use Rattle.ilsource.specs.declared.name.Name.{Name}
 use Rattle.ilsource.specs.declared.declaration.Constant.{Constant}
 use Rattle.ilsource.specs.declared.declaration.Constant.TheVariants as constants

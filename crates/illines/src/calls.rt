@@ -1,17 +1,15 @@
 //! What follows CAL, CALC and CALCN (IEC 61131-3, 3.2.3).
 
 ghost use Rattle.std.specs.Prelude.{◌≡◌};
-ghost use Rattle.ilgrammar.specs.Items.{begins};
-ghost use Rattle.ilgrammar.specs.Results.{Gives};
+ghost use Rattle.iltokens.specs.Items.{begins};
+ghost use Rattle.iltokens.specs.Results.{Gives};
 ghost use Rattle.illines.specs.Calls.{argument, next_argument, arguments, passed, call};
 
 use crate::operands::{spaced_operand, spaced_port};
 use crate::reading::{delimiter, name, spaced_delimiter};
 use crate::token::{Token, TokenKind};
-use ilgrammar::ReadError;
-use ilsource::{Name, Symbol};
-use iltokens::{Delimiter, What};
-use iltrees::{Argument, Arguments};
+use ilsource::{Argument, Arguments, Name, Symbol};
+use iltokens::{Delimiter, ReadError, What};
 use std::alloc::Global;
 
 /// `port ":=" operand`, in a call of `block`.

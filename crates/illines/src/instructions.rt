@@ -1,8 +1,8 @@
 //! Instructions and lines (IEC 61131-3, 3.2).
 
 ghost use Rattle.std.specs.Prelude.{◌≡◌, List, length};
-ghost use Rattle.ilgrammar.specs.Items.{begins};
-ghost use Rattle.ilgrammar.specs.Results.{Gives};
+ghost use Rattle.iltokens.specs.Items.{begins};
+ghost use Rattle.iltokens.specs.Results.{Gives};
 ghost use Rattle.illines.specs.Instructions.{line_of, applied, on_content, content, operands};
 ghost use Rattle.illines.specs.Instructions.{instruction, label, with_label, line, lines};
 
@@ -12,11 +12,9 @@ use crate::parentheses::{bounds, content, may_open};
 use crate::reading::{begins_name, closing, delimiter, line_break, name};
 use crate::roles::{OperatorRole, role_of};
 use crate::token::Token;
-use ilgrammar::ReadError;
-use iloperators::Operator;
-use ilsource::{Name, Symbol};
-use iltokens::Delimiter;
-use iltrees::{Instruction, Line, Nested};
+use ilsource::{Instruction, Line, Name, Nested, Symbol};
+use iltokens::{Delimiter, ReadError};
+use iltypes::Operator;
 use limits::MOST_NESTING;
 use std::alloc::Global;
 

@@ -4,7 +4,7 @@
 //! the single tokens, each with the line ends after it, of which `iltext` makes the rest of the
 //! grammar; and [`role_of`], what an operator does. Read specs/Instructions.antt first: a line is
 //! an item over [`Token`]s, with operands (specs/Operands.antt), calls (specs/Calls.antt) and
-//! operators (specs/Roles.antt), whose reading is exact by the laws of `ilgrammar`.
+//! operators (specs/Roles.antt), whose reading is exact by the laws of `iltokens`.
 //!
 //! ```text
 //! let (lines, rest) = lines(alloc, rest)?; // then END_PROGRAM, or a fault there

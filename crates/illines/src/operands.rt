@@ -1,18 +1,16 @@
 //! What instructions name, and their operands (IEC 61131-3, 2.4.1.1 and 3.2).
 
 ghost use Rattle.std.specs.Prelude.{◌≡◌};
-ghost use Rattle.ilgrammar.specs.Items.{begins};
-ghost use Rattle.ilgrammar.specs.Results.{Gives};
+ghost use Rattle.iltokens.specs.Items.{begins};
+ghost use Rattle.iltokens.specs.Results.{Gives};
 ghost use Rattle.illines.specs.Terminals.{name, spaced};
 ghost use Rattle.illines.specs.Operands.{port, dot_port, symbol_of, symbol, literal, operand};
 ghost use Rattle.illines.specs.Operands.{spaced_dot_port, spaced_symbol, spaced_operand};
 
 use crate::reading::{begins_name, delimiter, line_ends, name, spaced_delimiter, spaced_name};
 use crate::token::{Token, TokenKind};
-use ilgrammar::ReadError;
-use ilsource::{Name, Symbol};
-use iltokens::{Delimiter, Keyword, What};
-use iltrees::Operand;
+use ilsource::{Name, Operand, Symbol};
+use iltokens::{Delimiter, Keyword, ReadError, What};
 use iltypes::Value;
 
 /// The name of a port: a word that is not reserved, or R.

@@ -1,9 +1,9 @@
 //! What stands in parentheses (IEC 61131-3, 3.2.2). Its pieces are added to one vector.
 
 ghost use Rattle.std.specs.Prelude.{◌≡◌, ◌<◌, [], ◌∷◌, ◌++◌, length, IsTrue, OnOk};
-ghost use Rattle.iltrees.specs.Trees.{piece, pieces_of, Load};
-ghost use Rattle.ilgrammar.specs.Items.{begins};
-ghost use Rattle.ilgrammar.specs.Results.{Gives, extend};
+ghost use Rattle.ilsource.specs.Trees.{piece, pieces_of, Load};
+ghost use Rattle.iltokens.specs.Items.{begins};
+ghost use Rattle.iltokens.specs.Results.{Gives, extend};
 ghost use Rattle.iltokens.specs.declared.lexed.Delimiter.TheVariants as delimiters;
 ghost use Rattle.illines.specs.Terminals.{delimiter, ended};
 ghost use Rattle.illines.specs.Operands.{operand};
@@ -16,11 +16,9 @@ use crate::operands::operand;
 use crate::reading::{begins_line_end, closing, delimiter, line_break};
 use crate::roles::{OperatorRole, inner_role_of, role_of};
 use crate::token::{Token, TokenKind};
-use ilgrammar::ReadError;
-use iloperators::Operator;
-use ilsource::Symbol;
-use iltokens::{Delimiter, What};
-use iltrees::{Action, Operand, Piece};
+use ilsource::{Action, Operand, Piece, Symbol};
+use iltokens::{Delimiter, ReadError, What};
+use iltypes::Operator;
 use std::alloc::AllocError;
 
 /// Whether `(` stands first.

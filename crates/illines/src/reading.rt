@@ -1,15 +1,14 @@
 //! Single tokens, and the line ends after them.
 
 ghost use Rattle.std.specs.Prelude.{◌≡◌, ◌<◌, List, length, IsTrue, Ok};
-ghost use Rattle.ilgrammar.specs.Items.{begins};
-ghost use Rattle.ilgrammar.specs.Results.{Gives};
+ghost use Rattle.iltokens.specs.Items.{begins};
+ghost use Rattle.iltokens.specs.Results.{Gives};
 ghost use Rattle.illines.specs.Terminals.{word, delimiter, name, number, constant, closing};
 ghost use Rattle.illines.specs.Terminals.{line_ends, spaced, line_break, end};
 
 use crate::token::{Token, TokenKind};
-use ilgrammar::ReadError;
 use ilsource::{Constant, Name};
-use iltokens::{Delimiter, Keyword, What};
+use iltokens::{Delimiter, Keyword, ReadError, What};
 
 /// This reserved word.
 #[tactic(auto, unfolding(crate::specs::Terminals::word))]

@@ -5,8 +5,8 @@ ghost use Rattle.illines.specs.Roles.{converts_to, role_of_word, role_of};
 ghost use Rattle.illines.specs.Roles.{may_nest, inner_role_of, is_inner};
 
 use crate::token::TokenKind;
-use iloperators::{Condition, Function, IntegerType, Operator};
 use iltokens::{Delimiter, Keyword, What};
+use iltypes::{Condition, Function, IntegerType, Operator};
 
 /// What an operator does, which also says what is written after it.
 #[derive(Clone, Copy)]

@@ -1,8 +1,7 @@
 //! Operators that wait for their parenthesis to be closed.
 
-use iloperators::Operator;
 use ilrows::Cell;
-use iltypes::Value;
+use iltypes::{Operator, Value};
 use std::marker::Model;
 
 /// An operator before an open parenthesis, with the result that it waits with.
@@ -34,7 +33,7 @@ impl Default for Waiting {
 
 impl Waiting {
     ghost use Rattle.std.specs.Prelude.{◌≡◌, IsSome, Some};
-    ghost use Rattle.iloperators.specs.Operators.{value_of_operator};
+    ghost use Rattle.iltypes.specs.Operators.{value_of_operator};
     ghost use Rattle.ilcode.specs.Steps.{opened};
 
     /// The operator, which waits with this result.

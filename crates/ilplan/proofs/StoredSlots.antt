@@ -10,16 +10,16 @@ use Rattle.std.proofs.lemmas.List.{take_more, append-nil, get_or-replicate, get_
 use Rattle.std.proofs.lemmas.List.{length-replicate, length-set}
 use Rattle.std.proofs.lemmas.List.Folds.{list_any-append}
 use Rattle.std.proofs.lemmas.Grind.{flat_map-append, get_or-set_at}
-use Rattle.iltrees.specs.declared.arguments.Argument.{Argument}
-use Rattle.iltrees.specs.declared.instruction.Instruction.{Instruction}
-use Rattle.iltrees.specs.declared.instruction.Instruction.TheVariants as instructions
-use Rattle.iltrees.specs.declared.instruction.Line.{Line}
-use Rattle.iltrees.specs.declared.nested.Action.{Action}
-use Rattle.iltrees.specs.declared.nested.Action.TheVariants as actions
-use Rattle.iltrees.specs.declared.nested.Piece.{Piece}
-use Rattle.iltrees.specs.declared.uses.Use.{Use}
-use Rattle.iltrees.specs.Trees.{pieces_of}
-use Rattle.iltrees.specs.Uses.{uses_in, uses_of, uses_of_action, uses_of_piece, uses_of_argument, write_at}
+use Rattle.ilsource.specs.declared.arguments.Argument.{Argument}
+use Rattle.ilsource.specs.declared.instruction.Instruction.{Instruction}
+use Rattle.ilsource.specs.declared.instruction.Instruction.TheVariants as instructions
+use Rattle.ilsource.specs.declared.instruction.Line.{Line}
+use Rattle.ilsource.specs.declared.nested.Action.{Action}
+use Rattle.ilsource.specs.declared.nested.Action.TheVariants as actions
+use Rattle.ilsource.specs.declared.nested.Piece.{Piece}
+use Rattle.ilsource.specs.declared.uses.Use.{Use}
+use Rattle.ilsource.specs.Trees.{pieces_of}
+use Rattle.ilsource.specs.Uses.{uses_in, uses_of, uses_of_action, uses_of_piece, uses_of_argument, write_at}
 use Rattle.ilplan.specs.declared.place.Place.{Place}
 use Rattle.ilplan.specs.declared.place.Place.TheVariants as places
 use Rattle.ilplan.specs.Plans.{PlannedInstance, all_lines, writes_slot}

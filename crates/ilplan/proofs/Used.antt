@@ -3,9 +3,9 @@ use Rattle.std.proofs.Common.{◌≡◌, List, [], ◌∷◌, ◌++◌, refl, �
 use Rattle.std.specs.Prelude.{Option, Some, None, IfSome, flat_map}
 use Rattle.std.specs.List.{list_any, cons_option}
 use Rattle.iltypes.specs.declared.value.Value.{Value}
-use Rattle.iltrees.specs.declared.instruction.Line.{Line}
-use Rattle.iltrees.specs.declared.uses.Use.{Use}
-use Rattle.iltrees.specs.Uses.{uses_in}
+use Rattle.ilsource.specs.declared.instruction.Line.{Line}
+use Rattle.ilsource.specs.declared.uses.Use.{Use}
+use Rattle.ilsource.specs.Uses.{uses_in}
 use Rattle.ilplan.specs.Constants.{same_value, constant_in, constants_used, different_constants, AreAmong}
 use Rattle.ilplan.proofs.EachOnce.{is_same, any_each_once}
 

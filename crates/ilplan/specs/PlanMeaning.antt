@@ -1,8 +1,8 @@
 -- What a plan means, over places in a store (IEC 61131-3, 2.7.2 and 3.2).
 use Rattle.std.specs.Prelude.{ℕ, ◌==◌, map, Option, None, Bool}
 use Rattle.iltypes.specs.declared.value.Value.{Value}
-use Rattle.iltrees.specs.Meaning.{Access}
-use Rattle.iltrees.specs.Passes.{scan}
+use Rattle.ilsource.specs.Meaning.{Access}
+use Rattle.ilsource.specs.Passes.{scan}
 use Rattle.ilblocks.specs.Stores.{Shape, Store, slot_value, with_slot, port_value, with_port, called}
 use Rattle.ilplan.specs.declared.place.Place.{Place}
 use Rattle.ilplan.specs.declared.place.Place.TheVariants.{Slot, Port, Block}

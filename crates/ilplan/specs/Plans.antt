@@ -9,16 +9,16 @@ use Rattle.iltypes.specs.declared.value.IlType.TheVariants as types
 use Rattle.iltypes.specs.declared.value.Value.{Value}
 use Rattle.iltypes.specs.declared.value.Value.TheVariants as values
 use Rattle.iltypes.specs.Values.{IsOf, AreOf}
-use Rattle.binding.specs.declared.sources.BoundSource.{BoundSource}
-use Rattle.binding.specs.Wirings.{Wiring, IsAt, IsWithinLimits}
-use Rattle.iltrees.specs.declared.instruction.Line.{Line}
-use Rattle.iltrees.specs.declared.operand.Operand.{Operand}
-use Rattle.iltrees.specs.declared.operand.Operand.TheVariants.{Name as Named, Constant}
-use Rattle.iltrees.specs.declared.uses.Purpose.{Purpose}
-use Rattle.iltrees.specs.declared.uses.Purpose.TheVariants.{Read, Write, Call, Pass}
-use Rattle.iltrees.specs.declared.uses.Use.{Use}
-use Rattle.iltrees.specs.Uses.{uses_in}
-use Rattle.iltrees.specs.Words.{words_of_lines, AreShallow}
+use Rattle.wordlines.specs.declared.sources.BoundSource.{BoundSource}
+use Rattle.wordlines.specs.Wirings.{Wiring, IsAt, IsWithinLimits}
+use Rattle.ilsource.specs.declared.instruction.Line.{Line}
+use Rattle.ilsource.specs.declared.operand.Operand.{Operand}
+use Rattle.ilsource.specs.declared.operand.Operand.TheVariants.{Name as Named, Constant}
+use Rattle.ilsource.specs.declared.uses.Purpose.{Purpose}
+use Rattle.ilsource.specs.declared.uses.Purpose.TheVariants.{Read, Write, Call, Pass}
+use Rattle.ilsource.specs.declared.uses.Use.{Use}
+use Rattle.ilsource.specs.Uses.{uses_in}
+use Rattle.ilsource.specs.Words.{words_of_lines, AreShallow}
 use Rattle.ilsource.specs.declared.name.Name.{Name}
 use Rattle.ilsource.specs.Names.{text_of}
 use Rattle.gearcmd.specs.declared.requests.TaskKind.{TaskKind}

@@ -3,12 +3,12 @@
 use Rattle.std.specs.Prelude.{◌≡◌, ℕ, pos, Bool, true, false, List, [], ◌∷◌, length, option_map, Some, None}
 use Rattle.iltypes.specs.declared.value.IlType.TheVariants as types
 use Rattle.iltypes.specs.declared.value.Value.TheVariants.{Bool as truth, Int}
-use Rattle.iloperators.specs.declared.condition.Condition.TheVariants.{Always}
-use Rattle.iltrees.specs.declared.arguments.Argument.{Argument}
-use Rattle.iltrees.specs.declared.instruction.Instruction.{Instruction}
-use Rattle.iltrees.specs.declared.instruction.Instruction.TheVariants as instructions
-use Rattle.iltrees.specs.declared.instruction.Line.{Line}
-use Rattle.iltrees.specs.declared.operand.Operand.TheVariants.{Name, Constant}
+use Rattle.iltypes.specs.declared.condition.Condition.TheVariants.{Always}
+use Rattle.ilsource.specs.declared.arguments.Argument.{Argument}
+use Rattle.ilsource.specs.declared.instruction.Instruction.{Instruction}
+use Rattle.ilsource.specs.declared.instruction.Instruction.TheVariants as instructions
+use Rattle.ilsource.specs.declared.instruction.Line.{Line}
+use Rattle.ilsource.specs.declared.operand.Operand.TheVariants.{Name, Constant}
 use Rattle.ilsource.specs.declared.name.Name as names
 use Rattle.ilblocks.specs.declared.kind.BlockKind.TheVariants.{RTrig, GearLevel}
 use Rattle.ilblocks.specs.Calls.{Block as BlockState, at_first}

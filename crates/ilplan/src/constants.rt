@@ -3,8 +3,8 @@
 ghost use Rattle.std.specs.Prelude.{◌≡◌, ℕ, [], ◌∷◌, ◌++◌, List, flat_map};
 ghost use Rattle.std.specs.List.{list_any, IsDistinct};
 ghost use Rattle.iltypes.specs.declared.value.Value.{Value};
-ghost use Rattle.iltrees.specs.declared.instruction.Line.{Line};
-ghost use Rattle.iltrees.specs.Uses.{uses_in};
+ghost use Rattle.ilsource.specs.declared.instruction.Line.{Line};
+ghost use Rattle.ilsource.specs.Uses.{uses_in};
 ghost use Rattle.ilplan.specs.declared.place.Place.{Place};
 ghost use Rattle.ilplan.specs.Constants.{same_value, with_constant, each_once};
 ghost use Rattle.ilplan.specs.Constants.{different_constants, AreAmong};

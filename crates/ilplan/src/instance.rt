@@ -2,8 +2,7 @@
 
 use crate::place::Place;
 use ilblocks::BlockKind;
-use ilsource::Name;
-use iltrees::Line;
+use ilsource::{Line, Name};
 use std::marker::Model;
 
 /// A function block instance of a program instance.
@@ -27,9 +26,9 @@ pub struct ProgramInstance {
 impl Model for ProgramInstance {
     ghost use Rattle.std.specs.Prelude.{List};
     ghost use Rattle.std.specs.Coded.{codes, code_by};
-    ghost use Rattle.iltrees.specs.declared.nested.Piece.{Piece};
-    ghost use Rattle.iltrees.specs.Trees.{pieces_of};
-    ghost use Rattle.iltrees.specs.TreeSteps.{tree_of, tree_again};
+    ghost use Rattle.ilsource.specs.declared.nested.Piece.{Piece};
+    ghost use Rattle.ilsource.specs.Trees.{pieces_of};
+    ghost use Rattle.ilsource.specs.TreeSteps.{tree_of, tree_again};
     ghost use Rattle.ilplan.specs.declared.place.Place.{Place};
     ghost use Rattle.ilplan.specs.Plans.{PlannedInstance};
 

@@ -2,7 +2,7 @@
 //!
 //! What crosses the boundary: [`Plan`] with its [`Task`]s, their [`ProgramInstance`]s, [`Slot`]s
 //! and [`FunctionBlock`]s, which the resolving of names makes and the compiler lays out. The lines
-//! of an instance are those of `iltrees`, over [`Place`]s. What holds of each task is `KeepsLimits`
+//! of an instance are those of `ilsource`, over [`Place`]s. What holds of each task is `KeepsLimits`
 //! (specs/Plans.antt), and what a scan of it means is `plan_scan` (specs/PlanMeaning.antt), to be
 //! read first.
 //!

@@ -4,9 +4,9 @@ use crate::declared_name::{DeclaredName, SlotName};
 use crate::global::Global;
 use crate::slot::SlotOwner;
 use crate::task::Task;
-use binding::BoundSource;
 use gearcmd::TaskKind;
 use std::marker::Model;
+use wordlines::BoundSource;
 
 /// What a source program's tasks do, over slots in place of names. It has 1 to
 /// [`limits::MOST_BUSES`] buses, and at most [`limits::MOST_TASKS`] tasks.

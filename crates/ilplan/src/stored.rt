@@ -1,12 +1,12 @@
 //! Which slots the lines of a task store to.
 
 ghost use Rattle.std.specs.Prelude.{◌≡◌, IfOk, flat_map};
-ghost use Rattle.iltrees.specs.Uses.{uses_in};
+ghost use Rattle.ilsource.specs.Uses.{uses_in};
 ghost use Rattle.ilplan.specs.StoreSteps.{Adds, AreStored, slot_of, stored_in};
 
 use crate::instance::ProgramInstance;
 use crate::place::Place;
-use iltrees::{Instruction, Line};
+use ilsource::{Instruction, Line};
 use std::alloc::{AllocError, Global};
 
 /// For each of so many slots whether a line of the instances stores to it, sets it or resets it.

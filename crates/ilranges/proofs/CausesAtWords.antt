@@ -3,10 +3,10 @@ use Rattle.std.proofs.Common.{◌≡◌, ℕ, List, [], ◌∷◌, Option, Some,
 use Rattle.iltypes.specs.declared.range.Range.{Range}
 use Rattle.iltypes.specs.declared.value.IlType.{IlType}
 use Rattle.iltypes.specs.declared.value.IlType.TheVariants as types
-use Rattle.iloperators.specs.declared.condition.Condition.{Condition}
-use Rattle.iloperators.specs.declared.condition.Condition.TheVariants.{Always, IfTrue, IfFalse}
-use Rattle.iloperators.specs.declared.function.Function.{Function}
-use Rattle.iloperators.specs.declared.operator.Operator.{Operator}
+use Rattle.iltypes.specs.declared.condition.Condition.{Condition}
+use Rattle.iltypes.specs.declared.condition.Condition.TheVariants.{Always, IfTrue, IfFalse}
+use Rattle.iltypes.specs.declared.function.Function.{Function}
+use Rattle.iltypes.specs.declared.operator.Operator.{Operator}
 use Rattle.ilcode.specs.declared.word.Word.{Word}
 use Rattle.ilcode.specs.declared.word.Word.TheVariants as words
 use Rattle.ilcode.specs.declared.word.Target.TheVariants as variables

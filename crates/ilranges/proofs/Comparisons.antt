@@ -9,13 +9,13 @@ use Rattle.std.proofs.lemmas.Bool.Decides.{Decides-int_eq}
 use Rattle.iltypes.specs.declared.range.Range.{Range}
 use Rattle.iltypes.specs.declared.value.Value.TheVariants as values
 use Rattle.iltypes.specs.Arithmetic.{IsLeast, remainder}
-use Rattle.iloperators.specs.declared.operator.Operator.{Operator}
-use Rattle.iloperators.specs.declared.operator.Operator.TheVariants as operators
-use Rattle.iloperators.specs.Operators.{value_of_operator, number, fits}
+use Rattle.iltypes.specs.declared.operator.Operator.{Operator}
+use Rattle.iltypes.specs.declared.operator.Operator.TheVariants as operators
+use Rattle.iltypes.specs.Operators.{value_of_operator, number, fits}
 use Rattle.ilranges.specs.Comparisons.{IsPassing}
 use Rattle.ilranges.specs.ComparisonSteps.{IsTested, IsLeastTested, IsLeastOf}
-use Rattle.iloperators.specs.Comparisons.{compares, turned}
-use Rattle.iloperators.proofs.Comparisons.{has_opposite_outcome, turned_back}
+use Rattle.iltypes.specs.Comparisons.{compares, turned}
+use Rattle.iltypes.proofs.Comparisons.{has_opposite_outcome, turned_back}
 
 -- ---- the steps
 

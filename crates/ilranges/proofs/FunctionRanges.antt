@@ -12,11 +12,11 @@ use Rattle.iltypes.specs.Ranges.{Holds, IsWithin}
 use Rattle.iltypes.specs.Arithmetic.{IsMagnitude, IsLeast, Leaves}
 use Rattle.iltypes.proofs.Equality.{same_limits}
 use Rattle.iltypes.proofs.Limits.{holds_low, holds_high}
-use Rattle.iloperators.specs.declared.function.Function.{Function}
-use Rattle.iloperators.specs.declared.function.Function.TheVariants as functions
-use Rattle.iloperators.specs.declared.function.IntegerType.{IntegerType}
-use Rattle.iloperators.specs.declared.function.IntegerType.TheVariants as types
-use Rattle.iloperators.specs.Functions.{value_of_function, least_of, greatest_of}
+use Rattle.iltypes.specs.declared.function.Function.{Function}
+use Rattle.iltypes.specs.declared.function.Function.TheVariants as functions
+use Rattle.iltypes.specs.declared.function.IntegerType.{IntegerType}
+use Rattle.iltypes.specs.declared.function.IntegerType.TheVariants as types
+use Rattle.iltypes.specs.Functions.{value_of_function, least_of, greatest_of}
 use Rattle.ilranges.specs.declared.cause.Cause.{Cause}
 use Rattle.ilranges.specs.declared.cause.Cause.TheVariants as causes
 use Rattle.ilranges.specs.declared.known.Known.{Known}

@@ -3,8 +3,8 @@ use Rattle.std.proofs.Common.{◌≡◌, ◌∙◌, ℕ, ℤ, Bool, true, false,
 use Rattle.std.specs.Bool.{Decides}
 use Rattle.std.specs.Option.{option_eq}
 use Rattle.std.proofs.lemmas.Bool.Decides.{Decides-eqb, Decides-int_eq, Decides-and, Decides-like}
-use Rattle.iloperators.proofs.Equality.{same_operator}
-use Rattle.iloperators.specs.declared.operator.Operator.{Operator}
+use Rattle.iltypes.proofs.OperatorEquality.{same_operator}
+use Rattle.iltypes.specs.declared.operator.Operator.{Operator}
 use Rattle.ilranges.specs.declared.mark.ResultMark.{ResultMark}
 use Rattle.ilranges.specs.declared.mark.ResultMark.TheVariants.{Copy, Test}
 use Rattle.ilranges.specs.contracts.mark.ResultMarkPartialEq.TheImpl as mark_eq

@@ -1,8 +1,8 @@
 -- Who knows more before a function knows more after it.
 use Rattle.iltypes.specs.declared.value.Value.{Value}
 use Rattle.iltypes.specs.declared.value.Value.TheVariants as values
-use Rattle.iloperators.specs.declared.function.Function.{Function}
-use Rattle.iloperators.specs.Functions.{value_of_function}
+use Rattle.iltypes.specs.declared.function.Function.{Function}
+use Rattle.iltypes.specs.Functions.{value_of_function}
 use Rattle.ilranges.specs.declared.known.Known.{Known}
 use Rattle.ilranges.specs.declared.known.Known.TheVariants as knowns
 use Rattle.ilranges.specs.Knowns.{IsKnownWithin, AreReached}

@@ -9,9 +9,9 @@ use Rattle.iltypes.specs.declared.value.Value.{Value}
 use Rattle.iltypes.specs.declared.value.Value.TheVariants as values
 use Rattle.iltypes.specs.Ranges.{IsWithin}
 use Rattle.iltypes.specs.Arithmetic.{most_left, lower_remainder, upper_remainder}
-use Rattle.iloperators.specs.declared.operator.Operator.{Operator}
-use Rattle.iloperators.specs.declared.operator.Operator.TheVariants as operators
-use Rattle.iloperators.specs.Operators.{value_of_operator}
+use Rattle.iltypes.specs.declared.operator.Operator.{Operator}
+use Rattle.iltypes.specs.declared.operator.Operator.TheVariants as operators
+use Rattle.iltypes.specs.Operators.{value_of_operator}
 use Rattle.ilranges.specs.declared.known.Known.{Known}
 use Rattle.ilranges.specs.declared.known.Known.TheVariants as knowns
 use Rattle.ilranges.specs.Knowns.{IsKnownWithin, AreReached}

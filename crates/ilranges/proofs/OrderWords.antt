@@ -5,9 +5,9 @@ use Rattle.std.specs.List.{AllZip}
 use Rattle.std.specs.Option.{option_map}
 use Rattle.iltypes.specs.declared.value.IlType.{IlType}
 use Rattle.ilblocks.specs.Stores.{type_of_port}
-use Rattle.iloperators.specs.declared.function.Function.{Function}
-use Rattle.iloperators.specs.declared.function.Function.TheVariants as functions
-use Rattle.iloperators.specs.declared.operator.Operator.{Operator}
+use Rattle.iltypes.specs.declared.function.Function.{Function}
+use Rattle.iltypes.specs.declared.function.Function.TheVariants as functions
+use Rattle.iltypes.specs.declared.operator.Operator.{Operator}
 use Rattle.ilcode.specs.declared.word.WordOperand.{WordOperand}
 use Rattle.ilcode.specs.declared.word.WordOperand.TheVariants as operands
 use Rattle.ilcode.specs.declared.word.Target.{Target}

@@ -11,9 +11,9 @@ use Rattle.iltypes.specs.Ranges.{Holds}
 use Rattle.iltypes.specs.Arithmetic as arithmetic
 use Rattle.iltypes.proofs.Limits.{result}
 use Rattle.iltypes.proofs.Fitting.{fits_between}
-use Rattle.iloperators.specs.declared.operator.Operator.{Operator}
-use Rattle.iloperators.specs.declared.operator.Operator.TheVariants as operators
-use Rattle.iloperators.specs.Operators.{value_of_operator, quotient, modulo, fits, number}
+use Rattle.iltypes.specs.declared.operator.Operator.{Operator}
+use Rattle.iltypes.specs.declared.operator.Operator.TheVariants as operators
+use Rattle.iltypes.specs.Operators.{value_of_operator, quotient, modulo, fits, number}
 use Rattle.ilranges.specs.declared.cause.Cause.{Cause}
 use Rattle.ilranges.specs.declared.cause.Cause.TheVariants as causes
 use Rattle.ilranges.specs.declared.known.Known.TheVariants as knowns

@@ -9,7 +9,7 @@ use Rattle.iltypes.specs.declared.value.IlType.TheVariants as types
 use Rattle.iltypes.specs.declared.value.Value.{Value}
 use Rattle.iltypes.specs.declared.value.Value.TheVariants as values
 use Rattle.iltypes.specs.Modifiers.{opposite}
-use Rattle.iloperators.specs.Functions.{modified}
+use Rattle.iltypes.specs.Functions.{modified}
 use Rattle.ilranges.specs.declared.cause.Cause.{Cause}
 use Rattle.ilranges.specs.declared.cause.Cause.TheVariants as causes
 use Rattle.ilranges.specs.declared.known.Known.{Known}

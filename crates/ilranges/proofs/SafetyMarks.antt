@@ -9,13 +9,13 @@ use Rattle.iltypes.specs.declared.value.Value.{Value}
 use Rattle.iltypes.specs.declared.value.Value.TheVariants as values
 use Rattle.iltypes.specs.Modifiers.{opposite}
 use Rattle.iltypes.specs.Values.{IsOf, AreOf}
-use Rattle.iloperators.specs.declared.function.Function.{Function}
-use Rattle.iloperators.specs.declared.function.Function.TheVariants as functions
-use Rattle.iloperators.specs.declared.operator.Operator.{Operator}
-use Rattle.iloperators.specs.Comparisons.{compares, turned}
-use Rattle.iloperators.specs.Functions.{modified, value_of_function}
-use Rattle.iloperators.specs.Operators.{both, number}
-use Rattle.iloperators.proofs.Comparisons.{has_outcome, has_opposite_outcome}
+use Rattle.iltypes.specs.declared.function.Function.{Function}
+use Rattle.iltypes.specs.declared.function.Function.TheVariants as functions
+use Rattle.iltypes.specs.declared.operator.Operator.{Operator}
+use Rattle.iltypes.specs.Comparisons.{compares, turned}
+use Rattle.iltypes.specs.Functions.{modified, value_of_function}
+use Rattle.iltypes.specs.Operators.{both, number}
+use Rattle.iltypes.proofs.Comparisons.{has_outcome, has_opposite_outcome}
 use Rattle.ilblocks.specs.Stores.{Store}
 use Rattle.ilcode.specs.declared.word.WordOperand.{WordOperand}
 use Rattle.ilcode.specs.declared.word.WordOperand.TheVariants.{Slot, Constant, Port}

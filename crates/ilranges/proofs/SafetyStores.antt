@@ -14,7 +14,7 @@ use Rattle.ilblocks.specs.Stores.{type_of_port, called, Shape, Store, IsStoreOf,
 use Rattle.ilblocks.proofs.Blocks.{set_typed}
 use Rattle.ilblocks.proofs.Stores.{is_with_slot, and_then_made, with_port_is, with_port_typed, input_is_stored}
 use Rattle.ilblocks.proofs.Stores.{called_is, kind_is_called, called_typed}
-use Rattle.iloperators.specs.Functions.{modified}
+use Rattle.iltypes.specs.Functions.{modified}
 use Rattle.ilcode.specs.declared.word.WordOperand.{WordOperand}
 use Rattle.ilcode.specs.declared.word.Target.{Target}
 use Rattle.ilcode.specs.declared.word.Target.TheVariants as variables

@@ -11,11 +11,11 @@ use Rattle.iltypes.specs.declared.value.Value.TheVariants as values
 use Rattle.iltypes.specs.Values.{IsOf}
 use Rattle.ilblocks.specs.Stores.{Shape, Store, IsStoreOf, port_value, type_of_port}
 use Rattle.ilblocks.proofs.Stores.{port_value_typed, port_value_has_type}
-use Rattle.iloperators.specs.declared.function.Function.{Function}
-use Rattle.iloperators.specs.declared.function.Function.TheVariants as functions
-use Rattle.iloperators.specs.declared.operator.Operator.{Operator}
-use Rattle.iloperators.specs.Functions.{modified, value_of_function}
-use Rattle.iloperators.specs.Operators.{both, value_of_operator}
+use Rattle.iltypes.specs.declared.function.Function.{Function}
+use Rattle.iltypes.specs.declared.function.Function.TheVariants as functions
+use Rattle.iltypes.specs.declared.operator.Operator.{Operator}
+use Rattle.iltypes.specs.Functions.{modified, value_of_function}
+use Rattle.iltypes.specs.Operators.{both, value_of_operator}
 use Rattle.ilcode.specs.declared.word.WordOperand.{WordOperand}
 use Rattle.ilcode.specs.declared.word.WordOperand.TheVariants as operands
 use Rattle.ilcode.specs.Listings.{Listing, shape_of}

@@ -8,8 +8,8 @@ use Rattle.std.proofs.lemmas.Bool.Decides.{nat_tests}
 use Rattle.std.proofs.lemmas.Slice.Zip.{AllZip-long}
 use Rattle.limits.specs.Limits.{most_nesting}
 use Rattle.iltypes.specs.declared.value.Value.{Value}
-use Rattle.iloperators.specs.declared.operator.Operator.{Operator}
-use Rattle.iloperators.specs.Operators.{both}
+use Rattle.iltypes.specs.declared.operator.Operator.{Operator}
+use Rattle.iltypes.specs.Operators.{both}
 use Rattle.ilcode.specs.declared.nesting.Opened.{Opened}
 use Rattle.ilcode.specs.declared.word.Word.{Word}
 use Rattle.ilcode.specs.declared.word.Word.TheVariants as words

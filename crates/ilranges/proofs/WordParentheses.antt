@@ -1,7 +1,7 @@
 -- How many parentheses are open after a word, and when a rule holds whether or not a jump leads to the next place.
 use Rattle.std.proofs.Common.{◌≡◌, ℕ, ◌<◌, ◌+◌, ◌-◌, List, [], ◌∷◌, length, Option, Some, None, Bool, IsTrue, ◌⊎◌}
 use Rattle.std.proofs.Common.{inl, inr, ap, ◌∙◌, arith}
-use Rattle.iloperators.specs.declared.operator.Operator.{Operator}
+use Rattle.iltypes.specs.declared.operator.Operator.{Operator}
 use Rattle.ilcode.specs.declared.word.Word.{Word}
 use Rattle.ilcode.specs.declared.word.Word.TheVariants as words
 use Rattle.ilcode.specs.declared.word.Target.TheVariants.{Slot, Port}

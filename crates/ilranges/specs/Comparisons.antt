@@ -3,8 +3,8 @@ use Rattle.std.specs.Prelude.{◌≡◌, ℤ, Bool, Some}
 use Rattle.iltypes.specs.declared.range.Range.{Range}
 use Rattle.iltypes.specs.declared.value.Value.TheVariants as values
 use Rattle.iltypes.specs.Ranges.{Holds}
-use Rattle.iloperators.specs.declared.operator.Operator.{Operator}
-use Rattle.iloperators.specs.Operators.{value_of_operator}
+use Rattle.iltypes.specs.declared.operator.Operator.{Operator}
+use Rattle.iltypes.specs.Operators.{value_of_operator}
 
 -- the number is one of the range, and `number OP limit` has this outcome
 pub record IsPassing (comparison : Operator) (outcome : Bool) (limit : ℤ) (range : Range) (number : ℤ) : Type 0 where

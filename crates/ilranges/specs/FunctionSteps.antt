@@ -1,6 +1,6 @@
 -- What the steps of Known::after_function give.
 use Rattle.std.specs.Prelude.{Result, Ok, Err}
-use Rattle.iloperators.specs.declared.function.Function.{Function}
+use Rattle.iltypes.specs.declared.function.Function.{Function}
 use Rattle.ilranges.specs.declared.cause.Cause.{Cause}
 use Rattle.ilranges.specs.declared.known.Known.{Known}
 use Rattle.ilranges.specs.Causes.{IsLeastCause}

@@ -3,10 +3,10 @@ use Rattle.std.specs.Prelude.{◌≡◌, IsSome, IsNone, Some}
 use Rattle.iltypes.specs.declared.range.Range.{Range}
 use Rattle.iltypes.specs.declared.value.Value.{Value}
 use Rattle.iltypes.specs.Ranges.{IsWithin}
-use Rattle.iloperators.specs.declared.function.Function.{Function}
-use Rattle.iloperators.specs.declared.function.Function.TheVariants as functions
-use Rattle.iloperators.specs.declared.function.IntegerType.{IntegerType}
-use Rattle.iloperators.specs.Functions.{value_of_function, least_of, greatest_of}
+use Rattle.iltypes.specs.declared.function.Function.{Function}
+use Rattle.iltypes.specs.declared.function.Function.TheVariants as functions
+use Rattle.iltypes.specs.declared.function.IntegerType.{IntegerType}
+use Rattle.iltypes.specs.Functions.{value_of_function, least_of, greatest_of}
 use Rattle.ilranges.specs.declared.cause.Cause.{Cause}
 use Rattle.ilranges.specs.declared.cause.Cause.TheVariants as causes
 use Rattle.ilranges.specs.declared.known.Known.{Known}

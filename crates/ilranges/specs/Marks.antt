@@ -2,11 +2,11 @@
 use Rattle.std.specs.Prelude.{◌≡◌, ℕ, ℤ, Bool, false, if◌then◌else◌, List, Option, Some, None, slice_get, ⊤}
 use Rattle.iltypes.specs.declared.value.Value.{Value}
 use Rattle.iltypes.specs.declared.value.Value.TheVariants as values
-use Rattle.iloperators.specs.declared.function.Function.{Function}
-use Rattle.iloperators.specs.declared.function.Function.TheVariants as functions
-use Rattle.iloperators.specs.declared.operator.Operator.{Operator}
-use Rattle.iloperators.specs.Comparisons.{compares, turned}
-use Rattle.iloperators.specs.Operators.{value_of_operator}
+use Rattle.iltypes.specs.declared.function.Function.{Function}
+use Rattle.iltypes.specs.declared.function.Function.TheVariants as functions
+use Rattle.iltypes.specs.declared.operator.Operator.{Operator}
+use Rattle.iltypes.specs.Comparisons.{compares, turned}
+use Rattle.iltypes.specs.Operators.{value_of_operator}
 use Rattle.ilcode.specs.declared.word.WordOperand.{WordOperand}
 use Rattle.ilcode.specs.declared.word.WordOperand.TheVariants.{Slot, Constant, Port}
 use Rattle.ilcode.specs.Listings.{Listing}

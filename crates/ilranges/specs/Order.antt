@@ -1,8 +1,8 @@
 -- Who knows more before an operator, a function or a word knows more after it, and is refused only where who knows less
 -- is refused too.
 use Rattle.std.specs.Prelude.{ℕ, Bool, IsTrue, Option, Some, None, ⊤}
-use Rattle.iloperators.specs.declared.function.Function.{Function}
-use Rattle.iloperators.specs.declared.operator.Operator.{Operator}
+use Rattle.iltypes.specs.declared.function.Function.{Function}
+use Rattle.iltypes.specs.declared.operator.Operator.{Operator}
 use Rattle.ilcode.specs.declared.word.Word.{Word}
 use Rattle.ilcode.specs.Listings.{Listing}
 use Rattle.ilranges.specs.declared.cause.Cause.{Cause}

@@ -3,9 +3,9 @@ use Rattle.std.specs.Prelude.{◌≡◌, pos, IsSome, IsNone, Some}
 use Rattle.iltypes.specs.declared.value.Value.{Value}
 use Rattle.iltypes.specs.declared.value.Value.TheVariants as values
 use Rattle.iltypes.specs.Arithmetic.{lower_remainder, upper_remainder}
-use Rattle.iloperators.specs.declared.operator.Operator.{Operator}
-use Rattle.iloperators.specs.declared.operator.Operator.TheVariants as operators
-use Rattle.iloperators.specs.Operators.{value_of_operator}
+use Rattle.iltypes.specs.declared.operator.Operator.{Operator}
+use Rattle.iltypes.specs.declared.operator.Operator.TheVariants as operators
+use Rattle.iltypes.specs.Operators.{value_of_operator}
 use Rattle.ilranges.specs.declared.cause.Cause.{Cause}
 use Rattle.ilranges.specs.declared.cause.Cause.TheVariants as causes
 use Rattle.ilranges.specs.declared.known.Known.{Known}

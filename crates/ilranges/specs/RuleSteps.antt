@@ -1,7 +1,7 @@
 -- What the steps of the rules give: which kinds operators take, and which may be stored.
 use Rattle.std.specs.Prelude.{Bool, true, false, if◌then◌else◌}
-use Rattle.iloperators.specs.declared.operator.Operator.{Operator}
-use Rattle.iloperators.specs.declared.operator.Operator.TheVariants as operators
+use Rattle.iltypes.specs.declared.operator.Operator.{Operator}
+use Rattle.iltypes.specs.declared.operator.Operator.TheVariants as operators
 use Rattle.ilranges.specs.declared.cause.Cause.{Cause}
 use Rattle.ilranges.specs.declared.cause.Cause.TheVariants as causes
 use Rattle.ilranges.specs.declared.known.Known.{Known}

@@ -5,8 +5,7 @@ ghost use Rattle.iltypes.specs.Arithmetic.{IsLeast};
 ghost use Rattle.ilranges.specs.Comparisons.{IsPassing};
 ghost use Rattle.ilranges.specs.ComparisonSteps.{IsLeastOf, IsLeastTested};
 
-use iloperators::Operator;
-use iltypes::Range;
+use iltypes::{Operator, Range};
 
 /// The least range of the numbers of `range` for which `number OP limit` has this outcome
 /// (IEC 61131-3, 3.2.2), or `None` where there is no such number, as for an operator that does not

@@ -4,8 +4,7 @@ ghost use Rattle.std.specs.Prelude.{◌≡◌, ◌↔◌, IfOk, Err};
 
 use crate::cause::Cause;
 use crate::known::Known;
-use iloperators::{Function, IntegerType};
-use iltypes::Range;
+use iltypes::{Function, IntegerType, Range};
 
 impl Known {
     ghost use Rattle.ilranges.specs.declared.cause.Cause.{Cause};

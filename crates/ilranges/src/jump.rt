@@ -14,7 +14,7 @@ use crate::comparison::passing;
 use crate::entry::Entry;
 use crate::known::Known;
 use crate::mark::ResultMark;
-use iloperators::{Condition, Operator};
+use iltypes::{Condition, Operator};
 
 /// Whether a jump with this condition may test the current result (IEC 61131-3, 3.2.2: the
 /// modifiers C and CN), which has to be a truth value.

@@ -1,6 +1,6 @@
 //! What the current result says of a slot.
 
-use iloperators::Operator;
+use iltypes::Operator;
 
 /// What the current result says of the number in a slot (profile).
 #[derive(Clone, Copy, PartialEq, Eq)]

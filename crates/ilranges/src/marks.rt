@@ -7,8 +7,7 @@ ghost use Rattle.ilranges.specs.Marks.{mark_of_function};
 use crate::known::Known;
 use crate::mark::ResultMark;
 use ilcode::{Code, WordOperand};
-use iloperators::{Function, Operator};
-use iltypes::Value;
+use iltypes::{Function, Operator, Value};
 
 /// The mark after LD or LDN of an operand that leaves what is known so: LD copies the number of a
 /// slot.

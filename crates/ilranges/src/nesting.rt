@@ -4,7 +4,7 @@ ghost use Rattle.std.specs.Prelude.{◌≡◌, [], ◌∷◌, drop, length, slic
 ghost use Rattle.std.specs.Prelude.{OnOk};
 
 use crate::known::Known;
-use iloperators::Operator;
+use iltypes::Operator;
 use std::alloc::{AllocError, Global};
 use std::marker::Model;
 

@@ -1,7 +1,7 @@
 //! The law that who knows more before an operator, a function or a word knows more after it.
 
-ghost use Rattle.iloperators.specs.declared.function.Function.{Function};
-ghost use Rattle.iloperators.specs.declared.operator.Operator.{Operator};
+ghost use Rattle.iltypes.specs.declared.function.Function.{Function};
+ghost use Rattle.iltypes.specs.declared.operator.Operator.{Operator};
 ghost use Rattle.ilcode.specs.declared.word.Word.{Word};
 ghost use Rattle.ilranges.specs.Order.{KeepsOrder, KeepsRefusals};
 ghost use Rattle.ilranges.specs.Order.{FunctionKeepsOrder, FunctionKeepsRefusals};

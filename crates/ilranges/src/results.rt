@@ -4,8 +4,7 @@ ghost use Rattle.std.specs.Prelude.{◌≡◌, ◌↔◌, IfOk, Err};
 
 use crate::cause::Cause;
 use crate::known::Known;
-use iloperators::Operator;
-use iltypes::Range;
+use iltypes::{Operator, Range};
 
 impl Known {
     ghost use Rattle.ilranges.specs.declared.cause.Cause.{Cause};

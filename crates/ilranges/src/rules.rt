@@ -11,8 +11,7 @@ ghost use Rattle.ilranges.specs.Rules.{IsStored, MaySet};
 
 use crate::cause::Cause;
 use crate::known::Known;
-use iloperators::{Function, Operator};
-use iltypes::IlType;
+use iltypes::{Function, IlType, Operator};
 
 /// What is known under the modifier N of LDN and STN (IEC 61131-3, 3.2.2), which takes no number.
 pub(crate) fn modify(negated: bool, known: Known) -> Result<Known, Cause>

@@ -24,7 +24,7 @@ use crate::nesting::KnownOpened;
 use crate::operand::{known_of, may_write, type_of_variable};
 use crate::rules;
 use ilcode::{Code, Target, Word};
-use iloperators::Operator;
+use iltypes::Operator;
 use limits::MOST_NESTING;
 
 /// What a word changes that leads to the next place alone.

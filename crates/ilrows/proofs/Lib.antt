@@ -5,3 +5,4 @@ pub mod RowAccess
 pub mod RowEnds
 pub mod RowWrites
 pub mod Rows
+pub mod SlotPlaces

@@ -5,7 +5,7 @@ use Rattle.std.specs.Prelude.{Option, Some, None, IsNone, bytes_eq, option_map, 
 use Rattle.std.specs.Map.{lookup}
 use Rattle.std.proofs.lemmas.Option.{get_or_from_slice_get}
 use Rattle.ilsource.specs.Names.{folded, text_of}
-use Rattle.ilsource.specs.Trees.{Tree}
+use Rattle.ilsource.specs.SourceTrees.{Tree}
 use Rattle.ilsource.specs.declared.name.Name.{Name}
 use Rattle.ildeclared.specs.Faults.{SomeOf}
 use Rattle.ildeclared.specs.Kept.{Kept}

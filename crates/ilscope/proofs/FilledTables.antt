@@ -4,7 +4,7 @@ use Rattle.std.proofs.Common.{◌≡◌, ◌∙◌, ℕ, List, [], ◌∷◌, ap
 use Rattle.std.specs.Prelude.{Option, filter_map, flat_map}
 use Rattle.iltypes.specs.declared.value.IlType.{IlType}
 use Rattle.ilsource.specs.Names.{folded, text_of}
-use Rattle.ilsource.specs.Trees.{Tree, types_of}
+use Rattle.ilsource.specs.SourceTrees.{Tree, types_of}
 use Rattle.ilsource.specs.declared.declaration.TypeDeclaration.{TypeDeclaration}
 use Rattle.ilsource.specs.declared.name.Name.{Name}
 use Rattle.ilsource.specs.declared.source.Element.{Element}

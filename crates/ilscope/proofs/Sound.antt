@@ -13,20 +13,20 @@ use Rattle.std.specs.Prelude.{reverse, int_le}
 use Rattle.std.specs.Prelude.{map, option_and_then, option_map, unwrap_or, if◌then◌else◌, ◌⊎◌, ◌<ℤ◌}
 use Rattle.std.specs.List.{cons_option}
 use Rattle.std.specs.Option.{option_or}
-use Rattle.binding.specs.Wirings.{Wiring, IsAt}
-use Rattle.binding.specs.declared.sources.BoundSource.{BoundSource}
+use Rattle.wordlines.specs.Wirings.{Wiring, IsAt}
+use Rattle.wordlines.specs.declared.sources.BoundSource.{BoundSource}
 use Rattle.iltypes.specs.Values.{IsOf}
 use Rattle.iltypes.specs.declared.range.Range.{Range}
 use Rattle.iltypes.specs.declared.value.IlType.{IlType}
 use Rattle.iltypes.specs.declared.value.IlType.TheVariants as types
 use Rattle.iltypes.specs.declared.value.Value.{Value}
 use Rattle.iltypes.specs.declared.value.Value.TheVariants as values
-use Rattle.iloperators.specs.Functions.{least_of, greatest_of}
+use Rattle.iltypes.specs.Functions.{least_of, greatest_of}
 use Rattle.iltokens.specs.declared.lexed.AddressKind.{AddressKind}
 use Rattle.iltokens.specs.declared.lexed.AddressKind.TheVariants.{OutputByte, InputWord, InputBit}
 use Rattle.ilsource.specs.Configurations.{DeclaredGlobals, globals_of as declared_together}
 use Rattle.ilsource.specs.Names.{folded}
-use Rattle.ilsource.specs.Trees.{Tree, types_of}
+use Rattle.ilsource.specs.SourceTrees.{Tree, types_of}
 use Rattle.ilsource.specs.declared.address.DirectAddress.{DirectAddress}
 use Rattle.ilsource.specs.declared.declaration.Constant.{Constant}
 use Rattle.ilsource.specs.declared.declaration.Declared.TheVariants as declared_as

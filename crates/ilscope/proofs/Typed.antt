@@ -13,13 +13,13 @@ use Rattle.iltypes.specs.declared.value.IlType.{IlType}
 use Rattle.iltypes.specs.declared.value.IlType.TheVariants as types
 use Rattle.iltypes.specs.declared.value.Value.{Value}
 use Rattle.iltypes.specs.declared.value.Value.TheVariants as values
-use Rattle.iloperators.specs.Functions.{least_of, greatest_of}
-use Rattle.iloperators.specs.declared.function.IntegerType.{IntegerType}
-use Rattle.iloperators.specs.declared.function.IntegerType.TheVariants as integers
+use Rattle.iltypes.specs.Functions.{least_of, greatest_of}
+use Rattle.iltypes.specs.declared.function.IntegerType.{IntegerType}
+use Rattle.iltypes.specs.declared.function.IntegerType.TheVariants as integers
 use Rattle.ilsource.specs.Names.{folded}
 use Rattle.ilsource.specs.Programs.{DeclaredNames}
 use Rattle.ilsource.specs.Configurations.{DeclaredGlobals}
-use Rattle.ilsource.specs.Trees.{Tree, types_of}
+use Rattle.ilsource.specs.SourceTrees.{Tree, types_of}
 use Rattle.ilsource.specs.declared.address.DirectAddress.{DirectAddress}
 use Rattle.ilsource.specs.declared.declaration.Constant.{Constant}
 use Rattle.ilsource.specs.declared.declaration.Constant.TheVariants as constants

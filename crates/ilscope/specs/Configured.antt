@@ -7,7 +7,7 @@ use Rattle.std.specs.Option.{option_map_or}
 use Rattle.iltypes.specs.declared.value.IlType.{IlType}
 use Rattle.ilsource.specs.Configurations.{DeclaredGlobals}
 use Rattle.ilsource.specs.Names.{folded}
-use Rattle.ilsource.specs.Trees.{Tree, types_of}
+use Rattle.ilsource.specs.SourceTrees.{Tree, types_of}
 use Rattle.ilsource.specs.declared.address.DirectAddress.{DirectAddress}
 use Rattle.ilsource.specs.declared.configuration.InstanceDeclaration.{InstanceDeclaration}
 use Rattle.ilsource.specs.declared.configuration.TaskDeclaration.{TaskDeclaration}

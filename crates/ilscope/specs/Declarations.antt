@@ -4,7 +4,7 @@
 use Rattle.std.specs.Prelude.{ℕ, List, [], ◌∷◌, Option, filter_map, option_map}
 use Rattle.ilsource.specs.Names.{folded}
 use Rattle.ilsource.specs.Programs.{DeclaredNames, Written}
-use Rattle.ilsource.specs.Trees.{Tree, program_in}
+use Rattle.ilsource.specs.SourceTrees.{Tree, program_in}
 use Rattle.ilsource.specs.declared.declaration.Declared.TheVariants as declared_as
 use Rattle.ilsource.specs.declared.declaration.TypeDeclaration.{TypeDeclaration}
 use Rattle.ilsource.specs.declared.name.Name.{Name}

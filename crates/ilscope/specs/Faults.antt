@@ -2,12 +2,12 @@
 -- (IEC 61131-3, 2.3.3.1, 2.4.3 and 2.7.1: a name is declared once, a type above its use, an initial value is of the
 -- type, an external is a global variable of the same type, a program instance is one of a program, with a task).
 use Rattle.std.specs.Prelude.{◌≡◌, ◌≢◌, ◌⊎◌, ⊤, ℕ, pos, ◌<ℤ◌, List, [], map, Option, Some, None, IsSomeAnd}
-use Rattle.binding.specs.Wirings.{Wiring}
+use Rattle.wordlines.specs.Wirings.{Wiring}
 use Rattle.iltypes.specs.declared.value.IlType.{IlType}
 use Rattle.iltokens.specs.declared.lexed.AddressKind.TheVariants as address_kinds
 use Rattle.ilsource.specs.Names.{folded}
 use Rattle.ilsource.specs.Programs.{DeclaredNames}
-use Rattle.ilsource.specs.Trees.{Tree, programs_of}
+use Rattle.ilsource.specs.SourceTrees.{Tree, programs_of}
 use Rattle.ilsource.specs.declared.configuration.InstanceDeclaration.{InstanceDeclaration}
 use Rattle.ilsource.specs.declared.configuration.TaskDeclaration.{TaskDeclaration}
 use Rattle.ilsource.specs.declared.name.Name.{Name}

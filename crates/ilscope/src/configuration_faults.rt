@@ -8,13 +8,13 @@ use crate::other_types::other_externals;
 use crate::tables::Tables;
 use crate::tasks::{bad_tasks, no_triggers, without_task};
 use crate::unknown::{unknown_externals, unknown_programs, unknown_tasks, unknown_triggers};
-use binding::Binding;
 use ildeclared::{
     Found, addresses_of, bad_addresses, badly_located, fault_of_globals, inputs_given,
     inputs_too_small, lesser_of, twice_addresses,
 };
 use ilsource::DirectAddress;
 use std::alloc::{AllocError, Global};
+use wordlines::Binding;
 
 impl<'a> Tables<'a> {
     ghost use Rattle.std.specs.Prelude.{◌≡◌, ◌⊎◌, IfOk};

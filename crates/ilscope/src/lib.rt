@@ -2,7 +2,7 @@
 //! each program, and the global variables, tasks and program instances of its configuration.
 //!
 //! What crosses the boundary: [`Scope`], which is made of an [`ilsource::Source`] and a
-//! [`binding::Binding`]. It has each program with its [`DeclaredVariable`]s, [`DeclaredBlock`]s and
+//! [`wordlines::Binding`]. It has each program with its [`DeclaredVariable`]s, [`DeclaredBlock`]s and
 //! [`DeclaredExternal`]s, the [`DeclaredGlobal`]s, and the least fault of the declarations:
 //! [`NameFault`], with its line, its column and its [`NameCause`]; [`Found`] is a fault at its
 //! place in the text. What one declaration says stands in `ildeclared`, whose types are shown

@@ -7,12 +7,12 @@ ghost use Rattle.ilscope.specs.Reports.{IsReportOf, IsReportOfOption};
 
 use crate::program_scope::ProgramScope;
 use crate::tables::Tables;
-use binding::Binding;
 use ilblocks::BlockKind;
 use ildeclared::{DeclaredGlobal, Found, NameFault, lesser_of};
 use ilsource::{LineColumn, Name, Source};
 use std::alloc::{AllocError, Global};
 use std::marker::Model;
+use wordlines::Binding;
 
 /// What a source program declares, and the least fault of its declarations.
 #[derive(Drop)]

@@ -52,7 +52,7 @@ impl Drop for Tables<'_> {
 impl<'a> Model for Tables<'a> {
     ghost use Rattle.std.specs.Coded.{codes};
     ghost use Rattle.ilsource.specs.contracts.source.Element as element;
-    ghost use Rattle.ilsource.specs.Trees.{Tree};
+    ghost use Rattle.ilsource.specs.SourceTrees.{Tree};
     ghost use Rattle.ilscope.specs.ScopeSteps.{AreTablesOf};
 
     ghost Value = { Tree };

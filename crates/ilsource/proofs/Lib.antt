@@ -1,1 +1,5 @@
 mod Counting
+pub mod Grown
+pub mod KeptMeaning
+pub mod KeptSizes
+pub mod Spelled

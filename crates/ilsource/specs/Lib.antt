@@ -1,5 +1,13 @@
 pub mod Configurations
+pub mod Meaning
 pub mod Names
+pub mod Passes
 pub mod Places
 pub mod Programs
+pub mod Renaming
+pub mod Rows
+pub mod SourceTrees
+pub mod TreeSteps
 pub mod Trees
+pub mod Uses
+pub mod Words

@@ -1,13 +1,13 @@
 -- Programs as contracts see them (IEC 61131-3, 2.4.3 and 3.2).
 use Rattle.std.specs.Prelude.{List, flat_map, ⊤}
 use Rattle.std.specs.List.{AllByRecursion}
-use Rattle.iltrees.specs.declared.instruction.Line.{Line}
-use Rattle.iltrees.specs.declared.operand.Operand.{Operand}
-use Rattle.iltrees.specs.declared.operand.Operand.TheVariants.{Name as Named}
-use Rattle.iltrees.specs.declared.uses.Purpose.{Purpose}
-use Rattle.iltrees.specs.declared.uses.Purpose.TheVariants.{Read, Write, Call, Pass}
-use Rattle.iltrees.specs.declared.uses.Use.{Use}
-use Rattle.iltrees.specs.Uses.{uses_in}
+use Rattle.ilsource.specs.declared.instruction.Line.{Line}
+use Rattle.ilsource.specs.declared.operand.Operand.{Operand}
+use Rattle.ilsource.specs.declared.operand.Operand.TheVariants.{Name as Named}
+use Rattle.ilsource.specs.declared.uses.Purpose.{Purpose}
+use Rattle.ilsource.specs.declared.uses.Purpose.TheVariants.{Read, Write, Call, Pass}
+use Rattle.ilsource.specs.declared.uses.Use.{Use}
+use Rattle.ilsource.specs.Uses.{uses_in}
 use Rattle.ilsource.specs.declared.name.Name.{Name}
 use Rattle.ilsource.specs.declared.declaration.Declared.{Declared}
 use Rattle.ilsource.specs.declared.symbol.Symbol.{Symbol}

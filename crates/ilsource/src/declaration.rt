@@ -2,7 +2,7 @@
 
 use crate::name::Name;
 use ilblocks::BlockKind;
-use iloperators::IntegerType;
+use iltypes::IntegerType;
 use std::marker::Model;
 
 /// A constant as it is written.

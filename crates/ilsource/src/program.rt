@@ -1,9 +1,9 @@
 //! Programs.
 
+use crate::Line;
 use crate::declaration::Declaration;
 use crate::name::Name;
 use crate::symbol::Symbol;
-use iltrees::Line;
 use std::marker::Model;
 
 /// `PROGRAM name { VAR .. END_VAR } { line } END_PROGRAM`. No more parentheses are open at once
@@ -19,10 +19,10 @@ pub struct Program {
 impl Model for Program {
     ghost use Rattle.std.specs.Prelude.{List};
     ghost use Rattle.std.specs.Coded.{codes, code_by};
-    ghost use Rattle.iltrees.specs.declared.nested.Piece.{Piece};
-    ghost use Rattle.iltrees.specs.Trees.{pieces_of};
-    ghost use Rattle.iltrees.specs.TreeSteps.{tree_of, tree_again};
-    ghost use Rattle.iltrees.specs.Words.{AreShallow};
+    ghost use Rattle.ilsource.specs.declared.nested.Piece.{Piece};
+    ghost use Rattle.ilsource.specs.Trees.{pieces_of};
+    ghost use Rattle.ilsource.specs.TreeSteps.{tree_of, tree_again};
+    ghost use Rattle.ilsource.specs.Words.{AreShallow};
     ghost use Rattle.ilsource.specs.declared.symbol.Symbol.{Symbol};
     ghost use Rattle.ilsource.specs.Programs.{Written, AreSorted};
 
@@ -44,7 +44,7 @@ impl Model for Program {
 
 impl Program {
     ghost use Rattle.std.specs.Prelude.{◌≡◌};
-    ghost use Rattle.iltrees.specs.Words.{AreShallow};
+    ghost use Rattle.ilsource.specs.Words.{AreShallow};
     ghost use Rattle.ilsource.specs.Programs.{Written, AreSorted};
 
     /// The program of these declarations and lines.

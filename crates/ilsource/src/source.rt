@@ -26,7 +26,7 @@ impl Model for Source {
     ghost use Rattle.std.specs.Coded.{codes};
     ghost use Rattle.limits.specs.Limits.{most_bytes};
     ghost use Rattle.ilsource.specs.contracts.source.Element as element;
-    ghost use Rattle.ilsource.specs.Trees.{Tree};
+    ghost use Rattle.ilsource.specs.SourceTrees.{Tree};
 
     ghost Value = { Tree };
 
@@ -44,7 +44,7 @@ impl Model for Source {
 impl Source {
     ghost use Rattle.std.specs.Prelude.{◌≡◌, ◌≤◌, length, option_map};
     ghost use Rattle.limits.specs.Limits.{most_bytes};
-    ghost use Rattle.ilsource.specs.Trees.{Tree};
+    ghost use Rattle.ilsource.specs.SourceTrees.{Tree};
 
     /// The source program of these types and programs and this configuration, whose names stand in
     /// `text`.

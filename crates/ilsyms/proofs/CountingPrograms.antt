@@ -7,9 +7,9 @@ use Rattle.std.proofs.lemmas.Bool.Decides.{Decides-eqb}
 use Rattle.std.proofs.lemmas.Grind.{flat_map-append}
 use Rattle.std.proofs.lemmas.List.Folds.{list_any-append}
 use Rattle.iltypes.specs.declared.value.Value.{Value}
-use Rattle.iltrees.specs.declared.uses.Use.{Use}
-use Rattle.iltrees.specs.Uses.{uses_in}
-use Rattle.ilsource.specs.Trees.{Tree}
+use Rattle.ilsource.specs.declared.uses.Use.{Use}
+use Rattle.ilsource.specs.Uses.{uses_in}
+use Rattle.ilsource.specs.SourceTrees.{Tree}
 use Rattle.ilsource.specs.declared.symbol.Symbol.{Symbol}
 use Rattle.ildeclared.specs.Faults.{SomeOf}
 use Rattle.ildeclared.proofs.Least.{some_front, some_last}

@@ -4,8 +4,8 @@ use Rattle.std.proofs.Common.{inl, inr, arith}
 use Rattle.std.specs.Prelude.{◌↔◌, Option, Some, flat_map, option_map, slice_get}
 use Rattle.std.proofs.lemmas.Option.{slice_get-map}
 use Rattle.limits.specs.Limits.{most_blocks, most_instances, most_slots, most_tasks, most_words}
-use Rattle.iltrees.specs.Words.{places_in}
-use Rattle.ilsource.specs.Trees.{Tree}
+use Rattle.ilsource.specs.Words.{places_in}
+use Rattle.ilsource.specs.SourceTrees.{Tree}
 use Rattle.ilsource.specs.declared.name.Name.{Name}
 use Rattle.ildeclared.specs.Faults.{IsLeastOf, OfCause, SomeOf}
 use Rattle.ildeclared.specs.Order.{lesser_of_two}

@@ -8,13 +8,13 @@ use Rattle.std.proofs.lemmas.Int.{ints}
 use Rattle.std.proofs.lemmas.List.{get_or-map}
 use Rattle.std.proofs.lemmas.List.Elements.{All-map}
 use Rattle.std.specs.Prelude.{Option, Some, None, IfSome, All, AllPairs, Any, option_map, nat_lt, if◌then◌else◌, ◌<ℤ◌}
-use Rattle.binding.specs.Wirings.{Wiring, IsAt, IsWithinLimits, IsOnBus}
-use Rattle.binding.specs.declared.sources.BoundSource.{BoundSource}
+use Rattle.wordlines.specs.Wirings.{Wiring, IsAt, IsWithinLimits, IsOnBus}
+use Rattle.wordlines.specs.declared.sources.BoundSource.{BoundSource}
 use Rattle.iltypes.specs.declared.value.IlType.{IlType}
 use Rattle.iltypes.specs.declared.value.IlType.TheVariants as types
 use Rattle.iltokens.specs.declared.lexed.AddressKind.{AddressKind}
 use Rattle.iltokens.specs.declared.lexed.AddressKind.TheVariants.{OutputByte, InputWord, InputBit}
-use Rattle.ilsource.specs.Trees.{Tree}
+use Rattle.ilsource.specs.SourceTrees.{Tree}
 use Rattle.ilsource.specs.declared.address.DirectAddress.{DirectAddress}
 use Rattle.ildeclared.specs.Faults.{greatest_at, IsBound, IsOtherArea, IsThere, LacksWord, SameAddress, SomeOf}
 use Rattle.ildeclared.specs.declared.global.DeclaredGlobal.{DeclaredGlobal}

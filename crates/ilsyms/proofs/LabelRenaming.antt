@@ -5,9 +5,9 @@ use Rattle.std.specs.Prelude.{Option, Some, None, bytes_eq}
 use Rattle.std.specs.List.{list_any, position_or_len}
 use Rattle.std.proofs.lemmas.Bool.Decides.{Decides-eqb, same_from_decides}
 use Rattle.std.proofs.lemmas.List.Sums.{passes_at_first}
-use Rattle.iltrees.specs.declared.instruction.Line.{Line}
-use Rattle.iltrees.specs.Passes.{has_label}
-use Rattle.iltrees.specs.Renaming.{IsLabelKept, AreKept}
+use Rattle.ilsource.specs.declared.instruction.Line.{Line}
+use Rattle.ilsource.specs.Passes.{has_label}
+use Rattle.ilsource.specs.Renaming.{IsLabelKept, AreKept}
 use Rattle.ilsource.specs.declared.name.Name.{Name}
 use Rattle.ilsource.specs.declared.symbol.Symbol.{Symbol}
 use Rattle.ilsource.specs.Names.{folded}

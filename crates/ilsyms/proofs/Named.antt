@@ -10,21 +10,21 @@ use Rattle.std.proofs.lemmas.Grind.{flat_map-append}
 use Rattle.std.proofs.lemmas.List.{map-append}
 use Rattle.std.proofs.lemmas.List.Folds.{list_any-append}
 use Rattle.std.proofs.lemmas.Option.{slice_get-map}
-use Rattle.binding.specs.Wirings.{Wiring}
-use Rattle.iltrees.specs.declared.instruction.Line.{Line}
-use Rattle.iltrees.specs.declared.operand.Operand.{Operand}
-use Rattle.iltrees.specs.declared.operand.Operand.TheVariants.{Name as Named, Constant}
-use Rattle.iltrees.specs.declared.uses.Purpose.{Purpose}
-use Rattle.iltrees.specs.declared.uses.Purpose.TheVariants.{Read, Write, Call, Pass}
-use Rattle.iltrees.specs.declared.uses.Use.{Use}
-use Rattle.iltrees.specs.Renaming.{by_name, rename_line, rename_use}
-use Rattle.iltrees.specs.Uses.{uses_in}
-use Rattle.iltrees.proofs.KeptSizes.{uses_kept}
+use Rattle.wordlines.specs.Wirings.{Wiring}
+use Rattle.ilsource.specs.declared.instruction.Line.{Line}
+use Rattle.ilsource.specs.declared.operand.Operand.{Operand}
+use Rattle.ilsource.specs.declared.operand.Operand.TheVariants.{Name as Named, Constant}
+use Rattle.ilsource.specs.declared.uses.Purpose.{Purpose}
+use Rattle.ilsource.specs.declared.uses.Purpose.TheVariants.{Read, Write, Call, Pass}
+use Rattle.ilsource.specs.declared.uses.Use.{Use}
+use Rattle.ilsource.specs.Renaming.{by_name, rename_line, rename_use}
+use Rattle.ilsource.specs.Uses.{uses_in}
+use Rattle.ilsource.proofs.KeptSizes.{uses_kept}
 use Rattle.ilblocks.specs.declared.kind.BlockKind.{BlockKind}
 use Rattle.ilblocks.specs.Ports.{most_ports, port_named, ports_of}
 use Rattle.ilsource.specs.Names.{SameName, folded, text_of}
 use Rattle.ilsource.specs.Programs.{AreSorted, MayBeUsed, MayStand}
-use Rattle.ilsource.specs.Trees.{Tree}
+use Rattle.ilsource.specs.SourceTrees.{Tree}
 use Rattle.ilsource.specs.declared.configuration.InstanceDeclaration.{InstanceDeclaration}
 use Rattle.ilsource.specs.declared.name.Name.{Name}
 use Rattle.ilsource.specs.declared.symbol.Symbol.{Symbol}

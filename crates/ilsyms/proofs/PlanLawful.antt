@@ -9,13 +9,13 @@ use Rattle.std.specs.Prelude.{option_map, unwrap_or}
 use Rattle.std.specs.List.{AllByRecursion}
 use Rattle.std.specs.Option.{option_map_or}
 use Rattle.limits.specs.Limits.{most_bytes}
-use Rattle.binding.specs.Wirings.{Wiring, IsWithinLimits}
+use Rattle.wordlines.specs.Wirings.{Wiring, IsWithinLimits}
 use Rattle.iltypes.specs.Values.{AreOf}
 use Rattle.iltokens.specs.declared.lexed.AddressKind.{AddressKind}
 use Rattle.iltokens.specs.declared.lexed.AddressKind.TheVariants.{OutputByte, InputWord, InputBit}
 use Rattle.ilsource.specs.Configurations.{Configured}
 use Rattle.ilsource.specs.Names.{folded}
-use Rattle.ilsource.specs.Trees.{Tree}
+use Rattle.ilsource.specs.SourceTrees.{Tree}
 use Rattle.ilsource.specs.declared.address.DirectAddress.{DirectAddress}
 use Rattle.ilsource.specs.declared.configuration.TaskDeclaration.{TaskDeclaration}
 use Rattle.ilsource.specs.declared.name.Name.{Name}

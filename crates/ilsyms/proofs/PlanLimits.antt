@@ -7,14 +7,14 @@ use Rattle.std.specs.Option.{option_map_or}
 use Rattle.std.proofs.Math.ListN.{length-map}
 use Rattle.std.proofs.lemmas.List.Concat.{length-flat_map}
 use Rattle.std.proofs.lemmas.List.FromFn.{length-enumerate_from}
-use Rattle.binding.specs.Wirings.{Wiring}
-use Rattle.iltrees.specs.Words.{places_in, words_of_lines, AreShallow}
+use Rattle.wordlines.specs.Wirings.{Wiring}
+use Rattle.ilsource.specs.Words.{places_in, words_of_lines, AreShallow}
 use Rattle.ilsource.specs.Configurations.{Configured}
 use Rattle.ilsource.specs.declared.configuration.TaskDeclaration.{TaskDeclaration}
 use Rattle.ilsource.specs.Names.{folded}
 use Rattle.ilsource.specs.Programs.{AreSorted}
 use Rattle.ilsource.specs.declared.name.Name.{Name}
-use Rattle.ilsource.specs.Trees.{Tree}
+use Rattle.ilsource.specs.SourceTrees.{Tree}
 use Rattle.ildeclared.specs.declared.fault.NameCause.TheVariants.{Twice, TooMany, BadDeclaration}
 use Rattle.ilscope.specs.Configured.{global_number, instance_declarations, task_declarations}
 use Rattle.ilscope.specs.Declarations.{declared_programs}

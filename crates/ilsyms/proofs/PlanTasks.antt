@@ -9,7 +9,7 @@ use Rattle.std.proofs.lemmas.List.{map-append}
 use Rattle.std.proofs.lemmas.Option.{slice_get-map, get_or_from_slice_get}
 use Rattle.ilsource.specs.Configurations.{Configured}
 use Rattle.ilsource.specs.declared.configuration.TaskDeclaration.{TaskDeclaration}
-use Rattle.ilsource.specs.Trees.{Tree}
+use Rattle.ilsource.specs.SourceTrees.{Tree}
 use Rattle.ildeclared.proofs.Least.{take_more}
 use Rattle.ilplan.specs.Plans.{PlannedTask}
 use Rattle.ilsyms.specs.declared.tasks.TaskInstance.{TaskInstance}

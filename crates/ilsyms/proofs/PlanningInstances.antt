@@ -9,14 +9,14 @@ use Rattle.std.proofs.lemmas.List.Folds.{length-flat_map-take}
 use Rattle.std.proofs.lemmas.Option.{get_or_from_slice_get}
 use Rattle.std.specs.Prelude.{Some, flat_map, slice_get}
 use Rattle.std.specs.List.{AllByRecursion}
-use Rattle.iltrees.specs.declared.instruction.Line.{Line}
-use Rattle.iltrees.specs.Words.{AreShallow}
-use Rattle.iltrees.specs.Renaming.{by_name, rename_line}
-use Rattle.iltrees.specs.Uses.{uses_in}
+use Rattle.ilsource.specs.declared.instruction.Line.{Line}
+use Rattle.ilsource.specs.Words.{AreShallow}
+use Rattle.ilsource.specs.Renaming.{by_name, rename_line}
+use Rattle.ilsource.specs.Uses.{uses_in}
 use Rattle.ilsource.specs.Programs.{AreSorted, MayBeUsed}
 use Rattle.ilsource.specs.declared.name.Name.{Name}
 use Rattle.ilsource.specs.declared.symbol.Symbol.{Symbol}
-use Rattle.ilsource.specs.Trees.{Tree}
+use Rattle.ilsource.specs.SourceTrees.{Tree}
 use Rattle.ildeclared.specs.Kept.{Kept}
 use Rattle.ildeclared.proofs.Least.{take_more}
 use Rattle.ilplan.specs.declared.instance.FunctionBlock.{FunctionBlock}

@@ -2,11 +2,11 @@
 use Rattle.std.proofs.Common.{◌≡◌, ℕ, List, [], ◌∷◌, map, refl, sym, ap, ◌∙◌}
 use Rattle.std.specs.Prelude.{Option, Some, None}
 use Rattle.std.specs.Option.{option_map, option_and_then}
-use Rattle.iltrees.specs.Meaning.{On}
-use Rattle.iltrees.specs.Passes.{passes, scan}
-use Rattle.iltrees.specs.Renaming.{IsSeen, IsRenamed}
-use Rattle.iltrees.proofs.KeptMeaning.{renamed_same, operand_same}
-use Rattle.ilsource.specs.Trees.{Tree}
+use Rattle.ilsource.specs.Meaning.{On}
+use Rattle.ilsource.specs.Passes.{passes, scan}
+use Rattle.ilsource.specs.Renaming.{IsSeen, IsRenamed}
+use Rattle.ilsource.proofs.KeptMeaning.{renamed_same, operand_same}
+use Rattle.ilsource.specs.SourceTrees.{Tree}
 use Rattle.ilblocks.specs.Stores.{Shape, Store}
 use Rattle.ilplan.specs.declared.instance.FunctionBlock.{FunctionBlock}
 use Rattle.ilplan.specs.declared.slot.Slot.{Slot}

@@ -6,7 +6,7 @@ use Rattle.std.specs.Prelude.{Some, None, slice_get, filter_map, option_map, ifâ
 use Rattle.std.specs.List.{AllByRecursion, cons_option, enumerate_from, list_any, position_or_len}
 use Rattle.std.proofs.lemmas.Option.{slice_get-map}
 use Rattle.ilsource.specs.declared.name.Name.{Name}
-use Rattle.ilsource.specs.Trees.{Tree}
+use Rattle.ilsource.specs.SourceTrees.{Tree}
 use Rattle.ildeclared.specs.declared.global.DeclaredGlobal.{DeclaredGlobal}
 use Rattle.ildeclared.specs.declared.variable.DeclaredVariable.{DeclaredVariable}
 use Rattle.ilscope.specs.Configured.{globals_of}

@@ -5,7 +5,7 @@ use Rattle.std.specs.List.{AllByRecursion}
 use Rattle.std.proofs.lemmas.Option.{get_or_from_slice_get}
 use Rattle.iltypes.specs.Values.{IsOf, AreOf}
 use Rattle.ilsource.specs.declared.name.Name.{Name}
-use Rattle.ilsource.specs.Trees.{Tree}
+use Rattle.ilsource.specs.SourceTrees.{Tree}
 use Rattle.ildeclared.specs.declared.global.DeclaredGlobal.{DeclaredGlobal}
 use Rattle.ildeclared.specs.declared.variable.DeclaredVariable.{DeclaredVariable}
 use Rattle.ilscope.specs.Configured.{globals_of}

@@ -16,7 +16,7 @@ use Rattle.std.proofs.lemmas.Option.{slice_get-map, slice_get-get_or, get_or_fro
 use Rattle.ilsource.specs.Configurations.{Configured}
 use Rattle.ilsource.specs.declared.configuration.InstanceDeclaration.{InstanceDeclaration}
 use Rattle.ilsource.specs.declared.name.Name.{Name}
-use Rattle.ilsource.specs.Trees.{Tree}
+use Rattle.ilsource.specs.SourceTrees.{Tree}
 use Rattle.ildeclared.proofs.Least.{take_more as take_one_more}
 use Rattle.ilscope.specs.Configured.{program_number, task_number}
 use Rattle.ilscope.specs.Declarations.{declared_programs, DeclaredProgram}

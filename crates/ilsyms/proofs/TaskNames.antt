@@ -8,7 +8,7 @@ use Rattle.ilsource.specs.declared.name.Name.{Name}
 use Rattle.ilsource.specs.declared.source.Element.{Element}
 use Rattle.ilsource.specs.declared.source.Element.TheVariants.{DerivedType, Program}
 use Rattle.ilsource.specs.declared.declaration.TypeDeclaration.{TypeDeclaration}
-use Rattle.ilsource.specs.Trees.{Tree}
+use Rattle.ilsource.specs.SourceTrees.{Tree}
 use Rattle.ildeclared.specs.Faults.{SomeOf}
 use Rattle.ilscope.specs.Configured.{program_number}
 use Rattle.ilscope.specs.Declarations.{declared_program, declared_programs, DeclaredProgram, name_of, standing}

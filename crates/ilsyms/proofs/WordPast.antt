@@ -7,8 +7,8 @@ use Rattle.std.specs.List.{cons_option}
 use Rattle.std.proofs.lemmas.Grind.{flat_map-append}
 use Rattle.std.proofs.lemmas.List.{get_or_default, take_all}
 use Rattle.std.proofs.lemmas.Option.{slice_get-map, slice_get_past, unwrap_or-slice_get}
-use Rattle.iltrees.specs.Words.{places_in}
-use Rattle.ilsource.specs.Trees.{Tree}
+use Rattle.ilsource.specs.Words.{places_in}
+use Rattle.ilsource.specs.SourceTrees.{Tree}
 use Rattle.ildeclared.proofs.Least.{take_more}
 use Rattle.ilscope.specs.Declarations.{declared_programs, DeclaredProgram}
 use Rattle.ilsyms.specs.TaskSteps.{instance_at, instances_of}

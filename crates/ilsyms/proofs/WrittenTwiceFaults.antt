@@ -5,7 +5,7 @@ use Rattle.std.proofs.Common.{refl, ap, subst, inl, inr}
 use Rattle.std.specs.Prelude.{Option, IsSomeAnd, slice_get}
 use Rattle.std.specs.List.{enumerate_from}
 use Rattle.std.proofs.lemmas.List.FromFn.{get_or-enumerate_from, length-enumerate_from}
-use Rattle.ilsource.specs.Trees.{Tree}
+use Rattle.ilsource.specs.SourceTrees.{Tree}
 use Rattle.ildeclared.specs.Faults.{IsLeastOf, OfCause, SomeLater, SomeOf}
 use Rattle.ildeclared.specs.Order.{lesser_of_two}
 use Rattle.ildeclared.specs.declared.fault.NameCause.TheVariants.{WrittenTwice}

@@ -6,7 +6,7 @@ use Rattle.std.specs.Prelude.{All, Option, Some, None, IsSomeAnd, option_map, sl
 use Rattle.std.proofs.Math.ListN.{length-map}
 use Rattle.std.proofs.lemmas.List.Elements.{All-cons, All-nil}
 use Rattle.std.proofs.lemmas.Option.{get_or_from_slice_get, slice_get-get_or, slice_get-map, slice_get_within}
-use Rattle.ilsource.specs.Trees.{Tree}
+use Rattle.ilsource.specs.SourceTrees.{Tree}
 use Rattle.ildeclared.specs.Faults.{SomeOf}
 use Rattle.ildeclared.proofs.FoundOrder.{or_else}
 use Rattle.ilscope.specs.Declarations.{declared_programs, DeclaredProgram}

@@ -1,10 +1,10 @@
 -- How the different constants of uses are counted, one use after another.
 use Rattle.std.specs.Prelude.{◌≡◌, ◌↔◌, ℕ, List, Bool, true, Option, Some, slice_get}
 use Rattle.iltypes.specs.declared.value.Value.{Value}
-use Rattle.iltrees.specs.declared.uses.Use.{Use}
+use Rattle.ilsource.specs.declared.uses.Use.{Use}
 use Rattle.ilsource.specs.declared.symbol.Symbol.{Symbol}
 use Rattle.ilplan.specs.Constants.{constants_used, each_once}
-use Rattle.ilsource.specs.Trees.{Tree}
+use Rattle.ilsource.specs.SourceTrees.{Tree}
 use Rattle.ildeclared.specs.Faults.{SomeOf}
 use Rattle.ilscope.specs.Declarations.{declared_programs}
 use Rattle.ilsyms.specs.Faults.{MakesTooManyConstants}

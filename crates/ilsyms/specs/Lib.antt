@@ -2,6 +2,7 @@ pub mod CountingSteps
 pub mod Faults
 pub mod Meaning
 pub mod NumberingSteps
+pub mod Placed
 pub mod PlanningSteps
 pub mod Resolved
 pub mod SlotSteps

@@ -8,15 +8,15 @@ use Rattle.std.specs.Prelude.{unwrap_or}
 use Rattle.std.specs.Prelude.{if◌then◌else◌}
 use Rattle.std.specs.Option.{option_and_then, option_map_or}
 use Rattle.std.specs.List.{list_any, position_or_len}
-use Rattle.iltrees.specs.Meaning.{Access, On}
-use Rattle.iltrees.specs.Passes.{passes}
+use Rattle.ilsource.specs.Meaning.{Access, On}
+use Rattle.ilsource.specs.Passes.{passes}
 use Rattle.ilblocks.specs.Ports.{port_named, most_ports}
 use Rattle.ilblocks.specs.Stores.{Shape, Store}
 use Rattle.ilsource.specs.declared.name.Name.{Name}
 use Rattle.ilsource.specs.declared.symbol.Symbol.{Symbol}
 use Rattle.ilsource.specs.declared.symbol.Symbol.TheVariants as symbols
 use Rattle.ilsource.specs.Names.{text_of}
-use Rattle.ilsource.specs.Trees.{Tree}
+use Rattle.ilsource.specs.SourceTrees.{Tree}
 use Rattle.ilscope.specs.Configured.{global_number}
 use Rattle.iluses.specs.SameNames.{same_name}
 use Rattle.ilplan.specs.declared.instance.FunctionBlock.{FunctionBlock}

@@ -4,12 +4,12 @@ use Rattle.std.specs.Prelude.{◌≡◌, ℕ, ◌+◌, ◌<◌, List, bytes_eq, 
 use Rattle.std.specs.List.{position_or_len}
 use Rattle.std.specs.Map.{lookup}
 use Rattle.std.specs.Option.{option_map_or}
-use Rattle.iltrees.specs.Renaming.{NewNames, by_name}
+use Rattle.ilsource.specs.Renaming.{NewNames, by_name}
 use Rattle.ilsource.specs.declared.name.Name.{Name}
 use Rattle.ilsource.specs.declared.symbol.Symbol.{Symbol}
 use Rattle.ilsource.specs.declared.symbol.Symbol.TheVariants as symbols
 use Rattle.ilsource.specs.Names.{folded}
-use Rattle.ilsource.specs.Trees.{Tree}
+use Rattle.ilsource.specs.SourceTrees.{Tree}
 use Rattle.ilblocks.specs.Ports.{most_ports}
 use Rattle.ildeclared.specs.Kept.{Kept}
 use Rattle.ilscope.specs.Configured.{global_number}

@@ -2,15 +2,15 @@
 -- numbers of lines; its global variables, and the sources of events that are bound (profile).
 use Rattle.std.specs.Prelude.{ℕ, ◌-◌, List, map, option_map, nat_lt, if◌then◌else◌}
 use Rattle.std.specs.List.{position_or_len}
-use Rattle.binding.specs.Wirings.{Wiring}
-use Rattle.iltrees.specs.declared.instruction.Line.{Line}
-use Rattle.iltrees.specs.Passes.{has_label}
-use Rattle.iltrees.specs.Renaming.{NewNames, by_name, rename_line}
+use Rattle.wordlines.specs.Wirings.{Wiring}
+use Rattle.ilsource.specs.declared.instruction.Line.{Line}
+use Rattle.ilsource.specs.Passes.{has_label}
+use Rattle.ilsource.specs.Renaming.{NewNames, by_name, rename_line}
 use Rattle.iltokens.specs.declared.lexed.AddressKind.{AddressKind}
 use Rattle.iltokens.specs.declared.lexed.AddressKind.TheVariants as address_kinds
 use Rattle.ilsource.specs.declared.name.Name.{Name}
 use Rattle.ilsource.specs.declared.symbol.Symbol.{Symbol}
-use Rattle.ilsource.specs.Trees.{Tree}
+use Rattle.ilsource.specs.SourceTrees.{Tree}
 use Rattle.ildeclared.specs.declared.global.DeclaredGlobal.{DeclaredGlobal}
 use Rattle.ilscope.specs.Configured.{globals_of}
 use Rattle.ilplan.specs.declared.global.Global.{Global}

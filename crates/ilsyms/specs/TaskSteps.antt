@@ -2,7 +2,7 @@
 use Rattle.std.specs.Prelude.{◌≡◌, ℕ, List, map, filter_map, Option, Some, None, option_map, option_and_then, slice_get}
 use Rattle.std.specs.Prelude.{◌==◌, if◌then◌else◌}
 use Rattle.ilsource.specs.declared.configuration.InstanceDeclaration.{InstanceDeclaration}
-use Rattle.ilsource.specs.Trees.{Tree}
+use Rattle.ilsource.specs.SourceTrees.{Tree}
 use Rattle.ilscope.specs.Configured.{program_number, task_number}
 use Rattle.ilscope.specs.Declarations.{declared_programs}
 use Rattle.ilplan.specs.declared.activation.Activation.{Activation}

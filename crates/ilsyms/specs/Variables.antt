@@ -5,9 +5,9 @@ use Rattle.std.specs.Prelude.{ℕ, List, ◌++◌, flat_map, map, filter_map, Op
 use Rattle.std.specs.Prelude.{◌==◌}
 use Rattle.std.specs.Option.{option_map_or}
 use Rattle.std.specs.List.{list_any, enumerate_from}
-use Rattle.iltrees.specs.declared.instruction.Line.{Line}
+use Rattle.ilsource.specs.declared.instruction.Line.{Line}
 use Rattle.ilblocks.specs.Stores.{Shape}
-use Rattle.ilsource.specs.Trees.{Tree}
+use Rattle.ilsource.specs.SourceTrees.{Tree}
 use Rattle.ilsource.specs.declared.name.Name.{Name}
 use Rattle.ilsource.specs.declared.symbol.Symbol.{Symbol}
 use Rattle.ildeclared.specs.declared.block.DeclaredBlock.{DeclaredBlock}

@@ -1,6 +1,6 @@
 -- The words of instances by those of their programs, of which each is kept once.
 use Rattle.std.specs.Prelude.{ℕ, List, [], flat_map, slice_get, unwrap_or}
-use Rattle.iltrees.specs.Words.{places_in}
+use Rattle.ilsource.specs.Words.{places_in}
 use Rattle.ilscope.specs.Declarations.{DeclaredProgram}
 
 -- the place of each word of a program

@@ -1,6 +1,6 @@
 -- The tasks that have an instance of a program, and those that store to a global variable.
 use Rattle.std.specs.Prelude.{◌≡◌, ◌<◌, ℕ, List, Some, IsSomeAnd, slice_get}
-use Rattle.ilsource.specs.Trees.{Tree}
+use Rattle.ilsource.specs.SourceTrees.{Tree}
 use Rattle.ildeclared.specs.Faults.{SomeOf}
 use Rattle.ilscope.specs.Declarations.{declared_programs, DeclaredProgram}
 use Rattle.iluses.specs.Faults.{ProgramStores}

@@ -3,8 +3,7 @@
 use crate::tasks::{TaskInstance, program_of};
 use ilplan::Constants;
 use ilscope::Scope;
-use ilsource::Symbol;
-use iltrees::{Operand, Use};
+use ilsource::{Operand, Symbol, Use};
 use iluses::uses_of;
 use limits::MOST_CONSTANTS;
 use std::alloc::{AllocError, Global};
@@ -18,7 +17,7 @@ pub(crate) struct Counted {
 
 impl Counted {
     ghost use Rattle.std.specs.Prelude.{[], ◌∷◌, ◌++◌, List, IfOk, OnOk};
-    ghost use Rattle.iltrees.specs.declared.uses.Use.{Use};
+    ghost use Rattle.ilsource.specs.declared.uses.Use.{Use};
     ghost use Rattle.ilsource.specs.declared.symbol.Symbol.{Symbol};
     ghost use Rattle.iluses.specs.Uses.{uses_of};
     ghost use Rattle.ilsyms.specs.CountingSteps.{AreCounted};

@@ -1,7 +1,7 @@
 //! The global variables of a plan.
 
 ghost use Rattle.std.specs.Prelude.{◌≡◌, ◌<◌, IfOk, IfSome, map, option_map};
-ghost use Rattle.binding.specs.Wirings.{IsWithinLimits};
+ghost use Rattle.wordlines.specs.Wirings.{IsWithinLimits};
 ghost use Rattle.iltokens.specs.declared.lexed.AddressKind.TheVariants as address_kinds;
 ghost use Rattle.ilscope.specs.Configured.{globals_of};
 ghost use Rattle.ilsyms.specs.Faults.{IsWellNamed};

@@ -6,6 +6,10 @@
 //! first), over names. The plan is `plan_of_tree` (specs/Resolved.antt), whose scans leave the
 //! same, and what stands against it is `IsFault` (specs/Faults.antt).
 //!
+//! Meaning and plan find names by one function, `place_of`, so that a mistake in it would be in
+//! both. The law [`names_have_places`] says that it makes none: by declarations alone, each name in
+//! a line has exactly the place at which what it means stands (`HavePlaces`, specs/Placed.antt).
+//!
 //! ```text
 //! let plan = resolve(alloc, &source, &binding)?; // or: name fault 4 at 7:5
 //! ```
@@ -17,6 +21,7 @@ mod excess;
 mod faults;
 mod globals;
 mod numbering;
+mod placing;
 mod planning;
 mod plans;
 mod resolving;
@@ -28,4 +33,5 @@ mod written_twice;
 
 pub use ilplan::{Plan, ProgramInstance, Slot, SlotOwner, Task};
 pub use ilscope::{NameCause, NameFault, Scope};
+pub use placing::names_have_places;
 pub use resolving::resolve;

@@ -3,8 +3,9 @@
 use ilblocks::MOST_PORTS;
 use ilplan::{Place, Slot};
 use ilscope::{Names, ProgramScope, Scope};
-use ilsource::{Name, Symbol};
-use iltrees::{Action, Argument, Arguments, Instruction, Line, Nested, Operand, Piece};
+use ilsource::{
+    Action, Argument, Arguments, Instruction, Line, Name, Nested, Operand, Piece, Symbol,
+};
 use iluses::port_of;
 use std::alloc::{AllocError, Global};
 use std::marker::Model;
@@ -29,9 +30,9 @@ impl<'a, 's, 't> Model for Numbering<'a, 's, 't> {
     ghost use Rattle.std.specs.Prelude.{◌≡◌, ◌+◌, ◌^◌, ◌<◌, length, slice_get, Some};
     ghost use Rattle.std.specs.Prelude.{List};
     ghost use Rattle.std.specs.Coded.{codes, code_by};
-    ghost use Rattle.iltrees.specs.declared.nested.Piece.{Piece};
-    ghost use Rattle.iltrees.specs.Trees.{pieces_of};
-    ghost use Rattle.iltrees.specs.TreeSteps.{tree_of, tree_again};
+    ghost use Rattle.ilsource.specs.declared.nested.Piece.{Piece};
+    ghost use Rattle.ilsource.specs.Trees.{pieces_of};
+    ghost use Rattle.ilsource.specs.TreeSteps.{tree_of, tree_again};
     ghost use Rattle.ilsource.specs.contracts.source.Element as element;
     ghost use Rattle.ilsource.specs.declared.symbol.Symbol.{Symbol};
     ghost use Rattle.ilscope.specs.Configured.{globals_of};
@@ -68,8 +69,8 @@ impl<'a, 's, 't> Model for Numbering<'a, 's, 't> {
 impl<'a, 's, 't> Numbering<'a, 's, 't> {
     ghost use Rattle.std.specs.Prelude.{◌≡◌, ◌+◌, ◌<◌, ◌^◌, IfOk, length, map, option_map};
     ghost use Rattle.std.specs.Prelude.{slice_get, Some};
-    ghost use Rattle.iltrees.specs.Renaming.{rename_action, rename_tree, rename, rename_line};
-    ghost use Rattle.iltrees.specs.Renaming.{rename_argument};
+    ghost use Rattle.ilsource.specs.Renaming.{rename_action, rename_tree, rename, rename_line};
+    ghost use Rattle.ilsource.specs.Renaming.{rename_argument};
     ghost use Rattle.ilscope.specs.Configured.{global_number, globals_of};
     ghost use Rattle.ilscope.specs.Declarations.{declared_programs};
     ghost use Rattle.ilsyms.specs.NumberingSteps.{AreGlobalSlots, Numbering, label_of, numbers};

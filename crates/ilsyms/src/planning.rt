@@ -2,7 +2,7 @@
 
 ghost use Rattle.std.specs.Prelude.{◌≡◌, ◌≤◌, IfOk, OnOk, Some, length};
 ghost use Rattle.std.specs.List.{position_or_len};
-ghost use Rattle.iltrees.specs.Words.{AreShallow};
+ghost use Rattle.ilsource.specs.Words.{AreShallow};
 ghost use Rattle.ilsource.specs.Programs.{AreSorted};
 ghost use Rattle.limits.specs.Limits.{most_blocks, most_slots};
 ghost use Rattle.ilsyms.specs.TaskSteps.{AreThere, instances_of};

@@ -15,12 +15,12 @@ use crate::globals::plan_globals;
 use crate::planning::plan_instances;
 use crate::slots::slots_of;
 use crate::tasks::{TaskInstance, TaskInstances};
-use binding::Binding;
 use ilplan::{Activation, DeclaredName, Plan, Task};
 use ilscope::Scope;
 use ilsource::{Configuration, TaskDeclaration};
 use iluses::trigger_number;
 use std::alloc::{AllocError, Global};
+use wordlines::Binding;
 
 /// The interval of the task `main`, in milliseconds (profile).
 const INTERVAL: u32 = 100;

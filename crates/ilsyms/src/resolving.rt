@@ -13,11 +13,11 @@ ghost use Rattle.ilsyms.specs.Tasks.{SourceTask};
 use crate::faults::least_of;
 use crate::plans::plan_of;
 use crate::tasks::instances_of_tasks;
-use binding::Binding;
 use ilplan::Plan;
 use ilscope::{NameFault, Scope, report_of};
 use ilsource::Source;
 use std::alloc::Global;
+use wordlines::Binding;
 
 /// The plan of a source program with a binding, or its least fault of names: the one at the least
 /// place, and there with the least cause.

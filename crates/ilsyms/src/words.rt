@@ -28,7 +28,7 @@ impl Model for WordPlaces {
 
 impl WordPlaces {
     ghost use Rattle.std.specs.Prelude.{◌≡◌, IfOk, flat_map};
-    ghost use Rattle.iltrees.specs.Words.{places_in};
+    ghost use Rattle.ilsource.specs.Words.{places_in};
 
     /// Those of a program's lines.
     fn of(alloc: Global, program: &Program) -> Result<WordPlaces, AllocError>

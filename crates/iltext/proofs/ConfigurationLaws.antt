@@ -1,8 +1,8 @@
 -- The items of configurations are lawful.
 use Rattle.std.proofs.Common.{◌≡◌, ℕ, Bool, true, false, List, refl}
-use Rattle.ilgrammar.specs.Items.{lead}
-use Rattle.ilgrammar.proofs.Laws.{Lawful, Lawful-lead_open}
-use Rattle.ilgrammar.proofs.Firm.{Firm, Firm-map, Firm-seq, Firm-lead, Firm-alt, Firm-fewer}
+use Rattle.iltokens.specs.Items.{lead}
+use Rattle.iltokens.proofs.Laws.{Lawful, Lawful-lead_open}
+use Rattle.iltokens.proofs.Firm.{Firm, Firm-map, Firm-seq, Firm-lead, Firm-alt, Firm-fewer}
 use Rattle.ilsource.specs.Configurations.{Configured}
 use Rattle.ilsource.specs.declared.configuration.InstanceDeclaration.{InstanceDeclaration}
 use Rattle.ilsource.specs.declared.configuration.TaskDeclaration.{TaskDeclaration}

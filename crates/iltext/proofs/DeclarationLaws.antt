@@ -1,14 +1,14 @@
 -- The items of declarations are lawful.
 use Rattle.std.proofs.Common.{◌≡◌, ◌||◌, ℕ, ℤ, true, false, List, Option, refl}
 use Rattle.std.proofs.lemmas.Bool.{false≢true}
-use Rattle.iloperators.specs.declared.function.IntegerType.{IntegerType}
-use Rattle.iloperators.specs.declared.function.IntegerType.TheVariants as integers
+use Rattle.iltypes.specs.declared.function.IntegerType.{IntegerType}
+use Rattle.iltypes.specs.declared.function.IntegerType.TheVariants as integers
 use Rattle.ilblocks.specs.declared.kind.BlockKind.{BlockKind}
 use Rattle.ilblocks.specs.declared.kind.BlockKind.TheVariants as blocks
-use Rattle.ilgrammar.specs.Items.{lead, is_in}
-use Rattle.ilgrammar.proofs.Laws.{Lawful, Lawful-map}
-use Rattle.ilgrammar.proofs.Firm.{Firm, Firm-one, Firm-map, Firm-seq, Firm-seq_open, Firm-lead, Firm-alt, Firm-fewer}
-use Rattle.ilgrammar.proofs.Firm.{Firm-select, from_opt, from_many}
+use Rattle.iltokens.specs.Items.{lead, is_in}
+use Rattle.iltokens.proofs.Laws.{Lawful, Lawful-map}
+use Rattle.iltokens.proofs.Firm.{Firm, Firm-one, Firm-map, Firm-seq, Firm-seq_open, Firm-lead, Firm-alt, Firm-fewer}
+use Rattle.iltokens.proofs.Firm.{Firm-select, from_opt, from_many}
 use Rattle.ilsource.specs.declared.name.Name.{Name}
 use Rattle.ilsource.specs.declared.declaration.Constant.{Constant}
 use Rattle.ilsource.specs.declared.declaration.Specification.{Specification}

@@ -1,10 +1,10 @@
 -- The items of global variables are lawful.
 use Rattle.std.proofs.Common.{◌≡◌, ℕ, true, false, List, refl}
 use Rattle.std.proofs.lemmas.Bool.{false≢true}
-use Rattle.ilgrammar.specs.Items.{lead}
-use Rattle.ilgrammar.proofs.Laws.{Lawful, Lawful-map}
-use Rattle.ilgrammar.proofs.Firm.{Firm, Firm-one, Firm-map, Firm-seq, Firm-lead, Firm-alt, Firm-fewer, Firm-select}
-use Rattle.ilgrammar.proofs.Firm.{from_many}
+use Rattle.iltokens.specs.Items.{lead}
+use Rattle.iltokens.proofs.Laws.{Lawful, Lawful-map}
+use Rattle.iltokens.proofs.Firm.{Firm, Firm-one, Firm-map, Firm-seq, Firm-lead, Firm-alt, Firm-fewer, Firm-select}
+use Rattle.iltokens.proofs.Firm.{from_many}
 use Rattle.ilsource.specs.Configurations.{DeclaredGlobals}
 use Rattle.ilsource.specs.declared.address.DirectAddress.{DirectAddress}
 use Rattle.ilsource.specs.declared.name.Name.{Name}

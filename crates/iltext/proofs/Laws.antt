@@ -1,9 +1,9 @@
 -- Programs, TYPE blocks and texts are lawful.
 use Rattle.std.proofs.Common.{◌≡◌, ℕ, Bool, true, false, List, Option, refl}
 use Rattle.std.proofs.lemmas.Bool.{false≢true}
-use Rattle.ilgrammar.specs.Items.{lead, opt}
-use Rattle.ilgrammar.proofs.Laws.{Lawful, Lawful-map, Lawful-lead_open}
-use Rattle.ilgrammar.proofs.Firm.{Firm, Firm-map, Firm-seq, Firm-lead, Firm-alt, Firm-fewer, from_opt, from_many}
+use Rattle.iltokens.specs.Items.{lead, opt}
+use Rattle.iltokens.proofs.Laws.{Lawful, Lawful-map, Lawful-lead_open}
+use Rattle.iltokens.proofs.Firm.{Firm, Firm-map, Firm-seq, Firm-lead, Firm-alt, Firm-fewer, from_opt, from_many}
 use Rattle.ilsource.specs.Configurations.{Configured}
 use Rattle.ilsource.specs.Programs.{DeclaredNames, Written}
 use Rattle.ilsource.specs.declared.source.Element.{Element}

@@ -7,20 +7,20 @@ use Rattle.std.specs.List.{AllByRecursion}
 use Rattle.std.specs.Option.{option_map_or}
 use Rattle.limits.specs.Limits.{most_nesting}
 use Rattle.iltypes.specs.declared.value.Value.{Value}
-use Rattle.iloperators.specs.declared.operator.Operator.{Operator}
-use Rattle.iloperators.specs.declared.operator.Operator.TheVariants.{Min, Max}
-use Rattle.iloperators.specs.Operators.{may_defer}
-use Rattle.iltrees.specs.declared.arguments.Argument.{Argument}
-use Rattle.iltrees.specs.declared.instruction.Instruction.TheVariants as instructions
-use Rattle.iltrees.specs.declared.nested.Action.TheVariants as actions
-use Rattle.iltrees.specs.declared.nested.Piece.{Piece}
-use Rattle.iltrees.specs.declared.operand.Operand.{Operand}
-use Rattle.iltrees.specs.declared.operand.Operand.TheVariants.{Name as Named}
-use Rattle.iltrees.specs.declared.uses.Purpose.TheVariants.{Read, Write, Pass}
-use Rattle.iltrees.specs.declared.uses.Use.{Use}
-use Rattle.iltrees.specs.Trees.{Tree, piece, pieces_of}
-use Rattle.iltrees.specs.Uses.{uses_in, uses_of, uses_of_argument, uses_of_piece}
-use Rattle.ilgrammar.specs.Items.{Item, alt, opt_whole, many_whole}
+use Rattle.iltypes.specs.declared.operator.Operator.{Operator}
+use Rattle.iltypes.specs.declared.operator.Operator.TheVariants.{Min, Max}
+use Rattle.iltypes.specs.Operators.{may_defer}
+use Rattle.ilsource.specs.declared.arguments.Argument.{Argument}
+use Rattle.ilsource.specs.declared.instruction.Instruction.TheVariants as instructions
+use Rattle.ilsource.specs.declared.nested.Action.TheVariants as actions
+use Rattle.ilsource.specs.declared.nested.Piece.{Piece}
+use Rattle.ilsource.specs.declared.operand.Operand.{Operand}
+use Rattle.ilsource.specs.declared.operand.Operand.TheVariants.{Name as Named}
+use Rattle.ilsource.specs.declared.uses.Purpose.TheVariants.{Read, Write, Pass}
+use Rattle.ilsource.specs.declared.uses.Use.{Use}
+use Rattle.ilsource.specs.Trees.{Tree, piece, pieces_of}
+use Rattle.ilsource.specs.Uses.{uses_in, uses_of, uses_of_argument, uses_of_piece}
+use Rattle.iltokens.specs.Items.{Item, alt, opt_whole, many_whole}
 use Rattle.ilsource.specs.declared.name.Name.{Name}
 use Rattle.ilsource.specs.declared.symbol.Symbol.{Symbol}
 use Rattle.ilsource.specs.Programs.{MayStand, MayBeUsed, AreSorted}

@@ -5,12 +5,12 @@ use Rattle.std.proofs.lemmas.List.{length-append, take_at}
 use Rattle.std.proofs.Math.Decide.{dec_le}
 use Rattle.std.proofs.Math.Nat.{lt_of_not-le}
 use Rattle.std.specs.Prelude.{◌<◌, ◌↔◌, Bool, false, IsTrue, IfErr}
-use Rattle.ilgrammar.specs.Stops.{StopsBefore, whole_read}
-use Rattle.ilgrammar.proofs.Exact.{whole_found, whole_only, whole_fault, stopped_split, one_fault, no_fault}
+use Rattle.iltokens.specs.Stops.{StopsBefore, whole_read}
+use Rattle.iltokens.proofs.Exact.{whole_found, whole_only, whole_fault, stopped_split, one_fault, no_fault}
 use Rattle.limits.specs.Limits.{most_bytes}
 use Rattle.ilsource.specs.Configurations.{Configured}
 use Rattle.ilsource.specs.declared.source.Element.{Element}
-use Rattle.ilsource.specs.Trees.{Tree}
+use Rattle.ilsource.specs.SourceTrees.{Tree}
 use Rattle.illines.specs.declared.token.Token.{Token}
 use Rattle.iltext.specs.declared.fault.TextFault.{TextFault}
 use Rattle.iltext.specs.declared.fault.TextFault.TheVariants as faults

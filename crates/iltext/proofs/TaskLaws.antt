@@ -1,9 +1,9 @@
 -- The items of tasks and of program instances are lawful.
 use Rattle.std.proofs.Common.{◌≡◌, ◌||◌, ℕ, ℤ, Bool, true, false, List, Option, refl}
 use Rattle.std.proofs.lemmas.Bool.{false≢true}
-use Rattle.ilgrammar.specs.Items.{lead, opt}
-use Rattle.ilgrammar.proofs.Laws.{Lawful}
-use Rattle.ilgrammar.proofs.Firm.{Firm, Firm-one, Firm-map, Firm-seq, Firm-lead, from_opt, from_many}
+use Rattle.iltokens.specs.Items.{lead, opt}
+use Rattle.iltokens.proofs.Laws.{Lawful}
+use Rattle.iltokens.proofs.Firm.{Firm, Firm-one, Firm-map, Firm-seq, Firm-lead, from_opt, from_many}
 use Rattle.ilsource.specs.declared.configuration.InstanceDeclaration.{InstanceDeclaration}
 use Rattle.ilsource.specs.declared.configuration.TaskDeclaration.{TaskDeclaration}
 use Rattle.ilsource.specs.declared.name.Name.{Name}

@@ -1,7 +1,7 @@
 -- Configurations (IEC 61131-3, 2.7.1, with this project's profile), as items over tokens. A configuration has one
 -- resource at most, which may be left out; its own name, the resource's and that after ON say nothing.
 use Rattle.std.specs.Prelude.{List, [], ◌++◌}
-use Rattle.ilgrammar.specs.Items.{Item, map, seq, lead, alt}
+use Rattle.iltokens.specs.Items.{Item, map, seq, lead, alt}
 use Rattle.ilsource.specs.Configurations.{Configured, DeclaredGlobals, configured_of}
 use Rattle.ilsource.specs.declared.configuration.InstanceDeclaration.{InstanceDeclaration}
 use Rattle.ilsource.specs.declared.configuration.TaskDeclaration.{TaskDeclaration}

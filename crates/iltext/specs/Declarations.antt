@@ -1,11 +1,11 @@
 -- Declarations of types and of variables (IEC 61131-3, 2.3.3.1 and 2.4.3, with this project's profile), as items over
 -- tokens.
 use Rattle.std.specs.Prelude.{ℤ, List, [], ◌∷◌, flat_map, Option, Some, None}
-use Rattle.iloperators.specs.declared.function.IntegerType.{IntegerType}
-use Rattle.iloperators.specs.declared.function.IntegerType.TheVariants as integers
+use Rattle.iltypes.specs.declared.function.IntegerType.{IntegerType}
+use Rattle.iltypes.specs.declared.function.IntegerType.TheVariants as integers
 use Rattle.ilblocks.specs.declared.kind.BlockKind.{BlockKind}
 use Rattle.ilblocks.specs.declared.kind.BlockKind.TheVariants as blocks
-use Rattle.ilgrammar.specs.Items.{Item, one, map, seq, lead, select, opt, alt, many}
+use Rattle.iltokens.specs.Items.{Item, one, map, seq, lead, select, opt, alt, many}
 use Rattle.ilsource.specs.declared.name.Name.{Name}
 use Rattle.ilsource.specs.declared.declaration.Constant.{Constant}
 use Rattle.ilsource.specs.declared.declaration.Specification.{Specification}

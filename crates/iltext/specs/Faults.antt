@@ -2,7 +2,7 @@
 use Rattle.std.specs.Prelude.{◌≡◌, ℕ, ◌+◌, ◌-◌, nat_lt, nat_le, Bool, true, false, ◌&&◌, not, if◌then◌else◌}
 use Rattle.std.specs.Prelude.{List, [], ◌∷◌, length, Option, Some}
 use Rattle.limits.specs.Limits.{most_nesting}
-use Rattle.iloperators.specs.Operators.{may_defer}
+use Rattle.iltypes.specs.Operators.{may_defer}
 use Rattle.ilsource.specs.Places.{line_at, col_at}
 use Rattle.iltokens.specs.declared.lexed.LexicalCause.{LexicalCause}
 use Rattle.iltokens.specs.declared.lexed.LexicalCause.TheVariants as lexical

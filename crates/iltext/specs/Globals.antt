@@ -1,6 +1,6 @@
 -- Declarations of global variables (IEC 61131-3, 2.4.3, with this project's profile), as items over tokens.
 use Rattle.std.specs.Prelude.{List, [], ◌∷◌, Option, Some, None}
-use Rattle.ilgrammar.specs.Items.{Item, one, map, seq, lead, select, alt, many}
+use Rattle.iltokens.specs.Items.{Item, one, map, seq, lead, select, alt, many}
 use Rattle.ilsource.specs.Configurations.{DeclaredGlobals, globals_of}
 use Rattle.ilsource.specs.declared.address.DirectAddress.{DirectAddress}
 use Rattle.ilsource.specs.declared.name.Name.{Name}

@@ -3,6 +3,7 @@ pub mod Cutting
 pub mod Declarations
 pub mod Faults
 pub mod Globals
+pub mod Nested
 pub mod Parsing
 pub mod ParsingSteps
 pub mod Printed

@@ -1,8 +1,8 @@
 -- Texts and their source programs.
 use Rattle.std.specs.Prelude.{◌≡◌, ℕ, ◌≤◌, ◌<◌, List, ◌⊎◌, length, Result, Ok, Err, ⊤}
-use Rattle.ilgrammar.specs.Stops.{StopsBefore}
+use Rattle.iltokens.specs.Stops.{StopsBefore}
 use Rattle.limits.specs.Limits.{most_bytes}
-use Rattle.ilsource.specs.Trees.{Tree}
+use Rattle.ilsource.specs.SourceTrees.{Tree}
 use Rattle.illines.specs.declared.token.Token.{Token}
 use Rattle.iltext.specs.declared.fault.TextFault.{TextFault}
 use Rattle.iltext.specs.declared.fault.TextFault.TheVariants as faults

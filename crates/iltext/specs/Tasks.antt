@@ -1,7 +1,7 @@
 -- Declarations of tasks and of program instances (IEC 61131-3, 2.7.2, with this project's profile), as items over
 -- tokens.
 use Rattle.std.specs.Prelude.{ℕ, ℤ, List, Option, Some, None}
-use Rattle.ilgrammar.specs.Items.{Item, one, map, seq, lead, opt, many}
+use Rattle.iltokens.specs.Items.{Item, one, map, seq, lead, opt, many}
 use Rattle.ilsource.specs.declared.configuration.InstanceDeclaration.{InstanceDeclaration}
 use Rattle.ilsource.specs.declared.configuration.TaskDeclaration.{TaskDeclaration}
 use Rattle.ilsource.specs.declared.name.Name.{Name}

@@ -1,7 +1,7 @@
 -- The grammar of texts (IEC 61131-3, 2.3.3.1, 2.4.3, 2.7.1 and 3.2, with this project's profile), as items over tokens.
 -- Lines with neither a label nor an instruction are left out, and each line needs its end of line.
 use Rattle.std.specs.Prelude.{List, [], ◌∷◌, Option}
-use Rattle.ilgrammar.specs.Items.{Item, map, seq, lead, opt, alt, many}
+use Rattle.iltokens.specs.Items.{Item, map, seq, lead, opt, alt, many}
 use Rattle.ilsource.specs.Configurations.{Configured}
 use Rattle.ilsource.specs.Programs.{DeclaredNames, Written}
 use Rattle.ilsource.specs.declared.source.Element.{Element}

@@ -1,14 +1,13 @@
 //! The kinds of function blocks, by their words (IEC 61131-3, 2.5.2.3; profile for requests).
 
 ghost use Rattle.std.specs.Prelude.{◌≡◌};
-ghost use Rattle.ilgrammar.specs.Items.{begins};
-ghost use Rattle.ilgrammar.specs.Results.{Gives};
+ghost use Rattle.iltokens.specs.Items.{begins};
+ghost use Rattle.iltokens.specs.Results.{Gives};
 ghost use Rattle.iltext.specs.Declarations.{block_of_word, block_at, block, instances};
 
 use ilblocks::BlockKind;
-use ilgrammar::ReadError;
 use illines::{Token, TokenKind};
-use iltokens::{Keyword, What};
+use iltokens::{Keyword, ReadError, What};
 
 /// The kind of block that a word is.
 fn block_of_word(word: Keyword) -> Option<BlockKind>

@@ -1,18 +1,17 @@
 //! Configurations (IEC 61131-3, 2.7.1).
 
 ghost use Rattle.std.specs.Prelude.{◌≡◌};
-ghost use Rattle.ilgrammar.specs.Items.{begins, opt};
-ghost use Rattle.ilgrammar.specs.Results.{Gives};
+ghost use Rattle.iltokens.specs.Items.{begins, opt};
+ghost use Rattle.iltokens.specs.Results.{Gives};
 ghost use Rattle.ilsource.specs.Configurations.{configured_of};
 ghost use Rattle.iltext.specs.Configurations.{body, resource_head, resource};
 ghost use Rattle.iltext.specs.Configurations.{contents, configuration};
 
 use crate::globals::global_blocks;
 use crate::tasks::{program_instances, tasks};
-use ilgrammar::ReadError;
 use illines::{Token, begins_word, spaced_name, spaced_word};
 use ilsource::{Configuration, GlobalDeclaration, InstanceDeclaration, TaskDeclaration};
-use iltokens::Keyword;
+use iltokens::{Keyword, ReadError};
 use std::alloc::Global;
 
 /// The tasks and the program instances of a configuration.

@@ -1,8 +1,8 @@
 //! Declarations of types and of variables (IEC 61131-3, 2.3.3.1 and 2.4.3).
 
 ghost use Rattle.std.specs.Prelude.{◌≡◌, List, length};
-ghost use Rattle.ilgrammar.specs.Items.{begins};
-ghost use Rattle.ilgrammar.specs.Results.{Gives};
+ghost use Rattle.iltokens.specs.Items.{begins};
+ghost use Rattle.iltokens.specs.Results.{Gives};
 ghost use Rattle.illines.specs.Terminals.{spaced};
 ghost use Rattle.iltext.specs.Declarations.{integer, simple, interval, range, specification};
 ghost use Rattle.iltext.specs.Declarations.{initial, typing, type_declaration, instances, declared};
@@ -14,14 +14,13 @@ ghost use Rattle.iltext.specs.Texts.{derived_type};
 
 use crate::block_kinds::{begins_instances, block};
 use ilblocks::BlockKind;
-use ilgrammar::ReadError;
 use illines::{
     Token, TokenKind, begins_name, begins_word, line_ends, spaced_constant, spaced_delimiter,
     spaced_name, spaced_number, spaced_word,
 };
-use iloperators::IntegerType;
 use ilsource::{Constant, Declaration, Declared, Name, Specification, TypeDeclaration};
-use iltokens::{Delimiter, Keyword, What};
+use iltokens::{Delimiter, Keyword, ReadError, What};
+use iltypes::IntegerType;
 use std::alloc::Global;
 
 /// SINT, INT, DINT, USINT, UINT or UDINT.

@@ -1,19 +1,18 @@
 //! Declarations of global variables (IEC 61131-3, 2.4.3).
 
 ghost use Rattle.std.specs.Prelude.{◌≡◌};
-ghost use Rattle.ilgrammar.specs.Items.{begins};
-ghost use Rattle.ilgrammar.specs.Results.{Gives};
+ghost use Rattle.iltokens.specs.Items.{begins};
+ghost use Rattle.iltokens.specs.Results.{Gives};
 ghost use Rattle.ilsource.specs.declared.name.Name.{Name};
 ghost use Rattle.iltext.specs.Globals.{address, located, unlocated, global_named, global};
 ghost use Rattle.iltext.specs.Globals.{globals, var_global, global_blocks};
 
 use crate::declarations::{begins_declaration, names_after, typing};
-use ilgrammar::ReadError;
 use illines::{
     Token, TokenKind, begins_word, line_ends, spaced_delimiter, spaced_name, spaced_word,
 };
 use ilsource::{DirectAddress, GlobalDeclaration, Name};
-use iltokens::{Delimiter, Keyword, What};
+use iltokens::{Delimiter, Keyword, ReadError, What};
 use std::alloc::Global;
 
 /// `%QB`, `%IW` or `%IX` with its numbers.

@@ -4,13 +4,17 @@
 //! or a [`TextFault`] with line, column and cause. Read specs/Parsing.antt first: a text's tokens
 //! (specs/Cutting.antt) are those of `iltokens`; the grammar is a set of items over them
 //! (specs/Texts.antt, Declarations.antt and Configurations.antt, with the lines of `illines`),
-//! whose reading is exact by the laws of `ilgrammar`; a fault stands at the first token that goes
-//! on as no text (specs/Faults.antt).
+//! whose reading is exact by the laws of items, which `iltokens` has too; a fault stands at the
+//! first token that goes on as no text (specs/Faults.antt).
+//!
+//! `parse` counts the open parentheses over the tokens before a fault, and gives causes 6 and 7 by
+//! that count, of which the grammar does not speak. Two laws tie the two, [`count_is_depth`] and
+//! [`causes_of_depth_hold`]: `IsInside` (specs/Nested.antt) says by the grammar alone inside how
+//! many parentheses of deferred operators a front of a text ends.
 //!
 //! ```text
 //! let source = parse(alloc, text)?; // or: text fault 3 at 12:8
 //! ```
-
 #![tactic(auto)]
 
 mod block_kinds;
@@ -19,10 +23,12 @@ mod cutting;
 mod declarations;
 mod fault;
 mod globals;
+mod nesting;
 mod parser;
 mod programs;
 mod tasks;
 
 pub use fault::{TextCause, TextFault};
 pub use ilsource::Source;
+pub use nesting::{causes_of_depth_hold, count_is_depth};
 pub use parser::parse;

@@ -2,7 +2,7 @@
 
 ghost use Rattle.std.specs.Prelude.{◌≡◌, ◌≤◌, length, IfOk, IfErr, All};
 ghost use Rattle.limits.specs.Limits.{most_bytes};
-ghost use Rattle.ilsource.specs.Trees.{Tree};
+ghost use Rattle.ilsource.specs.SourceTrees.{Tree};
 ghost use Rattle.iltext.specs.Parsing.{IsText, IsReadAs, IsTextFault, IsFault};
 ghost use Rattle.iltext.specs.ParsingSteps.{IsParsed, IsSourceOf};
 ghost use Rattle.iltext.specs.declared.fault.TextFault.{TextFault};
@@ -10,9 +10,9 @@ ghost use Rattle.iltext.specs.declared.fault.TextFault.{TextFault};
 use crate::cutting::tokens;
 use crate::fault::{TextCause, TextFault, fault_at};
 use crate::programs::whole_text;
-use ilgrammar::ReadError;
 use illines::Token;
 use ilsource::{Configuration, Element, Source};
+use iltokens::ReadError;
 use limits::is_too_long;
 use std::alloc::Global;
 

@@ -1,19 +1,18 @@
 //! Programs, TYPE blocks and whole texts.
 
 ghost use Rattle.std.specs.Prelude.{◌≡◌, List, length};
-ghost use Rattle.ilgrammar.specs.Items.{begins};
-ghost use Rattle.ilgrammar.specs.Stops.{whole_read};
-ghost use Rattle.ilgrammar.specs.Results.{Gives};
+ghost use Rattle.iltokens.specs.Items.{begins};
+ghost use Rattle.iltokens.specs.Stops.{whole_read};
+ghost use Rattle.iltokens.specs.Results.{Gives};
 ghost use Rattle.iltext.specs.Declarations.{variables};
 ghost use Rattle.iltext.specs.Texts.{blocks, program, derived_type, derived_types};
 ghost use Rattle.iltext.specs.Texts.{types, unit, units, text};
 
 use crate::configurations::optional_configuration;
 use crate::declarations::{begins_declaration, begins_variables, type_declaration, variables};
-use ilgrammar::ReadError;
 use illines::{Token, TokenKind, end, line_ends, lines, spaced_name, spaced_word};
 use ilsource::{Configuration, Declaration, Element, Program};
-use iltokens::{Keyword, What};
+use iltokens::{Keyword, ReadError, What};
 use std::alloc::Global;
 
 /// `{variables}`, as one list.

@@ -1,18 +1,17 @@
 //! Declarations of tasks and of program instances (IEC 61131-3, 2.7.2).
 
 ghost use Rattle.std.specs.Prelude.{◌≡◌};
-ghost use Rattle.ilgrammar.specs.Items.{begins, opt};
-ghost use Rattle.ilgrammar.specs.Results.{Gives};
+ghost use Rattle.iltokens.specs.Items.{begins, opt};
+ghost use Rattle.iltokens.specs.Results.{Gives};
 ghost use Rattle.iltext.specs.Tasks.{duration, single, interval, priority, inputs, task, tasks};
 ghost use Rattle.iltext.specs.Tasks.{with_task, program_instance, program_instances};
 
-use ilgrammar::ReadError;
 use illines::{
     Token, TokenKind, begins_word, line_ends, spaced_delimiter, spaced_name, spaced_number,
     spaced_word,
 };
 use ilsource::{InstanceDeclaration, Name, TaskDeclaration};
-use iltokens::{Delimiter, Keyword, What};
+use iltokens::{Delimiter, Keyword, ReadError, What};
 use std::alloc::Global;
 
 /// A duration, in milliseconds.

@@ -9,7 +9,7 @@ use Rattle.iltokens.specs.declared.keyword.Keyword.{Keyword}
 use Rattle.iltokens.specs.declared.keyword.Keyword.TheVariants as words
 use Rattle.iltokens.specs.declared.lexed.What.TheVariants as whats
 use Rattle.iltokens.specs.Keywords.{spelling_of, IsSpelled}
-use Rattle.iltokens.specs.KeywordSteps.{reserved_words, lookup, keyword}
+use Rattle.iltokens.specs.KeywordSteps.{word_rows, reserved_words, lookup, keyword}
 use Rattle.iltokens.specs.FrontSteps.{kind_of_word, word_kind}
 use Rattle.iltokens.specs.Longest.{IsWithin}
 use Rattle.iltokens.specs.Spellings.{IsName, Spells}
@@ -24,7 +24,7 @@ abbrev AreSpelled : List Row → Type 0
 AreSpelled ks = map (λ (k : Row). k.0) ks ≡ map (λ (k : Row). spelling_of k.1) ks
 
 each_spelled : AreSpelled reserved_words
-unfolding reserved_words
+unfolding word_rows reserved_words
 each_spelled = refl
 
 row_found : (ks : List Row) (text : List ℕ) (w : Keyword) → AreSpelled ks → lookup ks text ≡ Some w → IsSpelled text w
@@ -51,7 +51,7 @@ alike_found (k ∷ ks) text s e = rw (e, alike_found ks text s e) refl
 
 -- each word is found by its spelling
 each_found : (w : Keyword) → lookup reserved_words (spelling_of w) ≡ Some w
-unfolding reserved_words
+unfolding word_rows reserved_words
 each_found words.Ld = refl
 each_found _ = refl
 

@@ -5,12 +5,15 @@ pub mod DigitSteps
 pub mod Digits
 pub mod Faults
 pub mod FrontSteps
+pub mod Items
 pub mod KeywordSteps
 pub mod Keywords
 pub mod Letters
 pub mod Longest
 pub mod NumberSteps
+pub mod Results
 pub mod Spellings
+pub mod Stops
 pub mod TimeSteps
 pub mod Times
 pub mod TokenSteps

@@ -1,4 +1,5 @@
-//! Tokens of Instruction List: which one stands next in a text's bytes, and where.
+//! Tokens of Instruction List: which one stands next in a text's bytes, and where; and grammars
+//! over tokens of any type, with what holds of every parser of one.
 //!
 //! What crosses the boundary: [`token`], which goes over the blanks and comments at a place and
 //! gives the longest token after them as a [`Lexed`], or the end, or the fault that stands there.
@@ -6,10 +7,16 @@
 //! and line ends. Read `StandsNext` first (specs/Tokens.antt), then what each kind spells
 //! (specs/Spellings.antt) and each reserved word ([`reserved`], specs/Keywords.antt).
 //!
+//! Of a grammar: the definition of an item (specs/Items.antt), built by `one`, `empty`, `map`,
+//! `seq`, `lead`, `select`, `opt`, `alt` and `many`, with what it spells, what is a front of it and
+//! how it is read; where a fault stands (specs/Stops.antt); and [`ReadError`], which a function
+//! that reads an item returns (specs/Results.antt). The laws (proofs/Laws.antt, Firm.antt,
+//! Exact.antt) say that reading is exact both ways.
+//!
 //! ```text
 //! let Lexed::Token { what, from, to } = token(text, at) else { return };
+//! fn range<'a>(tokens: &'a [Token]) -> Result<((i64, i64), &'a [Token]), ReadError<'a, Token>>
 //! ```
-
 #![tactic(auto)]
 
 mod address;
@@ -20,9 +27,11 @@ mod keyword;
 mod lexed;
 mod lexer;
 mod number;
+mod read_error;
 mod spelling;
 mod time;
 
 pub use keyword::{Keyword, reserved};
 pub use lexed::{AddressKind, Delimiter, Lexed, LexicalCause, What};
 pub use lexer::token;
+pub use read_error::ReadError;

@@ -1,8 +1,11 @@
+pub mod Comparisons
 pub mod Corners
 pub mod Equality
 pub mod Fitting
 pub mod Limits
 pub mod Magnitudes
+pub mod Numbers
+pub mod OperatorEquality
 pub mod Quotients
 pub mod Remainders
 pub mod TypeTests

@@ -1,5 +1,9 @@
 pub mod Arithmetic
+pub mod Comparisons
+pub mod Conditions
+pub mod Functions
 pub mod Modifiers
+pub mod Operators
 pub mod Printed
 pub mod RangeSteps
 pub mod Ranges

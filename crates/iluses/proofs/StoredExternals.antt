@@ -2,9 +2,9 @@
 use Rattle.std.proofs.Common.{◌≡◌, ℕ, List, [], ◌∷◌, Bool, true, false, refl, sym, ap, ◌∙◌, subst, inl, inr}
 use Rattle.std.specs.Prelude.{◌↔◌, Option, Some, None, IsSomeAnd, bytes_eq, option_and_then}
 use Rattle.std.specs.Prelude.{option_map, suc}
-use Rattle.iltrees.specs.declared.uses.Use.{Use}
+use Rattle.ilsource.specs.declared.uses.Use.{Use}
 use Rattle.ilsource.specs.Names.{SameName, folded}
-use Rattle.ilsource.specs.Trees.{Tree}
+use Rattle.ilsource.specs.SourceTrees.{Tree}
 use Rattle.ilsource.specs.declared.name.Name.{Name}
 use Rattle.ilsource.specs.declared.symbol.Symbol.{Symbol}
 use Rattle.ildeclared.specs.Faults.{IsLeastOf, OfCause, SomeOf}

@@ -9,8 +9,7 @@ ghost use Rattle.iluses.specs.Faults.{port_in, ports_given, IsGivenTwiceIn};
 
 use crate::labels::add_name;
 use ilscope::{Found, Names, Scope, lesser_of};
-use ilsource::{Name, Symbol};
-use iltrees::{Argument, Instruction, Line};
+use ilsource::{Argument, Instruction, Line, Name, Symbol};
 use std::alloc::{AllocError, Global};
 
 /// The least fault of a port that a call among one program's lines gives again.

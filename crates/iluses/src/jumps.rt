@@ -8,8 +8,7 @@ ghost use Rattle.iluses.specs.JumpSteps.{IsCauseOfJump, IsFaultOfJump};
 ghost use Rattle.iluses.specs.Faults.{IsFaultOfJumps};
 
 use ilscope::{Found, NameCause, Names, Scope, lesser_of};
-use ilsource::{Name, Symbol};
-use iltrees::{Instruction, Line};
+use ilsource::{Instruction, Line, Name, Symbol};
 
 /// The least fault of a jump.
 pub(crate) fn fault_of_jumps(

@@ -10,8 +10,7 @@ ghost use Rattle.iluses.specs.Labels.{AreNumbered};
 ghost use Rattle.iluses.specs.LabelSteps.{IsKeptLabel, KeepsLabel};
 
 use ilscope::{Found, NameCause, Names, Scope, lesser_of};
-use ilsource::{Name, Symbol};
-use iltrees::Line;
+use ilsource::{Line, Name, Symbol};
 use std::alloc::{AllocError, Global};
 
 /// Under each label of one program's lines the number of the first line that has it, and the least

@@ -9,8 +9,7 @@ use crate::arguments::given_twice;
 use crate::jumps::fault_of_jumps;
 use crate::labels::number_labels;
 use ilscope::{Found, Scope, lesser_of};
-use ilsource::{Name, Symbol};
-use iltrees::Line;
+use ilsource::{Line, Name, Symbol};
 use std::alloc::{AllocError, Global};
 
 /// The least fault of a label, of one that is given again or of a jump's, or of a port that is

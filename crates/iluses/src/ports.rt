@@ -8,8 +8,7 @@ ghost use Rattle.iluses.specs.Faults.{place_of_port, port_number, writes, Writes
 
 use ilblocks::BlockKind;
 use ilscope::{Found, NameCause, Scope};
-use ilsource::{Name, Symbol};
-use iltrees::{Operand, Purpose, Use};
+use ilsource::{Name, Operand, Purpose, Symbol, Use};
 
 /// The kind of a block instance of the program with this number, and the number of its port of this
 /// name; none where there is no such port.

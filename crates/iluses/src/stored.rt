@@ -13,9 +13,8 @@ ghost use Rattle.iluses.specs.Faults.{StoresToInput, stored_name};
 
 use crate::uses::uses_of;
 use ilscope::{Found, NameCause, Scope};
-use ilsource::{DirectAddress, Name, Symbol};
+use ilsource::{DirectAddress, Name, Operand, Purpose, Symbol, Use};
 use iltokens::AddressKind;
-use iltrees::{Operand, Purpose, Use};
 use std::alloc::{AllocError, Global};
 
 /// The numbers of the global variables that lines of the program with this number store to, one

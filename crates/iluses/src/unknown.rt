@@ -8,8 +8,7 @@ ghost use Rattle.iluses.specs.Faults.{IsNoVariable, IsUnknownSymbol, IsUnknownUs
 
 use crate::ports::{place_of_port, port_of};
 use ilscope::{Found, NameCause, Scope};
-use ilsource::{Name, Symbol};
-use iltrees::{Operand, Purpose, Use};
+use ilsource::{Name, Operand, Purpose, Symbol, Use};
 
 /// The fault of a use of what the program with this number does not declare.
 pub(crate) fn unknown_use(scope: &Scope<'_>, number: usize, used: Use<Symbol>) -> Option<Found>

@@ -10,8 +10,7 @@ use crate::ports::output_written;
 use crate::stored::input_written;
 use crate::unknown::unknown_use;
 use ilscope::{Found, Scope, lesser_of};
-use ilsource::{Program, Symbol};
-use iltrees::Use;
+use ilsource::{Program, Symbol, Use};
 use std::alloc::{AllocError, Global};
 
 /// What a program's lines use, in the order of the text.

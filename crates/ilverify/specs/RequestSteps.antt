@@ -3,7 +3,7 @@ use Rattle.std.specs.Prelude.{◌≡◌, ℕ, ◌+◌, ◌<◌, ◌≤◌, List,
 use Rattle.std.specs.Prelude.{slice_get, slice_set, get_or, max, ⊤}
 use Rattle.std.specs.Option.{unwrap_or}
 use Rattle.limits.specs.Limits.{most_requests}
-use Rattle.iloperators.specs.declared.condition.Condition.TheVariants.{Always}
+use Rattle.iltypes.specs.declared.condition.Condition.TheVariants.{Always}
 use Rattle.ilcode.specs.declared.word.Word.{Word}
 use Rattle.ilcode.specs.declared.word.Word.TheVariants as words
 use Rattle.ilcode.specs.Listings.{Listing}

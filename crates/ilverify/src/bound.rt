@@ -5,7 +5,7 @@ ghost use Rattle.ilcode.specs.Paths.{IsBound};
 ghost use Rattle.ilverify.specs.BoundSteps.{IsLongestFrom, AreLongest, words_at, words_at_target};
 
 use ilcode::{Code, Word};
-use iloperators::Condition;
+use iltypes::Condition;
 use std::alloc::{AllocError, Global};
 
 /// The greatest number of words on a path, whatever the values.

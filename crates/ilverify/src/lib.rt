@@ -6,7 +6,7 @@
 //! (`IsVerified`, specs/Verdicts.antt, to be read first). The verdict is defined by certificates
 //! (specs/Certificates.antt): an entry for each word, consistent by the rules of `ilranges`; and by
 //! the calls of request blocks on each path (specs/Requests.antt). A `Verified` has its
-//! words and constants in the form in which the machine reads them, too (`ilready::ReadyWord`,
+//! words and constants in the form in which the machine reads them, too (`ilrows::ReadyWord`,
 //! `ilrows::Cell`).
 //!
 //! ```text

@@ -10,7 +10,7 @@ ghost use Rattle.ilverify.specs.RequestSteps.{raised, raised_target};
 ghost use Rattle.ilverify.specs.RequestSteps.{raised_after, IsFirstOverfull};
 
 use ilcode::{Code, Word};
-use iloperators::Condition;
+use iltypes::Condition;
 use limits::MOST_REQUESTS;
 use std::alloc::{AllocError, Global};
 

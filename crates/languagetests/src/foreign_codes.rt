@@ -8,9 +8,8 @@ ghost use Rattle.ilcode.specs.Words.{HasWord};
 
 use ilblocks::BlockKind;
 use ilcode::{Code, PackedWord, Target, Word, WordOperand, pack};
-use iloperators::{Condition, Operator};
 use ilranges::{Known, Slots};
-use iltypes::{IlType, Range, Value};
+use iltypes::{Condition, IlType, Operator, Range, Value};
 use ilverify::{VerifyError, verify};
 use std::alloc::{AllocError, Global};
 use std::test::Fail;

@@ -4,12 +4,12 @@ ghost use Rattle.std.specs.Prelude.{◌<◌, length};
 
 use crate::names::{At, shown};
 use crate::uses::{Use, uses_of};
-use binding::BoundSource;
+use ilcompile::Setup;
 use ilplan::{Activation, Location, Plan, SlotOwner};
-use ilsetup::Setup;
 use std::alloc::Global;
 use std::io;
 use std::io::Write;
+use wordlines::BoundSource;
 
 /// Writes a note for each trigger that a task reads though another event starts it, or the clock.
 pub(crate) fn write_trigger_notes<W: Write>(

@@ -4,7 +4,7 @@ use crate::globals::{write_global_notes, write_source_notes, write_trigger_notes
 use crate::programs::write_program_notes;
 use crate::unreached::{write_request_notes, write_unreached};
 use crate::uses::global_uses;
-use ilsetup::Setup;
+use ilcompile::Setup;
 use ilsource::Source;
 use std::alloc::Global;
 use std::io;

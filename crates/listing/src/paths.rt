@@ -1,7 +1,7 @@
 //! The longest paths of a code, and the paths with the most requests.
 
 use ilcode::{Code, Word};
-use iloperators::Condition;
+use iltypes::Condition;
 use std::alloc::{AllocError, Global};
 
 /// For each place how many words the longest path from there has, whatever the values, and 0 behind

@@ -1,8 +1,8 @@
 //! How operators and names are written.
 
 use ilcode::Code;
-use iloperators::{Condition, Function, Operator};
 use ilplan::{DeclaredName, Plan, SlotName, SlotOwner};
+use iltypes::{Condition, Function, Operator};
 
 /// How an operator is written.
 pub(crate) fn operator_text(operator: Operator) -> &'static str {

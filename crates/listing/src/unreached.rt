@@ -4,7 +4,7 @@ use crate::flow::{Flow, Judged};
 use crate::paths::most_requests;
 use crate::uses::line_at;
 use ilcode::Code;
-use ilsetup::Setup;
+use ilcompile::Setup;
 use std::alloc::Global;
 use std::io;
 use std::io::Write;

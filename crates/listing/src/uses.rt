@@ -3,8 +3,8 @@
 ghost use Rattle.std.specs.Prelude.{◌<◌, length};
 
 use ilcode::{Code, Target, Word, WordOperand};
+use ilcompile::Setup;
 use ilplan::{Plan, SlotOwner};
-use ilsetup::Setup;
 use std::alloc::{AllocError, Global};
 
 /// How a variable is used by the words of codes, reached or not.

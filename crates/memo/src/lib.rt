@@ -1,18 +1,24 @@
-//! Values that contracts alone see.
+//! Values and lists that contracts alone see.
 //!
 //! What crosses the boundary: [`Memo::of`] notes what a value is at one place of the code, so that
-//! later clauses can speak of it as `memo.value`. A memo has no bytes and owns nothing, so it may
-//! cross threads whatever it notes; std's `Snapshot`, which is the same otherwise, may not.
+//! later clauses can speak of it as `memo.value`. A [`Trace`] begins empty, and [`Trace::push`]
+//! puts what happened in front, so that clauses can speak of all that happened as `trace.items`,
+//! the newest first. Neither has bytes, takes memory or owns anything, so both may cross threads
+//! whatever they note; std's `Snapshot`, which is a memo otherwise, may not.
 //!
 //! ```text
 //! let asked = Memo::of(&requests);
+//! history.push(&event);
 //! ```
 #![tactic(auto)]
 
 ghost use Rattle.std.specs.Prelude.{◌≡◌};
 ghost use base.Fml.{ftrue};
 
+mod trace;
+
 use std::marker::{Model, PhantomData};
+pub use trace::Trace;
 
 /// A `T` as contracts see it. It has no bytes.
 pub struct Memo<T> {

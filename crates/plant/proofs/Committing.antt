@@ -17,8 +17,8 @@ use Rattle.ilverify.specs.Verdicts.{Accepted}
 use Rattle.ilimage.specs.Images.{ProcessImage, TaskImage, TaskLayout}
 use Rattle.ilimage.specs.Snapshots.{ScanStart}
 use Rattle.ilmachine.specs.Scans.{Scan, IsScan, store_of}
-use Rattle.ilsetup.specs.Loaded.{AreCodes, IsCodeOf}
-use Rattle.ilsetup.proofs.CodeLemmas.{zipped_at}
+use Rattle.ilcompile.specs.Loaded.{AreCodes, IsCodeOf}
+use Rattle.ilcompile.proofs.CodeLemmas.{zipped_at}
 use Rattle.plantevents.specs.declared.event.Event.{Event}
 use Rattle.plantevents.specs.declared.event.Event.TheVariants.{Tick, Heard, Take, Commit, Hand, Done, Down}
 use Rattle.plantevents.specs.Plants.{Plant, first_tasks}

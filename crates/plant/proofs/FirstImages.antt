@@ -20,7 +20,7 @@ use Rattle.ilverify.specs.Verdicts.{Accepted}
 use Rattle.ilimage.specs.declared.external.External.{External}
 use Rattle.ilimage.specs.Images.{IsImage, image_of}
 use Rattle.ilimage.specs.Images.{AreTyped, AreApart, IsLawfulTask, TaskImage, first_task}
-use Rattle.ilsetup.specs.Loaded.{Loaded, IsCodeOf}
+use Rattle.ilcompile.specs.Loaded.{Loaded, IsCodeOf}
 use Rattle.plantevents.specs.Plants.{external_in, externals_from, externals_of, own_by, own_initials, first_tasks}
 use Rattle.plantevents.proofs.Slots.{variables, owns, external_of, first_global, first_own, owns_global, owns_own}
 use Rattle.plant.specs.OpeningSteps.{global_types, IsFirstImage, AreLawfulTasks}

@@ -9,8 +9,8 @@ use Rattle.std.proofs.lemmas.List.Quantifiers.{Any-push}
 use Rattle.std.specs.Prelude.{All, IfSome, if◌then◌else◌, slice_get, slice_index_or}
 use Rattle.std.specs.List.{Any}
 use Rattle.std.specs.Option.{option_and_then}
-use Rattle.binding.specs.Wirings.{IsAt, IsWithinLimits, Wiring}
-use Rattle.binding.specs.declared.sources.BoundSource.{BoundSource}
+use Rattle.wordlines.specs.Wirings.{IsAt, IsWithinLimits, Wiring}
+use Rattle.wordlines.specs.declared.sources.BoundSource.{BoundSource}
 use Rattle.gearcmd.specs.declared.requests.Answerer.{Answerer}
 use Rattle.gearcmd.specs.declared.requests.Answerer.TheVariants.{Gear, Instance}
 use Rattle.transact.specs.declared.marks.Outcome.{Outcome}

@@ -2,7 +2,7 @@
 use Rattle.std.proofs.Common.{◌≡◌, ℕ, zero, suc, ◌≤◌, Bool, true, false, List, [], length}
 use Rattle.std.proofs.Common.{replicate, Option, refl, sym, subst, arith}
 use Rattle.std.proofs.lemmas.List.{get_or-replicate, length-replicate}
-use Rattle.ilsetup.specs.Loaded.{Loaded}
+use Rattle.ilcompile.specs.Loaded.{Loaded}
 use Rattle.ilimage.specs.Images.{ProcessImage}
 use Rattle.plantevents.specs.declared.event.Event.{Event}
 use Rattle.plantevents.specs.Plants.{Plant, opening}

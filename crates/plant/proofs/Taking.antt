@@ -27,7 +27,7 @@ use Rattle.plantevents.specs.Legal.{IsTake}
 use Rattle.taskset.specs.TaskSets.{TaskSet, Follows}
 use Rattle.std.proofs.lemmas.List.{length-map}
 use Rattle.std.proofs.lemmas.Slice.Zip.{AllZip-long}
-use Rattle.ilsetup.specs.Loaded.{AreCodes, IsCodeOf}
+use Rattle.ilcompile.specs.Loaded.{AreCodes, IsCodeOf}
 use Rattle.plantbuses.specs.KeptSteps.{ImageFollows, ScansFollow, TakesFollow}
 use Rattle.plant.specs.Shown.{Shown, grown, kept, is_full, count_below}
 use Rattle.plant.specs.KeptSteps.{KeptPlant, Says}

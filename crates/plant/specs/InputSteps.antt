@@ -3,7 +3,7 @@ use Rattle.std.specs.Prelude.{ℕ, ◌==◌, ◌&&◌, Bool, List, Option, Some,
 use Rattle.std.specs.Prelude.{option_and_then, if◌then◌else◌}
 use Rattle.std.specs.List.{position}
 use Rattle.iltypes.specs.declared.value.Value.{Value}
-use Rattle.binding.specs.declared.sources.BoundSource.{BoundSource}
+use Rattle.wordlines.specs.declared.sources.BoundSource.{BoundSource}
 use Rattle.ilplan.specs.declared.global.Location.{Location}
 use Rattle.ilplan.specs.declared.global.Location.TheVariants.{Information, Count}
 use Rattle.ilplan.specs.Plans.{Planned}

@@ -1,7 +1,7 @@
 -- What private fields say of a history.
 use Rattle.std.specs.Prelude.{◌≡◌, ℕ, ◌+◌, ◌<◌, ◌≤◌, List, length, slice_index_or}
 use Rattle.std.specs.Prelude.{Option}
-use Rattle.binding.specs.declared.sources.BoundSource.{BoundSource}
+use Rattle.wordlines.specs.declared.sources.BoundSource.{BoundSource}
 use Rattle.daliframe.specs.declared.schemes.EventScheme.TheVariants.{Instance}
 use Rattle.ilimage.specs.Images.{ProcessImage}
 use Rattle.plantevents.specs.declared.event.Event.{Event}

@@ -4,7 +4,7 @@ use Rattle.iltypes.specs.declared.value.IlType.{IlType}
 use Rattle.ilplan.specs.Plans.{PlannedTask, Planned}
 use Rattle.ilverify.specs.Verdicts.{Accepted}
 use Rattle.ilimage.specs.Images.{TaskImage, first_task, IsLawfulTask}
-use Rattle.ilsetup.specs.Loaded.{Loaded}
+use Rattle.ilcompile.specs.Loaded.{Loaded}
 use Rattle.plantevents.specs.Plants.{Plant, externals_of, own_initials}
 use Rattle.plant.specs.Shown.{plant_of}
 

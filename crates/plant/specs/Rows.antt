@@ -1,7 +1,7 @@
 -- Worked plants: what is refused at the end of a history, and that the clock does not go back.
 use Rattle.std.specs.Prelude.{ℕ, zero, suc, [], ◌+◌}
 use Rattle.ilplan.specs.Plans.{plan_of}
-use Rattle.ilsetup.specs.Loaded.{Loaded, loaded_of}
+use Rattle.ilcompile.specs.Loaded.{Loaded, loaded_of}
 use Rattle.plantevents.specs.declared.event.Event.TheVariants.{Tick}
 use Rattle.plant.specs.Shown.{Shown, opened, grown}
 

@@ -3,7 +3,7 @@ use Rattle.std.specs.Prelude.{ℕ, ◌≤◌, zero, suc, ◌+◌, ◌==◌, Bool
 use Rattle.std.specs.Prelude.{length}
 use Rattle.std.specs.Prelude.{replicate, slice_set, slice_index_or, is_some, nat_lt}
 use Rattle.limits.specs.Limits.{most_workers, least_events, most_events}
-use Rattle.ilsetup.specs.Loaded.{Loaded}
+use Rattle.ilcompile.specs.Loaded.{Loaded}
 use Rattle.plant.specs.declared.open_fault.OpenFault.{OpenFault}
 use Rattle.plant.specs.declared.open_fault.OpenFault.TheVariants.{Memory, BadCount, Limit}
 use Rattle.plantevents.specs.declared.role.Role.{Role}

@@ -12,11 +12,11 @@ ghost use Rattle.plantbuses.specs.AnswerSteps.{IsWrittenAs};
 ghost use Rattle.plant.specs.IndexSteps.{AreInputsOf};
 ghost use Rattle.plant.specs.InputSteps.{is_bound_at, written_by, input_at};
 
-use binding::BoundSource;
 use daliframe::Frame24;
 use ilimage::Image;
 use ilplan::{Location, Plan};
 use iltypes::Value;
+use wordlines::BoundSource;
 
 /// The number of the source that is bound at this place of a bus.
 fn source_number(sources: &[BoundSource], bus: u8, number: u8) -> Option<usize>

@@ -3,14 +3,14 @@
 ghost use Rattle.std.specs.Prelude.{◌≡◌, ◌+◌, ℕ, List, length, IsTrue, ◌↔◌, Some, None};
 ghost use Rattle.std.specs.Prelude.{if◌then◌else◌, true, ◌∷◌, slice_index_or, ◌<◌, ◌≤◌, ◌≢◌};
 ghost use Rattle.std.specs.Prelude.{IfSome};
-ghost use Rattle.binding.specs.declared.sources.BoundSource.{BoundSource as Bound};
+ghost use Rattle.wordlines.specs.declared.sources.BoundSource.{BoundSource as Bound};
 ghost use Rattle.plantevents.specs.declared.event.Event.{Event};
 ghost use Rattle.plantevents.specs.declared.event.Event.TheVariants.{Heard};
 ghost use Rattle.plantevents.specs.Histories.{message_count};
 ghost use Rattle.plant.specs.KeptSteps.{IsCount, CountsFollow, source_in};
 
-use binding::BoundSource;
 use daliframe::Frame24;
+use wordlines::BoundSource;
 
 /// The count of a source once this frame was heard on a bus.
 fn count_after(bound: BoundSource, count: u16, bus: u8, frame: Frame24) -> u16

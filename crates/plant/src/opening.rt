@@ -6,16 +6,16 @@ ghost use Rattle.iltypes.specs.declared.value.IlType.{IlType as TypeOf};
 ghost use Rattle.std.specs.Prelude.{IfSome};
 ghost use Rattle.std.specs.Arc.{arc_value};
 ghost use Rattle.ilplan.specs.Plans.{PlannedTask, KeepsLimits, IsTaskOf};
-ghost use Rattle.ilsetup.specs.Loaded.{IsCodeOf};
+ghost use Rattle.ilcompile.specs.Loaded.{IsCodeOf};
 ghost use Rattle.ilverify.specs.Verdicts.{Accepted};
 ghost use Rattle.ilimage.specs.Images.{first_task, IsLawfulTask};
 ghost use Rattle.plantevents.specs.Plants.{externals_of, external_in, own_by, own_initials};
 ghost use Rattle.plantevents.specs.Plants.{first_tasks, opening};
 ghost use Rattle.plant.specs.OpeningSteps.{IsFirstImage, AreLawfulTasks, global_types, as_planned};
 
+use ilcompile::Setup;
 use ilimage::{External, Image, TaskImage};
 use ilplan::{Plan, Slot, SlotOwner, Task};
-use ilsetup::Setup;
 use iltypes::{IlType, Value};
 use ilverify::Verified;
 use std::alloc::{AllocError, Global};

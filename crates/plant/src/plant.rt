@@ -28,9 +28,10 @@ use crate::refusal::CallRefusal;
 use crate::setups::task_setups;
 use daliframe::Frame24;
 pub use handing::Handed;
+use ilcompile::Setup;
 use ilimage::Image;
-use ilsetup::Setup;
 pub use limits::{LEAST_EVENTS as LEAST_LIMIT, MOST_EVENTS as MOST_LIMIT, MOST_WORKERS};
+use memo::Trace;
 use plantbuses::{
     BusOutputs, BusState, OwedLevels, RunningScan, fresh_buses, idle_workers, note_down,
     note_heard, outputs_of, owed_levels,
@@ -40,7 +41,6 @@ use std::alloc::{AllocError, Global};
 use std::marker::Model;
 pub use taking::Order;
 use taskset::{Tasks, other_events_leave_tasks};
-use trace::Trace;
 
 /// A plan with its verified codes, scan workers and buses, as it runs. Its history has no bytes.
 pub struct Plant {

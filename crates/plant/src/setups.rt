@@ -6,12 +6,12 @@ ghost use Rattle.taskset.specs.TaskSets.{AreSetups, HasInterval};
 ghost use Rattle.plant.specs.InputSteps.{is_bound_at};
 ghost use Rattle.plant.specs.TakingSteps.{trigger_place};
 
-use binding::BoundSource;
 use dalievent::EventSource;
 use ilplan::{Activation, Location, Plan};
 use plantevents::Activator;
 use std::alloc::{AllocError, Global};
 use taskset::TaskSetup;
+use wordlines::BoundSource;
 
 /// The source that is bound at this place of a bus.
 fn bound_source(sources: &[BoundSource], bus: u8, number: u8) -> Option<EventSource>

@@ -16,10 +16,10 @@ use Rattle.gearcmd.specs.declared.requests.Command.TheVariants.{GearLevel, GearR
 use Rattle.gearcmd.specs.FrameLists.{FrameList}
 use Rattle.transact.specs.declared.marks.Outcome.{Outcome}
 use Rattle.transact.specs.Attempts.{ReportParts}
-use Rattle.iltrees.specs.declared.instruction.Instruction.{Instruction}
-use Rattle.iltrees.specs.declared.instruction.Instruction.TheVariants as instructions
-use Rattle.iltrees.specs.declared.instruction.Line.{Line}
-use Rattle.iltrees.specs.declared.operand.Operand.TheVariants.{Name, Constant}
+use Rattle.ilsource.specs.declared.instruction.Instruction.{Instruction}
+use Rattle.ilsource.specs.declared.instruction.Instruction.TheVariants as instructions
+use Rattle.ilsource.specs.declared.instruction.Line.{Line}
+use Rattle.ilsource.specs.declared.operand.Operand.TheVariants.{Name, Constant}
 use Rattle.ilsource.specs.declared.name.Name as names
 use Rattle.ilplan.specs.declared.activation.Activation.{Activation}
 use Rattle.ilplan.specs.declared.activation.Activation.TheVariants as activations

@@ -17,8 +17,8 @@ use Rattle.ilverify.specs.declared.refusal.VerifyError.{VerifyError}
 use Rattle.ilverify.specs.declared.refusal.VerifyError.TheVariants as verify_errors
 use Rattle.ilverify.specs.Certificates.{IsAccepted, IsError, IsRefusal}
 use Rattle.ilverify.specs.Verdicts.{Accepted}
-use Rattle.ilsetup.specs.Loaded.{AreCodes, IsCodeOf, accepted_of, listing_for}
-use Rattle.ilsetup.proofs.CodeLemmas.{zipped_with}
+use Rattle.ilcompile.specs.Loaded.{AreCodes, IsCodeOf, accepted_of, listing_for}
+use Rattle.ilcompile.proofs.CodeLemmas.{zipped_with}
 use Rattle.plantload.specs.Loading.{IsCodeFault, IsLoadFaultOrMemory}
 use Rattle.plantload.specs.PrintedFaults.{of_error}
 use Rattle.plantload.specs.declared.fault.LoadFault.{LoadFault}

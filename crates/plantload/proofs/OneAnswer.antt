@@ -3,8 +3,8 @@ use Rattle.std.proofs.Common.{◌≡◌, ℕ, List, [], ◌∷◌, Result, Ok, E
 use Rattle.std.proofs.Common.{inl, inr}
 use Rattle.std.specs.List.{AllZip}
 use Rattle.std.proofs.lemmas.Bool.{cases_lt}
-use Rattle.binding.specs.Wirings.{Wiring}
-use Rattle.ilsource.specs.Trees.{Tree}
+use Rattle.wordlines.specs.Wirings.{Wiring}
+use Rattle.ilsource.specs.SourceTrees.{Tree}
 use Rattle.iltext.proofs.Sources.{is_one, is_one_fault, is_no_fault}
 use Rattle.ildeclared.specs.declared.fault.NameFault.TheVariants as name_faults
 use Rattle.ilsyms.specs.Faults.{IsFault}
@@ -19,12 +19,12 @@ use Rattle.ilverify.specs.declared.refusal.Refusal.{Refusal}
 use Rattle.ilverify.specs.Certificates.{IsRefusal}
 use Rattle.ilverify.specs.Verdicts.{Accepted}
 use Rattle.ilverify.proofs.Verdict.{accepted_apart, same_refusal}
-use Rattle.ilsetup.specs.Loaded.{AreCodes, IsCodeOf, Loaded, listing_for}
+use Rattle.ilcompile.specs.Loaded.{AreCodes, IsCodeOf, Loaded, listing_for}
 use Rattle.plantload.specs.RefusedTasks.{Refused}
 use Rattle.plantload.specs.Loading.{IsFirstRefused, IsLoadFault, IsLoaded, IsPlanFault, IsPlanOfText, IsSetup}
 use Rattle.plantload.specs.declared.fault.LoadFault.{LoadFault}
 use Rattle.plantload.specs.declared.fault.LoadFault.TheVariants.{Memory, Text, Name, Code}
-use Rattle.ilsetup.proofs.CodeLemmas.{certified_at}
+use Rattle.ilcompile.proofs.CodeLemmas.{certified_at}
 
 -- ---- codes
 

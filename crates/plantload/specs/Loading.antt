@@ -1,8 +1,8 @@
 -- What a text is loaded as: its plan with its tasks' codes, or the first of what stands against that (IEC 61131-3,
 -- 2.7.2 and 3.2, and profile).
 use Rattle.std.specs.Prelude.{◌≡◌, ℕ, ◌<◌, List, Result, Ok, Err, Some, slice_get, ⊤}
-use Rattle.binding.specs.Wirings.{Wiring}
-use Rattle.ilsource.specs.Trees.{Tree}
+use Rattle.wordlines.specs.Wirings.{Wiring}
+use Rattle.ilsource.specs.SourceTrees.{Tree}
 use Rattle.iltext.specs.Parsing.{IsText, IsTextFault}
 use Rattle.ilscope.specs.Reports.{ReportsLeast}
 use Rattle.ilplan.specs.Plans.{Planned, PlannedTask}
@@ -10,7 +10,7 @@ use Rattle.ilsyms.specs.Faults.{IsFault, IsWellNamed}
 use Rattle.ilsyms.specs.Resolved.{plan_of_tree}
 use Rattle.ilverify.specs.declared.refusal.Refusal.{Refusal}
 use Rattle.ilverify.specs.Certificates.{IsAccepted, IsRefusal}
-use Rattle.ilsetup.specs.Loaded.{AreCodes, Loaded, listing_for}
+use Rattle.ilcompile.specs.Loaded.{AreCodes, Loaded, listing_for}
 use Rattle.plantload.specs.declared.fault.LoadFault.{LoadFault}
 use Rattle.plantload.specs.declared.fault.LoadFault.TheVariants.{Memory, Text, Name, Code}
 

@@ -1,7 +1,7 @@
 //! Loading a text: from its bytes to the plan and the verified code of each of its tasks, or to the
 //! one thing that is wrong.
 //!
-//! What crosses the boundary: [`load`], which answers an `ilsetup::Setup` or a [`LoadFault`]; and
+//! What crosses the boundary: [`load`], which answers an `ilcompile::Setup` or a [`LoadFault`]; and
 //! its two steps, [`plan_of`] and [`setup_of`], for a caller that has a question to the plan between
 //! them.
 //! What a text's setup is, and which fault stands against it, is `IsLoaded` (specs/Loading.antt),

@@ -3,29 +3,28 @@
 ghost use Rattle.std.specs.Prelude.{◌≡◌, ℕ, ◌<◌, length, Result, IfErr, IfOk, IfSome, slice_get};
 ghost use Rattle.std.specs.Arc.{arc_value};
 ghost use Rattle.ilblocks.specs.Stores.{Store};
-ghost use Rattle.ilsource.specs.Trees.{Tree};
+ghost use Rattle.ilsource.specs.SourceTrees.{Tree};
 ghost use Rattle.ilplan.specs.PlanMeaning.{plan_scan};
 ghost use Rattle.ilsyms.specs.Meaning.{source_scan};
 ghost use Rattle.ilsyms.specs.Resolved.{planned_task};
 ghost use Rattle.ilsyms.specs.Tasks.{SourceTask};
 ghost use Rattle.ilcode.specs.Paths.{IsBound};
 ghost use Rattle.ilverify.specs.Certificates.{IsError};
-ghost use Rattle.ilsetup.specs.Loaded.{AreCodes, IsCodeOf, Loaded, listing_for};
+ghost use Rattle.ilcompile.specs.Loaded.{AreCodes, IsCodeOf, Loaded, listing_for};
 ghost use Rattle.plantload.specs.Loading.{IsCodeFault, IsLoadFault, IsLoaded, IsPlanFault};
 ghost use Rattle.plantload.specs.Loading.{IsLoadFaultOrMemory, IsPlanOfText, IsSetup};
 ghost use Rattle.plantload.specs.PrintedFaults.{of_error};
 ghost use Rattle.plantload.specs.declared.fault.LoadFault.{LoadFault};
 
 use crate::fault::{LoadFault, RefusedTask};
-use binding::Binding;
-use ilcompile::compile;
+use ilcompile::{Setup, compile};
 use ilplan::Plan;
-use ilsetup::Setup;
 use ilsyms::resolve;
 use iltext::parse;
 use ilverify::{Verified, VerifyError, verify};
 use std::alloc::{AllocError, Global};
 use std::sync::Arc;
+use wordlines::Binding;
 
 /// The plan of a text with the verified code of each of its tasks; or the text's first fault, else
 /// the least fault of its names, else the first task whose code is refused.

@@ -1,6 +1,6 @@
 -- One bus more of a scenario, one connection more.
 use Rattle.std.proofs.Common.{◌≡◌, ℕ, ◌+◌, List, [], ◌∷◌, ◌++◌, add-one, refl}
-use Rattle.scenario.specs.declared.statements.Statement.{Statement}
+use Rattle.wordlines.specs.declared.statements.Statement.{Statement}
 use Rattle.simbus.specs.Simulated.{Simulated}
 use Rattle.plantplay.specs.declared.connection.Connection.{Connection}
 use Rattle.plantplay.specs.Installations.{connection_of, connections_of}

@@ -5,11 +5,11 @@ use Rattle.std.proofs.lemmas.List.{append_assoc, append-nil}
 use Rattle.std.specs.Prelude.{◌||◌, Result, Err}
 use Rattle.std.specs.List.{list_any}
 use Rattle.simbus.specs.Simulated.{Simulated}
-use Rattle.scenario.specs.declared.happenings.Happening.{Happening}
-use Rattle.scenario.specs.declared.happenings.Happening.TheVariants.{Tick, Event, HearFault}
-use Rattle.scenario.specs.declared.statements.Statement.{Statement}
-use Rattle.scenario.specs.declared.statements.Statement.TheVariants as statement
-use Rattle.scenario.specs.Happenings.{happenings, ticks}
+use Rattle.wordlines.specs.declared.happenings.Happening.{Happening}
+use Rattle.wordlines.specs.declared.happenings.Happening.TheVariants.{Tick, Event, HearFault}
+use Rattle.wordlines.specs.declared.statements.Statement.{Statement}
+use Rattle.wordlines.specs.declared.statements.Statement.TheVariants as statement
+use Rattle.wordlines.specs.Happenings.{happenings, ticks}
 use Rattle.plant.specs.Shown.{Shown}
 use Rattle.plantplay.specs.declared.connection.Connection.{Connection}
 use Rattle.plantplay.specs.declared.halt.Halt.{Halt}

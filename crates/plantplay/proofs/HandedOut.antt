@@ -11,9 +11,9 @@ use Rattle.plant.specs.declared.refusal.CallRefusal.{CallRefusal}
 use Rattle.plant.specs.declared.refusal.CallRefusal.TheVariants.{NothingReady, Stranger, Busy, BusDown, Full}
 use Rattle.plant.specs.Refusals.{first_refusal, hand_cases, has_no_bus}
 use Rattle.plant.specs.Shown.{Shown, is_full}
-use Rattle.plantdrive.specs.declared.sending.SendError.{SendError}
-use Rattle.plantdrive.specs.declared.sending.SendError.TheVariants.{Refused}
-use Rattle.plantdrive.specs.Sending.{IsSent, IsSendError}
+use Rattle.plantplay.specs.declared.performing.SendError.{SendError}
+use Rattle.plantplay.specs.declared.performing.SendError.TheVariants.{Refused}
+use Rattle.plantplay.specs.Sending.{IsSent, IsSendError}
 use Rattle.plantplay.specs.Playing.{Line, IsLater, CannotGoOn}
 use Rattle.plantplay.specs.PlaySteps.{IsServed}
 use Rattle.plantplay.proofs.Counting.{later_length}

@@ -4,11 +4,11 @@ use Rattle.std.proofs.Common.{length-append, Option, None, Some, add-one, refl, 
 use Rattle.std.proofs.lemmas.List.{length-map}
 use Rattle.std.proofs.lemmas.Option.{slice_get-map}
 use Rattle.std.specs.Prelude.{slice_get, option_map}
-use Rattle.scenario.specs.declared.statements.Statement.{Statement}
+use Rattle.wordlines.specs.declared.statements.Statement.{Statement}
 use Rattle.simbus.specs.Simulated.{Simulated}
-use Rattle.ilsetup.specs.Loaded.{Loaded}
+use Rattle.ilcompile.specs.Loaded.{Loaded}
 use Rattle.plant.specs.Shown.{Shown, opened}
-use Rattle.plantdrive.proofs.Desks.{mapped}
+use Rattle.plantplay.proofs.Desks.{mapped}
 use Rattle.plantplay.specs.declared.connection.Connection.{Connection}
 use Rattle.plantplay.specs.declared.installation.Installation.{Installation}
 use Rattle.plantplay.specs.Installations.{IsInstallation, connection_of, connections_of, sim_log}

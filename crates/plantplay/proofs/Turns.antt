@@ -15,7 +15,7 @@ use Rattle.plantevents.specs.declared.event.Origin.{Origin}
 use Rattle.plantevents.specs.declared.role.Role.TheVariants.{Bus}
 use Rattle.plantevents.specs.Histories.{scan, hand, is_down, sent_in, heard_in, given_in}
 use Rattle.plant.specs.Shown.{Shown, grown, reserving}
-use Rattle.plantdrive.specs.Sending.{IsSent}
+use Rattle.plantplay.specs.Sending.{IsSent}
 use Rattle.plantplay.specs.Playing.{Line, Agrees, IsLater}
 use Rattle.plantplay.specs.PlaySteps.{IsSameOn, IsServed, IsSameLine}
 

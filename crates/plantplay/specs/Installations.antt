@@ -2,11 +2,11 @@
 use Rattle.std.specs.Prelude.{◌≡◌, ℕ, zero, suc, false, List, [], ◌∷◌, ◌++◌, ⊤}
 use Rattle.std.specs.List.{filter_map}
 use Rattle.buslink.specs.BusLog.{BusLog}
-use Rattle.scenario.specs.declared.statements.Statement.{Statement}
+use Rattle.wordlines.specs.declared.statements.Statement.{Statement}
 use Rattle.simbus.specs.Setups.{gear_on, memory_on, instance_on, reply_on, arrival_on}
 use Rattle.simbus.specs.Histories.{Setup}
 use Rattle.simbus.specs.Simulated.{Simulated, new_bus}
-use Rattle.ilsetup.specs.Loaded.{Loaded}
+use Rattle.ilcompile.specs.Loaded.{Loaded}
 use Rattle.plant.specs.Shown.{IsLimit, IsOpenFault, opened}
 use Rattle.plantplay.specs.declared.connection.Connection.{Connection}
 use Rattle.plantplay.specs.declared.installation.Installation.{Installation}

@@ -28,8 +28,8 @@ use Rattle.plant.specs.declared.refusal.CallRefusal.{CallRefusal}
 use Rattle.plant.specs.declared.refusal.CallRefusal.TheVariants.{Full}
 use Rattle.plant.specs.Shown.{Shown}
 use Rattle.plant.specs.Refusals.{Case, first_refusal, hand_cases}
-use Rattle.scenario.specs.declared.happenings.Happening.{Happening}
-use Rattle.scenario.specs.declared.happenings.Happening.TheVariants.{Tick}
+use Rattle.wordlines.specs.declared.happenings.Happening.{Happening}
+use Rattle.wordlines.specs.declared.happenings.Happening.TheVariants.{Tick}
 use Rattle.plantplay.specs.declared.halt.Halt.{Halt}
 use Rattle.plantplay.specs.declared.halt.Halt.TheVariants.{Limit, Memory, Unwritten}
 use Rattle.plantplay.specs.Playing.{Line, Agrees, IsLater, IsQuiet, CannotGoOn}

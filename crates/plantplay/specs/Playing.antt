@@ -9,8 +9,8 @@ use Rattle.plantevents.specs.Histories.{moment, scan, hand, is_down, sent_in, he
 use Rattle.plantevents.specs.Waiting.{handouts}
 use Rattle.plant.specs.Shown.{Shown, is_full}
 use Rattle.plant.specs.Refusals.{none_free}
-use Rattle.scenario.specs.declared.statements.Statement.{Statement}
-use Rattle.scenario.specs.Happenings.{ticks}
+use Rattle.wordlines.specs.declared.statements.Statement.{Statement}
+use Rattle.wordlines.specs.Happenings.{ticks}
 use Rattle.plantplay.specs.declared.connection.Connection.{Connection}
 use Rattle.plantplay.specs.declared.playing.Ending.{Ending}
 use Rattle.plantplay.specs.declared.playing.Ending.TheVariants.{Up, Down, NoMemory}

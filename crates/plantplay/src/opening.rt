@@ -9,7 +9,7 @@ ghost use Rattle.plantplay.specs.Playing.{IsAtRest, lines_of};
 use crate::Installation;
 use crate::connection::Connection;
 use daliframe::BusNumber;
-use ilsetup::Setup;
+use ilcompile::Setup;
 use plant::{OpenFault, Plant};
 use simbus::{BusSetup, Scenario, SimBus};
 use std::alloc::{AllocError, Global};

@@ -1,7 +1,7 @@
 //! Playing a scenario.
 
 ghost use Rattle.std.specs.Prelude.{◌≡◌, ◌∷◌, ◌++◌, [], IfOk, OnOk};
-ghost use Rattle.scenario.specs.Happenings.{happenings};
+ghost use Rattle.wordlines.specs.Happenings.{happenings};
 ghost use Rattle.plantevents.specs.Legal.{AreLegal};
 ghost use Rattle.plantevents.specs.Histories.{given_in};
 ghost use Rattle.plantplay.specs.Playing.{IsAtRest, IsEnding, IsPlay, lines_of};
@@ -12,11 +12,11 @@ use crate::Installation;
 use crate::ending::write_end;
 use crate::halt::Halt;
 use daliframe::BusNumber;
-use scenario::Happening;
 use simbus::{Scenario, SimBus};
 use std::alloc::Global;
 use std::io;
 use std::io::Write;
+use wordlines::Happening;
 
 /// How a play ended.
 #[derive(Clone, Copy, PartialEq, Eq)]

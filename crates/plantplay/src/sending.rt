@@ -7,9 +7,9 @@ ghost use Rattle.plantplay.specs.PlaySteps.{HasNothing, IsServed, Stops, Tells};
 use crate::connection::Connection;
 use crate::halt::Halt;
 use crate::lines::{OutcomeLine, TransactionLine};
+use crate::{SendError, send_next};
 use buslink::Bus;
 use plant::{CallRefusal, Plant};
-use plantdrive::{SendError, send_next};
 use std::io::Write;
 use transact::{Outcome, Report};
 

@@ -3,7 +3,7 @@ use Rattle.std.proofs.Common.{◌≡◌, ◌∙◌, ap, subst, ℕ, zero, suc, �
 use Rattle.std.proofs.Common.{add-one, refl, map}
 use Rattle.std.proofs.lemmas.List.{map-append}
 use Rattle.std.specs.Prelude.{slice_index_or}
-use Rattle.scenario.specs.declared.statements.Statement.{Statement}
+use Rattle.wordlines.specs.declared.statements.Statement.{Statement}
 use Rattle.simbus.specs.ScriptedTicks.{ScriptedTicks}
 use Rattle.simbus.specs.Simulated.{Simulated, after_all_arrivals}
 use Rattle.plantplay.specs.Installations.{bus_of, sim_log}
@@ -13,7 +13,7 @@ use Rattle.turns.specs.Finishing.{HasNoFrame, IsLinked, IsQuiet}
 use Rattle.workers.specs.Closings.{IsClosed}
 use Rattle.turns.specs.Logs.{IsNoLess, log_of, no_frame, no_moment}
 use Rattle.workers.specs.Starts.{IsStartFault}
-use Rattle.ilsetup.specs.Loaded.{Loaded}
+use Rattle.ilcompile.specs.Loaded.{Loaded}
 use Rattle.plant.specs.declared.open_fault.OpenFault.{OpenFault}
 use Rattle.plant.specs.declared.open_fault.OpenFault.TheVariants.{Memory, BadCount, Limit}
 use Rattle.plant.specs.Shown.{IsOpenFault, Shown}

@@ -1,10 +1,10 @@
 -- What a run on simulated buses leaves, and which buses those are (profile).
 use Rattle.std.specs.Prelude.{◌≡◌, ℕ, zero, suc, List, [], ◌∷◌, ◌++◌, length, map, true}
 use Rattle.buslink.specs.ClockLog.{ClockLog}
-use Rattle.scenario.specs.declared.statements.Statement.{Statement}
+use Rattle.wordlines.specs.declared.statements.Statement.{Statement}
 use Rattle.simbus.specs.ScriptedTicks.{ScriptedTicks}
 use Rattle.simbus.specs.Simulated.{Simulated, after_all_arrivals}
-use Rattle.ilsetup.specs.Loaded.{Loaded}
+use Rattle.ilcompile.specs.Loaded.{Loaded}
 use Rattle.turns.specs.Finishing.{IsQuiet}
 use Rattle.plant.specs.Shown.{IsLimit, IsWorkerCount, is_full, plant_of}
 use Rattle.plantplay.specs.Installations.{bus_of, sim_log}

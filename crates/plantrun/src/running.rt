@@ -7,7 +7,7 @@ ghost use Rattle.plantplay.specs.Installations.{IsStartFault, bus_of};
 ghost use Rattle.plantrun.specs.Runs.{IsRun, buses_of};
 
 use daliframe::BusNumber;
-use ilsetup::Setup;
+use ilcompile::Setup;
 use plantplay::{StartFault, bus_of};
 use simbus::{Scenario, ScriptedClock, SimBus};
 use std::alloc::{AllocError, Global};

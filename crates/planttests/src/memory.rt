@@ -2,7 +2,7 @@
 //! answer is that and no other, and the call succeeds once memory is left.
 
 use crate::near_limits::{HALL, plant_of, setup_of};
-use ilsetup::Setup;
+use ilcompile::Setup;
 use plant::{CallError, OpenFault, Plant};
 use plantload::LoadFault;
 use std::alloc::Global;

@@ -1,10 +1,9 @@
 //! Calls near their limits that no scenario reaches: places of a history that are kept back, a
 //! limit that is raised, and events that are given up for a task.
 
-use binding::Binding;
 use daliframe::Frame24;
-use ilsetup::Setup;
-use memo::Memo;
+use ilcompile::Setup;
+use memo::{Memo, Trace};
 use plant::{CallRefusal, Plant};
 use plantevents::Event;
 use plantload::{LoadFault, load};
@@ -12,7 +11,7 @@ use plantplay::{open, play};
 use simbus::{Scenario, parse};
 use std::alloc::{AllocError, Global};
 use std::test::Fail;
-use trace::Trace;
+use wordlines::Binding;
 
 /// A lamp that a push button lights, and a question to gear 5 in the first scan of a second task.
 pub(crate) const HALL: &str = "PROGRAM see\n\

@@ -1,10 +1,10 @@
 //! The rows of sources of events.
 
-use binding::BoundSource;
 use daliframe::Frame24;
 use ilplan::{Location, Plan};
 use picture::{Row, Sign};
 use std::alloc::{AllocError, Global};
+use wordlines::BoundSource;
 
 /// A row for each source of the binding.
 pub(crate) fn source_rows(

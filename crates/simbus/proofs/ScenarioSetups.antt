@@ -2,8 +2,8 @@
 use Rattle.std.proofs.Common.{◌≡◌, ℕ, List, Some, arith}
 use Rattle.std.specs.Prelude.{◌==◌, if◌then◌else◌, None}
 use Rattle.std.proofs.lemmas.Bool.Decides.{nat_tests}
-use Rattle.scenario.specs.declared.statements.Statement.{Statement}
-use Rattle.scenario.specs.declared.statements.Statement.TheVariants as statement
+use Rattle.wordlines.specs.declared.statements.Statement.{Statement}
+use Rattle.wordlines.specs.declared.statements.Statement.TheVariants as statement
 use Rattle.simbus.specs.declared.gears.Gear.{Gear}
 use Rattle.simbus.specs.Setups.{gear_with_lamp, gear_on}
 

@@ -6,7 +6,7 @@ use Rattle.daliframe.specs.declared.forward24.Fields24.{Fields24}
 use Rattle.daliframe.specs.declared.forward24.Fields24.TheVariants as said
 use Rattle.daliframe.specs.declared.schemes.EventScheme.{EventScheme}
 use Rattle.daliframe.specs.EventSchemes.{scheme_number}
-use Rattle.scenario.specs.Saying.{scheme_with}
+use Rattle.wordlines.specs.Saying.{scheme_with}
 use Rattle.simbus.specs.declared.instances.DeviceCommand.{DeviceCommand}
 use Rattle.simbus.specs.declared.instances.DeviceCommand.TheVariants.{Enable, Disable, SetEventScheme}
 use Rattle.simbus.specs.declared.instances.DeviceCommand.TheVariants.{QueryInstanceType}

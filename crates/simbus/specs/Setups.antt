@@ -1,8 +1,8 @@
 -- What the statements of a scenario say of one bus.
 use Rattle.std.specs.Prelude.{ℕ, ◌==◌, Bool, false, ◌&&◌, if◌then◌else◌, Option, Some, None, List}
 use Rattle.std.specs.List.{list_any}
-use Rattle.scenario.specs.declared.statements.Statement.{Statement}
-use Rattle.scenario.specs.declared.statements.Statement.TheVariants as statement
+use Rattle.wordlines.specs.declared.statements.Statement.{Statement}
+use Rattle.wordlines.specs.declared.statements.Statement.TheVariants as statement
 use Rattle.simbus.specs.declared.gears.Gear.{Gear}
 use Rattle.simbus.specs.declared.gears.MemoryByte.{MemoryByte}
 use Rattle.simbus.specs.declared.instances.InputInstance.{InputInstance}

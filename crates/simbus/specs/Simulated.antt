@@ -6,8 +6,8 @@ use Rattle.transact.specs.declared.marks.Reply.{Reply}
 use Rattle.transact.specs.declared.marks.Reply.TheVariants as reply
 use Rattle.buslink.specs.declared.faults.Fault.{Fault}
 use Rattle.buslink.specs.BusLog.{BusLog, after_hear}
-use Rattle.scenario.specs.declared.statements.FrameFate.{FrameFate}
-use Rattle.scenario.specs.declared.statements.FrameFate.TheVariants as fate
+use Rattle.wordlines.specs.declared.statements.FrameFate.{FrameFate}
+use Rattle.wordlines.specs.declared.statements.FrameFate.TheVariants as fate
 use Rattle.simbus.specs.declared.scripts.ScriptedReply.{ScriptedReply}
 use Rattle.simbus.specs.declared.setups.BusSetup.{BusSetup}
 use Rattle.simbus.specs.declared.scripts.Arrival.{Arrival}

@@ -11,11 +11,11 @@ use crate::scripts::fate_at;
 use crate::{Arrival, BusSetup, GearVariables, InstanceVariables, ScriptedReply};
 use buslink::{Bus, Fault};
 use daliframe::{Frame, Frame24, InstanceNumber, ShortAddress};
-use scenario::FrameFate;
 use std::alloc::{AllocError, Global};
 use std::collections::VecDeque;
 use std::marker::Model;
 use transact::{Mark, Reply, Sent};
+use wordlines::FrameFate;
 
 /// A simulated bus. It never waits: a frame is answered at once, and a call that hears meets what
 /// came or nothing.

@@ -1,13 +1,13 @@
 //! The clock of a scenario.
 ghost use Rattle.std.specs.Prelude.{◌≡◌, IfOk, IfSome};
 ghost use Rattle.buslink.specs.ClockLog.{after_now, IsNotBefore};
-ghost use Rattle.scenario.specs.Happenings.{tick_in, ticks};
+ghost use Rattle.wordlines.specs.Happenings.{tick_in, ticks};
 ghost use Rattle.simbus.specs.ScriptedTicks.{new_clock, next_moment, after_tick};
 
 use buslink::Clock;
-use scenario::{Scenario, Statement};
 use std::alloc::{AllocError, Global};
 use std::marker::Model;
+use wordlines::{Scenario, Statement};
 
 /// A clock that gives the ticks of a scenario in order, and then none. It makes its room when it is
 /// made.

@@ -27,6 +27,6 @@ pub use buses::SimBus;
 pub use clocks::ScriptedClock;
 pub use gears::{Gear, GearVariables, MemoryByte};
 pub use instances::{InputInstance, InstanceVariables};
-pub use scenario::{FrameFate, Scenario, ScenarioCause, ScenarioFault, Statement, parse};
 pub use scripts::{Arrival, ScriptedReply};
 pub use setups::BusSetup;
+pub use wordlines::{FrameFate, Scenario, ScenarioFault, Statement, parse};

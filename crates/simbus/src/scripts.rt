@@ -3,7 +3,7 @@ ghost use Rattle.std.specs.Prelude.{◌≡◌};
 ghost use Rattle.simbus.specs.Simulated.{fate_at};
 
 use daliframe::Frame24;
-use scenario::FrameFate;
+use wordlines::FrameFate;
 
 /// What becomes of a frame that is sent, by its place.
 #[derive(Clone, Copy)]

@@ -6,8 +6,8 @@ ghost use Rattle.simbus.specs.Setups.{has_lamp_failure, gear_with_lamp};
 
 use crate::{Arrival, Gear, InputInstance, MemoryByte, ScriptedReply};
 use daliframe::{BusNumber, ShortAddress};
-use scenario::{Scenario, Statement};
 use std::alloc::{AllocError, Global};
+use wordlines::{Scenario, Statement};
 
 /// What a scenario says of one bus.
 #[derive(Drop)]

@@ -2,9 +2,8 @@
 //! moments, and a run goes on where the clock does.
 
 use crate::watch::{PausedClock, WaitingClock, Watch, Watched};
-use binding::Binding;
 use daliframe::BusNumber;
-use ilsetup::Setup;
+use ilcompile::Setup;
 use plantload::load;
 use plantplay::bus_of;
 use simbus::{Scenario, ScriptedClock, SimBus, parse};
@@ -13,6 +12,7 @@ use std::sync::Wait;
 use std::test::Fail;
 use std::thread::Threads;
 use std::time::Clock as Timer;
+use wordlines::Binding;
 use workers::{Closed, Ended, Opening, run, run_again};
 
 /// A lamp on each of two buses, and one task.

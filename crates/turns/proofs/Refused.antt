@@ -6,7 +6,6 @@ use Rattle.std.specs.Prelude.{Result, is_some, nat_lt, IfErr}
 use Rattle.plantevents.specs.Histories.{hand, is_down}
 use Rattle.plantevents.specs.Waiting.{handouts}
 use Rattle.plant.specs.declared.refusal.CallError.{CallError}
-use Rattle.plant.specs.declared.refusal.CallError.TheVariants.{Refused}
 use Rattle.plant.specs.declared.refusal.CallRefusal.{CallRefusal}
 use Rattle.plant.specs.declared.refusal.CallRefusal.TheVariants.{NothingReady, Stranger, Busy, BusDown, Full}
 use Rattle.plant.specs.Refusals.{first_refusal, hand_cases, has_no_bus}

@@ -1,4 +1,11 @@
+pub mod BindingReading
+pub mod BoundSources
 pub mod CutParts
+pub mod Declarations
+pub mod KnownStatements
 pub mod LineFiles
 pub mod LineReading
+pub mod Orders
+pub mod ScenarioReading
+pub mod Spelled
 pub mod SpelledNumbers

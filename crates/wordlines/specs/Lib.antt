@@ -1,4 +1,13 @@
+pub mod Bindings
+pub mod Following
+pub mod Happenings
+pub mod Known
 pub mod LineFaults
 pub mod LineFiles
 pub mod LineRules
+pub mod Printed
+pub mod Saying
+pub mod Scenarios
+pub mod Spelling
+pub mod Wirings
 pub mod WordLines

@@ -37,11 +37,6 @@ impl Body {
         Ok(())
     }
 
-    /// Leaves out the empty lines that came last.
-    pub fn drop_blanks(&mut self) {
-        self.blanks = 0;
-    }
-
     /// Adds the empty lines that came last.
     fn keep_blanks(&mut self) -> Result<(), AllocError> {
         for _ in 0..self.blanks {
@@ -77,20 +72,25 @@ impl Body {
 
     /// Adds what stands behind a `{`.
     fn add_piece(&mut self, piece: &str, number: u32) -> Result<(), AllocError> {
-        if let Some(after) = piece.strip_prefix("}") {
-            self.add_number(number)?;
-            return self.bytes.extend_from_slice(after.as_bytes());
-        }
-        if let Some(after) = piece.strip_prefix("1}") {
-            self.add_number(number.saturating_add(1))?;
-            return self.bytes.extend_from_slice(after.as_bytes());
-        }
-        if let Some(after) = piece.strip_prefix("/}") {
-            self.bytes.push(b'\n')?;
-            return self.bytes.extend_from_slice(after.as_bytes());
-        }
-        self.bytes.push(b'{')?;
-        self.bytes.extend_from_slice(piece.as_bytes())
+        let rest = match piece.split_once('}') {
+            Some(("", after)) => {
+                self.add_number(number)?;
+                after
+            }
+            Some(("1", after)) => {
+                self.add_number(number.saturating_add(1))?;
+                after
+            }
+            Some(("/", after)) => {
+                self.bytes.push(b'\n')?;
+                after
+            }
+            _ => {
+                self.bytes.push(b'{')?;
+                piece
+            }
+        };
+        self.bytes.extend_from_slice(rest.as_bytes())
     }
 
     fn add_number(&mut self, number: u32) -> Result<(), AllocError> {
@@ -99,7 +99,7 @@ impl Body {
         self.bytes.extend_from_slice(digits.as_bytes())
     }
 
-    /// The bytes.
+    /// The bytes, without the empty lines that came last.
     pub fn into_bytes(self) -> Vec<u8> {
         let Body { bytes, blanks: _ } = self;
         bytes

@@ -9,9 +9,14 @@ pub struct CommandLine {
 }
 
 impl CommandLine {
-    /// The words of a line, with one blank between two.
+    /// The words of a line, with one blank between two; none of an empty one.
     pub(crate) fn of(alloc: Global, line: &str) -> Result<CommandLine, AllocError> {
-        let words = words_of(alloc, line)?;
+        let mut words = Vec::new(alloc);
+        if !line.is_empty() {
+            for word in line.split(' ') {
+                words.push(bytes_of(alloc, word)?)?;
+            }
+        }
         Ok(CommandLine { words })
     }
 
@@ -21,19 +26,10 @@ impl CommandLine {
     }
 }
 
-/// The words of a line, none of an empty one; `{255}` stands for a word that isn't text.
-fn words_of(alloc: Global, line: &str) -> Result<Vec<Vec<u8>>, AllocError> {
-    let mut words = Vec::new(alloc);
-    if line.is_empty() {
-        return Ok(words);
+/// The bytes of a word; `{255}` stands for a word that isn't text.
+fn bytes_of(alloc: Global, word: &str) -> Result<Vec<u8>, AllocError> {
+    match word {
+        "{255}" => Vec::from_slice(alloc, b"\xff"),
+        _ => Vec::from_slice(alloc, word.as_bytes()),
     }
-    for word in line.split(' ') {
-        let bytes: &[u8] = if word == "{255}" {
-            b"\xff"
-        } else {
-            word.as_bytes()
-        };
-        words.push(Vec::from_slice(alloc, bytes)?)?;
-    }
-    Ok(words)
 }

@@ -36,15 +36,14 @@ impl fmt::Display for Difference {
         match self {
             Difference::Line => write!(f, "is no line of a row"),
             Difference::Status(status) => write!(f, "ended with status {status}"),
-            Difference::Printed(text) => write!(f, "printed\n{text}"),
-            Difference::Complained(text) => write!(f, "complained\n{text}"),
-            Difference::Wrote(digits) => write!(f, "wrote\n{digits}"),
+            Difference::Printed(text) | Difference::Complained(text) | Difference::Wrote(text) => {
+                write!(f, "{}\n{text}", self.kind())
+            }
         }
     }
 }
 
 /// Why the rows aren't judged to their end.
-#[derive(Drop)]
 pub enum Stop {
     Memory,
     /// A file of rows isn't read.
@@ -57,6 +56,22 @@ pub enum Stop {
     },
     /// A row of this name holds, though it is wrong.
     Held(String),
+}
+
+/// Written out, so that it is proved here alone.
+impl Drop for Stop {
+    fn drop(self) {
+        match self {
+            Stop::Memory => {}
+            Stop::File(_) => {}
+            Stop::Row {
+                row: _,
+                line: _,
+                why: _,
+            } => {}
+            Stop::Held(_) => {}
+        }
+    }
 }
 
 impl From<AllocError> for Stop {

@@ -3,13 +3,13 @@
 use crate::body::{Body, bytes_of_hex, hex_of_bytes};
 use crate::command_line::CommandLine;
 use crate::difference::{Difference, Stop};
-use crate::machine::{Machine, Output, StoredFile, Terminal, bytes_at};
+use crate::machine::{Machine, Output, StoredFile, Terminal, bytes_at, place_among};
 use std::alloc::{AllocError, Global};
 use std::cell::RefCell;
 use std::{io, mem};
 
 /// What the lines that come are the body of.
-#[derive(Clone, Copy, PartialEq, Eq, Debug)]
+#[derive(Clone, Copy)]
 enum Part {
     /// Of nothing: a comment.
     Comment,
@@ -39,7 +39,6 @@ struct Outcome {
 }
 
 /// What is known of the row that is read.
-#[derive(Drop)]
 pub struct Judge {
     alloc: Global,
     rows: u32,
@@ -53,6 +52,23 @@ pub struct Judge {
     /// The line that began the part.
     heading: String,
     body: Body,
+}
+
+/// Written out, so that it is proved here alone.
+impl Drop for Judge {
+    fn drop(self) {
+        let Self {
+            alloc: _,
+            rows: _,
+            row: _,
+            files: _,
+            terminal: _,
+            outcome: _,
+            part: _,
+            heading: _,
+            body: _,
+        } = self;
+    }
 }
 
 impl Judge {
@@ -125,120 +141,103 @@ impl Judge {
 
     /// Takes a line that isn't one of a body alone.
     fn take_heading(&mut self, heading: &str) -> Result<Option<CommandLine>, Stop> {
-        let (kind, rest) = match heading.split_once(' ') {
-            Some(parts) => parts,
-            None => (heading, ""),
-        };
+        let (kind, rest) = first_word(heading);
         if kind == "times" {
             self.take_times(heading, rest)?;
             return Ok(None);
         }
         self.end_part()?;
-        self.heading = String::from_str(self.alloc, heading)?;
+        self.keep_heading(heading)?;
         if kind == "run" {
             return Ok(Some(CommandLine::of(self.alloc, rest)?));
         }
-        self.part = self.part_of(kind, rest)?;
+        self.begin_part(kind, rest)?;
         Ok(None)
     }
 
-    /// What the lines below a heading are the body of.
-    fn part_of(&mut self, kind: &str, rest: &str) -> Result<Part, Stop> {
-        Ok(match (kind, rest) {
-            ("status", status) => {
-                self.compare_status(status)?;
-                Part::Comment
-            }
-            ("terminal", words) => {
-                self.break_outputs(words)?;
-                Part::Comment
-            }
-            ("file", _) => Part::File,
-            ("text", _) => Part::Text,
-            ("hex", _) => Part::Hex,
-            ("out", _) => Part::Written,
-            ("stdout", "") => Part::Printed,
-            ("stdout", "has") => Part::PrintedLines,
-            ("stderr", "") => Part::Complained,
-            ("stderr", "has") => Part::ComplainedParts,
-            _ => return Err(self.difference(Difference::Line)?),
-        })
+    /// Keeps the line that begins a part.
+    fn keep_heading(&mut self, heading: &str) -> Result<(), AllocError> {
+        self.heading = String::from_str(self.alloc, heading)?;
+        Ok(())
+    }
+
+    /// Does what a heading asks, or begins the part that it heads.
+    fn begin_part(&mut self, kind: &str, rest: &str) -> Result<(), Stop> {
+        match kind {
+            "status" => self.compare_status(rest),
+            "terminal" => self.break_outputs(rest),
+            _ => match part_of(kind, rest) {
+                Some(part) => {
+                    self.part = part;
+                    Ok(())
+                }
+                None => Err(self.difference(Difference::Line)),
+            },
+        }
     }
 
     /// Takes a line that repeats another one.
     fn take_times(&mut self, heading: &str, rest: &str) -> Result<(), Stop> {
-        let repeated = match rest.split_once(' ') {
-            Some((many, pattern)) => many.parse::<u32>().ok().map(|many| (many, pattern)),
-            None => None,
-        };
-        match repeated {
+        match repeated(rest) {
             Some((many, pattern)) => Ok(self.body.add_times(many, pattern)?),
             None => {
-                self.heading = String::from_str(self.alloc, heading)?;
-                Err(self.difference(Difference::Line)?)
+                self.keep_heading(heading)?;
+                Err(self.difference(Difference::Line))
             }
         }
     }
 
     /// Takes a line of the part's body.
-    fn take_body_line(&mut self, line: &str) -> Result<(), Stop> {
-        let is_first_of_text = self.part == Part::Text && self.body.is_empty();
-        if is_first_of_text {
-            self.body.add_line("PROGRAM p")?;
-            if line == "-" {
-                self.body.add_line("")?;
-                return Ok(());
-            }
+    fn take_body_line(&mut self, line: &str) -> Result<(), AllocError> {
+        let is_first_of_text = matches!(self.part, Part::Text) && self.body.is_empty();
+        if !is_first_of_text {
+            return self.body.add_line(line);
         }
-        Ok(self.body.add_line(line)?)
+        self.body.add_line("PROGRAM p")?;
+        self.body.add_line(if line == "-" { "" } else { line })
     }
 
     /// Ends a part: keeps its file, or compares what was printed with it.
     pub fn end_part(&mut self) -> Result<(), Stop> {
         let part = mem::replace(&mut self.part, Part::Comment);
-        let body = mem::replace(&mut self.body, Body::new(self.alloc));
+        let bytes = mem::replace(&mut self.body, Body::new(self.alloc)).into_bytes();
         match part {
             Part::Comment => Ok(()),
-            Part::File => self.keep_file(body.into_bytes()),
-            Part::Text => self.keep_text(body),
-            Part::Hex => self.keep_hex(&body.into_bytes()),
-            Part::Printed => self.compare_printed(&body.into_bytes()),
-            Part::PrintedLines => self.find_printed(&body.into_bytes()),
-            Part::Complained => self.compare_complained(&body.into_bytes()),
-            Part::ComplainedParts => self.find_complained(&body.into_bytes()),
-            Part::Written => self.compare_written(&body.into_bytes()),
+            Part::File => self.keep_file(bytes),
+            Part::Text => self.keep_text(bytes),
+            Part::Hex => self.keep_hex(&bytes),
+            Part::Printed => self.compare_printed(&bytes),
+            Part::PrintedLines => self.find_printed(&bytes),
+            Part::Complained => self.compare_complained(&bytes),
+            Part::ComplainedParts => self.find_complained(&bytes),
+            Part::Written => self.compare_written(&bytes),
         }
     }
 
     /// Keeps a file, under the name in the part's heading, in place of one of the same name.
     fn keep_file(&mut self, bytes: Vec<u8>) -> Result<(), Stop> {
         let path = String::from_str(self.alloc, self.path())?;
-        let files = self.files.get_mut();
-        files.retain(|file| file.path.as_str() != path.as_str());
-        let pushed = files.push(StoredFile { path, bytes });
-        Ok(pushed.map_err(AllocError::from)?)
+        place_among(self.files.get_mut(), StoredFile { path, bytes })?;
+        Ok(())
     }
 
     /// The path in the part's heading.
     fn path(&self) -> &str {
-        match self.heading.split_once(' ') {
-            Some((_, path)) => path,
-            None => "",
-        }
+        let (_, path) = first_word(&self.heading);
+        path
     }
 
     /// Keeps a file with the text of one program.
-    fn keep_text(&mut self, mut body: Body) -> Result<(), Stop> {
-        body.drop_blanks();
-        body.add_line("END_PROGRAM")?;
-        self.keep_file(body.into_bytes())
+    fn keep_text(&mut self, mut bytes: Vec<u8>) -> Result<(), Stop> {
+        bytes.extend_from_slice(b"END_PROGRAM\n")?;
+        self.keep_file(bytes)
     }
 
     /// Keeps a file whose bytes are given as hex digits.
     fn keep_hex(&mut self, digits: &[u8]) -> Result<(), Stop> {
         match bytes_of_hex(self.alloc, digits)? {
             Some(bytes) => self.keep_file(bytes),
-            None => Err(self.difference(Difference::Line)?),
+            None => Err(self.difference(Difference::Line)),
         }
     }
 
@@ -252,7 +251,7 @@ impl Judge {
                 "stdout-starved" => self.terminal.output_fails = Some(io::ErrorKind::OutOfMemory),
                 "stderr-full" => self.terminal.error_fails = Some(io::ErrorKind::StorageFull),
                 "stderr-starved" => self.terminal.error_fails = Some(io::ErrorKind::OutOfMemory),
-                _ => return Err(self.difference(Difference::Line)?),
+                _ => return Err(self.difference(Difference::Line)),
             }
         }
         Ok(())
@@ -262,7 +261,7 @@ impl Judge {
     fn outcome(&self) -> Result<&Outcome, Stop> {
         match &self.outcome {
             Some(outcome) => Ok(outcome),
-            None => Err(self.difference(Difference::Line)?),
+            None => Err(self.difference(Difference::Line)),
         }
     }
 
@@ -271,81 +270,81 @@ impl Judge {
         let found = self.outcome()?.status;
         match wanted.parse::<u8>() {
             Ok(status) if status == found => Ok(()),
-            Ok(_) => Err(self.difference(Difference::Status(found))?),
-            Err(_) => Err(self.difference(Difference::Line)?),
+            Ok(_) => Err(self.difference(Difference::Status(found))),
+            Err(_) => Err(self.difference(Difference::Line)),
         }
     }
 
     /// Compares all that was printed.
     fn compare_printed(&self, wanted: &[u8]) -> Result<(), Stop> {
         let found = &self.outcome()?.output.printed;
-        if found.as_slice() == wanted {
-            return Ok(());
-        }
-        Err(self.difference(Difference::Printed(self.shown(found)?))?)
+        self.judge_printed(found, found.as_slice() == wanted)
     }
 
     /// Looks for each of these lines among those that were printed.
     fn find_printed(&self, wanted: &[u8]) -> Result<(), Stop> {
         let found = &self.outcome()?.output.printed;
-        if each_line_stands(wanted, found) {
+        self.judge_printed(found, each_line_stands(wanted, found))
+    }
+
+    /// Refuses what was printed, unless it is as wanted.
+    fn judge_printed(&self, found: &[u8], is_wanted: bool) -> Result<(), Stop> {
+        if is_wanted {
             return Ok(());
         }
-        Err(self.difference(Difference::Printed(self.shown(found)?))?)
+        let shown = String::from_str(self.alloc, text_of(found))?;
+        Err(self.difference(Difference::Printed(shown)))
     }
 
     /// Compares all that was printed on standard error.
     fn compare_complained(&self, wanted: &[u8]) -> Result<(), Stop> {
         let found = &self.outcome()?.output.complained;
-        if found.as_slice() == wanted {
-            return Ok(());
-        }
-        Err(self.difference(Difference::Complained(self.shown(found)?))?)
-    }
-
-    /// Compares a file with bytes that are given as hex digits.
-    fn compare_written(&self, digits: &[u8]) -> Result<(), Stop> {
-        let Some(wanted) = bytes_of_hex(self.alloc, digits)? else {
-            return Err(self.difference(Difference::Line)?);
-        };
-        let found = bytes_at(self.alloc, &self.files, self.path())?;
-        match found {
-            Some(bytes) if bytes == wanted => Ok(()),
-            Some(bytes) => {
-                let shown = hex_of_bytes(self.alloc, &bytes)?;
-                Err(self.difference(Difference::Wrote(shown))?)
-            }
-            None => {
-                let shown = String::from_str(self.alloc, "no file")?;
-                Err(self.difference(Difference::Wrote(shown))?)
-            }
-        }
+        self.judge_complained(found, found.as_slice() == wanted)
     }
 
     /// Looks for each of these lines in what was printed on standard error.
     fn find_complained(&self, wanted: &[u8]) -> Result<(), Stop> {
-        let complained = self.shown(&self.outcome()?.output.complained)?;
-        for line in wanted.split(|byte| *byte == b'\n') {
-            let Ok(line) = str::from_utf8(line) else {
-                return Err(self.difference(Difference::Line)?);
-            };
-            if !complained.contains(line) {
-                return Err(self.difference(Difference::Complained(complained))?);
-            }
-        }
-        Ok(())
+        let found = &self.outcome()?.output.complained;
+        self.judge_complained(found, each_line_is_part(wanted, text_of(found)))
     }
 
-    /// What was shown, as text.
-    fn shown(&self, bytes: &[u8]) -> Result<String, AllocError> {
-        match str::from_utf8(bytes) {
-            Ok(text) => String::from_str(self.alloc, text),
-            Err(_) => String::from_str(self.alloc, "bytes that are no text"),
+    /// Refuses what was printed on standard error, unless it is as wanted.
+    fn judge_complained(&self, found: &[u8], is_wanted: bool) -> Result<(), Stop> {
+        if is_wanted {
+            return Ok(());
+        }
+        let shown = String::from_str(self.alloc, text_of(found))?;
+        Err(self.difference(Difference::Complained(shown)))
+    }
+
+    /// Compares a file with bytes that are given as hex digits.
+    fn compare_written(&self, digits: &[u8]) -> Result<(), Stop> {
+        match bytes_of_hex(self.alloc, digits)? {
+            Some(wanted) => self.compare_bytes(&wanted),
+            None => Err(self.difference(Difference::Line)),
+        }
+    }
+
+    /// Compares a file with bytes.
+    fn compare_bytes(&self, wanted: &[u8]) -> Result<(), Stop> {
+        let shown = match bytes_at(self.alloc, &self.files, self.path())? {
+            Some(found) if found.as_slice() == wanted => return Ok(()),
+            Some(found) => hex_of_bytes(self.alloc, &found)?,
+            None => String::from_str(self.alloc, "no file")?,
+        };
+        Err(self.difference(Difference::Wrote(shown)))
+    }
+
+    /// That this row doesn't hold, or that there is no memory to say so.
+    fn difference(&self, why: Difference) -> Stop {
+        match self.row_stop(why) {
+            Ok(stop) => stop,
+            Err(_) => Stop::Memory,
         }
     }
 
     /// That this row doesn't hold.
-    fn difference(&self, why: Difference) -> Result<Stop, AllocError> {
+    fn row_stop(&self, why: Difference) -> Result<Stop, AllocError> {
         Ok(Stop::Row {
             row: self.row.clone()?,
             line: self.heading.clone()?,
@@ -354,9 +353,56 @@ impl Judge {
     }
 }
 
+/// The first word of a line, and what stands behind the blank after it.
+fn first_word(line: &str) -> (&str, &str) {
+    match line.split_once(' ') {
+        Some(parts) => parts,
+        None => (line, ""),
+    }
+}
+
+/// What the lines below a heading are the body of, where it heads any.
+fn part_of(kind: &str, rest: &str) -> Option<Part> {
+    Some(match (kind, rest) {
+        ("file", _) => Part::File,
+        ("text", _) => Part::Text,
+        ("hex", _) => Part::Hex,
+        ("out", _) => Part::Written,
+        ("stdout", "") => Part::Printed,
+        ("stdout", "has") => Part::PrintedLines,
+        ("stderr", "") => Part::Complained,
+        ("stderr", "has") => Part::ComplainedParts,
+        _ => return None,
+    })
+}
+
+/// How many lines of which pattern are asked for.
+fn repeated(words: &str) -> Option<(u32, &str)> {
+    let (many, pattern) = words.split_once(' ')?;
+    Some((many.parse::<u32>().ok()?, pattern))
+}
+
+/// Bytes as text.
+fn text_of(bytes: &[u8]) -> &str {
+    match str::from_utf8(bytes) {
+        Ok(text) => text,
+        Err(_) => "bytes that are no text",
+    }
+}
+
 /// Whether each line of `wanted` is a line of `printed`.
 fn each_line_stands(wanted: &[u8], printed: &[u8]) -> bool {
     wanted.split(|byte| *byte == b'\n').all(|line| printed
         .split(|byte| *byte == b'\n')
         .any(|it| it == line))
+}
+
+/// Whether each line of `wanted` stands somewhere in `text`.
+fn each_line_is_part(wanted: &[u8], text: &str) -> bool {
+    wanted
+        .split(|byte| *byte == b'\n')
+        .all(|line| match str::from_utf8(line) {
+            Ok(line) => text.contains(line),
+            Err(_) => false,
+        })
 }

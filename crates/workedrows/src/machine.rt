@@ -104,14 +104,16 @@ impl<'a> Machine<'a> {
         }
     }
 
-    /// Prints bytes on standard output, unless it fails.
-    fn print_bytes(&self, bytes: &[u8]) -> io::Result<()> {
-        add(&self.printed, self.terminal.output_fails, bytes)
+    /// Prints a value and an end on standard output, unless it fails.
+    fn print_value<D: Display + Drop>(&self, value: D, end: &str) -> io::Result<()> {
+        let text = format!(in self.alloc; "{value}{end}")?;
+        add(&self.printed, self.terminal.output_fails, text.as_bytes())
     }
 
-    /// Prints bytes on standard error, unless it fails.
-    fn complain(&self, bytes: &[u8]) -> io::Result<()> {
-        add(&self.complained, self.terminal.error_fails, bytes)
+    /// Prints a value and an end on standard error, unless it fails.
+    fn complain<D: Display + Drop>(&self, value: D, end: &str) -> io::Result<()> {
+        let text = format!(in self.alloc; "{value}{end}")?;
+        add(&self.complained, self.terminal.error_fails, text.as_bytes())
     }
 }
 
@@ -158,9 +160,18 @@ pub(crate) fn bytes_at(
     files: &RefCell<Vec<StoredFile>>,
     path: &str,
 ) -> Result<Option<Vec<u8>>, AllocError> {
-    let Ok(files) = files.try_borrow() else {
-        return Ok(None);
-    };
+    match files.try_borrow() {
+        Ok(files) => bytes_among(alloc, &files, path),
+        Err(_) => Ok(None),
+    }
+}
+
+/// The bytes of the file at a path, where there is one among these.
+fn bytes_among(
+    alloc: Global,
+    files: &[StoredFile],
+    path: &str,
+) -> Result<Option<Vec<u8>>, AllocError> {
     match files.iter().find(|file| file.path.as_str() == path) {
         Some(file) => Ok(Some(Vec::from_slice(alloc, &file.bytes)?)),
         None => Ok(None),
@@ -169,13 +180,21 @@ pub(crate) fn bytes_at(
 
 /// Puts a file on the disk, in place of one at the same path; its number there.
 fn place(files: &RefCell<Vec<StoredFile>>, file: StoredFile) -> io::Result<usize> {
-    let Ok(mut files) = files.try_borrow_mut() else {
-        return Err(io::Error::from(io::ErrorKind::Other));
-    };
+    match files.try_borrow_mut() {
+        Ok(mut files) => Ok(place_among(&mut files, file)?),
+        Err(_) => Err(io::Error::from(io::ErrorKind::Other)),
+    }
+}
+
+/// Puts a file among these, in place of one at the same path; its number there.
+pub(crate) fn place_among(
+    files: &mut Vec<StoredFile>,
+    file: StoredFile,
+) -> Result<usize, AllocError> {
     let path = file.path.as_str();
     files.retain(|stored| stored.path.as_str() != path);
     let number = files.len();
-    files.push(file).map_err(AllocError::from)?;
+    files.push(file)?;
     Ok(number)
 }
 
@@ -244,29 +263,25 @@ impl Env for Machine<'_> {
 
 impl Print for Machine<'_> {
     fn print<D: Display + Drop>(&self, value: D) -> io::Result<()> {
-        let text = format!(in self.alloc; "{value}")?;
-        self.print_bytes(text.as_bytes())
+        self.print_value(value, "")
     }
 
     fn println<D: Display + Drop>(&self, value: D) -> io::Result<()> {
-        let text = format!(in self.alloc; "{value}\n")?;
-        self.print_bytes(text.as_bytes())
+        self.print_value(value, "\n")
     }
 
     fn write_all(&self, bytes: &[u8]) -> io::Result<()> {
-        self.print_bytes(bytes)
+        add(&self.printed, self.terminal.output_fails, bytes)
     }
 }
 
 impl Eprint for Machine<'_> {
     fn eprint<D: Display + Drop>(&self, value: D) -> io::Result<()> {
-        let text = format!(in self.alloc; "{value}")?;
-        self.complain(text.as_bytes())
+        self.complain(value, "")
     }
 
     fn eprintln<D: Display + Drop>(&self, value: D) -> io::Result<()> {
-        let text = format!(in self.alloc; "{value}\n")?;
-        self.complain(text.as_bytes())
+        self.complain(value, "\n")
     }
 }
 

@@ -20,7 +20,7 @@ use crate::ended::End;
 use crate::leaving::leave;
 use crate::working::{Crew, Worked, work};
 use buslink::{Bus, Clock};
-use ilsetup::Setup;
+use ilcompile::Setup;
 use plant::{OpenFault, Plant};
 use plantlock::{Basis, NotedPart, Shared};
 use seats::{Blanks, Names, Seated, Tallies};

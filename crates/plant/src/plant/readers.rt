@@ -13,7 +13,7 @@ ghost use Rattle.plant.specs.Shown.{is_full, is_reserved, kept};
 
 use super::Plant;
 use busqueue::Class;
-use ilsetup::Setup;
+use ilcompile::Setup;
 use iltypes::Value;
 use plantevents::Role;
 

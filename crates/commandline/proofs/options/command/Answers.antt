@@ -1,5 +1,6 @@
-use Rattle.commandline.specs.CommandLine.{code_command, explain_line}
+use Rattle.commandline.specs.Tables.{with_commands, with_words}
 use Rattle.commandline.proofs.options.command.Goals as goal
 
 pub returns : goal.returns
-returns c = c.beside.ensures.shape explain_line code_command c.explaining.ensures.shape c.code.ensures.shape
+unfolding with_commands with_words
+returns c = c.program_of.ensures

@@ -1,5 +1,5 @@
 use Rattle.std.proofs.Common.{rules, ◌≡◌, ℕ, List, subst}
-use Rattle.scenario.specs.Scenarios.{IsScenario}
+use Rattle.wordlines.specs.Scenarios.{IsScenario}
 use Rattle.commands.proofs.RunsOut.{run_out}
 use Rattle.commands.proofs.running.run_pages.Goals as goal
 

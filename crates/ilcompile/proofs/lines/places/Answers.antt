@@ -1,6 +1,6 @@
 use Rattle.std.proofs.Common.{List, refl}
 use Rattle.std.specs.Prelude.{flat_map}
-use Rattle.iltrees.specs.Words.{places_in}
+use Rattle.ilsource.specs.Words.{places_in}
 use Rattle.ilplan.specs.Plans.{PlannedInstance}
 use Rattle.ilcompile.specs.Layout.{places_of_programs, programs_of}
 use Rattle.ilcompile.proofs.TwoPasses.{one_joined}

@@ -1,7 +1,7 @@
 use Rattle.std.proofs.Common.{ℕ, List, refl}
 use Rattle.std.specs.Prelude.{flat_map}
-use Rattle.iltrees.specs.Words.{places_in}
-use Rattle.iltrees.specs.declared.instruction.Line.{Line}
+use Rattle.ilsource.specs.Words.{places_in}
+use Rattle.ilsource.specs.declared.instruction.Line.{Line}
 use Rattle.ilplan.specs.declared.place.Place.{Place}
 use Rattle.ilcompile.proofs.TwoPasses.{one_joined}
 use Rattle.ilcompile.proofs.lines.push_places.Goals as goal

@@ -1,6 +1,6 @@
 use Rattle.std.proofs.Common.{◌≡◌, ◌++◌, drop}
 use Rattle.std.specs.Prelude.{flat_map}
-use Rattle.iltrees.specs.Words.{places_in}
+use Rattle.ilsource.specs.Words.{places_in}
 use Rattle.ilcompile.proofs.lines.push_places.Given as goal
 
 abbrev pub invariant-loop-line : goal.invariant-loop-line

@@ -1,5 +1,5 @@
 use Rattle.std.proofs.Common.{◌≡◌, ◌+◌, drop}
-use Rattle.iltrees.specs.Words.{words_of_lines}
+use Rattle.ilsource.specs.Words.{words_of_lines}
 use Rattle.ilcompile.proofs.targets.count.Given as goal
 
 abbrev pub invariant-loop-line : goal.invariant-loop-line

@@ -1,5 +1,5 @@
 use Rattle.std.proofs.Common.{◌≡◌, ℕ, ◌+◌, drop, take, reverse}
-use Rattle.iltrees.specs.Words.{words_of_lines}
+use Rattle.ilsource.specs.Words.{words_of_lines}
 use Rattle.ilcompile.specs.Layout.{place_of_label}
 use Rattle.ilcompile.specs.LayoutSteps.{place_in, targets_of}
 use Rattle.ilcompile.proofs.targets.targets.Given as goal

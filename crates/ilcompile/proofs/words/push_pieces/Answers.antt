@@ -1,4 +1,4 @@
-use Rattle.iltrees.specs.declared.nested.Piece.{Piece}
+use Rattle.ilsource.specs.declared.nested.Piece.{Piece}
 use Rattle.ilplan.specs.declared.place.Place.{Place}
 use Rattle.ilcompile.specs.Layout.{word_of}
 use Rattle.ilcompile.proofs.TwoPasses.{one_made, all_made}

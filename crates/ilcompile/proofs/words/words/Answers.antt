@@ -1,6 +1,6 @@
 use Rattle.std.proofs.Common.{◌≡◌, ℕ, ◌+◌, ◌<◌, ◌≤◌, List, ◌∷◌, [], ◌++◌, length, get_or, drop, ap, ◌∙◌, subst, arith}
 use Rattle.limits.specs.Limits.{most_words}
-use Rattle.iltrees.specs.Words as counts
+use Rattle.ilsource.specs.Words as counts
 use Rattle.ilplan.specs.Plans.{PlannedInstance, all_lines}
 use Rattle.ilcompile.proofs.Sizes.{count_both}
 use Rattle.ilcompile.specs.Layout.{words_of_programs, starts_from, programs_of}

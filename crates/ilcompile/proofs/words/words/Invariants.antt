@@ -1,6 +1,6 @@
 use Rattle.std.proofs.Common.{◌≡◌, ◌+◌, ◌≤◌, ◌++◌, length, drop}
 use Rattle.limits.specs.Limits.{most_words}
-use Rattle.iltrees.specs.Words.{words_of_lines}
+use Rattle.ilsource.specs.Words.{words_of_lines}
 use Rattle.ilplan.specs.Plans.{all_lines}
 use Rattle.ilcompile.specs.Layout.{words_of_programs, starts_from, programs_of}
 use Rattle.ilcompile.proofs.words.words.Given as goal

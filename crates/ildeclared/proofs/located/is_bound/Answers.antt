@@ -1,5 +1,5 @@
 use Rattle.std.proofs.Common.{inl, inr}
-use Rattle.binding.specs.Wirings.{IsAt}
+use Rattle.wordlines.specs.Wirings.{IsAt}
 use Rattle.ildeclared.proofs.OneCause.{flag_more}
 use Rattle.ildeclared.proofs.located.is_bound.Goals.{then-is_at, else-is_at}
 use Rattle.ildeclared.proofs.located.is_bound.Goals as goal

@@ -1,5 +1,5 @@
 use Rattle.std.proofs.Common.{◌↔◌, IsTrue, take}
-use Rattle.binding.specs.Wirings.{IsAt}
+use Rattle.wordlines.specs.Wirings.{IsAt}
 use Rattle.ildeclared.specs.Faults.{SomeOf}
 use Rattle.ildeclared.proofs.located.is_bound.Given as goal
 

@@ -1,6 +1,6 @@
 use Rattle.std.proofs.Common.{◌∙◌, refl, w64}
 use Rattle.iltypes.proofs.Fitting.{again}
-use Rattle.iloperators.specs.Functions.{least_of, greatest_of}
+use Rattle.iltypes.specs.Functions.{least_of, greatest_of}
 use Rattle.ildeclared.specs.DataTypes.{whole_numbers}
 use Rattle.ildeclared.proofs.Subranges.{subrange_within, subrange_outside}
 use Rattle.ildeclared.proofs.types.subrange.Goals as goal

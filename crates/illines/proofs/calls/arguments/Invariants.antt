@@ -1,6 +1,6 @@
 use Rattle.std.proofs.Common.{◌≡◌, length}
 use Rattle.illines.specs.Calls.{more_arguments, arguments}
-use Rattle.ilgrammar.proofs.Loops.{with_front}
+use Rattle.iltokens.proofs.Loops.{with_front}
 use Rattle.illines.proofs.calls.arguments.Given as goal
 
 abbrev pub invariant-more : goal.invariant-more

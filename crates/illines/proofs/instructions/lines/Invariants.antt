@@ -1,6 +1,6 @@
 use Rattle.std.proofs.Common.{◌≡◌, length}
 use Rattle.illines.specs.Instructions.{lines}
-use Rattle.ilgrammar.proofs.Loops.{with_front}
+use Rattle.iltokens.proofs.Loops.{with_front}
 use Rattle.illines.proofs.instructions.lines.Given as goal
 
 abbrev pub invariant-all : goal.invariant-all

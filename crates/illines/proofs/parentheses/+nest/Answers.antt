@@ -1,7 +1,7 @@
 use Rattle.std.proofs.Common.{◌≡◌, true, false, refl, sym, ◌∙◌}
 use Rattle.std.proofs.lemmas.Result.{err_from_is_err_and}
-use Rattle.ilgrammar.specs.Items.{begins}
-use Rattle.ilgrammar.proofs.Loops.{adds_on, adds_none, all_added, adding_shrinks}
+use Rattle.iltokens.specs.Items.{begins}
+use Rattle.iltokens.proofs.Loops.{adds_on, adds_none, all_added, adding_shrinks}
 use Rattle.illines.specs.Terminals.{ended}
 use Rattle.illines.specs.Instructions.{inner}
 use Rattle.illines.specs.InstructionSteps.{pieces_in, may_open}

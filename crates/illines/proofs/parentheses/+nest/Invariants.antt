@@ -1,7 +1,7 @@
 use Rattle.std.proofs.Common.{◌≡◌, ◌+◌, ◌*◌, flat_map, length}
-use Rattle.iltrees.specs.Trees.{pieces_of}
-use Rattle.ilgrammar.specs.Items.{many}
-use Rattle.ilgrammar.specs.Results.{extend}
+use Rattle.ilsource.specs.Trees.{pieces_of}
+use Rattle.iltokens.specs.Items.{many}
+use Rattle.iltokens.specs.Results.{extend}
 use Rattle.illines.specs.Terminals.{ended}
 use Rattle.illines.specs.Instructions.{inner, content}
 use Rattle.illines.specs.InstructionSteps.{pieces_in}

@@ -1,5 +1,5 @@
 use Rattle.std.proofs.Common.{◌≡◌, true, false}
-use Rattle.ilgrammar.specs.Items.{begins}
+use Rattle.iltokens.specs.Items.{begins}
 use Rattle.iltokens.specs.declared.lexed.Delimiter.TheVariants as delimiters
 use Rattle.illines.specs.Terminals.{delimiter}
 use Rattle.illines.proofs.LineEnds.{goes_over, stays_there}

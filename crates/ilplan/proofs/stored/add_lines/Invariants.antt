@@ -1,6 +1,6 @@
 use Rattle.std.proofs.Common.{take}
 use Rattle.std.specs.Prelude.{flat_map}
-use Rattle.iltrees.specs.Uses.{uses_in}
+use Rattle.ilsource.specs.Uses.{uses_in}
 use Rattle.ilplan.specs.StoreSteps.{Adds}
 use Rattle.ilplan.proofs.stored.add_lines.Given as goal
 

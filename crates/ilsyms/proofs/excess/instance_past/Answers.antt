@@ -3,7 +3,7 @@ use Rattle.std.specs.Prelude.{Option, Some, None, slice_get}
 use Rattle.std.specs.Option.{option_map_or}
 use Rattle.limits.specs.Limits.{most_instances}
 use Rattle.ilsource.specs.Configurations.{Configured}
-use Rattle.ilsource.specs.Trees.{Tree}
+use Rattle.ilsource.specs.SourceTrees.{Tree}
 use Rattle.ilsource.specs.declared.configuration.InstanceDeclaration.{InstanceDeclaration}
 use Rattle.ilsource.specs.declared.name.Name.{Name}
 use Rattle.ilscope.specs.Declarations.{declared_programs, DeclaredProgram}

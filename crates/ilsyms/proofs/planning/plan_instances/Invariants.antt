@@ -1,5 +1,5 @@
 use Rattle.std.proofs.Common.{◌≡◌, ◌+◌, length, map, take}
-use Rattle.iltrees.specs.Words.{AreShallow}
+use Rattle.ilsource.specs.Words.{AreShallow}
 use Rattle.ilsource.specs.Programs.{AreSorted}
 use Rattle.ilsyms.specs.TaskSteps.{instances_of}
 use Rattle.ilsyms.specs.Resolved.{planned_instance}

@@ -3,7 +3,7 @@ use Rattle.std.specs.Prelude.{Some, slice_get, option_map, string_bytes, ℕ, Li
 use Rattle.ilplan.specs.Printed.{printed_name}
 use Rattle.ilsource.specs.declared.configuration.TaskDeclaration.{TaskDeclaration}
 use Rattle.ilsource.specs.Names.{text_of}
-use Rattle.ilsource.specs.Trees.{Tree}
+use Rattle.ilsource.specs.SourceTrees.{Tree}
 use Rattle.ilscope.proofs.Sound.{not_below}
 use Rattle.ilsyms.specs.TaskSteps.{instances_of, task_with}
 use Rattle.ilsyms.specs.Tasks.{declared_task, tasks_of}

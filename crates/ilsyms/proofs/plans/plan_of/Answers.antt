@@ -1,7 +1,7 @@
 use Rattle.std.proofs.Common.{◌≡◌, ◌≤◌, ◌∙◌, ap, sym, subst, length}
 use Rattle.limits.specs.Limits.{most_bytes}
-use Rattle.binding.specs.Wirings.{Wiring, IsWithinLimits}
-use Rattle.ilsource.specs.Trees.{Tree}
+use Rattle.wordlines.specs.Wirings.{Wiring, IsWithinLimits}
+use Rattle.ilsource.specs.SourceTrees.{Tree}
 use Rattle.ilplan.specs.Plans.{Planned, IsLawful, plan_of}
 use Rattle.ilsyms.specs.Resolved.{plan_of_tree}
 use Rattle.ilsyms.proofs.PlanLawful.{lawful}

@@ -1,7 +1,7 @@
 use Rattle.std.proofs.Common.{◌∙◌, subst}
 use Rattle.std.specs.Prelude.{IfErr, OnOk}
-use Rattle.binding.specs.Wirings.{Wiring}
-use Rattle.ilsource.specs.Trees.{Tree}
+use Rattle.wordlines.specs.Wirings.{Wiring}
+use Rattle.ilsource.specs.SourceTrees.{Tree}
 use Rattle.ilscope.specs.Reports.{IsMemoryOrReportsLeast}
 use Rattle.ilsyms.specs.Faults.{IsFault, IsWellNamed}
 use Rattle.ilsyms.specs.Resolved.{plan_of_tree}

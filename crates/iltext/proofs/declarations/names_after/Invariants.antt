@@ -1,6 +1,6 @@
 use Rattle.std.proofs.Common.{◌≡◌, length}
 use Rattle.iltext.specs.Declarations.{more_names, names_after}
-use Rattle.ilgrammar.proofs.Loops.{with_front}
+use Rattle.iltokens.proofs.Loops.{with_front}
 use Rattle.iltext.proofs.declarations.names_after.Given as goal
 
 abbrev pub invariant-more : goal.invariant-more

@@ -1,6 +1,6 @@
 use Rattle.std.proofs.Common.{◌≡◌, length}
-use Rattle.ilgrammar.specs.Items.{many}
-use Rattle.ilgrammar.specs.Results.{extend}
+use Rattle.iltokens.specs.Items.{many}
+use Rattle.iltokens.specs.Results.{extend}
 use Rattle.iltext.specs.Globals.{var_global, global_blocks}
 use Rattle.iltext.specs.Declarations.{flat}
 use Rattle.iltext.proofs.globals.global_blocks.Given as goal

@@ -1,6 +1,6 @@
 use Rattle.std.proofs.Common.{◌≡◌, length}
 use Rattle.iltext.specs.Globals.{globals}
-use Rattle.ilgrammar.proofs.Loops.{with_front}
+use Rattle.iltokens.proofs.Loops.{with_front}
 use Rattle.iltext.proofs.globals.globals.Given as goal
 
 abbrev pub invariant-all : goal.invariant-all

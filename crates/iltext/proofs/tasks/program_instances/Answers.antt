@@ -1,7 +1,7 @@
 use Rattle.std.proofs.Common.{◌≡◌, true, false}
 use Rattle.std.proofs.lemmas.Result.{err_from_is_err_and}
-use Rattle.ilgrammar.specs.Items.{begins}
-use Rattle.ilgrammar.proofs.Loops.{goes_on, fails, is_done, shrinks}
+use Rattle.iltokens.specs.Items.{begins}
+use Rattle.iltokens.proofs.Loops.{goes_on, fails, is_done, shrinks}
 use Rattle.iltext.specs.Tasks.{program_instance, program_instances}
 use Rattle.iltext.proofs.TaskLaws.{Firm-program_instance}
 use Rattle.iltext.proofs.tasks.program_instances.Goals as goal

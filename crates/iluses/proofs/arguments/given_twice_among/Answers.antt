@@ -1,6 +1,6 @@
 use Rattle.std.proofs.Common.{List, subst}
 use Rattle.std.proofs.lemmas.List.{take_all}
-use Rattle.iltrees.specs.declared.arguments.Argument.{Argument}
+use Rattle.ilsource.specs.declared.arguments.Argument.{Argument}
 use Rattle.ilsource.specs.Names.{folded}
 use Rattle.ilsource.specs.declared.symbol.Symbol.{Symbol}
 use Rattle.ildeclared.specs.Faults.{IsLeastOf, OfCause}

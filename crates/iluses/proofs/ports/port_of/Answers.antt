@@ -2,7 +2,7 @@ use Rattle.std.proofs.Common.{◌≡◌, ℕ, List, sym, ap, ◌∙◌}
 use Rattle.std.specs.Prelude.{Option, option_map}
 use Rattle.ilblocks.specs.Ports.{port_named}
 use Rattle.ilsource.specs.Names.{text_of}
-use Rattle.ilsource.specs.Trees.{Tree}
+use Rattle.ilsource.specs.SourceTrees.{Tree}
 use Rattle.iluses.proofs.PortNumbers.{port_by_found, port_in_found}
 use Rattle.iluses.proofs.ports.port_of.Goals as goal
 

@@ -2,7 +2,7 @@ use Rattle.std.proofs.Common.{◌≡◌, ◌<◌, ◌+◌, ℕ, List, take, ◌�
 use Rattle.std.proofs.lemmas.List.{take_all}
 use Rattle.std.proofs.lemmas.Option.{get_or_from_slice_get}
 use Rattle.std.specs.Prelude.{All, Some, slice_get}
-use Rattle.iltrees.specs.declared.uses.Use.{Use}
+use Rattle.ilsource.specs.declared.uses.Use.{Use}
 use Rattle.ilsource.specs.Programs.{Written}
 use Rattle.ilsource.specs.declared.symbol.Symbol.{Symbol}
 use Rattle.ildeclared.proofs.Least.{got_at}

@@ -1,5 +1,5 @@
 use Rattle.std.proofs.Common.{sym, subst}
-use Rattle.iltrees.specs.declared.operand.Operand.{Operand}
+use Rattle.ilsource.specs.declared.operand.Operand.{Operand}
 use Rattle.ilsource.specs.declared.symbol.Symbol.{Symbol}
 use Rattle.ildeclared.specs.Faults.{IsLeastOf, OfCause}
 use Rattle.ildeclared.specs.declared.fault.NameCause.TheVariants.{Unknown}

@@ -1,6 +1,6 @@
 use Rattle.std.proofs.Common.{List, subst}
 use Rattle.std.proofs.lemmas.List.{take_all}
-use Rattle.iltrees.specs.declared.uses.Use.{Use}
+use Rattle.ilsource.specs.declared.uses.Use.{Use}
 use Rattle.ilsource.specs.declared.symbol.Symbol.{Symbol}
 use Rattle.ildeclared.specs.Faults.{IsLeastOf}
 use Rattle.ildeclared.proofs.Least.{least_of_more_at}

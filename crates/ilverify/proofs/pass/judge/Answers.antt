@@ -1,4 +1,4 @@
-use Rattle.std.proofs.Common.{◌≡◌, length, ap, subst, arith}
+use Rattle.std.proofs.Common.{◌≡◌, length, subst, arith}
 use Rattle.ilverify.specs.Certificates.{IsClosest}
 use Rattle.ilverify.proofs.PassForward.{certified}
 use Rattle.ilverify.proofs.pass.judge.Goals as goal

@@ -5,7 +5,7 @@ use Rattle.ilcode.specs.Listings.{Listing}
 use Rattle.ilcode.specs.Paths.{IsBound}
 use Rattle.ilverify.specs.Verdicts.{Accepted}
 use Rattle.ilverify.specs.declared.refusal.VerifyError.{VerifyError}
-use Rattle.ilsetup.specs.Loaded.{listing_for}
+use Rattle.ilcompile.specs.Loaded.{listing_for}
 use Rattle.plantload.proofs.CodeLemmas.{is_code, was_ok}
 use Rattle.plantload.proofs.loading.code_of.Goals as goal
 

@@ -1,6 +1,6 @@
 use Rattle.std.proofs.Common.{pos, inl, inr}
 use Rattle.iltypes.specs.Ranges.{Holds}
-use Rattle.iloperators.specs.declared.operator.Operator.TheVariants as operators
+use Rattle.iltypes.specs.declared.operator.Operator.TheVariants as operators
 use Rattle.ilranges.proofs.ResultRanges.{div_by_zero, verdict_of, quotients}
 use Rattle.ilranges.proofs.known.Known.after_div.Goals as goal
 

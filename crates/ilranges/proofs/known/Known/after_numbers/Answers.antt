@@ -1,4 +1,4 @@
-use Rattle.iloperators.specs.declared.operator.Operator.TheVariants as operators
+use Rattle.iltypes.specs.declared.operator.Operator.TheVariants as operators
 use Rattle.ilranges.proofs.ResultRanges.{verdict_of, sums, differences, products, min_of, max_of}
 use Rattle.ilranges.proofs.known.Known.after_numbers.Goals as goal
 

@@ -1,5 +1,5 @@
 use Rattle.std.proofs.Common.{subst, sym}
-use Rattle.ilsource.specs.Trees.{Tree}
+use Rattle.ilsource.specs.SourceTrees.{Tree}
 use Rattle.ildeclared.specs.Faults.{IsLeastOf}
 use Rattle.ilscope.specs.ScopeSteps.{IsFaultInTables}
 use Rattle.ilscope.specs.Scoped.{Scoped}

@@ -1,6 +1,6 @@
 use Rattle.std.proofs.Common.{◌≡◌, ◌∙◌, ap, ℕ, List, subst}
 use Rattle.std.specs.Prelude.{Option, option_and_then, slice_get}
-use Rattle.ilsource.specs.Trees.{Tree}
+use Rattle.ilsource.specs.SourceTrees.{Tree}
 use Rattle.ilsource.specs.declared.address.DirectAddress.{DirectAddress}
 use Rattle.ilsource.specs.declared.configuration.TaskDeclaration.{TaskDeclaration}
 use Rattle.ilsource.specs.declared.name.Name.{Name}

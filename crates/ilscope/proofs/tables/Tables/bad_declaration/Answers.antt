@@ -2,7 +2,7 @@ use Rattle.std.proofs.Common.{◌≡◌, ◌∙◌, ap, ℕ, List, subst, ◌⊎
 use Rattle.std.specs.Prelude.{Option, None, option_and_then, slice_get, unwrap_or}
 use Rattle.iltypes.specs.declared.value.IlType.{IlType}
 use Rattle.ilsource.specs.Configurations.{DeclaredGlobals}
-use Rattle.ilsource.specs.Trees.{Tree}
+use Rattle.ilsource.specs.SourceTrees.{Tree}
 use Rattle.ilsource.specs.declared.configuration.TaskDeclaration.{TaskDeclaration}
 use Rattle.ilsource.specs.declared.name.Name.{Name}
 use Rattle.ildeclared.specs.DataTypes.{TypeNames}

@@ -1,6 +1,6 @@
 use Rattle.std.proofs.Common.{◌≡◌, ◌∙◌, ap, List, ℕ, subst}
 use Rattle.ilsource.specs.Configurations.{DeclaredGlobals}
-use Rattle.ilsource.specs.Trees.{Tree}
+use Rattle.ilsource.specs.SourceTrees.{Tree}
 use Rattle.ildeclared.specs.DataTypes.{TypeNames}
 use Rattle.ildeclared.specs.Faults.{IsLeastOf, SomeOf, IsFaultIn}
 use Rattle.ildeclared.specs.Globals.{as_variables}

@@ -1,5 +1,5 @@
 use Rattle.std.proofs.Common.{◌∙◌, ap, List, subst, ◌⊎◌}
-use Rattle.ilsource.specs.Trees.{Tree}
+use Rattle.ilsource.specs.SourceTrees.{Tree}
 use Rattle.ilsource.specs.declared.configuration.InstanceDeclaration.{InstanceDeclaration}
 use Rattle.ildeclared.specs.Faults.{IsLeastOf, OfCause, SomeOf}
 use Rattle.ildeclared.specs.Order.{lesser_of_two}

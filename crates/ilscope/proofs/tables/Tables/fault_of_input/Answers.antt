@@ -1,6 +1,6 @@
 use Rattle.std.proofs.Common.{◌≡◌, ◌∙◌, ap, ℕ, List, subst}
 use Rattle.ilsource.specs.Configurations.{DeclaredGlobals}
-use Rattle.ilsource.specs.Trees.{Tree}
+use Rattle.ilsource.specs.SourceTrees.{Tree}
 use Rattle.ildeclared.specs.DataTypes.{TypeNames}
 use Rattle.ildeclared.specs.Faults.{IsInputGivenIn, IsInputTooSmallIn, IsLeastOf, OfCause, SomeOf}
 use Rattle.ildeclared.specs.Kept.{types_in}

@@ -1,7 +1,7 @@
 use Rattle.std.proofs.Common.{◌≡◌, ◌∙◌, ap, refl, List, ℕ, map, subst}
 use Rattle.std.specs.Prelude.{flat_map}
 use Rattle.ilsource.specs.Names.{text_of}
-use Rattle.ilsource.specs.Trees.{Tree}
+use Rattle.ilsource.specs.SourceTrees.{Tree}
 use Rattle.ilsource.specs.declared.source.Element.{Element}
 use Rattle.ildeclared.specs.Faults.{IsLeastOf, OfCause}
 use Rattle.ildeclared.specs.Globals.{globals_in, value_types_in}

@@ -1,6 +1,6 @@
 use Rattle.std.proofs.Common.{◌∙◌, ap, List, ℕ}
 use Rattle.ilsource.specs.Names.{folded, text_of}
-use Rattle.ilsource.specs.Trees.{Tree}
+use Rattle.ilsource.specs.SourceTrees.{Tree}
 use Rattle.ilscope.proofs.Spelling.{key_is}
 use Rattle.ilscope.proofs.tables.Tables.spelling.Goals as goal
 

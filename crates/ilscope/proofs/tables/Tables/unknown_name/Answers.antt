@@ -1,6 +1,6 @@
 use Rattle.std.proofs.Common.{◌≡◌, ◌∙◌, ℕ, List, subst, ◌⊎◌}
 use Rattle.std.specs.Prelude.{Option}
-use Rattle.ilsource.specs.Trees.{Tree}
+use Rattle.ilsource.specs.SourceTrees.{Tree}
 use Rattle.ilsource.specs.declared.configuration.InstanceDeclaration.{InstanceDeclaration}
 use Rattle.ilsource.specs.declared.configuration.TaskDeclaration.{TaskDeclaration}
 use Rattle.ilsource.specs.declared.name.Name.{Name}

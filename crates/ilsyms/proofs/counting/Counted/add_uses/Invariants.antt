@@ -1,5 +1,5 @@
 use Rattle.std.proofs.Common.{List, ◌++◌, take}
-use Rattle.iltrees.specs.declared.uses.Use.{Use}
+use Rattle.ilsource.specs.declared.uses.Use.{Use}
 use Rattle.ilsource.specs.declared.symbol.Symbol.{Symbol}
 use Rattle.ilsyms.specs.CountingSteps.{AreCounted}
 use Rattle.ilsyms.proofs.counting.Counted.add_uses.Given as goal

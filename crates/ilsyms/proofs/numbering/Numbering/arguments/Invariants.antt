@@ -1,5 +1,5 @@
 use Rattle.std.proofs.Common.{◌≡◌, map, take}
-use Rattle.iltrees.specs.Renaming.{rename_argument}
+use Rattle.ilsource.specs.Renaming.{rename_argument}
 use Rattle.ilsyms.specs.NumberingSteps.{numbers}
 use Rattle.ilsyms.proofs.numbering.Numbering.arguments.Given as goal
 

@@ -1,6 +1,6 @@
 use Rattle.std.proofs.Common.{◌≡◌, ◌∙◌, sym, ap, Some}
 use Rattle.std.specs.Option.{option_map}
-use Rattle.iltrees.specs.Renaming.{rename}
+use Rattle.ilsource.specs.Renaming.{rename}
 use Rattle.ilsyms.specs.NumberingSteps.{label_of, numbers}
 use Rattle.ilsyms.proofs.numbering.Numbering.line.Goals as goal
 use Rattle.ilsyms.proofs.numbering.Numbering.line.Goals.{in-Some+in_ok-instruction-in-Some, in-None}

@@ -1,6 +1,6 @@
 use Rattle.std.proofs.Common.{◌∙◌, [], ◌∷◌, ◌++◌, map, sym, ap, take}
 use Rattle.std.proofs.lemmas.List.{take_all, map-append}
-use Rattle.iltrees.specs.Renaming.{rename_line}
+use Rattle.ilsource.specs.Renaming.{rename_line}
 use Rattle.ildeclared.proofs.Least.{take_more}
 use Rattle.ilsyms.specs.NumberingSteps.{label_of, numbers}
 use Rattle.ilsyms.proofs.numbering.Numbering.lines.Goals as goal

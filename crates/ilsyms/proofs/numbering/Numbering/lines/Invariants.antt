@@ -1,5 +1,5 @@
 use Rattle.std.proofs.Common.{◌≡◌, map, take}
-use Rattle.iltrees.specs.Renaming.{rename_line}
+use Rattle.ilsource.specs.Renaming.{rename_line}
 use Rattle.ilsyms.specs.NumberingSteps.{label_of, numbers}
 use Rattle.ilsyms.proofs.numbering.Numbering.lines.Given as goal
 

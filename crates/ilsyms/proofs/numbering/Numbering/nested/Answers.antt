@@ -1,9 +1,9 @@
 use Rattle.std.proofs.Common.{◌≡◌, ◌∙◌, sym, ap, map}
 use Rattle.std.proofs.lemmas.List.{take_all}
-use Rattle.iltrees.specs.Renaming.{rename_piece, rename_tree}
-use Rattle.iltrees.specs.Trees.{pieces_of}
-use Rattle.iltrees.specs.TreeSteps.{tree_of, tree_again}
-use Rattle.iltrees.proofs.KeptSizes.{pieces_same}
+use Rattle.ilsource.specs.Renaming.{rename_piece, rename_tree}
+use Rattle.ilsource.specs.Trees.{pieces_of}
+use Rattle.ilsource.specs.TreeSteps.{tree_of, tree_again}
+use Rattle.ilsource.proofs.KeptSizes.{pieces_same}
 use Rattle.ilsyms.specs.NumberingSteps.{numbers}
 use Rattle.ilsyms.proofs.numbering.Numbering.nested.Goals as goal
 

@@ -1,5 +1,5 @@
 use Rattle.std.proofs.Common.{◌≡◌, flat_map, take}
-use Rattle.iltrees.specs.Words.{places_in}
+use Rattle.ilsource.specs.Words.{places_in}
 use Rattle.ilsyms.proofs.words.WordPlaces.of.Given as goal
 
 abbrev pub invariant-loop-line : goal.invariant-loop-line

@@ -6,7 +6,7 @@ use Rattle.plant.specs.Shown.{Shown, plant_of}
 use Rattle.plant.specs.Refusals.{is_full_for}
 use Rattle.plant.proofs.Growing.{heard_says, image_heard, hear_room, place_counted}
 use Rattle.plant.proofs.Found.{writes_same}
-use Rattle.binding.specs.declared.sources.BoundSource.{BoundSource}
+use Rattle.wordlines.specs.declared.sources.BoundSource.{BoundSource}
 use Rattle.ilplan.specs.Plans.{Planned}
 use Rattle.ilimage.specs.Images.{value_of}
 use Rattle.plantevents.specs.Variables.{newest}

@@ -1,5 +1,5 @@
 use Rattle.std.proofs.Common.{ℕ, List, ◌++◌, length, inr, refl, sym, ap, ◌∙◌, arith}
-use Rattle.scenario.specs.declared.happenings.Happening.{Happening}
+use Rattle.wordlines.specs.declared.happenings.Happening.{Happening}
 use Rattle.plantplay.specs.Installations.{sim_log}
 use Rattle.plantevents.specs.Histories.{given_in}
 use Rattle.plantplay.specs.Playing.{lines_of}

@@ -1,5 +1,5 @@
 use Rattle.std.proofs.Common.{◌≡◌, ◌+◌, ◌≤◌, ◌++◌, length}
-use Rattle.scenario.specs.Happenings.{happenings}
+use Rattle.wordlines.specs.Happenings.{happenings}
 use Rattle.plantevents.specs.Histories.{given_in}
 use Rattle.plantplay.specs.Playing.{IsAtRest, IsPlay, lines_of}
 use Rattle.plantplay.specs.PlaySteps.{IsQuietOrSame, ticks_to_come}

@@ -1,7 +1,7 @@
 use Rattle.std.proofs.Common.{◌≡◌, ◌≤◌, ℕ, List, sym, subst, ◌∙◌, ap, arith}
 use Rattle.std.specs.List.{AllPairs}
-use Rattle.scenario.specs.Happenings.{ticks}
-use Rattle.scenario.proofs.Orders.{ticks_never_fall}
+use Rattle.wordlines.specs.Happenings.{ticks}
+use Rattle.wordlines.proofs.Orders.{ticks_never_fall}
 use Rattle.simbus.proofs.clocks.ScriptedClock.of.Goals as goal
 
 pub invariant_of-result : goal.invariant_of-result

@@ -1,3 +1,0 @@
-pub mod BindingReading
-pub mod BoundSources
-pub mod Spelled

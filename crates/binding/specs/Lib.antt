@@ -1,4 +1,0 @@
-pub mod Bindings
-pub mod Printed
-pub mod Spelling
-pub mod Wirings

@@ -1,0 +1,139 @@
+//! The commands of the line, each with its words.
+
+use crate::words::Word;
+
+/// A command: its name, what the help says of it, and its words.
+#[derive(Clone, Copy)]
+pub(crate) struct Subcommand {
+    pub(crate) name: &'static str,
+    pub(crate) about: &'static str,
+    pub(crate) words: &'static [Word],
+}
+
+const FILE: Word = Word::Wanted("FILE", "The text of the programs");
+
+const TEXT: Word = Word::Wanted("TEXT", "The text of the programs");
+
+const BIND: Word = Word::Wanted("BIND", "The binding of buses");
+
+const BINDING: Word = Word::Valued("bind", "FILE", "The binding of buses [default: one bus]");
+
+const TASK: Word = Word::Wanted("TASK", "The task's name, in any letter case");
+
+const SCENARIO: Word = Word::Wanted("SCENARIO", "What is on the buses and what happens there");
+
+const LIMIT: Word = Word::Number(
+    "limit",
+    "N",
+    100,
+    1_000_000,
+    "The most events of the history, 100 to 1000000 [default: 100000]",
+);
+
+const SCANS: Word = Word::Number(
+    "scans",
+    "N",
+    1,
+    1_000_000,
+    "How many scans, 1 to 1000000 [default: 1]",
+);
+
+const EVERY: Word = Word::Number(
+    "every",
+    "MS",
+    0,
+    4_294_967_295,
+    "Milliseconds from scan to scan, 0 to 4294967295 [default: 100]",
+);
+
+const WORKERS: Word = Word::Number(
+    "workers",
+    "W",
+    1,
+    16,
+    "How many scan workers, 1 to 16 [default: 2]",
+);
+
+pub(crate) const CHECK: Subcommand = Subcommand {
+    name: "check",
+    about: "Prints for each task its words and the bound of a scan, or the first fault",
+    words: &[
+        FILE,
+        BINDING,
+        Word::Flag("code", "FILE is a code file, which has no binding"),
+    ],
+};
+
+const STEP: Subcommand = Subcommand {
+    name: "step",
+    about: "Runs scans of one task and prints its variables",
+    words: &[FILE, TASK, BINDING, SCANS, EVERY],
+};
+
+const PLAY: Subcommand = Subcommand {
+    name: "play",
+    about: "Plays a scenario on simulated buses and prints what happens",
+    words: &[TEXT, BIND, SCENARIO, LIMIT],
+};
+
+const RUN: Subcommand = Subcommand {
+    name: "run",
+    about: "Runs a scenario on simulated buses in threads and prints what it came to",
+    words: &[TEXT, BIND, SCENARIO, LIMIT, WORKERS],
+};
+
+const LOOK: Subcommand = Subcommand {
+    name: "look",
+    about: "Plays a scenario on simulated buses and prints a picture of it",
+    words: &[
+        FILE,
+        SCENARIO,
+        Word::WantedValued("bind", "FILE", "The binding of buses"),
+        Word::Flag("text", "Prints lines for a terminal in place of an SVG"),
+    ],
+};
+
+const NOTES: Subcommand = Subcommand {
+    name: "notes",
+    about: "Prints what is likely not meant in an accepted text",
+    words: &[FILE, BINDING],
+};
+
+const LIST: Subcommand = Subcommand {
+    name: "list",
+    about: "Prints the words of tasks, what is known before each, and the longest path",
+    words: &[
+        FILE,
+        Word::Optional(
+            "TASK",
+            "The task's name, in any letter case [default: all tasks]",
+        ),
+        BINDING,
+    ],
+};
+
+const EXPLAIN: Subcommand = Subcommand {
+    name: "explain",
+    about: "Explains the first thing that stands against a text, or prints notes on it",
+    words: &[
+        FILE,
+        Word::Optional("SCENARIO", "A scenario that is explained too"),
+        BINDING,
+    ],
+};
+
+const CODE: Subcommand = Subcommand {
+    name: "code",
+    about: "Writes the code of one task to a code file",
+    words: &[
+        FILE,
+        TASK,
+        Word::Wanted("OUT", "The code file that is written"),
+        BINDING,
+    ],
+};
+
+/// The commands, in the order of the help.
+pub(crate) const COMMANDS: [Subcommand; 9] = [
+    CHECK, STEP, PLAY, RUN, LOOK, NOTES, LIST, EXPLAIN, CODE,
+];

@@ -1,3 +1,0 @@
-pub mod Items
-pub mod Results
-pub mod Stops

@@ -1,4 +1,0 @@
-pub mod Comparisons
-pub mod Conditions
-pub mod Functions
-pub mod Operators

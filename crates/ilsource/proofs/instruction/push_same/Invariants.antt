@@ -1,0 +1,5 @@
+use Rattle.std.proofs.Common.{◌≡◌, ◌++◌, replicate}
+use Rattle.ilsource.proofs.instruction.push_same.Given as goal
+
+abbrev pub invariant-loop : goal.invariant-loop
+invariant-loop l = l.places.items ≡ l.fn.places.items ++ replicate l.counter l.at

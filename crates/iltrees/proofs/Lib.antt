@@ -1,4 +1,0 @@
-pub mod Grown
-pub mod KeptMeaning
-pub mod KeptSizes
-pub mod Spelled

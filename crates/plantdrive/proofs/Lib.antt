@@ -1,8 +1,0 @@
-mod Accepting
-pub mod Desks
-mod Empty
-mod Histories
-mod Meaning
-mod Runs
-mod Sent
-mod Serving

@@ -1,4 +1,0 @@
-pub mod DeskSteps
-pub mod Runs
-pub mod Sending
-pub mod Texts

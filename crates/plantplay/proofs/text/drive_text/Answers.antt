@@ -1,0 +1,23 @@
+use Rattle.std.proofs.Common.{ap, ◌∙◌}
+use Rattle.plantevents.specs.Plants.{Plant}
+use Rattle.plant.specs.Shown.{opened}
+use Rattle.plantplay.proofs.Meaning.{scans_meant}
+use Rattle.plantplay.proofs.Runs.{run_plant}
+use Rattle.plantplay.proofs.text.drive_text.Goals as goal
+
+pub returns-clause-driven : goal.returns-clause-driven
+returns-clause-driven c =
+    let setup = c.in_ok-setup.setup in let loaded = c.in_ok-setup.ensures.setup in
+    let wiring = c.args.binding.now in let driven = c.in_ok-driven.driven in let run = c.in_ok-driven.ensures.run in
+    let legal = c.in_ok-driven.ensures.legal in
+    let same = run_plant (opened setup c.args.workers c.args.limit) c.args.steps.now driven.replies.items driven.plant
+    run in
+    record {
+      setup = setup;
+      loaded = loaded;
+      run = run;
+      history = c.in_ok-driven.ensures.history;
+      legal = legal;
+      meant = scans_meant driven.plant.plant loaded.plan.tree wiring c.load.ensures.same_meaning
+          (ap (λ (x : Plant). x.plan) same ∙ loaded.plan.resolved) driven.plant.history legal;
+    }

@@ -1,4 +1,0 @@
-pub mod Declarations
-pub mod KnownStatements
-pub mod Orders
-pub mod ScenarioReading
