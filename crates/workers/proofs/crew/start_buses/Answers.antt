@@ -6,39 +6,16 @@ use Rattle.workers.specs.Started.{IsStartedBus}
 use Rattle.workers.specs.Teams.{AreServed}
 use Rattle.workers.proofs.crew.start_buses.Goals as goal
 
-pub start_bus-requires : goal.start_bus-requires
-start_bus-requires g c =
-    let logs = g.J.Links.buses in
+pub start_bus-requires-clause-served : goal.start_bus-requires-clause-served
+start_bus-requires-clause-served g c κs within =
     let log = g.B.Bus.log in
-    let inv = c.loop-bus.invariant in
     let n = c.loop-bus.bus in
     let xs = c.loop-bus.buses.items in
     let fewer = c.remove-served.ensures.len in
     let was = c.loop-bus.buses.ok.0 in
     let some : 0 < length xs = omega (arith, fewer, was) in
-    let t = c.type_bounds in (
-      t.send-B,
-      (
-        t.send-J,
-        (
-          t.send-T,
-          (
-            t.send-K,
-            (
-              t.sync-J,
-              (
-                t.sync-G,
-                (
-                  t.sync-R,
-                  each_first (λ k s. IsServed (log_of logs k) k s.share (log s.line)) n xs c.remove-served.result some inv.0
-                      c.remove-served.ensures.value,
-                ),
-              ),
-            ),
-          ),
-        ),
-      ),
-    )
+    each_first (λ k s. IsServed (log_of g.J.Links.buses k) k s.share (log s.line)) n xs c.remove-served.result some
+    c.loop-bus.invariant.0 c.remove-served.ensures.value
 
 pub loop-bus-preserved : goal.loop-bus-preserved
 loop-bus-preserved g c =

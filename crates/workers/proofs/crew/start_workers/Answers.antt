@@ -6,33 +6,14 @@ use Rattle.workers.specs.Started.{IsStartedScans}
 use Rattle.workers.specs.Teams.{AreWorkers}
 use Rattle.workers.proofs.crew.start_workers.Goals as goal
 
-pub start_scans-requires : goal.start_scans-requires
-start_scans-requires g c =
-    let inv = c.loop-worker.invariant in
+pub start_scans-requires-clause-worker : goal.start_scans-requires-clause-worker
+start_scans-requires-clause-worker g c κs within =
     let n = c.loop-worker.worker in
     let xs = c.loop-worker.workers.items in
     let fewer = c.remove-share.ensures.len in
     let was = c.loop-worker.workers.ok.0 in
     let some : 0 < length xs = omega (arith, fewer, was) in
-    let t = c.type_bounds in (
-      t.send-J,
-      (
-        t.send-T,
-        (
-          t.send-K,
-          (
-            t.sync-J,
-            (
-              t.sync-G,
-              (
-                t.sync-R,
-                each_first IsWorker n xs c.remove-share.result some inv.0 c.remove-share.ensures.value,
-              ),
-            ),
-          ),
-        ),
-      ),
-    )
+    each_first IsWorker n xs c.remove-share.result some c.loop-worker.invariant.0 c.remove-share.ensures.value
 
 pub loop-worker-preserved : goal.loop-worker-preserved
 loop-worker-preserved g c =
