@@ -68,7 +68,7 @@ pub type InstanceNumber = Number<kinds::OfInstance, 32>;
 /// The type of an instance of a control device, 0 to 31.
 pub type InstanceType = Number<kinds::OfInstanceKind, 32>;
 
-/// The number of a bus, 0 to 15.
+/// The number of a bus, 0 to 63.
 pub type BusNumber = Number<kinds::OfBus, { limits::MOST_BUSES }>;
 
 /// Bus 0, which fills the unused places of a collection of fixed capacity.

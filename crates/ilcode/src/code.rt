@@ -69,7 +69,7 @@ impl Code {
         }
     }
 
-    /// The number of buses, 1 to 16.
+    /// The number of buses, 1 to 64.
     pub fn buses(&self) -> u8
         ensures value { result ≡ self.now.buses }
         ensures lawful { IsLawful self.now }

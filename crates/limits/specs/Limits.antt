@@ -1,5 +1,5 @@
 -- The limits of this project's profile. Definitions cite these numbers; code has constants of its own, which meet them.
-use Rattle.std.specs.Prelude.{ℕ}
+use Rattle.std.specs.Prelude.{ℕ, ◌≤◌}
 
 -- bytes of a text, a binding or a scenario
 abbrev pub most_bytes : ℕ
@@ -7,7 +7,23 @@ most_bytes = 1048576
 
 -- buses, and event sources of a bus
 abbrev pub most_buses : ℕ
-most_buses = 16
+most_buses = 64
+
+-- buses that are few: more need a code file of version 2, and a longer history
+abbrev pub few_buses : ℕ
+few_buses = 16
+
+-- attempts that a bus may be given for a transaction, and those that it has where the binding says nothing
+abbrev pub most_tries : ℕ
+most_tries = 5
+
+abbrev pub usual_tries : ℕ
+usual_tries = 3
+
+-- a number of attempts that a bus may be given: one at least
+pub record AreTries (tries : ℕ) : Type 0 where
+  pub first : 1 ≤ tries
+  pub last : tries ≤ most_tries
 
 abbrev pub most_sources : ℕ
 most_sources = 64
@@ -52,9 +68,17 @@ most_pending = 32
 abbrev pub most_workers : ℕ
 most_workers = 16
 
+-- seats of a plant: its scan workers, its buses and its clock, as many as there are at most
+abbrev pub most_seats : ℕ
+most_seats = 81
+
 -- what the events of a plant's history may be limited to: at least, and at most
 abbrev pub least_events : ℕ
 least_events = 100
+
+-- and at least, where the buses are more than few
+abbrev pub least_events_of_many : ℕ
+least_events_of_many = 500
 
 abbrev pub most_events : ℕ
 most_events = 1000000

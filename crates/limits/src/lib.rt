@@ -17,7 +17,17 @@ ghost use Rattle.limits.specs.Limits.{most_bytes};
 pub const MOST_BYTES: usize = 1_048_576;
 
 /// The greatest number of buses.
-pub const MOST_BUSES: u8 = 16;
+pub const MOST_BUSES: u8 = 64;
+
+/// The greatest number of buses that are few: more need a code file of version 2, and a history
+/// of at least [`LEAST_EVENTS_OF_MANY`] events.
+pub const FEW_BUSES: u8 = 16;
+
+/// The greatest number of attempts that a bus may be given for a transaction.
+pub const MOST_TRIES: u8 = 5;
+
+/// The number of attempts for a transaction on a bus of which the binding says nothing.
+pub const USUAL_TRIES: u8 = 3;
 
 /// The greatest number of event sources of a bus.
 pub const MOST_SOURCES: u8 = 64;
@@ -55,8 +65,16 @@ pub const MOST_PENDING: usize = 32;
 /// The greatest number of scan workers of a plant.
 pub const MOST_WORKERS: usize = 16;
 
+/// The seats of a plant: one for each scan worker, one for each bus and one for the clock, as many
+/// as there are at most.
+pub const MOST_SEATS: usize = 81;
+
 /// The least number of events that the history of a plant may be limited to.
 pub const LEAST_EVENTS: u64 = 100;
+
+/// The least number of events that the history of a plant of over [`FEW_BUSES`] buses may be
+/// limited to.
+pub const LEAST_EVENTS_OF_MANY: u64 = 500;
 
 /// The greatest number of events that the history of a plant may be limited to.
 pub const MOST_EVENTS: u64 = 1_000_000;

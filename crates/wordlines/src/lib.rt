@@ -17,7 +17,7 @@
 //!
 //! ```text
 //! let said = read_lines(start, bytes)?; // or: bind fault at 3
-//! let bus = number_of(Words::of(line).next()?, 15)?;
+//! let bus = number_of(Words::of(line).next()?, 63)?;
 //! let buses = Binding::parse(alloc, b"# the north wing\nbuses 2\n")?.buses();
 //! let mut happenings = parse(alloc, bytes)?.happenings();
 //! ```

@@ -1,3 +1,4 @@
+use Rattle.limits.specs.Limits.{most_buses}
 use Rattle.std.proofs.Common.{◌≡◌, ◌<◌, IfSome, sym, subst, Option, arith, rules}
 use Rattle.gearcmd.specs.declared.requests.Request.{Request}
 use Rattle.ilblocks.specs.declared.kind.BlockKind.TheVariants as kinds
@@ -7,15 +8,16 @@ use Rattle.ilblocks.proofs.call.step.Goals as goal
 
 pub trigger-requires : goal.trigger-requires
 trigger-requires c =
-    let n = ports_of_kind 16 c.args.kind kinds.RTrig c.args.block.now c.in-RTrig.is c.requires in omega (arith, n)
+    let n = ports_of_kind most_buses c.args.kind kinds.RTrig c.args.block.now c.in-RTrig.is c.requires in
+    omega (arith, n)
 
 pub count-requires : goal.count-requires
 count-requires c =
-    let n = ports_of_kind 16 c.args.kind kinds.Ctu c.args.block.now c.in-Ctu.is c.requires in omega (arith, n)
+    let n = ports_of_kind most_buses c.args.kind kinds.Ctu c.args.block.now c.in-Ctu.is c.requires in omega (arith, n)
 
 pub time-requires : goal.time-requires
 time-requires c =
-    let n = ports_of_kind 16 c.args.kind kinds.Ton c.args.block.now c.in-Ton.is c.requires in omega (arith, n)
+    let n = ports_of_kind most_buses c.args.kind kinds.Ton c.args.block.now c.in-Ton.is c.requires in omega (arith, n)
 
 pub returns-clause-typed : goal.returns-clause-typed
 returns-clause-typed c buses h =
