@@ -14,8 +14,8 @@ use daliframe::Frame;
 use std::alloc::AllocError;
 use transact::{MOST_SENT, Mark, Report, Transaction};
 
-/// Sends the frames of a transaction, and all of them again where one is lost, in so many attempts
-/// at most. A fault of the bus interface ends it at once, with the outcome `Failed`.
+/// Sends the frames of a transaction, and all of them again where one is lost, in at most `tries`
+/// attempts, 1 to 5. A fault of the bus interface ends it at once, with the outcome `Failed`.
 ///
 /// # Errors
 ///

@@ -32,7 +32,7 @@ IsReport retries count (a ∷ []) = IsAttempt count a × (a.last ≡ Lost → re
 IsReport zero count (a ∷ b ∷ more) = ⊥
 IsReport (suc retries) count (a ∷ b ∷ more) = IsAttempt count a × (a.last ≡ Lost) × IsReport retries count (b ∷ more)
 
--- so many frames are sent for a transaction at most, on a bus that is given the most attempts (profile)
+-- the most frames that are sent for a transaction: all of them, in each of the most attempts (profile)
 abbrev pub most_sent : ℕ
 most_sent = most_tries * most_frames
 
@@ -65,7 +65,7 @@ pub record ReportParts : Type 0 where
   pub attempts : List Sent
   pub outcome : Outcome
 
--- these marks spell this report of the transaction on a bus with at most so many attempts, by these attempts
+-- on a bus that has `most` attempts for a transaction these marks spell this report of it, by these attempts
 pub record Spells (list : FrameList) (most : ℕ) (marks : List Mark) (r : ReportParts) : Type 0 where
   pub attempts : List Attempt
   pub legal : IsReport (most - 1) (length list.frames) attempts
@@ -81,7 +81,7 @@ pub record IsReportParts (r : ReportParts) : Type 0 where
   pub marks : List Mark
   pub spelled : Spells r.transaction r.tries marks r
 
--- no report of the transaction on a bus with at most so many attempts is spelled by these marks
+-- on a bus that has `most` attempts for a transaction these marks spell no report of it
 abbrev pub SpellsNone : FrameList → ℕ → List Mark → Type 0
 SpellsNone list most marks =
     (attempts : List Attempt) → IsReport (most - 1) (length list.frames) attempts → ¬ (marks ≡ all_marks attempts)

@@ -15,7 +15,7 @@ use limits::MOST_TRIES;
 use std::alloc::AllocError;
 use std::marker::Model;
 
-/// At most so many frames are sent for a transaction, in all of its attempts, on any bus.
+/// The most frames that are sent for a transaction, in all of its attempts, on any bus.
 pub const MOST_SENT: usize = MOST_TRIES as usize * MOST_FRAMES;
 
 /// What became of a transaction: its attempts, one after another, and how it ended.
@@ -77,8 +77,8 @@ impl Clone for Report {
 }
 
 impl Report {
-    /// The report of a transaction whose frames got these marks, in order, on a bus that is given
-    /// so many attempts, where the marks spell one.
+    /// The report of a transaction whose frames got these marks, in order, on a bus that has `tries`
+    /// attempts, 1 to 5, where the marks spell one.
     pub fn of(transaction: &Transaction, tries: u8, marks: &[Mark]) -> Option<Self>
         requires { AreTries tries }
         ensures report { MatchOption result (SpellsNone transaction.now tries marks.now)

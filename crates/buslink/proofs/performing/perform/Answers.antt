@@ -15,8 +15,8 @@ returns-clause-bus g c =
     let one : SpellOne c.args.transaction.now c.args.tries c.try_again.new.marks.items =
     rw c.as_slice.ensures.value at c.in-Some.ensures.one in
     performed c.args.transaction.now c.args.tries c.try_again.new.marks.items c.in-Some.report
-    (g.B.Bus.log c.args.bus.now) (g.B.Bus.log c.room.new.self) (g.B.Bus.log c.try_again.new.bus) (g.B.Bus.log c.room.new.self).spare
-    one c.room.ensures.same tried spells
+    (g.B.Bus.log c.args.bus.now) (g.B.Bus.log c.room.new.self) (g.B.Bus.log c.try_again.new.bus)
+    (g.B.Bus.log c.room.new.self).spare one c.room.ensures.same tried spells
 
 pub returns-clause-spare : goal.returns-clause-spare
 returns-clause-spare g c =
