@@ -17,12 +17,12 @@ use Rattle.ilimage.specs.declared.external.External.{External}
 use Rattle.ilimage.specs.declared.slots.TaskSlot.{TaskSlot}
 use Rattle.ilimage.specs.declared.slots.StoredSlot.{StoredSlot}
 use Rattle.ilimage.specs.Images.{TaskLayout, TaskImage, ProcessImage, image_of, layout_of, verified_of}
-use Rattle.ilimage.specs.Images.{AreTyped, IsImage}
+use Rattle.ilimage.specs.Images.{AreTyped, IsImage, stored_slots}
 use Rattle.ilimage.specs.Images.{IsLawful, IsLawfulTask}
 use Rattle.ilimage.specs.ImageSteps.{global_value, stored_globals}
 use Rattle.ilimage.specs.Snapshots.{IsLastingOf, MayHave}
 use Rattle.ilimage.specs.TaskRows.{TaskRow, shown, shown_image, IsReady, AreReady}
-use Rattle.ilimage.specs.RowSteps.{layouts_of, is_global, names_in, stored_slots, stored_by}
+use Rattle.ilimage.specs.RowSteps.{layouts_of, is_global, names_in, stored_by}
 use Rattle.ilimage.specs.RowSteps.{kept_task, IsIndex, IsKept, MaySlotHave, MaySlotsHave, AreStorable}
 use Rattle.ilimage.proofs.Places.{at_all, there, typed_there, externals_fit}
 use Rattle.ilimage.proofs.Commits.{get_set_same, get_set_other, committed, stored_typed, IsScanned, image_stays}

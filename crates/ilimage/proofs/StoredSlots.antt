@@ -8,8 +8,9 @@ use Rattle.iltypes.specs.declared.value.Value.{Value}
 use Rattle.iltypes.specs.declared.value.Value.TheVariants as values
 use Rattle.ilimage.specs.declared.external.External.{External}
 use Rattle.ilimage.specs.declared.slots.StoredSlot.{StoredSlot}
+use Rattle.ilimage.specs.Images.{stored_slot, stored_from, stored_slots}
 use Rattle.ilimage.specs.ImageSteps.{stored_globals}
-use Rattle.ilimage.specs.RowSteps.{stored_slot, stored_from, stored_slots, stored_by}
+use Rattle.ilimage.specs.RowSteps.{stored_by}
 
 abbrev pub no_store : StoredSlot
 no_store = record { slot = 0; global = 0 }

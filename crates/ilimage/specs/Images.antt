@@ -1,6 +1,6 @@
 -- The process image (IEC 61131-3, 2.4.3.1 and 2.7.2, and profile): a value for each global variable, and for each task
 -- the values of its programs' own variables and its block instances.
-use Rattle.std.specs.Prelude.{◌≡◌, ℕ, ◌-◌, ◌==◌, All, List, [], ◌∷◌, map, length, drop, ⊤, if◌then◌else◌, slice_get}
+use Rattle.std.specs.Prelude.{◌≡◌, ℕ, ◌+◌, ◌-◌, ◌==◌, All, List, [], ◌∷◌, map, length, drop, ⊤, if◌then◌else◌, slice_get}
 use Rattle.std.specs.Prelude.{Option, Some, None, option_map, option_and_then}
 use Rattle.std.specs.List.{AllZip}
 use Rattle.iltypes.specs.declared.value.IlType.{IlType}
@@ -11,6 +11,7 @@ use Rattle.ilblocks.specs.Stores.{Lasting, blocks_at_first}
 use Rattle.ilverify.specs.Verdicts.{Accepted}
 use Rattle.ilimage.specs.declared.external.External.{External}
 use Rattle.ilimage.specs.declared.overriding.Override.{Override}
+use Rattle.ilimage.specs.declared.slots.StoredSlot.{StoredSlot}
 
 -- a task as the image knows it: its verified code, whose first slots are these global variables in their order; the
 -- slots after them are the task's own variables
@@ -85,6 +86,20 @@ abbrev pub written_in : Layout → ℕ → ℕ → Option ImageVariable
 written_in layout task slot =
     option_and_then (λ t. written_at task (slot - length t.externals) (slice_get t.externals slot))
     (slice_get layout.tasks task)
+
+-- a slot from which a scan stores to a global variable
+abbrev pub stored_slot : ℕ → External → StoredSlot
+stored_slot slot external = record { slot = slot; global = external.global }
+
+-- of these global variables, which are those from this slot on, the slots of those that the task stores
+abbrev pub stored_from : ℕ → List External → List StoredSlot
+stored_from slot [] = []
+stored_from slot (external ∷ more) =
+    if external.stored then stored_slot slot external ∷ stored_from (slot + 1) more else stored_from (slot + 1) more
+
+-- the slots from which a scan stores to these global variables
+abbrev pub stored_slots : List External → List StoredSlot
+stored_slots externals = stored_from 0 externals
 
 -- ---- overrides
 

@@ -1,5 +1,5 @@
 -- Where global variables stand in rows, and what is written there.
-use Rattle.std.specs.Prelude.{◌≡◌, ℕ, ◌+◌, ◌<◌, ◌==◌, ◌&&◌, ◌||◌, All, Bool, true, false, List, [], ◌∷◌, ◌++◌, map}
+use Rattle.std.specs.Prelude.{◌≡◌, ℕ, ◌<◌, ◌==◌, ◌&&◌, ◌||◌, All, Bool, true, false, List, [], ◌∷◌, ◌++◌, map}
 use Rattle.std.specs.Prelude.{length, take, drop, if◌then◌else◌, slice_get, slice_set, slice_index_or, Option, Some}
 use Rattle.std.specs.Prelude.{None}
 use Rattle.std.specs.Option.{IsSomeAnd}
@@ -89,18 +89,6 @@ row_under index task (given ∷ more) row =
     row_under index task more (row_with (slots_at index given.global) given.value task row)
 
 -- ---- what a scan of a task leaves
-
-abbrev pub stored_slot : ℕ → External → StoredSlot
-stored_slot slot external = record { slot = slot; global = external.global }
-
--- the slots of the global variables that the task stores to, where these are the globals from this slot on
-abbrev pub stored_from : ℕ → List External → List StoredSlot
-stored_from slot [] = []
-stored_from slot (external ∷ more) =
-    if external.stored then stored_slot slot external ∷ stored_from (slot + 1) more else stored_from (slot + 1) more
-
-abbrev pub stored_slots : List External → List StoredSlot
-stored_slots externals = stored_from 0 externals
 
 -- the values of the global variables after the values of these slots were stored
 abbrev pub stored_by : List StoredSlot → List Value → List Value → List Value

@@ -5,7 +5,7 @@ use crate::index::index_of;
 use crate::overriding::{Override, put_overrides};
 use crate::row_writes::give;
 use crate::scan_writes::store;
-use crate::slots::TaskSlot;
+use crate::slots::{StoredSlot, TaskSlot};
 use crate::snapshot::Snapshot;
 use crate::task::TaskImage;
 use crate::task_row::{TaskRow, rows_of};
@@ -60,7 +60,7 @@ impl Image {
     ghost use Rattle.ilimage.specs.Images.{ProcessImage, ImageVariable, IsImage, IsTaskImage};
     ghost use Rattle.ilimage.specs.Images.{image_of};
     ghost use Rattle.ilimage.specs.Images.{layout_of, value_of, verified_of, blocks_of};
-    ghost use Rattle.ilimage.specs.Images.{variable_in, written_in, value_under};
+    ghost use Rattle.ilimage.specs.Images.{variable_in, written_in, stored_slots, value_under};
     ghost use Rattle.ilimage.specs.Images.{Global as GlobalVariable};
     ghost use Rattle.ilimage.specs.Snapshots.{ScanStart, IsLastingOf, MayHave};
 
@@ -120,6 +120,17 @@ impl Image {
         let named = &self.tasks[task];
         let _typed = named.row();
         named.externals()
+    }
+
+    /// The slots from which a scan of a task stores to global variables, so that who goes over
+    /// these need not go over all that the task names.
+    pub fn stores(&self, task: usize) -> &[StoredSlot]
+        requires { task < length self.now.tasks }
+        ensures value { option_map (λ t. stored_slots t.layout.externals)
+            (slice_get self.now.tasks task) ≡ Some result.now }
+        ensures image { IsImage self.now }
+    {
+        self.tasks[task].stores()
     }
 
     /// What a scan of a task starts from at this moment, in milliseconds: its code, under each slot

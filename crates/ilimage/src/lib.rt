@@ -3,7 +3,7 @@
 //!
 //! What crosses the boundary: an [`Image`] is made of [`TaskImage`]s. [`Image::take`] gives the
 //! [`Snapshot`] that a scan of a task starts from, and [`Image::commit`] writes what the scan left:
-//! the globals that the task stores, its own variables and its block instances.
+//! the globals that the task stores ([`StoredSlot`]), its own variables and its block instances.
 //! [`Image::take_with`] is for an event task: by [`Override`]s its snapshot has the trigger TRUE,
 //! and the information and count of the event that activated it.
 //! Which variable stands in which slot, and which a scan writes, is `variable_in` and `written_in`
@@ -34,5 +34,6 @@ pub use external::External;
 pub use image::Image;
 pub use law::variables_and_blocks_are_the_image;
 pub use overriding::Override;
+pub use slots::StoredSlot;
 pub use snapshot::Snapshot;
 pub use task::TaskImage;

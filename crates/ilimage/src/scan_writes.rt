@@ -2,10 +2,10 @@
 
 ghost use Rattle.std.specs.Prelude.{◌≡◌, Some, length, map, slice_get};
 ghost use Rattle.std.specs.Option.{IsSomeAnd};
-ghost use Rattle.ilimage.specs.Images.{TaskLayout};
+ghost use Rattle.ilimage.specs.Images.{TaskLayout, stored_slots};
 ghost use Rattle.ilimage.specs.TaskRows.{shown, AreReady};
 ghost use Rattle.ilimage.specs.RowSteps.{IsIndex, layouts_of, lists_of, AreStorable};
-ghost use Rattle.ilimage.specs.RowSteps.{stored_slots, stored_by};
+ghost use Rattle.ilimage.specs.RowSteps.{stored_by};
 
 use crate::row_writes::give;
 use crate::slots::TaskSlot;

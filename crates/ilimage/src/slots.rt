@@ -12,10 +12,10 @@ pub(crate) struct TaskSlot {
 
 /// A slot of a task from which a scan stores to a global variable.
 #[derive(Clone, Copy)]
-pub(crate) struct StoredSlot {
+pub struct StoredSlot {
     /// The number of the slot in the task's code.
-    pub(crate) slot: usize,
+    pub slot: usize,
 
     /// The number of the global variable.
-    pub(crate) global: usize,
+    pub global: usize,
 }

@@ -3,7 +3,7 @@
 ghost use Rattle.std.specs.Prelude.{◌≡◌, All, IfOk, map};
 ghost use Rattle.ilimage.specs.ImageSteps.{HasGlobals};
 ghost use Rattle.ilimage.specs.TaskRows.{ready_task};
-ghost use Rattle.ilimage.specs.RowSteps.{stored_slots};
+ghost use Rattle.ilimage.specs.Images.{stored_slots};
 
 use crate::code_rows::row_of;
 use crate::external::External;
@@ -33,7 +33,7 @@ impl Model for TaskRow {
     ghost use Rattle.std.specs.Prelude.{◌≡◌};
     ghost use Rattle.std.specs.Arc.{arc_value};
     ghost use Rattle.ilimage.specs.TaskRows.{TaskRow, IsTaskRow, task_row_of};
-    ghost use Rattle.ilimage.specs.RowSteps.{stored_slots};
+    ghost use Rattle.ilimage.specs.Images.{stored_slots};
 
     ghost Value = { TaskRow };
 
@@ -52,7 +52,8 @@ impl TaskRow {
     ghost use Rattle.ilimage.specs.ImageSteps.{HasGlobals};
     ghost use Rattle.ilimage.specs.Snapshots.{MayHave, start_of};
     ghost use Rattle.ilimage.specs.TaskRows.{TaskRow, IsTaskRow, ready_task};
-    ghost use Rattle.ilimage.specs.RowSteps.{stored_slots, kept_task};
+    ghost use Rattle.ilimage.specs.Images.{stored_slots};
+    ghost use Rattle.ilimage.specs.RowSteps.{kept_task};
 
     /// The task, ready where the global variables have these values.
     pub(crate) fn of(

@@ -7,8 +7,8 @@ use Rattle.iltypes.specs.declared.value.Value.{Value}
 use Rattle.iltypes.specs.declared.value.Value.TheVariants as values
 use Rattle.ilimage.specs.declared.slots.TaskSlot.{TaskSlot}
 use Rattle.ilimage.specs.declared.slots.StoredSlot.{StoredSlot}
-use Rattle.ilimage.specs.Images.{TaskLayout}
-use Rattle.ilimage.specs.RowSteps.{IsIndex, MaySlotsHave, AreStorable, layouts_of, lists_of, stored_slots, stored_by}
+use Rattle.ilimage.specs.Images.{TaskLayout, stored_slots}
+use Rattle.ilimage.specs.RowSteps.{IsIndex, MaySlotsHave, AreStorable, layouts_of, lists_of, stored_by}
 use Rattle.ilimage.proofs.Places.{there}
 use Rattle.ilimage.proofs.StoredSlots.{no_store, one_stored_more}
 use Rattle.ilimage.proofs.RowCommits.{storing, stores_read, task_within}

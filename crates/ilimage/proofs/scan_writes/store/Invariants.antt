@@ -1,8 +1,8 @@
 use Rattle.std.proofs.Common.{◌≡◌, Some, length, map, drop}
 use Rattle.std.specs.Prelude.{slice_get}
-use Rattle.ilimage.specs.Images.{TaskLayout}
+use Rattle.ilimage.specs.Images.{TaskLayout, stored_slots}
 use Rattle.ilimage.specs.TaskRows.{shown, AreReady}
-use Rattle.ilimage.specs.RowSteps.{layouts_of, stored_slots, stored_by}
+use Rattle.ilimage.specs.RowSteps.{layouts_of, stored_by}
 use Rattle.ilimage.proofs.scan_writes.store.Given as goal
 
 -- storing from the slots that are left makes of the globals what storing from all does

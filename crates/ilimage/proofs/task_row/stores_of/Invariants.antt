@@ -1,5 +1,5 @@
 use Rattle.std.proofs.Common.{◌≡◌, ◌++◌, drop}
-use Rattle.ilimage.specs.RowSteps.{stored_from, stored_slots}
+use Rattle.ilimage.specs.Images.{stored_from, stored_slots}
 use Rattle.ilimage.proofs.task_row.stores_of.Given as goal
 
 -- the slots so far, and then those of the globals that are left

@@ -10,7 +10,7 @@ use Rattle.ilverify.specs.Verdicts.{Accepted}
 use Rattle.ilimage.specs.declared.external.External.{External}
 use Rattle.ilimage.specs.ImageSteps.{slot_values}
 use Rattle.ilimage.specs.TaskRows.{task_row_of}
-use Rattle.ilimage.specs.RowSteps.{stored_slots}
+use Rattle.ilimage.specs.Images.{stored_slots}
 use Rattle.ilimage.proofs.Places.{typed_there, slots_typed}
 use Rattle.ilimage.proofs.task_row.TaskRow.of.Goals as goal
 
