@@ -77,7 +77,7 @@ BindsSome all = KeepSome binding_rules None IsBound all
 abbrev pub BindFault : Type 0
 BindFault = LineFault Wiring
 
--- what is reported of bytes: a binding, the line at fault, that they are too many, or, where a source or the attempts of
--- a bus are to be kept, that memory was refused
+-- what is reported of bytes: a binding, the line at fault, that they are too many, or, where a source or the attempts
+-- of a bus are to be kept, that memory was refused
 abbrev pub IsJudged : List ℕ → Result Wiring BindFault → Type 0
 IsJudged bytes result = IsReport (IsBinding bytes) (IsBadBinding bytes) (BindsSome (lines bytes)) bytes result
