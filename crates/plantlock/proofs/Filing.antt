@@ -6,6 +6,7 @@ use Rattle.std.proofs.lemmas.List.{get_or-set_same, get_or-set_other}
 use Rattle.std.specs.Prelude.{slice_index_or}
 use Rattle.std.specs.Sync.OnceLock.{Named}
 use Rattle.std.specs.declared.sync.OnceToken.{OnceToken}
+use Rattle.limits.specs.Limits.{most_seats}
 use Rattle.plantevents.specs.declared.role.Role.{Role}
 use Rattle.plantevents.specs.declared.event.Event.{Event}
 use Rattle.plantevents.specs.Parts.{Placed, placed, part, role_of, is_same_role}
@@ -151,8 +152,9 @@ keeps cells start p numbers after tokens r tied known has here others = record {
 
 -- what lies under the lock at the start
 pub starts : (cells : List Named) (start : Shown) (numbers : ℕ × ℕ → ℕ) (tokens : List (Option (OnceToken NotedPart)))
-    → start.limit ≤ length cells → length tokens ≡ 81 → ((k : ℕ) → k < 81 → slice_index_or tokens k None ≡ None)
-    → AreCounted start numbers 81
+    → start.limit ≤ length cells → length tokens ≡ most_seats
+    → ((k : ℕ) → k < most_seats → slice_index_or tokens k None ≡ None)
+    → AreCounted start numbers most_seats
     → AreTied cells start start numbers tokens
 starts cells start numbers tokens enough slots none numbered = record {
   same_plant = refl;

@@ -4,6 +4,7 @@ use Rattle.std.proofs.Common.{Ok, Err, true≢false, subst, arith}
 use Rattle.std.specs.Prelude.{Result, is_some, is_err, OnOk, if◌then◌else◌}
 use Rattle.std.specs.Sync.OnceLock.{Named}
 use Rattle.std.specs.declared.sync.OnceToken.{OnceToken}
+use Rattle.limits.specs.Limits.{most_events}
 use Rattle.plantevents.specs.declared.role.Role.{Role}
 use Rattle.plantevents.specs.declared.role.Role.TheVariants.{Worker, Bus, Clock}
 use Rattle.plantevents.specs.declared.event.Event.{Event}
@@ -41,9 +42,9 @@ place_below n p q e index kept is value most within =
     omega arith
 
 pub place_small : (p q : Shown) (e : Event) (index kept : ℕ) → q ≡ grown p e → index ≡ length p.history
-    → p.limit ≤ 1000000 → length q.history + kept ≤ q.limit → index < 4294967296
+    → p.limit ≤ most_events → length q.history + kept ≤ q.limit → index < 4294967296
 place_small p q e index kept is value most within =
-    let low : index < 1000000 = place_below 1000000 p q e index kept is value most within in omega arith
+    let low : index < most_events = place_below most_events p q e index kept is value most within in omega arith
 
 -- ---- the room for its receipt
 

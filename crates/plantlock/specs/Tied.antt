@@ -1,5 +1,6 @@
 -- What the lock knows of each role: the Share of the role knows the same.
 use Rattle.std.specs.Prelude.{◌≡◌, ℕ, ◌<◌, ◌≤◌, ⊤, List, ◌++◌, length, Option, None, slice_index_or}
+use Rattle.limits.specs.Limits.{most_seats}
 use Rattle.std.specs.Sync.OnceLock.{Named}
 use Rattle.std.specs.declared.sync.OnceToken.{OnceToken}
 use Rattle.plantevents.specs.declared.role.Role.{Role}
@@ -34,7 +35,7 @@ pub record AreTied (cells : List Named) (start p : Shown) (number : ℕ × ℕ �
   pub same_limit : p.limit ≡ start.limit
   pub front : IsFront start.history p.history
   pub enough : p.limit ≤ length cells
-  pub slots : length tokens ≡ 81
+  pub slots : length tokens ≡ most_seats
   pub each : (role : Role) → IsRole start.plant role → IsTied cells start p number tokens role
 
 -- a place can be kept back for the role: for no scan worker

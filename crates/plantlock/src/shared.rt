@@ -6,6 +6,8 @@ ghost use Rattle.plantevents.specs.declared.event.Event.TheVariants as event;
 ghost use Rattle.plantevents.specs.declared.role.Role.TheVariants as roles;
 ghost use Rattle.plantevents.specs.Legal.{AreLegal};
 ghost use Rattle.plantevents.specs.Parts.{shown_moment, shown_down};
+ghost use Rattle.plantevents.specs.Plants.{tries_of};
+ghost use Rattle.limits.specs.Limits.{AreTries, most_buses, most_seats, most_workers};
 ghost use Rattle.receipts.specs.Opened.{AreFreshShares, HaveAllParts};
 ghost use Rattle.receipts.specs.Receipts.{ShareParts, HasPart, HaveParts, IsNoted, IsReserved};
 ghost use Rattle.receipts.specs.Receipts.{IsSame, whole};
@@ -16,15 +18,13 @@ ghost use Rattle.plantlock.specs.Tied.{IsFront};
 use crate::tied::TiedPlant;
 use daliframe::Frame24;
 use ilmachine::ScanResult;
+use limits::MOST_SEATS;
 use plant::{CallError, CallRefusal, Handed, Order, Plant};
 use receipts::{Basis, NotedPart, Share, Shares};
 use seats::{Seated, Tallies};
 use std::alloc::{AllocError, Global};
 use std::sync::{Mutex, OnceLock, OnceToken, Wait};
 use transact::Report;
-
-/// The seats of all roles.
-const SEATS: usize = 81;
 
 /// The lock round the plant.
 pub struct Shared<'a, J: Basis, T: Seated, K: Tallies<T>> {
@@ -47,11 +47,11 @@ pub struct Final<'a, J: Basis, T: Seated> {
 
 /// For each seat that there is no newest cell.
 fn no_tokens<'a>(alloc: Global) -> Result<Vec<Option<OnceToken<'a, NotedPart>>>, AllocError>
-    ensures { IfOk result (λ v. (length v.items ≡ 81)
-        × ((k : ℕ) → k < 81 → slice_index_or v.items k None ≡ None)) }
+    ensures { IfOk result (λ v. (length v.items ≡ most_seats)
+        × ((k : ℕ) → k < most_seats → slice_index_or v.items k None ≡ None)) }
 {
     let mut tokens = Vec::new(alloc);
-    for _seat in 0..SEATS {
+    for _seat in 0..MOST_SEATS {
         tokens.push(None)?;
     }
     Ok(tokens)
@@ -89,7 +89,7 @@ fn meet_all<'a, J: Basis, T: Seated, K: Tallies<T>>(
 impl<'a, J: Basis, T: Seated, K: Tallies<T>> Shared<'a, J, T, K> {
     /// The plant under a lock, and the Share of each role. The cells are as many as the plant's
     /// limit at least; whoever lends them makes them new, since a call waits without end where its
-    /// cell was written before. The books and the ties are those of all 81 seats, none with an
+    /// cell was written before. The books and the ties are those of all seats, none with an
     /// amount.
     ///
     /// # Errors
@@ -105,8 +105,8 @@ impl<'a, J: Basis, T: Seated, K: Tallies<T>> Shared<'a, J, T, K> {
         requires start { plant ≡ J.start }
         requires cells { cells.now ≡ J.cells }
         requires enough { J.start.limit ≤ length J.cells }
-        requires workers { J.start.plant.workers ≤ 16 }
-        requires buses { J.start.plant.plan.buses ≤ 64 }
+        requires workers { J.start.plant.workers ≤ most_workers }
+        requires buses { J.start.plant.plan.buses ≤ most_buses }
         requires unused { AreUnused T.seat T.amount 0 ties.items }
         ensures fresh { IfOk result (λ made. AreFreshShares J.start made.1) }
         ensures err { IfErr result (λ back. back ≡ plant) }
@@ -238,7 +238,18 @@ impl<'a, J: Basis, T: Seated, K: Tallies<T>> Shared<'a, J, T, K> {
         self.tied.lock(rt).hand(rt, share, bus)
     }
 
-    /// Notes the report of a transaction. That of the one that the Share shows open is not refused.
+    /// The attempts that a bus has for a transaction, 1 to 5.
+    pub fn tries<R: Wait>(&self, rt: &R, share: &mut Share<'a, J, T>, bus: u8) -> u8
+        requires role { share.old.role ≡ roles.Bus bus }
+        ensures value { result ≡ tries_of J.start.plant bus }
+        ensures range { AreTries result }
+        ensures same { share.new ≡ share.old }
+    {
+        self.tied.lock(rt).tries(share, bus)
+    }
+
+    /// Notes the report of a transaction. That of the one that the Share shows open is not refused,
+    /// if it was made for the attempts of the bus.
     pub fn done<R: Wait>(
         &self,
         rt: &R,
@@ -252,7 +263,7 @@ impl<'a, J: Basis, T: Seated, K: Tallies<T>> Shared<'a, J, T, K> {
             ((n : ℕ) × IsNoted n (event.Done bus number report) share.old share.new) }
         ensures err { IfErr result (λ back. (share.new ≡ share.old) × (back ≡ report)) }
         ensures open { ShowsTransaction (whole share.old) number report.transaction
-            → IsOk result }
+            → report.tries ≡ tries_of J.start.plant bus → IsOk result }
     {
         self.tied.lock(rt).done(rt, share, bus, number, report)
     }

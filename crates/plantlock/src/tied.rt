@@ -2,6 +2,7 @@
 
 ghost use Rattle.std.specs.Prelude.{◌≡◌, ℕ, ◌<◌, ◌≤◌, None, true, false, OnOk, OnErr, IfErr, IsOk};
 ghost use Rattle.std.specs.Prelude.{length, slice_index_or};
+ghost use Rattle.limits.specs.Limits.{most_seats};
 ghost use Rattle.plantevents.specs.declared.event.Event.TheVariants as event;
 ghost use Rattle.plantevents.specs.declared.role.Role.TheVariants as roles;
 ghost use Rattle.plantevents.specs.Legal.{AreLegal};
@@ -60,9 +61,9 @@ impl<'a, J: Basis, T: Seated, K: Tallies<T>> TiedPlant<'a, J, T, K> {
         requires start { plant ≡ J.start }
         requires cells { cells.now ≡ J.cells }
         requires enough { J.start.limit ≤ length J.cells }
-        requires numbers { AreCounted J.start (K.number numbers) 81 }
-        requires newest { (length newest.items ≡ 81)
-            × ((k : ℕ) → k < 81 → slice_index_or newest.items k None ≡ None) }
+        requires numbers { AreCounted J.start (K.number numbers) most_seats }
+        requires newest { (length newest.items ≡ most_seats)
+            × ((k : ℕ) → k < most_seats → slice_index_or newest.items k None ≡ None) }
         ensures { result ≡ J.start }
     {
         TiedPlant {

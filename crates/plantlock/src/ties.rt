@@ -5,10 +5,12 @@ ghost use Rattle.plantevents.specs.Plants.{Plant as Made};
 ghost use Rattle.plantevents.specs.Parts.{part, placed, role_of};
 ghost use Rattle.plantevents.specs.declared.role.Role.{Role as RoleOf};
 ghost use Rattle.plant.specs.Shown.{Shown, grown, reserving, is_reserved};
+ghost use Rattle.limits.specs.Limits.{most_seats};
 ghost use Rattle.receipts.specs.Receipts.{IsNoted, IsReserved, IsRole, index_of};
 ghost use Rattle.receipts.specs.Receipts.{needs, whole, reserved_after};
 ghost use Rattle.plantlock.specs.Tied.{AreTied, HasPlace};
 
+use limits::{MOST_SEATS, MOST_WORKERS};
 use plantevents::{Event, Role};
 use receipts::{Basis, NotedPart, Share};
 use seats::{Seated, Tallies};
@@ -25,16 +27,16 @@ pub(crate) struct Ties<'a, J: Basis, T: Seated, K: Tallies<T>> {
     pub basis: PhantomData<(J, T)>,
 }
 
-/// Where a role stands among the 81 that have a seat.
+/// Where a role stands among those that have a seat: scan workers, buses, the clock.
 fn index_of(role: Role) -> usize
     requires { (p : Made) × IsRole p role }
     ensures value { result ≡ index_of role }
-    ensures below { result < 81 }
+    ensures below { result < most_seats }
 {
     match role {
         Role::Worker(worker) => worker,
-        Role::Bus(bus) => 16 + usize::from(bus),
-        Role::Clock => 80,
+        Role::Bus(bus) => MOST_WORKERS + usize::from(bus),
+        Role::Clock => MOST_SEATS - 1,
     }
 }
 

@@ -5,7 +5,9 @@ ghost use Rattle.plantevents.specs.declared.event.Event.TheVariants as event;
 ghost use Rattle.plantevents.specs.declared.role.Role.TheVariants as roles;
 ghost use Rattle.plantevents.specs.Histories.{is_down};
 ghost use Rattle.plantevents.specs.Parts.{shown_down};
-ghost use Rattle.plant.specs.Matches.{IsOpenTransaction};
+ghost use Rattle.plantevents.specs.Plants.{tries_of};
+ghost use Rattle.limits.specs.Limits.{AreTries};
+ghost use Rattle.plant.specs.Matches.{IsReportOf};
 ghost use Rattle.plant.specs.Refusals.{GivesFirst, hand_cases, down_cases};
 ghost use Rattle.plant.specs.Shown.{grown};
 ghost use Rattle.receipts.specs.Receipts.{IsNoted, IsSame, whole};
@@ -90,7 +92,19 @@ impl<'a, J: Basis, T: Seated, K: Tallies<T>> TiedPlant<'a, J, T, K> {
         Ok(handed)
     }
 
-    /// Notes the report of a transaction. That of the one that the Share shows open is not refused.
+    /// The attempts that a bus has for a transaction.
+    pub fn tries(&mut self, share: &mut Share<'a, J, T>, bus: u8) -> u8
+        requires role { share.old.role ≡ roles.Bus bus }
+        ensures value { result ≡ tries_of J.start.plant bus }
+        ensures range { AreTries result }
+        ensures same { (self.new ≡ self.old) × (share.new ≡ share.old) }
+    {
+        self.ties.meet(share);
+        self.plant.tries(bus)
+    }
+
+    /// Notes the report of a transaction. That of the one that the Share shows open is not refused,
+    /// if it was made for the attempts of the bus.
     pub fn done<R: Wait>(
         &mut self,
         rt: &R,
@@ -103,12 +117,11 @@ impl<'a, J: Basis, T: Seated, K: Tallies<T>> TiedPlant<'a, J, T, K> {
         ensures event { OnOk result (self.new ≡ grown self.old (event.Done bus number report)) }
         ensures noted { OnOk result (IsNoted (length self.old.history)
             (event.Done bus number report) share.old share.new) }
-        ensures stranger { OnErr result
-            (¬ IsOpenTransaction self.old bus number report.transaction) }
+        ensures stranger { OnErr result (¬ IsReportOf self.old bus number report) }
         ensures err { IfErr result (λ back. (self.new ≡ self.old) × (share.new ≡ share.old)
             × (back ≡ report)) }
         ensures open { ShowsTransaction (whole share.old) number report.transaction
-            → IsOk result }
+            → report.tries ≡ tries_of J.start.plant bus → IsOk result }
     {
         what_a_part_shows();
         self.ties.meet(share);

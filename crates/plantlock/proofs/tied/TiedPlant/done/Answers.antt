@@ -3,7 +3,8 @@ use Rattle.transact.specs.Attempts.{ReportParts}
 use Rattle.plantevents.specs.declared.event.Event.{Event}
 use Rattle.plantevents.specs.declared.event.Event.TheVariants.{Done}
 use Rattle.plantevents.specs.Parts.{placed}
-use Rattle.plant.specs.Matches.{IsOpenTransaction}
+use Rattle.plantevents.specs.Plants.{Plant, tries_of}
+use Rattle.plant.specs.Matches.{IsReportOf}
 use Rattle.plant.specs.Shown.{Shown, grown}
 use Rattle.receipts.specs.Receipts.{ShareParts, needs, whole}
 use Rattle.plantlock.proofs.Ending.{hand_shown, transaction_open, room_of_done}
@@ -29,14 +30,17 @@ returns-in-Err g c =
     record {
       event = tt;
       noted = tt;
-      stranger = subst (λ (q : Shown). IsOpenTransaction q c.args.bus c.args.number c.args.report.transaction → ⊥)
+      stranger = subst (λ (q : Shown). IsReportOf q c.args.bus c.args.number c.args.report → ⊥)
           c.self.view_is c.in-Err.ensures.stranger;
       err = (c.in-Err.ensures.err.0 ∙ c.self.view_is, c.meet.ensures.same, c.in-Err.ensures.err.1);
-      «open» = λ shows. absurd (c.in-Err.ensures.stranger (transaction_open p (whole share) c.args.bus
-          c.args.number c.args.report.transaction
-          (bus_known g.J.Basis.start p _ c.args.bus c.requires.role c.meet.ensures.known c.self.invariant.1.same_plant)
-          (hand_shown p share c.args.bus c.requires.role (c.meet.ensures.agree p c.self.invariant.1).0
-          (c.what_a_part_shows.ensures.hand c.args.bus p.history)) shows));
+      «open» = λ shows tries. absurd (c.in-Err.ensures.stranger (record {
+        is_open = transaction_open p (whole share) c.args.bus c.args.number c.args.report.transaction
+            (bus_known g.J.Basis.start p _ c.args.bus c.requires.role c.meet.ensures.known
+            c.self.invariant.1.same_plant)
+            (hand_shown p share c.args.bus c.requires.role (c.meet.ensures.agree p c.self.invariant.1).0
+            (c.what_a_part_shows.ensures.hand c.args.bus p.history)) shows;
+        tries = tries ∙ ap (λ (x : Plant). tries_of x c.args.bus) (sym c.self.invariant.1.same_plant);
+      }));
     }
 
 pub file-requires : goal.file-requires
@@ -66,7 +70,7 @@ file-requires g c =
           (room_of_done p share index c.args.bus _ c.args.number c.args.report.transaction _ c.requires.role
           (hand_shown p share c.args.bus c.requires.role (c.meet.ensures.agree p c.self.invariant.1).0
           (c.what_a_part_shows.ensures.hand c.args.bus p.history))
-          c.in-Ok.ensures.open c.meet.ensures.enough);
+          c.in-Ok.ensures.open.is_open c.meet.ensures.enough);
     }
 
 pub invariant_of-self-2 : goal.invariant_of-self-2
@@ -97,5 +101,5 @@ returns g c =
           (c.len-index.ensures.value ∙ ap (λ (q : Shown). length q.history) c.self.view_is) noted c.file.ensures.noted);
       stranger = tt;
       err = tt;
-      «open» = λ _. refl;
+      «open» = λ _ _. refl;
     }
