@@ -67,8 +67,9 @@ fn send_once<'a, B: Bus, J: Basis + Links, T: Seated, K: Tallies<T>, G: Gate, R:
 {
     served.line.room(MOST_SENT)?;
     let handed = shared.hand(rt, &mut served.share, bus)?;
+    let tries = shared.tries(rt, &mut served.share, bus);
     gate.before_transaction(bus);
-    let Ok(report) = perform(&mut served.line, &handed.transaction) else {
+    let Ok(report) = perform(&mut served.line, &handed.transaction, tries) else {
         unreachable!()
     };
     let outcome = report.outcome();

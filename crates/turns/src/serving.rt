@@ -4,7 +4,7 @@ ghost use Rattle.std.specs.Prelude.{◌≡◌, ◌≢◌, ◌<◌, IfErr};
 ghost use Rattle.transact.specs.declared.marks.Outcome.TheVariants as outcomes;
 ghost use Rattle.plantevents.specs.declared.event.Event.TheVariants.{Done, Down};
 ghost use Rattle.plantevents.specs.Legal.{IsUp};
-ghost use Rattle.plant.specs.Matches.{IsOpenTransaction};
+ghost use Rattle.plant.specs.Matches.{IsReportOf};
 ghost use Rattle.plant.specs.Shown.{grown};
 ghost use Rattle.turns.specs.Finishing.{CannotGoOn, HasNoFrame, HasNoHandout};
 ghost use Rattle.turns.specs.FinishSteps.{IsBusStep, IsIdleOr, Tells};
@@ -15,10 +15,10 @@ use buslink::{Bus, perform};
 use plant::{CallError, CallRefusal, Plant};
 use transact::{MOST_SENT, Outcome, Report};
 
-/// Notes the report of the transaction that a bus has open. Where the interface failed, the bus goes
-/// down.
+/// Notes the report of the transaction that a bus has open, by the attempts of the bus. Where the
+/// interface failed, the bus goes down.
 fn note_report(plant: &mut Plant, bus: u8, number: u64, report: Report)
-    requires open { IsOpenTransaction plant.old bus number report.transaction }
+    requires open { IsReportOf plant.old bus number report }
     requires up { IsUp plant.old.plant plant.old.history bus }
     ensures fine { report.outcome ≢ outcomes.Failed
         → plant.new ≡ grown plant.old (Done bus number report) }
@@ -65,8 +65,9 @@ pub(crate) fn send_next<B: Bus, G: Gate>(
         Ok(handed) => handed,
         Err(refusal) => return idle_where_refused(refusal),
     };
+    let tries = plant.tries(bus);
     gate.before_transaction(bus);
-    let Ok(report) = perform(line, &handed.transaction) else {
+    let Ok(report) = perform(line, &handed.transaction, tries) else {
         unreachable!()
     };
     note_report(plant, bus, handed.number, report);

@@ -1,15 +1,24 @@
-use Rattle.std.proofs.Common.{true≢false, sym}
+use Rattle.std.proofs.Common.{◌∙◌, true≢false, sym}
 use Rattle.turns.proofs.Handed.{after_room, hand_is_open, longer_by_reports, step_idle, up_when_handed}
 use Rattle.turns.proofs.Refused.{idle_stops, idle_tells}
 use Rattle.turns.proofs.BusSteps.{step_reported}
 use Rattle.turns.proofs.serving.send_next.Goals as goal
 
+pub tries-tries-requires : goal.tries-tries-requires
+tries-tries-requires g c =
+    let handed = c.in-Ok.handed in
+    (up_when_handed c.args.plant.now c.hand.new.self c.args.bus handed.origin handed.transaction c.in-Ok.ensures.grown
+    c.in-Ok.ensures.next.up).known
+
 pub note_report-requires-clause-open : goal.note_report-requires-clause-open
 note_report-requires-clause-open g c =
     let handed = c.in-Ok.handed in
-    hand_is_open c.args.plant.now c.hand.new.self c.args.bus handed.number handed.origin handed.transaction
-    c.in-Ok-perform.report.transaction c.requires.known c.in-Ok.ensures.grown c.in-Ok.ensures.number
-    c.in-Ok-perform.ensures.report.0
+    record {
+      is_open = hand_is_open c.args.plant.now c.hand.new.self c.args.bus handed.number handed.origin
+          handed.transaction c.in-Ok-perform.report.transaction c.requires.known c.in-Ok.ensures.grown
+          c.in-Ok.ensures.number c.in-Ok-perform.ensures.report.0;
+      tries = c.in-Ok-perform.ensures.tries ∙ c.tries-tries.ensures.value;
+    }
 
 pub note_report-requires-clause-up : goal.note_report-requires-clause-up
 note_report-requires-clause-up g c =
