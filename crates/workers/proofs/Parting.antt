@@ -5,6 +5,7 @@ use Rattle.std.proofs.lemmas.List.{append-nil}
 use Rattle.std.proofs.lemmas.Option.{get_or_from_slice_get, slice_get-map, slice_get_within}
 use Rattle.std.specs.List.{range_with_len}
 use Rattle.std.specs.Prelude.{map, option_map, slice_get, Some}
+use Rattle.limits.specs.Limits.{most_seats}
 use Rattle.transact.specs.declared.marks.Sent.{Sent}
 use Rattle.plantevents.specs.declared.event.Event.{Event}
 use Rattle.plantevents.specs.declared.role.Role.{Role}
@@ -153,10 +154,10 @@ unused_from a (suc n) (suc k) t at =
     let there : a + 1 + k ≡ a + suc k = omega arith in
     subst (λ m. (t.seat ≡ seat_at m) × (t.amount ≡ 0)) there (unused_from (a + 1) n k t at)
 
-pub all_unused : (ties : List Seating) → ties ≡ map fresh (range_with_len 0 81)
+pub all_unused : (ties : List Seating) → ties ≡ map fresh (range_with_len 0 most_seats)
     → AreUnused (λ (t : Seating). t.seat) (λ (t : Seating). t.amount) 0 ties
 all_unused ties is = record {
   count = let long = ap length is in omega (arith, long);
   each = subst (λ (xs : List Seating). Each (λ k (t : Seating). (t.seat ≡ seat_at k) × (t.amount ≡ 0)) 0 xs) (sym is)
-      (unused_from 0 81);
+      (unused_from 0 most_seats);
 }

@@ -1,5 +1,6 @@
 -- All workers that were started.
 use Rattle.std.specs.Prelude.{◌≡◌, ℕ, ◌≤◌, List, [], vec_len, vec_capacity}
+use Rattle.limits.specs.Limits.{most_buses}
 use Rattle.buslink.specs.BusLog.{BusLog}
 use Rattle.buslink.specs.ClockLog.{ClockLog}
 use Rattle.receipts.specs.Each.{Each}
@@ -29,5 +30,5 @@ pub record HasRooms {B J T : Type 0} (buses workers : ℕ) (rooms : Rooms B J T)
 pub record IsCrew {B C J T K G : Type 0} (logs : List BusLog) (first : ClockLog) (bus_log : B → BusLog)
     (clock_log : C → ClockLog) (crew : Crew B C J T K G) : Type 0 where
   pub team : IsTeam logs first bus_log clock_log crew.team
-  pub few : vec_len crew.team.buses ≤ 64
+  pub few : vec_len crew.team.buses ≤ most_buses
   pub rooms : HasRooms (vec_len crew.team.buses) (vec_len crew.team.workers) crew.rooms

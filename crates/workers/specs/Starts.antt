@@ -4,7 +4,7 @@ use Rattle.limits.specs.Limits.{most_events}
 use Rattle.ilcompile.specs.Loaded.{Loaded}
 use Rattle.plant.specs.declared.open_fault.OpenFault.{OpenFault}
 use Rattle.plant.specs.declared.open_fault.OpenFault.TheVariants.{Memory, BadCount, Limit}
-use Rattle.plant.specs.Shown.{IsWorkerCount, IsLimit}
+use Rattle.plant.specs.Shown.{IsWorkerCount, IsLimitOf}
 
 -- a number of scan workers that a plant may have, and a bus for each of the plan
 abbrev pub AreCounts : Loaded → ℕ → ℕ → Type 0
@@ -13,8 +13,8 @@ AreCounts setup workers buses = IsWorkerCount workers × (buses ≡ setup.plan.b
 -- why a run doesn't start: the counts before the limit; else the allocator may be out of memory
 abbrev pub IsStartFault : Loaded → ℕ → ℕ → ℕ → OpenFault → Type 0
 IsStartFault setup workers buses limit BadCount = ¬ AreCounts setup workers buses
-IsStartFault setup workers buses limit Limit = AreCounts setup workers buses × (¬ IsLimit limit)
-IsStartFault setup workers buses limit Memory = AreCounts setup workers buses × IsLimit limit
+IsStartFault setup workers buses limit Limit = AreCounts setup workers buses × (¬ IsLimitOf setup.plan.buses limit)
+IsStartFault setup workers buses limit Memory = AreCounts setup workers buses × IsLimitOf setup.plan.buses limit
 
 -- a limit with which a run may go on that had this one
 abbrev pub IsNextLimit : ℕ → ℕ → Type 0

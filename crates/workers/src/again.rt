@@ -1,6 +1,7 @@
 //! A run that goes on from what another one left.
 
 ghost use Rattle.std.specs.Prelude.{◌≡◌, ◌+◌, ◌≤◌, List, true, length, map, vec_len, IfOk, IfErr};
+ghost use Rattle.limits.specs.Limits.{most_events};
 ghost use Rattle.buslink.specs.BusLog.{BusLog};
 ghost use Rattle.buslink.specs.ClockLog.{ClockLog};
 ghost use Rattle.plantevents.specs.Plants.{Plant as Planted};
@@ -31,7 +32,7 @@ use turns::Gate;
 fn as_before<B: Bus, C: Clock>(refused: NotBegun<B, C>, limit: u64, ended: Ended) -> Closed<B, C>
     requires idle { HasNothingOpen refused.plant }
     requires room { length refused.plant.history + kept refused.plant ≤ limit }
-    requires most { limit ≤ 1000000 }
+    requires most { limit ≤ most_events }
     ensures plant { result.plant ≡ record refused.plant { limit = limit } }
     ensures links { (result.buses ≡ refused.lines) × (result.clock ≡ refused.clock) }
     ensures ended { result.ended ≡ ended }

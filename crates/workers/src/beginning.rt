@@ -4,6 +4,7 @@ ghost use Rattle.std.specs.Prelude.{◌≡◌, ◌≤◌, [], length, map, vec_l
 ghost use Rattle.turns.specs.Open.{HasNothingOpen};
 ghost use Rattle.plant.specs.Shown.{IsWorkerCount};
 ghost use Rattle.std.specs.List.{range_with_len};
+ghost use Rattle.limits.specs.Limits.{most_buses, most_seats};
 ghost use Rattle.seats.specs.Openings.{fresh};
 ghost use Rattle.workers.specs.Beginnings.{IsBegun, IsInStep};
 ghost use Rattle.workers.specs.Crews.{HasRooms};
@@ -68,9 +69,9 @@ fn furnish<'a, B: Bus, J: Basis + Links, N: Names>(
     ensures rooms { IfOk result (λ made. HasRooms buses workers made.rooms) }
     ensures served { IfOk result
         (λ made. (made.served.items ≡ []) × (buses ≤ vec_capacity made.served)) }
-    ensures ties { IfOk result (λ made. made.ties.items ≡ map fresh (range_with_len 0 81)) }
+    ensures ties { IfOk result (λ made. made.ties.items ≡ map fresh (range_with_len 0 most_seats)) }
 {
-    // (first, so that nothing but the call lets go of the 81 blanks)
+    // (first, so that nothing but the call lets go of the blanks)
     let (books, ties) = blanks.open::<N>(alloc)?;
     let rooms = Rooms::new(alloc, buses, workers)?;
     let served = room_for(alloc, buses)?;
@@ -102,7 +103,7 @@ pub(crate) fn begin<'a, B: Bus, C: Clock, J: Basis + Links, N: Names>(
     requires names { blanks ≡ N.names }
     requires links { IsInStep J.start J.buses J.clock B.log C.log lines.items clock }
     requires workers { IsWorkerCount J.start.plant.workers }
-    requires buses { (vec_len lines ≡ J.start.plant.plan.buses) × (vec_len lines ≤ 64) }
+    requires buses { (vec_len lines ≡ J.start.plant.plan.buses) × (vec_len lines ≤ most_buses) }
     ensures begun { IfOk result (IsBegun J.start.plant J.buses J.clock B.log C.log) }
     ensures err { IfErr result (λ e. (e.plant ≡ plant) × (e.lines ≡ lines) × (e.clock ≡ clock)) }
 {

@@ -1,6 +1,7 @@
 //! All workers at once: one thread for each bus and each scan worker.
 
 ghost use Rattle.std.specs.Prelude.{◌≡◌, ◌+◌, ◌<◌, ◌≤◌, [], length, vec_len, vec_capacity};
+ghost use Rattle.limits.specs.Limits.{most_buses};
 ghost use Rattle.workers.specs.Crews.{AreStartedBuses, AreStartedScans};
 ghost use Rattle.workers.specs.Teams.{AreServed, AreWorkers};
 
@@ -52,7 +53,7 @@ where
     T: 't,
     K: 't,
     G: 't,
-    requires few { vec_len buses.old ≤ 64 }
+    requires few { vec_len buses.old ≤ most_buses }
     requires none { started.old.items ≡ [] }
     requires room { vec_len buses.old ≤ vec_capacity started.old }
     requires served { AreServed J.buses B.log 0 buses.old.items }

@@ -1,8 +1,9 @@
 //! A run, from the plant's opening to its close.
 
 ghost use Rattle.std.specs.Prelude.{◌≡◌, ◌≤◌, true, length, map, vec_len, IfOk, IfErr, OnOk};
+ghost use Rattle.limits.specs.Limits.{most_buses};
 ghost use Rattle.plant.specs.declared.open_fault.OpenFault.TheVariants.{Memory};
-ghost use Rattle.plant.specs.Shown.{IsWorkerCount, IsLimit, is_full, plant_of};
+ghost use Rattle.plant.specs.Shown.{IsWorkerCount, IsLimit, IsRoomy, is_full, plant_of};
 ghost use Rattle.plantlock.specs.Tied.{IsFront};
 ghost use Rattle.turns.specs.Logs.{HasEnded};
 ghost use Rattle.turns.specs.Finishing.{IsQuiet};
@@ -75,7 +76,7 @@ pub(crate) fn run_named<
     requires names { blanks ≡ N.names }
     requires links { IsInStep J.start J.buses J.clock B.log C.log lines.items clock }
     requires workers { IsWorkerCount J.start.plant.workers }
-    requires buses { (vec_len lines ≡ J.start.plant.plan.buses) × (vec_len lines ≤ 64) }
+    requires buses { (vec_len lines ≡ J.start.plant.plan.buses) × (vec_len lines ≤ most_buses) }
     ensures closed { IfOk result (IsClosed J.start.plant J.buses J.clock B.log C.log) }
     ensures left { IfOk result (λ c. c.ended ≡ Asked
         → IsQuiet c.plant J.buses (map B.log c.buses.items)) }
@@ -124,16 +125,18 @@ fn not_started<B: Bus, C: Clock>(refused: NotBegun<B, C>) -> NotStarted<B, C>
 }
 
 /// Runs a plant over its buses and its clock, in a thread for each scan worker and each bus, until
-/// the clock gives no moment more, the history is full, or memory or threads are wanting. Then
+/// the clock gives no moment more, the history is full, or memory or a thread is refused. Then
 /// nothing is open: the history is legal, and what went over each link since the start is what the
-/// history says. After the clock's end, what is left to be done is done here. Where the run ended so,
-/// the clock was asked in it, and each bus that isn't down was asked to hear. Where the history is
-/// full, its length and the places that are kept leave none for an event and the one that it keeps.
+/// history says. After the clock's end, what is left to be done is done here. Where the run ended
+/// so, the clock was asked in it, and each bus that isn't down was asked to hear. Where the history
+/// is full, its length and the places that are kept leave none for an event and the one that it
+/// keeps.
 ///
 /// # Errors
 ///
 /// There are not 1 to 16 scan workers, or not as many buses as the plan has; else the limit is not
-/// 100 to 1,000,000; else the allocator is out of memory. Nothing was sent, heard or asked.
+/// 100 to 1,000,000, or below 500 with more than 16 buses; else the allocator is out of memory.
+/// Nothing was sent, heard or asked.
 pub fn run<B: Bus + Send, C: Clock + Send, G: Gate, R: Threads + Wait + Timer + Sync>(
     rt: &R,
     alloc: Global,
@@ -154,6 +157,7 @@ pub fn run<B: Bus + Send, C: Clock + Send, G: Gate, R: Threads + Wait + Timer + 
     ensures count { IfOk result (λ c. length c.buses.items ≡ vec_len buses) }
     ensures counts { OnOk result (AreCounts opening.setup workers (vec_len buses)) }
     ensures limit { OnOk result (IsLimit opening.limit) }
+    ensures roomy { OnOk result (IsRoomy opening.setup.plan.buses opening.limit) }
     ensures fault { IfErr result
         (λ e. IsStartFault opening.setup workers (vec_len buses) opening.limit e.fault) }
     ensures err { IfErr result (λ e. (e.buses.items ≡ buses.items) × (e.clock ≡ clock)) }

@@ -1,5 +1,7 @@
-use Rattle.std.proofs.Common.{ap}
+use Rattle.std.proofs.Common.{◌≡◌, rules, ap, sym, subst, vec_len}
+use Rattle.plant.specs.declared.open_fault.OpenFault.{OpenFault}
 use Rattle.plant.specs.Shown.{Shown}
+use Rattle.workers.specs.Starts.{IsStartFault}
 use Rattle.workers.proofs.Parting.{in_step_at_first}
 use Rattle.workers.proofs.running.run.Goals as goal
 
@@ -7,3 +9,10 @@ pub run_named-run-requires-clause-links : goal.run_named-run-requires-clause-lin
 run_named-run-requires-clause-links g c κs within =
     in_step_at_first c.in-Ok.plant g.B.Bus.log g.C.Clock.log c.args.buses.items c.args.clock
     (ap (λ (p : Shown). p.history) c.in-Ok.ensures.opened)
+
+pub returns-clause-fault : goal.returns-clause-fault
+returns-clause-fault g c =
+    let setup = c.args.opening.setup in let limit = c.args.opening.limit in let opened = c.in-Ok.ensures in
+    let counted : vec_len c.args.buses ≡ setup.plan.buses = search rules in
+    subst (λ (fault : OpenFault). IsStartFault setup c.args.workers (vec_len c.args.buses) limit fault)
+    (sym c.not_started.ensures.fault) ((opened.workers, counted), (opened.limit, opened.roomy))
