@@ -1,6 +1,8 @@
 -- What is kept of the global variables that are located at levels.
 use Rattle.std.specs.Prelude.{◌≡◌, ℕ, ◌<◌, ◌==◌, ◌&&◌, Bool, false, List, [], length, slice_index_or}
-use Rattle.std.specs.Prelude.{Option, Some, None, option_map}
+use Rattle.std.specs.Prelude.{Option, Some, None, option_map, option_and_then, slice_get}
+use Rattle.ilplan.specs.declared.global.Location.{Location}
+use Rattle.ilplan.specs.declared.global.Location.TheVariants.{Level}
 use Rattle.ilplan.specs.Plans.{Planned}
 use Rattle.ilimage.specs.declared.external.External.{External}
 use Rattle.plantevents.specs.Plants.{Plant, output_at, storing_kind}
@@ -9,6 +11,22 @@ use Rattle.plantbuses.specs.declared.outputs.LevelOutput.{LevelOutput}
 -- a plant of the plan: what is located where does not hang on the codes and the workers
 abbrev pub planned : Planned → Plant
 planned plan = record { plan = plan; codes = []; workers = 0 }
+
+-- ---- the level at which a variable is located
+
+abbrev pub place_in : Option Location → Option (ℕ × ℕ)
+place_in (Some (Level bus address)) = Some (bus, address)
+place_in _ = None
+
+-- the bus and the address of the level at which the global variable of this number is located
+abbrev pub level_of : Planned → ℕ → Option (ℕ × ℕ)
+level_of plan global = place_in (option_and_then (λ g. g.location) (slice_get plan.globals global))
+
+abbrev pub is_at : ℕ → ℕ → Option (ℕ × ℕ) → Bool
+is_at b a (Some place) = place.0 == b && place.1 == a
+is_at b a None = false
+
+-- ---- what is located at levels
 
 -- a slot of the global variable, which a program of its task stores to
 abbrev pub is_store_of : ℕ → External → Bool

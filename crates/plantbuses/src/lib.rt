@@ -16,6 +16,7 @@
 mod address_set;
 mod answers;
 mod bus;
+mod levels;
 mod next;
 mod offers;
 mod outputs;
