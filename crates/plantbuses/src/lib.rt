@@ -23,6 +23,7 @@ mod outputs;
 mod owed;
 mod running;
 mod stores;
+mod storing;
 
 pub use answers::answer_to;
 pub use bus::{
