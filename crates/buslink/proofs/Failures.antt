@@ -1,5 +1,5 @@
 -- A report holds a frame that failed only where its transaction failed.
-use Rattle.std.proofs.Common.{◌≡◌, ℕ, zero, suc, List, [], ◌∷◌, length, sym, ◌∙◌, ap, arith}
+use Rattle.std.proofs.Common.{◌≡◌, ℕ, zero, suc, ◌-◌, List, [], ◌∷◌, length, sym, ◌∙◌, ap, arith}
 use Rattle.std.specs.Prelude.{All}
 use Rattle.std.proofs.lemmas.List.Elements.{All-append, All-cons}
 use Rattle.daliframe.specs.declared.forward.Frame.{Frame}
@@ -8,7 +8,7 @@ use Rattle.transact.specs.declared.marks.Mark.TheVariants.{Lost, Failed}
 use Rattle.transact.specs.declared.marks.Sent.{Sent}
 use Rattle.gearcmd.specs.FrameLists.{FrameList}
 use Rattle.transact.specs.Marks.{outcome_of}
-use Rattle.transact.specs.Attempts.{most_retries, Attempt, IsAttempt, IsReport, ReportParts, Spells, marks_of}
+use Rattle.transact.specs.Attempts.{Attempt, IsAttempt, IsReport, ReportParts, Spells, marks_of}
 use Rattle.transact.specs.Attempts.{sent_with, all_sent, last_mark}
 use Rattle.buslink.specs.BusLog.{BusLog, one_more_failure}
 use Rattle.buslink.specs.Performing.{failures_after, after_report}
@@ -50,11 +50,11 @@ in_report list (suc retries) (a ∷ b ∷ more) Q h last =
     apart : a.last ≡ Lost → a.last ≡ Failed → ⊥
     apart lost failed = let e : Lost ≡ Failed = sym lost ∙ failed in cc
 
-pub failed_where_risen : (list : FrameList) (marks : List Mark) (r : ReportParts) (old new : BusLog)
-    → Spells list marks r → new ≡ after_report r new.spare old
+pub failed_where_risen : (list : FrameList) (most : ℕ) (marks : List Mark) (r : ReportParts) (old new : BusLog)
+    → Spells list most marks r → new ≡ after_report r new.spare old
     → All (λ (s : Sent). s.mark ≡ Failed → new.failures ≡ one_more_failure old.failures) r.attempts
-failed_where_risen list marks r old new s told =
+failed_where_risen list most marks r old new s told =
     let risen : last_mark s.attempts ≡ Failed → new.failures ≡ one_more_failure old.failures = λ failed.
     ap (λ (log : BusLog). log.failures) told ∙ ap (λ o. failures_after o old.failures)
     (s.outcome ∙ ap outcome_of failed) in
-    rw s.sent (in_report list most_retries s.attempts (new.failures ≡ one_more_failure old.failures) s.legal risen)
+    rw s.sent (in_report list (most - 1) s.attempts (new.failures ≡ one_more_failure old.failures) s.legal risen)

@@ -12,7 +12,7 @@ use Rattle.transact.specs.declared.marks.Reply.TheVariants as reply
 use Rattle.transact.specs.declared.marks.Sent.{Sent}
 use Rattle.transact.specs.Marks.{IsBroken, outcome_of}
 use Rattle.gearcmd.specs.FrameLists.{FrameList}
-use Rattle.transact.specs.Attempts.{most_retries, Attempt, IsAttempt, IsReport, ReportParts, Spells, marks_of}
+use Rattle.transact.specs.Attempts.{Attempt, IsAttempt, IsReport, ReportParts, Spells, marks_of}
 use Rattle.transact.specs.Attempts.{all_marks, sent_with, all_sent, last_mark}
 use Rattle.buslink.specs.declared.faults.Fault.{Fault}
 use Rattle.buslink.specs.BusLog.{BusLog, mark_of_send, after_send, with_spare}
@@ -228,25 +228,27 @@ record IsReported (list : FrameList) (r : ReportParts) (start new : BusLog) : Ty
         failures_after r.outcome start.failures;
   }
 
--- the marks spell one report
-abbrev pub SpellOne : FrameList → List Mark → Type 0
-SpellOne list marks = (a b : ReportParts) → Spells list marks a → Spells list marks b → a ≡ b
+-- the marks spell one report, where the bus is given at most so many attempts
+abbrev pub SpellOne : FrameList → ℕ → List Mark → Type 0
+SpellOne list most marks = (a b : ReportParts) → Spells list most marks a → Spells list most marks b → a ≡ b
 
-reported : (list : FrameList) (marks : List Mark) (r : ReportParts) (start new : BusLog)
-    → SpellOne list marks → IsTried list most_retries [] marks start new → Spells list marks r
+reported : (list : FrameList) (most : ℕ) (marks : List Mark) (r : ReportParts) (start new : BusLog)
+    → SpellOne list most marks → IsTried list (most - 1) [] marks start new → Spells list most marks r
     → IsReported list r start new
-reported list marks r start new one t s =
+reported list most marks r start new one t s =
     let own : ReportParts = record {
       transaction = list;
+      tries = most;
       attempts = all_sent list t.attempts;
       outcome =
           outcome_of (last_mark t.attempts);
     } in
-    let spells : Spells list marks own = record {
+    let spells : Spells list most marks own = record {
       attempts = t.attempts;
       legal = t.legal;
       spelled = t.marks;
       transaction = refl;
+      tries = refl;
       sent = refl;
       outcome = refl;
     } in
@@ -270,17 +272,18 @@ reported list marks r start new one t s =
           }) failures;
     }
 
-pub performed : (list : FrameList) (marks : List Mark) (r : ReportParts) (old start new : BusLog) (spare : ℕ)
-    → SpellOne list marks
-    → start ≡ with_spare spare old → IsTried list most_retries [] marks start new → Spells list marks r
+pub performed : (list : FrameList) (most : ℕ) (marks : List Mark) (r : ReportParts) (old start new : BusLog)
+    (spare : ℕ)
+    → SpellOne list most marks
+    → start ≡ with_spare spare old → IsTried list (most - 1) [] marks start new → Spells list most marks r
     → new ≡ after_report r new.spare old
-performed list marks r old start new spare one roomed t s =
+performed list most marks r old start new spare one roomed t s =
     let told : new ≡ record start {
       sent = start.sent ++ r.attempts;
       spare = start.spare - length r.attempts;
       failures =
           failures_after r.outcome start.failures;
-    } = (reported list marks r start new one t s).bus in
+    } = (reported list most marks r start new one t s).bus in
     let left : start.spare - length r.attempts ≡ new.spare = sym (ap (λ (log : BusLog). log.spare) told) in
     told ∙ ap (λ (n : ℕ). record start {
       sent = start.sent ++ r.attempts;
@@ -291,11 +294,11 @@ performed list marks r old start new spare one roomed t s =
     ∙ ap (λ (log : BusLog). after_report r new.spare log) roomed
 
 -- a spare place is taken by a frame of the report alone
-pub spare_kept : (places : ℕ) (list : FrameList) (marks : List Mark) (r : ReportParts) (start new : BusLog)
-    → SpellOne list marks
-    → places ≤ start.spare → IsTried list most_retries [] marks start new → Spells list marks r
+pub spare_kept : (places : ℕ) (list : FrameList) (most : ℕ) (marks : List Mark) (r : ReportParts) (start new : BusLog)
+    → SpellOne list most marks
+    → places ≤ start.spare → IsTried list (most - 1) [] marks start new → Spells list most marks r
     → places ≤ new.spare + length r.attempts
-spare_kept places list marks r start new one fits t s =
+spare_kept places list most marks r start new one fits t s =
     let left : new.spare ≡ start.spare - length r.attempts =
-    ap (λ (log : BusLog). log.spare) (reported list marks r start new one t s).bus in
+    ap (λ (log : BusLog). log.spare) (reported list most marks r start new one t s).bus in
     omega arith

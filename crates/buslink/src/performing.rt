@@ -2,6 +2,7 @@
 ghost use Rattle.std.specs.Prelude.{◌≡◌, ◌+◌, ◌*◌, ◌<◌, ◌≤◌, length, All, IfOk, IfErr, IsOk};
 ghost use Rattle.arrayvec.specs.ArrayVec.{array_vec_len};
 ghost use Rattle.gearcmd.specs.FrameLists.{most_frames};
+ghost use Rattle.limits.specs.Limits.{AreTries};
 ghost use Rattle.transact.specs.Attempts.{IsReportParts, most_sent};
 ghost use Rattle.buslink.specs.BusLog.{one_more_failure, with_spare};
 ghost use Rattle.buslink.specs.Performing.{after_report};
@@ -11,16 +12,23 @@ use crate::{Bus, Fault};
 use arrayvec::ArrayVec;
 use daliframe::Frame;
 use std::alloc::AllocError;
-use transact::{MOST_RETRIES, MOST_SENT, Mark, Report, Transaction};
+use transact::{MOST_SENT, Mark, Report, Transaction};
 
-/// Sends the frames of a transaction, and all of them again where one is lost, in three attempts at
-/// most. A fault of the bus interface ends it at once, with the outcome `Failed`.
+/// Sends the frames of a transaction, and all of them again where one is lost, in at most `tries`
+/// attempts, 1 to 5. A fault of the bus interface ends it at once, with the outcome `Failed`.
 ///
 /// # Errors
 ///
-/// The bus had no room for the frames of three attempts and got none. Then nothing was sent.
-pub fn perform<B: Bus>(bus: &mut B, transaction: &Transaction) -> Result<Report, AllocError>
+/// The bus had no room for the frames of the most attempts that a bus may be given, and got none.
+/// Then nothing was sent.
+pub fn perform<B: Bus>(
+    bus: &mut B,
+    transaction: &Transaction,
+    tries: u8,
+) -> Result<Report, AllocError>
+    requires { AreTries tries }
     ensures report { IfOk result (λ r. (r.transaction ≡ transaction.now) × IsReportParts r) }
+    ensures tries { IfOk result (λ r. r.tries ≡ tries) }
     ensures bus { IfOk result
         (λ r. B.log bus.new ≡ after_report r (B.log bus.new).spare (B.log bus.old)) }
     ensures spare { IfOk result (λ r. most_sent ≤ (B.log bus.new).spare + length r.attempts) }
@@ -40,8 +48,8 @@ pub fn perform<B: Bus>(bus: &mut B, transaction: &Transaction) -> Result<Report,
 {
     bus.room(MOST_SENT)?;
     let mut marks = ArrayVec::new();
-    try_again(bus, transaction, MOST_RETRIES, &mut marks);
-    match Report::of(transaction, marks.as_slice()) {
+    try_again(bus, transaction, tries - 1, &mut marks);
+    match Report::of(transaction, tries, marks.as_slice()) {
         Some(report) => Ok(report),
         None => unreachable!(),
     }

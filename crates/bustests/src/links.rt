@@ -18,12 +18,13 @@ use transact::{Mark, Outcome, Reply, Report, Sent, Transaction};
 enum Script {
     Quiet,
     ThirdLost,
+    FourLost,
     AllLost,
     FaultAtSecond,
 }
 
-/// The places of a bus for frames, which three attempts of three frames fill.
-const PLACES: usize = 9;
+/// The places of a bus for frames, which five attempts of three frames fill.
+const PLACES: usize = 15;
 
 /// A bus with these places that answers by a script.
 #[derive(Drop)]
@@ -34,7 +35,7 @@ struct ScriptedBus {
     failures: u64,
     hears: u64,
     heard_none: bool,
-    ghost fits: { array_vec_len sent + spare ≤ 9 },
+    ghost fits: { array_vec_len sent + spare ≤ 15 },
 }
 
 impl ScriptedBus {
@@ -51,9 +52,13 @@ impl ScriptedBus {
 
     fn reply(&self) -> Result<Reply, Fault> {
         match (self.script, self.sent.len()) {
-            (Script::ThirdLost, 2) | (Script::AllLost, _) => Ok(Reply::Lost),
+            (Script::ThirdLost, 2) | (Script::FourLost, 0..=3) | (Script::AllLost, _) => {
+                Ok(Reply::Lost)
+            }
             (Script::FaultAtSecond, 1) => Err(Fault),
-            (Script::Quiet | Script::ThirdLost | Script::FaultAtSecond, _) => Ok(Reply::Quiet),
+            (Script::Quiet | Script::ThirdLost | Script::FourLost | Script::FaultAtSecond, _) => {
+                Ok(Reply::Quiet)
+            }
         }
     }
 }
@@ -129,6 +134,22 @@ const AGAIN: [Row; 6] = [
     (0x0B42, 1, Mark::Quiet),
 ];
 
+const ONCE: [Row; 3] = [
+    (0xA364, 3, Mark::Quiet),
+    (0x0B42, 1, Mark::Quiet),
+    (0x0B42, 1, Mark::Lost),
+];
+
+const AT_THE_FIFTH: [Row; 7] = [
+    (0xA364, 3, Mark::Lost),
+    (0xA364, 3, Mark::Lost),
+    (0xA364, 3, Mark::Lost),
+    (0xA364, 3, Mark::Lost),
+    (0xA364, 3, Mark::Quiet),
+    (0x0B42, 1, Mark::Quiet),
+    (0x0B42, 1, Mark::Quiet),
+];
+
 const LOST: [Row; 3] = [
     (0xA364, 3, Mark::Lost),
     (0xA364, 3, Mark::Lost),
@@ -176,15 +197,17 @@ fn is_report(report: &Report, rows: &[Row], outcome: Outcome) -> bool {
 fn performed_in_a_box_as_scripted(rt: HostRuntime) -> Result<(), Fail> {
     let transaction = scene().ok_or("a request")?;
     let done = Outcome::Done(Reply::Quiet);
-    let cases: [(Script, &[Row], Outcome); 4] = [
-        (Script::Quiet, &QUIETLY, done),
-        (Script::ThirdLost, &AGAIN, done),
-        (Script::AllLost, &LOST, Outcome::GaveUp),
-        (Script::FaultAtSecond, &FAILED, Outcome::Failed),
+    let cases: [(Script, u8, &[Row], Outcome); 6] = [
+        (Script::Quiet, 3, &QUIETLY, done),
+        (Script::ThirdLost, 3, &AGAIN, done),
+        (Script::ThirdLost, 1, &ONCE, Outcome::GaveUp),
+        (Script::FourLost, 5, &AT_THE_FIFTH, done),
+        (Script::AllLost, 3, &LOST, Outcome::GaveUp),
+        (Script::FaultAtSecond, 3, &FAILED, Outcome::Failed),
     ];
-    for (script, rows, outcome) in cases {
+    for (script, tries, rows, outcome) in cases {
         let mut bus: Box<dyn Bus + Send> = Box::new(rt.alloc(), ScriptedBus::new(script))?;
-        let report = perform(&mut bus, &transaction)?;
+        let report = perform(&mut bus, &transaction, tries)?;
         assert!(rt; is_report(&report, rows, outcome));
         bus.room(1)?;
         let heard = bus.hear();
@@ -197,9 +220,9 @@ fn performed_in_a_box_as_scripted(rt: HostRuntime) -> Result<(), Fail> {
 fn nothing_is_sent_without_room(rt: HostRuntime) -> Result<(), Fail> {
     let transaction = scene().ok_or("a request")?;
     let mut bus = ScriptedBus::new(Script::Quiet);
-    let report = perform(&mut bus, &transaction)?;
+    let report = perform(&mut bus, &transaction, 3)?;
     assert!(rt; is_report(&report, &QUIETLY, Outcome::Done(Reply::Quiet)));
-    let is_full = perform(&mut bus, &transaction).is_err();
+    let is_full = perform(&mut bus, &transaction, 3).is_err();
     assert!(rt; is_full && bus.sent.len() == 3);
     Ok(())
 }

@@ -1,6 +1,6 @@
 -- A file has no fault.
 use Rattle.std.proofs.Common.{◌≡◌, ◌<◌, ◌≤◌, List, ℕ, length, refl, sym, ap, ◌∙◌, subst, arith, inl, inr}
-use Rattle.codefile.specs.Faults.{AreFew, IsFile, IsFirst, IsShaped, size}
+use Rattle.codefile.specs.Faults.{AreFew, IsFile, IsFirst, IsShaped, head_size, size, version_in}
 use Rattle.codefile.specs.declared.fault.FileCause.{FileCause}
 use Rattle.codefile.specs.declared.fault.FileCause.TheVariants.{Magic, Cut, Trailing, BadField, TooMany}
 use Rattle.codefile.proofs.Lengths.{counts_are, few_counts, file_long, has_buses, has_head}
@@ -8,11 +8,11 @@ use Rattle.codefile.proofs.Lengths.{counts_are, few_counts, file_long, has_buses
 pub shaped : (bytes : List ℕ) → IsFile bytes → IsShaped bytes
 shaped bytes is =
     let code = is.0 in
-    let h = is.1 in
+    let h = is.1.0 in
     let counts = counts_are code h in
-    subst IsShaped is.2
+    subst IsShaped is.1.1
     (record {
-      head = has_head code h;
+      head = has_head code;
       buses = has_buses code h;
       few = subst AreFew (sym counts) (few_counts code h);
       long = file_long code h ∙ ap size (sym counts);
@@ -36,7 +36,8 @@ bad_field bytes shape none = inr (shape.head, shape.buses, shape.few, shape.long
 
 -- ---- there is one first fault at most
 
-short : (bytes : List ℕ) → length bytes < 28 → 28 ≤ length bytes → ⊥
+short : (bytes : List ℕ) → length bytes < head_size (version_in bytes) → head_size (version_in bytes) ≤ length bytes
+    → ⊥
 short bytes few many = omega arith
 
 pub one_fault : (bytes : List ℕ) (a b : FileCause) → IsFirst bytes a → IsFirst bytes b → a ≡ b

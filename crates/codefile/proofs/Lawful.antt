@@ -8,8 +8,9 @@ use Rattle.ilblocks.specs.declared.kind.BlockKind.{BlockKind}
 use Rattle.ilcode.specs.declared.word.Word.{Word}
 use Rattle.ilcode.specs.Words.{HasWord}
 use Rattle.ilcode.specs.Listings.{IsLawful, listing_of}
-use Rattle.codefile.specs.Faults.{Counts, IsShaped, counts_in}
+use Rattle.codefile.specs.Faults.{Counts, IsShaped, counts_in, version_in}
 use Rattle.codefile.specs.FieldSteps.{BeginPrograms}
+use Rattle.codefile.proofs.Lengths.{most_of_versions}
 use Rattle.codefile.proofs.Starts.{starts_are}
 
 module _ (bytes : List ℕ) (k : Counts) (shaped : IsShaped bytes) (counts : k ≡ counts_in bytes) where
@@ -22,6 +23,7 @@ module _ (bytes : List ℕ) (k : Counts) (shaped : IsShaped bytes) (counts : k �
       let few = shaped.few in
       let least = shaped.buses.least in
       let most = shaped.buses.most in
+      let limit = most_of_versions (version_in bytes) in
       let fc = few.constants in
       let fs = few.slots in
       let fb = few.blocks in

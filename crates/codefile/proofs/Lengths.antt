@@ -1,8 +1,9 @@
 -- How long the parts of a file are, and where they stand in it.
 use Rattle.std.proofs.Common.{◌≡◌, ℕ, ◌+◌, ◌*◌, ◌≤◌, ◌<◌, ◌^◌, List, [], ◌∷◌, ◌++◌, take, drop, length, refl, ap}
-use Rattle.std.proofs.Common.{◌∙◌, arith, length-append, suc}
+use Rattle.std.proofs.Common.{◌∙◌, arith, length-append, suc, Bool, true, false, inl, inr, lit≤}
 use Rattle.std.specs.List.{AllByRecursion}
-use Rattle.std.specs.Prelude.{All}
+use Rattle.std.specs.Prelude.{All, nat_le, if◌then◌else◌}
+use Rattle.std.proofs.lemmas.Bool.{leb-true}
 use Rattle.std.proofs.lemmas.List.{take_at, drop_at}
 use Rattle.std.proofs.lemmas.Nat.{from_le_bytes-to_le_bytes_4}
 use Rattle.iltypes.specs.declared.value.IlType.{IlType}
@@ -12,9 +13,13 @@ use Rattle.iltypes.specs.declared.value.Value.TheVariants as values
 use Rattle.ilblocks.specs.declared.kind.BlockKind.{BlockKind}
 use Rattle.ilcode.specs.declared.word.Word.{Word}
 use Rattle.ilcode.specs.Listings.{Listing, IsLawful}
-use Rattle.codefile.specs.Files.{HasFile, block, blocks, constant, constants, file, number, numbers, slot}
-use Rattle.codefile.specs.Files.{slots, tables, word, words}
-use Rattle.codefile.specs.Faults.{AreBuses, AreFew, BeginsWell, Counts, HasHead, counts_in, size}
+use Rattle.limits.specs.Limits.{few_buses, most_buses}
+use Rattle.codefile.specs.Files.{HasFile, block, blocks, constant, constants, file, file_in, number, numbers, slot}
+use Rattle.codefile.specs.Files.{slots, tables, version, word, words}
+use Rattle.codefile.specs.Faults.{AreBuses, AreFew, BeginsWell, Counts, HasHead, counts_in, head_size, most_buses_of}
+use Rattle.codefile.specs.Faults.{size, version_in}
+use Rattle.codefile.specs.declared.version.FileVersion.{FileVersion}
+use Rattle.codefile.specs.declared.version.FileVersion.TheVariants.{One, Two}
 
 -- ---- tables
 
@@ -79,6 +84,7 @@ split bytes front back n e long =
 abbrev pub counts_of : Listing → Counts
 counts_of code =
     record {
+      version = version code;
       constants = length code.constants;
       slots = length code.slots;
       blocks = length code.kinds;
@@ -97,8 +103,26 @@ few_counts code h =
       words = l.most_instructions;
     }
 
-pub counts_are : (code : Listing) → HasFile code → counts_in (file code) ≡ counts_of code
-counts_are code h =
+-- the version of a file is read as it was printed, and the tables follow the head
+version_again : (v : FileVersion) (code : Listing) → version_in (file_in v code) ≡ v
+version_again One code = refl
+version_again Two code = refl
+
+pub after_head_in : (v : FileVersion) (code : Listing) → drop (head_size v) (file_in v code) ≡ tables code
+after_head_in One code = refl
+after_head_in Two code = refl
+
+-- the five counts stand in the same places in both versions
+counts_in_are : (v : FileVersion) (code : Listing) → HasFile code
+    → counts_in (file_in v code) ≡ record {
+      version = v;
+      constants = length code.constants;
+      slots = length code.slots;
+      blocks = length code.kinds;
+      starts = length code.starts;
+      words = length code.instructions;
+    }
+counts_in_are v code h =
     let few = few_counts code h in
     let c = few.constants in
     let s = few.slots in
@@ -106,6 +130,7 @@ counts_are code h =
     let t = few.starts in
     let w = few.words in
     λ i. record {
+      version = version_again v code i;
       constants = from_le_bytes-to_le_bytes_4 (length code.constants) (omega arith) i;
       slots = from_le_bytes-to_le_bytes_4 (length code.slots) (omega arith) i;
       blocks = from_le_bytes-to_le_bytes_4 (length code.kinds) (omega arith) i;
@@ -113,8 +138,11 @@ counts_are code h =
       words = from_le_bytes-to_le_bytes_4 (length code.instructions) (omega arith) i;
     }
 
+pub counts_are : (code : Listing) → HasFile code → counts_in (file code) ≡ counts_of code
+counts_are code h = counts_in_are (version code) code h
+
 tables_long : (code : Listing) → length code.lines ≡ length code.instructions
-    → 28 + length (tables code) ≡ size (counts_of code)
+    → head_size (version code) + length (tables code) ≡ size (counts_of code)
 tables_long code each =
     let cs = constants_long code.constants in
     let ss = slots_long code.slots in
@@ -133,22 +161,40 @@ tables_long code each =
     ++ (blocks code.kinds ++ (numbers code.starts ++ (words code.instructions ++ numbers code.lines)))) in
     omega arith
 
-pub file_long : (code : Listing) → HasFile code → length (file code) ≡ size (counts_of code)
-file_long code h =
-    let own : length (file code) ≡ 28 + length (tables code) = omega arith in
-    own ∙ tables_long code h.lawful.lines
+long_in : (v : FileVersion) (code : Listing) → length (file_in v code) ≡ head_size v + length (tables code)
+long_in One code = omega arith
+long_in Two code = omega arith
 
-pub has_head : (code : Listing) → HasFile code → HasHead (file code)
-has_head code h =
-    let long = file_long code h in
-    (begins code, omega arith)
-  where
-    begins : (code : Listing) → BeginsWell (file code)
-    begins code = refl
+pub file_long : (code : Listing) → HasFile code → length (file code) ≡ size (counts_of code)
+file_long code h = long_in (version code) code ∙ tables_long code h.lawful.lines
+
+begins_in : (v : FileVersion) (code : Listing) → BeginsWell (file_in v code)
+begins_in One code = inl refl
+begins_in Two code = inr refl
+
+pub has_head : (code : Listing) → HasHead (file code)
+has_head code =
+    let v = version code in
+    let long = long_in v code in
+    let same = ap head_size (version_again v code) in
+    (begins_in v code, omega arith)
+
+-- a code has no more buses than its version may have
+fit_version : (buses : ℕ) (few : Bool) → nat_le buses few_buses ≡ few → buses ≤ most_buses
+    → buses ≤ most_buses_of (if few then One else Two)
+fit_version buses true is most = leb-true buses few_buses is
+fit_version buses false is most = most
 
 pub has_buses : (code : Listing) → HasFile code → AreBuses (file code)
 has_buses code h =
-    record { least = h.lawful.bus; most = h.lawful.most_buses; first = refl; second = refl }
+    let fit = fit_version code.buses (nat_le code.buses few_buses) refl h.lawful.most_buses in
+    let same = ap most_buses_of (version_again (version code) code) in
+    record { least = h.lawful.bus; most = omega arith; first = refl; second = refl }
+
+-- and no version may have more than a code may have
+pub most_of_versions : (v : FileVersion) → most_buses_of v ≤ most_buses
+most_of_versions One = lit≤ tt
+most_of_versions Two = lit≤ tt
 
 -- starts are not beyond the end, and so they are small
 pub small_starts : (code : Listing) → IsLawful code → AllByRecursion (λ (n : ℕ). n < 2 ^ 32) code.starts

@@ -1,15 +1,15 @@
 -- Where the tables of a code stand in its file.
 use Rattle.std.proofs.Common.{◌≡◌, ℕ, ◌*◌, List, ◌++◌, take, refl, sym, ap, ◌∙◌, subst}
 use Rattle.ilcode.specs.Listings.{Listing}
-use Rattle.codefile.specs.Files.{HasFile, blocks, constants, file, numbers, slots, words}
+use Rattle.codefile.specs.Files.{HasFile, blocks, constants, file, numbers, slots, version, words}
 use Rattle.codefile.specs.Faults.{Counts, counts_in}
 use Rattle.codefile.specs.TableSteps.{after_blocks, after_constants, after_head, after_slots, after_starts, after_words}
-use Rattle.codefile.proofs.Lengths.{blocks_long, constants_long, counts_are, counts_of, numbers_long, slots_long}
-use Rattle.codefile.proofs.Lengths.{split, words_long}
+use Rattle.codefile.proofs.Lengths.{after_head_in, blocks_long, constants_long, counts_are, counts_of}
+use Rattle.codefile.proofs.Lengths.{numbers_long, slots_long, split, words_long}
 
 pub record AreParts (code : Listing) (bytes : List ℕ) (c : Counts) : Type 0 where
   pub counts : c ≡ counts_of code
-  pub constants : take (16 * c.constants) (after_head bytes) ≡ constants code.constants
+  pub constants : take (16 * c.constants) (after_head bytes c) ≡ constants code.constants
   pub slots : take (24 * c.slots) (after_constants bytes c) ≡ slots code.slots
   pub blocks : take c.blocks (after_slots bytes c) ≡ blocks code.kinds
   pub starts : take (4 * c.starts) (after_blocks bytes c) ≡ numbers code.starts
@@ -25,8 +25,8 @@ parts_of code =
     let ss = numbers code.starts ++ ws in
     let bs = blocks code.kinds ++ ss in
     let ts = slots code.slots ++ bs in
-    let one = split (after_head bytes) (constants code.constants) ts (16 * c.constants) refl
-    (constants_long code.constants) in
+    let one = split (after_head bytes c) (constants code.constants) ts (16 * c.constants)
+    (after_head_in (version code) code) (constants_long code.constants) in
     let two = split (after_constants bytes c) (slots code.slots) bs (24 * c.slots) one.dropped
     (slots_long code.slots) in
     let three = split (after_slots bytes c) (blocks code.kinds) ss c.blocks two.dropped (blocks_long code.kinds) in

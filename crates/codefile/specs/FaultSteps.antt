@@ -1,7 +1,14 @@
--- The counts of a file as code keeps them.
+-- The version and the counts of a file as code keeps them.
 use Rattle.codefile.specs.Faults.{Counts}
 use Rattle.codefile.specs.declared.shape.FileCounts.{FileCounts}
 
 abbrev pub counted : FileCounts → Counts
 counted c =
-    record { constants = c.constants; slots = c.slots; blocks = c.blocks; starts = c.starts; words = c.words }
+    record {
+      version = c.version;
+      constants = c.constants;
+      slots = c.slots;
+      blocks = c.blocks;
+      starts = c.starts;
+      words = c.words;
+    }

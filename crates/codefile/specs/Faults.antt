@@ -1,33 +1,53 @@
 -- What stands against bytes that are no code file: the first that holds, in this order. Bytes that begin otherwise, as
--- far as they go; fewer than the head; a number of buses other than 1 to 16, or a byte after it that is not 0; a count
--- beyond its limit; a length other than the counts say; and any other field.
-use Rattle.std.specs.Prelude.{◌≡◌, ℕ, ◌+◌, ◌*◌, ◌≤◌, ◌<◌, ◌⊎◌, List, length, take, drop, slice_index}
-use Rattle.std.specs.Prelude.{Result, Ok, Err, ⊤}
+-- far as they go; fewer than the head; a number of buses other than 1 to 16 in version 1 or 1 to 64 in version 2, or a
+-- byte after it that is not 0; a count beyond its limit; a length other than the counts say; and any other field. Among
+-- these is a number of functions other than 0, and the number of buses of a file of version 2 that has 16 at most.
+use Rattle.std.specs.Prelude.{◌≡◌, ℕ, ◌+◌, ◌*◌, ◌≤◌, ◌<◌, ◌==◌, ◌⊎◌, if◌then◌else◌, List, length, take, drop}
+use Rattle.std.specs.Prelude.{slice_index, Result, Ok, Err, ⊤}
 use Rattle.std.specs.Int.{w32, from_le_bytes}
 use Rattle.limits.specs.Limits as limits
 use Rattle.ilcode.specs.Listings.{Listing}
-use Rattle.codefile.specs.Files.{HasFile, file, magic}
+use Rattle.codefile.specs.Files.{IsFileOf, magic, version_number}
 use Rattle.codefile.specs.declared.fault.FileCause.{FileCause}
 use Rattle.codefile.specs.declared.fault.FileCause.TheVariants.{Magic, Cut, Trailing, BadField, TooMany}
 use Rattle.codefile.specs.declared.fault.FileFault.{FileFault}
 use Rattle.codefile.specs.declared.fault.FileFault.TheVariants as faults
+use Rattle.codefile.specs.declared.version.FileVersion.{FileVersion}
+use Rattle.codefile.specs.declared.version.FileVersion.TheVariants.{One, Two}
 
--- as far as they go they begin with the magic
+-- as far as they go they begin as a file of the version
+abbrev pub BeginsAs : FileVersion → List ℕ → Type 0
+BeginsAs v bytes = take 5 bytes ≡ take (length bytes) (magic v)
+
 abbrev pub BeginsWell : List ℕ → Type 0
-BeginsWell bytes = take 5 bytes ≡ take (length bytes) magic
+BeginsWell bytes = BeginsAs One bytes ⊎ BeginsAs Two bytes
+
+-- the version of bytes that begin well; where they end before they tell it, it is 1
+abbrev pub version_in : List ℕ → FileVersion
+version_in bytes = if slice_index bytes 4 == version_number Two then Two else One
+
+-- the bytes before the tables
+abbrev pub head_size : FileVersion → ℕ
+head_size One = 28
+head_size Two = 32
 
 abbrev pub HasHead : List ℕ → Type 0
-HasHead bytes = BeginsWell bytes × (28 ≤ length bytes)
+HasHead bytes = BeginsWell bytes × (head_size (version_in bytes) ≤ length bytes)
+
+abbrev pub most_buses_of : FileVersion → ℕ
+most_buses_of One = limits.few_buses
+most_buses_of Two = limits.most_buses
 
 -- buses, and two zeros
 pub record AreBuses (bytes : List ℕ) : Type 0 where
   pub least : 1 ≤ slice_index bytes 5
-  pub most : slice_index bytes 5 ≤ limits.most_buses
+  pub most : slice_index bytes 5 ≤ most_buses_of (version_in bytes)
   pub first : slice_index bytes 6 ≡ 0
   pub second : slice_index bytes 7 ≡ 0
 
--- the counts, which are the five numbers from byte 8 on
+-- the version, and the counts: the five numbers from byte 8 on
 pub record Counts : Type 0 where
+  pub version : FileVersion
   pub constants : ℕ
   pub slots : ℕ
   pub blocks : ℕ
@@ -40,6 +60,7 @@ number_at bytes place = from_le_bytes w32 (take 4 (drop place bytes))
 abbrev pub counts_in : List ℕ → Counts
 counts_in bytes =
     record {
+      version = version_in bytes;
       constants = number_at bytes 8;
       slots = number_at bytes 12;
       blocks = number_at bytes 16;
@@ -56,7 +77,7 @@ pub record AreFew (c : Counts) : Type 0 where
 
 -- the length that they ask for
 abbrev pub size : Counts → ℕ
-size c = 28 + 16 * c.constants + 24 * c.slots + c.blocks + 4 * c.starts + 8 * c.words
+size c = head_size c.version + 16 * c.constants + 24 * c.slots + c.blocks + 4 * c.starts + 8 * c.words
 
 -- nothing stands against the head and the length
 pub record IsShaped (bytes : List ℕ) : Type 0 where
@@ -67,14 +88,14 @@ pub record IsShaped (bytes : List ℕ) : Type 0 where
 
 -- the bytes of a code
 abbrev pub IsFile : List ℕ → Type 0
-IsFile bytes = (code : Listing) × HasFile code × (file code ≡ bytes)
+IsFile bytes = (code : Listing) × IsFileOf bytes code
 
 -- ---- the first fault
 
 abbrev pub IsFirst : List ℕ → FileCause → Type 0
 IsFirst bytes Magic = ¬ BeginsWell bytes
 IsFirst bytes Cut =
-    (BeginsWell bytes × (length bytes < 28))
+    (BeginsWell bytes × (length bytes < head_size (version_in bytes)))
     ⊎ (HasHead bytes × AreBuses bytes × AreFew (counts_in bytes) × (length bytes < size (counts_in bytes)))
 IsFirst bytes TooMany = HasHead bytes × AreBuses bytes × (¬ AreFew (counts_in bytes))
 IsFirst bytes Trailing =

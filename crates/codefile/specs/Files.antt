@@ -1,5 +1,7 @@
--- Code files, version 1 (profile): the bytes of a code, field after field. Numbers are little-endian.
-use Rattle.std.specs.Prelude.{ℕ, ℤ, pos, Bool, true, false, List, [], ◌∷◌, ◌++◌, flat_map, length, FitsSigned, ⊤}
+-- Code files (profile): the bytes of a code, field after field. Numbers are little-endian. There are two versions, and
+-- a code has one file, of one of them.
+use Rattle.std.specs.Prelude.{◌≡◌, ℕ, ℤ, pos, nat_le, Bool, true, false, if◌then◌else◌, List, [], ◌∷◌, ◌++◌, flat_map}
+use Rattle.std.specs.Prelude.{length, FitsSigned, ⊤}
 use Rattle.std.specs.Int.{w32, w64, cast_unsigned, to_le_bytes}
 use Rattle.std.specs.List.{AllByRecursion}
 use Rattle.iltypes.specs.declared.value.IlType.{IlType}
@@ -11,6 +13,9 @@ use Rattle.ilblocks.specs.declared.kind.BlockKind.TheVariants as kinds
 use Rattle.ilcode.specs.Words.{spelling}
 use Rattle.ilcode.specs.declared.word.Word.{Word}
 use Rattle.ilcode.specs.Listings.{Listing, IsLawful}
+use Rattle.limits.specs.Limits.{few_buses}
+use Rattle.codefile.specs.declared.version.FileVersion.{FileVersion}
+use Rattle.codefile.specs.declared.version.FileVersion.TheVariants.{One, Two}
 
 -- ---- fields
 
@@ -64,9 +69,13 @@ word w = number (spelling w)
 
 -- ---- files
 
+abbrev pub version_number : FileVersion → ℕ
+version_number One = 1
+version_number Two = 2
+
 -- `DLIL`, and the version
-abbrev pub magic : List ℕ
-magic = 68 ∷ 76 ∷ 73 ∷ 76 ∷ 1 ∷ []
+abbrev pub magic : FileVersion → List ℕ
+magic v = 68 ∷ 76 ∷ 73 ∷ 76 ∷ version_number v ∷ []
 
 abbrev pub constants : List Value → List ℕ
 constants xs = flat_map constant xs
@@ -91,15 +100,28 @@ counts code rest =
     ++ (number (length code.kinds)
     ++ (number (length code.starts) ++ (number (length code.instructions) ++ rest))))
 
+-- the number of functions, which version 1 does not have; no code has functions yet
+abbrev pub function_count : FileVersion → List ℕ
+function_count One = []
+function_count Two = number 0
+
 abbrev pub tables : Listing → List ℕ
 tables code =
     constants code.constants
     ++ (slots code.slots
     ++ (blocks code.kinds ++ (numbers code.starts ++ (words code.instructions ++ numbers code.lines))))
 
+-- the bytes of a code in a version
+abbrev pub file_in : FileVersion → Listing → List ℕ
+file_in v code = magic v ++ (code.buses ∷ 0 ∷ 0 ∷ counts code (function_count v ++ tables code))
+
+-- a code for few buses has a file of version 1, and any other has one of version 2
+abbrev pub version : Listing → FileVersion
+version code = if nat_le code.buses few_buses then One else Two
+
 -- the file of a code
 abbrev pub file : Listing → List ℕ
-file code = 68 ∷ 76 ∷ 73 ∷ 76 ∷ 1 ∷ code.buses ∷ 0 ∷ 0 ∷ counts code (tables code)
+file code = file_in (version code) code
 
 -- ---- which codes have one
 
@@ -116,3 +138,7 @@ pub record HasFile (code : Listing) : Type 0 where
   pub lawful : IsLawful code
   pub constants : AllByRecursion FitsValue code.constants
   pub slots : AllByRecursion FitsType code.slots
+
+-- these bytes are the file of the code
+abbrev pub IsFileOf : List ℕ → Listing → Type 0
+IsFileOf bytes code = HasFile code × (file code ≡ bytes)

@@ -1,12 +1,12 @@
--- Where the tables of a file stand: each follows the one before, and the first follows the head of 28 bytes.
+-- Where the tables of a file stand: each follows the one before, and the first follows the head.
 use Rattle.std.specs.Prelude.{◌≡◌, ℕ, ◌*◌, List, length, take, drop}
-use Rattle.codefile.specs.Faults.{Counts}
+use Rattle.codefile.specs.Faults.{Counts, head_size}
 
-abbrev pub after_head : List ℕ → List ℕ
-after_head bytes = drop 28 bytes
+abbrev pub after_head : List ℕ → Counts → List ℕ
+after_head bytes c = drop (head_size c.version) bytes
 
 abbrev pub after_constants : List ℕ → Counts → List ℕ
-after_constants bytes c = drop (16 * c.constants) (after_head bytes)
+after_constants bytes c = drop (16 * c.constants) (after_head bytes c)
 
 abbrev pub after_slots : List ℕ → Counts → List ℕ
 after_slots bytes c = drop (24 * c.slots) (after_constants bytes c)

@@ -4,7 +4,7 @@ ghost use Rattle.std.specs.Prelude.{◌≡◌, ◌↔◌, IfErr, IfOk, IsTrue};
 ghost use Rattle.ilcode.specs.Listings.{Listing};
 ghost use Rattle.codefile.specs.Faults.{IsFault, IsReadAs, IsShaped, counts_in};
 ghost use Rattle.codefile.specs.FaultSteps.{counted};
-ghost use Rattle.codefile.specs.Files.{HasFile, file};
+ghost use Rattle.codefile.specs.Files.{HasFile, IsFileOf};
 
 use crate::encoding::encode;
 use crate::fault::{FileCause, FileFault};
@@ -21,10 +21,9 @@ use std::alloc::Global;
 /// The first fault of bytes that are no file, or the allocator is out of memory.
 pub fn decode(alloc: Global, bytes: &[u8]) -> Result<Code, FileFault>
     // What is read has these bytes.
-    ensures found { IfOk result (λ code. HasFile code × (file code ≡ bytes.now)) }
+    ensures found { IfOk result (λ code. IsFileOf bytes.now code) }
     // The code of which they are is read, unless memory runs out.
-    ensures only { (code : Listing) → HasFile code → file code ≡ bytes.now
-        → IsReadAs code result }
+    ensures only { (code : Listing) → IsFileOf bytes.now code → IsReadAs code result }
     // A fault is the first.
     ensures fault { IfErr result (IsFault bytes.now) }
 {
@@ -38,9 +37,8 @@ pub fn decode(alloc: Global, bytes: &[u8]) -> Result<Code, FileFault>
 fn read(alloc: Global, bytes: &[u8], counts: FileCounts) -> Result<Code, FileFault>
     requires counts { counted counts ≡ counts_in bytes.now }
     requires shaped { IsShaped bytes.now }
-    ensures found { IfOk result (λ code. HasFile code × (file code ≡ bytes.now)) }
-    ensures only { (code : Listing) → HasFile code → file code ≡ bytes.now
-        → IsReadAs code result }
+    ensures found { IfOk result (λ code. IsFileOf bytes.now code) }
+    ensures only { (code : Listing) → IsFileOf bytes.now code → IsReadAs code result }
     ensures fault { IfErr result (IsFault bytes.now) }
 {
     match parse(alloc, bytes, counts) {
@@ -54,10 +52,9 @@ fn read(alloc: Global, bytes: &[u8], counts: FileCounts) -> Result<Code, FileFau
 fn compare(alloc: Global, bytes: &[u8], code: Code) -> Result<Code, FileFault>
     requires shaped { IsShaped bytes.now }
     requires good { HasFile code }
-    requires only { (other : Listing) → HasFile other → file other ≡ bytes.now → code ≡ other }
-    ensures found { IfOk result (λ code. HasFile code × (file code ≡ bytes.now)) }
-    ensures only { (code : Listing) → HasFile code → file code ≡ bytes.now
-        → IsReadAs code result }
+    requires only { (other : Listing) → IsFileOf bytes.now other → code ≡ other }
+    ensures found { IfOk result (λ code. IsFileOf bytes.now code) }
+    ensures only { (code : Listing) → IsFileOf bytes.now code → IsReadAs code result }
     ensures fault { IfErr result (IsFault bytes.now) }
 {
     match encode(alloc, &code) {

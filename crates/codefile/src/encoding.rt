@@ -2,11 +2,13 @@
 
 ghost use Rattle.std.specs.Prelude.{◌≡◌, ◌++◌, ◌<◌, ◌^◌, IfOk, OnOk};
 ghost use Rattle.std.specs.List.{AllByRecursion};
-ghost use Rattle.codefile.specs.Files.{blocks, constant, constants, file, number, numbers, slot};
-ghost use Rattle.codefile.specs.Files.{slots, tag, whole, word, words};
+ghost use Rattle.codefile.specs.Files.{FitsType, FitsValue, IsFileOf, blocks, constant, constants};
+ghost use Rattle.codefile.specs.Files.{function_count, number, numbers, slot, slots, tag, whole};
+ghost use Rattle.codefile.specs.Files.{word, words};
 ghost use Rattle.ilcode.specs.Words.{HasWord};
 
 use crate::fields::block_number;
+use crate::version::{FileVersion, version_of};
 use ilblocks::BlockKind;
 use ilcode::{Code, PackedWord};
 use iltypes::{IlType, Value};
@@ -18,15 +20,18 @@ use std::alloc::{AllocError, Global};
 ///
 /// The allocator is out of memory.
 pub fn encode(alloc: Global, code: &Code) -> Result<Vec<u8>, AllocError>
-    ensures { IfOk result (λ bytes. bytes.items ≡ file code.now) }
+    ensures { IfOk result (λ bytes. IsFileOf bytes.items code.now) }
 {
+    let version = version_of(code);
     let mut bytes = Vec::new(alloc);
-    bytes.extend_from_slice(&[68, 76, 73, 76, 1, code.buses(), 0, 0])?;
+    bytes.extend_from_slice(&version.magic())?;
+    bytes.extend_from_slice(&[code.buses(), 0, 0])?;
     push_number(&mut bytes, code.constants().len())?;
     push_number(&mut bytes, code.slots().len())?;
     push_number(&mut bytes, code.kinds().len())?;
     push_number(&mut bytes, code.starts().len())?;
     push_number(&mut bytes, code.len())?;
+    push_function_count(&mut bytes, version)?;
     push_constants(&mut bytes, code.constants())?;
     push_slots(&mut bytes, code.slots())?;
     push_blocks(&mut bytes, code.kinds())?;
@@ -36,9 +41,20 @@ pub fn encode(alloc: Global, code: &Code) -> Result<Vec<u8>, AllocError>
     Ok(bytes)
 }
 
+/// Adds the number of functions, which is 0, where the version has it.
+fn push_function_count(bytes: &mut Vec<u8>, version: FileVersion) -> Result<(), AllocError>
+    ensures { OnOk result (bytes.new.items ≡ bytes.old.items ++ function_count version) }
+{
+    match version {
+        FileVersion::One => Ok(()),
+        FileVersion::Two => push_number(bytes, 0),
+    }
+}
+
 /// Adds constants.
 fn push_constants(bytes: &mut Vec<u8>, values: &[Value]) -> Result<(), AllocError>
-    ensures { OnOk result (bytes.new.items ≡ bytes.old.items ++ constants values.now) }
+    ensures added { OnOk result (bytes.new.items ≡ bytes.old.items ++ constants values.now) }
+    ensures fits { OnOk result (AllByRecursion FitsValue values.now) }
 {
     for value in values {
         push_constant(bytes, *value)?;
@@ -48,7 +64,8 @@ fn push_constants(bytes: &mut Vec<u8>, values: &[Value]) -> Result<(), AllocErro
 
 /// Adds a constant.
 fn push_constant(bytes: &mut Vec<u8>, value: Value) -> Result<(), AllocError>
-    ensures { OnOk result (bytes.new.items ≡ bytes.old.items ++ constant value) }
+    ensures added { OnOk result (bytes.new.items ≡ bytes.old.items ++ constant value) }
+    ensures fits { FitsValue value }
 {
     match value {
         Value::Bool(false) => {
@@ -68,7 +85,8 @@ fn push_constant(bytes: &mut Vec<u8>, value: Value) -> Result<(), AllocError>
 
 /// Adds the types of slots.
 fn push_slots(bytes: &mut Vec<u8>, types: &[IlType]) -> Result<(), AllocError>
-    ensures { OnOk result (bytes.new.items ≡ bytes.old.items ++ slots types.now) }
+    ensures added { OnOk result (bytes.new.items ≡ bytes.old.items ++ slots types.now) }
+    ensures fits { OnOk result (AllByRecursion FitsType types.now) }
 {
     for slot in types {
         push_slot(bytes, *slot)?;
@@ -78,7 +96,8 @@ fn push_slots(bytes: &mut Vec<u8>, types: &[IlType]) -> Result<(), AllocError>
 
 /// Adds the type of a slot.
 fn push_slot(bytes: &mut Vec<u8>, il_type: IlType) -> Result<(), AllocError>
-    ensures { OnOk result (bytes.new.items ≡ bytes.old.items ++ slot il_type) }
+    ensures added { OnOk result (bytes.new.items ≡ bytes.old.items ++ slot il_type) }
+    ensures fits { FitsType il_type }
 {
     match il_type {
         IlType::Bool => {

@@ -9,7 +9,7 @@ use std::fmt;
 /// What is wrong with bytes that are no code file.
 #[derive(Clone, Copy, PartialEq, Eq, Debug)]
 pub enum FileCause {
-    /// They do not begin as a code file of version 1.
+    /// They do not begin as a code file.
     Magic,
     /// They end before the file does.
     Cut,

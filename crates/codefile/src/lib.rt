@@ -18,6 +18,7 @@ mod laws;
 mod reading;
 mod shape;
 mod tables;
+mod version;
 
 pub use decoding::decode;
 pub use encoding::encode;

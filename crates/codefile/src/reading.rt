@@ -10,7 +10,7 @@ ghost use Rattle.ilcode.specs.Words.{HasWord};
 ghost use Rattle.ilcode.specs.declared.word.Word.{Word as AnyWord};
 ghost use Rattle.ilcode.specs.Listings.{Listing};
 ghost use Rattle.codefile.specs.FieldSteps.{BeginPrograms, Rise};
-ghost use Rattle.codefile.specs.Files.{FitsType, FitsValue, HasFile, blocks, constants, file};
+ghost use Rattle.codefile.specs.Files.{FitsType, FitsValue, HasFile, IsFileOf, blocks, constants};
 ghost use Rattle.codefile.specs.Files.{numbers, slots, words};
 ghost use Rattle.codefile.specs.Faults.{IsShaped, counts_in};
 ghost use Rattle.codefile.specs.FaultSteps.{counted};
@@ -33,7 +33,7 @@ pub(crate) fn parse(
     requires counts { counted counts ≡ counts_in bytes.now }
     requires shaped { IsShaped bytes.now }
     ensures good { IfOk result (λ found. IfSome found HasFile) }
-    ensures exact { (code : Listing) → HasFile code → file code ≡ bytes.now
+    ensures exact { (code : Listing) → IsFileOf bytes.now code
         → IfOk result (λ found. IsSomeAnd found (λ read. read ≡ code)) }
 {
     let tables = tables_in(bytes, counts);

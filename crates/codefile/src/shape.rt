@@ -1,20 +1,19 @@
 //! What bytes say of their length, before any field of a table is read.
 
 ghost use Rattle.std.specs.Prelude.{◌≡◌, ◌+◌, ◌≤◌, ◌↔◌, length, IfErr, IfOk, IsTrue};
-ghost use Rattle.codefile.specs.Faults.{AreBuses, AreFew, BeginsWell, HasHead, IsFirst};
+ghost use Rattle.codefile.specs.Faults.{AreBuses, AreFew, BeginsAs, BeginsWell, HasHead, IsFirst};
 ghost use Rattle.codefile.specs.Faults.{IsShaped, counts_in, number_at, size};
 ghost use Rattle.codefile.specs.FaultSteps.{counted};
 
 use crate::fault::FileCause;
 use crate::fields::number_at;
-use limits::{MOST_BLOCKS, MOST_BUSES, MOST_CONSTANTS, MOST_INSTANCES, MOST_SLOTS, MOST_WORDS};
+use crate::version::{FileVersion, version_in};
+use limits::{MOST_BLOCKS, MOST_CONSTANTS, MOST_INSTANCES, MOST_SLOTS, MOST_WORDS};
 
-/// What a code file of version 1 begins with.
-const MAGIC: [u8; 5] = [68, 76, 73, 76, 1];
-
-/// How many there are of each: constants, slots, block instances, starts, words.
+/// The version, and how many there are of each: constants, slots, block instances, starts, words.
 #[derive(Clone, Copy)]
 pub(crate) struct FileCounts {
+    pub(crate) version: FileVersion,
     pub(crate) constants: usize,
     pub(crate) slots: usize,
     pub(crate) blocks: usize,
@@ -31,7 +30,7 @@ pub(crate) fn shape(bytes: &[u8]) -> Result<FileCounts, FileCause>
     if !begins_well(bytes) {
         return Err(FileCause::Magic);
     }
-    if bytes.len() < 28 {
+    if bytes.len() < version_in(bytes).head_size() {
         return Err(FileCause::Cut);
     }
     if !are_buses(bytes) {
@@ -51,33 +50,43 @@ pub(crate) fn shape(bytes: &[u8]) -> Result<FileCounts, FileCause>
     Ok(counts)
 }
 
-/// Whether bytes begin as a code file, as far as they go.
+/// Whether bytes begin as a code file of either version, as far as they go.
 fn begins_well(bytes: &[u8]) -> bool
     ensures { IsTrue result ↔ BeginsWell bytes.now }
 {
+    begins_as(bytes, FileVersion::One) || begins_as(bytes, FileVersion::Two)
+}
+
+/// Whether bytes begin as a code file of the version, as far as they go.
+fn begins_as(bytes: &[u8], version: FileVersion) -> bool
+    ensures { IsTrue result ↔ BeginsAs version bytes.now }
+{
+    let magic = version.magic();
     if bytes.len() < 5 {
-        let (wanted, _) = MAGIC.split_at(bytes.len());
+        let (wanted, _) = magic.split_at(bytes.len());
         bytes == wanted
     } else {
         let (front, _) = bytes.split_at(5);
-        front == MAGIC.as_slice()
+        front == magic.as_slice()
     }
 }
 
-/// Whether the buses are 1 to 16, and the two bytes after them 0.
+/// Whether the buses are as many as a file of the version may have, and the two bytes after them 0.
 fn are_buses(bytes: &[u8]) -> bool
     requires { 28 ≤ length bytes.now }
     ensures { IsTrue result ↔ AreBuses bytes.now }
 {
-    1 <= bytes[5] && bytes[5] <= MOST_BUSES && bytes[6] == 0 && bytes[7] == 0
+    let most = version_in(bytes).most_buses();
+    1 <= bytes[5] && bytes[5] <= most && bytes[6] == 0 && bytes[7] == 0
 }
 
-/// The five counts.
+/// The version and the five counts.
 fn counts_in(bytes: &[u8]) -> FileCounts
     requires { 28 ≤ length bytes.now }
     ensures { counted result ≡ counts_in bytes.now }
 {
     FileCounts {
+        version: version_in(bytes),
         constants: count_at(bytes, 8),
         slots: count_at(bytes, 12),
         blocks: count_at(bytes, 16),
@@ -112,7 +121,8 @@ fn size(counts: FileCounts) -> usize
     requires { AreFew (counted counts) }
     ensures { result ≡ size (counted counts) }
 {
-    28 + 16 * counts.constants
+    counts.version.head_size()
+        + 16 * counts.constants
         + 24 * counts.slots
         + counts.blocks
         + 4 * counts.starts

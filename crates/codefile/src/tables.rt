@@ -22,7 +22,7 @@ pub(crate) struct FileTables<'a> {
 /// The tables of bytes that are as long as the counts ask for.
 pub(crate) fn tables_in(bytes: &[u8], counts: FileCounts) -> FileTables<'_>
     requires { length bytes.now ≡ size (counted counts) }
-    ensures constants { IsFront result.constants.now (after_head bytes.now)
+    ensures constants { IsFront result.constants.now (after_head bytes.now (counted counts))
         (16 * counts.constants) }
     ensures slots { IsFront result.slots.now (after_constants bytes.now (counted counts))
         (24 * counts.slots) }
@@ -35,7 +35,7 @@ pub(crate) fn tables_in(bytes: &[u8], counts: FileCounts) -> FileTables<'_>
     ensures lines { result.lines.now ≡ after_words bytes.now (counted counts) }
     ensures lines_long { length result.lines.now ≡ 4 * counts.words }
 {
-    let (_, rest) = bytes.split_at(28);
+    let (_, rest) = bytes.split_at(counts.version.head_size());
     let (constants, rest) = rest.split_at(16 * counts.constants);
     let (slots, rest) = rest.split_at(24 * counts.slots);
     let (blocks, rest) = rest.split_at(counts.blocks);

@@ -10,6 +10,7 @@ use Rattle.iltypes.specs.declared.value.Value.{Value}
 use Rattle.iltypes.specs.declared.value.Value.TheVariants as values
 use Rattle.iltypes.specs.Values.{IsOf, AreOf}
 use Rattle.wordlines.specs.declared.sources.BoundSource.{BoundSource}
+use Rattle.wordlines.specs.declared.tries.BusTries.{BusTries}
 use Rattle.wordlines.specs.Wirings.{Wiring, IsAt, IsWithinLimits}
 use Rattle.ilsource.specs.declared.instruction.Line.{Line}
 use Rattle.ilsource.specs.declared.operand.Operand.{Operand}
@@ -66,12 +67,13 @@ pub record PlannedTask : Type 0 where
   pub constants : List Value
   pub instances : List PlannedInstance
 
--- a plan: the text that its names and places are of, the number of buses, the sources of events that are bound, the
--- global variables, the tasks
+-- a plan: the text that its names and places are of, the number of buses, the sources of events that are bound, what is
+-- said of the attempts of buses, the global variables, the tasks
 pub record Planned : Type 0 where
   pub text : List ℕ
   pub buses : ℕ
   pub sources : List BoundSource
+  pub tries : List BusTries
   pub globals : List GlobalVariable
   pub tasks : List PlannedTask
 
@@ -89,13 +91,13 @@ task_of name activation priority slots blocks constants instances =
       instances = instances;
     }
 
-abbrev pub plan_of : List ℕ → ℕ → List BoundSource → List GlobalVariable → List PlannedTask → Planned
-plan_of text buses sources globals tasks =
-    record { text = text; buses = buses; sources = sources; globals = globals; tasks = tasks }
+abbrev pub plan_of : List ℕ → ℕ → List BoundSource → List BusTries → List GlobalVariable → List PlannedTask → Planned
+plan_of text buses sources tries globals tasks =
+    record { text = text; buses = buses; sources = sources; tries = tries; globals = globals; tasks = tasks }
 
 -- what the plan's binding says
 abbrev pub wiring_of : Planned → Wiring
-wiring_of plan = record { buses = plan.buses; sources = plan.sources }
+wiring_of plan = record { buses = plan.buses; sources = plan.sources; tries = plan.tries }
 
 -- the types of a task's slots, and their values before the first scan
 abbrev pub types_of : PlannedTask → List IlType

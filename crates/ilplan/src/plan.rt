@@ -6,7 +6,7 @@ use crate::slot::SlotOwner;
 use crate::task::Task;
 use gearcmd::TaskKind;
 use std::marker::Model;
-use wordlines::BoundSource;
+use wordlines::{BoundSource, BusTries, tries_in};
 
 /// What a source program's tasks do, over slots in place of names. It has 1 to
 /// [`limits::MOST_BUSES`] buses, and at most [`limits::MOST_TASKS`] tasks.
@@ -14,6 +14,7 @@ pub struct Plan {
     text: Vec<u8>,
     buses: u8,
     sources: Vec<BoundSource>,
+    tries: Vec<BusTries>,
     globals: Vec<Global>,
     tasks: Vec<Task>,
 }
@@ -25,6 +26,7 @@ impl Drop for Plan {
             text: _,
             buses: _,
             sources: _,
+            tries: _,
             globals: _,
             tasks: _,
         } = self;
@@ -40,16 +42,18 @@ impl Model for Plan {
 
     ghost coded = { Prim.hlevel (codes, task.the_row.coded) };
 
-    ghost view = { λ p. plan_of p.text.items p.buses p.sources.items p.globals.items
-        p.tasks.items };
+    ghost view = { λ p. plan_of p.text.items p.buses p.sources.items p.tries.items
+        p.globals.items p.tasks.items };
 
     ghost invariant = { λ p. IsLawful (plan_of p.text.items p.buses p.sources.items
-        p.globals.items p.tasks.items) };
+        p.tries.items p.globals.items p.tasks.items) };
 }
 
 impl Plan {
     ghost use Rattle.std.specs.Prelude.{◌≡◌, ◌<◌, length, slice_get, Some, IfSome};
     ghost use Rattle.std.specs.Prelude.{option_map, option_and_then};
+    ghost use Rattle.limits.specs.Limits.{AreTries};
+    ghost use Rattle.wordlines.specs.Wirings.{tries_in};
     ghost use Rattle.ilsource.specs.Names.{text_of};
     ghost use Rattle.iltypes.specs.Values.{AreOf};
     ghost use Rattle.ilplan.specs.Plans.{Planned, KeepsLimits, IsLawful, plan_of, slot_at};
@@ -57,21 +61,25 @@ impl Plan {
     ghost use Rattle.ilplan.specs.Plans.{IsTaskOf, IsThere, instance_name, variable_name};
 
     /// The plan of these tasks, whose names stand in `text`, on so many buses with these sources of
-    /// events.
+    /// events and these attempts.
     pub fn new(
         text: Vec<u8>,
         buses: u8,
         sources: Vec<BoundSource>,
+        tries: Vec<BusTries>,
         globals: Vec<Global>,
         tasks: Vec<Task>,
     ) -> Plan
-        requires { IsLawful (plan_of text.items buses sources.items globals.items tasks.items) }
-        ensures { result ≡ plan_of text.items buses sources.items globals.items tasks.items }
+        requires { IsLawful (plan_of text.items buses sources.items tries.items globals.items
+            tasks.items) }
+        ensures { result ≡ plan_of text.items buses sources.items tries.items globals.items
+            tasks.items }
     {
         Plan {
             text,
             buses,
             sources,
+            tries,
             globals,
             tasks,
         }
@@ -97,6 +105,14 @@ impl Plan {
         ensures value { result.now ≡ self.now.sources }
     {
         &self.sources
+    }
+
+    /// The number of attempts that a bus has for a transaction.
+    pub fn tries(&self, bus: u8) -> u8
+        ensures value { result ≡ tries_in self.now.tries bus }
+        ensures range { AreTries result }
+    {
+        tries_in(&self.tries, bus)
     }
 
     /// How many tasks there are.

@@ -3,7 +3,7 @@ use Rattle.std.proofs.Common.{◌≡◌, ℕ, eqb, ◌+◌, ◌-◌, ◌<◌, �
 use Rattle.std.proofs.Common.{length, Option, Some, None, refl, sym, ap, ◌∙◌, subst, arith}
 use Rattle.std.proofs.lemmas.Bool.{eq-eqb, ne_eqb}
 use Rattle.std.specs.Prelude.{if◌then◌else◌}
-use Rattle.gearcmd.specs.FrameLists.{FrameList}
+use Rattle.gearcmd.specs.FrameLists.{FrameList, most_frames}
 use Rattle.transact.specs.Attempts.{ReportParts, IsReportParts}
 use Rattle.ilimage.specs.Images.{ProcessImage}
 use Rattle.plantevents.specs.declared.event.Event.{Event}
@@ -14,7 +14,7 @@ use Rattle.taskset.specs.TaskSets.{Follows}
 use Rattle.plantbuses.specs.KeptSteps.{KeptBus, bus_at, BusesFollow, ImageFollows}
 use Rattle.plantbuses.proofs.OwedChanges.{owed_done}
 use Rattle.plant.specs.Shown.{Shown, grown, kept, is_unreported, count_below}
-use Rattle.plant.specs.Matches.{IsOpenTransaction}
+use Rattle.plant.specs.Matches.{IsReportOf}
 use Rattle.plant.specs.KeptSteps.{KeptPlant, Says}
 use Rattle.plant.proofs.Counting.{count_less}
 use Rattle.plant.proofs.Reports.{hand_short, report_short, frames_few}
@@ -72,23 +72,25 @@ pub frames_room : (p : Shown) (k : KeptPlant) (b n : ℕ) (r : ReportParts) → 
 frames_room p k b n r says done =
     let few = frames_few p.plant b p.history says.legal in
     let e = (says.each_bus.1 b done.known).framed in
-    let short = report_short r done.report (subst (λ (t : FrameList). length t.frames ≤ 3) (sym done.transaction)
+    let short = report_short r done.report
+    (subst (λ (t : FrameList). length t.frames ≤ most_frames) (sym done.transaction)
     (hand_short p.plant b p.history done.handed says.legal done.is_open)) in
     let w = says.within in let l = says.place in let m = says.most in omega arith
 
 -- ---- the report is one of the transaction that is open
 
-pub done_now : (p q : Shown) (b n : ℕ) (t : FrameList) (r : ReportParts) → p ≡ q → t ≡ r.transaction
-    → IsOpenTransaction q b n t → IsReportParts r → IsDone p.plant p.history b n r
-done_now p q b n t r same is open_there report =
-    let open_here : IsOpenTransaction p b n t =
-    subst (λ (s : Shown). IsOpenTransaction s b n t) (sym same) open_there in
+pub done_now : (p q : Shown) (b n : ℕ) (r : ReportParts) → p ≡ q → IsReportOf q b n r → IsReportParts r
+    → IsDone p.plant p.history b n r
+done_now p q b n r same of_there report =
+    let of_here : IsReportOf p b n r = subst (λ (s : Shown). IsReportOf s b n r) (sym same) of_there in
+    let open_here = of_here.is_open in
     record {
       known = open_here.known;
       handed = open_here.handed;
       is_open = open_here.is_open;
       place = sym open_here.number;
-      transaction = sym is ∙ open_here.same;
+      transaction = open_here.same;
+      tries = of_here.tries;
       report = report;
     }
 

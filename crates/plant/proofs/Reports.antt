@@ -1,5 +1,5 @@
--- A transaction has three frames at most, and a report nine: so the count of a bus's frames has room.
-use Rattle.std.proofs.Common.{◌≡◌, ℕ, zero, suc, ◌+◌, ◌*◌, ◌≤◌, Bool, true, false, eqb, map, List, [], ◌∷◌, ◌++◌}
+-- A transaction has three frames at most, and a report fifteen: so the count of a bus's frames has room.
+use Rattle.std.proofs.Common.{◌≡◌, ℕ, zero, suc, ◌+◌, ◌-◌, ◌*◌, ◌≤◌, Bool, true, false, eqb, map, List, [], ◌∷◌, ◌++◌}
 use Rattle.std.proofs.Common.{length, length-append, Option, Some, None, sym, ap, subst, arith}
 use Rattle.std.specs.Prelude.{⊤, slice_get, option_to_list, if◌then◌else◌}
 use Rattle.daliframe.specs.declared.forward.Frame.{Frame}
@@ -10,12 +10,13 @@ use Rattle.gearcmd.specs.declared.requests.Request.{Request}
 use Rattle.gearcmd.specs.declared.requests.Command.{Command}
 use Rattle.gearcmd.specs.declared.requests.Command.TheVariants.{GearLevel, GearDo, GearSet, GearPair, GearAsk}
 use Rattle.gearcmd.specs.declared.requests.Command.TheVariants.{GearRead, DevDo, DevScheme, DevAsk}
-use Rattle.gearcmd.specs.FrameLists.{FrameList}
+use Rattle.gearcmd.specs.FrameLists.{FrameList, most_frames}
 use Rattle.gearcmd.specs.Requests.{frames_of}
 use Rattle.ilblocks.specs.Calls.{address_of}
 use Rattle.transact.specs.declared.marks.Mark.{Mark}
 use Rattle.transact.specs.declared.marks.Sent.{Sent}
 use Rattle.transact.specs.Attempts.{Attempt, IsReport, ReportParts, IsReportParts, marks_of, sent_with, all_sent}
+use Rattle.transact.specs.Attempts.{most_sent}
 use Rattle.plantevents.specs.declared.event.Event.{Event}
 use Rattle.plantevents.specs.declared.event.Event.TheVariants.{Tick, Heard, Take, Commit, Hand, Done, Down}
 use Rattle.plantevents.specs.Plants.{Plant}
@@ -44,7 +45,7 @@ each_first P (y ∷ xs) x all is = let e : y ≡ x = cc in subst P e all.0
 
 -- ---- frames of what is handed out
 
-few_of : (c : Command) → length (frames_of c) ≤ 3
+few_of : (c : Command) → length (frames_of c) ≤ most_frames
 few_of (GearLevel address level) = omega arith
 few_of (GearDo address cmd) = omega arith
 few_of (GearSet address cmd value) = omega arith
@@ -56,12 +57,12 @@ few_of (DevScheme address instance scheme) = omega arith
 few_of (DevAsk address instance cmd) = omega arith
 
 few_by : (level : ℕ) (o : Option Address)
-    → length (map (λ address. Forward16 (level_frame address level)) (option_to_list o)) ≤ 3
+    → length (map (λ address. Forward16 (level_frame address level)) (option_to_list o)) ≤ most_frames
 few_by level None = omega arith
 few_by level (Some address) = omega arith
 
 abbrev IsShort : Handout → Type 0
-IsShort x = length x.transaction.frames ≤ 3
+IsShort x = length x.transaction.frames ≤ most_frames
 
 class_short : (p : Plant) (b c : ℕ) (h : List Event) → Each IsShort (class_handouts p b h c)
 class_short p b c h =
@@ -76,22 +77,23 @@ all_short p b h =
     (each_append IsShort (class_handouts p b h 4) _ (class_short p b 4 h)
     (each_append IsShort (class_handouts p b h 5) _ (class_short p b 5 h) tt)))
 
-handed_here : (same : Bool) (here x : OpenHand) (before : Option OpenHand) → length here.transaction.frames ≤ 3
-    → (before ≡ Some x → length x.transaction.frames ≤ 3)
-    → (if same then Some here else before) ≡ Some x → length x.transaction.frames ≤ 3
+handed_here : (same : Bool) (here x : OpenHand) (before : Option OpenHand)
+    → length here.transaction.frames ≤ most_frames
+    → (before ≡ Some x → length x.transaction.frames ≤ most_frames)
+    → (if same then Some here else before) ≡ Some x → length x.transaction.frames ≤ most_frames
 handed_here true here x before few earlier is =
-    let e : here ≡ x = cc in subst (λ (y : OpenHand). length y.transaction.frames ≤ 3) e few
+    let e : here ≡ x = cc in subst (λ (y : OpenHand). length y.transaction.frames ≤ most_frames) e few
 handed_here false here x before few earlier is = earlier is
 
 closed_here : (same : Bool) (x : OpenHand) (before : Option OpenHand)
-    → (before ≡ Some x → length x.transaction.frames ≤ 3)
-    → (if same then None else before) ≡ Some x → length x.transaction.frames ≤ 3
+    → (before ≡ Some x → length x.transaction.frames ≤ most_frames)
+    → (if same then None else before) ≡ Some x → length x.transaction.frames ≤ most_frames
 closed_here true x before earlier is = absurd (cc)
 closed_here false x before earlier is = earlier is
 
 -- what a bus has open has three frames at most
 pub hand_short : (p : Plant) (b : ℕ) (h : List Event) (x : OpenHand) → AreLegal p h → hand b h ≡ Some x
-    → length x.transaction.frames ≤ 3
+    → length x.transaction.frames ≤ most_frames
 hand_short p b [] x legal is = absurd (cc)
 hand_short p b (Tick m ∷ h) x legal is = hand_short p b h x legal.1 is
 hand_short p b (Heard c f ∷ h) x legal is = hand_short p b h x legal.1 is
@@ -112,8 +114,8 @@ sent_short [] first marks = omega arith
 sent_short (f ∷ frames) first [] = omega arith
 sent_short (f ∷ frames) first (m ∷ marks) = let rest = sent_short frames 1 marks in omega arith
 
-all_sent_short : (list : FrameList) (attempts : List Attempt) → length list.frames ≤ 3
-    → length (all_sent list attempts) ≤ 3 * length attempts
+all_sent_short : (list : FrameList) (attempts : List Attempt) → length list.frames ≤ most_frames
+    → length (all_sent list attempts) ≤ most_frames * length attempts
 all_sent_short list [] few = omega arith
 all_sent_short list (a ∷ more) few =
     let here = sent_short list.frames list.first_priority (marks_of a) in
@@ -129,25 +131,28 @@ few_attempts zero count (a ∷ b ∷ more) is = absurd is
 few_attempts (suc retries) count (a ∷ b ∷ more) is =
     let rest = few_attempts retries count (b ∷ more) is.2 in omega arith
 
-pub report_short : (r : ReportParts) → IsReportParts r → length r.transaction.frames ≤ 3 → length r.attempts ≤ 9
-report_short r (marks, spells) few =
-    let few_tries = few_attempts 2 (length r.transaction.frames) spells.attempts spells.legal in
+pub report_short : (r : ReportParts) → IsReportParts r → length r.transaction.frames ≤ most_frames
+    → length r.attempts ≤ most_sent
+report_short r is few =
+    let spells = is.spelled in
+    let few_tries = few_attempts (r.tries - 1) (length r.transaction.frames) spells.attempts spells.legal in
+    let first = is.tries.first in let last = is.tries.last in
     let sent = all_sent_short r.transaction spells.attempts few in
     let same = ap (λ (xs : List Sent). length xs) spells.sent in omega arith
 
 done_short : (p : Plant) (b n : ℕ) (r : ReportParts) (h : List Event) → AreLegal p h → IsDone p h b n r
-    → length r.attempts ≤ 9
+    → length r.attempts ≤ most_sent
 done_short p b n r h legal done =
-    report_short r done.report (subst (λ (t : FrameList). length t.frames ≤ 3) (sym done.transaction)
+    report_short r done.report (subst (λ (t : FrameList). length t.frames ≤ most_frames) (sym done.transaction)
     (hand_short p b h done.handed legal done.is_open))
 
-more_frames : (same : Bool) (count sent places : ℕ) → count ≤ 9 * places → sent ≤ 9
-    → (if same then count + sent else count) ≤ 9 * (places + 1)
+more_frames : (same : Bool) (count sent places : ℕ) → count ≤ most_sent * places → sent ≤ most_sent
+    → (if same then count + sent else count) ≤ most_sent * (places + 1)
 more_frames true count sent places few short = omega arith
 more_frames false count sent places few short = omega arith
 
--- so a bus has nine frames for each event at most
-pub frames_few : (p : Plant) (b : ℕ) (h : List Event) → AreLegal p h → frames b h ≤ 9 * length h
+-- so a bus has fifteen frames for each event at most
+pub frames_few : (p : Plant) (b : ℕ) (h : List Event) → AreLegal p h → frames b h ≤ most_sent * length h
 frames_few p b [] legal = omega arith
 frames_few p b (Tick m ∷ h) legal = let r = frames_few p b h legal.1 in omega arith
 frames_few p b (Heard c f ∷ h) legal = let r = frames_few p b h legal.1 in omega arith

@@ -2,6 +2,7 @@
 use Rattle.std.proofs.Common.{◌≡◌, ℕ, zero, suc, ◌≤◌, Bool, true, false, List, [], length}
 use Rattle.std.proofs.Common.{replicate, Option, refl, sym, subst, arith}
 use Rattle.std.proofs.lemmas.List.{get_or-replicate, length-replicate}
+use Rattle.limits.specs.Limits.{most_buses}
 use Rattle.ilcompile.specs.Loaded.{Loaded}
 use Rattle.ilimage.specs.Images.{ProcessImage}
 use Rattle.plantevents.specs.declared.event.Event.{Event}
@@ -42,7 +43,7 @@ kept_at_first setup workers limit =
 pub opened_says : (setup : Loaded) (workers limit : ℕ) (tasks : TaskSet) (scans : List (Option OpenScan))
     (buses : List KeptBus) (inputs : List FromBus) (outputs : List (List (Option LevelOutput)))
     (owed : List OwedLevels) → IsWorkerCount workers → IsLimit limit
-    → setup.plan.buses ≤ 16
+    → setup.plan.buses ≤ most_buses
     → Follows (plant_of setup workers) [] tasks → AreIdle workers scans → AreFresh setup.plan.buses buses
     → InputsFollow setup.plan inputs → OutputsFollow (planned setup.plan) outputs
     → OwedFollow (plant_of setup workers) [] owed
@@ -104,7 +105,7 @@ pub kept_says : (setup : Loaded) (workers limit : ℕ) (history : List Event) (p
     (image : ProcessImage) (counts takes : List ℕ) (scans : List (Option OpenScan)) (buses : List KeptBus)
     (inputs : List FromBus) (outputs : List (List (Option LevelOutput))) (owed : List OwedLevels)
     (places_kept : ℕ)
-    → IsWorkerCount workers → IsLimit limit → setup.plan.buses ≤ 16 → history ≡ [] → places ≡ replicate
+    → IsWorkerCount workers → IsLimit limit → setup.plan.buses ≤ most_buses → history ≡ [] → places ≡ replicate
     setup.plan.buses false
     → Follows (plant_of setup workers) [] tasks → image ≡ opening (as_planned setup)
     → counts ≡ replicate (length setup.plan.sources) 0 → takes ≡ replicate (length setup.plan.tasks) 0

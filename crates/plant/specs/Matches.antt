@@ -1,9 +1,11 @@
 -- What is open at a worker and at a bus, and so what may end there (profile).
 use Rattle.std.specs.Prelude.{◌≡◌, ℕ, ◌<◌, Some}
 use Rattle.gearcmd.specs.FrameLists.{FrameList}
+use Rattle.transact.specs.Attempts.{ReportParts}
 use Rattle.ilmachine.specs.Scans.{Scan}
 use Rattle.plantevents.specs.Histories as histories
 use Rattle.plantevents.specs.Histories.{OpenScan, OpenHand}
+use Rattle.plantevents.specs.Plants.{tries_of}
 use Rattle.plant.specs.Shown.{Shown}
 
 -- the worker has this scan open: it has the number of the scan that the worker took, and the same snapshot
@@ -28,3 +30,8 @@ pub record IsOpenTransaction (p : Shown) (b n : ℕ) (transaction : FrameList) :
   pub is_open : histories.hand b p.history ≡ Some handed
   pub number : n ≡ handed.place
   pub same : transaction ≡ handed.transaction
+
+-- the report is one of the transaction that the bus has open under this number, by the attempts of the bus
+pub record IsReportOf (p : Shown) (b n : ℕ) (report : ReportParts) : Type 0 where
+  pub is_open : IsOpenTransaction p b n report.transaction
+  pub tries : report.tries ≡ tries_of p.plant b

@@ -1,8 +1,8 @@
 -- A plant as callers see it, and how many places of its history are kept back (profile).
-use Rattle.std.specs.Prelude.{ℕ, ◌≤◌, zero, suc, ◌+◌, ◌==◌, Bool, true, false, not, if◌then◌else◌, List, [], ◌∷◌}
+use Rattle.std.specs.Prelude.{ℕ, ◌<◌, ◌≤◌, zero, suc, ◌+◌, ◌==◌, Bool, true, false, not, if◌then◌else◌, List, [], ◌∷◌}
 use Rattle.std.specs.Prelude.{length}
 use Rattle.std.specs.Prelude.{replicate, slice_set, slice_index_or, is_some, nat_lt}
-use Rattle.limits.specs.Limits.{most_workers, least_events, most_events}
+use Rattle.limits.specs.Limits.{few_buses, most_workers, least_events, least_events_of_many, most_events}
 use Rattle.ilcompile.specs.Loaded.{Loaded}
 use Rattle.plant.specs.declared.open_fault.OpenFault.{OpenFault}
 use Rattle.plant.specs.declared.open_fault.OpenFault.TheVariants.{Memory, BadCount, Limit}
@@ -38,11 +38,20 @@ IsWorkerCount workers = (1 ≤ workers) × (workers ≤ most_workers)
 abbrev pub IsLimit : ℕ → Type 0
 IsLimit limit = (least_events ≤ limit) × (limit ≤ most_events)
 
--- why a plant is not opened: the number of workers before the limit; else the allocator may be out of memory
-abbrev pub IsOpenFault : ℕ → ℕ → OpenFault → Type 0
-IsOpenFault workers limit BadCount = ¬ IsWorkerCount workers
-IsOpenFault workers limit Limit = IsWorkerCount workers × (¬ IsLimit limit)
-IsOpenFault workers limit Memory = IsWorkerCount workers × IsLimit limit
+-- more than a few buses want a longer history
+abbrev pub IsRoomy : ℕ → ℕ → Type 0
+IsRoomy buses limit = few_buses < buses → least_events_of_many ≤ limit
+
+-- a limit that a plant of so many buses may have
+abbrev pub IsLimitOf : ℕ → ℕ → Type 0
+IsLimitOf buses limit = IsLimit limit × IsRoomy buses limit
+
+-- why a plant of so many buses is not opened: the number of workers before the limit; else the allocator may be out of
+-- memory
+abbrev pub IsOpenFault : ℕ → ℕ → ℕ → OpenFault → Type 0
+IsOpenFault buses workers limit BadCount = ¬ IsWorkerCount workers
+IsOpenFault buses workers limit Limit = IsWorkerCount workers × (¬ IsLimitOf buses limit)
+IsOpenFault buses workers limit Memory = IsWorkerCount workers × IsLimitOf buses limit
 
 -- a plant to which nothing has happened
 abbrev pub opened : Loaded → ℕ → ℕ → Shown

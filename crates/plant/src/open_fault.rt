@@ -8,6 +8,6 @@ pub enum OpenFault {
     Memory,
     /// 2: there are not 1 to 16 scan workers.
     BadCount,
-    /// 7: the limit is not 100 to 1,000,000.
+    /// 7: the limit is not 100 to 1,000,000, or below 500 with more than 16 buses.
     Limit,
 }

@@ -7,7 +7,8 @@ ghost use Rattle.plantevents.specs.declared.role.Role.TheVariants as roles;
 ghost use Rattle.plantevents.specs.Histories.{moment as last_moment, is_down};
 ghost use Rattle.plantevents.specs.Legal.{AreLegal, IsUp};
 ghost use Rattle.plant.specs.Shown.{Shown, grown, kept, reserving, is_reserved, is_full, opened};
-ghost use Rattle.plant.specs.Shown.{IsWorkerCount, IsLimit, IsOpenFault};
+ghost use Rattle.limits.specs.Limits.{most_events};
+ghost use Rattle.plant.specs.Shown.{IsWorkerCount, IsLimit, IsRoomy, IsOpenFault};
 ghost use Rattle.plant.specs.Refusals.{GivesFirst, tick_cases, may_tick_cases, heard_cases};
 ghost use Rattle.plant.specs.Refusals.{down_cases, is_full_for};
 
@@ -30,6 +31,7 @@ use daliframe::Frame24;
 pub use handing::Handed;
 use ilcompile::Setup;
 use ilimage::Image;
+use limits::{FEW_BUSES, LEAST_EVENTS_OF_MANY};
 pub use limits::{LEAST_EVENTS as LEAST_LIMIT, MOST_EVENTS as MOST_LIMIT, MOST_WORKERS};
 use memo::Trace;
 use plantbuses::{
@@ -140,18 +142,22 @@ impl Plant {
     ///
     /// # Errors
     ///
-    /// There are not 1 to 16 scan workers; else the limit is not 100 to 1,000,000; else the
-    /// allocator may be out of memory.
+    /// There are not 1 to 16 scan workers; else the limit is not 100 to 1,000,000, or below 500
+    /// with more than 16 buses; else the allocator may be out of memory.
     pub fn open(alloc: Global, setup: Setup, workers: usize, limit: u64) -> Result<Plant, OpenFault>
         ensures opened { IfOk result (λ plant. plant ≡ opened setup workers limit) }
         ensures workers { OnOk result (IsWorkerCount workers) }
         ensures limit { OnOk result (IsLimit limit) }
-        ensures fault { IfErr result (IsOpenFault workers limit) }
+        ensures roomy { OnOk result (IsRoomy setup.plan.buses limit) }
+        ensures fault { IfErr result (IsOpenFault setup.plan.buses workers limit) }
     {
         if workers < 1 || workers > MOST_WORKERS {
             return Err(OpenFault::BadCount);
         }
         if limit < LEAST_LIMIT || limit > MOST_LIMIT {
+            return Err(OpenFault::Limit);
+        }
+        if setup.plan().buses() > FEW_BUSES && limit < LEAST_EVENTS_OF_MANY {
             return Err(OpenFault::Limit);
         }
         Plant::fresh(alloc, setup, workers, limit).map_err(|_| OpenFault::Memory)
@@ -200,7 +206,7 @@ impl Plant {
     /// Sets the limit, which leaves room for what happened and for what is kept for events to come.
     pub fn set_limit(&mut self, limit: u64)
         requires room { length self.old.history + kept self.old ≤ limit }
-        requires most { limit ≤ 1000000 }
+        requires most { limit ≤ most_events }
         ensures { self.new ≡ record self.old { limit = limit } }
     {
         self.limit = limit;

@@ -52,9 +52,10 @@ runs =
     }
 
 reports : IsReportParts lamp_report
-reports = (
-  mark.Quiet ∷ [],
-  record {
+reports = record {
+  tries = record { first = omega arith; last = omega arith };
+  marks = mark.Quiet ∷ [];
+  spelled = record {
     attempts = record { before = []; last = mark.Quiet } ∷ [];
     legal = (
       record {
@@ -67,10 +68,11 @@ reports = (
     );
     spelled = refl;
     transaction = refl;
+    tries = refl;
     sent = refl;
     outcome = refl;
-  },
-)
+  };
+}
 
 pub one_of_each_is_legal : AreLegal working_house one_of_each
 one_of_each_is_legal = (
@@ -78,7 +80,15 @@ one_of_each_is_legal = (
   (
     record { known = omega arith; up = refl },
     (
-      record { known = omega arith; handed = _; is_open = refl; place = refl; transaction = refl; report = reports },
+      record {
+        known = omega arith;
+        handed = _;
+        is_open = refl;
+        place = refl;
+        transaction = refl;
+        tries = refl;
+        report = reports;
+      },
       (
         record {
           up = record { known = omega arith; up = refl };

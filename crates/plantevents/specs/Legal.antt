@@ -9,7 +9,7 @@ use Rattle.ilmachine.specs.Scans.{Scan, IsScan, store_of}
 use Rattle.plantevents.specs.declared.event.Origin.{Origin}
 use Rattle.plantevents.specs.declared.event.Event.{Event}
 use Rattle.plantevents.specs.declared.event.Event.TheVariants.{Tick, Heard, Take, Commit, Hand, Done, Down}
-use Rattle.plantevents.specs.Plants.{Plant, task_at}
+use Rattle.plantevents.specs.Plants.{Plant, task_at, tries_of}
 use Rattle.plantevents.specs.Histories.{OpenScan, OpenHand, moment, scan, hand, is_down}
 use Rattle.plantevents.specs.Variables.{IsSnapshot}
 use Rattle.plantevents.specs.Choices.{IsNextTask}
@@ -52,13 +52,14 @@ pub record IsHand (p : Plant) (h : List Event) (b : ℕ) (s : Origin) (t : Frame
   pub first : slice_get (handouts p b h) 0 ≡ Some (record { origin = s; transaction = t })
   pub legal : IsLegal t.frames t.first_priority
 
--- the report is one of the transaction that was handed out at place n and is open
+-- the report is one of the transaction that was handed out at place n and is open, by the attempts of the bus
 pub record IsDone (p : Plant) (h : List Event) (b n : ℕ) (r : ReportParts) : Type 0 where
   pub known : b < p.plan.buses
   pub handed : OpenHand
   pub is_open : hand b h ≡ Some handed
   pub place : handed.place ≡ n
   pub transaction : r.transaction ≡ handed.transaction
+  pub tries : r.tries ≡ tries_of p b
   pub report : IsReportParts r
 
 -- the event may follow the history

@@ -57,6 +57,7 @@ abbrev pub lamp_report : ReportParts
 lamp_report =
     record {
       transaction = lamp_off;
+      tries = 3;
       attempts = record { frame = Forward16 0x0A00; priority = 2; mark = mark.Quiet } ∷ [];
       outcome = outcome.Done reply.Quiet;
     }

@@ -3,6 +3,7 @@ use Rattle.std.specs.Prelude.{ℕ, ◌+◌, ◌==◌, ◌&&◌, Bool, false, Lis
 use Rattle.std.specs.Prelude.{Option, None, Some, option_map, option_and_then, option_to_list, unwrap_or, if◌then◌else◌}
 use Rattle.std.specs.List.{list_any}
 use Rattle.iltypes.specs.declared.value.Value.{Value}
+use Rattle.wordlines.specs.Wirings.{tries_in}
 use Rattle.dalievent.specs.declared.messages.EventSource.{EventSource}
 use Rattle.gearcmd.specs.declared.requests.TaskKind as kinds
 use Rattle.gearcmd.specs.declared.requests.TaskKind.TheVariants as kind
@@ -36,6 +37,10 @@ location p global = option_and_then (λ g. g.location) (slice_get p.plan.globals
 abbrev pub source_at : Plant → ℕ → ℕ → Option EventSource
 source_at p bus number =
     option_map (λ bound. bound.source) (find (λ bound. bound.bus == bus && bound.number == number) p.plan.sources)
+
+-- the attempts that a bus has for a transaction
+abbrev pub tries_of : Plant → ℕ → ℕ
+tries_of p bus = tries_in p.plan.tries bus
 
 -- ---- tasks
 

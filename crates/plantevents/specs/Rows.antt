@@ -2,6 +2,7 @@
 -- count of a push button, the level of lamp 5, and the answers of gear 63. Task 0 does `x := y`, task 1 `y := 5`, and
 -- task 2, which the button starts, sets the lamp to the information of its event.
 use Rattle.std.specs.Prelude.{ℕ, pos, ◌+◌, List, [], ◌∷◌, map, replicate, zero, suc, false, Option, Some, None}
+use Rattle.limits.specs.Limits.{usual_tries}
 use Rattle.iltypes.specs.declared.value.IlType.{IlType}
 use Rattle.iltypes.specs.declared.value.IlType.TheVariants as types
 use Rattle.iltypes.specs.declared.value.Value.{Value}
@@ -105,7 +106,7 @@ button = record { scheme = DeviceInstance; a = 5; b = 2 }
 abbrev pub house : Plant
 house =
     record {
-      plan = plan_of [] 1 (record { bus = 0; number = 0; source = button } ∷ []) globals tasks;
+      plan = plan_of [] 1 (record { bus = 0; number = 0; source = button } ∷ []) [] globals tasks;
       codes = map code tasks;
       workers = 2;
     }
@@ -151,7 +152,7 @@ abbrev pub reading : Request
 reading = request (GearRead 63 0 3)
 
 abbrev pub report : FrameList → Outcome → ReportParts
-report transaction outcome = record { transaction = transaction; attempts = []; outcome = outcome }
+report transaction outcome = record { transaction = transaction; tries = usual_tries; attempts = []; outcome = outcome }
 
 -- a scan of task 1 that ends with these requests
 abbrev pub asks : List Request → List Event → List Event

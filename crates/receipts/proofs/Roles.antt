@@ -1,11 +1,12 @@
 -- Roles and their seats: no two roles have one.
 use Rattle.std.proofs.Common.{◌≡◌, ◌≢◌, ℕ, ◌<◌, ◌/◌, ◌%◌, refl, sym, ap, arith}
+use Rattle.limits.specs.Limits.{most_seats}
 use Rattle.plantevents.specs.declared.role.Role.{Role}
 use Rattle.plantevents.specs.declared.role.Role.TheVariants.{Worker, Bus, Clock}
 use Rattle.plantevents.specs.Plants.{Plant}
 use Rattle.receipts.specs.Receipts.{IsRole, index_of, seat_of}
 
-pub index_below : (p : Plant) (r : Role) → IsRole p r → index_of r < 81
+pub index_below : (p : Plant) (r : Role) → IsRole p r → index_of r < most_seats
 index_below p (Worker w) known = omega arith
 index_below p (Bus b) known = omega arith
 index_below p Clock known = omega arith

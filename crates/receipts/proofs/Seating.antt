@@ -3,6 +3,7 @@ use Rattle.std.proofs.Common.{◌≡◌, ◌≢◌, ℕ, ◌+◌, ◌-◌, ◌<�
 use Rattle.std.proofs.Common.{◌∙◌, ⊎_elim, refl, sym, ap, subst, arith}
 use Rattle.std.proofs.lemmas.List.{length-append}
 use Rattle.std.specs.Prelude.{slice_index_or, true, false}
+use Rattle.limits.specs.Limits.{most_buses, most_seats, most_workers}
 use Rattle.plantevents.specs.declared.role.Role.{Role}
 use Rattle.plantevents.specs.declared.role.Role.TheVariants.{Worker, Bus, Clock}
 use Rattle.plantevents.specs.Parts.{is_same_role}
@@ -19,7 +20,7 @@ length_remove : {T : Type 0} (ties : List T) → 0 < length ties → length (rem
 length_remove [] some = absurd (omega arith)
 length_remove (x ∷ xs) some = omega arith
 
-pub next_unused : {T : Type 0} (seat : T → ℕ × ℕ) (amount : T → ℕ) (n : ℕ) (ties : List T) (tie : T) → n < 81
+pub next_unused : {T : Type 0} (seat : T → ℕ × ℕ) (amount : T → ℕ) (n : ℕ) (ties : List T) (tie : T) → n < most_seats
     → AreUnused seat amount n ties → tie ≡ slice_index_or ties 0 tie → IsNextTie seat amount n tie (remove ties 0)
 next_unused {T = T} seat amount n ties tie low unused is =
     let P : ℕ → T → Type 0 = λ k t. (seat t ≡ seat_at k) × (amount t ≡ 0) in
@@ -75,12 +76,12 @@ pub at_end : (k n count : ℕ) → k ≤ n → n ≤ k → n ≡ count → k ≡
 at_end k n count low high is = omega arith
 
 -- the seats that are passed over after them
-pub workers_passed : (k n count left : ℕ) → k ≤ n → n ≤ k → n ≡ count → count ≤ 16 → left ≡ 16 - n
-    → (k + left ≡ 16) × (k + left < 82)
+pub workers_passed : (k n count left : ℕ) → k ≤ n → n ≤ k → n ≡ count → count ≤ most_workers → left ≡ most_workers - n
+    → (k + left ≡ most_workers) × (k + left ≤ most_seats)
 workers_passed k n count left low high is few rest = (omega arith, omega arith)
 
-pub buses_passed : (k n count left : ℕ) → k ≤ n → n ≤ k → n ≡ count → count ≤ 64 → left ≡ 64 - n
-    → (16 + k + left ≡ 80) × (16 + k + left < 82)
+pub buses_passed : (k n count left : ℕ) → k ≤ n → n ≤ k → n ≡ count → count ≤ most_buses → left ≡ most_buses - n
+    → (most_workers + k + left ≡ most_workers + most_buses) × (most_workers + k + left ≤ most_seats)
 buses_passed k n count left low high is few rest = (omega arith, omega arith)
 
 -- ---- numbers
@@ -117,13 +118,14 @@ counted_none start number role known low = absurd (omega arith)
 
 -- no role has a seat between the workers and the buses, and between the buses and the clock
 pub workers_counted : (start : Shown) (number : ℕ × ℕ → ℕ) → AreCounted start number start.plant.workers
-    → AreCounted start number 16
+    → AreCounted start number most_workers
 workers_counted start number counted (Worker w) is low = counted (Worker w) is is.0
 workers_counted start number counted (Bus b) is low = absurd (omega arith)
 workers_counted start number counted Clock is low = absurd (omega arith)
 
 pub buses_counted : (start : Shown) (number : ℕ × ℕ → ℕ)
-    → AreCounted start number (16 + start.plant.plan.buses) → AreCounted start number 80
+    → AreCounted start number (most_workers + start.plant.plan.buses)
+    → AreCounted start number (most_workers + most_buses)
 buses_counted start number counted (Worker w) is low = let i = is.1 in counted (Worker w) is (omega arith)
 buses_counted start number counted (Bus b) is low = let i = is.0 in counted (Bus b) is (omega arith)
 buses_counted start number counted Clock is low = absurd (omega arith)

@@ -1,6 +1,7 @@
 -- What contracts see of a Share: its receipts are the events of its role since the start of the lock (profile).
 use Rattle.std.specs.Prelude.{◌≡◌, ℕ, ◌+◌, ◌<◌, ◌/◌, ◌%◌, Bool, true, false, if◌then◌else◌, List, [], ◌++◌, ◌∷◌}
 use Rattle.std.specs.Prelude.{is_some, length, ⊤}
+use Rattle.limits.specs.Limits.{most_buses, most_workers}
 use Rattle.plantevents.specs.declared.role.Role.{Role}
 use Rattle.plantevents.specs.declared.role.Role.TheVariants.{Worker, Bus, Clock}
 use Rattle.plantevents.specs.declared.event.Event.{Event}
@@ -12,17 +13,17 @@ use Rattle.receipts.specs.Each.{Each}
 
 -- ---- roles
 
--- a role of the plant: at most 16 scan workers and 64 buses have a seat
+-- a role of the plant, one that has a seat
 abbrev pub IsRole : Plant → Role → Type 0
-IsRole p (Worker w) = (w < p.workers) × (w < 16)
-IsRole p (Bus b) = (b < p.plan.buses) × (b < 64)
+IsRole p (Worker w) = (w < p.workers) × (w < most_workers)
+IsRole p (Bus b) = (b < p.plan.buses) × (b < most_buses)
 IsRole p Clock = ⊤
 
 -- scan workers, then buses, then the clock
 abbrev pub index_of : Role → ℕ
 index_of (Worker w) = w
-index_of (Bus b) = 16 + b
-index_of Clock = 80
+index_of (Bus b) = most_workers + b
+index_of Clock = most_workers + most_buses
 
 -- the seat of the k-th of all
 abbrev pub seat_at : ℕ → ℕ × ℕ

@@ -1,5 +1,6 @@
 -- The seats before the first event: the ties of those that are left, and the numbers of the others.
 use Rattle.std.specs.Prelude.{◌≡◌, ℕ, ◌+◌, ◌<◌, List, length}
+use Rattle.limits.specs.Limits.{most_seats}
 use Rattle.plantevents.specs.declared.role.Role.{Role}
 use Rattle.plant.specs.Shown.{Shown, is_reserved}
 use Rattle.receipts.specs.Each.{Each}
@@ -8,7 +9,7 @@ use Rattle.receipts.specs.Tokens.{one_if}
 
 -- these are the ties of the seats from the n-th to the last, in order, each without an amount
 pub record AreUnused {T : Type 0} (seat : T → ℕ × ℕ) (amount : T → ℕ) (n : ℕ) (ties : List T) : Type 0 where
-  pub count : n + length ties ≡ 81
+  pub count : n + length ties ≡ most_seats
   pub each : Each (λ k tie. (seat tie ≡ seat_at k) × (amount tie ≡ 0)) n ties
 
 -- the n-th of them is this tie, and these are left

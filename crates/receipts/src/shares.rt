@@ -2,6 +2,7 @@
 
 ghost use Rattle.std.specs.Prelude.{◌≡◌, ◌≢◌, ℕ, ◌+◌, ◌<◌, ◌≤◌, OnOk, IfOk};
 ghost use Rattle.plantevents.specs.declared.role.Role.TheVariants as roles;
+ghost use Rattle.limits.specs.Limits.{most_buses, most_seats, most_workers};
 ghost use Rattle.receipts.specs.Opened.{AreFreshShares};
 ghost use Rattle.receipts.specs.Receipts.{IsFresh, AreFresh, IsRole, index_of};
 ghost use Rattle.receipts.specs.Seats.{AreCounted, AreUnused, IsNextTie};
@@ -9,15 +10,11 @@ ghost use Rattle.receipts.specs.Tokens.{one_if};
 
 use crate::basis::Basis;
 use crate::share::Share;
+use limits::{MOST_BUSES, MOST_WORKERS};
 use plant::Plant;
 use plantevents::Role;
 use seats::{Seated, Tallies};
 use std::alloc::{AllocError, Global};
-
-/// The most scan workers, and the most buses, that have a seat.
-const WORKER_SEATS: usize = 16;
-
-const BUS_SEATS: u8 = 64;
 
 /// The Share of each role.
 #[derive(Drop)]
@@ -32,8 +29,8 @@ pub struct Shares<'a, J: Basis, T: Seated> {
 
 /// The tie of the next seat.
 fn next_tie<T: Seated>(ties: &mut Vec<T>) -> T
-    requires { (n : ℕ) × (n < 81) × AreUnused T.seat T.amount n ties.old.items }
-    ensures { (n : ℕ) → n < 81 → AreUnused T.seat T.amount n ties.old.items
+    requires { (n : ℕ) × (n < most_seats) × AreUnused T.seat T.amount n ties.old.items }
+    ensures { (n : ℕ) → n < most_seats → AreUnused T.seat T.amount n ties.old.items
         → IsNextTie T.seat T.amount n result ties.new.items }
 {
     ties.remove(0)
@@ -41,8 +38,8 @@ fn next_tie<T: Seated>(ties: &mut Vec<T>) -> T
 
 /// Passes over the ties of so many seats, which have no role.
 fn skip_ties<T: Seated>(ties: &mut Vec<T>, seats: usize)
-    requires { (n : ℕ) × (n + seats < 82) × AreUnused T.seat T.amount n ties.old.items }
-    ensures { (n : ℕ) → n + seats < 82 → AreUnused T.seat T.amount n ties.old.items
+    requires { (n : ℕ) × (n + seats ≤ most_seats) × AreUnused T.seat T.amount n ties.old.items }
+    ensures { (n : ℕ) → n + seats ≤ most_seats → AreUnused T.seat T.amount n ties.old.items
         → AreUnused T.seat T.amount (n + seats) ties.new.items }
 {
     for _seat in 0..seats {
@@ -96,12 +93,12 @@ fn worker_shares<'a, J: Basis, T: Seated, K: Tallies<T>>(
     ties: &mut Vec<T>,
 ) -> Result<Vec<Share<'a, J, T>>, AllocError>
     requires start { plant.now ≡ J.start }
-    requires seated { J.start.plant.workers ≤ 16 }
+    requires seated { J.start.plant.workers ≤ most_workers }
     requires unused { AreUnused T.seat T.amount 0 ties.old.items }
     ensures shares { IfOk result
         (λ v. AreFresh J.start roles.Worker J.start.plant.workers v.items) }
-    ensures unused { OnOk result (AreUnused T.seat T.amount 16 ties.new.items) }
-    ensures counted { OnOk result (AreCounted J.start (K.number books.new) 16) }
+    ensures unused { OnOk result (AreUnused T.seat T.amount most_workers ties.new.items) }
+    ensures counted { OnOk result (AreCounted J.start (K.number books.new) most_workers) }
 {
     let mut shares = Vec::new(alloc);
     let workers = plant.workers();
@@ -109,7 +106,7 @@ fn worker_shares<'a, J: Basis, T: Seated, K: Tallies<T>>(
         let share = next_share(alloc, plant, Role::Worker(worker), books, ties)?;
         shares.push(share)?;
     }
-    skip_ties(ties, WORKER_SEATS - workers);
+    skip_ties(ties, MOST_WORKERS - workers);
     Ok(shares)
 }
 
@@ -121,13 +118,15 @@ fn bus_shares<'a, J: Basis, T: Seated, K: Tallies<T>>(
     ties: &mut Vec<T>,
 ) -> Result<Vec<Share<'a, J, T>>, AllocError>
     requires start { plant.now ≡ J.start }
-    requires seated { J.start.plant.plan.buses ≤ 64 }
-    requires unused { AreUnused T.seat T.amount 16 ties.old.items }
-    requires counted { AreCounted J.start (K.number books.old) 16 }
+    requires seated { J.start.plant.plan.buses ≤ most_buses }
+    requires unused { AreUnused T.seat T.amount most_workers ties.old.items }
+    requires counted { AreCounted J.start (K.number books.old) most_workers }
     ensures shares { IfOk result
         (λ v. AreFresh J.start roles.Bus J.start.plant.plan.buses v.items) }
-    ensures unused { OnOk result (AreUnused T.seat T.amount 80 ties.new.items) }
-    ensures counted { OnOk result (AreCounted J.start (K.number books.new) 80) }
+    ensures unused { OnOk result
+        (AreUnused T.seat T.amount (most_workers + most_buses) ties.new.items) }
+    ensures counted { OnOk result
+        (AreCounted J.start (K.number books.new) (most_workers + most_buses)) }
 {
     let mut shares = Vec::new(alloc);
     let buses = plant.setup().plan().buses();
@@ -135,7 +134,7 @@ fn bus_shares<'a, J: Basis, T: Seated, K: Tallies<T>>(
         let share = next_share(alloc, plant, Role::Bus(bus), books, ties)?;
         shares.push(share)?;
     }
-    skip_ties(ties, usize::from(BUS_SEATS - buses));
+    skip_ties(ties, usize::from(MOST_BUSES - buses));
     Ok(shares)
 }
 
@@ -153,11 +152,11 @@ impl<'a, J: Basis, T: Seated> Shares<'a, J, T> {
         ties: Vec<T>,
     ) -> Result<Shares<'a, J, T>, AllocError>
         requires start { plant.now ≡ J.start }
-        requires workers { J.start.plant.workers ≤ 16 }
-        requires buses { J.start.plant.plan.buses ≤ 64 }
+        requires workers { J.start.plant.workers ≤ most_workers }
+        requires buses { J.start.plant.plan.buses ≤ most_buses }
         requires unused { AreUnused T.seat T.amount 0 ties.items }
         ensures fresh { IfOk result (AreFreshShares J.start) }
-        ensures counted { OnOk result (AreCounted J.start (K.number books.new) 81) }
+        ensures counted { OnOk result (AreCounted J.start (K.number books.new) most_seats) }
     {
         let mut ties = ties;
         let workers = worker_shares(alloc, plant, books, &mut ties)?;

@@ -53,7 +53,7 @@ impl Stage {
             "take" => self.take(line, words),
             "commit" => self.add(line),
             "hand" => self.hand(line, words),
-            "done" => self.end(line, words),
+            "done" => self.end(plan, line, words),
             "down" => self.go_down(line, words),
             _ => self.note(line),
         }
@@ -116,24 +116,25 @@ impl Stage {
     }
 
     /// What was handed to a bus is done.
-    fn end(&mut self, line: &str, words: &str) -> Result<(), AllocError> {
+    fn end(&mut self, plan: &Plan, line: &str, words: &str) -> Result<(), AllocError> {
         self.add(line)?;
         match bus_and_rest(words) {
             Some((bus, outcome)) => {
                 let sign = sign_of(outcome);
                 self.mark_bus(bus, sign)?;
-                self.send_again(bus, sign)
+                self.send_again(plan, bus, sign)
             }
             None => Ok(()),
         }
     }
 
-    /// Sends the frames once more, and marks the levels that they leave.
-    fn send_again(&mut self, number: u8, sign: Sign) -> Result<(), AllocError> {
+    /// Sends the frames once more, in as many attempts as the plan gives the bus, and marks the
+    /// levels that they leave.
+    fn send_again(&mut self, plan: &Plan, number: u8, sign: Sign) -> Result<(), AllocError> {
         let column = self.column();
         let rows = &mut self.picture.lamps;
         if let Some(bus) = self.buses.get_mut(usize::from(number)) {
-            send_again(bus, &self.handed)?;
+            send_again(bus, &self.handed, plan.tries(number))?;
             mark_lamps(&self.lamps, rows, bus, number, column)?;
         }
         if sign == Sign::GaveUp || sign == Sign::Failed {

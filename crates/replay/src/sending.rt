@@ -4,12 +4,11 @@ use buslink::{Bus, Fault};
 use daliframe::Frame;
 use simbus::SimBus;
 use std::alloc::AllocError;
-use transact::{MOST_ATTEMPTS, Reply};
+use transact::Reply;
 
-/// Sends the frames of a transaction, and all again after each loss, as often as a transaction is
-/// tried.
-pub(crate) fn send_again(bus: &mut SimBus, frames: &[Frame]) -> Result<(), AllocError> {
-    for _ in 0..MOST_ATTEMPTS {
+/// Sends the frames of a transaction, and all again after each loss, in so many attempts at most.
+pub(crate) fn send_again(bus: &mut SimBus, frames: &[Frame], tries: u8) -> Result<(), AllocError> {
+    for _ in 0..tries {
         if !is_lost(bus, frames)? {
             return Ok(());
         }

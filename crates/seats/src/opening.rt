@@ -3,11 +3,13 @@
 ghost use Rattle.std.specs.Prelude.{◌≡◌, ℕ, ◌+◌, ◌≤◌, [], ◌∷◌, ◌++◌, IfOk, map};
 ghost use Rattle.std.specs.Prelude.{slice_index_or, vec_capacity, vec_len};
 ghost use Rattle.std.specs.List.{range_with_len};
+ghost use Rattle.limits.specs.Limits.{most_seats};
 ghost use Rattle.seatgroups.specs.Openings.{no_amounts};
 ghost use Rattle.seats.specs.Families.{Seating, number, seating_of};
 ghost use Rattle.seats.specs.Openings.{fresh, fresh_group};
 
 use crate::family::{Books, Half, Tie};
+use limits::MOST_SEATS;
 use seatgroups::{GroupBlanks, GroupBooks, GroupTie, GroupTies, Names};
 use std::alloc::{AllocError, Global};
 use std::marker::Model;
@@ -218,10 +220,10 @@ impl Blanks {
     pub fn open<N: Names>(self, alloc: Global) -> Result<(Books<N>, Vec<Tie<N>>), AllocError>
         requires { self ≡ N.names }
         ensures books { IfOk result (λ r. (seat : ℕ × ℕ) → number r.0 seat ≡ 0) }
-        ensures ties { IfOk result (λ r. r.1.items ≡ map fresh (range_with_len 0 81)) }
+        ensures ties { IfOk result (λ r. r.1.items ≡ map fresh (range_with_len 0 most_seats)) }
     {
         let mut ties = Vec::new(alloc);
-        ties.reserve(81)?;
+        ties.reserve(MOST_SEATS)?;
         let Blanks {
             g0,
             g1,

@@ -1,202 +1,329 @@
-//! Two buses send at once, two tasks are scanned at once, scans are made while the clock still gives
-//! moments, and a run goes on where the clock does.
+//! Buses send at once, and send again after they were idle; tasks are scanned at once; frames are
+//! heard and sent and scans are made while the clock still gives moments; an end is seen while it
+//! does; what is left at the clock's end is done; and a run goes on where the clock does.
 
-use crate::watch::{PausedClock, WaitingClock, Watch, Watched};
+use crate::house::House;
+use crate::links::{PausedClock, WaitingClock, WatchedBus};
+use crate::watch::{NOW, Rules, Until, Watch};
 use daliframe::BusNumber;
-use ilcompile::Setup;
-use plantload::load;
+use plant::Plant;
 use plantplay::bus_of;
-use simbus::{Scenario, ScriptedClock, SimBus, parse};
+use simbus::{Scenario, ScriptedClock};
 use std::alloc::Global;
 use std::sync::Wait;
 use std::test::Fail;
 use std::thread::Threads;
 use std::time::Clock as Timer;
-use wordlines::Binding;
 use workers::{Closed, Ended, Opening, run, run_again};
 
-/// A lamp on each of two buses, and one task.
-const LAMPS: &str = "PROGRAM p\nVAR x : BOOL; END_VAR\nLDN x\nST x\nEND_PROGRAM\n\
-    CONFIGURATION c\n\
-    VAR_GLOBAL\none AT %QB0.5 : USINT (0..254);\ntwo AT %QB1.5 : USINT (0..254);\nEND_VAR\n\
-    TASK t (INTERVAL := T#100ms, PRIORITY := 1);\nPROGRAM i WITH t : p;\n\
-    END_CONFIGURATION\n";
-
-/// Two tasks.
-const PAIR: &str = "PROGRAM p\nVAR x : BOOL; END_VAR\nLDN x\nST x\nEND_PROGRAM\n\
-    CONFIGURATION c\n\
-    TASK a (INTERVAL := T#100ms, PRIORITY := 1);\nTASK b (INTERVAL := T#100ms, PRIORITY := 1);\n\
-    PROGRAM i WITH a : p;\nPROGRAM j WITH b : p;\n\
-    END_CONFIGURATION\n";
-
-/// What is run, and what its clock waits for.
+/// What is run, what is waited for, and how it ends.
 #[derive(Clone, Copy)]
 struct Row {
     name: &'static str,
-    text: &'static str,
-    binding: &'static str,
-    buses: u8,
-    scenario: &'static str,
+    house: House,
     workers: usize,
-    watched: Watched,
-    /// So many scans or transactions begin before one goes on.
-    holds: u64,
-    /// So many began before the clock gives its next answer.
-    waits: &'static [u64],
+    has_memory: bool,
+    limit: u64,
+    scans_wait: Until,
+    buses_wait: bool,
+    /// What each answer of the clock waits for.
+    waits: &'static [Until],
     /// The clock comes to its end once after so many answers.
     pause: u64,
-    /// The scans of the first task.
+    ended: Ended,
+    /// The scans of each task.
     scans: u64,
 }
 
-const ROWS: [Row; 3] = [
+/// A house of 64 buses with no task, whose levels are owed from the start.
+const LAMPS: House = House {
+    buses: 64,
+    tasks: 0,
+    has_events: false,
+    level: 0,
+    moments: 1,
+};
+
+/// A house of two buses with a task, whose levels are not owed before its first scan.
+const COUNTER: House = House {
+    buses: 2,
+    tasks: 1,
+    has_events: false,
+    level: 255,
+    moments: 3,
+};
+
+/// What most rows have: one scan worker, no scan or bus waits, and the clock comes to its end.
+const PLAIN: Row = Row {
+    name: "",
+    house: LAMPS,
+    workers: 1,
+    has_memory: true,
+    limit: 1000,
+    scans_wait: NOW,
+    buses_wait: false,
+    waits: &[NOW],
+    pause: 1,
+    ended: Ended::Asked,
+    scans: 0,
+};
+
+/// Each bus sent its first frame.
+const SENT: Until = Until { sent: 1, ..NOW };
+
+/// A scan of each task began.
+const SCANNED: Until = Until { scans: 1, ..NOW };
+
+/// Each answer of a clock waits for the scan of the one before, also where it goes on from its end.
+const STEPS: [Until; 6] = [
+    NOW,
+    SCANNED,
+    Until { scans: 2, ..NOW },
+    Until { scans: 3, ..NOW },
+    NOW,
+    Until { scans: 4, ..NOW },
+];
+
+const ROWS: [Row; 9] = [
     Row {
         name: "two buses send at once",
-        text: LAMPS,
-        binding: "buses 2\n",
-        buses: 2,
-        scenario: "tick 0\n",
-        workers: 1,
-        watched: Watched::Transactions,
-        holds: 2,
-        waits: &[0, 2],
-        pause: 2,
-        scans: 1,
+        house: House { buses: 2, ..LAMPS },
+        buses_wait: true,
+        waits: &[NOW, SENT],
+        ..PLAIN
     },
     Row {
-        name: "two tasks are scanned at once",
-        text: PAIR,
-        binding: "buses 1\n",
-        buses: 1,
-        scenario: "tick 0\n",
+        name: "64 buses send at once",
+        buses_wait: true,
+        waits: &[NOW, SENT],
+        ..PLAIN
+    },
+    Row {
+        name: "64 buses hear and send before the clock's end",
+        house: House {
+            tasks: 16,
+            has_events: true,
+            level: 255,
+            ..LAMPS
+        },
         workers: 2,
-        watched: Watched::Scans,
-        holds: 2,
-        waits: &[0, 2],
-        pause: 2,
+        waits: &[
+            NOW,
+            Until {
+                heard: 1,
+                sent: 1,
+                scans: 1,
+                ..NOW
+            },
+        ],
         scans: 1,
+        ..PLAIN
+    },
+    Row {
+        name: "64 buses that were idle send again",
+        house: House {
+            buses: 64,
+            moments: 2,
+            ..COUNTER
+        },
+        waits: &[
+            NOW,
+            Until {
+                sent: 1,
+                idle: 50,
+                ..NOW
+            },
+            Until { sent: 2, ..NOW },
+        ],
+        pause: 2,
+        scans: 2,
+        ..PLAIN
+    },
+    Row {
+        name: "16 tasks are scanned at once",
+        house: House {
+            tasks: 16,
+            moments: 1,
+            ..COUNTER
+        },
+        workers: 16,
+        scans_wait: Until {
+            scans: 1,
+            works: 1,
+            ..NOW
+        },
+        waits: &[NOW, SCANNED],
+        scans: 1,
+        ..PLAIN
     },
     Row {
         name: "scans are made before the clock's end",
-        text: LAMPS,
-        binding: "buses 2\n",
-        buses: 2,
-        scenario: "tick 0\ntick 100\ntick 200\n",
+        house: COUNTER,
         workers: 2,
-        watched: Watched::Scans,
-        holds: 0,
-        waits: &[0, 1, 2, 3],
+        waits: &STEPS,
         pause: 3,
         scans: 3,
+        ..PLAIN
+    },
+    Row {
+        name: "what is left at the clock's end is done",
+        house: House {
+            tasks: 2,
+            moments: 1,
+            ..COUNTER
+        },
+        scans_wait: Until { ends: 1, ..NOW },
+        scans: 1,
+        ..PLAIN
+    },
+    Row {
+        name: "a full run ends before its clock",
+        house: House {
+            buses: 1,
+            moments: 900,
+            ..LAMPS
+        },
+        limit: 100,
+        pause: 900,
+        ended: Ended::Limit,
+        ..PLAIN
+    },
+    Row {
+        name: "a run without memory ends before its clock",
+        house: House {
+            buses: 1,
+            moments: 900,
+            ..LAMPS
+        },
+        has_memory: false,
+        pause: 900,
+        ended: Ended::NoMemory,
+        ..PLAIN
     },
 ];
 
 /// A clock that comes to its end after three moments, and goes on with a fourth.
 const FOURTH: Row = Row {
     name: "a run goes on with the clock",
-    text: LAMPS,
-    binding: "buses 2\n",
-    buses: 2,
-    scenario: "tick 0\ntick 100\ntick 200\ntick 300\n",
+    house: House {
+        moments: 4,
+        ..COUNTER
+    },
     workers: 2,
-    watched: Watched::Scans,
-    holds: 0,
-    waits: &[0, 1, 2, 3, 3, 4],
+    waits: &STEPS,
     pause: 3,
     scans: 3,
+    ..PLAIN
 };
 
-/// The setup of a text.
-fn setup_of(alloc: Global, row: &Row) -> Result<Setup, Fail> {
-    let Ok(binding) = Binding::parse(alloc, row.binding.as_bytes()) else {
-        return Err(Fail::new("the binding is refused"));
-    };
-    match load(alloc, row.text.as_bytes(), &binding) {
-        Ok(setup) => Ok(setup),
-        Err(_) => Err(Fail::new("the text is refused")),
+impl Row {
+    /// How many there are of each kind, and who waits.
+    fn rules(&self) -> Rules {
+        Rules {
+            buses: usize::from(self.house.buses),
+            tasks: usize::from(self.house.tasks),
+            workers: self.workers,
+            scans_wait: self.scans_wait,
+            buses_wait: self.buses_wait,
+        }
     }
 }
 
-/// The simulated buses of a scenario.
-fn buses_of(alloc: Global, scenario: &Scenario, count: u8) -> Result<Vec<SimBus>, Fail> {
+/// The buses of a row, to which all has come that is to be heard.
+fn buses_of<'w, 'r, R: Timer>(
+    alloc: Global,
+    watch: &'w Watch<'r, R>,
+    row: &Row,
+    scenario: &Scenario,
+) -> Result<Vec<WatchedBus<'w, 'r, R>>, Fail> {
     let mut buses = Vec::new(alloc);
-    for bus in 0..count {
+    for bus in 0..row.house.buses {
         if let Some(number) = BusNumber::new(bus) {
-            buses.push(bus_of(alloc, scenario, number)?)?;
+            let mut line = bus_of(alloc, scenario, number)?;
+            line.arrive_all();
+            let bus = WatchedBus::new(line, watch, usize::from(bus), row.has_memory);
+            buses.push(bus)?;
         }
     }
     Ok(buses)
 }
 
-/// The links of a row.
-#[derive(Drop)]
-struct Linked<'w, 'r, R> {
-    buses: Vec<SimBus>,
-    clock: WaitingClock<'w, 'r, R>,
-}
+/// What a run of the tests leaves.
+type Left<'w, 'r, R> = Closed<WatchedBus<'w, 'r, R>, WaitingClock<'w, 'r, R>>;
 
-/// The links of a row, over which nothing went.
-fn link<'w, 'r, R: Timer>(
+/// Runs a row.
+fn run_row<'w, 'r, R: Threads + Wait + Timer + Sync>(
+    rt: &R,
     alloc: Global,
     watch: &'w Watch<'r, R>,
     row: &Row,
-) -> Result<Linked<'w, 'r, R>, Fail> {
-    let Ok(scenario) = parse(alloc, row.scenario.as_bytes()) else {
-        return Err(Fail::new("the scenario is refused"));
-    };
-    let buses = buses_of(alloc, &scenario, row.buses)?;
+) -> Result<Left<'w, 'r, R>, Fail> {
+    let scenario = row.house.scenario(alloc)?;
+    let buses = buses_of(alloc, watch, row, &scenario)?;
     let clock = PausedClock::new(ScriptedClock::of(alloc, &scenario)?, row.pause);
     let clock = WaitingClock::new(clock, watch, row.waits);
-    Ok(Linked { buses, clock })
+    let opening = Opening {
+        setup: row.house.setup(alloc)?,
+        limit: row.limit,
+    };
+    match run(rt, alloc, opening, buses, clock, row.workers, watch) {
+        Ok(left) => Ok(left),
+        Err(_) => Err(Fail::new("the run doesn't start")),
+    }
 }
 
-/// Whether the first task was scanned so often, and the clock came to its end.
-fn has_scanned<'w, 'r, R: Timer>(
-    left: &Closed<SimBus, WaitingClock<'w, 'r, R>>,
+/// Whether the gate and the buses counted what the history has, and each task was scanned so often.
+fn has_counted<'r, R: Timer>(plant: &Plant, watch: &Watch<'r, R>, scans: u64) -> bool {
+    let mut same = watch.is_kept();
+    for bus in 0..plant.setup().plan().buses() {
+        let frames = plant.frames(bus);
+        let number = usize::from(bus);
+        same = same && watch.sent.of(number) == frames && watch.handed.of(number) == frames;
+    }
+    for task in 0..plant.setup().plan().tasks() {
+        same = same && plant.scans(task) == scans && watch.scans.of(task) == scans;
+    }
+    same
+}
+
+/// Whether nobody waited in vain, the run ended so, and all was counted.
+fn is_left<'w, 'r, R: Timer>(
+    left: &Left<'w, 'r, R>,
+    watch: &Watch<'r, R>,
+    ended: Ended,
     scans: u64,
 ) -> bool {
-    let plant = left.plant.as_plant();
-    left.ended == Ended::Asked && 0 < plant.setup().plan().tasks() && plant.scans(0) == scans
+    left.ended == ended
+        && left.clock.gave_none() == (ended == Ended::Asked)
+        && has_counted(left.plant.as_plant(), watch, scans)
 }
 
-/// Whether nobody waited in vain, the clock came to its end, and the scans were made.
+/// Whether a row holds.
 fn holds<R: Threads + Wait + Timer + Sync>(rt: &R, alloc: Global, row: &Row) -> Result<bool, Fail> {
-    let watch = Watch::new(rt, row.watched, row.holds);
-    let Linked { buses, clock } = link(alloc, &watch, row)?;
-    let setup = setup_of(alloc, row)?;
-    let opening = Opening { setup, limit: 1000 };
-    let Ok(left) = run(rt, alloc, opening, buses, clock, row.workers, &watch) else {
-        return Err(Fail::new("the run doesn't start"));
-    };
-    Ok(watch.is_kept() && has_scanned(&left, row.scans))
+    let watch = Watch::new(rt, alloc, row.rules())?;
+    let left = run_row(rt, alloc, &watch, row)?;
+    Ok(is_left(&left, &watch, row.ended, row.scans))
 }
 
-/// Whether a run goes on where its clock does and makes a scan more, under the limit of before; under
-/// one less it is refused, and what was left comes back.
+/// Whether a run goes on where its clock does and makes a scan more, under the limit of before;
+/// under one less it is refused, and what was left comes back.
 fn goes_on<R: Threads + Wait + Timer + Sync>(
     rt: &R,
     alloc: Global,
     row: &Row,
 ) -> Result<bool, Fail> {
-    let watch = Watch::new(rt, row.watched, row.holds);
-    let Linked { buses, clock } = link(alloc, &watch, row)?;
-    let setup = setup_of(alloc, row)?;
-    let opening = Opening { setup, limit: 1000 };
-    let Ok(left) = run(rt, alloc, opening, buses, clock, row.workers, &watch) else {
-        return Err(Fail::new("the run doesn't start"));
-    };
-    if !has_scanned(&left, row.scans) {
+    let watch = Watch::new(rt, alloc, row.rules())?;
+    let left = run_row(rt, alloc, &watch, row)?;
+    if !is_left(&left, &watch, row.ended, row.scans) {
         return Ok(false);
     }
-    let before = left.plant.as_plant().len();
-    let Err(refused) = run_again(rt, alloc, left, 999, &watch) else {
+    let Err(refused) = run_again(rt, alloc, left, row.limit.saturating_sub(1), &watch) else {
         return Ok(false);
     };
-    let Ok(more) = run_again(rt, alloc, refused.closed, 1000, &watch) else {
+    let Ok(more) = run_again(rt, alloc, refused.closed, row.limit, &watch) else {
         return Err(Fail::new("the run doesn't go on"));
     };
-    let has_grown = before < more.plant.as_plant().len();
-    Ok(watch.is_kept() && has_grown && has_scanned(&more, row.scans.saturating_add(1)))
+    Ok(is_left(&more, &watch, row.ended, row.scans.saturating_add(1)))
 }
 
 #[test]

@@ -1,5 +1,5 @@
 -- Marks are those of one attempt, and of one list of attempts, at most.
-use Rattle.std.proofs.Common.{◌≡◌, ℕ, zero, suc, ◌+◌, ◌<◌, List, [], ◌∷◌, ◌++◌, length, refl, sym, ◌∙◌, ap, arith}
+use Rattle.std.proofs.Common.{◌≡◌, ℕ, zero, suc, ◌+◌, ◌-◌, ◌<◌, List, [], ◌∷◌, ◌++◌, length, refl, sym, ◌∙◌, ap, arith}
 use Rattle.std.specs.Prelude.{All}
 use Rattle.transact.specs.declared.marks.Mark.{Mark}
 use Rattle.transact.specs.declared.marks.Mark.TheVariants.{Lost}
@@ -7,7 +7,7 @@ use Rattle.transact.specs.declared.marks.Sent.{Sent}
 use Rattle.transact.specs.declared.marks.Outcome.{Outcome}
 use Rattle.gearcmd.specs.FrameLists.{FrameList}
 use Rattle.transact.specs.Marks.{IsBroken, outcome_of}
-use Rattle.transact.specs.Attempts.{Attempt, IsAttempt, IsReport, ReportParts, Spells, most_retries, marks_of}
+use Rattle.transact.specs.Attempts.{Attempt, IsAttempt, IsReport, ReportParts, Spells, marks_of}
 use Rattle.transact.specs.Attempts.{all_marks, all_sent, last_mark}
 
 -- a front of count frames with these marks before its last one
@@ -84,14 +84,15 @@ same_reading (suc retries) count (a ∷ b ∷ xs) (c ∷ d ∷ ys) f g e =
     cc
 
 -- marks spell one report of a transaction
-pub same_report : (list : FrameList) (marks : List Mark) (a b : ReportParts) → Spells list marks a → Spells list marks b
-    → a ≡ b
-same_report list marks a b s t =
+pub same_report : (list : FrameList) (most : ℕ) (marks : List Mark) (a b : ReportParts) → Spells list most marks a
+    → Spells list most marks b → a ≡ b
+same_report list most marks a b s t =
     let same : s.attempts ≡ t.attempts =
-    same_reading most_retries (length list.frames) s.attempts t.attempts s.legal t.legal (sym s.spelled ∙ t.spelled) in
+    same_reading (most - 1) (length list.frames) s.attempts t.attempts s.legal t.legal (sym s.spelled ∙ t.spelled) in
     let sent : a.attempts ≡ b.attempts = s.sent ∙ ap (all_sent list) same ∙ sym t.sent in
     let outcome : a.outcome ≡ b.outcome = s.outcome ∙ ap (λ (xs : List Attempt). outcome_of (last_mark xs)) same
     ∙ sym t.outcome in
     ap (λ (l : FrameList). record a { transaction = l }) (s.transaction ∙ sym t.transaction)
-    ∙ ap (λ (xs : List Sent). record a { transaction = b.transaction; attempts = xs }) sent
+    ∙ ap (λ (n : ℕ). record a { transaction = b.transaction; tries = n }) (s.tries ∙ sym t.tries)
+    ∙ ap (λ (xs : List Sent). record a { transaction = b.transaction; tries = b.tries; attempts = xs }) sent
     ∙ ap (λ (o : Outcome). record b { outcome = o }) outcome

@@ -11,7 +11,7 @@ use Rattle.transact.specs.declared.marks.Sent.{Sent}
 use Rattle.transact.specs.declared.marks.Outcome.{Outcome}
 use Rattle.gearcmd.specs.FrameLists.{FrameList}
 use Rattle.transact.specs.Marks.{outcome_of}
-use Rattle.transact.specs.Attempts.{most_retries, Spells, Attempt, IsAttempt, IsReport, marks_of, all_marks, sent_with}
+use Rattle.transact.specs.Attempts.{Spells, Attempt, IsAttempt, IsReport, marks_of, all_marks, sent_with}
 use Rattle.transact.specs.Attempts.{all_sent, last_mark}
 use Rattle.transact.specs.ReadingSteps.{EndsAt, IsRead, ReadsNone, HasNoAttempt}
 use Rattle.transact.proofs.AttemptLemmas.{same_attempt}
@@ -196,14 +196,16 @@ pub filled_at : (marks : List Mark) → false ≡ (length marks == 0) → ¬ (ma
 filled_at marks e empty = let e' : false ≡ true = e ∙ ap (λ (xs : List Mark). length xs == 0) empty in cc
 
 -- what was read from the start is a report
-pub report_of_read : (list kept : FrameList) (marks : List Mark) (before after : List Sent) (final : Mark) (o : Outcome)
-    → IsRead list most_retries marks before after final → before ≡ [] → kept ≡ list → o ≡ outcome_of final
-    → Spells kept marks (record { transaction = kept; attempts = after; outcome = o })
-report_of_read list kept marks before after final o r empty same ends = rw same (record {
+pub report_of_read : (list kept : FrameList) (most : ℕ) (marks : List Mark) (before after : List Sent) (final : Mark)
+    (o : Outcome)
+    → IsRead list (most - 1) marks before after final → before ≡ [] → kept ≡ list → o ≡ outcome_of final
+    → Spells kept most marks (record { transaction = kept; tries = most; attempts = after; outcome = o })
+report_of_read list kept most marks before after final o r empty same ends = rw same (record {
   attempts = r.attempts;
   legal = r.legal;
   spelled = r.spelled;
   transaction = refl;
+  tries = refl;
   sent = r.sent ∙ ap (λ xs. xs ++ all_sent list r.attempts) empty;
   outcome = ends ∙ ap outcome_of r.ends;
 })

@@ -5,6 +5,7 @@ use Rattle.transact.specs.declared.marks.Mark.{Mark}
 use Rattle.transact.specs.declared.marks.Mark.TheVariants.{Quiet, Lost}
 use Rattle.transact.specs.declared.marks.Sent.{Sent}
 use Rattle.transact.specs.declared.marks.Outcome.{Outcome}
+use Rattle.limits.specs.Limits.{most_tries, AreTries}
 use Rattle.gearcmd.specs.FrameLists.{FrameList, most_frames}
 use Rattle.transact.specs.Marks.{IsBroken, outcome_of}
 
@@ -31,16 +32,9 @@ IsReport retries count (a ∷ []) = IsAttempt count a × (a.last ≡ Lost → re
 IsReport zero count (a ∷ b ∷ more) = ⊥
 IsReport (suc retries) count (a ∷ b ∷ more) = IsAttempt count a × (a.last ≡ Lost) × IsReport retries count (b ∷ more)
 
--- a transaction is tried three times at most (profile)
-abbrev pub most_attempts : ℕ
-most_attempts = 3
-
--- so it is tried again twice at most, and so many frames are sent for it at most
-abbrev pub most_retries : ℕ
-most_retries = most_attempts - 1
-
+-- the most frames that are sent for a transaction: all of them, in each of the most attempts (profile)
 abbrev pub most_sent : ℕ
-most_sent = most_attempts * most_frames
+most_sent = most_tries * most_frames
 
 -- the marks of all attempts, in order
 abbrev pub all_marks : List Attempt → List Mark
@@ -63,26 +57,31 @@ last_mark [] = Quiet
 last_mark (a ∷ []) = a.last
 last_mark (a ∷ b ∷ more) = last_mark (b ∷ more)
 
--- what a report says
+-- what a report says: the transaction, the number of attempts of the bus that it was made for, the frames as they were
+-- sent, and how it ended
 pub record ReportParts : Type 0 where
   pub transaction : FrameList
+  pub tries : ℕ
   pub attempts : List Sent
   pub outcome : Outcome
 
--- these marks spell this report of the transaction, by these attempts
-pub record Spells (list : FrameList) (marks : List Mark) (r : ReportParts) : Type 0 where
+-- on a bus that has `most` attempts for a transaction these marks spell this report of it, by these attempts
+pub record Spells (list : FrameList) (most : ℕ) (marks : List Mark) (r : ReportParts) : Type 0 where
   pub attempts : List Attempt
-  pub legal : IsReport most_retries (length list.frames) attempts
+  pub legal : IsReport (most - 1) (length list.frames) attempts
   pub spelled : marks ≡ all_marks attempts
   pub transaction : r.transaction ≡ list
+  pub tries : r.tries ≡ most
   pub sent : r.attempts ≡ all_sent list attempts
   pub outcome : r.outcome ≡ outcome_of (last_mark attempts)
 
--- some marks spell the report
-abbrev pub IsReportParts : ReportParts → Type 0
-IsReportParts r = (marks : List Mark) × Spells r.transaction marks r
+-- the bus has a number of attempts that a bus may be given, and some marks spell the report
+pub record IsReportParts (r : ReportParts) : Type 0 where
+  pub tries : AreTries r.tries
+  pub marks : List Mark
+  pub spelled : Spells r.transaction r.tries marks r
 
--- no report of the transaction is spelled by these marks
-abbrev pub SpellsNone : FrameList → List Mark → Type 0
-SpellsNone list marks =
-    (attempts : List Attempt) → IsReport most_retries (length list.frames) attempts → ¬ (marks ≡ all_marks attempts)
+-- on a bus that has `most` attempts for a transaction these marks spell no report of it
+abbrev pub SpellsNone : FrameList → ℕ → List Mark → Type 0
+SpellsNone list most marks =
+    (attempts : List Attempt) → IsReport (most - 1) (length list.frames) attempts → ¬ (marks ≡ all_marks attempts)

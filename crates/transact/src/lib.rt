@@ -6,7 +6,7 @@
 //!
 //! ```text
 //! let transaction = Transaction::of(&request, TaskKind::Event);
-//! let report = Report::of(&transaction, &[Mark::Lost, Mark::Quiet])?; // sent twice, and done
+//! let report = Report::of(&transaction, 3, &[Mark::Lost, Mark::Quiet])?; // sent twice, and done
 //! ```
 #![tactic(auto)]
 
@@ -15,5 +15,5 @@ mod reports;
 mod transactions;
 
 pub use marks::{Mark, Outcome, Reply, Sent};
-pub use reports::{MOST_ATTEMPTS, MOST_RETRIES, MOST_SENT, Report};
+pub use reports::{MOST_SENT, Report};
 pub use transactions::Transaction;

@@ -98,7 +98,7 @@ pub struct Sent {
 pub enum Outcome {
     /// All frames were sent; the reply is that to the last.
     Done(Reply),
-    /// A frame was lost in each of three attempts.
+    /// A frame was lost in each of the attempts that the bus is given.
     GaveUp,
     /// The bus interface failed.
     Failed,

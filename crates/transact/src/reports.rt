@@ -2,6 +2,7 @@
 ghost use Rattle.std.specs.Prelude.{◌≡◌, ◌+◌, ◌*◌, ◌<◌, ◌≤◌, ◌++◌, length, MatchOption};
 ghost use Rattle.arrayvec.specs.ArrayVec.{array_vec_len};
 ghost use Rattle.gearcmd.specs.FrameLists.{most_frames};
+ghost use Rattle.limits.specs.Limits.{AreTries};
 ghost use Rattle.transact.specs.Attempts.{sent_with, most_sent};
 ghost use Rattle.transact.specs.Attempts.{ReportParts, Spells, SpellsNone, IsReportParts};
 ghost use Rattle.transact.specs.ReadingSteps.{EndsAt, HasNoAttempt, IsRead, ReadsNone};
@@ -10,22 +11,18 @@ use crate::{Mark, Outcome, Sent, Transaction};
 use arrayvec::ArrayVec;
 use daliframe::Frame;
 use gearcmd::MOST_FRAMES;
+use limits::MOST_TRIES;
 use std::alloc::AllocError;
 use std::marker::Model;
 
-/// A transaction is tried at most so often (profile).
-pub const MOST_ATTEMPTS: u8 = 3;
-
-/// A transaction is tried again at most so often.
-pub const MOST_RETRIES: u8 = MOST_ATTEMPTS - 1;
-
-/// At most so many frames are sent for a transaction, in all of its attempts.
-pub const MOST_SENT: usize = MOST_ATTEMPTS as usize * MOST_FRAMES;
+/// The most frames that are sent for a transaction, in all of its attempts, on any bus.
+pub const MOST_SENT: usize = MOST_TRIES as usize * MOST_FRAMES;
 
 /// What became of a transaction: its attempts, one after another, and how it ended.
 #[derive(Drop)]
 pub struct Report {
     transaction: Transaction,
+    tries: u8,
     attempts: ArrayVec<Sent, MOST_SENT>,
     outcome: Outcome,
 }
@@ -37,18 +34,21 @@ impl Model for Report {
 
     ghost view = { λ r. record {
       transaction = r.transaction;
+      tries = r.tries;
       attempts = r.attempts.items;
       outcome = r.outcome;
     } };
 
     ghost invariant = { λ r. IsReportParts (record {
       transaction = r.transaction;
+      tries = r.tries;
       attempts = r.attempts.items;
       outcome = r.outcome;
     }) };
 
     ghost inverse = { λ r. record {
       transaction = r.transaction;
+      tries = r.tries;
       attempts = record { items = r.attempts };
       outcome = r.outcome;
     } };
@@ -69,6 +69,7 @@ impl Clone for Report {
             .unwrap();
         Ok(Report {
             transaction: self.transaction.copied(),
+            tries: self.tries,
             attempts,
             outcome: self.outcome,
         })
@@ -76,20 +77,23 @@ impl Clone for Report {
 }
 
 impl Report {
-    /// The report of a transaction whose frames got these marks, in order, where the marks spell
-    /// one.
-    pub fn of(transaction: &Transaction, marks: &[Mark]) -> Option<Self>
-        ensures report { MatchOption result (SpellsNone transaction.now marks.now)
-            (λ r. Spells transaction.now marks.now r) }
+    /// The report of a transaction whose frames got these marks, in order, on a bus that has `tries`
+    /// attempts, 1 to 5, where the marks spell one.
+    pub fn of(transaction: &Transaction, tries: u8, marks: &[Mark]) -> Option<Self>
+        requires { AreTries tries }
+        ensures report { MatchOption result (SpellsNone transaction.now tries marks.now)
+            (λ r. Spells transaction.now tries marks.now r) }
 
         // Marks spell one report at most.
         ensures one { (a b : ReportParts)
-            → Spells transaction.now marks.now a → Spells transaction.now marks.now b → a ≡ b }
+            → Spells transaction.now tries marks.now a → Spells transaction.now tries marks.now b
+            → a ≡ b }
     {
         let mut attempts = ArrayVec::new();
-        let last = read_attempts(transaction, MOST_RETRIES, marks, &mut attempts)?;
+        let last = read_attempts(transaction, tries - 1, marks, &mut attempts)?;
         Some(Report {
             transaction: transaction.copied(),
+            tries,
             attempts,
             outcome: Outcome::of(last),
         })
@@ -101,6 +105,14 @@ impl Report {
         ensures legal { IsReportParts self.now }
     {
         &self.transaction
+    }
+
+    /// The number of attempts of the bus that it was made for, 1 to 5.
+    pub fn tries(&self) -> u8
+        ensures value { result ≡ self.now.tries }
+        ensures legal { IsReportParts self.now }
+    {
+        self.tries
     }
 
     /// The frames of all attempts, as they were sent.

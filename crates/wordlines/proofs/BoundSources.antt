@@ -69,4 +69,6 @@ one_more wiring bound limits range place =
       sources = All-push (IsOnBus wiring.buses) wiring.sources bound limits.sources
           (record { bus = place.bus; ranges = range });
       once = all_pairs_push DifferInPlace wiring.sources bound limits.once place.free;
+      tries = limits.tries;
+      tried_once = limits.tried_once;
     }

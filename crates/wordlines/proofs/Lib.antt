@@ -6,6 +6,7 @@ pub mod KnownStatements
 pub mod LineFiles
 pub mod LineReading
 pub mod Orders
+pub mod SaidTries
 pub mod ScenarioReading
 pub mod Spelled
 pub mod SpelledNumbers

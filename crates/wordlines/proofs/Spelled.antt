@@ -4,7 +4,7 @@ use Rattle.std.proofs.Common.{refl, ap, sym, subst, ◌∙◌, arith}
 use Rattle.std.specs.Prelude.{◌&&◌, codes, nat_le, nat_lt, if◌then◌else◌, MatchOption}
 use Rattle.std.specs.Str.Parse.{digits_value}
 use Rattle.std.proofs.lemmas.Bool.Decides.{nat_tests}
-use Rattle.limits.specs.Limits.{most_buses, most_sources}
+use Rattle.limits.specs.Limits.{most_buses, most_sources, most_tries}
 use Rattle.wordlines.specs.WordLines.{number_upto, are_digits, AreAroundDot}
 use Rattle.daliframe.specs.declared.schemes.EventScheme.{EventScheme}
 use Rattle.daliframe.specs.declared.schemes.EventScheme.TheVariants.{Instance, Device, DeviceInstance}
@@ -12,10 +12,11 @@ use Rattle.daliframe.specs.declared.schemes.EventScheme.TheVariants.{DeviceGroup
 use Rattle.dalievent.specs.declared.messages.EventSource.{EventSource}
 use Rattle.dalievent.specs.EventSchemes.{a_limit}
 use Rattle.wordlines.specs.declared.sources.BoundSource.{BoundSource}
+use Rattle.wordlines.specs.declared.tries.BusTries.{BusTries}
 use Rattle.wordlines.specs.declared.binding_lines.BindingLine.{BindingLine}
-use Rattle.wordlines.specs.declared.binding_lines.BindingLine.TheVariants.{Buses, Bound}
+use Rattle.wordlines.specs.declared.binding_lines.BindingLine.TheVariants.{Buses, Bound, Tries}
 use Rattle.wordlines.specs.Bindings.{Says}
-use Rattle.wordlines.specs.Spelling.{SpellsBuses, SpellsBound, SpellsPlace, SpellsSource, scheme_word}
+use Rattle.wordlines.specs.Spelling.{SpellsBuses, SpellsBound, SpellsPlace, SpellsSource, SpellsTries, scheme_word}
 use Rattle.wordlines.specs.Wirings.{IsInRange}
 
 same_number : (most : ℕ) (x y : List ℕ) (n m : ℕ) → x ≡ y → number_upto most x ≡ Some n → number_upto most y ≡ Some m
@@ -125,12 +126,45 @@ buses_or_bound words n bound t h =
     let keyword : codes "buses" ≡ codes "source" = cc in
     absurd (omega (arith, ap length keyword))
 
+-- attempts of equal parts are equal
+alike_tries : (s t : BusTries) → s.bus ≡ t.bus → s.tries ≡ t.tries → s ≡ t
+alike_tries s t bus tries =
+    let first : s ≡ record t { tries = s.tries } =
+    ap (λ (n : ℕ). let it : BusTries = record { bus = n; tries = s.tries } in it) bus in
+    first ∙ ap (λ (n : ℕ). let it : BusTries = record { bus = t.bus; tries = n } in it) tries
+
+same_tries : (words : List (List ℕ)) (s t : BusTries) → SpellsTries words s → SpellsTries words t → s ≡ t
+same_tries words s t h k =
+    let one : codes "tries" ∷ h.front ∷ h.back ∷ [] ≡ codes "tries" ∷ k.front ∷ k.back ∷ [] = sym h.are ∙ k.are in
+    let front : h.front ≡ k.front = cc in
+    let back : h.back ≡ k.back = cc in
+    let bus = same_number (most_buses - 1) h.front k.front s.bus t.bus front h.spells_bus k.spells_bus in
+    let tries = same_number most_tries h.back k.back s.tries t.tries back h.spells_tries k.spells_tries in
+    alike_tries s t bus tries
+
+buses_or_tries : (words : List (List ℕ)) (n : ℕ) (said : BusTries) → SpellsBuses words n → SpellsTries words said → ⊥
+buses_or_tries words n said t h =
+    let one : codes "buses" ∷ t.digits ∷ [] ≡ codes "tries" ∷ h.front ∷ h.back ∷ [] = sym t.are ∙ h.are in
+    absurd (omega (arith, ap length one))
+
+bound_or_tries : (words : List (List ℕ)) (bound : BoundSource) (said : BusTries) → SpellsBound words bound
+    → SpellsTries words said → ⊥
+bound_or_tries words bound said t h =
+    let one : codes "source" ∷ t.place ∷ t.rest ≡ codes "tries" ∷ h.front ∷ h.back ∷ [] = sym t.are ∙ h.are in
+    let keyword : codes "source" ≡ codes "tries" = cc in
+    absurd (omega (arith, ap length keyword))
+
 -- a line says one thing
 pub says_one : (words : List (List ℕ)) (l m : BindingLine) → Says words l → Says words m → l ≡ m
 says_one words (Buses n) (Buses m) s t = ap Buses (same_buses words n m s t)
 says_one words (Buses n) (Bound m) s t = absurd (buses_or_bound words n m s t)
+says_one words (Buses n) (Tries m) s t = absurd (buses_or_tries words n m s t)
 says_one words (Bound n) (Buses m) s t = absurd (buses_or_bound words m n t s)
 says_one words (Bound n) (Bound m) s t = ap Bound (same_bound words n m s t)
+says_one words (Bound n) (Tries m) s t = absurd (bound_or_tries words n m s t)
+says_one words (Tries n) (Buses m) s t = absurd (buses_or_tries words m n t s)
+says_one words (Tries n) (Bound m) s t = absurd (bound_or_tries words m n t s)
+says_one words (Tries n) (Tries m) s t = ap Tries (same_tries words n m s t)
 
 -- ---- ranges
 

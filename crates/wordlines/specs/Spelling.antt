@@ -1,7 +1,7 @@
 -- What the words of a line say (profile): `buses N`, or `source b.k` and a source of events, by the keyword of its
--- event scheme (IEC 62386-103, clause 9) and its two parts. Numbers are decimal, each in its range.
+-- event scheme (IEC 62386-103, clause 9) and its two parts, or `tries b n`. Numbers are decimal, each in its range.
 use Rattle.std.specs.Prelude.{◌≡◌, ℕ, ◌-◌, List, [], ◌∷◌, codes, Some}
-use Rattle.limits.specs.Limits.{most_buses, most_sources}
+use Rattle.limits.specs.Limits.{most_buses, most_sources, most_tries, AreTries}
 use Rattle.wordlines.specs.WordLines.{number_upto, AreAroundDot}
 use Rattle.daliframe.specs.declared.schemes.EventScheme.{EventScheme}
 use Rattle.daliframe.specs.declared.schemes.EventScheme.TheVariants.{Instance, Device, DeviceInstance}
@@ -9,6 +9,7 @@ use Rattle.daliframe.specs.declared.schemes.EventScheme.TheVariants.{DeviceGroup
 use Rattle.dalievent.specs.declared.messages.EventSource.{EventSource}
 use Rattle.dalievent.specs.EventSchemes.{a_limit}
 use Rattle.wordlines.specs.declared.sources.BoundSource.{BoundSource}
+use Rattle.wordlines.specs.declared.tries.BusTries.{BusTries}
 use Rattle.wordlines.specs.Wirings.{IsBusCount}
 
 -- the words are `buses N`
@@ -49,3 +50,12 @@ pub record SpellsBound (words : List (List ℕ)) (bound : BoundSource) : Type 0 
   pub are : words ≡ codes "source" ∷ place ∷ rest
   pub at : SpellsPlace place bound.bus bound.number
   pub is : SpellsSource rest bound.source
+
+-- the words are `tries b n`
+pub record SpellsTries (words : List (List ℕ)) (said : BusTries) : Type 0 where
+  pub front : List ℕ
+  pub back : List ℕ
+  pub are : words ≡ codes "tries" ∷ front ∷ back ∷ []
+  pub spells_bus : number_upto (most_buses - 1) front ≡ Some said.bus
+  pub spells_tries : number_upto most_tries back ≡ Some said.tries
+  pub are_tries : AreTries said.tries

@@ -1,18 +1,21 @@
--- What a binding says (profile): how many buses there are, and which source of events is bound at which place of a bus.
-use Rattle.std.specs.Prelude.{◌≡◌, ℕ, ◌<◌, ◌≤◌, List, [], All, AllPairs, Contains}
-use Rattle.limits.specs.Limits.{most_buses, most_sources}
+-- What a binding says (profile): how many buses there are, which source of events is bound at which place of a bus, and
+-- how many attempts a bus has for a transaction.
+use Rattle.std.specs.Prelude.{◌≡◌, ℕ, ◌<◌, ◌≤◌, ◌==◌, if◌then◌else◌, List, [], ◌∷◌, All, AllPairs, Contains}
+use Rattle.limits.specs.Limits.{most_buses, most_sources, usual_tries, AreTries}
 use Rattle.dalievent.specs.declared.messages.EventSource.{EventSource}
 use Rattle.dalievent.specs.EventSchemes.{a_limit}
 use Rattle.wordlines.specs.declared.sources.BoundSource.{BoundSource}
+use Rattle.wordlines.specs.declared.tries.BusTries.{BusTries}
 
--- the number of buses, and the sources that are bound, in the order of their lines
+-- the number of buses, and the sources that are bound and what is said of attempts, each in the order of its lines
 pub record Wiring : Type 0 where
   pub buses : ℕ
   pub sources : List BoundSource
+  pub tries : List BusTries
 
--- one bus, and no source
+-- one bus, of which nothing else is said
 abbrev pub one_bus : Wiring
-one_bus = record { buses = 1; sources = [] }
+one_bus = record { buses = 1; sources = []; tries = [] }
 
 -- a number of buses: one at least
 pub record IsBusCount (buses : ℕ) : Type 0 where
@@ -46,8 +49,24 @@ pub record IsOnBus (buses : ℕ) (bound : BoundSource) : Type 0 where
   pub bus : bound.bus < buses
   pub ranges : IsInRange bound
 
--- each source is on one of the buses, and no place is bound twice
+-- the attempts that a bus has for a transaction: those that are said of it, or the usual number
+abbrev pub tries_in : List BusTries → ℕ → ℕ
+tries_in [] bus = usual_tries
+tries_in (said ∷ more) bus = if said.bus == bus then said.tries else tries_in more bus
+
+-- this is said of the bus
+abbrev pub IsSaidOf : ℕ → BusTries → Type 0
+IsSaidOf bus said = said.bus ≡ bus
+
+-- it is said of one of so many buses, and is a number of attempts that a bus may be given
+pub record IsTried (buses : ℕ) (said : BusTries) : Type 0 where
+  pub bus : said.bus < buses
+  pub tries : AreTries said.tries
+
+-- each source is on one of the buses, and no place is bound twice; the attempts of each bus are said once at most
 pub record IsWithinLimits (wiring : Wiring) : Type 0 where
   pub buses : IsBusCount wiring.buses
   pub sources : All (IsOnBus wiring.buses) wiring.sources
   pub once : AllPairs (λ earlier later. ¬ IsAt later.bus later.number earlier) wiring.sources
+  pub tries : All (IsTried wiring.buses) wiring.tries
+  pub tried_once : AllPairs (λ earlier later. ¬ IsSaidOf later.bus earlier) wiring.tries

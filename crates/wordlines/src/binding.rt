@@ -2,6 +2,7 @@
 
 ghost use Rattle.std.specs.Prelude.{◌≡◌, ◌↔◌, ℕ, All, Contains, Option, Some, MatchOption, Err};
 ghost use Rattle.std.specs.Prelude.{IfErr, IfOk};
+ghost use Rattle.limits.specs.Limits.{AreTries};
 ghost use Rattle.wordlines.specs.WordLines.{IsSkipped};
 ghost use Rattle.wordlines.specs.LineFiles.{AddsKept};
 ghost use Rattle.wordlines.specs.LineRules.{Leads};
@@ -11,16 +12,19 @@ ghost use Rattle.wordlines.specs.Wirings.{Wiring, IsAt};
 use crate::bind_fault::BindFault;
 use crate::binding_lines::{BindingLine, line_of};
 use crate::sources::BoundSource;
+use crate::tries::{BusTries, is_unsaid};
 use crate::{LineCause, LineFault, LineState, read_lines};
 use dalievent::EventSource;
 use std::alloc::Global;
 use std::marker::Model;
 
-/// What a controller is connected to: its buses, and the sources of events that it listens to.
+/// What a controller is connected to: its buses, the sources of events that it listens to, and how
+/// often its buses try a transaction.
 #[derive(Drop)]
 pub struct Binding {
     buses: u8,
     sources: Vec<BoundSource>,
+    tries: Vec<BusTries>,
 }
 
 impl Model for Binding {
@@ -28,10 +32,14 @@ impl Model for Binding {
 
     ghost Value = { Wiring };
 
-    ghost view = { λ b. record { buses = b.buses; sources = b.sources.items } };
+    ghost view = { λ b. record {
+      buses = b.buses;
+      sources = b.sources.items;
+      tries = b.tries.items;
+    } };
 
     ghost invariant = { λ b. IsWithinLimits
-        (record { buses = b.buses; sources = b.sources.items }) };
+        (record { buses = b.buses; sources = b.sources.items; tries = b.tries.items }) };
 }
 
 impl Binding {
@@ -39,16 +47,18 @@ impl Binding {
     ghost use Rattle.std.specs.Str.Lines.{lines};
     ghost use Rattle.dalievent.specs.declared.messages.EventSource.{EventSource};
     ghost use Rattle.wordlines.specs.Wirings.{Wiring, one_bus, IsBoundAt, IsInRange, IsWithinLimits};
-    ghost use Rattle.wordlines.specs.Bindings.{BindsSome, GivesIfRoom, HasPlaceFor, IsBadBinding};
-    ghost use Rattle.wordlines.specs.Bindings.{IsBinding, IsTooLong, with_source};
+    ghost use Rattle.wordlines.specs.Bindings.{BindsSome, GivesIfRoom, HasNoTries, HasPlaceFor};
+    ghost use Rattle.wordlines.specs.Bindings.{IsBadBinding, IsBinding, IsTooLong, with_source};
+    ghost use Rattle.wordlines.specs.Bindings.{with_tries};
 
-    /// One bus, and no source. No memory is taken.
+    /// One bus, of which nothing else is said. No memory is taken.
     pub fn one_bus(alloc: Global) -> Binding
         ensures { result ≡ one_bus }
     {
         Binding {
             buses: 1,
             sources: Vec::new(alloc),
+            tries: Vec::new(alloc),
         }
     }
 
@@ -68,6 +78,14 @@ impl Binding {
         self.sources.as_slice()
     }
 
+    /// What lines say of the attempts of buses, in their order: each of a bus below the number of
+    /// buses, and none of the bus of another. [`crate::tries_in`] gives those of a bus.
+    pub fn tries(&self) -> &[BusTries]
+        ensures value { result.now ≡ self.now.tries }
+    {
+        self.tries.as_slice()
+    }
+
     /// The source that is bound at this place of a bus.
     pub fn source(&self, bus: u8, number: u8) -> Option<EventSource>
         ensures { (source : EventSource) → (result ≡ Some source)
@@ -80,15 +98,15 @@ impl Binding {
     }
 
     /// The binding that a file spells: lines of words between single spaces. `buses N` stands there
-    /// once, and first, and then `source b.k` with a source of events, each at a place of its own.
-    /// Empty lines and lines that begin with `#` are skipped; a line ends with LF or CR LF, and the
-    /// last needs no end.
+    /// once, and first, and then `source b.k` with a source of events, each at a place of its own,
+    /// and `tries b n`, each of a bus of its own. Empty lines and lines that begin with `#` are
+    /// skipped; a line ends with LF or CR LF, and the last needs no end.
     ///
     /// # Errors
     ///
     /// The first bad line; line 1 where none is bad and none says the number of buses, or where
-    /// there are more than [`limits::MOST_BYTES`] bytes. Memory is refused only where a source is
-    /// to be kept, each of which is that of a line.
+    /// there are more than [`limits::MOST_BYTES`] bytes. Memory is refused only where a line is to
+    /// be kept that gives a source or a number of attempts.
     pub fn parse(alloc: Global, bytes: &[u8]) -> Result<Binding, BindFault>
         ensures binding { (wiring : Wiring) → result ≡ Ok wiring → IsBinding bytes.now wiring }
         ensures is_given { (wiring : Wiring) → IsBinding bytes.now wiring
@@ -115,9 +133,42 @@ impl Binding {
         if bound.bus >= self.buses || bound_at(&self.sources, bound.bus, bound.number).is_some() {
             return Ok(None);
         }
-        let Binding { buses, mut sources } = self;
+        let Binding {
+            buses,
+            mut sources,
+            tries,
+        } = self;
         sources.push(bound)?;
-        Ok(Some(Binding { buses, sources }))
+        Ok(Some(Binding {
+            buses,
+            sources,
+            tries,
+        }))
+    }
+
+    /// The binding with the attempts of one bus more, where the bus is there and nothing is said of
+    /// its attempts.
+    fn with_tries(self, said: BusTries) -> Result<Option<Binding>, BindFault>
+        requires { AreTries said.tries }
+        ensures more { IfOk result (λ more. MatchOption more (¬ HasNoTries said self)
+            (λ wiring. HasNoTries said self × (wiring ≡ with_tries said self))) }
+        ensures memory { IfErr result (λ fault. (fault ≡ LineFault.Memory)
+            × HasNoTries said self) }
+    {
+        if said.bus >= self.buses || !is_unsaid(&self.tries, said.bus) {
+            return Ok(None);
+        }
+        let Binding {
+            buses,
+            sources,
+            mut tries,
+        } = self;
+        tries.push(said)?;
+        Ok(Some(Binding {
+            buses,
+            sources,
+            tries,
+        }))
     }
 }
 
@@ -199,8 +250,10 @@ fn binding_after(
         (Some(BindingLine::Buses(buses)), None) => Ok(Some(Binding {
             buses,
             sources: Vec::new(alloc),
+            tries: Vec::new(alloc),
         })),
         (Some(BindingLine::Bound(bound)), Some(binding)) => binding.with(bound),
+        (Some(BindingLine::Tries(said)), Some(binding)) => binding.with_tries(said),
         _ => Ok(None),
     }
 }

@@ -7,15 +7,17 @@ ghost use Rattle.daliframe.specs.declared.schemes.EventScheme.{EventScheme};
 ghost use Rattle.wordlines.specs.WordLines.{words, number_upto};
 ghost use Rattle.wordlines.specs.declared.binding_lines.BindingLine.{BindingLine};
 ghost use Rattle.wordlines.specs.declared.sources.BoundSource.{BoundSource};
+ghost use Rattle.wordlines.specs.declared.tries.BusTries.{BusTries};
 ghost use Rattle.wordlines.specs.Bindings.{Says};
 ghost use Rattle.wordlines.specs.Spelling.{scheme_word, SpellsBound, SpellsBuses, SpellsPlace};
-ghost use Rattle.wordlines.specs.Spelling.{SpellsSource};
+ghost use Rattle.wordlines.specs.Spelling.{SpellsSource, SpellsTries};
 
 use crate::sources::BoundSource;
+use crate::tries::BusTries;
 use crate::{Words, number_of, parts_around_dot};
 use dalievent::EventSource;
 use daliframe::EventScheme;
-use limits::{MOST_BUSES, MOST_SOURCES};
+use limits::{MOST_BUSES, MOST_SOURCES, MOST_TRIES};
 
 /// What a line of a binding says.
 #[derive(Clone, Copy)]
@@ -24,6 +26,8 @@ pub(crate) enum BindingLine {
     Buses(u8),
     /// A source of events has a place.
     Bound(BoundSource),
+    /// A bus has a number of attempts.
+    Tries(BusTries),
 }
 
 /// What a line says that isn't skipped.
@@ -37,6 +41,8 @@ pub(crate) fn line_of(line: &[u8]) -> Option<BindingLine>
         Some(BindingLine::Buses(buses_in(words)?))
     } else if keyword == b"source".as_slice() {
         Some(BindingLine::Bound(bound_in(words)?))
+    } else if keyword == b"tries".as_slice() {
+        Some(BindingLine::Tries(bus_tries_in(words)?))
     } else {
         None
     }
@@ -69,6 +75,21 @@ fn bound_in(mut words: Words<'_>) -> Option<BoundSource>
         number,
         source,
     })
+}
+
+/// The bus and the number of `tries b n`.
+fn bus_tries_in(mut words: Words<'_>) -> Option<BusTries>
+    ensures { MatchOption result
+        ((said : BusTries) → ¬ SpellsTries (codes "tries" ∷ words.entry) said)
+        (SpellsTries (codes "tries" ∷ words.entry)) }
+{
+    let bus = words.byte(MOST_BUSES - 1)?;
+    let tries = words.byte(MOST_TRIES)?;
+    if tries == 0 || !words.is_empty() {
+        None
+    } else {
+        Some(BusTries { bus, tries })
+    }
 }
 
 /// The bus and the number of the place `b.k`.

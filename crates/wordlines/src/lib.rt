@@ -39,6 +39,7 @@ mod scenario_fault;
 mod scenario_lines;
 mod sources;
 mod statements;
+mod tries;
 mod words;
 
 pub use bind_fault::BindFault;
@@ -53,4 +54,5 @@ pub use scenario::{Scenario, parse};
 pub use scenario_fault::ScenarioFault;
 pub use sources::BoundSource;
 pub use statements::{FrameFate, Statement};
+pub use tries::{BusTries, tries_in};
 pub use words::Words;

@@ -22,6 +22,7 @@ mod crew;
 mod ended;
 mod leaving;
 mod pairing;
+mod pause;
 mod running;
 mod scan_threads;
 mod serving;

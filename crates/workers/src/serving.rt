@@ -5,23 +5,15 @@ ghost use Rattle.turns.specs.Logs.{HasEnded, IsServed, IsTimed, IsWorker, log_of
 ghost use Rattle.workers.specs.declared.ended.Ended.TheVariants.{Asked};
 
 use crate::ended::{End, Ended};
+use crate::pause::Pause;
 use buslink::{Bus, Clock};
 use plant::CallError;
 use plantlock::{Basis, Share, Shared};
 use seats::{Seated, Tallies};
 use std::alloc::Global;
 use std::sync::Wait;
-use std::thread;
-use std::time::{Clock as Timer, Duration};
+use std::time::Clock as Timer;
 use turns::{Gate, Links, Served, Timed, Turn, hear_turn, scan_turn, send_turn, tick_once};
-
-/// How long an idle worker sleeps, in microseconds.
-const PAUSE: u64 = 50;
-
-/// Lets others work for a while.
-pub(crate) fn pause<R: Timer>(rt: &R) {
-    thread::sleep(rt, Duration::from_micros(PAUSE));
-}
 
 /// Sends what is to be sent next on a bus, and hears what came, where the end wasn't told meanwhile.
 fn serve_once<'a, B: Bus, J: Basis + Links, T: Seated, K: Tallies<T>, G: Gate, R: Wait>(
@@ -57,13 +49,14 @@ pub fn serve_bus<'a, B: Bus, J: Basis + Links, T: Seated, K: Tallies<T>, G: Gate
     requires served { IsServed (log_of J.buses bus) bus served.old.share (B.log served.old.line) }
     ensures served { IsServed (log_of J.buses bus) bus served.new.share (B.log served.new.line) }
 {
+    let mut pause = Pause::new();
     for _ in rt.forever() {
         if end.is_told() {
             return;
         }
         match serve_once(rt, gate, shared, end, bus, served) {
-            Ok(Turn::Worked) => {}
-            Ok(Turn::Idle) => pause(rt),
+            Ok(Turn::Worked) => pause.begin_anew(),
+            Ok(Turn::Idle) => pause.wait(rt),
             Ok(Turn::Down) => return,
             Err(error) => {
                 end.tell(rt, Ended::from(error));
@@ -87,13 +80,14 @@ pub fn serve_tasks<'a, J: Basis, T: Seated, K: Tallies<T>, G: Gate, R: Wait + Ti
     requires worker { IsWorker worker share.old }
     ensures worker { IsWorker worker share.new }
 {
+    let mut pause = Pause::new();
     for _ in rt.forever() {
         if end.is_told() {
             return;
         }
         match scan_turn(rt, alloc, gate, shared, worker, share) {
-            Ok(Turn::Worked) => {}
-            Ok(_) => pause(rt),
+            Ok(Turn::Worked) => pause.begin_anew(),
+            Ok(_) => pause.wait(rt),
             Err(error) => {
                 end.tell(rt, Ended::from(error));
                 return;
@@ -105,6 +99,8 @@ pub fn serve_tasks<'a, J: Basis, T: Seated, K: Tallies<T>, G: Gate, R: Wait + Ti
 
 /// Asks the clock until it gives no moment more, tells the end and answers why. Where another worker
 /// told an end, that is why. Where it answers `Asked`, the clock was asked here and came to its end.
+/// It is never idle, since each answer is a moment or the end: it sleeps the shortest time after
+/// each moment.
 pub fn serve_clock<'a, C: Clock, J: Basis + Links, T: Seated, K: Tallies<T>, R: Wait + Timer>(
     rt: &R,
     shared: &Shared<'a, J, T, K>,
@@ -120,7 +116,7 @@ pub fn serve_clock<'a, C: Clock, J: Basis + Links, T: Seated, K: Tallies<T>, R: 
             return ended;
         }
         match tick_once(rt, shared, timed) {
-            Ok(true) => pause(rt),
+            Ok(true) => Pause::new().wait(rt),
             Ok(false) => {
                 end.tell(rt, Ended::Asked);
                 return Ended::Asked;

@@ -1,9 +1,10 @@
 //! What is read of a plant.
 
 ghost use Rattle.std.specs.Prelude.{◌≡◌, ◌+◌, ◌≤◌, ◌<◌, length, option_map, Some};
+ghost use Rattle.limits.specs.Limits.{AreTries, most_events};
 ghost use Rattle.ilimage.specs.Images.{Global as GlobalVariable};
 ghost use Rattle.busqueue.specs.Queues.{class_number};
-ghost use Rattle.plantevents.specs.Plants.{activator};
+ghost use Rattle.plantevents.specs.Plants.{activator, tries_of};
 ghost use Rattle.plantevents.specs.Histories.{frames, hand, heards, is_down, scan, scans};
 ghost use Rattle.plantevents.specs.Readiness.{lost};
 ghost use Rattle.plantevents.specs.Variables.{value};
@@ -33,10 +34,20 @@ impl Plant {
         self.workers
     }
 
+    /// The attempts that a bus has for a transaction, 1 to 5: those of its binding's line `tries`,
+    /// and else 3.
+    pub fn tries(&self, bus: u8) -> u8
+        requires { bus < self.now.plant.plan.buses }
+        ensures value { result ≡ tries_of self.now.plant bus }
+        ensures range { AreTries result }
+    {
+        self.setup.plan().tries(bus)
+    }
+
     /// The most events and places that are kept for events to come.
     pub fn limit(&self) -> u64
         ensures value { result ≡ self.now.limit }
-        ensures most { self.now.limit ≤ 1000000 }
+        ensures most { self.now.limit ≤ most_events }
     {
         self.limit
     }

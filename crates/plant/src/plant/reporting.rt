@@ -4,7 +4,7 @@ ghost use Rattle.std.specs.Prelude.{◌≡◌, ◌↔◌, OnOk, OnErr, IfErr, If
 ghost use Rattle.plantevents.specs.declared.event.Event.TheVariants as event;
 ghost use Rattle.plantevents.specs.Histories.{hand};
 ghost use Rattle.plant.specs.Shown.{grown};
-ghost use Rattle.plant.specs.Matches.{IsOpenTransaction};
+ghost use Rattle.plant.specs.Matches.{IsOpenTransaction, IsReportOf};
 
 use super::Plant;
 use crate::answers::write_answer;
@@ -34,22 +34,40 @@ impl Plant {
         }
     }
 
+    /// What the reported transaction was made of, where the report is one of the transaction that a
+    /// bus has open, by as many attempts as the bus has.
+    fn origin_in(&self, bus: u8, number: u64, report: &Report) -> Option<Origin>
+        ensures is { IsSome result ↔ IsReportOf self.now bus number report.now }
+        ensures origin { IfSome result (λ origin. hand bus self.now.history ≡ Some (record {
+          place = number;
+          origin = origin;
+          transaction = report.now.transaction;
+        })) }
+    {
+        let origin = self.origin_of(bus, number, report.transaction())?;
+        if report.tries() == self.tries(bus) {
+            Some(origin)
+        } else {
+            None
+        }
+    }
+
     /// Notes the report of the transaction that a bus has open, which was handed out under this
     /// number, and writes its answer to the input that is located there, if one is. It takes no
     /// memory.
     ///
     /// # Errors
     ///
-    /// There is no such bus, or this is not the transaction that it has open. The report comes
-    /// back, and the plant is unchanged.
+    /// There is no such bus, this is not the transaction that it has open, or the report was made
+    /// for another number of attempts than the bus has. The report comes back, and the plant is
+    /// unchanged.
     pub fn done(&mut self, bus: u8, number: u64, report: Report) -> Result<(), Report>
-        ensures open { OnOk result (IsOpenTransaction self.old bus number report.transaction) }
+        ensures open { OnOk result (IsReportOf self.old bus number report) }
         ensures grown { OnOk result (self.new ≡ grown self.old (event.Done bus number report)) }
-        ensures stranger { OnErr result
-            (¬ IsOpenTransaction self.old bus number report.transaction) }
+        ensures stranger { OnErr result (¬ IsReportOf self.old bus number report) }
         ensures err { IfErr result (λ back. (self.new ≡ self.old) × (back ≡ report)) }
     {
-        let Some(origin) = self.origin_of(bus, number, report.transaction()) else {
+        let Some(origin) = self.origin_in(bus, number, &report) else {
             return Err(report);
         };
         other_events_leave_tasks();

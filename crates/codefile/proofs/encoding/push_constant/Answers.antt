@@ -7,8 +7,8 @@ use Rattle.std.proofs.lemmas.Result.{on_ok_weaker}
 use Rattle.codefile.specs.Files.{tag, whole}
 use Rattle.codefile.proofs.encoding.push_constant.Goals as goal
 
-pub returns-in_ok-push_tag-in-Int : goal.returns-in_ok-push_tag-in-Int
-returns-in_ok-push_tag-in-Int c =
+pub returns-in_ok-push_tag-in-Int-clause-added : goal.returns-in_ok-push_tag-in-Int-clause-added
+returns-in_ok-push_tag-in-Int-clause-added c =
     let z = c.in-Int.number in
     let old = c.args.bytes.now.items in
     let fits : FitsSigned w64 z = search rules in

@@ -7,8 +7,8 @@ use Rattle.std.proofs.lemmas.Result.{on_ok_weaker}
 use Rattle.codefile.specs.Files.{tag, whole}
 use Rattle.codefile.proofs.encoding.push_slot.Goals as goal
 
-pub returns-in_ok-push_whole-in-Int : goal.returns-in_ok-push_whole-in-Int
-returns-in_ok-push_whole-in-Int c =
+pub returns-in_ok-push_whole-in-Int-clause-added : goal.returns-in_ok-push_whole-in-Int-clause-added
+returns-in_ok-push_whole-in-Int-clause-added c =
     let lo = c.in-Int.range.lo in
     let hi = c.in-Int.range.hi in
     let old = c.args.bytes.now.items in

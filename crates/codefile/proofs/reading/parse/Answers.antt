@@ -15,7 +15,9 @@ tables_in-tables-requires c = c.requires.shaped.long ∙ ap size (sym c.requires
 
 pub returns-in_default-clause-exact : goal.returns-in_default-clause-exact
 returns-in_default-clause-exact c =
-    λ code h e.
+    λ code is.
+    let h = is.0 in
+    let e = is.1 in
     let p = parts code c.args.bytes.now (counted c.args.counts) h e c.requires.counts in
     rw c.in_default.is at
     (c.in_ok-slots.ensures.exact code.slots (sym (ap (λ (m : Counts). m.slots) p.counts)) h.slots
@@ -23,7 +25,9 @@ returns-in_default-clause-exact c =
 
 pub returns-in_default-2-clause-exact : goal.returns-in_default-2-clause-exact
 returns-in_default-2-clause-exact c =
-    λ code h e.
+    λ code is.
+    let h = is.0 in
+    let e = is.1 in
     let p = parts code c.args.bytes.now (counted c.args.counts) h e c.requires.counts in
     rw c.in_default-2.is at
     (c.in_ok-kinds.ensures.exact code.kinds (sym (ap (λ (m : Counts). m.blocks) p.counts))
@@ -31,7 +35,9 @@ returns-in_default-2-clause-exact c =
 
 pub returns-in_default-3-clause-exact : goal.returns-in_default-3-clause-exact
 returns-in_default-3-clause-exact c =
-    λ code h e.
+    λ code is.
+    let h = is.0 in
+    let e = is.1 in
     let p = parts code c.args.bytes.now (counted c.args.counts) h e c.requires.counts in
     rw c.in_default-3.is at
     (c.in_ok-words.ensures.exact code.instructions (sym (ap (λ (m : Counts). m.words) p.counts)) h.lawful.words
@@ -39,7 +45,9 @@ returns-in_default-3-clause-exact c =
 
 pub returns-then-not-are_starts-clause-exact : goal.returns-then-not-are_starts-clause-exact
 returns-then-not-are_starts-clause-exact c =
-    λ code h e.
+    λ code is.
+    let h = is.0 in
+    let e = is.1 in
     let p = parts code c.args.bytes.now (counted c.args.counts) h e c.requires.counts in
     let starts = c.in_ok-starts.ensures.exact code.starts (sym (ap (λ (m : Counts). m.starts) p.counts))
     (small_starts code h.lawful) (c.tables_in-tables.ensures.starts.is ∙ p.starts) in
@@ -71,7 +79,9 @@ new-requires c =
 
 pub returns-clause-exact : goal.returns-clause-exact
 returns-clause-exact c =
-    λ code h e.
+    λ code is.
+    let h = is.0 in
+    let e = is.1 in
     let p = parts code c.args.bytes.now (counted c.args.counts) h e c.requires.counts in
     let t = c.tables_in-tables.ensures in
     let long = sym (ap (λ (m : Counts). m.words) p.counts) in

@@ -1,5 +1,6 @@
 use Rattle.std.proofs.Common.{◌≡◌, ℕ, ◌+◌, ◌≤◌, arith, subst, sym}
 use Rattle.std.proofs.lemmas.Result.{IfOk-from_err}
+use Rattle.limits.specs.Limits.{most_buses, most_workers}
 use Rattle.plantevents.specs.declared.role.Role.TheVariants.{Bus}
 use Rattle.receipts.specs.Receipts.{AreFresh}
 use Rattle.receipts.specs.Seats.{AreCounted, AreUnused}
@@ -19,7 +20,7 @@ next_share-requires-clause-start g c = c.requires.start
 
 pub next_share-requires-clause-known : goal.next_share-requires-clause-known
 next_share-requires-clause-known g c =
-    one_of c.loop-bus.bus c.buses-buses.result g.J.Basis.start.plant.plan.buses 64
+    one_of c.loop-bus.bus c.buses-buses.result g.J.Basis.start.plant.plan.buses most_buses
     (buses_known c.args.plant.now g.J.Basis.start c.setup.result.now.plan c.plan.result.now c.buses-buses.result
     c.requires.start c.setup.ensures.plan c.plan.ensures.value c.buses-buses.ensures.value)
     c.requires.seated c.loop-bus-test.true
@@ -53,7 +54,7 @@ loop-bus-preserved g c =
     let inv = c.loop-bus.invariant in
     let made = c.in_ok-share.ensures in
     let n = c.loop-bus.bus in
-    let same : 16 + n + 1 ≡ 16 + (n + 1) = omega arith in (
+    let same : most_workers + n + 1 ≡ most_workers + (n + 1) = omega arith in (
       fresh_pushed g.J.Basis.start Bus n c.loop-bus.shares.items c.push.new.self.items c.in_ok-share.share inv.0
           made.fresh c.in_ok-push.ensures.items,
       subst (λ m. AreUnused g.T.Seated.seat g.T.Seated.amount m c.next_share.new.ties.items) same made.unused,
@@ -62,7 +63,7 @@ loop-bus-preserved g c =
 
 pub overflow_sub-buses : goal.overflow_sub-buses
 overflow_sub-buses g c =
-    subst (λ (n : ℕ). n ≤ 64)
+    subst (λ (n : ℕ). n ≤ most_buses)
     (sym
     (buses_known c.args.plant.now g.J.Basis.start c.setup.result.now.plan c.plan.result.now c.buses-buses.result
     c.requires.start c.setup.ensures.plan c.plan.ensures.value c.buses-buses.ensures.value))
@@ -77,7 +78,7 @@ skip_ties-requires g c =
     (buses_known c.args.plant.now g.J.Basis.start c.setup.result.now.plan c.plan.result.now c.buses-buses.result
     c.requires.start c.setup.ensures.plan c.plan.ensures.value c.buses-buses.ensures.value)
     c.requires.seated c.from.ensures in
-    (16 + c.loop-bus.bus, passed.1, inv.1)
+    (most_workers + c.loop-bus.bus, passed.1, inv.1)
 
 pub returns-clause-shares : goal.returns-clause-shares
 returns-clause-shares g c =
@@ -99,13 +100,13 @@ returns-clause-unused g c =
     c.requires.start c.setup.ensures.plan c.plan.ensures.value c.buses-buses.ensures.value)
     c.requires.seated c.from.ensures in
     subst (λ m. AreUnused g.T.Seated.seat g.T.Seated.amount m c.skip_ties.new.ties.items) passed.0
-    (c.skip_ties.ensures (16 + c.loop-bus.bus) passed.1 inv.1)
+    (c.skip_ties.ensures (most_workers + c.loop-bus.bus) passed.1 inv.1)
 
 pub returns-clause-counted : goal.returns-clause-counted
 returns-clause-counted g c =
     let inv = c.loop-bus.invariant in
     buses_counted g.J.Basis.start (g.K.Tallies.number c.loop-bus.books)
-    (subst (λ (n : ℕ). AreCounted g.J.Basis.start (g.K.Tallies.number c.loop-bus.books) (16 + n))
+    (subst (λ (n : ℕ). AreCounted g.J.Basis.start (g.K.Tallies.number c.loop-bus.books) (most_workers + n))
     (at_end c.loop-bus.bus c.buses-buses.result g.J.Basis.start.plant.plan.buses c.loop-bus.auto.bus-end
     c.loop-bus-test.false
     (buses_known c.args.plant.now g.J.Basis.start c.setup.result.now.plan c.plan.result.now c.buses-buses.result

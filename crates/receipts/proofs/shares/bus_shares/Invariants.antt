@@ -1,4 +1,5 @@
 use Rattle.std.proofs.Common.{ℕ, ◌+◌}
+use Rattle.limits.specs.Limits.{most_workers}
 use Rattle.plantevents.specs.declared.role.Role.TheVariants.{Bus}
 use Rattle.receipts.specs.Receipts.{AreFresh}
 use Rattle.receipts.specs.Seats.{AreCounted, AreUnused}
@@ -7,5 +8,5 @@ use Rattle.receipts.proofs.shares.bus_shares.Given as goal
 abbrev pub invariant-loop-bus : goal.invariant-loop-bus
 invariant-loop-bus g l =
     AreFresh g.J.Basis.start Bus l.bus l.shares.items
-    × AreUnused g.T.Seated.seat g.T.Seated.amount (16 + l.bus) l.ties.items
-    × AreCounted g.J.Basis.start (g.K.Tallies.number l.books) (16 + l.bus)
+    × AreUnused g.T.Seated.seat g.T.Seated.amount (most_workers + l.bus) l.ties.items
+    × AreCounted g.J.Basis.start (g.K.Tallies.number l.books) (most_workers + l.bus)

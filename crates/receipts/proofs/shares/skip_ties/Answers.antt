@@ -1,17 +1,18 @@
 use Rattle.std.proofs.Common.{◌≡◌, ◌+◌, ◌<◌, arith, subst}
+use Rattle.limits.specs.Limits.{most_seats}
 use Rattle.receipts.specs.Seats.{AreUnused}
 use Rattle.receipts.proofs.shares.skip_ties.Goals as goal
 
 pub next_tie-unused-requires : goal.next_tie-unused-requires
 next_tie-unused-requires g c =
     let r = c.requires in
-    let few : r.0 + c.loop-seat._seat < 81 = let low = r.1 in omega (arith, low, c.loop-seat-test.true) in
+    let few : r.0 + c.loop-seat._seat < most_seats = let low = r.1 in omega (arith, low, c.loop-seat-test.true) in
     (r.0 + c.loop-seat._seat, few, c.loop-seat.invariant r.0 r.1 r.2)
 
 pub loop-seat-preserved : goal.loop-seat-preserved
 loop-seat-preserved g c n low unused =
     let i = c.loop-seat._seat in
-    let few : n + i < 81 = omega (arith, low, c.loop-seat-test.true) in
+    let few : n + i < most_seats = omega (arith, low, c.loop-seat-test.true) in
     let same : n + i + 1 ≡ n + (i + 1) = omega arith in
     subst (λ m. AreUnused g.T.Seated.seat g.T.Seated.amount m c.next_tie-unused.new.ties.items) same
     (c.next_tie-unused.ensures (n + i) few (c.loop-seat.invariant n low unused)).rest

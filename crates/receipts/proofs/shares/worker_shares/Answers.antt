@@ -1,5 +1,6 @@
 use Rattle.std.proofs.Common.{ℕ, ◌-◌, ◌≤◌, ◌∙◌, ap, refl, subst, sym}
 use Rattle.std.proofs.lemmas.Result.{IfOk-from_err}
+use Rattle.limits.specs.Limits.{most_workers}
 use Rattle.plantevents.specs.declared.role.Role.TheVariants.{Worker}
 use Rattle.plant.specs.Shown.{Shown}
 use Rattle.receipts.specs.Receipts.{AreFresh}
@@ -21,7 +22,7 @@ next_share-requires-clause-start g c = c.requires.start
 
 pub next_share-requires-clause-known : goal.next_share-requires-clause-known
 next_share-requires-clause-known g c =
-    one_of c.loop-worker.worker c.workers-workers.result g.J.Basis.start.plant.workers 16
+    one_of c.loop-worker.worker c.workers-workers.result g.J.Basis.start.plant.workers most_workers
     (c.workers-workers.ensures.value ∙ ap (λ (p : Shown). p.plant.workers) c.requires.start) c.requires.seated
     c.loop-worker-test.true
 
@@ -61,7 +62,7 @@ loop-worker-preserved g c =
 
 pub overflow_sub-workers : goal.overflow_sub-workers
 overflow_sub-workers g c =
-    subst (λ (n : ℕ). n ≤ 16)
+    subst (λ (n : ℕ). n ≤ most_workers)
     (sym (c.workers-workers.ensures.value ∙ ap (λ (p : Shown). p.plant.workers) c.requires.start)) c.requires.seated
 
 pub skip_ties-requires : goal.skip_ties-requires
@@ -69,7 +70,7 @@ skip_ties-requires g c =
     let inv = c.loop-worker.invariant in
     let passed =
     workers_passed c.loop-worker.worker c.workers-workers.result g.J.Basis.start.plant.workers
-    (16 - c.workers-workers.result) c.loop-worker.auto.worker-end c.loop-worker-test.false
+    (most_workers - c.workers-workers.result) c.loop-worker.auto.worker-end c.loop-worker-test.false
     (c.workers-workers.ensures.value ∙ ap (λ (p : Shown). p.plant.workers) c.requires.start) c.requires.seated refl in
     (c.loop-worker.worker, passed.1, inv.1)
 
@@ -87,7 +88,7 @@ returns-clause-unused g c =
     let inv = c.loop-worker.invariant in
     let passed =
     workers_passed c.loop-worker.worker c.workers-workers.result g.J.Basis.start.plant.workers
-    (16 - c.workers-workers.result) c.loop-worker.auto.worker-end c.loop-worker-test.false
+    (most_workers - c.workers-workers.result) c.loop-worker.auto.worker-end c.loop-worker-test.false
     (c.workers-workers.ensures.value ∙ ap (λ (p : Shown). p.plant.workers) c.requires.start) c.requires.seated refl in
     subst (λ m. AreUnused g.T.Seated.seat g.T.Seated.amount m c.skip_ties.new.ties.items) passed.0
     (c.skip_ties.ensures c.loop-worker.worker passed.1 inv.1)

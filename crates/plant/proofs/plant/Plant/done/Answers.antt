@@ -14,21 +14,21 @@ use Rattle.plant.proofs.plant.Plant.done.Goals as goal
 
 pub note_report-requires-clause-few : goal.note_report-requires-clause-few
 note_report-requires-clause-few c =
-    let may = done_now _ _ c.args.bus c.args.number _ c.args.report c.self.view_is c.transaction.ensures.value
-    (c.in-Some.ensures.open.0 refl) c.transaction.ensures.legal in
+    let may = done_now _ _ c.args.bus c.args.number c.args.report c.self.view_is (c.in-Some.ensures.is.0 refl)
+    c.outcome.ensures.legal in
     frames_room _ _ c.args.bus c.args.number c.args.report c.self.invariant may
 
 pub overflow_sub-self : goal.overflow_sub-self
 overflow_sub-self c =
-    let may = done_now _ _ c.args.bus c.args.number _ c.args.report c.self.view_is c.transaction.ensures.value
-    (c.in-Some.ensures.open.0 refl) c.transaction.ensures.legal in
+    let may = done_now _ _ c.args.bus c.args.number c.args.report c.self.view_is (c.in-Some.ensures.is.0 refl)
+    c.outcome.ensures.legal in
     place_left _ _ c.args.bus c.args.number c.args.report c.self.invariant may
 
 pub write_answer-requires-clause-inputs : goal.write_answer-requires-clause-inputs
 write_answer-requires-clause-inputs c =
     let p = c.self.inside in
-    let may = done_now _ _ c.args.bus c.args.number _ c.args.report c.self.view_is c.transaction.ensures.value
-    (c.in-Some.ensures.open.0 refl) c.transaction.ensures.legal in
+    let may = done_now _ _ c.args.bus c.args.number c.args.report c.self.view_is (c.in-Some.ensures.is.0 refl)
+    c.outcome.ensures.legal in
     rw (c.numbers.ensures, c.plan.ensures.value) (kept_for p.setup.plan p.inputs.items c.args.bus c.index.result.now
     c.self.invariant.each_input may.known
     (c.index.ensures ∙ ap (λ n. slice_index_or p.inputs.items n c.index.result.now) c.from.ensures))
@@ -37,12 +37,11 @@ pub invariant_of-self : goal.invariant_of-self
 invariant_of-self c =
     let p = c.self.inside in let says = c.self.invariant in let b = c.args.bus in let n = c.args.number in
     let report = c.args.report in let plant = plant_of p.setup p.workers in let h = p.history.items in
-    let may = done_now _ _ b n _ report c.self.view_is c.transaction.ensures.value (c.in-Some.ensures.open.0 refl)
-    c.transaction.ensures.legal in
+    let may = done_now _ _ b n report c.self.view_is (c.in-Some.ensures.is.0 refl) c.outcome.ensures.legal in
     let handed : OpenHand = record {
       place = n;
       origin = c.in-Some.origin;
-      transaction = c.transaction.result.now;
+      transaction = report.transaction;
     } in
     let is = subst (λ (s : Shown). hand b s.history ≡ Some handed) (sym c.self.view_is) c.in-Some.ensures.origin in
     let imaged = image_done plant b n report h handed p.image c.write_answer.new.image says.each_variable is

@@ -1,6 +1,6 @@
 use Rattle.std.proofs.Common.{arith, ◌≡◌, ◌≤◌, ℕ, List, length, replicate, false, sym, subst, ap, ◌∙◌, rules}
 use Rattle.ilplan.specs.Plans.{Planned, IsLawful}
-use Rattle.limits.specs.Limits.{most_tasks}
+use Rattle.limits.specs.Limits.{most_buses, most_tasks}
 use Rattle.taskset.specs.declared.setup.TaskSetup.{TaskSetup}
 use Rattle.taskset.specs.TaskSets.{AreSetups}
 use Rattle.plantbuses.specs.KeptSteps.{AreFresh}
@@ -44,7 +44,7 @@ invariant_of-result c =
     let zeros : c.in_ok-counts.counts.items ≡ replicate (length plan.sources) 0 = search rules in
     let untaken : c.in_ok-takes.takes.items ≡ replicate (length plan.tasks) 0 = search rules in
     let up : c.from-2.result ≡ plan.buses = c.from-2.ensures ∙ buses in
-    let few : plan.buses ≤ 16 = lawful.wiring.buses.last in
+    let few : plan.buses ≤ most_buses = lawful.wiring.buses.last in
     let located = subst (λ (x : Planned). OutputsFollow (planned x) c.in_ok-outputs.outputs.items)
     c.plan-6.ensures.value c.in_ok-outputs.ensures in
     let fresh = subst (λ (n : ℕ). AreFresh n c.in_ok-states.states.items) buses c.in_ok-states.ensures in

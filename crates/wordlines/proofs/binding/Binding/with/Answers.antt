@@ -7,7 +7,9 @@ use Rattle.wordlines.proofs.binding.Binding.with.Goals as goal
 
 pub invariant_of-result : goal.invariant_of-result
 invariant_of-result c =
-    let wiring : Wiring = record { buses = c.self.inside.buses; sources = c.self.inside.sources.items } in
+    let inside = c.self.inside in
+    let wiring : Wiring =
+    record { buses = inside.buses; sources = inside.sources.items; tries = inside.tries.items } in
     let bound = c.args.bound in
     let unfound = free_of c.bound_at.result _ _ (sym c.if-is_some.ensures) c.bound_at.ensures in
     let free = subst (λ (xs : List BoundSource). All (λ b. ¬ IsAt bound.bus bound.number b) xs) c.deref.ensures.value

@@ -1,0 +1,83 @@
+//! The versions of code files.
+
+ghost use Rattle.std.specs.Prelude.{◌≡◌};
+ghost use Rattle.codefile.specs.Faults.{version_in};
+ghost use Rattle.codefile.specs.Files.{version};
+
+use ilcode::Code;
+use limits::{FEW_BUSES, MOST_BUSES};
+
+/// The versions of code files.
+#[derive(Clone, Copy)]
+pub(crate) enum FileVersion {
+    /// Of a code for few buses.
+    One,
+    /// Of any other code: it has one count more, that of functions.
+    Two,
+}
+
+/// The version of a code's file.
+pub(crate) fn version_of(code: &Code) -> FileVersion
+    ensures { result ≡ version code.now }
+{
+    if code.buses() <= FEW_BUSES {
+        FileVersion::One
+    } else {
+        FileVersion::Two
+    }
+}
+
+/// The version of bytes that begin as a code file, as far as they go.
+pub(crate) fn version_in(bytes: &[u8]) -> FileVersion
+    ensures { result ≡ version_in bytes.now }
+{
+    match bytes.get(4) {
+        Some(number) if *number == FileVersion::Two.number() => FileVersion::Two,
+        _ => FileVersion::One,
+    }
+}
+
+impl FileVersion {
+    ghost use Rattle.std.specs.Prelude.{◌≡◌, ◌≤◌};
+    ghost use Rattle.codefile.specs.Faults.{head_size, most_buses_of};
+    ghost use Rattle.codefile.specs.Files.{magic, version_number};
+
+    /// The number that a file of the version has.
+    fn number(self) -> u8
+        ensures { result ≡ version_number self }
+    {
+        match self {
+            FileVersion::One => 1,
+            FileVersion::Two => 2,
+        }
+    }
+
+    /// What a file of the version begins with.
+    pub(crate) fn magic(self) -> [u8; 5]
+        ensures { result ≡ magic self }
+    {
+        [68, 76, 73, 76, self.number()]
+    }
+
+    /// How many bytes a file of the version has before its tables.
+    pub(crate) fn head_size(self) -> usize
+        ensures value { result ≡ head_size self }
+        ensures least { 28 ≤ result }
+        ensures most { result ≤ 32 }
+    {
+        match self {
+            FileVersion::One => 28,
+            FileVersion::Two => 32,
+        }
+    }
+
+    /// The greatest number of buses of a file of the version.
+    pub(crate) fn most_buses(self) -> u8
+        ensures { result ≡ most_buses_of self }
+    {
+        match self {
+            FileVersion::One => FEW_BUSES,
+            FileVersion::Two => MOST_BUSES,
+        }
+    }
+}
