@@ -1,11 +1,11 @@
--- Which sources are bound on a bus: what is done for these is done for all sources, where nothing is to be done for those
--- of other buses.
-use Rattle.std.proofs.Common.{◌≡◌, ◌≢◌, ℕ, zero, suc, ◌+◌, ◌<◌, ◌≤◌, Bool, true, false, eqb, ◌&&◌, List, [], ◌∷◌, ◌++◌}
+-- Which sources are bound on a bus: what is done for these is done for all, where nothing is to be done for those of
+-- other buses.
+use Rattle.std.proofs.Common.{◌≡◌, ◌≢◌, ℕ, zero, suc, ◌+◌, ◌<◌, ◌≤◌, Bool, true, false, ◌&&◌, List, [], ◌∷◌}
 use Rattle.std.proofs.Common.{length, drop, get_or, Option, Some, None, refl, sym, ap, ◌∙◌, subst, arith, below_more}
 use Rattle.std.proofs.Common.{length-drop, ⊎_elim, leb, ne_eqb, ◌%◌, ◌^◌, ◌-◌}
-use Rattle.std.proofs.lemmas.Bool.{and_left, eqb-false}
+use Rattle.std.proofs.lemmas.Bool.{eqb-false}
 use Rattle.std.proofs.lemmas.Bool.Decides.{leb_tells}
-use Rattle.std.proofs.lemmas.List.{drop_more, drop_all, get_or-drop, drop-drop}
+use Rattle.std.proofs.lemmas.List.{drop_all, get_or-drop, drop-drop}
 use Rattle.std.proofs.lemmas.Iterator.Adapters.{position_from-zero}
 use Rattle.std.proofs.lemmas.List.Elements.{All-nil, All-cons}
 use Rattle.std.specs.Prelude.{◌==◌, All, if◌then◌else◌, find, slice_index_or}
@@ -13,7 +13,7 @@ use Rattle.std.specs.List.{position, position_from}
 use Rattle.wordlines.specs.declared.sources.BoundSource.{BoundSource}
 use Rattle.plantevents.specs.declared.event.Event.{Event}
 use Rattle.plantevents.specs.declared.event.Event.TheVariants.{Heard}
-use Rattle.plantevents.specs.Histories.{message_count, messages}
+use Rattle.plantevents.specs.Histories.{messages}
 use Rattle.plant.specs.IndexSteps.{numbers_on}
 use Rattle.plant.specs.InputSteps.{is_bound_at}
 use Rattle.plant.specs.KeptSteps.{CountsFollow, IsCount, no_source, source_in}
@@ -221,7 +221,8 @@ below_by : (P : ℕ → Type 0) (k : ℕ) (rest : List ℕ) (here : Bool) → P 
 below_by P k rest true is more = All-cons P k rest is more
 below_by P k rest false is more = more
 
-below_from : (b k n : ℕ) (sources : List BoundSource) → k + length sources ≤ n → All (λ i. i < n) (numbers_on b k sources)
+below_from : (b k n : ℕ) (sources : List BoundSource) → k + length sources ≤ n
+    → All (λ i. i < n) (numbers_on b k sources)
 below_from b k n [] le = All-nil (λ i. i < n)
 below_from b k n (bound ∷ sources) le =
     below_by (λ i. i < n) k (numbers_on b (k + 1) sources) (bound.bus == b) (omega arith)

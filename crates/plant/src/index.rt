@@ -1,8 +1,8 @@
 //! The global variables that are located at inputs, and the sources, by bus.
 
 ghost use Rattle.std.specs.Prelude.{◌≡◌, ◌<◌, length, IfOk};
-ghost use Rattle.plant.specs.IndexSteps.{AreInputsOf, IsFromBus, InputsFollow, comes_from, place_of};
-ghost use Rattle.plant.specs.IndexSteps.{numbers_on};
+ghost use Rattle.plant.specs.IndexSteps.{AreInputsOf, IsFromBus, InputsFollow, comes_from};
+ghost use Rattle.plant.specs.IndexSteps.{numbers_on, place_of};
 
 use ilplan::{Location, Plan};
 use std::alloc::{AllocError, Global};

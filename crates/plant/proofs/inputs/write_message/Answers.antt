@@ -20,7 +20,8 @@ loop-i-preserved c =
 pub returns-clause-values : goal.returns-clause-values
 returns-clause-values c =
     let plan = c.args.plan.now in
+    let located = subst (AreInputsOf plan c.args.bus) (sym c.numbers-numbers.ensures) c.requires.inputs.located in
     λ v. all_given (input_at plan c.args.counts.now c.args.bus c.args.frame) c.args.image.now c.loop-i.image plan
-    c.args.bus c.numbers-numbers.result.now c.loop-i.i (subst (AreInputsOf plan c.args.bus) (sym c.numbers-numbers.ensures) c.requires.inputs.located) (omega arith) c.loop-i.invariant
+    c.args.bus c.numbers-numbers.result.now c.loop-i.i located (omega arith) c.loop-i.invariant
     (λ g other. nothing_written plan.sources c.args.counts.now c.args.bus c.args.frame (place_of plan g) other)
     (λ t n. refl) v

@@ -1,4 +1,4 @@
-use Rattle.std.proofs.Common.{◌∙◌, get_or, refl, arith}
+use Rattle.std.proofs.Common.{◌∙◌, get_or, arith}
 use Rattle.std.proofs.lemmas.List.{drop_more, get_or_default}
 use Rattle.plant.proofs.BoundOn.{bound_there, counted_start, counted_turn, counted_all}
 use Rattle.plant.proofs.messages.count_message.Goals as goal
