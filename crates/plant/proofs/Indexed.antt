@@ -25,7 +25,7 @@ use Rattle.plantevents.specs.Plants.{Plant, task_at, trigger_by, trigger_of}
 use Rattle.plantevents.specs.Variables.{event_value, is_answer_of, outcome_value}
 use Rattle.plantbuses.specs.AnswerSteps.{answer_write}
 use Rattle.plantbuses.proofs.Fitting.{all_at}
-use Rattle.plant.specs.IndexSteps.{AreInputsOf, InputsFollow, comes_from, place_of}
+use Rattle.plant.specs.IndexSteps.{AreInputsOf, FromBus, InputsFollow, IsFromBus, comes_from, from_none, place_of}
 use Rattle.plant.specs.InputSteps.{count_of, information_of, written_by}
 use Rattle.plant.specs.TakingSteps.{trigger_place}
 
@@ -94,12 +94,16 @@ no_answer b answerer result o other =
 
 -- ---- what is kept for a bus
 
-pub kept_for : (plan : Planned) (inputs : List (List ℕ)) (b : ℕ) (numbers : List ℕ) → InputsFollow plan inputs
-    → b < plan.buses → numbers ≡ slice_index_or inputs b numbers → AreInputsOf plan b numbers
-kept_for plan inputs b numbers follow below is =
+pub kept_on : (plan : Planned) (inputs : List FromBus) (b : ℕ) (from : FromBus) → InputsFollow plan inputs
+    → b < plan.buses → from ≡ slice_index_or inputs b from → IsFromBus plan b from
+kept_on plan inputs b from follow below is =
     let many : length inputs ≡ plan.buses = follow.0 in
-    subst (AreInputsOf plan b)
-    (sym (is ∙ get_or_default inputs b numbers [] (omega (arith, many, below)))) (follow.1 b below)
+    subst (IsFromBus plan b)
+    (sym (is ∙ get_or_default inputs b from from_none (omega (arith, many, below)))) (follow.1 b below)
+
+pub kept_for : (plan : Planned) (inputs : List FromBus) (b : ℕ) (from : FromBus) → InputsFollow plan inputs
+    → b < plan.buses → from ≡ slice_index_or inputs b from → AreInputsOf plan b from.numbers
+kept_for plan inputs b from follow below is = (kept_on plan inputs b from follow below is).located
 
 -- ---- the trigger of an event task is on one of the buses
 

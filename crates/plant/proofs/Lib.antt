@@ -1,4 +1,5 @@
 pub mod Answering
+pub mod BoundOn
 pub mod Choosing
 pub mod Committing
 pub mod Counting

@@ -11,7 +11,7 @@ use Rattle.plantevents.specs.Histories.{OpenScan}
 use Rattle.taskset.specs.TaskSets.{TaskSet, Follows}
 use Rattle.plantbuses.specs.declared.outputs.LevelOutput.{LevelOutput}
 use Rattle.plantbuses.specs.OutputSteps.{planned, OutputsFollow}
-use Rattle.plant.specs.IndexSteps.{InputsFollow}
+use Rattle.plant.specs.IndexSteps.{FromBus, InputsFollow}
 use Rattle.plantbuses.specs.OwedSteps.{OwedFollow}
 use Rattle.plantbuses.specs.declared.owed.OwedLevels.{OwedLevels}
 use Rattle.plantbuses.specs.KeptSteps.{KeptBus, BusesFollow, ImageFollows, AreFresh, AreIdle}
@@ -41,7 +41,7 @@ kept_at_first setup workers limit =
 -- ---- all that is kept
 
 pub opened_says : (setup : Loaded) (workers limit : ℕ) (tasks : TaskSet) (scans : List (Option OpenScan))
-    (buses : List KeptBus) (inputs : List (List ℕ)) (outputs : List (List (Option LevelOutput)))
+    (buses : List KeptBus) (inputs : List FromBus) (outputs : List (List (Option LevelOutput)))
     (owed : List OwedLevels) → IsWorkerCount workers → IsLimit limit
     → setup.plan.buses ≤ most_buses
     → Follows (plant_of setup workers) [] tasks → AreIdle workers scans → AreFresh setup.plan.buses buses
@@ -103,7 +103,7 @@ first_owes setup workers outputs buses image owed located fresh first made =
 -- as the code makes them
 pub kept_says : (setup : Loaded) (workers limit : ℕ) (history : List Event) (places : List Bool) (tasks : TaskSet)
     (image : ProcessImage) (counts takes : List ℕ) (scans : List (Option OpenScan)) (buses : List KeptBus)
-    (inputs : List (List ℕ)) (outputs : List (List (Option LevelOutput))) (owed : List OwedLevels)
+    (inputs : List FromBus) (outputs : List (List (Option LevelOutput))) (owed : List OwedLevels)
     (places_kept : ℕ)
     → IsWorkerCount workers → IsLimit limit → setup.plan.buses ≤ most_buses → history ≡ [] → places ≡ replicate
     setup.plan.buses false

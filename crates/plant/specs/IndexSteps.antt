@@ -1,7 +1,9 @@
--- Which global variables are located at inputs of a bus: what comes from the bus is written to these alone.
-use Rattle.std.specs.Prelude.{◌≡◌, ℕ, ◌<◌, ◌==◌, Bool, true, false, List, [], All, length, slice_get, slice_index_or}
-use Rattle.std.specs.Prelude.{Option, Some, option_and_then}
+-- Which global variables are located at inputs of a bus, and which sources are bound on it: what comes from the bus is
+-- written to these variables alone, and is a message of these sources alone.
+use Rattle.std.specs.Prelude.{◌≡◌, ℕ, ◌+◌, ◌<◌, ◌==◌, Bool, true, false, List, [], ◌∷◌, All, length, slice_get}
+use Rattle.std.specs.Prelude.{slice_index_or, Option, Some, option_and_then, if◌then◌else◌}
 use Rattle.std.specs.List.{Any}
+use Rattle.wordlines.specs.declared.sources.BoundSource.{BoundSource}
 use Rattle.ilplan.specs.declared.global.Location.{Location}
 use Rattle.ilplan.specs.declared.global.Location.TheVariants.{GearAnswer, DeviceAnswer, Information, Count, Trigger}
 use Rattle.ilplan.specs.Plans.{Planned}
@@ -24,7 +26,30 @@ pub record AreInputsOf (plan : Planned) (b : ℕ) (numbers : List ℕ) : Type 0 
   pub each : All (λ g. comes_from b (place_of plan g) ≡ true) numbers
   pub every : (g : ℕ) → comes_from b (place_of plan g) ≡ true → Any (λ n. n ≡ g) numbers
 
+-- of these sources, which are numbered from k on, the numbers of those that are bound on bus b
+abbrev pub numbers_on : ℕ → ℕ → List BoundSource → List ℕ
+numbers_on b k [] = []
+numbers_on b k (bound ∷ more) =
+    if bound.bus == b then k ∷ numbers_on b (k + 1) more else numbers_on b (k + 1) more
+
+-- the numbers of the sources that are bound on bus b, each once
+abbrev pub sources_on : Planned → ℕ → List ℕ
+sources_on plan b = numbers_on b 0 plan.sources
+
+-- what is kept of a bus: the numbers of what is located at inputs of it, and of the sources on it
+pub record FromBus : Type 0 where
+  pub numbers : List ℕ
+  pub sources : List ℕ
+
+pub record IsFromBus (plan : Planned) (b : ℕ) (from : FromBus) : Type 0 where
+  pub located : AreInputsOf plan b from.numbers
+  pub bound : from.sources ≡ sources_on plan b
+
+-- what stands past the end of the list
+abbrev pub from_none : FromBus
+from_none = record { numbers = []; sources = [] }
+
 -- of each bus
-abbrev pub InputsFollow : Planned → List (List ℕ) → Type 0
+abbrev pub InputsFollow : Planned → List FromBus → Type 0
 InputsFollow plan inputs =
-    (length inputs ≡ plan.buses) × ((b : ℕ) → b < plan.buses → AreInputsOf plan b (slice_index_or inputs b []))
+    (length inputs ≡ plan.buses) × ((b : ℕ) → b < plan.buses → IsFromBus plan b (slice_index_or inputs b from_none))

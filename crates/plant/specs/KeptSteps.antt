@@ -13,7 +13,7 @@ use Rattle.plantbuses.specs.declared.outputs.LevelOutput.{LevelOutput}
 use Rattle.plantbuses.specs.declared.owed.OwedLevels.{OwedLevels}
 use Rattle.plantbuses.specs.KeptSteps.{KeptBus, BusesFollow, ImageFollows, ScansFollow, TakesFollow}
 use Rattle.plantbuses.specs.OutputSteps.{OutputsFollow}
-use Rattle.plant.specs.IndexSteps.{InputsFollow}
+use Rattle.plant.specs.IndexSteps.{FromBus, InputsFollow}
 use Rattle.plantbuses.specs.OwedSteps.{OwedFollow}
 use Rattle.plant.specs.Shown.{Shown, kept}
 
@@ -46,7 +46,7 @@ pub record KeptPlant : Type 0 where
   pub takes : List ℕ
   pub scans : List (Option OpenScan)
   pub buses : List KeptBus
-  pub inputs : List (List ℕ)
+  pub inputs : List FromBus
   pub outputs : List (List (Option LevelOutput))
   pub owed : List OwedLevels
   pub moment : ℕ

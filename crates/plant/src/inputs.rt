@@ -9,9 +9,10 @@ ghost use Rattle.ilimage.specs.Images.{Global as GlobalVariable};
 ghost use Rattle.ilimage.specs.Snapshots.{MayHave};
 ghost use Rattle.plantevents.specs.Variables.{newest};
 ghost use Rattle.plantbuses.specs.AnswerSteps.{IsWrittenAs};
-ghost use Rattle.plant.specs.IndexSteps.{AreInputsOf};
+ghost use Rattle.plant.specs.IndexSteps.{IsFromBus, numbers_on, sources_on};
 ghost use Rattle.plant.specs.InputSteps.{is_bound_at, written_by, input_at};
 
+use crate::index::BusInputs;
 use daliframe::Frame24;
 use ilimage::Image;
 use ilplan::{Location, Plan};
@@ -19,12 +20,16 @@ use iltypes::Value;
 use wordlines::BoundSource;
 
 /// The number of the source that is bound at this place of a bus.
-fn source_number(sources: &[BoundSource], bus: u8, number: u8) -> Option<usize>
+fn source_number(sources: &[BoundSource], numbers: &[usize], bus: u8, number: u8) -> Option<usize>
+    requires { numbers.now ≡ numbers_on bus 0 sources.now }
     ensures value { result ≡ position (is_bound_at bus number) sources.now }
 {
-    sources
-        .iter()
-        .position(|bound| bound.bus == bus && bound.number == number)
+    for i in numbers {
+        if sources[*i].number == number {
+            return Some(*i);
+        }
+    }
+    None
 }
 
 /// What a frame that was heard on a bus writes to a variable that is located there, where `counts`
@@ -32,12 +37,14 @@ fn source_number(sources: &[BoundSource], bus: u8, number: u8) -> Option<usize>
 #[tactic(auto, using(plantbuses::proofs::Fitting::within_up_to))]
 fn message_value(
     sources: &[BoundSource],
+    numbers: &[usize],
     counts: &[u16],
     location: Location,
     bus: u8,
     frame: Frame24,
 ) -> Option<Value>
-    requires { length counts.now ≡ length sources.now }
+    requires each { length counts.now ≡ length sources.now }
+    requires bound { numbers.now ≡ numbers_on bus 0 sources.now }
     ensures value { result ≡ written_by sources.now counts.now bus frame location }
     ensures in_type { (value_type : IlType) → IfSome result (IsWrittenAs value_type location) }
 {
@@ -47,10 +54,10 @@ fn message_value(
         }
         _ => return None,
     };
-    let i = source_number(sources, own, number)?;
     if own != bus {
         return None;
     }
+    let i = source_number(sources, numbers, bus, number)?;
     let information = sources[i].source.information(frame)?;
     match location {
         Location::Count { .. } => Some(Value::Int(i64::from(counts[i]))),
@@ -74,28 +81,36 @@ pub(crate) fn give(image: &mut Image, global: usize, value: Option<Value>)
 }
 
 /// What a frame that was heard on a bus writes to a global variable.
-fn message_to(plan: &Plan, counts: &[u16], global: usize, bus: u8, frame: Frame24) -> Option<Value>
+fn message_to(
+    plan: &Plan,
+    numbers: &[usize],
+    counts: &[u16],
+    global: usize,
+    bus: u8,
+    frame: Frame24,
+) -> Option<Value>
     requires known { global < length plan.now.globals }
     requires each { length counts.now ≡ length plan.now.sources }
+    requires bound { numbers.now ≡ sources_on plan.now bus }
     ensures value { result ≡ input_at plan.now counts.now bus frame (GlobalVariable global) }
     ensures in_type { IfSome result (MayHave (map (λ g. g.value_type) plan.now.globals) global) }
 {
     let _lawful = plan.buses();
     let location = plan.global(global).location?;
-    message_value(plan.sources(), counts, location, bus, frame)
+    message_value(plan.sources(), numbers, counts, location, bus, frame)
 }
 
 /// Writes the information and the count of each source that a frame, which was heard on a bus, is
 /// a message of, to the global variables that are located at inputs of the bus. It takes no memory.
 pub(crate) fn write_message(
     plan: &Plan,
-    inputs: &[usize],
+    inputs: &BusInputs,
     counts: &[u16],
     image: &mut Image,
     bus: u8,
     frame: Frame24,
 )
-    requires inputs { AreInputsOf plan.now bus inputs.now }
+    requires inputs { IsFromBus plan.now bus inputs.now }
     requires each { length counts.now ≡ length plan.now.sources }
     requires types { image.old.types ≡ map (λ g. g.value_type) plan.now.globals }
     ensures layout { layout_of image.new ≡ layout_of image.old }
@@ -103,9 +118,10 @@ pub(crate) fn write_message(
         ≡ newest (input_at plan.now counts.now bus frame v) (value_of image.old v) }
     ensures blocks { (task : ℕ) → blocks_of image.new task ≡ blocks_of image.old task }
 {
-    for i in 0..inputs.len() {
-        let global = inputs[i];
-        let value = message_to(plan, counts, global, bus, frame);
+    let numbers = inputs.numbers();
+    for i in 0..numbers.len() {
+        let global = numbers[i];
+        let value = message_to(plan, inputs.sources(), counts, global, bus, frame);
         give(image, global, value);
     }
 }

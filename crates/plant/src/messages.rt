@@ -7,6 +7,7 @@ ghost use Rattle.wordlines.specs.declared.sources.BoundSource.{BoundSource as Bo
 ghost use Rattle.plantevents.specs.declared.event.Event.{Event};
 ghost use Rattle.plantevents.specs.declared.event.Event.TheVariants.{Heard};
 ghost use Rattle.plantevents.specs.Histories.{message_count};
+ghost use Rattle.plant.specs.IndexSteps.{numbers_on};
 ghost use Rattle.plant.specs.KeptSteps.{IsCount, CountsFollow, source_in};
 
 use daliframe::Frame24;
@@ -39,14 +40,22 @@ fn count_for(sources: &[BoundSource], counts: &mut Vec<u16>, i: usize, bus: u8, 
     counts[i] = count_after(sources[i], counts[i], bus, frame);
 }
 
-/// Counts a frame that was heard on a bus for each source that it is a message of.
-pub(crate) fn count_message(sources: &[BoundSource], counts: &mut Vec<u16>, bus: u8, frame: Frame24)
-    requires { length counts.old.items ≡ length sources.now }
+/// Counts a frame that was heard on a bus for each source that it is a message of. It goes over
+/// the sources on the bus alone.
+pub(crate) fn count_message(
+    sources: &[BoundSource],
+    numbers: &[usize],
+    counts: &mut Vec<u16>,
+    bus: u8,
+    frame: Frame24,
+)
+    requires each { length counts.old.items ≡ length sources.now }
+    requires bound { numbers.now ≡ numbers_on bus 0 sources.now }
     ensures count { length counts.new.items ≡ length counts.old.items }
     ensures follow { (h : List Event) → CountsFollow sources.now h counts.old.items
         → CountsFollow sources.now (Heard bus frame ∷ h) counts.new.items }
 {
-    for i in 0..sources.len() {
-        count_for(sources, counts, i, bus, frame);
+    for number in numbers {
+        count_for(sources, counts, *number, bus, frame);
     }
 }

@@ -318,10 +318,17 @@ impl Plant {
     {
         self.allows_frame(bus)?;
         self.tasks.heard(self.length, bus, frame);
-        count_message(self.setup.plan().sources(), &mut self.counts, bus, frame);
+        let inputs = &self.inputs[usize::from(bus)];
+        count_message(
+            self.setup.plan().sources(),
+            inputs.sources(),
+            &mut self.counts,
+            bus,
+            frame,
+        );
         write_message(
             self.setup.plan(),
-            self.inputs[usize::from(bus)].numbers(),
+            inputs,
             &self.counts,
             &mut self.image,
             bus,

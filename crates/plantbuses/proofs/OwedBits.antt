@@ -20,10 +20,9 @@ use Rattle.plantevents.specs.Waiting.{OwedLevel, owed_at, owed_by, if_new, natur
 use Rattle.plantbuses.specs.declared.outputs.LevelOutput.{LevelOutput}
 use Rattle.plantbuses.specs.declared.owed.OwedLevels.{OwedLevels}
 use Rattle.plantbuses.specs.AddressSets.{one_if, HasNone, IsLeast}
-use Rattle.plantbuses.specs.OutputSteps.{output_of, level_output}
+use Rattle.plantbuses.specs.OutputSteps.{is_at, output_of, level_output}
 use Rattle.plantbuses.specs.HandingSteps.{level_at}
 use Rattle.plantbuses.specs.OwedSteps.{addresses_of, owed_on, no_levels, owes, OwesAt, OwedFollows, IsLeastOwed}
-use Rattle.plantbuses.specs.StoreSteps.{is_at}
 use Rattle.plantbuses.proofs.OwedAt.{located_by, not_located}
 
 -- ---- of one address

@@ -37,8 +37,9 @@ use Rattle.plantevents.proofs.Handing.{handout_first}
 use Rattle.plantevents.proofs.Owing.{has_owed}
 use Rattle.plantbuses.specs.declared.owed.OwedLevels.{OwedLevels}
 use Rattle.plantbuses.specs.AddressSets.{one_if}
+use Rattle.plantbuses.specs.OutputSteps.{place_in, is_at}
 use Rattle.plantbuses.specs.OwedSteps.{addresses_of, owed_on, no_levels, OwesAt, OwedFollow}
-use Rattle.plantbuses.specs.StoreSteps.{place_in, store_place, is_at, stores_at, OwedBeside, externals_by, externals_at}
+use Rattle.plantbuses.specs.StoreSteps.{store_place, stores_at, OwedBeside, externals_by, externals_at}
 use Rattle.plantbuses.proofs.OwedBits.{noted_others}
 use Rattle.plantbuses.proofs.OwedAt.{located}
 

@@ -1,5 +1,5 @@
 -- Which levels are owed, once what a task stores was noted.
-use Rattle.std.proofs.Common.{◌≡◌, ℕ, ◌<◌, ◌≤◌, Bool, true, false, List, ◌∷◌, length}
+use Rattle.std.proofs.Common.{◌≡◌, ℕ, ◌+◌, ◌<◌, ◌≤◌, Bool, true, false, List, [], ◌∷◌, length, get_or, ◌||◌}
 use Rattle.std.proofs.Common.{Option, Some, None, sym, ap, ◌∙◌, refl, subst, arith}
 use Rattle.std.proofs.lemmas.Bool.{or_from}
 use Rattle.std.proofs.lemmas.List.{length-map}
@@ -15,30 +15,30 @@ use Rattle.ilplan.specs.declared.global.Location.TheVariants.{Level, GearAnswer,
 use Rattle.ilplan.specs.declared.global.Location.TheVariants.{Trigger}
 use Rattle.ilplan.specs.Plans.{Planned, IsLawful, IsLocatedIn, IsAddressIn, Suits, wiring_of}
 use Rattle.ilimage.specs.declared.external.External.{External}
+use Rattle.ilimage.specs.declared.slots.StoredSlot.{StoredSlot}
 use Rattle.ilimage.specs.Images.{ProcessImage, TaskImage, IsImage, layout_of}
+use Rattle.ilimage.specs.Images.{TaskLayout, stored_slot, stored_from, stored_slots}
 use Rattle.ilimage.proofs.Commits.{lawful_task}
 use Rattle.ilimage.proofs.Places.{typed_there, layout_at}
+use Rattle.ilimage.proofs.StoredSlots.{all_stores}
 use Rattle.plantevents.specs.declared.event.Event.{Event}
 use Rattle.plantevents.specs.Plants.{Plant}
 use Rattle.plantbuses.specs.declared.outputs.LevelOutput.{LevelOutput}
 use Rattle.plantbuses.specs.declared.owed.OwedLevels.{OwedLevels}
 use Rattle.plantbuses.specs.KeptSteps.{KeptBus, BusesFollow}
-use Rattle.plantbuses.specs.OutputSteps.{OutputsFollow}
+use Rattle.plantbuses.specs.OutputSteps.{OutputsFollow, place_in, level_of, is_at}
 use Rattle.plantbuses.specs.OwedSteps.{addresses_of, owed_on, OwesAt}
-use Rattle.plantbuses.specs.StoreSteps.{OwedBeside, AreTables, place_in, store_place, is_at, stores_at, externals_by}
-use Rattle.plantbuses.specs.StoreSteps.{externals_at}
+use Rattle.plantbuses.specs.StoreSteps.{OwedBeside, OwedBesideSlots, AreTables, store_place, stores_at}
+use Rattle.plantbuses.specs.StoreSteps.{has_store_at, externals_by, externals_at}
 use Rattle.plantbuses.proofs.Fitting.{all_at}
 use Rattle.plantbuses.proofs.Offered.{AreOffered}
 
--- ---- where a variable is located that a task stores
+-- ---- where a variable is located
 
-pub place_is : (plan : Planned) (e : External) (x : GlobalVariable) → e.stored ≡ true
-    → slice_get plan.globals e.global ≡ Some x → store_place plan e ≡ place_in x.location
-place_is plan e x stored there =
-    ap (λ (s : Bool). if s
-    then place_in (option_and_then (λ (g : GlobalVariable). g.location) (slice_get plan.globals e.global)) else None)
-    stored
-    ∙ ap (λ (o : Option GlobalVariable). place_in (option_and_then (λ (g : GlobalVariable). g.location) o)) there
+pub place_is : (plan : Planned) (g : ℕ) (x : GlobalVariable) → slice_get plan.globals g ≡ Some x
+    → level_of plan g ≡ place_in x.location
+place_is plan g x there =
+    ap (λ (o : Option GlobalVariable). place_in (option_and_then (λ (v : GlobalVariable). v.location) o)) there
 
 -- a level is one of a bus that is there
 level_known : (plan : Planned) (g : ℕ) (x : GlobalVariable) (l : Option Location) → IsLawful plan
@@ -61,56 +61,81 @@ place_known plan g x place lawful there is =
     subst (λ (o : Option (ℕ × ℕ)). IfSome o (λ q. (q.0 < plan.buses) × (q.1 ≤ 80))) (sym is)
     (level_known plan g x x.location lawful there refl)
 
--- ---- what a task names
+-- ---- what a task stores
 
--- the task that names these global variables
-pub record IsNaming (image : ProcessImage) (t : ℕ) (externals : List External) : Type 0 where
+-- the task of which a scan stores from these slots
+pub record IsStoring (image : ProcessImage) (t : ℕ) (stores : List StoredSlot) : Type 0 where
   pub of : TaskImage
   pub is : slice_get image.tasks t ≡ Some of
-  pub same : externals ≡ of.layout.externals
+  pub same : stores ≡ stored_slots of.layout.externals
 
-naming_by : (image : ProcessImage) (t : ℕ) (externals : List External) (o : Option TaskImage)
-    → slice_get image.tasks t ≡ o → option_map (λ (u : TaskImage). u.layout.externals) o ≡ Some externals
-    → IsNaming image t externals
-naming_by image t externals None there e = absurd (cc)
-naming_by image t externals (Some of) there e = record { of = of; is = there; same = cc }
+storing_by : (image : ProcessImage) (t : ℕ) (stores : List StoredSlot) (o : Option TaskImage)
+    → slice_get image.tasks t ≡ o
+    → option_map (λ (u : TaskImage). stored_slots u.layout.externals) o ≡ Some stores → IsStoring image t stores
+storing_by image t stores None there e = absurd (cc)
+storing_by image t stores (Some of) there e = record { of = of; is = there; same = cc }
 
-pub naming : (image : ProcessImage) (t : ℕ) (externals : List External)
-    → option_map (λ (u : TaskImage). u.layout.externals) (slice_get image.tasks t) ≡ Some externals
-    → IsNaming image t externals
-naming image t externals e = naming_by image t externals (slice_get image.tasks t) refl e
+pub storing : (image : ProcessImage) (t : ℕ) (stores : List StoredSlot)
+    → option_map (λ (u : TaskImage). stored_slots u.layout.externals) (slice_get image.tasks t) ≡ Some stores
+    → IsStoring image t stores
+storing image t stores e = storing_by image t stores (slice_get image.tasks t) refl e
 
-pub external_there : (plan : Planned) (image : ProcessImage) (t : ℕ) (of : TaskImage) (externals : List External)
-    (i : ℕ) (e : External) → IsImage image → slice_get image.tasks t ≡ Some of → externals ≡ of.layout.externals
-    → image.types ≡ map (λ (g : GlobalVariable). g.value_type) plan.globals → slice_get externals i ≡ Some e
-    → e.global < length plan.globals
-external_there plan image t of externals i e whole is same types at =
+-- each of the slots is that of a global variable of the plan
+pub store_there : (plan : Planned) (image : ProcessImage) (t : ℕ) (of : TaskImage) (stores : List StoredSlot)
+    (i : ℕ) (none : StoredSlot) → IsImage image → slice_get image.tasks t ≡ Some of
+    → stores ≡ stored_slots of.layout.externals
+    → image.types ≡ map (λ (g : GlobalVariable). g.value_type) plan.globals → i < length stores
+    → (get_or stores i none).global < length plan.globals
+store_there plan image t of stores i none whole is same types lt =
     let lawful = lawful_task image t of whole is in
     let all = typed_there image.types of.layout.verified.code.slots of.layout.externals lawful.typed in
-    let within = all_at (λ (x : External). x.global < length image.types) of.layout.externals i e all
-    (sym (ap (λ (es : List External). slice_get es i) same) ∙ at) in
+    let known = all_stores (λ (s : StoredSlot). s.global < length image.types) of.layout.externals
+    (λ s x at. all_at (λ (e : External). e.global < length image.types) of.layout.externals s x all at) in
+    let within = subst (λ (ss : List StoredSlot). (get_or ss i none).global < length image.types) (sym same)
+    (known i none (subst (λ (ss : List StoredSlot). i < length ss) same lt)) in
     let long = ap length types in
     let count = length-map plan.globals (λ (g : GlobalVariable). g.value_type) in omega arith
 
-pub externals_are : (image : ProcessImage) (t : ℕ) (of : TaskImage) (externals : List External)
-    → slice_get image.tasks t ≡ Some of → externals ≡ of.layout.externals → externals_at (layout_of image) t ≡ externals
-externals_are image t of externals is same = ap externals_by (layout_at image t of is) ∙ sym same
+-- what is stored at a level from slots is what is stored there of the variables that the task names
+one_by : (plan : Planned) (b a k : ℕ) (e : External) (rest : List StoredSlot) (stored : Bool)
+    → has_store_at plan b a (if stored then stored_slot k e ∷ rest else rest)
+    ≡ (is_at b a (if stored then level_of plan e.global else None) || has_store_at plan b a rest)
+one_by plan b a k e rest true = refl
+one_by plan b a k e rest false = refl
 
--- ---- one turn of the loop over what a task names
+stored_as : (plan : Planned) (b a k : ℕ) (externals : List External)
+    → has_store_at plan b a (stored_from k externals) ≡ stores_at plan b a externals
+stored_as plan b a k [] = refl
+stored_as plan b a k (e ∷ more) =
+    one_by plan b a k e (stored_from (k + 1) more) e.stored
+    ∙ ap (λ (x : Bool). is_at b a (store_place plan e) || x) (stored_as plan b a (k + 1) more)
 
-pub beside_turn : (p : Plant) (h : List Event) (e : External) (more : List External) (before after : List OwedLevels)
-    → ((b : ℕ) (class : Class) (a : ℕ) → is_at b a (store_place p.plan e) ≡ true
+pub beside_slots : (p : Plant) (h : List Event) (image : ProcessImage) (t : ℕ) (of : TaskImage)
+    (stores : List StoredSlot) (owed : List OwedLevels) → slice_get image.tasks t ≡ Some of
+    → stores ≡ stored_slots of.layout.externals → OwedBeside p h (externals_at (layout_of image) t) owed
+    → OwedBesideSlots p h stores owed
+beside_slots p h image t of stores owed is same beside b class a lt low none =
+    beside b class a lt low
+    (ap (λ (o : Option TaskLayout). stores_at p.plan b a (externals_by o)) (layout_at image t of is)
+    ∙ (sym (stored_as p.plan b a 0 of.layout.externals)
+    ∙ (sym (ap (has_store_at p.plan b a) same) ∙ none)))
+
+-- ---- one turn of the loop over what a task stores
+
+pub beside_turn : (p : Plant) (h : List Event) (s : StoredSlot) (more : List StoredSlot)
+    (before after : List OwedLevels)
+    → ((b : ℕ) (class : Class) (a : ℕ) → is_at b a (level_of p.plan s.global) ≡ true
     → OwesAt p b h (owed_on after b) class a)
-    → ((b : ℕ) (class : Class) (a : ℕ) → a < 81 → is_at b a (store_place p.plan e) ≡ false
+    → ((b : ℕ) (class : Class) (a : ℕ) → a < 81 → is_at b a (level_of p.plan s.global) ≡ false
     → bit_at (addresses_of class (owed_on after b)) a ≡ bit_at (addresses_of class (owed_on before b)) a)
-    → OwedBeside p h (e ∷ more) before → OwedBeside p h more after
-beside_turn p h e more before after here others beside b class a lt low none =
-    elim (is_at b a (store_place p.plan e)) as (λ (t : Bool). is_at b a (store_place p.plan e) ≡ t
-    → OwesAt p b h (owed_on after b) class a) [
+    → OwedBesideSlots p h (s ∷ more) before → OwedBesideSlots p h more after
+beside_turn p h s more before after here others beside b class a lt low none =
+    let place = level_of p.plan s.global in
+    elim (is_at b a place) as (λ (t : Bool). is_at b a place ≡ t → OwesAt p b h (owed_on after b) class a) [
       | true ↦ λ yes. here b class a yes
       | false ↦ λ no.
           others b class a low no
-          ∙ beside b class a lt low (or_from (is_at b a (store_place p.plan e)) (stores_at p.plan b a more) no none)
+          ∙ beside b class a lt low (or_from (is_at b a place) (has_store_at p.plan b a more) no none)
     ] refl
 
 -- ---- what is kept of the levels, once requests were offered

@@ -1,33 +1,23 @@
 -- What private functions note of what a task stores.
-use Rattle.std.specs.Prelude.{◌≡◌, ℕ, ◌<◌, ◌==◌, ◌&&◌, Bool, false, List, [], length, slice_get}
-use Rattle.std.specs.Prelude.{Option, Some, None, option_and_then, if◌then◌else◌}
+use Rattle.std.specs.Prelude.{◌≡◌, ℕ, ◌<◌, Bool, false, List, [], length, slice_get, Option, Some, None}
+use Rattle.std.specs.Prelude.{if◌then◌else◌}
 use Rattle.std.specs.List.{list_any}
 use Rattle.busqueue.specs.declared.class.Class.{Class}
-use Rattle.ilplan.specs.declared.global.Location.{Location}
-use Rattle.ilplan.specs.declared.global.Location.TheVariants.{Level}
 use Rattle.ilplan.specs.Plans.{Planned}
 use Rattle.ilimage.specs.declared.external.External.{External}
+use Rattle.ilimage.specs.declared.slots.StoredSlot.{StoredSlot}
 use Rattle.ilimage.specs.Images.{TaskLayout, Layout}
 use Rattle.plantevents.specs.declared.event.Event.{Event}
 use Rattle.plantevents.specs.Plants.{Plant}
 use Rattle.plantbuses.specs.declared.outputs.LevelOutput.{LevelOutput}
 use Rattle.plantbuses.specs.declared.owed.OwedLevels.{OwedLevels}
 use Rattle.plantbuses.specs.KeptSteps.{KeptBus, bus_at}
-use Rattle.plantbuses.specs.OutputSteps.{planned, OutputsFollow}
+use Rattle.plantbuses.specs.OutputSteps.{planned, is_at, level_of, OutputsFollow}
 use Rattle.plantbuses.specs.OwedSteps.{OwesAt, owed_on}
-
-abbrev pub place_in : Option Location → Option (ℕ × ℕ)
-place_in (Some (Level bus address)) = Some (bus, address)
-place_in _ = None
 
 -- the bus and the address of the level at which the variable is located, where the task stores it
 abbrev pub store_place : Planned → External → Option (ℕ × ℕ)
-store_place plan e =
-    if e.stored then place_in (option_and_then (λ g. g.location) (slice_get plan.globals e.global)) else None
-
-abbrev pub is_at : ℕ → ℕ → Option (ℕ × ℕ) → Bool
-is_at b a (Some place) = place.0 == b && place.1 == a
-is_at b a None = false
+store_place plan e = if e.stored then level_of plan e.global else None
 
 -- one of these is stored to the level of address a of bus b
 abbrev pub stores_at : Planned → ℕ → ℕ → List External → Bool
@@ -37,6 +27,15 @@ stores_at plan b a externals = list_any (λ e. is_at b a (store_place plan e)) e
 abbrev pub OwedBeside : Plant → List Event → List External → List OwedLevels → Type 0
 OwedBeside p h externals owed =
     (b : ℕ) (class : Class) (a : ℕ) → b < p.plan.buses → a < 81 → stores_at p.plan b a externals ≡ false
+    → OwesAt p b h (owed_on owed b) class a
+
+-- the same of slots from which a scan stores
+abbrev pub has_store_at : Planned → ℕ → ℕ → List StoredSlot → Bool
+has_store_at plan b a stores = list_any (λ s. is_at b a (level_of plan s.global)) stores
+
+abbrev pub OwedBesideSlots : Plant → List Event → List StoredSlot → List OwedLevels → Type 0
+OwedBesideSlots p h stores owed =
+    (b : ℕ) (class : Class) (a : ℕ) → b < p.plan.buses → a < 81 → has_store_at p.plan b a stores ≡ false
     → OwesAt p b h (owed_on owed b) class a
 
 -- the global variables of task t

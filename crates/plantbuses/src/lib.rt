@@ -16,12 +16,14 @@
 mod address_set;
 mod answers;
 mod bus;
+mod levels;
 mod next;
 mod offers;
 mod outputs;
 mod owed;
 mod running;
 mod stores;
+mod storing;
 
 pub use answers::answer_to;
 pub use bus::{

@@ -1,13 +1,14 @@
 //! The global variables that are located at levels.
 
-ghost use Rattle.std.specs.Prelude.{◌≡◌, ◌<◌, length, slice_index_or, IfOk, None};
-ghost use Rattle.plantevents.specs.Plants.{is_level, output_at, stores_global, external_in};
-ghost use Rattle.plantevents.specs.Plants.{storing_kind};
-ghost use Rattle.plantbuses.specs.OutputSteps.{planned, is_store_in, level_output};
-ghost use Rattle.plantbuses.specs.OutputSteps.{AreOutputsOf, OutputsFollow};
+ghost use Rattle.std.specs.Prelude.{◌≡◌, ◌<◌, ℕ, length, slice_index_or, slice_set, IfOk, Some};
+ghost use Rattle.std.specs.Prelude.{None};
+ghost use Rattle.plantbuses.specs.OutputSteps.{planned, level_of, noted_at, output_for, output_in};
+ghost use Rattle.plantbuses.specs.OutputSteps.{AreFree, AreAllFree, HaveLevels, OutputsFollow};
 
+use crate::levels::level_of;
+use crate::storing::storing_kinds;
 use gearcmd::TaskKind;
-use ilplan::{Location, Plan, SlotOwner, Task};
+use ilplan::Plan;
 use std::alloc::{AllocError, Global};
 use std::marker::Model;
 
@@ -47,94 +48,60 @@ impl BusOutputs {
     {
         self.levels[usize::from(address)]
     }
-}
 
-/// Whether this is the level of an address.
-fn is_level(location: Option<Location>, bus: u8, address: u8) -> bool
-    ensures { result ≡ is_level bus address location }
-{
-    match location {
-        Some(Location::Level { bus: b, address: a }) => b == bus && a == address,
-        _ => false,
+    /// Notes what is located at the level of an address.
+    fn put(&mut self, address: u8, output: LevelOutput)
+        requires { address < length self.old }
+        ensures { self.new ≡ slice_set self.old address (Some output) }
+    {
+        self.levels[usize::from(address)] = Some(output);
     }
 }
 
-/// The global variable that is located at the level of an address.
-fn output_at(plan: &Plan, bus: u8, address: u8) -> Option<usize>
-    ensures { result ≡ output_at (planned plan.now) bus address }
+/// The levels of a bus at which nothing is located.
+fn no_levels(alloc: Global) -> Result<BusOutputs, AllocError>
+    ensures { IfOk result AreFree }
 {
-    for global in 0..plan.globals() {
-        if is_level(plan.global(global).location, bus, address) {
-            return Some(global);
-        }
-    }
-    None
-}
-
-/// Whether the slot of this number is that of the global variable, and a program of the task stores
-/// to it.
-fn is_stored_in(task: &Task, number: usize, variable: SlotOwner, global: usize) -> bool
-    requires { number < length task.now.slots }
-    ensures { result ≡ is_store_in global (external_in task.now number variable) }
-{
-    match variable {
-        SlotOwner::Global(other) => other == global && task.stores(number),
-        SlotOwner::Own { .. } => false,
-    }
-}
-
-/// Whether a program of the task stores to the global variable.
-fn stores_global(task: &Task, global: usize) -> bool
-    ensures { result ≡ stores_global task.now global }
-{
-    let slots = task.slots();
-    for number in 0..slots.len() {
-        if is_stored_in(task, number, slots[number].variable, global) {
-            return true;
-        }
-    }
-    false
-}
-
-/// The kind of the task that stores to the global variable.
-fn storing_kind(plan: &Plan, global: usize) -> TaskKind
-    ensures { result ≡ storing_kind (planned plan.now) global }
-{
-    for task in 0..plan.tasks() {
-        if stores_global(plan.task(task), global) {
-            return plan.kind(task);
-        }
-    }
-    TaskKind::Cyclic
-}
-
-/// What is located at the level of an address.
-fn level_output(plan: &Plan, bus: u8, address: u8) -> Option<LevelOutput>
-    ensures { result ≡ level_output (planned plan.now) bus address }
-{
-    let global = output_at(plan, bus, address)?;
-    let kind = storing_kind(plan, global);
-    Some(LevelOutput { global, kind })
-}
-
-/// What is located at the levels of a bus.
-fn bus_outputs(alloc: Global, plan: &Plan, bus: u8) -> Result<BusOutputs, AllocError>
-    ensures { IfOk result (AreOutputsOf (planned plan.now) bus) }
-{
-    let mut levels = Vec::new(alloc);
-    for address in 0..LEVELS {
-        levels.push(level_output(plan, bus, address))?;
-    }
+    let levels = vec![in alloc; None; usize::from(LEVELS)]?;
     Ok(BusOutputs { levels })
 }
 
-/// What is located at the levels of each bus.
+/// The levels of so many buses at which nothing is located.
+fn no_outputs(alloc: Global, buses: u8) -> Result<Vec<BusOutputs>, AllocError>
+    ensures { IfOk result (λ outputs. AreAllFree buses outputs.items) }
+{
+    let mut outputs = Vec::new(alloc);
+    for _ in 0..buses {
+        outputs.push(no_levels(alloc)?)?;
+    }
+    Ok(outputs)
+}
+
+/// Notes, where a global variable is located at a level, that it is, and the kind of the task that
+/// stores to it.
+fn note_global(outputs: &mut Vec<BusOutputs>, plan: &Plan, global: usize, kind: TaskKind)
+    requires global { global < length plan.now.globals }
+    requires levels { HaveLevels plan.now.buses outputs.old.items }
+    ensures levels { HaveLevels plan.now.buses outputs.new.items }
+    ensures noted { (b a : ℕ) → output_in outputs.new.items b a
+        ≡ noted_at (level_of plan.now global) (output_for global kind) b a
+        (output_in outputs.old.items b a) }
+{
+    let Some((bus, address)) = level_of(plan, global) else {
+        return;
+    };
+    outputs[usize::from(bus)].put(address, LevelOutput { global, kind });
+}
+
+/// What is located at the levels of each bus. It goes once over the global variables.
 pub fn outputs_of(alloc: Global, plan: &Plan) -> Result<Vec<BusOutputs>, AllocError>
     ensures { IfOk result (λ outputs. OutputsFollow (planned plan.now) outputs.items) }
 {
-    let mut outputs = Vec::new(alloc);
-    for bus in 0..plan.buses() {
-        outputs.push(bus_outputs(alloc, plan, bus)?)?;
+    let kinds = storing_kinds(alloc, plan)?;
+    let mut outputs = no_outputs(alloc, plan.buses())?;
+    // Backwards, so that the first of several variables at one level stays.
+    for global in (0..plan.globals()).rev() {
+        note_global(&mut outputs, plan, global, kinds[global]);
     }
     Ok(outputs)
 }

@@ -3,4 +3,4 @@ use Rattle.plant.proofs.GivenInputs.{AreGiven}
 use Rattle.plant.proofs.inputs.write_message.Given as goal
 
 abbrev pub invariant-loop-i : goal.invariant-loop-i
-invariant-loop-i l = AreGiven (input_at l.plan l.counts l.bus l.frame) l.fn.image l.image l.inputs l.i
+invariant-loop-i l = AreGiven (input_at l.plan l.counts l.bus l.frame) l.fn.image l.image l.numbers l.i

@@ -2,9 +2,8 @@ use Rattle.std.proofs.Common.{◌≡◌, ◌<◌, ℕ, Some, [], length, sym, ap
 use Rattle.std.proofs.lemmas.List.{get_or_read}
 use Rattle.ilplan.specs.Plans.{Planned}
 use Rattle.plantbuses.specs.KeptSteps.{KeptBus, BusFollows, no_bus}
-use Rattle.plantbuses.specs.OutputSteps.{planned, AreOutputsOf, outputs_at}
+use Rattle.plantbuses.specs.OutputSteps.{planned, is_at, level_of, AreOutputsOf, outputs_at}
 use Rattle.plantbuses.specs.OwedSteps.{no_levels}
-use Rattle.plantbuses.specs.StoreSteps.{is_at, store_place}
 use Rattle.plantbuses.proofs.OwedBits.{noted_here, noted_others}
 use Rattle.plantbuses.proofs.stores.note_store.Goals as goal
 
@@ -50,10 +49,10 @@ returns-clause-here c = λ p h b class a same follows imaged yes.
     let located = subst (λ (x : Planned). AreOutputsOf (planned x) n (outputs_at c.args.outputs.now n)) (sym same)
     (tables.located.1 n lt) in
     let known : n < p.plan.buses = let q = ap (λ (x : Planned). x.buses) same in omega arith in
-    let is : store_place plan c.args.external ≡ Some (n, c.in-Some.address) =
-    sym c.store_place.ensures.value
+    let is : level_of plan c.args.global ≡ Some (n, c.in-Some.address) =
+    sym c.level_of.ensures.value
     ∙ (c.in-Some.is ∙ ap (λ (k : ℕ). Some (k, c.in-Some.address)) (sym c.from-number.ensures)) in
-    noted_here p h items c.note_level.new.owed n c.in-Some.address (store_place plan c.args.external)
+    noted_here p h items c.note_level.new.owed n c.in-Some.address (level_of plan c.args.global)
     (let m = c.requires.count in omega arith) is
     (λ k. c.note_level.ensures.here p n h k (subst (AreOutputsOf p n) (sym outputs) located)
     (subst (BusFollows p n h) (sym bus) (follows.1 n known)) imaged) b class a yes
@@ -63,14 +62,14 @@ returns-clause-others c = λ b class a low no.
     let plan = c.args.plan.now in let items = c.args.owed.now.items in
     let n = c.from-number.result in let e = c.from-number.ensures in let k = c.in-Some.ensures.known.0 in
     let lt : n < length items = let m = c.requires.count in omega arith in
-    let is : store_place plan c.args.external ≡ Some (n, c.in-Some.address) =
-    sym c.store_place.ensures.value
+    let is : level_of plan c.args.global ≡ Some (n, c.in-Some.address) =
+    sym c.level_of.ensures.value
     ∙ (c.in-Some.is ∙ ap (λ (x : ℕ). Some (x, c.in-Some.address)) (sym c.from-number.ensures)) in
     noted_others items c.index_mut.result.now c.note_level.new.owed n c.in-Some.address
-    (store_place plan c.args.external) lt is
+    (level_of plan c.args.global) lt is
     (get_or_read items n c.index_mut.result.now lt c.index_mut.ensures.value no_levels)
     (λ cl x l ne. c.note_level.ensures.others cl x l ne) b class a low no
 
 pub returns-in_default-clause-here : goal.returns-in_default-clause-here
 returns-in_default-clause-here c = λ p h b class a same follows imaged yes.
-    let none = sym (ap (is_at b a) (sym c.store_place.ensures.value ∙ c.in_default.is)) ∙ yes in absurd (cc)
+    let none = sym (ap (is_at b a) (sym c.level_of.ensures.value ∙ c.in_default.is)) ∙ yes in absurd (cc)

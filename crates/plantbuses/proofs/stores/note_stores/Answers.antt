@@ -1,56 +1,51 @@
 use Rattle.std.proofs.Common.{◌≡◌, ◌≤◌, ◌+◌, ◌∷◌, true, false, List, drop, length, sym, ap, ◌∙◌}
 use Rattle.std.proofs.Common.{get_or, subst, arith}
 use Rattle.std.proofs.lemmas.List.{drop_more, drop_all}
-use Rattle.std.proofs.lemmas.Option.{slice_get-get_or}
 use Rattle.ilplan.specs.Plans.{Planned}
-use Rattle.ilimage.specs.declared.external.External.{External}
-use Rattle.plantbuses.specs.StoreSteps.{OwedBeside, is_at, store_place, stores_at}
-use Rattle.plantbuses.proofs.StoredLevels.{naming, external_there, externals_are, beside_turn}
+use Rattle.ilimage.specs.declared.slots.StoredSlot.{StoredSlot}
+use Rattle.ilimage.proofs.StoredSlots.{no_store}
+use Rattle.plantbuses.specs.OutputSteps.{is_at, level_of}
+use Rattle.plantbuses.specs.StoreSteps.{OwedBesideSlots, has_store_at}
+use Rattle.plantbuses.proofs.StoredLevels.{storing, store_there, beside_slots, beside_turn}
 use Rattle.plantbuses.proofs.stores.note_stores.Goals as goal
-
--- what stands past the end of the list
-abbrev no_external : External
-no_external = record { global = 0; stored = false }
 
 pub note_store-requires-clause-global : goal.note_store-requires-clause-global
 note_store-requires-clause-global c =
     let image = c.args.image.now in let t = c.args.task in
-    let es = c.externals-externals.result.now in let i = c.loop-number.number in
-    let e = get_or es i no_external in
-    let named = naming image t es c.externals-externals.ensures.value in
-    external_there c.args.plan.now image t named.of es i e c.externals-externals.ensures.image named.is named.same
-    c.requires.types (slice_get-get_or es i no_external c.loop-number-test.true)
+    let stores = c.stores-stores.result.now in
+    let by = storing image t stores c.stores-stores.ensures.value in
+    store_there c.args.plan.now image t by.of stores c.loop-stored.stored-index no_store c.stores-stores.ensures.image
+    by.is by.same c.requires.types c.loop-stored-test.true
 
 pub note_store-requires-clause-count : goal.note_store-requires-clause-count
-note_store-requires-clause-count c = c.loop-number.invariant.count ∙ c.requires.count
+note_store-requires-clause-count c = c.loop-stored.invariant.count ∙ c.requires.count
 
-pub loop-number-preserved : goal.loop-number-preserved
-loop-number-preserved c =
-    let es = c.externals-externals.result.now in let i = c.loop-number.number in
-    let e = get_or es i no_external in
-    let before = c.loop-number.owed.items in let after = c.note_store.new.owed.items in
-    let at : drop i es ≡ e ∷ drop (i + 1) es = drop_more es i no_external c.loop-number-test.true in
+pub loop-stored-preserved : goal.loop-stored-preserved
+loop-stored-preserved c =
+    let stores = c.stores-stores.result.now in let i = c.loop-stored.stored-index in
+    let s = get_or stores i no_store in
+    let before = c.loop-stored.owed.items in let after = c.note_store.new.owed.items in
+    let at : drop i stores ≡ s ∷ drop (i + 1) stores = drop_more stores i no_store c.loop-stored-test.true in
     record {
-      count = c.note_store.ensures.count ∙ c.loop-number.invariant.count;
+      count = c.note_store.ensures.count ∙ c.loop-stored.invariant.count;
       beside = λ p h same buses image was.
-          beside_turn p h e (drop (i + 1) es) before after
+          beside_turn p h s (drop (i + 1) stores) before after
           (λ b class a yes. c.note_store.ensures.here p h b class a same buses image
-          (subst (λ (x : Planned). is_at b a (store_place x e) ≡ true) same yes))
+          (subst (λ (x : Planned). is_at b a (level_of x s.global) ≡ true) same yes))
           (λ b class a low no. c.note_store.ensures.others b class a low
-          (subst (λ (x : Planned). is_at b a (store_place x e) ≡ false) same no))
-          (subst (λ (l : List External). OwedBeside p h l before) at
-          (c.loop-number.invariant.beside p h same buses image was));
+          (subst (λ (x : Planned). is_at b a (level_of x s.global) ≡ false) same no))
+          (subst (λ (l : List StoredSlot). OwedBesideSlots p h l before) at
+          (c.loop-stored.invariant.beside p h same buses image was));
     }
 
 pub returns : goal.returns
 returns c = λ p h same buses image was.
     let t = c.args.task in
-    let es = c.externals-externals.result.now in let i = c.loop-number.number in
-    let named = naming c.args.image.now t es c.externals-externals.ensures.value in
-    let here = subst (λ (l : List External). OwedBeside p h l c.args.owed.now.items)
-    (externals_are c.args.image.now t named.of es named.is named.same) was in
-    let past : length es ≤ i = omega arith in
-    let beside = c.loop-number.invariant.beside p h same buses image here in (
-      c.loop-number.invariant.count ∙ (c.requires.count ∙ ap (λ (x : Planned). x.buses) (sym same)),
-      λ b lt class a low. beside b class a lt low (ap (stores_at p.plan b a) (drop_all i es past)),
+    let stores = c.stores-stores.result.now in let i = c.loop-stored.stored-index in
+    let by = storing c.args.image.now t stores c.stores-stores.ensures.value in
+    let here = beside_slots p h c.args.image.now t by.of stores c.args.owed.now.items by.is by.same was in
+    let past : length stores ≤ i = omega arith in
+    let beside = c.loop-stored.invariant.beside p h same buses image here in (
+      c.loop-stored.invariant.count ∙ (c.requires.count ∙ ap (λ (x : Planned). x.buses) (sym same)),
+      λ b lt class a low. beside b class a lt low (ap (has_store_at p.plan b a) (drop_all i stores past)),
     )

@@ -10,10 +10,11 @@ use Rattle.wordlines.specs.declared.sources.BoundSource.{BoundSource}
 use Rattle.ilplan.specs.Plans.{Planned}
 use Rattle.ilimage.specs.Images.{value_of}
 use Rattle.plantevents.specs.Variables.{newest}
+use Rattle.plant.specs.IndexSteps.{numbers_on}
 use Rattle.plant.specs.InputSteps.{input_at}
 use Rattle.plant.specs.KeptSteps.{CountsFollow}
 use Rattle.plantevents.specs.declared.event.Event.TheVariants.{Heard}
-use Rattle.plant.proofs.Indexed.{kept_for}
+use Rattle.plant.proofs.Indexed.{kept_on}
 use Rattle.plant.proofs.plant.Plant.heard.Goals as goal
 
 pub note_heard-requires-clause-few : goal.note_heard-requires-clause-few
@@ -28,14 +29,25 @@ use_place_of-requires-clause-counted c =
     c.in_ok-allows_frame.ensures.up in
     place_counted _ _ c.args.bus c.self.invariant up
 
+pub count_message-requires-clause-bound : goal.count_message-requires-clause-bound
+count_message-requires-clause-bound c =
+    let p = c.self.inside in
+    let up = subst (λ (p : Shown). IsUp p.plant p.history c.args.bus) (sym c.self.view_is)
+    c.in_ok-allows_frame.ensures.up in
+    let kept = kept_on p.setup.plan p.inputs.items c.args.bus c.index-inputs.result.now c.self.invariant.each_input
+    up.known (c.index-inputs.ensures
+    ∙ ap (λ n. slice_index_or p.inputs.items n c.index-inputs.result.now) c.from.ensures) in
+    let sources = c.sources.ensures.value ∙ ap (λ (x : Planned). x.sources) c.plan.ensures.value in
+    c.sources-2.ensures ∙ (kept.bound ∙ ap (numbers_on c.args.bus 0) (sym sources))
+
 pub write_message-requires-clause-inputs : goal.write_message-requires-clause-inputs
 write_message-requires-clause-inputs c =
     let p = c.self.inside in
     let up = subst (λ (p : Shown). IsUp p.plant p.history c.args.bus) (sym c.self.view_is)
     c.in_ok-allows_frame.ensures.up in
-    rw (c.numbers.ensures, c.plan-2.ensures.value) (kept_for p.setup.plan p.inputs.items c.args.bus c.index.result.now
-    c.self.invariant.each_input up.known
-    (c.index.ensures ∙ ap (λ n. slice_index_or p.inputs.items n c.index.result.now) c.from.ensures))
+    rw c.plan-2.ensures.value (kept_on p.setup.plan p.inputs.items c.args.bus c.index-inputs.result.now
+    c.self.invariant.each_input up.known (c.index-inputs.ensures
+    ∙ ap (λ n. slice_index_or p.inputs.items n c.index-inputs.result.now) c.from.ensures))
 
 pub invariant_of-self : goal.invariant_of-self
 invariant_of-self c =
