@@ -7,7 +7,7 @@ use Rattle.std.proofs.lemmas.Bool.{lt-ltb, le-ltb, ltb-true, ltb-false}
 use Rattle.std.proofs.lemmas.Int.{ints}
 use Rattle.std.proofs.lemmas.List.{get_or-map}
 use Rattle.std.proofs.lemmas.List.Elements.{All-map}
-use Rattle.std.specs.Prelude.{Option, Some, None, IfSome, All, AllPairs, Any, option_map, nat_lt, if◌then◌else◌, ◌<ℤ◌}
+use Rattle.std.specs.Prelude.{Option, Some, None, IfSome, All, AllPairs, Any, option_map, nat_lt, if◌then◌else◌}
 use Rattle.wordlines.specs.Wirings.{Wiring, IsAt, IsWithinLimits, IsOnBus}
 use Rattle.wordlines.specs.declared.sources.BoundSource.{BoundSource}
 use Rattle.iltypes.specs.declared.value.IlType.{IlType}

@@ -3,8 +3,6 @@ use Rattle.std.proofs.Common.{◌≡◌, ℕ, zero, suc, ◌<◌, List, [], ◌�
 use Rattle.std.proofs.Common.{arith, ◌||◌, ◌++◌, take, drop}
 use Rattle.std.specs.Prelude.{Option, Some, None, option_map, slice_get, if◌then◌else◌}
 use Rattle.std.proofs.Math.Seq.{take-append_seam}
-use Rattle.ildeclared.specs.Faults.{SomeOf}
-use Rattle.ildeclared.proofs.FoundOrder.{or_else}
 use Rattle.ilscope.specs.Tables.{first_at}
 
 pub either : (b : Bool) {P : Type 0} → (b ≡ true → P) → (b ≡ false → P) → P

@@ -3,7 +3,7 @@ use Rattle.std.proofs.Common.{◌≡◌, ℕ, zero, suc, ◌+◌, ◌<◌, List,
 use Rattle.std.proofs.Common.{false, refl, sym, ap, ◌∙◌, subst, arith, inl, inr, ◌⊎◌}
 use Rattle.std.specs.Prelude.{Option, Some, None, IsSomeAnd, slice_get, option_map, option_and_then, unwrap_or, flat_map}
 use Rattle.std.specs.Prelude.{filter_map, bytes_eq, ◌==◌, if◌then◌else◌}
-use Rattle.std.specs.List.{AllByRecursion, cons_option, enumerate_from, list_any, position_or_len}
+use Rattle.std.specs.List.{AllByRecursion, cons_option, enumerate_from, list_any}
 use Rattle.std.specs.Option.{option_map_or}
 use Rattle.std.proofs.lemmas.Bool.{eq-eqb, or_left, or_right}
 use Rattle.std.proofs.lemmas.Grind.{flat_map-append}
@@ -55,7 +55,7 @@ use Rattle.ilsyms.specs.Meaning.{port_of_block}
 use Rattle.ilsyms.specs.PlanningSteps.{AreApart}
 use Rattle.ilsyms.specs.Resolved.{label_number, new_places, planned_instance, planned_task}
 use Rattle.ilsyms.specs.Tasks.{instance_named, instances_in, is_in, NamedProgram, SourceTask, tasks_of}
-use Rattle.ilsyms.specs.Variables.{blocks_in, blocks_of, function_block, global_slot, global_slots, is_among, is_named}
+use Rattle.ilsyms.specs.Variables.{blocks_in, blocks_of, function_block, global_slots, is_among, is_named}
 use Rattle.ilsyms.specs.Variables.{lines_of, named_slot, own_slot, own_slots, slots_in, slots_of}
 use Rattle.ilsyms.proofs.LabelRenaming.{any_found}
 use Rattle.ilsyms.proofs.Lists.{either}

@@ -1,7 +1,7 @@
 -- The tasks of a plan: each is one of the text's, with the instances that are given for it.
-use Rattle.std.proofs.Common.{◌≡◌, ℕ, zero, suc, ◌+◌, ◌<◌, ◌≤ℤ◌, List, [], ◌∷◌, ◌++◌, map, take, length, refl, sym, ap}
-use Rattle.std.proofs.Common.{◌∙◌, arith, ℤ}
-use Rattle.std.specs.Prelude.{Option, Some, None, slice_get, option_map, ◌<ℤ◌, IfOk, Result, Ok, Err}
+use Rattle.std.proofs.Common.{◌≡◌, ℕ, zero, suc, ◌+◌, ◌<◌, List, [], ◌∷◌, ◌++◌, map, take, length, refl, sym, ap}
+use Rattle.std.proofs.Common.{◌∙◌, arith}
+use Rattle.std.specs.Prelude.{Option, Some, None, slice_get, option_map, IfOk, Result, Ok, Err}
 use Rattle.std.specs.List.{enumerate_from}
 use Rattle.std.specs.Option.{option_map_or}
 use Rattle.std.proofs.Math.ListN.{length-map}

@@ -74,5 +74,5 @@ planned_task tree task =
 -- the plan of the text and the binding
 abbrev pub plan_of_tree : Tree → Wiring → Planned
 plan_of_tree tree wiring =
-    plan_of tree.text wiring.buses wiring.sources (map planned_global (globals_of tree))
+    plan_of tree.text wiring.buses wiring.sources wiring.tries (map planned_global (globals_of tree))
     (map (planned_task tree) (tasks_of tree))

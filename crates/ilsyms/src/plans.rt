@@ -46,7 +46,8 @@ pub(crate) fn plan_of(
     let globals = plan_globals(alloc, scope)?;
     let text = Vec::from_slice(alloc, scope.source().text())?;
     let sources = Vec::from_slice(alloc, binding.sources())?;
-    Ok(Plan::new(text, buses, sources, globals, tasks))
+    let tries = Vec::from_slice(alloc, binding.tries())?;
+    Ok(Plan::new(text, buses, sources, tries, globals, tasks))
 }
 
 /// The tasks.

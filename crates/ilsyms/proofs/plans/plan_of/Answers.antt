@@ -8,16 +8,18 @@ use Rattle.ilsyms.proofs.PlanLawful.{lawful}
 use Rattle.ilsyms.proofs.plans.plan_of.Goals as goal
 
 -- the parts are those of the plan
-parts : (c : goal.In_ok-sources)
-    → plan_of c.in_ok-text.text.items c.buses-buses.result c.in_ok-sources.sources.items c.in_ok-globals.globals.items
-    c.in_ok-tasks.tasks.items
+parts : (c : goal.In_ok-tries)
+    → plan_of c.in_ok-text.text.items c.buses-buses.result c.in_ok-sources.sources.items c.in_ok-tries.tries.items
+    c.in_ok-globals.globals.items c.in_ok-tasks.tasks.items
     ≡ plan_of_tree c.args.scope.now.tree c.args.scope.now.wiring
 parts c =
     let text = c.in_ok-text.ensures.items ∙ c.text.ensures.value ∙ ap (λ (t : Tree). t.text) c.source.ensures.value in
     let buses = c.buses-buses.ensures.buses ∙ ap (λ (w : Wiring). w.buses) c.requires.wiring in
     let sources = c.in_ok-sources.ensures.items ∙ c.sources.ensures.value
     ∙ ap (λ (w : Wiring). w.sources) c.requires.wiring in
-    λ i. plan_of (text i) (buses i) (sources i) (c.in_ok-globals.ensures i) (c.in_ok-tasks.ensures i)
+    let tries = c.in_ok-tries.ensures.items ∙ c.tries.ensures.value
+    ∙ ap (λ (w : Wiring). w.tries) c.requires.wiring in
+    λ i. plan_of (text i) (buses i) (sources i) (tries i) (c.in_ok-globals.ensures i) (c.in_ok-tasks.ensures i)
 
 pub new-requires : goal.new-requires
 new-requires c =
