@@ -13,7 +13,8 @@ index_mut-requires c =
 pub put-requires : goal.put-requires
 put-requires c =
     let items = c.args.outputs.now.items in let n = c.from.result in
-    let known : n < c.args.plan.now.buses = let k = c.in-Some.ensures.known.0 in let e = c.from.ensures in omega arith in
+    let known : n < c.args.plan.now.buses =
+    let k = c.in-Some.ensures.known.0 in let e = c.from.ensures in omega arith in
     let lt : n < length items = let m = c.requires.levels.0 in omega arith in
     let row = get_or_read items n c.index_mut.result.now lt c.index_mut.ensures.value [] in
     let long = ap (λ (l : List (Option LevelOutput)). length l) row ∙ c.requires.levels.1 n known in
@@ -22,7 +23,8 @@ put-requires c =
 pub returns-clause-levels : goal.returns-clause-levels
 returns-clause-levels c =
     let items = c.args.outputs.now.items in let n = c.from.result in
-    let known : n < c.args.plan.now.buses = let k = c.in-Some.ensures.known.0 in let e = c.from.ensures in omega arith in
+    let known : n < c.args.plan.now.buses =
+    let k = c.in-Some.ensures.known.0 in let e = c.from.ensures in omega arith in
     let lt : n < length items = let m = c.requires.levels.0 in omega arith in
     let row = get_or_read items n c.index_mut.result.now lt c.index_mut.ensures.value [] in
     let long = ap (λ (l : List (Option LevelOutput)). length l) c.put.ensures
@@ -35,7 +37,8 @@ returns-clause-noted c = λ b a.
     let items = c.args.outputs.now.items in let n = c.from.result in
     let output = output_for c.args.global c.args.kind in
     let place = level_of c.args.plan.now c.args.global in
-    let known : n < c.args.plan.now.buses = let k = c.in-Some.ensures.known.0 in let e = c.from.ensures in omega arith in
+    let known : n < c.args.plan.now.buses =
+    let k = c.in-Some.ensures.known.0 in let e = c.from.ensures in omega arith in
     let lt : n < length items = let m = c.requires.levels.0 in omega arith in
     let row = get_or_read items n c.index_mut.result.now lt c.index_mut.ensures.value [] in
     let long = ap (λ (l : List (Option LevelOutput)). length l) row ∙ c.requires.levels.1 n known in

@@ -23,7 +23,8 @@ loop-task-preserved c =
     let next : c.loop-task.task ≡ n + 1 = omega arith in
     let kind = ap (λ (o : Option TaskKind). unwrap_or o Cyclic)
     (sym (ap (option_map (λ (t : PlannedTask). task_kind t.activation)) c.task.ensures.value) ∙ c.kind.ensures.value) in
-    subst (λ (ts : List PlannedTask). AreKindsOf ts m after) (sym (drop_there plan.tasks n task lt c.task.ensures.value))
+    subst (λ (ts : List PlannedTask). AreKindsOf ts m after)
+    (sym (drop_there plan.tasks n task lt c.task.ensures.value))
     (kinds_turn task (drop (n + 1) plan.tasks) m c.kind.result before after kind c.note_task.ensures
     (subst (λ (k : ℕ). AreKindsOf (drop k plan.tasks) m before) next c.loop-task.invariant))
 
