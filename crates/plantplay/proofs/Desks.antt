@@ -1,5 +1,6 @@
 -- What is kept beside a plant is what is open there.
-use Rattle.std.proofs.Common.{◌≡◌, ◌≢◌, ℕ, ◌<◌, ◌≤◌, eqb, true, false, List, ◌∷◌, length, Option, Some, None, ⊎_elim}
+use Rattle.std.proofs.Common.{◌≡◌, ◌≢◌, ℕ, ◌-◌, ◌<◌, ◌≤◌, eqb, true, false, List, ◌∷◌, length}
+use Rattle.std.proofs.Common.{Option, Some, None, ⊎_elim}
 use Rattle.std.proofs.Common.{refl, sym, ap, ◌∙◌, subst, arith}
 use Rattle.std.proofs.lemmas.Bool.{cases_lt}
 use Rattle.std.proofs.lemmas.Bool.Decides.{eqb_tells}
@@ -7,12 +8,13 @@ use Rattle.std.proofs.lemmas.List.{get_or_past}
 use Rattle.std.specs.Prelude.{slice_index_or, option_map, if◌then◌else◌, Result, Ok, Err, MatchResult, ⊤}
 use Rattle.gearcmd.specs.FrameLists.{FrameList}
 use Rattle.transact.specs.declared.marks.Mark.{Mark}
-use Rattle.transact.specs.Attempts.{ReportParts, Spells, SpellsNone}
+use Rattle.transact.specs.Attempts.{IsReport, ReportParts, Spells, SpellsNone}
 use Rattle.ilmachine.specs.Scans.{Task, Scan}
 use Rattle.plantevents.specs.declared.event.Event.TheVariants.{Hand}
 use Rattle.plantevents.specs.declared.event.Origin.{Origin}
+use Rattle.plantevents.specs.Plants.{tries_of}
 use Rattle.plantevents.specs.Histories.{OpenScan, OpenHand, scan, hand}
-use Rattle.plant.specs.Matches.{IsOpenScan, IsOpenTransaction}
+use Rattle.plant.specs.Matches.{IsOpenScan, IsOpenTransaction, IsReportOf}
 use Rattle.plant.specs.Shown.{Shown, grown}
 use Rattle.plantplay.specs.DeskSteps.{OrdersFollow, SendingsFollow, Sending, order_of, sending_of}
 use Rattle.plantplay.specs.Runs.{HasNoScan, HasNoReport}
@@ -101,16 +103,20 @@ other_number p sendings b n marks sending follow some other t o =
 -- nor where the marks spell nothing
 pub no_report : (p : Shown) (sendings : List (Option Sending)) (b n : ℕ) (marks : List Mark) (sending : Sending)
     → SendingsFollow p.plant p.history sendings → slice_index_or sendings b None ≡ Some sending
-    → SpellsNone sending.transaction marks → HasNoReport p b n marks
+    → SpellsNone sending.transaction (tries_of p.plant b) marks → HasNoReport p b n marks
 no_report p sendings b n marks sending follow some none t o =
     let kept = kept_sending p sendings b n t follow o in
     let same : sending ≡ sending_of o.handed = cc in
-    subst (λ (x : FrameList). SpellsNone x marks) (ap (λ (x : Sending). x.transaction) same ∙ sym o.same) none
+    subst (λ (x : FrameList). SpellsNone x (tries_of p.plant b) marks)
+    (ap (λ (x : Sending). x.transaction) same ∙ sym o.same) none
 
 -- it has one
 pub report_refused : (p : Shown) (b n : ℕ) (marks : List Mark) (report : ReportParts)
-    → IsOpenTransaction p b n report.transaction → Spells report.transaction marks report → ¬ HasNoReport p b n marks
-report_refused p b n marks report o spells none = none report.transaction o spells.attempts spells.legal spells.spelled
+    → IsReportOf p b n report → Spells report.transaction report.tries marks report → ¬ HasNoReport p b n marks
+report_refused p b n marks report o spells none =
+    none report.transaction o.is_open spells.attempts
+    (subst (λ (most : ℕ). IsReport (most - 1) (length report.transaction.frames) spells.attempts) o.tries spells.legal)
+    spells.spelled
 
 -- a copy is what was copied
 pub copied : {X E : Type 0} → (r : Result X E) (x t : X) → r ≡ Ok x

@@ -7,7 +7,7 @@ use Rattle.simbus.specs.Setups.{gear_on, memory_on, instance_on, reply_on, arriv
 use Rattle.simbus.specs.Histories.{Setup}
 use Rattle.simbus.specs.Simulated.{Simulated, new_bus}
 use Rattle.ilcompile.specs.Loaded.{Loaded}
-use Rattle.plant.specs.Shown.{IsLimit, IsOpenFault, opened}
+use Rattle.plant.specs.Shown.{IsLimit, IsOpenFault, IsRoomy, opened}
 use Rattle.plantplay.specs.declared.connection.Connection.{Connection}
 use Rattle.plantplay.specs.declared.installation.Installation.{Installation}
 use Rattle.plantplay.specs.declared.opening.StartFault.{StartFault}
@@ -45,11 +45,12 @@ connections_of scenario (suc buses) = connections_of scenario buses ++ connectio
 pub record IsInstallation (setup : Loaded) (scenario : List Statement) (limit : ℕ)
     (installation : Installation Simulated) : Type 0 where
   pub limited : IsLimit limit
+  pub roomy : IsRoomy setup.plan.buses limit
   pub plant : installation.plant ≡ opened setup 1 limit
   pub buses : installation.connections.items ≡ connections_of scenario setup.plan.buses
 
--- why a plant with so many scan workers and this limit does not start on simulated buses: out of memory for the buses,
--- which may be at any time, or the plant is not opened
-abbrev pub IsStartFault : ℕ → ℕ → StartFault → Type 0
-IsStartFault workers limit Memory = ⊤
-IsStartFault workers limit (Plant fault) = IsOpenFault workers limit fault
+-- why a plant of so many buses with so many scan workers and this limit does not start on simulated buses: the
+-- allocator has no memory for the buses, which may be at any time, or the plant is not opened
+abbrev pub IsStartFault : ℕ → ℕ → ℕ → StartFault → Type 0
+IsStartFault buses workers limit Memory = ⊤
+IsStartFault buses workers limit (Plant fault) = IsOpenFault buses workers limit fault

@@ -7,6 +7,7 @@ use Rattle.ilimage.specs.Snapshots.{ScanStart}
 use Rattle.ilmachine.specs.Scans.{Scan}
 use Rattle.plantevents.specs.declared.event.Event.{Event}
 use Rattle.plantevents.specs.declared.event.Event.TheVariants as event
+use Rattle.plantevents.specs.Plants.{tries_of}
 use Rattle.plantevents.specs.Histories.{OpenScan, scan}
 use Rattle.plantevents.specs.Legal.{Allowed}
 use Rattle.plant.specs.declared.refusal.CallRefusal.{CallRefusal}
@@ -25,9 +26,11 @@ use Rattle.plantplay.specs.declared.step.StepReply.TheVariants.{Noted, Taken, Ha
 abbrev pub HasNoScan : Shown → ℕ → Type 0
 HasNoScan p w = (running : OpenScan) → w < p.plant.workers → ¬ (scan w p.history ≡ Some running)
 
--- the bus has no transaction open under this number of which the marks spell a report
+-- the bus has no transaction open under this number of which the marks spell a report, by the attempts of the bus
 abbrev pub HasNoReport : Shown → ℕ → ℕ → List Mark → Type 0
-HasNoReport p b n marks = (transaction : FrameList) → IsOpenTransaction p b n transaction → SpellsNone transaction marks
+HasNoReport p b n marks =
+    (transaction : FrameList) → IsOpenTransaction p b n transaction
+    → SpellsNone transaction (tries_of p.plant b) marks
 
 -- why a step is refused: what the plant's call refuses; and a scan or a report of what is not open is a stranger
 abbrev pub IsRefused : Shown → Step → CallRefusal → Type 0
@@ -53,7 +56,8 @@ IsEventOf n (Take w) (Taken number t) e = (number ≡ n) × ((snapshot : ScanSta
 IsEventOf n (Commit w) Noted e = (number : ℕ) × (result : Scan) × (e ≡ event.Commit w number result)
 IsEventOf n (Hand b) (Handed number origin transaction) e = (number ≡ n) × (e ≡ event.Hand b origin transaction)
 IsEventOf n (Done b number marks) Noted e =
-    (report : ReportParts) × Spells report.transaction marks.items report × (e ≡ event.Done b number report)
+    (report : ReportParts) × Spells report.transaction report.tries marks.items report
+    × (e ≡ event.Done b number report)
 IsEventOf n (Down b) Noted e = e ≡ event.Down b
 IsEventOf n step reply e = ⊥
 

@@ -49,4 +49,5 @@ pub record IsDriven (wiring : Wiring) (bytes : List ℕ) (workers limit : ℕ) (
 -- why a text is not driven: what stands against loading it, else against opening the plant
 abbrev pub IsDriveFault : Wiring → List ℕ → ℕ → ℕ → DriveFault → Type 0
 IsDriveFault wiring bytes workers limit (Load fault) = IsLoadFaultOrMemory (IsLoadFault wiring bytes) fault
-IsDriveFault wiring bytes workers limit (Open fault) = ((setup : Loaded) × IsSetup wiring bytes setup) × IsOpenFault workers limit fault
+IsDriveFault wiring bytes workers limit (Open fault) =
+    (setup : Loaded) × IsSetup wiring bytes setup × IsOpenFault setup.plan.buses workers limit fault

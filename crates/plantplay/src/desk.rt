@@ -2,8 +2,8 @@
 
 ghost use Rattle.std.specs.Prelude.{◌≡◌, IfOk, IfErr, OnOk, MatchOption};
 ghost use Rattle.transact.specs.Attempts.{Spells};
-ghost use Rattle.plant.specs.Matches.{IsOpenTransaction};
-ghost use Rattle.plant.specs.Shown.{opened, IsOpenFault, IsWorkerCount, IsLimit};
+ghost use Rattle.plant.specs.Matches.{IsReportOf};
+ghost use Rattle.plant.specs.Shown.{opened, IsOpenFault, IsWorkerCount, IsLimit, IsRoomy};
 ghost use Rattle.plantplay.specs.declared.step.Step.TheVariants as steps;
 ghost use Rattle.plantplay.specs.Runs.{Answered, HasNoReport};
 
@@ -58,7 +58,8 @@ impl Desk {
         ensures opened { IfOk result (λ desk. desk ≡ opened setup workers limit) }
         ensures workers { OnOk result (IsWorkerCount workers) }
         ensures limit { OnOk result (IsLimit limit) }
-        ensures fault { IfErr result (IsOpenFault workers limit) }
+        ensures roomy { OnOk result (IsRoomy setup.plan.buses limit) }
+        ensures fault { IfErr result (IsOpenFault setup.plan.buses workers limit) }
     {
         let plant = Plant::open(alloc, setup, workers, limit)?;
         let buses = usize::from(plant.setup().plan().buses());
@@ -171,14 +172,14 @@ impl Desk {
     /// The report that these marks spell of the transaction that a bus has open under this number.
     fn report_of(&self, bus: u8, number: u64, marks: &[Mark]) -> Option<Report>
         ensures { MatchOption result (HasNoReport self.now bus number marks.now)
-            (λ report. IsOpenTransaction self.now bus number report.transaction
-            × Spells report.transaction marks.now report) }
+            (λ report. IsReportOf self.now bus number report
+            × Spells report.transaction report.tries marks.now report) }
     {
         let sending = sending_at(&self.sendings, bus)?;
         if sending.number != number {
             return None;
         }
-        Report::of(&sending.transaction, marks)
+        Report::of(&sending.transaction, self.plant.tries(bus), marks)
     }
 
     /// The frames of a bus's transaction got these marks.

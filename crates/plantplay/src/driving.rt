@@ -23,8 +23,8 @@ pub struct Driven {
 ///
 /// # Errors
 ///
-/// There are not 1 to 16 scan workers; else the limit is not 100 to 1,000,000; else the allocator
-/// may be out of memory.
+/// There are not 1 to 16 scan workers; else the limit is not 100 to 1,000,000, or below 500 with
+/// more than 16 buses; else the allocator may be out of memory.
 pub fn drive(
     alloc: Global,
     setup: Setup,
@@ -37,7 +37,7 @@ pub fn drive(
     ensures history { IfOk result (λ driven. IsHistoryOf (opened setup workers limit) steps.now
         driven.replies.items driven.plant) }
     ensures legal { IfOk result (λ driven. AreLegal driven.plant.plant driven.plant.history) }
-    ensures fault { IfErr result (IsOpenFault workers limit) }
+    ensures fault { IfErr result (IsOpenFault setup.plan.buses workers limit) }
 {
     let mut desk = Desk::open(alloc, setup, workers, limit)?;
     let Ok(mut replies) = Vec::with_capacity(alloc, steps.len()) else {

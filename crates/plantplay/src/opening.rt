@@ -54,7 +54,8 @@ impl From<AllocError> for StartFault {
 ///
 /// # Errors
 ///
-/// The allocator is out of memory, or the limit is not 100 to 1,000,000.
+/// The allocator is out of memory, or the limit is not 100 to 1,000,000, or below 500 with more
+/// than 16 buses.
 pub fn open(
     alloc: Global,
     setup: Setup,
@@ -64,7 +65,7 @@ pub fn open(
     ensures installation { IfOk result (IsInstallation setup scenario.now limit) }
     ensures rest { IfOk result (λ made. IsAtRest made.plant
         (lines_of sim_log made.connections.items)) }
-    ensures fault { IfErr result (IsStartFault 1 limit) }
+    ensures fault { IfErr result (IsStartFault setup.plan.buses 1 limit) }
 {
     let connections = connections_of(alloc, setup.plan().buses(), scenario)?;
     match Plant::open(alloc, setup, WORKERS, limit) {

@@ -79,7 +79,8 @@ pub fn send_next<B: Bus>(plant: &mut Plant, bus: u8, line: &mut B) -> Result<Per
 {
     line.room(MOST_SENT)?;
     let handed = plant.hand(bus)?;
-    let Ok(report) = perform(line, &handed.transaction) else {
+    let tries = plant.tries(bus);
+    let Ok(report) = perform(line, &handed.transaction, tries) else {
         unreachable!()
     };
     let noted = report.clone().unwrap();

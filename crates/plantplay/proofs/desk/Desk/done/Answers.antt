@@ -2,7 +2,7 @@ use Rattle.std.proofs.Common.{◌≡◌, ℕ, List, refl, sym, subst}
 use Rattle.transact.specs.declared.marks.Mark.{Mark}
 use Rattle.transact.specs.Attempts.{Spells}
 use Rattle.plantevents.specs.declared.event.Event.TheVariants as events
-use Rattle.plant.specs.Matches.{IsOpenTransaction}
+use Rattle.plant.specs.Matches.{IsReportOf}
 use Rattle.plant.specs.Shown.{Shown}
 use Rattle.plantplay.specs.declared.step.Step.TheVariants as steps
 use Rattle.plantplay.specs.declared.step.StepReply.TheVariants.{Noted}
@@ -27,7 +27,7 @@ returns-in-None c = (
 pub unreachable-requires : goal.unreachable-requires
 unreachable-requires c =
     c.in-Err.ensures.stranger
-    (subst (λ (x : Shown). IsOpenTransaction x c.args.bus c.args.number c.in-Some.report.transaction)
+    (subst (λ (x : Shown). IsReportOf x c.args.bus c.args.number c.in-Some.report)
     (sym c.self.view_is) c.in-Some.ensures.0)
 
 pub unreachable-unreachable : goal.unreachable-unreachable
@@ -36,8 +36,8 @@ unreachable-unreachable c = c.unreachable.result
 pub returns : goal.returns
 returns c =
     let p = c.self.inside.plant in let b = c.args.bus in let n = c.args.number in let report = c.in-Some.report in
-    let spells = subst (λ (marks : List Mark). Spells report.transaction marks report) c.deref.ensures.value
-    c.in-Some.ensures.1 in
+    let spells = subst (λ (marks : List Mark). Spells report.transaction report.tries marks report)
+    c.deref.ensures.value c.in-Some.ensures.1 in
     accepted_at p _ c.done.new.self (steps.Done b n c.args.marks.now) Noted (events.Done b n report) c.self.view_is
     (λ refusal bad. report_refused p b n c.args.marks.now.items report c.in-Ok.ensures.open spells bad.1)
     (report, spells, refl) c.in-Ok.ensures.grown c.len-legal.ensures.legal
