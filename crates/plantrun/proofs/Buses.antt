@@ -90,7 +90,7 @@ quiet_from_nothing p scenario buses items logs are quiet = record {
 
 -- with a bus for each of the plan a run doesn't start for what the plant isn't opened for
 pub not_opened : (setup : Loaded) (workers buses limit : ℕ) (fault : OpenFault) → buses ≡ setup.plan.buses
-    → IsStartFault setup workers buses limit fault → IsOpenFault workers limit fault
+    → IsStartFault setup workers buses limit fault → IsOpenFault setup.plan.buses workers limit fault
 not_opened setup workers buses limit BadCount same is = λ count. is (count, same)
 not_opened setup workers buses limit Limit same is = (is.0.0, is.1)
 not_opened setup workers buses limit Memory same is = (is.0.0, is.1)

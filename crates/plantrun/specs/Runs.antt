@@ -6,7 +6,7 @@ use Rattle.simbus.specs.ScriptedTicks.{ScriptedTicks}
 use Rattle.simbus.specs.Simulated.{Simulated, after_all_arrivals}
 use Rattle.ilcompile.specs.Loaded.{Loaded}
 use Rattle.turns.specs.Finishing.{IsQuiet}
-use Rattle.plant.specs.Shown.{IsLimit, IsWorkerCount, is_full, plant_of}
+use Rattle.plant.specs.Shown.{IsLimit, IsRoomy, IsWorkerCount, is_full, plant_of}
 use Rattle.plantplay.specs.Installations.{bus_of, sim_log}
 use Rattle.workers.specs.declared.closed.Closed.{Closed}
 use Rattle.workers.specs.declared.ended.Ended.TheVariants.{Asked, Limit}
@@ -25,6 +25,7 @@ tick_log clock = clock.log
 pub record IsRun (setup : Loaded) (workers limit : ℕ) (left : Closed Simulated ScriptedTicks) : Type 0 where
   pub counted : IsWorkerCount workers
   pub limited : IsLimit limit
+  pub roomy : IsRoomy setup.plan.buses limit
   pub count : length left.buses.items ≡ setup.plan.buses
   pub closed : IsClosed (plant_of setup workers) [] no_moment sim_log tick_log left
   pub kept : left.plant.limit ≡ limit

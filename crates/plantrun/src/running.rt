@@ -23,7 +23,7 @@ use workers::{Closed, OpenGate, Opening};
 /// # Errors
 ///
 /// The allocator is out of memory, there are not 1 to 16 scan workers, or the limit is not 100 to
-/// 1,000,000.
+/// 1,000,000, or below 500 with more than 16 buses.
 pub fn run<R: Threads + Wait + Timer + Sync>(
     rt: &R,
     alloc: Global,
@@ -33,7 +33,7 @@ pub fn run<R: Threads + Wait + Timer + Sync>(
     workers: usize,
 ) -> Result<Closed<SimBus, ScriptedClock>, StartFault>
     ensures run { IfOk result (IsRun setup workers limit) }
-    ensures fault { IfErr result (IsStartFault workers limit) }
+    ensures fault { IfErr result (IsStartFault setup.plan.buses workers limit) }
 {
     let buses = buses_of(alloc, setup.plan().buses(), scenario)?;
     let clock = ScriptedClock::of(alloc, scenario)?;

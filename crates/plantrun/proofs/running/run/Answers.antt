@@ -14,6 +14,7 @@ returns-in-Ok-clause-run g c =
     let clock = c.in_ok-clock in let made = c.in_ok-buses in let is = c.in-Ok.ensures in record {
       counted = is.counts.0;
       limited = is.limit;
+      roomy = is.roomy;
       count = is.count ∙ is.counts.1;
       closed =
           closed_from_nothing (plant_of setup c.args.workers) scenario c.buses.result made.buses.items
