@@ -60,12 +60,13 @@ HasSetup bytes = (setup : Loaded) × IsSetupOf bytes setup
 abbrev pub HasScenario : PlayBytes → Type 0
 HasScenario bytes = (statements : List Statement) × IsScenario bytes.scenario statements
 
--- the fault of the binding or the text, else of the scenario, else why the plant does not start with so many scan workers
--- and this limit
+-- the fault of the binding or the text, else of the scenario, else why the plant of that text does not start with this
+-- number of scan workers and this limit
 abbrev pub IsPlayStop : PlayBytes → ℕ → ℕ → PlayStop → Type 0
 IsPlayStop bytes workers limit (Text stop) = IsTextStop bytes stop
 IsPlayStop bytes workers limit (Scenario fault) = HasSetup bytes × IsJudged bytes.scenario (Err fault)
-IsPlayStop bytes workers limit (Start fault) = HasSetup bytes × HasScenario bytes × IsStartFault workers limit fault
+IsPlayStop bytes workers limit (Start fault) =
+    (setup : Loaded) × IsSetupOf bytes setup × HasScenario bytes × IsStartFault setup.plan.buses workers limit fault
 
 -- ---- what a play leaves
 

@@ -93,8 +93,9 @@ pub fn explain_binding<W: Write>(out: &mut W, bytes: &[u8], fault: &BindFault) -
                 out,
                 Advice {
                     what: "the first bad line of the binding",
-                    cure: "begin with the number of buses, 1 to 64, and give each source a line\n\
-                        with a place of its own, single spaces and small letters",
+                    cure: "begin with the number of buses, 1 to 64, give each source a line with a\n\
+                        place of its own, and each bus one line `tries` at most, of 1 to 5; write\n\
+                        single spaces and small letters",
                     line: "source 0.0 device-instance 5 2",
                 },
             )
