@@ -9,7 +9,7 @@
 //!
 //! ```text
 //! let mut bus = SimBus::new(alloc, BusSetup::of(alloc, &scenario, number)?)?;
-//! let report = perform(&mut bus, &transaction)?;
+//! let report = perform(&mut bus, &transaction, 3)?;
 //! ```
 #![tactic(auto)]
 
