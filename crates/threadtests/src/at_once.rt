@@ -251,13 +251,20 @@ fn buses_of<'w, 'r, R: Timer>(
 /// What a run of the tests leaves.
 type Left<'w, 'r, R> = Closed<WatchedBus<'w, 'r, R>, WaitingClock<'w, 'r, R>>;
 
-/// Runs a row.
-fn run_row<'w, 'r, R: Threads + Wait + Timer + Sync>(
-    rt: &R,
+/// What a row is run with.
+#[derive(Drop)]
+struct Linked<'w, 'r, R> {
+    opening: Opening,
+    buses: Vec<WatchedBus<'w, 'r, R>>,
+    clock: WaitingClock<'w, 'r, R>,
+}
+
+/// What a row is run with, to which nothing happened.
+fn link<'w, 'r, R: Timer>(
     alloc: Global,
     watch: &'w Watch<'r, R>,
     row: &Row,
-) -> Result<Left<'w, 'r, R>, Fail> {
+) -> Result<Linked<'w, 'r, R>, Fail> {
     let scenario = row.house.scenario(alloc)?;
     let buses = buses_of(alloc, watch, row, &scenario)?;
     let clock = PausedClock::new(ScriptedClock::of(alloc, &scenario)?, row.pause);
@@ -266,10 +273,11 @@ fn run_row<'w, 'r, R: Threads + Wait + Timer + Sync>(
         setup: row.house.setup(alloc)?,
         limit: row.limit,
     };
-    match run(rt, alloc, opening, buses, clock, row.workers, watch) {
-        Ok(left) => Ok(left),
-        Err(_) => Err(Fail::new("the run doesn't start")),
-    }
+    Ok(Linked {
+        opening,
+        buses,
+        clock,
+    })
 }
 
 /// Whether the gate and the buses counted what the history has, and each task was scanned so often.
@@ -301,7 +309,14 @@ fn is_left<'w, 'r, R: Timer>(
 /// Whether a row holds.
 fn holds<R: Threads + Wait + Timer + Sync>(rt: &R, alloc: Global, row: &Row) -> Result<bool, Fail> {
     let watch = Watch::new(rt, alloc, row.rules())?;
-    let left = run_row(rt, alloc, &watch, row)?;
+    let Linked {
+        opening,
+        buses,
+        clock,
+    } = link(alloc, &watch, row)?;
+    let Ok(left) = run(rt, alloc, opening, buses, clock, row.workers, &watch) else {
+        return Err(Fail::new("the run doesn't start"));
+    };
     Ok(is_left(&left, &watch, row.ended, row.scans))
 }
 
@@ -313,7 +328,14 @@ fn goes_on<R: Threads + Wait + Timer + Sync>(
     row: &Row,
 ) -> Result<bool, Fail> {
     let watch = Watch::new(rt, alloc, row.rules())?;
-    let left = run_row(rt, alloc, &watch, row)?;
+    let Linked {
+        opening,
+        buses,
+        clock,
+    } = link(alloc, &watch, row)?;
+    let Ok(left) = run(rt, alloc, opening, buses, clock, row.workers, &watch) else {
+        return Err(Fail::new("the run doesn't start"));
+    };
     if !is_left(&left, &watch, row.ended, row.scans) {
         return Ok(false);
     }
