@@ -48,6 +48,20 @@ most_blocks = 256
 abbrev pub most_words : ℕ
 most_words = 65536
 
+-- functions of a task, inputs of a function, and calls that are open at one place
+abbrev pub most_functions : ℕ
+most_functions = 64
+
+abbrev pub most_inputs : ℕ
+most_inputs = 16
+
+abbrev pub most_calls : ℕ
+most_calls = 8
+
+-- words on a path of a task's code
+abbrev pub most_steps : ℕ
+most_steps = 16777216
+
 -- parentheses that are open at one place
 abbrev pub most_nesting : ℕ
 most_nesting = 32

@@ -50,6 +50,18 @@ pub const MOST_BLOCKS: usize = 256;
 /// The greatest number of words of a task.
 pub const MOST_WORDS: usize = 65_536;
 
+/// The greatest number of functions of a task.
+pub const MOST_FUNCTIONS: usize = 64;
+
+/// The greatest number of inputs of a function.
+pub const MOST_INPUTS: usize = 16;
+
+/// The greatest number of calls that are open at one place.
+pub const MOST_CALLS: usize = 8;
+
+/// The greatest number of words on a path of a task's code.
+pub const MOST_STEPS: u32 = 16_777_216;
+
 /// The greatest number of parentheses that are open at one place.
 pub const MOST_NESTING: usize = 32;
 
