@@ -161,6 +161,9 @@ again words.Close h = refl
 again (words.Open operator) h =
     reads 34 0 (operator_number operator) 0 (lit< tt) (lit< tt) (let s = small operator in omega arith)
     ∙ ap words.Open (numbered operator)
+again (words.Give operand slot) h =
+    on 35 slot (λ (o : WordOperand). words.Give o slot) operand (lit< tt) h.0 (λ kind a. refl)
+again (words.Invoke function) h = reads 36 0 function 0 (lit< tt) (lit< tt) h
 
 -- the spelling of an instruction is a word
 pub spelled_word : (word : Word) (bits : ℕ) → HasWord word → bits ≡ spelling word → IsPacked bits
@@ -221,6 +224,8 @@ spelling_small (words.Call block) h = number_small 32 0 block 0 (lit< tt) (lit< 
 spelling_small words.Close h = lit< tt
 spelling_small (words.Open operator) h =
     number_small 34 0 (operator_number operator) 0 (lit< tt) (lit< tt) (let s = small operator in omega arith) (lit< tt)
+spelling_small (words.Give operand slot) h = operand_small 35 slot operand (lit< tt) h.1 h.0
+spelling_small (words.Invoke function) h = number_small 36 0 function 0 (lit< tt) (lit< tt) h (lit< tt)
 
 -- the bits of a word are those of no other
 pub spelled_once : (word other : Word) → HasWord word → HasWord other → spelling word ≡ spelling other → word ≡ other

@@ -1,5 +1,5 @@
 -- Worked codes with the two block instances: t, a TON, and g, a GEAR_DO.
-use Rattle.std.specs.Prelude.{ℕ, Bool, true, false, List, [], ◌∷◌}
+use Rattle.std.specs.Prelude.{ℕ, zero, suc, ◌+◌, Bool, true, false, List, [], ◌∷◌}
 use Rattle.iltypes.specs.declared.value.Value.TheVariants as values
 use Rattle.daliframe.specs.declared.addressing.Address.{Address}
 use Rattle.gearcmd.specs.declared.requests.Command.TheVariants as commands
@@ -12,6 +12,7 @@ use Rattle.ilcode.specs.declared.word.Word.TheVariants.{Load, Pass, Call, Set, R
 use Rattle.ilcode.specs.declared.word.Word.TheVariants.{Store as St}
 use Rattle.ilcode.specs.declared.word.WordOperand.TheVariants.{Slot, Port}
 use Rattle.ilcode.specs.declared.word.Target.TheVariants as variables
+use Rattle.ilcode.specs.Paths.{Standing, standing}
 use Rattle.ilcode.specs.Rows.{whole}
 
 -- t with these values of IN, PT, Q and ET, IN at its last call, and the moment at which that became TRUE
@@ -93,3 +94,11 @@ st_q = St false (variables.Port 2 0)
 -- CAL g(REQ := d, ADR := a, CMD := b)
 abbrev pub requested : List Word
 requested = Pass 0 1 (Slot 3) ∷ Pass 2 1 (Slot 0) ∷ Pass 3 1 (Slot 1) ∷ call_g ∷ []
+
+-- the first so many words, one after another
+abbrev pub straight_from : ℕ → ℕ → List Standing
+straight_from zero place = []
+straight_from (suc n) place = standing place [] ∷ straight_from n (place + 1)
+
+abbrev pub straight : ℕ → List Standing
+straight n = straight_from n 0

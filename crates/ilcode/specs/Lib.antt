@@ -1,4 +1,5 @@
 pub mod BlockRows
+pub mod FunctionRows
 pub mod Listings
 pub mod LowBytes
 pub mod Paths

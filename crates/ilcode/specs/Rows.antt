@@ -37,7 +37,7 @@ kinds = Ton ∷ GearDo ∷ []
 abbrev pub code_of : List ℕ → List Word → Listing
 code_of starts words =
     listing_of 1 (whole 0 ∷ whole 255 ∷ whole 256 ∷ values.Int (negsuc 0) ∷ [])
-    (types.Int subrange ∷ types.Int subrange ∷ types.Int subrange ∷ types.Bool ∷ []) kinds starts words []
+    (types.Int subrange ∷ types.Int subrange ∷ types.Int subrange ∷ types.Bool ∷ []) kinds starts words [] []
 
 -- the variables, of which the first three are these numbers; no instance was called, and 40 ms have passed
 abbrev pub store_of : ℕ → ℕ → ℕ → Bool → Store
@@ -53,7 +53,7 @@ store_of a b c d =
 -- open
 abbrev pub ComeIn : ℕ → List ℕ → List Word → Store → Option Value → Store → Type 0
 ComeIn steps starts words from result to =
-    after (code_of starts words) (start from) steps ≡ Some (at (length words) to result [])
+    after (code_of starts words) (start from) steps ≡ Some (at (length words) to result [] [])
 
 -- a step for each word
 abbrev pub Come : List ℕ → List Word → Store → Option Value → Store → Type 0

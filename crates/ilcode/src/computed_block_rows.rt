@@ -6,7 +6,7 @@ ghost use Rattle.daliframe.specs.declared.addressing.Address.TheVariants.{Short,
 ghost use Rattle.iltypes.specs.declared.value.Value.TheVariants.{Bool as truth};
 ghost use Rattle.ilcode.specs.declared.word.Word.TheVariants.{Call, Load, Pass};
 ghost use Rattle.ilcode.specs.declared.word.WordOperand.TheVariants.{Constant, Port, Slot};
-ghost use Rattle.ilcode.specs.BlockRows.{gear, no_gear, no_timer, request, timer};
+ghost use Rattle.ilcode.specs.BlockRows.{gear, no_gear, no_timer, request, timer, straight};
 ghost use Rattle.ilcode.specs.BlockRows.{with_blocks, with_timer};
 ghost use Rattle.ilcode.specs.BlockRows.{call_g, call_t, ld_et, ld_q, pass_in, pass_pt};
 ghost use Rattle.ilcode.specs.BlockRows.{r_in, requested, s_in, st_in, st_q, stn_in, timed};
@@ -97,6 +97,6 @@ fn requests()
         (with_blocks no_timer (gear true 0 3 5 true)
         (request (Short 9) 1 ∷ request (Short 3) 5 ∷ []) (store_of 3 5 0 true)) }
     ensures counted { requests_on
-        (code_of [] (call_t ∷ call_g ∷ ld_a ∷ call_g ∷ Call 2 ∷ [])) (0 ∷ 1 ∷ 2 ∷ 3 ∷ 4 ∷ [])
+        (code_of [] (call_t ∷ call_g ∷ ld_a ∷ call_g ∷ Call 2 ∷ [])) (straight 5)
         ≡ 2 }
 {}

@@ -42,12 +42,18 @@ fn others()
     ensures jmp { Spells (words.Jump conditions.Always 2) 540 }
     ensures jmpc { Spells (words.Jump conditions.IfTrue 4097) 1048861 }
     ensures jmpcn { Spells (words.Jump conditions.IfFalse 65536) 16777246 }
+    ensures give { Spells (words.Give (operands.Constant 1) 2) 2097571 }
+    ensures give_port { Spells (words.Give (operands.Port 1 2) 4095) 4293927395 }
+    ensures call { Spells (words.Invoke 0) 36 }
+    ensures last { Spells (words.Invoke 4095) 1048356 }
 {}
 
 /// Bits of no word: an operation past the last, a kind that the operation does not take, numbers
 /// that are not 0 where they must be, a type past the last, and MIN before a parenthesis.
 fn no_words()
-    ensures operation { IsNoWord 35 }
+    ensures operation { IsNoWord 37 }
+    ensures nothing_given { IsNoWord 35 }
+    ensures high_number_of_call { IsNoWord 1048612 }
     ensures no_operand { IsNoWord 0 }
     ensures stored_constant { IsNoWord 130 }
     ensures operand_of_not { IsNoWord 76 }

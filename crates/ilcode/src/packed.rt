@@ -70,7 +70,7 @@ impl PackedWord {
         self.bits
     }
 
-    /// The low byte, which says which of the 83 kinds of words it is, and the numbers a and b.
+    /// The low byte, which says which of the 87 kinds of words it is, and the numbers a and b.
     #[inline(always)]
     pub fn fields(self) -> (u32, u16, u16)
         ensures value { meant_by result.0 result.1 result.2 ≡ self }

@@ -57,6 +57,11 @@ pub(crate) fn meaning(bits: u32) -> Word
         32 => Word::Call(a as u16),
         33 => Word::Close,
         34 => Word::Open(operator_of(a)),
+        35 => Word::Give {
+            operand: operand_of(kind, a),
+            slot: b as u16,
+        },
+        36 => Word::Invoke(a as u16),
         _ => Word::Apply(operator_of(op), operand_of(kind, a)),
     }
 }

@@ -24,8 +24,9 @@ pub(crate) fn has_word(word: &Word) -> bool
             block,
             operand,
         } => port < 16 && block < 256 && is_near(operand),
-        Word::Call(block) => block < 4096,
+        Word::Call(number) | Word::Invoke(number) => number < 4096,
         Word::Open(operator) => operator.may_defer(),
+        Word::Give { operand, slot } => is_near(operand) && slot < 4096,
     }
 }
 
@@ -89,6 +90,8 @@ pub(crate) fn spell(word: &Word) -> u32
         Word::Call(block) => number_of(32, 0, block as u32, 0),
         Word::Close => number_of(33, 0, 0, 0),
         Word::Open(operator) => number_of(34, 0, operator_number(operator), 0),
+        Word::Give { operand, slot } => spell_operand(35, operand, slot as u32),
+        Word::Invoke(function) => number_of(36, 0, function as u32, 0),
     }
 }
 

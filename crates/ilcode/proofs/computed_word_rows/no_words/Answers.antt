@@ -5,7 +5,9 @@ use Rattle.ilcode.proofs.computed_word_rows.no_words.Goals as goal
 pub returns : goal.returns
 returns c =
     record {
-      operation = no_word 35 refl;
+      operation = no_word 37 refl;
+      nothing_given = no_word 35 refl;
+      high_number_of_call = no_word 1048612 refl;
       no_operand = no_word 0 refl;
       stored_constant = no_word 130 refl;
       operand_of_not = no_word 76 refl;

@@ -3,7 +3,6 @@ use Rattle.ilcode.proofs.laws.runs_go_forward.Goals as goal
 
 pub returns : goal.returns
 returns c = record {
-  place = λ code from steps d run. (run_within code from steps d run.is).few;
-  within = λ code from steps d run. (run_within code from steps d run.is).inside;
+  within = λ code from steps d lawful run. (run_within code lawful from steps d run.is).stands;
   closed = λ code from steps d run end. closed_at_end code from steps d run.is end;
 }

@@ -3,6 +3,6 @@ use Rattle.ilcode.proofs.laws.safe_runs_end_once.Goals as goal
 
 pub returns : goal.returns
 returns c = record {
-  ends = λ code from safe a. let h = safe_ends code safe from a in (h.steps, h.to, h.ends);
+  ends = λ code bound from safe b a. let h = safe_ends code bound safe b from a in (h.steps, h.to, h.ends);
   once = one_end;
 }
