@@ -20,6 +20,8 @@ same_number Arising causes.TooBig causes.TooBig h p q l m = refl
 same_number Arising causes.BadJump causes.BadJump h p q l m = refl
 same_number Arising causes.TooManyRequests causes.TooManyRequests h p q l m = refl
 same_number Arising causes.BadSlot causes.BadSlot h p q l m = refl
+same_number Arising causes.TooLong causes.TooLong h p q l m = refl
+same_number Arising causes.BadCall causes.BadCall h p q l m = refl
 same_number Arising one other h p q l m = absurd (omega arith)
 
 pub one_cause : (Arising : Cause → Type 0) (one other : Cause)
@@ -42,18 +44,23 @@ least_as One Other cause to from l =
 pub wrong_least : (Arising : Cause → Type 0) → Arising causes.WrongType → IsLeastCause Arising causes.WrongType
 wrong_least Arising a = record { arises = a; least = λ other b. at_least_two other }
 
-bad_slot_last : (cause : Cause) → refusal_number cause ≤ refusal_number causes.BadSlot
-bad_slot_last causes.BadSlot = omega arith
-bad_slot_last cause = omega arith
+-- of the causes that arise at words bad slot is the last
+bad_slot_last : (Arising : Cause → Type 0) → ¬ Arising causes.TooLong → ¬ Arising causes.BadCall → (cause : Cause)
+    → Arising cause → refusal_number cause ≤ refusal_number causes.BadSlot
+bad_slot_last Arising long call causes.TooLong a = absurd (long a)
+bad_slot_last Arising long call causes.BadCall a = absurd (call a)
+bad_slot_last Arising long call causes.BadSlot a = omega arith
+bad_slot_last Arising long call cause a = omega arith
 
 -- a least cause stays the least beside bad slot
-pub beside : (One Other : Cause → Type 0) (cause : Cause) → (One cause → Other cause)
-    → ((other : Cause) → Other other → (other ≡ causes.BadSlot) ⊎ One other) → IsLeastCause One cause
-    → IsLeastCause Other cause
-beside One Other cause to from l = record { arises = to l.arises; least = λ other a. least other (from other a) }
+pub beside : (One Other : Cause → Type 0) (cause : Cause) → ¬ One causes.TooLong → ¬ One causes.BadCall
+    → (One cause → Other cause) → ((other : Cause) → Other other → (other ≡ causes.BadSlot) ⊎ One other)
+    → IsLeastCause One cause → IsLeastCause Other cause
+beside One Other cause long call to from l =
+    record { arises = to l.arises; least = λ other a. least other (from other a) }
   where
     least : (other : Cause) → (other ≡ causes.BadSlot) ⊎ One other → refusal_number cause ≤ refusal_number other
-    least other (inl e) = rw e (bad_slot_last cause)
+    least other (inl e) = rw e (bad_slot_last One long call cause l.arises)
     least other (inr a) = l.least other a
 
 -- where no other cause arises

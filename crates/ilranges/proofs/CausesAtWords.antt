@@ -81,6 +81,9 @@ same_ranges code place met entry (words.Open operator) f a g b h k = absurd h
 same_ranges code place met entry words.Close f a g b h k = absurd (none_at_close entry.nesting entry.result f a h)
 same_ranges code place met entry (words.Jump condition target) f a g b h k =
     absurd (none_at_condition condition entry.result f a h)
+same_ranges code place met entry (words.Give operand slot) f a g b h k =
+    same_slot (known_of code entry operand) (type_of_variable code (variables.Slot slot)) f a g b h k
+same_ranges code place met entry (words.Invoke function) f a g b h k = absurd h
 
 pub one_cause : (word : Word) → HasOneCause word
 one_cause word code place met entry one other h k =

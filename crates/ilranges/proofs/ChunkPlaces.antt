@@ -8,6 +8,7 @@ use Rattle.std.proofs.lemmas.List.{append-nil, drop_all, length-take-le}
 use Rattle.std.proofs.lemmas.List.Folds.{drop_split}
 use Rattle.std.specs.List.{slice_index_or}
 use Rattle.std.specs.declared.result.Result.TheVariants.{Ok, Err}
+use Rattle.std.specs.List.{AllZip}
 use Rattle.ilranges.specs.declared.known.Known.{Known}
 use Rattle.ilranges.specs.ChunkSteps.{whole, IsChunk, AreChunks}
 use Rattle.ilranges.proofs.Lists.{get_left, get_right, set_left, set_right, length_set}
@@ -85,6 +86,13 @@ alike_long [] [] s = refl
 alike_long [] (d ∷ ds) s = absurd s
 alike_long (c ∷ cs) [] s = absurd s
 alike_long (c ∷ cs) (d ∷ ds) s = let e = alike_long cs ds s.1 in omega arith
+
+pub alike_zip : (cs ds : List (List Known)) → SameLengths cs ds
+    → AllZip (λ (c d : List Known). length c ≡ length d) cs ds
+alike_zip [] [] s = tt
+alike_zip [] (d ∷ ds) s = absurd s
+alike_zip (c ∷ cs) [] s = absurd s
+alike_zip (c ∷ cs) (d ∷ ds) s = (s.0, alike_zip cs ds s.1)
 
 pub chunks_alike : (cs ds : List (List Known)) → SameLengths cs ds → AreChunks cs → AreChunks ds
 chunks_alike [] [] s a = tt

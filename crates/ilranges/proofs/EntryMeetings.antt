@@ -8,7 +8,7 @@ use Rattle.ilranges.specs.declared.known.Known.{Known}
 use Rattle.ilranges.specs.declared.mark.ResultMark.{ResultMark}
 use Rattle.ilranges.specs.declared.nesting.KnownOpened.{KnownOpened}
 use Rattle.ilranges.specs.Entries.{IsResultInto, IsOpenedInto}
-use Rattle.ilranges.specs.EntrySteps.{IsResultMeeting}
+use Rattle.ilranges.specs.EntrySteps.{IsResultMeeting, IsMarkMeeting}
 use Rattle.ilranges.specs.Joins.{IsJoin, IsHeld, AreJoins}
 use Rattle.ilranges.specs.Entries.{IsMeeting}
 use Rattle.ilranges.specs.Marks.{IsMarkInto}
@@ -40,11 +40,6 @@ results_meet one other (Some known) n j =
     }
 
 -- ---- the mark
-
-pub record IsMarkMeeting (one other meeting : Option ResultMark) : Type 0 where
-  pub from_one : IsMarkInto one meeting
-  pub from_other : IsMarkInto other meeting
-  pub least : (wider : Option ResultMark) → IsMarkInto one wider → IsMarkInto other wider → IsMarkInto meeting wider
 
 pub marks_agree : (one other : Option ResultMark) → one ≡ other → IsMarkMeeting one other one
 marks_agree one other e =

@@ -1,5 +1,5 @@
 -- What is known of a value: of its kind, of a value of a type, of what says less, and by the limits of a range.
-use Rattle.std.proofs.Common.{ℤ, Bool, true, arith}
+use Rattle.std.proofs.Common.{ℤ, true, arith}
 use Rattle.std.proofs.lemmas.Int.{ints}
 use Rattle.iltypes.specs.declared.range.Range.{Range}
 use Rattle.iltypes.specs.declared.value.Value.{Value}
@@ -63,7 +63,8 @@ numbers_within r knowns.Bool h k = absurd h
 numbers_within r (knowns.Int s) h k = record { low = h.low; high = k.high }
 
 -- what holds each value of the first has the first within it
-pub within_of_values : (inner outer : Known) → ((v : Value) → IsKnown v inner → IsKnown v outer) → IsKnownWithin inner outer
+pub within_of_values : (inner outer : Known) → ((v : Value) → IsKnown v inner → IsKnown v outer)
+    → IsKnownWithin inner outer
 within_of_values knowns.Bool knowns.Bool h = tt
 within_of_values knowns.Bool (knowns.Int outer) h = h (values.Bool true) tt
 within_of_values (knowns.Int inner) knowns.Bool h = h (values.Int inner.lo) (holds_low inner)

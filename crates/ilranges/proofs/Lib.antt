@@ -7,6 +7,7 @@ pub mod EntryMeetings
 pub mod FunctionRanges
 pub mod JoinRows
 pub mod JoinValues
+pub mod KnownTypes
 pub mod Knowns
 pub mod Lists
 pub mod MarkEquality
@@ -19,8 +20,10 @@ pub mod OrderWords
 pub mod ResultCauses
 pub mod ResultRanges
 pub mod RuleLawful
+pub mod RuleNames
 pub mod RuleOperators
 pub mod RuleStores
+pub mod SafetyCalls
 pub mod SafetyFits
 pub mod SafetyJumps
 pub mod SafetyMarks
@@ -28,5 +31,11 @@ pub mod SafetySteps
 pub mod SafetyStores
 pub mod SafetyValues
 pub mod SafetyWords
+pub mod SlotResets
+pub mod Undefined
+pub mod UndefinedOperators
+pub mod UndefinedStores
+pub mod UndefinedValues
+pub mod UndefinedWrites
 pub mod WordCauses
 pub mod WordParentheses

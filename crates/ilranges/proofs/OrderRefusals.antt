@@ -29,7 +29,7 @@ use Rattle.ilranges.specs.declared.known.Known.TheVariants as knowns
 use Rattle.ilranges.specs.declared.nesting.KnownOpened.{KnownOpened}
 use Rattle.ilblocks.specs.declared.kind.BlockKind.{BlockKind}
 use Rattle.ilranges.specs.Entries.{IsResultInto, IsOpenedInto, IsInto}
-use Rattle.ilranges.specs.Operands.{known_of, type_of_variable, may_write}
+use Rattle.ilranges.specs.Operands.{known_of, type_of_variable, in_programs, may_name, may_set, may_write}
 use Rattle.ilranges.specs.Knowns.{IsKnown, IsKnownWithin}
 use Rattle.ilranges.specs.Refusals as refusals
 use Rattle.ilranges.specs.Rules as rules
@@ -45,18 +45,20 @@ use Rattle.ilranges.proofs.OrderWords.{IsBothWithin, operand_within, both_into}
 
 -- ---- loads and stores
 
-load_kept : (negated : Bool) (operand wider : Option Known) (after : Known) → IsBothWithin operand wider
-    → rules.IsLoaded negated wider after → (cause : Cause) → ¬ refusals.ArisesAtLoad negated operand cause
-load_kept negated operand None after w g cause a = absurd g
-load_kept negated None (Some wider) after w g cause a = absurd w
-load_kept negated (Some known) (Some wider) after w g causes.WrongType a =
+load_kept : (negated : Bool) (operand wider : Option Known) (named : Bool) (after : Known)
+    → IsBothWithin operand wider → IsTrue named → rules.IsLoaded negated wider after → (cause : Cause)
+    → ¬ refusals.ArisesAtLoad negated operand named cause
+load_kept negated operand None named after w t g cause a = absurd g
+load_kept negated None (Some wider) named after w t g cause a = absurd w
+load_kept negated (Some known) (Some wider) named after w t g causes.WrongType a =
     let x = example known in
     let y = modified_value negated wider after g x.0 (known_wider x.0 known wider w x.1) in
     let n = a x.0 (kind_of_known x.0 known x.1) in
     let e = y.1 in
     let k : ⊥ = cc in k
-load_kept negated (Some known) (Some wider) after w g causes.BadSlot a = let k : ⊥ = cc in k
-load_kept negated (Some known) (Some wider) after w g _ a = a
+load_kept negated (Some known) (Some wider) named after w t g causes.BadSlot (inl n) = let k : ⊥ = cc in k
+load_kept negated (Some known) (Some wider) named after w t g causes.BadSlot (inr n) = n t
+load_kept negated (Some known) (Some wider) named after w t g _ a = a
 
 within_through : (a b c : Range) → IsWithin a b → IsWithin b c → IsWithin a c
 within_through a b c p q =
@@ -110,25 +112,29 @@ set_kept (Some knowns.Bool) (Some knowns.Bool) (Some types.Bool) writable w t g 
 
 -- ---- arguments and calls
 
-pass_kept : (operand wider : Option Known) (type : Option IlType) (writable : Bool) (stored : Known)
-    → IsBothWithin operand wider → IsTrue writable → rules.IsStored false wider type stored → (cause : Cause)
-    → ¬ refusals.ArisesAtPass operand type writable cause
-pass_kept operand None type writable stored w t g cause a = absurd g
-pass_kept None (Some wider) type writable stored w t g cause a = absurd w
-pass_kept (Some known) (Some wider) type writable stored w t g causes.WrongType a =
+pass_kept : (operand wider : Option Known) (named : Bool) (type : Option IlType) (writable : Bool) (stored : Known)
+    → IsBothWithin operand wider → IsTrue named → IsTrue writable → rules.IsStored false wider type stored
+    → (cause : Cause) → ¬ refusals.ArisesAtPass operand named type writable cause
+pass_kept operand None named type writable stored w n t g cause a = absurd g
+pass_kept None (Some wider) named type writable stored w n t g cause a = absurd w
+pass_kept (Some known) (Some wider) named type writable stored w n t g causes.WrongType a =
     store_kept false (Some known) (Some wider) type writable stored w t g causes.WrongType a
-pass_kept (Some known) (Some wider) type writable stored w t g (causes.OutOfRange found allowed) a =
+pass_kept (Some known) (Some wider) named type writable stored w n t g (causes.OutOfRange found allowed) a =
     store_kept false (Some known) (Some wider) type writable stored w t g (causes.OutOfRange found allowed) a
-pass_kept (Some known) (Some wider) type writable stored w t g causes.BadSlot (inl n) = let k : ⊥ = cc in k
-pass_kept (Some known) (Some wider) type writable stored w t g causes.BadSlot (inr n) =
-    store_kept false (Some known) (Some wider) type writable stored w t g causes.BadSlot n
-pass_kept (Some known) (Some wider) type writable stored w t g _ a = a
+pass_kept (Some known) (Some wider) named type writable stored w n t g causes.BadSlot (inl (inl m)) =
+    let k : ⊥ = cc in k
+pass_kept (Some known) (Some wider) named type writable stored w n t g causes.BadSlot (inl (inr m)) = m n
+pass_kept (Some known) (Some wider) named type writable stored w n t g causes.BadSlot (inr m) =
+    store_kept false (Some known) (Some wider) type writable stored w t g causes.BadSlot m
+pass_kept (Some known) (Some wider) named type writable stored w n t g _ a = a
 
 -- whether an instance is there does not depend on what is known
-call_kept : (kind : Option BlockKind) → IsSome kind → (cause : Cause) → ¬ refusals.ArisesAtCall kind cause
-call_kept None s cause a = let k : ⊥ = cc in k
-call_kept (Some kind) s causes.BadSlot a = let k : ⊥ = cc in k
-call_kept (Some kind) s _ a = a
+call_kept : (kind : Option BlockKind) (programs : Bool) → IsTrue programs → IsSome kind → (cause : Cause)
+    → ¬ refusals.ArisesAtCall kind programs cause
+call_kept None programs t s cause a = let k : ⊥ = cc in k
+call_kept (Some kind) programs t s causes.BadSlot (inl n) = let k : ⊥ = cc in k
+call_kept (Some kind) programs t s causes.BadSlot (inr n) = n t
+call_kept (Some kind) programs t s _ a = a
 
 -- ---- operators and functions
 
@@ -142,17 +148,20 @@ operator_kept operator left right wider_left wider_right after w v g cause a =
     refuted operator left right (λ x y p q. g.some x y (known_wider x left wider_left w p)
     (known_wider y right wider_right v q)) cause a
 
-apply_kept : (operator : Operator) (result wider operand wider_operand : Option Known) (after : Known)
-    → IsResultInto result wider → IsResultInto operand wider_operand
+apply_kept : (operator : Operator) (result wider operand wider_operand : Option Known) (named : Bool) (after : Known)
+    → IsResultInto result wider → IsResultInto operand wider_operand → IsTrue named
     → rules.IsApplied operator wider wider_operand after → (cause : Cause)
-    → ¬ refusals.ArisesAtApply operator result operand cause
-apply_kept operator result None operand wider_operand after w v g cause a = absurd g
-apply_kept operator result (Some s) operand None after w v g cause a = absurd g
-apply_kept operator None (Some s) operand (Some t) after w v g cause a = absurd w
-apply_kept operator (Some l) (Some s) None (Some t) after w v g cause a = absurd v
-apply_kept operator (Some l) (Some s) (Some r) (Some t) after w v g causes.NoResult a = let k : ⊥ = cc in k
-apply_kept operator (Some l) (Some s) (Some r) (Some t) after w v g causes.BadSlot a = let k : ⊥ = cc in k
-apply_kept operator (Some l) (Some s) (Some r) (Some t) after w v g cause a =
+    → ¬ refusals.ArisesAtApply operator result operand named cause
+apply_kept operator result None operand wider_operand named after w v n g cause a = absurd g
+apply_kept operator result (Some s) operand None named after w v n g cause a = absurd g
+apply_kept operator None (Some s) operand (Some t) named after w v n g cause a = absurd w
+apply_kept operator (Some l) (Some s) None (Some t) named after w v n g cause a = absurd v
+apply_kept operator (Some l) (Some s) (Some r) (Some t) named after w v n g causes.NoResult a =
+    let k : ⊥ = cc in k
+apply_kept operator (Some l) (Some s) (Some r) (Some t) named after w v n g causes.BadSlot (inl m) =
+    let k : ⊥ = cc in k
+apply_kept operator (Some l) (Some s) (Some r) (Some t) named after w v n g causes.BadSlot (inr m) = m n
+apply_kept operator (Some l) (Some s) (Some r) (Some t) named after w v n g cause a =
     operator_kept operator l r s t after w v g cause a
 
 closing_kept : (operator : Operator) (saved wider_saved : Known) (result wider : Option Known) (after : Known)
@@ -195,36 +204,44 @@ close_kept wider after (x ∷ xs) (y ∷ ys) result n w g cause a =
 -- ---- words
 
 kept_before : (code : Listing) (place : ℕ) (entry wider : Entry) (word : Word) (after : Entry)
-    → IsInto entry wider → rules.IsEntryAfter code wider word after → (cause : Cause)
+    → IsInto entry wider → rules.IsEntryAfter code place wider word after → (cause : Cause)
     → ¬ refusals.ArisesBeforeNesting code place entry word cause
 kept_before code place entry wider (words.Load negated operand) after i g cause a =
-    load_kept negated (known_of code entry operand) (known_of code wider operand) g.known
-    (operand_within code entry wider operand i) g.given cause a
+    load_kept negated (known_of code entry operand) (known_of code wider operand) (may_name code place operand)
+    g.1.known (operand_within code entry wider operand i) g.0 g.1.given cause a
 kept_before code place entry wider (words.Apply operator operand) after i g cause a =
-    apply_kept operator entry.result wider.result (known_of code entry operand) (known_of code wider operand) g.known
-    i.result (both_into _ _ (operand_within code entry wider operand i)) g.given cause a
+    apply_kept operator entry.result wider.result (known_of code entry operand) (known_of code wider operand)
+    (may_name code place operand) g.1.known i.result (both_into _ _ (operand_within code entry wider operand i)) g.0
+    g.1.given cause a
 kept_before code place entry wider (words.Transform function) after i g cause a =
     transform_kept function entry.result wider.result g.known i.result g.given cause a
 kept_before code place entry wider (words.Store negated variable) after i g cause a =
-    store_kept negated entry.result wider.result (type_of_variable code variable) (may_write code variable) g.1.stored
-    i.result g.0 g.1.written cause a
+    store_kept negated entry.result wider.result (type_of_variable code variable) (may_write code place variable)
+    g.1.stored i.result g.0 g.1.written cause a
 kept_before code place entry wider (words.Set variable) after i g cause a =
-    set_kept entry.result wider.result (type_of_variable code variable) (may_write code variable) i.result g.0 g.1
-    cause a
+    set_kept entry.result wider.result (type_of_variable code variable) (may_set code place variable) i.result g.0
+    g.1 cause a
 kept_before code place entry wider (words.Reset variable) after i g cause a =
-    set_kept entry.result wider.result (type_of_variable code variable) (may_write code variable) i.result g.0 g.1
-    cause a
+    set_kept entry.result wider.result (type_of_variable code variable) (may_set code place variable) i.result g.0
+    g.1 cause a
 kept_before code place entry wider (words.Pass port block operand) after i g cause a =
     let input = variables.Port port block in
-    pass_kept (known_of code entry operand) (known_of code wider operand) (type_of_variable code input)
-    (may_write code input) g.1.stored (operand_within code entry wider operand i) g.0 g.1.passed cause a
+    pass_kept (known_of code entry operand) (known_of code wider operand) (may_name code place operand)
+    (type_of_variable code input) (may_write code place input) g.2.stored (operand_within code entry wider operand i)
+    g.0 g.1 g.2.passed cause a
 kept_before code place entry wider (words.Call block) after i g cause a =
-    call_kept (slice_get code.kinds block) g.0 cause a
+    call_kept (slice_get code.kinds block) (in_programs code place) g.0 g.1 cause a
 kept_before code place entry wider (words.Open operator) after i g cause a =
     open_kept wider after operator entry.result wider.result i.result g cause a
 kept_before code place entry wider words.Close after i g cause a =
     close_kept wider after entry.nesting wider.nesting entry.result i.nesting i.result g cause a
 kept_before code place entry wider (words.Jump condition target) after i g cause a = absurd g
+kept_before code place entry wider (words.Give operand slot) after i g cause a =
+    let given = variables.Slot slot in
+    pass_kept (known_of code entry operand) (known_of code wider operand) (may_name code place operand)
+    (type_of_variable code given) (may_write code place given) g.2.stored (operand_within code entry wider operand i)
+    g.0 g.1 g.2.given cause a
+kept_before code place entry wider (words.Invoke function) after i g cause a = a
 
 -- ---- jumps
 

@@ -173,7 +173,7 @@ jumped_into IfFalse entry wider ways wider_ways i h k = (
 )
 
 pub keeps_order : (word : Word) → KeepsEntryOrder word
-keeps_order (words.Jump condition target) code entry wider ways wider_ways i h k =
+keeps_order (words.Jump condition target) code place entry wider ways wider_ways i h k =
     jumped_into condition entry wider ways wider_ways i h k
-keeps_order word code entry wider ways wider_ways i h k =
-    onward_into _ _ ways wider_ways (λ one other. after_into word code entry wider one other i) h k
+keeps_order word code place entry wider ways wider_ways i h k =
+    onward_into _ _ ways wider_ways (λ one other. after_into word code place entry wider one other i) h k

@@ -1,5 +1,6 @@
 -- Who knows more before a word knows more after it, where it leads to the next place alone.
-use Rattle.std.proofs.Common.{◌≡◌, ℕ, zero, suc, Bool, true, false, List, [], ◌∷◌, Option, Some, None, refl, sym, subst}
+use Rattle.std.proofs.Common.{◌≡◌, ℕ, zero, suc, ◌+◌, Bool, true, false, List, [], ◌∷◌, Option, Some, None, refl, sym}
+use Rattle.std.proofs.Common.{subst}
 use Rattle.std.specs.Prelude.{slice_get, slice_set, ⊤}
 use Rattle.std.specs.List.{AllZip}
 use Rattle.std.specs.Option.{option_map}
@@ -14,17 +15,17 @@ use Rattle.ilcode.specs.declared.word.Target.{Target}
 use Rattle.ilcode.specs.declared.word.Target.TheVariants as variables
 use Rattle.ilcode.specs.declared.word.Word.{Word}
 use Rattle.ilcode.specs.declared.word.Word.TheVariants as words
-use Rattle.ilcode.specs.Listings.{Listing, shape_of}
+use Rattle.ilcode.specs.Listings.{Listing, shape_of, slots_end}
 use Rattle.ilranges.specs.declared.entry.Entry.{Entry}
 use Rattle.ilranges.specs.declared.known.Known.{Known}
 use Rattle.ilranges.specs.declared.mark.ResultMark.{ResultMark}
 use Rattle.ilranges.specs.declared.nesting.KnownOpened.{KnownOpened}
 use Rattle.ilranges.specs.Entries.{IsResultInto, IsOpenedInto, IsInto}
-use Rattle.ilranges.specs.Operands.{known_of, type_of_variable}
+use Rattle.ilranges.specs.Operands.{known_of, known_of_result, type_of_variable}
 use Rattle.ilranges.specs.Knowns.{IsKnownWithin, known_of_type, known_of_value}
 use Rattle.ilranges.specs.Marks.{IsMarkInto, constant_of}
 use Rattle.ilranges.specs.Rules.{IsModified, IsLoaded, IsApplied, IsTransformed, IsStored, Gives, Writes, Passes}
-use Rattle.ilranges.specs.Rules.{unmarked, Opens, Closes, IsEntryAfter}
+use Rattle.ilranges.specs.Rules.{unmarked, Opens, Closes, GivesSlot, reset, returned, IsEntryAfter}
 use Rattle.ilranges.proofs.OrderMarks.{load_marks, apply_marks, function_marks}
 use Rattle.ilranges.proofs.OrderOperators as operators
 use Rattle.ilranges.proofs.OrderFunctions as monotone
@@ -152,6 +153,49 @@ passes_into entry wider after other P Q i h g =
     into_of _ _ after other h.is g.is
     (record { slots = i.slots; result = i.result; mark = tt; nesting = i.nesting })
 
+gives_slot_into : (entry wider after other : Entry) (slot : ℕ) (P Q : Known → Type 0) → IsInto entry wider
+    → ((known its : Known) → P known → Q its → IsKnownWithin known its) → GivesSlot entry slot P after
+    → GivesSlot wider slot Q other → IsInto after other
+gives_slot_into entry wider after other slot P Q i each h g =
+    into_of _ _ after other h.is g.is (record {
+      slots = set_within entry.slots wider.slots slot h.stored g.stored i.slots
+          (each h.stored g.stored h.given g.given);
+      result = i.result;
+      mark = tt;
+      nesting = i.nesting;
+    })
+
+reset_within : (from to : ℕ) (types : List IlType) (slots wider : List Known) → AllZip IsKnownWithin slots wider
+    → AllZip IsKnownWithin (reset from to types slots) (reset from to types wider)
+reset_within zero zero types slots wider h = h
+reset_within (suc from) zero types slots wider h = h
+reset_within zero (suc to) [] slots wider h = h
+reset_within (suc from) (suc to) [] slots wider h = h
+reset_within zero (suc to) (t ∷ ts) [] [] h = tt
+reset_within (suc from) (suc to) (t ∷ ts) [] [] h = tt
+reset_within zero (suc to) (t ∷ ts) [] (y ∷ ys) h = absurd h
+reset_within (suc from) (suc to) (t ∷ ts) [] (y ∷ ys) h = absurd h
+reset_within zero (suc to) (t ∷ ts) (x ∷ xs) [] h = absurd h
+reset_within (suc from) (suc to) (t ∷ ts) (x ∷ xs) [] h = absurd h
+reset_within zero (suc to) (t ∷ ts) (x ∷ xs) (y ∷ ys) h =
+    (known_self (known_of_type t), reset_within zero to ts xs ys h.1)
+reset_within (suc from) (suc to) (t ∷ ts) (x ∷ xs) (y ∷ ys) h = (h.0, reset_within from to ts xs ys h.1)
+
+result_self : (result : Option Known) → IsResultInto result result
+result_self None = tt
+result_self (Some known) = known_self known
+
+returned_into : (code : Listing) (entry wider after other : Entry) (function : ℕ) → IsInto entry wider
+    → after ≡ returned code entry function → other ≡ returned code wider function → IsInto after other
+returned_into code entry wider after other function i h g =
+    into_of _ _ after other h g (record {
+      slots = reset_within (slots_end code 0) (slots_end code (function + 1)) code.slots entry.slots wider.slots
+          i.slots;
+      result = result_self (known_of_result code (slice_get code.functions function));
+      mark = tt;
+      nesting = i.nesting;
+    })
+
 opens_into : (entry wider after other : Entry) (operator : Operator) (result wider_result : Option Known)
     → IsInto entry wider → IsResultInto result wider_result → Opens entry operator result after
     → Opens wider operator wider_result other → IsInto after other
@@ -177,34 +221,42 @@ closes_into entry wider after other (x ∷ xs) (y ∷ ys) i n h g =
     (subst (λ (o : Operator). IsApplied o (Some x.saved) entry.result known) n.0.operator p) q)
     (λ known its w. tt) h g
 
-pub after_into : (word : Word) (code : Listing) (entry wider after other : Entry) → IsInto entry wider
-    → IsEntryAfter code entry word after → IsEntryAfter code wider word other → IsInto after other
-after_into (words.Load negated operand) code entry wider after other i h g =
+pub after_into : (word : Word) (code : Listing) (place : ℕ) (entry wider after other : Entry) → IsInto entry wider
+    → IsEntryAfter code place entry word after → IsEntryAfter code place wider word other → IsInto after other
+after_into (words.Load negated operand) code place entry wider after other i h g =
     gives_into entry wider after other entry.nesting wider.nesting _ _ _ _ i i.nesting
     (λ known its. loaded_within negated (known_of code entry operand) (known_of code wider operand) known its
-    (operand_within code entry wider operand i)) (load_marks negated operand) h g
-after_into (words.Apply operator operand) code entry wider after other i h g =
+    (operand_within code entry wider operand i)) (load_marks negated operand) h.1 g.1
+after_into (words.Apply operator operand) code place entry wider after other i h g =
     gives_into entry wider after other entry.nesting wider.nesting _ _ _ _ i i.nesting
     (λ known its.
     applied_within operator entry.result wider.result (known_of code entry operand) (known_of code wider operand)
     known its i.result (both_into _ _ (operand_within code entry wider operand i)))
-    (λ known its w. apply_marks entry.mark wider.mark operator (constant_of code operand) i.mark) h g
-after_into (words.Transform function) code entry wider after other i h g =
+    (λ known its w. apply_marks entry.mark wider.mark operator (constant_of code operand) i.mark) h.1 g.1
+after_into (words.Transform function) code place entry wider after other i h g =
     gives_into entry wider after other entry.nesting wider.nesting _ _ _ _ i i.nesting
     (λ known its. transformed_within function entry.result wider.result known its i.result)
     (λ known its w. function_marks entry.mark wider.mark function i.mark) h g
-after_into (words.Store negated variable) code entry wider after other i h g =
+after_into (words.Store negated variable) code place entry wider after other i h g =
     writes_into entry wider after other variable _ _ i
     (λ known its.
     stored_within negated entry.result wider.result (type_of_variable code variable) known its i.result) h.1 g.1
-after_into (words.Set variable) code entry wider after other i h g = into_of entry wider after other h.2 g.2 i
-after_into (words.Reset variable) code entry wider after other i h g = into_of entry wider after other h.2 g.2 i
-after_into (words.Pass port block operand) code entry wider after other i h g =
-    passes_into entry wider after other _ _ i h.1 g.1
-after_into (words.Call block) code entry wider after other i h g =
-    into_of _ _ after other h.1 g.1 (record { slots = i.slots; result = tt; mark = tt; nesting = i.nesting })
-after_into (words.Open operator) code entry wider after other i h g =
+after_into (words.Set variable) code place entry wider after other i h g = into_of entry wider after other h.2 g.2 i
+after_into (words.Reset variable) code place entry wider after other i h g = into_of entry wider after other h.2 g.2 i
+after_into (words.Pass port block operand) code place entry wider after other i h g =
+    passes_into entry wider after other _ _ i h.2 g.2
+after_into (words.Call block) code place entry wider after other i h g =
+    into_of _ _ after other h.2 g.2 (record { slots = i.slots; result = tt; mark = tt; nesting = i.nesting })
+after_into (words.Open operator) code place entry wider after other i h g =
     opens_into entry wider after other operator entry.result wider.result i i.result h g
-after_into words.Close code entry wider after other i h g =
+after_into words.Close code place entry wider after other i h g =
     closes_into entry wider after other entry.nesting wider.nesting i i.nesting h g
-after_into (words.Jump condition target) code entry wider after other i h g = absurd h
+after_into (words.Jump condition target) code place entry wider after other i h g = absurd h
+after_into (words.Give operand slot) code place entry wider after other i h g =
+    gives_slot_into entry wider after other slot _ _ i
+    (λ known its.
+    stored_within false (known_of code entry operand) (known_of code wider operand)
+    (type_of_variable code (variables.Slot slot)) known its
+    (both_into _ _ (operand_within code entry wider operand i))) h.2 g.2
+after_into (words.Invoke function) code place entry wider after other i h g =
+    returned_into code entry wider after other function i h g

@@ -24,7 +24,7 @@ use Rattle.ilranges.specs.declared.entry.Entry.{Entry}
 use Rattle.ilranges.specs.declared.known.Known.{Known}
 use Rattle.ilranges.specs.declared.known.Known.TheVariants as knowns
 use Rattle.ilranges.specs.declared.nesting.KnownOpened.{KnownOpened}
-use Rattle.ilranges.specs.Operands.{known_of, type_of_variable, may_write}
+use Rattle.ilranges.specs.Operands.{known_of, type_of_variable, in_programs, may_name, may_set, may_write}
 use Rattle.ilranges.specs.Functions.{IsAfterFunction}
 use Rattle.ilranges.specs.Knowns.{IsKnown}
 use Rattle.ilranges.specs.Refusals as refusals
@@ -54,12 +54,13 @@ modified_takes negated known after h a =
     let e = y.1 in
     let k : ⊥ = cc in k
 
-pub loaded_lawful : (negated : Bool) (operand : Option Known) (known : Known) → rules.IsLoaded negated operand known
-    → (cause : Cause) → ¬ refusals.ArisesAtLoad negated operand cause
-loaded_lawful negated None known h cause a = absurd h
-loaded_lawful negated (Some operand) known h causes.WrongType a = modified_takes negated operand known h a
-loaded_lawful negated (Some operand) known h causes.BadSlot a = let k : ⊥ = cc in k
-loaded_lawful negated (Some operand) known h _ a = a
+pub loaded_lawful : (negated : Bool) (operand : Option Known) (named : Bool) (known : Known) → IsTrue named
+    → rules.IsLoaded negated operand known → (cause : Cause) → ¬ refusals.ArisesAtLoad negated operand named cause
+loaded_lawful negated None named known t h cause a = absurd h
+loaded_lawful negated (Some operand) named known t h causes.WrongType a = modified_takes negated operand known h a
+loaded_lawful negated (Some operand) named known t h causes.BadSlot (inl n) = let k : ⊥ = cc in k
+loaded_lawful negated (Some operand) named known t h causes.BadSlot (inr n) = n t
+loaded_lawful negated (Some operand) named known t h _ a = a
 
 stored_takes : (negated : Bool) (known stored : Known) (type : IlType) → rules.IsModified negated known stored
     → ((v : Value) → IsKnown v stored → IsOf v type) → ¬ refusals.IsWrongForStore negated (Some known) (Some type)
@@ -109,18 +110,21 @@ stored_lawful negated (Some known) (Some type) writable stored w h (causes.OutOf
 stored_lawful negated (Some known) (Some type) writable stored w h causes.BadSlot a = may_be_written type writable w a
 stored_lawful negated (Some known) (Some type) writable stored w h _ a = a
 
-pub passed_lawful : (operand : Option Known) (type : Option IlType) (writable : Bool) (stored : Known)
-    → IsTrue writable → rules.IsStored false operand type stored → (cause : Cause)
-    → ¬ refusals.ArisesAtPass operand type writable cause
-passed_lawful None type writable stored w h cause a = absurd h
-passed_lawful (Some known) None writable stored w h cause a = absurd h
-passed_lawful (Some known) (Some type) writable stored w h causes.WrongType a =
+pub passed_lawful : (operand : Option Known) (named : Bool) (type : Option IlType) (writable : Bool) (stored : Known)
+    → IsTrue named → IsTrue writable → rules.IsStored false operand type stored → (cause : Cause)
+    → ¬ refusals.ArisesAtPass operand named type writable cause
+passed_lawful None named type writable stored t w h cause a = absurd h
+passed_lawful (Some known) named None writable stored t w h cause a = absurd h
+passed_lawful (Some known) named (Some type) writable stored t w h causes.WrongType a =
     stored_takes false known stored type h.0 h.1 a
-passed_lawful (Some known) (Some type) writable stored w h (causes.OutOfRange found allowed) a =
+passed_lawful (Some known) named (Some type) writable stored t w h (causes.OutOfRange found allowed) a =
     not_out false known stored type found allowed h.0 h.1 a
-passed_lawful (Some known) (Some type) writable stored w h causes.BadSlot (inl n) = let k : ⊥ = cc in k
-passed_lawful (Some known) (Some type) writable stored w h causes.BadSlot (inr n) = may_be_written type writable w n
-passed_lawful (Some known) (Some type) writable stored w h _ a = absurd a
+passed_lawful (Some known) named (Some type) writable stored t w h causes.BadSlot (inl (inl n)) =
+    let k : ⊥ = cc in k
+passed_lawful (Some known) named (Some type) writable stored t w h causes.BadSlot (inl (inr n)) = n t
+passed_lawful (Some known) named (Some type) writable stored t w h causes.BadSlot (inr n) =
+    may_be_written type writable w n
+passed_lawful (Some known) named (Some type) writable stored t w h _ a = absurd a
 
 -- ---- operators and functions
 
@@ -132,14 +136,15 @@ applied_lawful operator (Some l) None known h cause a = absurd h
 applied_lawful operator (Some l) (Some r) known h causes.WrongType a = refuted operator l r h.some causes.WrongType a
 applied_lawful operator (Some l) (Some r) known h cause a = refuted operator l r h.some cause a
 
-pub apply_lawful : (operator : Operator) (result operand : Option Known) (known : Known)
+pub apply_lawful : (operator : Operator) (result operand : Option Known) (named : Bool) (known : Known) → IsTrue named
     → rules.IsApplied operator result operand known → (cause : Cause)
-    → ¬ refusals.ArisesAtApply operator result operand cause
-apply_lawful operator None operand known h cause a = absurd h
-apply_lawful operator (Some l) None known h cause a = absurd h
-apply_lawful operator (Some l) (Some r) known h causes.NoResult a = let k : ⊥ = cc in k
-apply_lawful operator (Some l) (Some r) known h causes.BadSlot a = let k : ⊥ = cc in k
-apply_lawful operator (Some l) (Some r) known h cause a =
+    → ¬ refusals.ArisesAtApply operator result operand named cause
+apply_lawful operator None operand named known t h cause a = absurd h
+apply_lawful operator (Some l) None named known t h cause a = absurd h
+apply_lawful operator (Some l) (Some r) named known t h causes.NoResult a = let k : ⊥ = cc in k
+apply_lawful operator (Some l) (Some r) named known t h causes.BadSlot (inl n) = let k : ⊥ = cc in k
+apply_lawful operator (Some l) (Some r) named known t h causes.BadSlot (inr n) = n t
+apply_lawful operator (Some l) (Some r) named known t h cause a =
     applied_lawful operator (Some l) (Some r) known h cause a
 
 pub closing_lawful : (operator : Operator) (saved : Known) (result : Option Known) (known : Known)
@@ -174,9 +179,11 @@ there : (kind : Option BlockKind) → IsSome kind → ¬ IsNone kind
 there None s n = let k : ⊥ = cc in k
 there (Some kind) s n = let k : ⊥ = cc in k
 
-pub call_lawful : (kind : Option BlockKind) → IsSome kind → (cause : Cause) → ¬ refusals.ArisesAtCall kind cause
-call_lawful kind h causes.BadSlot a = there kind h a
-call_lawful kind h _ a = a
+pub call_lawful : (kind : Option BlockKind) (programs : Bool) → IsTrue programs → IsSome kind → (cause : Cause)
+    → ¬ refusals.ArisesAtCall kind programs cause
+call_lawful kind programs t h causes.BadSlot (inl n) = there kind h n
+call_lawful kind programs t h causes.BadSlot (inr n) = n t
+call_lawful kind programs t h _ a = a
 
 open_lawful : (entry after : Entry) (operator : Operator) (result : Option Known)
     → rules.Opens entry operator result after → (cause : Cause) → ¬ refusals.ArisesAtOpen result cause
@@ -192,28 +199,34 @@ close_lawful entry after (innermost ∷ nesting) h cause a =
 
 -- where a word leaves something for the next place alone no cause arises at it before its parentheses
 pub lawful_before : (code : Listing) (place : ℕ) (entry : Entry) (word : Word) (after : Entry)
-    → rules.IsEntryAfter code entry word after → (cause : Cause)
+    → rules.IsEntryAfter code place entry word after → (cause : Cause)
     → ¬ refusals.ArisesBeforeNesting code place entry word cause
 lawful_before code place entry (words.Load negated operand) after h cause a =
-    loaded_lawful negated (known_of code entry operand) h.known h.given cause a
+    loaded_lawful negated (known_of code entry operand) (may_name code place operand) h.1.known h.0 h.1.given cause a
 lawful_before code place entry (words.Apply operator operand) after h cause a =
-    apply_lawful operator entry.result (known_of code entry operand) h.known h.given cause a
+    apply_lawful operator entry.result (known_of code entry operand) (may_name code place operand) h.1.known h.0
+    h.1.given cause a
 lawful_before code place entry (words.Transform function) after h cause a =
     transformed_lawful function entry.result h.known h.given cause a
 lawful_before code place entry (words.Store negated variable) after h cause a =
-    stored_lawful negated entry.result (type_of_variable code variable) (may_write code variable) h.1.stored h.0
-    h.1.written cause a
+    stored_lawful negated entry.result (type_of_variable code variable) (may_write code place variable) h.1.stored
+    h.0 h.1.written cause a
 lawful_before code place entry (words.Set variable) after h cause a =
-    set_lawful entry.result (type_of_variable code variable) (may_write code variable) h.0 h.1 cause a
+    set_lawful entry.result (type_of_variable code variable) (may_set code place variable) h.0 h.1 cause a
 lawful_before code place entry (words.Reset variable) after h cause a =
-    set_lawful entry.result (type_of_variable code variable) (may_write code variable) h.0 h.1 cause a
+    set_lawful entry.result (type_of_variable code variable) (may_set code place variable) h.0 h.1 cause a
 lawful_before code place entry (words.Pass port block operand) after h cause a =
     let input = variables.Port port block in
-    passed_lawful (known_of code entry operand) (type_of_variable code input) (may_write code input) h.1.stored h.0
-    h.1.passed cause a
+    passed_lawful (known_of code entry operand) (may_name code place operand) (type_of_variable code input)
+    (may_write code place input) h.2.stored h.0 h.1 h.2.passed cause a
 lawful_before code place entry (words.Call block) after h cause a =
-    call_lawful (slice_get code.kinds block) h.0 cause a
+    call_lawful (slice_get code.kinds block) (in_programs code place) h.0 h.1 cause a
 lawful_before code place entry (words.Open operator) after h cause a =
     open_lawful entry after operator entry.result h cause a
 lawful_before code place entry words.Close after h cause a = close_lawful entry after entry.nesting h cause a
 lawful_before code place entry (words.Jump condition target) after h cause a = absurd h
+lawful_before code place entry (words.Give operand slot) after h cause a =
+    let given = variables.Slot slot in
+    passed_lawful (known_of code entry operand) (may_name code place operand) (type_of_variable code given)
+    (may_write code place given) h.2.stored h.0 h.1 h.2.given cause a
+lawful_before code place entry (words.Invoke function) after h cause a = a

@@ -203,7 +203,7 @@ store_to_output negated result type writable stored e h =
 
 to_pass : (known : Known) (type : IlType) (writable : Bool) (cause : Cause)
     → refusals.ArisesAtStoring false (Some known) (Some type) true cause
-    → refusals.ArisesAtPass (Some known) (Some type) writable cause
+    → refusals.ArisesAtPass (Some known) true (Some type) writable cause
 to_pass known type writable causes.WrongType a = a
 to_pass known type writable causes.NoResult a = let k : ⊥ = cc in absurd k
 to_pass known type writable (causes.OutOfRange found allowed) a = a
@@ -211,7 +211,7 @@ to_pass known type writable causes.BadSlot a = inr (not_written (Some type) writ
 to_pass known type writable _ a = absurd a
 
 from_pass : (known : Known) (type : IlType) (writable : Bool) (cause : Cause)
-    → refusals.ArisesAtPass (Some known) (Some type) writable cause
+    → refusals.ArisesAtPass (Some known) true (Some type) writable cause
     → (cause ≡ causes.BadSlot) ⊎ refusals.ArisesAtStoring false (Some known) (Some type) true cause
 from_pass known type writable causes.WrongType a = inr a
 from_pass known type writable (causes.OutOfRange found allowed) a = inr a
@@ -220,18 +220,19 @@ from_pass known type writable _ a = absurd a
 
 pub pass_refused : (known : Known) (type : IlType) (writable : Bool) (cause : Cause)
     → IsLeastCause (refusals.ArisesAtStoring false (Some known) (Some type) true) cause
-    → IsLeastCause (refusals.ArisesAtPass (Some known) (Some type) writable) cause
+    → IsLeastCause (refusals.ArisesAtPass (Some known) true (Some type) writable) cause
 pass_refused known type writable cause l =
     beside (refusals.ArisesAtStoring false (Some known) (Some type) true)
-    (refusals.ArisesAtPass (Some known) (Some type) writable) cause (to_pass known type writable cause)
+    (refusals.ArisesAtPass (Some known) true (Some type) writable) cause (λ a. a) (λ a. a)
+    (to_pass known type writable cause)
     (from_pass known type writable) l
 
 pub pass_to_output : (known stored : Known) (type : IlType) (writable : Bool) → writable ≡ false
     → rules.IsStored false (Some known) (Some type) stored
-    → IsLeastCause (refusals.ArisesAtPass (Some known) (Some type) writable) causes.BadSlot
+    → IsLeastCause (refusals.ArisesAtPass (Some known) true (Some type) writable) causes.BadSlot
 pass_to_output known stored type writable e h =
     alone (refusals.ArisesAtStoring false (Some known) (Some type) true)
-    (refusals.ArisesAtPass (Some known) (Some type) writable) (inr (inr (not_writable writable e)))
+    (refusals.ArisesAtPass (Some known) true (Some type) writable) (inr (inr (not_writable writable e)))
     (stored_lawful false (Some known) (Some type) true stored refl h) (from_pass known type writable)
 
 -- where the operand or the input is missing, nothing is of a wrong type
@@ -245,23 +246,23 @@ no_input_wrong knowns.Bool a = a (values.Bool true) (values.Bool true) tt refl t
 no_input_wrong (knowns.Int r) a = a (values.Int r.lo) (values.Int r.lo) tt refl tt
 
 no_operand_least : (type : Option IlType) (writable : Bool) (cause : Cause)
-    → refusals.ArisesAtPass None type writable cause → refusal_number causes.BadSlot ≤ refusal_number cause
+    → refusals.ArisesAtPass None true type writable cause → refusal_number causes.BadSlot ≤ refusal_number cause
 no_operand_least type writable causes.WrongType a = absurd (no_operand_wrong type a)
 no_operand_least type writable (causes.OutOfRange found allowed) a = absurd a
 no_operand_least type writable causes.BadSlot a = omega arith
 no_operand_least type writable _ a = absurd a
 
 pub no_operand_passed : (type : Option IlType) (writable : Bool)
-    → IsLeastCause (refusals.ArisesAtPass None type writable) causes.BadSlot
-no_operand_passed type writable = record { arises = inl refl; least = no_operand_least type writable }
+    → IsLeastCause (refusals.ArisesAtPass None true type writable) causes.BadSlot
+no_operand_passed type writable = record { arises = inl (inl refl); least = no_operand_least type writable }
 
 no_input_least : (known : Known) (writable : Bool) (cause : Cause)
-    → refusals.ArisesAtPass (Some known) None writable cause → refusal_number causes.BadSlot ≤ refusal_number cause
+    → refusals.ArisesAtPass (Some known) true None writable cause → refusal_number causes.BadSlot ≤ refusal_number cause
 no_input_least known writable causes.WrongType a = absurd (no_input_wrong known a)
 no_input_least known writable (causes.OutOfRange found allowed) a = absurd a
 no_input_least known writable causes.BadSlot a = omega arith
 no_input_least known writable _ a = absurd a
 
 pub no_input_passed : (known : Known) (writable : Bool)
-    → IsLeastCause (refusals.ArisesAtPass (Some known) None writable) causes.BadSlot
+    → IsLeastCause (refusals.ArisesAtPass (Some known) true None writable) causes.BadSlot
 no_input_passed known writable = record { arises = inr (inl refl); least = no_input_least known writable }

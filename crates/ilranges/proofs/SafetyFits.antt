@@ -13,7 +13,7 @@ use Rattle.ilranges.specs.Knowns.{IsKnown, IsKnownWithin, known_of_type}
 use Rattle.ilranges.specs.Entries.{IsResultInto, IsOpenedInto}
 use Rattle.ilranges.specs.Fits.{IsResultKnown, IsOpenedKnown}
 use Rattle.ilranges.specs.Marks.{IsMarked, IsMarkInto}
-use Rattle.ilranges.specs.Safety.{IsFitAtStart, IsFitWider}
+use Rattle.ilranges.specs.Safety.{IsFitAtStart, IsFitAtCall, IsFitWider, IsFitWithoutResult}
 use Rattle.ilranges.proofs.Knowns.{known_wider, of_known}
 use Rattle.ilranges.proofs.Lists.{zip_through}
 
@@ -66,3 +66,16 @@ fit_start code store a = record {
   mark = tt;
   nesting = tt;
 }
+
+pub fit_call : IsFitAtCall
+fit_call code place store calls a = record {
+  typed = a;
+  slots = all_known store.slots code.slots a.slots;
+  result = tt;
+  mark = tt;
+  nesting = tt;
+}
+
+pub fit_without : IsFitWithoutResult
+fit_without code entry c f =
+    record { typed = f.typed; slots = f.slots; result = tt; mark = tt; nesting = f.nesting }

@@ -153,7 +153,9 @@ if_true code c entry target ways true f l n r h =
     record {
       to = goes_to c target;
       is = met_is code c IfTrue target true l n (ap (holds IfTrue) r);
-      leads = inr (record { lawful = l; is = refl });
+      calls = refl;
+      leads = inr l;
+      kept = inl refl;
       after = t.after;
       way = inl (refl, t.is);
       fits = placed code c t.after target t.fits;
@@ -163,7 +165,9 @@ if_true code c entry target ways false f l n r h =
     record {
       to = goes_to c (c.place + 1);
       is = met_is code c IfTrue target false l n (ap (holds IfTrue) r);
+      calls = refl;
       leads = inl refl;
+      kept = inl refl;
       after = t.after;
       way = inr (refl, t.is);
       fits = placed code c t.after (c.place + 1) t.fits;
@@ -177,7 +181,9 @@ if_false code c entry target ways false f l n r h =
     record {
       to = goes_to c target;
       is = met_is code c IfFalse target true l n (ap (holds IfFalse) r);
-      leads = inr (record { lawful = l; is = refl });
+      calls = refl;
+      leads = inr l;
+      kept = inl refl;
       after = t.after;
       way = inl (refl, t.is);
       fits = placed code c t.after target t.fits;
@@ -187,7 +193,9 @@ if_false code c entry target ways true f l n r h =
     record {
       to = goes_to c (c.place + 1);
       is = met_is code c IfFalse target false l n (ap (holds IfFalse) r);
+      calls = refl;
       leads = inl refl;
+      kept = inl refl;
       after = t.after;
       way = inr (refl, t.is);
       fits = placed code c t.after (c.place + 1) t.fits;
@@ -202,7 +210,9 @@ pub jump_goes : (code : Listing) (c : Configuration) (entry : Entry) (condition 
 jump_goes code c entry Always target ways f l n none wrong h = record {
   to = goes_to c target;
   is = jump_is code c Always target l n;
-  leads = record { lawful = l; is = refl };
+  calls = refl;
+  leads = inr l;
+  kept = inl refl;
   after = entry;
   way = inl (refl, h.0);
   fits = placed code c entry target f;

@@ -14,7 +14,7 @@ use Rattle.iltypes.specs.declared.function.Function.TheVariants as functions
 use Rattle.iltypes.specs.declared.operator.Operator.{Operator}
 use Rattle.iltypes.specs.Comparisons.{compares, turned}
 use Rattle.iltypes.specs.Functions.{modified, value_of_function}
-use Rattle.iltypes.specs.Operators.{both, number}
+use Rattle.iltypes.specs.Operators.{both}
 use Rattle.iltypes.proofs.Comparisons.{has_outcome, has_opposite_outcome}
 use Rattle.ilblocks.specs.Stores.{Store}
 use Rattle.ilcode.specs.declared.word.WordOperand.{WordOperand}

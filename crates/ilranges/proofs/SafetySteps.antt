@@ -1,19 +1,18 @@
--- Where a word has a rule the step is defined, and what is known after the word holds where the step leads.
-use Rattle.std.proofs.Common.{◌≡◌, ℕ, ◌+◌, ◌<◌, Bool, true, false, cond, List, [], ◌∷◌, length}
+-- Where a word has a rule it is defined, what is known after it holds where it leads, and nothing stays open at an end.
+use Rattle.std.proofs.Common.{◌≡◌, ℕ, zero, suc, ◌+◌, ◌<◌, Bool, true, false, List, [], ◌∷◌, ◌++◌, length}
 use Rattle.std.proofs.Common.{Option, Some, None, refl, sym, ap, ◌∙◌, subst, arith, ◌⊎◌, inl, inr}
-use Rattle.std.specs.Prelude.{ℤ, IsTrue, slice_get, ◌==◌}
-use Rattle.std.specs.Option.{option_and_then}
+use Rattle.std.specs.Prelude.{ℤ, IsTrue, slice_get, map, ◌==◌, ◌||◌}
+use Rattle.std.specs.List.{list_any}
 use Rattle.std.proofs.lemmas.Bool.Decides.{nat_tests}
 use Rattle.std.proofs.lemmas.Slice.Zip.{AllZip-long}
 use Rattle.iltypes.specs.declared.condition.Condition.{Condition}
 use Rattle.iltypes.specs.declared.condition.Condition.TheVariants.{Always, IfTrue, IfFalse}
 use Rattle.iltypes.specs.declared.operator.Operator.{Operator}
-use Rattle.ilcode.specs.declared.nesting.Opened.{Opened}
+use Rattle.ilcode.specs.declared.function.FunctionBody.{FunctionBody}
 use Rattle.ilcode.specs.declared.word.Word.{Word}
 use Rattle.ilcode.specs.declared.word.Word.TheVariants as words
-use Rattle.ilcode.specs.Listings.{Listing}
-use Rattle.ilcode.specs.Paths.{LeadsTo}
-use Rattle.ilcode.specs.Steps.{Configuration, is_start, if_closed, entered, step_by}
+use Rattle.ilcode.specs.Listings.{Listing, start_or, end_of}
+use Rattle.ilcode.specs.Steps.{Configuration, is_start}
 use Rattle.ilranges.specs.declared.cause.Cause.TheVariants as causes
 use Rattle.ilranges.specs.declared.entry.Entry.{Entry}
 use Rattle.ilranges.specs.declared.known.Known.{Known}
@@ -21,13 +20,20 @@ use Rattle.ilranges.specs.declared.known.Known.TheVariants as knowns
 use Rattle.ilranges.specs.declared.mark.ResultMark.{ResultMark}
 use Rattle.ilranges.specs.declared.mark.ResultMark.TheVariants.{Copy, Test}
 use Rattle.ilranges.specs.declared.nesting.KnownOpened.{KnownOpened}
-use Rattle.ilranges.specs.Entries.{arriving}
 use Rattle.ilranges.specs.Fits.{IsOpenedKnown, Fits}
 use Rattle.ilranges.specs.Refusals.{open_after, HasToClose}
 use Rattle.ilranges.specs.Rules.{Ways, IsEntryAfter, IsTested, IsRefined, AreJumped, AreWaysOf, IsWay, IsRule}
-use Rattle.ilranges.specs.Safety.{IsSafeAt}
+use Rattle.ilranges.specs.Safety.{IsClosedThere, IsSafeAt}
 use Rattle.ilranges.proofs.WordParentheses.{after_count}
 use Rattle.ilranges.proofs.SafetyWords.{sound}
+
+or_left : (a b : Bool) → IsTrue a → IsTrue (a || b)
+or_left true b h = refl
+or_left false b h = let k : ⊥ = cc in absurd k
+
+or_right : (a b : Bool) → IsTrue b → IsTrue (a || b)
+or_right true b h = refl
+or_right false b h = h
 
 -- ---- at the end of a program nothing is open
 
@@ -69,7 +75,7 @@ on_a_way target place to ways after (inr w) = inr w.1
 
 -- how many are open on a way
 way_count : (code : Listing) (entry after : Entry) (place to : ℕ) (word : Word) (ways : Ways)
-    → AreWaysOf code entry word ways → IsWay word place ways to after
+    → AreWaysOf code place entry word ways → IsWay word place ways to after
     → length after.nesting ≡ open_after word (length entry.nesting)
 way_count code entry after place to (words.Jump condition target) ways h w =
     ap (λ (n : List KnownOpened). length n)
@@ -78,7 +84,7 @@ way_count code entry after place to word ways h w =
     let n = h.next in
     let m = w.1 in
     let p : after ≡ h.after = cc in
-    after_count code entry word after (subst (IsEntryAfter code entry word) (sym p) h.leaves)
+    after_count code place entry word after (subst (IsEntryAfter code place entry word) (sym p) h.leaves)
 
 has_to_close : (code : Listing) (place to : ℕ) (met : Bool) (word : Word) (ways : Ways) (after : Entry)
     → IsWay word place ways to after → IsTrue (is_start code to) ⊎ (to ≡ length code.instructions)
@@ -88,7 +94,7 @@ has_to_close code place to met word ways after w (inl s) =
     inl (subst (λ (p : ℕ). IsTrue (is_start code p)) w.0 s)
 has_to_close code place to met word ways after w (inr e) = inr (inl (sym w.0 ∙ e))
 
-closed_at_end : (code : Listing) (met : Bool) (entry after : Entry) (ways : Ways) (c to : Configuration)
+pub closed_at_end : (code : Listing) (met : Bool) (entry after : Entry) (ways : Ways) (c to : Configuration)
     (word : Word) → IsRule code c.place met entry word ways → IsWay word c.place ways to.place after
     → Fits code after to → IsTrue (is_start code to.place) ⊎ (to.place ≡ length code.instructions)
     → to.nesting ≡ []
@@ -103,50 +109,45 @@ closed_at_end code met entry after ways c to word rule way fits ends =
           (inl (some, has_to_close code c.place to.place met word ways after way ends)))
     ] long
 
+-- ---- where bodies begin and end
+
+any_last : (p : ℕ → Bool) (xs : List ℕ) (fs : List FunctionBody) (n : ℕ) (f : FunctionBody)
+    → slice_get fs n ≡ Some f → IsTrue (p f.start) → IsTrue (list_any p (xs ++ map (λ (g : FunctionBody). g.start) fs))
+any_last p [] [] n f e t = absurd (cc)
+any_last p [] (g ∷ fs) zero f e t =
+    let q : g ≡ f = cc in
+    or_left (p g.start) _ (subst (λ (h : FunctionBody). IsTrue (p h.start)) (sym q) t)
+any_last p [] (g ∷ fs) (suc n) f e t = or_right (p g.start) _ (any_last p [] fs n f e t)
+any_last p (x ∷ xs) fs n f e t = or_right (p x) _ (any_last p xs fs n f e t)
+
+-- a body ends where a function begins, or behind the last word
+end_is : (code : Listing) (body : ℕ)
+    → IsTrue (is_start code (end_of code body)) ⊎ (end_of code body ≡ length code.instructions)
+end_is code body = by_function (slice_get code.functions body) refl
+  where
+    by_function : (o : Option FunctionBody) → slice_get code.functions body ≡ o
+        → IsTrue (is_start code (start_or o (length code.instructions)))
+        ⊎ (start_or o (length code.instructions) ≡ length code.instructions)
+    by_function None e = inr refl
+    by_function (Some f) e =
+        let same : IsTrue (f.start == f.start) = grind (arith, nat_tests) in
+        inl (any_last (λ start. start == f.start) code.starts code.functions body f e same)
+
+pub closed_there : (code : Listing) (met : Bool) (entry after : Entry) (ways : Ways) (c to : Configuration)
+    (word : Word) → IsRule code c.place met entry word ways → IsWay word c.place ways to.place after
+    → Fits code after to → IsClosedThere code to
+closed_there code met entry after ways c to word rule way fits =
+    let closed = closed_at_end code met entry after ways c to word rule way fits in
+    record {
+      start = λ s. closed (inl s);
+      end = λ body e.
+          closed
+          (subst (λ (p : ℕ). IsTrue (is_start code p) ⊎ (p ≡ length code.instructions)) (sym e) (end_is code body));
+    }
+
 -- ---- the step
 
--- what is entered, where nothing is open at the end of a program
-pub record Enters (code : Listing) (c : Configuration) (o : Option Configuration) (after : Entry) : Type 0 where
-  pub to : Configuration
-  pub is : o ≡ Some to
-  pub place : to.place ≡ c.place
-  pub fits : Fits code after to
-
-closed_enters : (code : Listing) (c : Configuration) (after : Entry) (nesting : List Opened) → nesting ≡ []
-    → Fits code after c → Enters code c (if_closed nesting c) after
-closed_enters code c after [] e f = record { to = c; is = refl; place = refl; fits = f }
-closed_enters code c after (x ∷ xs) e f = absurd (cc)
-
-enters_by : (code : Listing) (c : Configuration) (after : Entry) (starts ends : Bool)
-    → (IsTrue starts → c.nesting ≡ []) → (ends ≡ true → c.nesting ≡ []) → Fits code after c
-    → Enters code c (cond starts (if_closed c.nesting (record c { result = None }))
-    (cond ends (if_closed c.nesting c) (Some c)))
-    (cond starts (record after { result = None; mark = None }) after)
-enters_by code c after true ends s e f =
-    let i = closed_enters code (record c { result = None }) (record after { result = None; mark = None }) c.nesting
-    (s refl)
-    (record { typed = f.typed; slots = f.slots; result = tt; mark = tt; nesting = f.nesting }) in
-    record { to = i.to; is = i.is; place = i.place; fits = i.fits }
-enters_by code c after false true s e f = closed_enters code c after c.nesting (e refl) f
-enters_by code c after false false s e f = record { to = c; is = refl; place = refl; fits = f }
-
-enters : (code : Listing) (c : Configuration) (after : Entry)
-    → (IsTrue (is_start code c.place) ⊎ (c.place ≡ length code.instructions) → c.nesting ≡ []) → Fits code after c
-    → Enters code c (entered code c) (arriving code c.place after)
-enters code c after h f =
-    enters_by code c after (is_start code c.place) (c.place == length code.instructions) (λ s. h (inl s))
-    (λ e. h (inr (grind (arith, nat_tests)))) f
-
 pub safe : (word : Word) → IsSafeAt word
-safe word code met entry ways c le w rule f =
-    let g = sound word code met entry ways c le rule f in
-    let e = enters code g.to g.after (closed_at_end code met entry g.after ways c g.to word rule g.way g.fits)
-    g.fits in
-    record {
-      to = e.to;
-      is = ap (step_by code c) w ∙ ap (option_and_then (entered code)) g.is ∙ e.is;
-      leads = subst (λ (p : ℕ). LeadsTo code word c.place p) (sym e.place) g.leads;
-      after = g.after;
-      way = subst (λ (p : ℕ). IsWay word c.place ways p g.after) (sym e.place) g.way;
-      fits = subst (λ (p : ℕ). Fits code (arriving code p g.after) e.to) (sym e.place) e.fits;
-    }
+safe word code met entry ways c le other rule f =
+    let g = sound word code met entry ways c le other rule f in
+    record { goes = g; closed = closed_there code met entry g.after ways c g.to word rule g.way g.fits }

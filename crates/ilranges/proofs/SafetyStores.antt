@@ -1,9 +1,9 @@
 -- Words that store to a variable or call a block are defined where they have a rule, and leave what it says: other
 -- variables stay, and all is in its type.
 use Rattle.std.proofs.Common.{◌≡◌, ℕ, zero, suc, ◌+◌, Bool, true, false, List, [], ◌∷◌, Option, Some, None, refl, sym}
-use Rattle.std.proofs.Common.{ap, ◌∙◌, subst}
-use Rattle.std.specs.Prelude.{◌≤◌, IsTrue, IsSome, slice_get, slice_set}
-use Rattle.std.specs.List.{AllZip}
+use Rattle.std.proofs.Common.{ap, ◌∙◌, subst, inl, inr}
+use Rattle.std.specs.Prelude.{◌≤◌, ◌&&◌, ◌||◌, IsTrue, IsSome, slice_get, slice_set}
+use Rattle.std.specs.List.{AllZip, list_any}
 use Rattle.std.specs.Option.{option_and_then}
 use Rattle.iltypes.specs.declared.value.IlType.{IlType}
 use Rattle.iltypes.specs.declared.value.IlType.TheVariants as types
@@ -19,7 +19,7 @@ use Rattle.ilcode.specs.declared.word.WordOperand.{WordOperand}
 use Rattle.ilcode.specs.declared.word.Target.{Target}
 use Rattle.ilcode.specs.declared.word.Target.TheVariants as variables
 use Rattle.ilcode.specs.declared.word.Word.TheVariants as words
-use Rattle.ilcode.specs.Listings.{Listing, shape_of}
+use Rattle.ilcode.specs.Listings.{Listing, shape_of, body_at}
 use Rattle.ilcode.specs.Steps.{Configuration, at, value_of, stored_at, with_store, sets, calls, effect}
 use Rattle.ilblocks.specs.declared.kind.BlockKind.{BlockKind}
 use Rattle.ilblocks.specs.Ports.{port_type, input_type}
@@ -28,15 +28,20 @@ use Rattle.ilranges.specs.declared.entry.Entry.{Entry}
 use Rattle.ilranges.specs.declared.known.Known.{Known}
 use Rattle.ilranges.specs.declared.known.Known.TheVariants as knowns
 use Rattle.ilranges.specs.declared.mark.ResultMark.{ResultMark}
-use Rattle.ilranges.specs.Operands.{known_of, type_of_variable, may_write}
+use Rattle.ilranges.specs.Operands.{known_of, type_of_variable, is_own, is_input, is_before, may_set, may_write}
 use Rattle.ilranges.specs.Fits.{IsResultKnown, Fits}
 use Rattle.ilranges.specs.Knowns.{IsKnown}
 use Rattle.ilranges.specs.Marks.{IsMarked}
-use Rattle.ilranges.specs.Rules.{IsStored, MaySet, with_stored, Writes, Passes}
+use Rattle.ilranges.specs.Rules.{IsStored, MaySet, with_stored, Writes, Passes, GivesSlot}
+use Rattle.ilranges.specs.Safety.{AreKept}
 use Rattle.ilranges.proofs.SafetyValues.{operand_known, modified_has, result_of_operand}
 use Rattle.ilranges.proofs.SafetyMarks.{store_marked, truth_marked}
 
 -- ---- inputs and block instances
+
+second_of : (a b : Bool) → IsTrue (a && b) → IsTrue b
+second_of true b h = h
+second_of false b h = let k : ⊥ = cc in absurd k
 
 there : {A : Type 0} (o : Option A) → IsSome o → (x : A) × (o ≡ Some x)
 there None h = absurd (cc)
@@ -88,11 +93,13 @@ call_keeps shape s block le h i =
 
 -- ---- what a word leaves
 
--- the effect is defined, at the next place, and is as the entry says
+-- the effect is defined, at the next place of the body, is as the entry says, and writes no slot but one that it may
 pub record Leaves (code : Listing) (c : Configuration) (effect : Option Configuration) (after : Entry) : Type 0 where
   pub to : Configuration
   pub is : effect ≡ Some to
   pub leads : to.place ≡ c.place + 1
+  pub calls : to.calls ≡ c.calls
+  pub kept : AreKept code c.place c.store.slots to.store.slots
   pub fits : Fits code after to
 
 -- ---- words that store to a variable
@@ -108,16 +115,20 @@ set_known (v ∷ vs) (x ∷ xs) (suc slot) value known h k = (h.0, set_known vs 
 
 -- a value of its type is stored to a slot, of which this is known then
 slot_leaves : (code : Listing) (entry after : Entry) (c : Configuration) (slot : ℕ) (value : Value) (type : IlType)
-    (slots : List Known) → Fits code entry c → slice_get code.slots slot ≡ Some type → IsOf value type
+    (slots : List Known) (mark : Option ResultMark) → Fits code entry c
+    → IsTrue (may_write code c.place (variables.Slot slot)) → slice_get code.slots slot ≡ Some type → IsOf value type
     → AllZip IsKnown (slice_set c.store.slots slot value) slots
-    → IsMarked (slice_set c.store.slots slot value) c.result entry.mark → after ≡ record entry { slots = slots }
+    → IsMarked (slice_set c.store.slots slot value) c.result mark → after ≡ record entry { slots = slots; mark = mark }
     → Leaves code c (with_store c (stored_at code c.store (variables.Slot slot) value)) after
-slot_leaves code entry after c slot value type slots f e o k m p =
-    let to = at (c.place + 1) (record c.store { slots = slice_set c.store.slots slot value }) c.result c.nesting in
+slot_leaves code entry after c slot value type slots mark f w e o k m p =
+    let store = record c.store { slots = slice_set c.store.slots slot value } in
+    let to = at (c.place + 1) store c.result c.nesting c.calls in
     record {
       to = to;
       is = ap (with_store c) (is_with_slot (shape_of code) c.store slot value type e o);
       leads = refl;
+      calls = refl;
+      kept = inr (record { slot = slot; value = value; may = w; is = refl });
       fits = subst (λ (e : Entry). Fits code e to) (sym p) (record {
         typed = record {
           slots = set_typed c.store.slots code.slots slot value type f.typed.slots e o;
@@ -133,17 +144,20 @@ slot_leaves code entry after c slot value type slots f e o k m p =
 
 -- a value of its type is stored to an input, of which no more is known then
 port_leaves : (code : Listing) (entry after : Entry) (c : Configuration) (block port : ℕ) (value : Value)
-    (type : IlType) (mark : Option ResultMark) → Fits code entry c → IsTrue (may_write code (variables.Port port block))
+    (type : IlType) (mark : Option ResultMark) → Fits code entry c
+    → IsTrue (may_write code c.place (variables.Port port block))
     → type_of_port (shape_of code) block port ≡ Some type → IsOf value type → IsMarked c.store.slots c.result mark
     → after ≡ record entry { mark = mark }
     → Leaves code c (with_store c (stored_at code c.store (variables.Port port block) value)) after
 port_leaves code entry after c block port value type mark f w e o m p =
-    let t = port_keeps (shape_of code) c.store block port value type f.typed w e o in
-    let to = at (c.place + 1) t.to c.result c.nesting in
+    let t = port_keeps (shape_of code) c.store block port value type f.typed (second_of _ _ w) e o in
+    let to = at (c.place + 1) t.to c.result c.nesting c.calls in
     record {
       to = to;
       is = ap (with_store c) t.is;
       leads = refl;
+      calls = refl;
+      kept = inl t.slots;
       fits = subst (λ (e : Entry). Fits code e to) (sym p) (record {
         typed = t.typed;
         slots = subst (λ (slots : List Value). AllZip IsKnown slots entry.slots) (sym t.slots) f.slots;
@@ -173,12 +187,12 @@ stored_has code variable negated (Some x) (Some result) (Some type) known e p h 
     record { v = m.v; is = m.is; lies = m.lies; type = type; declared = e; of = h.1 m.v m.lies }
 
 writes_value : (code : Listing) (entry after : Entry) (c : Configuration) (variable : Target) (negated : Bool)
-    (value : Value) (type : IlType) (known : Known) → Fits code entry c → IsTrue (may_write code variable)
+    (value : Value) (type : IlType) (known : Known) → Fits code entry c → IsTrue (may_write code c.place variable)
     → type_of_variable code variable ≡ Some type → IsOf value type → IsKnown value known
     → option_and_then (modified negated) c.result ≡ Some value → after ≡ with_stored entry variable known
     → Leaves code c (with_store c (stored_at code c.store variable value)) after
 writes_value code entry after c (variables.Slot slot) negated value type known f w e o k h p =
-    slot_leaves code entry after c slot value type (slice_set entry.slots slot known) f e o
+    slot_leaves code entry after c slot value type (slice_set entry.slots slot known) entry.mark f w e o
     (set_known c.store.slots entry.slots slot value known f.slots k)
     (store_marked c.store.slots code.slots c.result entry.mark slot negated value type f.typed.slots e o h f.mark) p
 writes_value code entry after c (variables.Port port block) negated value type known f w e o k h p =
@@ -194,7 +208,7 @@ on_value code after c variable value v e l =
     (sym e) l
 
 pub writes : (code : Listing) (entry after : Entry) (c : Configuration) (variable : Target) (negated : Bool)
-    → Fits code entry c → IsTrue (may_write code variable)
+    → Fits code entry c → IsTrue (may_write code c.place variable)
     → Writes entry variable (IsStored negated entry.result (type_of_variable code variable)) after
     → Leaves code c (effect code c (words.Store negated variable)) after
 writes code entry after c variable negated f w g =
@@ -203,14 +217,14 @@ writes code entry after c variable negated f w g =
     on_value code after c variable _ h.v h.is
     (writes_value code entry after c variable negated h.v h.type g.stored f w h.declared h.of h.lies h.is g.is)
 
--- ---- arguments and calls
+-- ---- arguments, GIVE and calls of blocks
 
 unmodified : (x : Option Value) → option_and_then (modified false) x ≡ x
 unmodified None = refl
 unmodified (Some x) = refl
 
 pub passes : (code : Listing) (entry after : Entry) (c : Configuration) (operand : WordOperand) (block port : ℕ)
-    → Fits code entry c → IsTrue (may_write code (variables.Port port block))
+    → Fits code entry c → IsTrue (may_write code c.place (variables.Port port block))
     → Passes entry (IsStored false (known_of code entry operand) (type_of_port (shape_of code) block port)) after
     → Leaves code c (effect code c (words.Pass port block operand)) after
 passes code entry after c operand block port f w g =
@@ -221,16 +235,31 @@ passes code entry after c operand block port f w g =
     on_value code after c input value h.v (sym (unmodified value) ∙ h.is)
     (port_leaves code entry after c block port h.v h.type None f w h.declared h.of tt g.is)
 
+pub gives_slot : (code : Listing) (entry after : Entry) (c : Configuration) (operand : WordOperand) (slot : ℕ)
+    → Fits code entry c → IsTrue (may_write code c.place (variables.Slot slot))
+    → GivesSlot entry slot (IsStored false (known_of code entry operand) (slice_get code.slots slot)) after
+    → Leaves code c (effect code c (words.Give operand slot)) after
+gives_slot code entry after c operand slot f w g =
+    let given = variables.Slot slot in
+    let value = value_of code c.store operand in
+    let h = stored_has code given false value (known_of code entry operand) (type_of_variable code given) g.stored refl
+    (result_of_operand _ _ (operand_known code entry c operand f)) g.given in
+    on_value code after c given value h.v (sym (unmodified value) ∙ h.is)
+    (slot_leaves code entry after c slot h.v h.type (slice_set entry.slots slot g.stored) None f w h.declared h.of
+    (set_known c.store.slots entry.slots slot h.v g.stored f.slots h.lies) tt g.is)
+
 pub calls_by : (code : Listing) (entry after : Entry) (c : Configuration) (block : ℕ) → 1 ≤ code.buses
     → Fits code entry c → IsSome (slice_get code.kinds block) → after ≡ record entry { result = None; mark = None }
     → Leaves code c (calls c (called (shape_of code) c.store block)) after
 calls_by code entry after c block le f i p =
     let t = call_keeps (shape_of code) c.store block le f.typed i in
-    let to = at (c.place + 1) t.to None c.nesting in
+    let to = at (c.place + 1) t.to None c.nesting c.calls in
     record {
       to = to;
       is = ap (calls c) t.is;
       leads = refl;
+      calls = refl;
+      kept = inl t.slots;
       fits = subst (λ (e : Entry). Fits code e to) (sym p) (record {
         typed = t.typed;
         slots = subst (λ (slots : List Value). AllZip IsKnown slots entry.slots) (sym t.slots) f.slots;
@@ -279,29 +308,44 @@ truth_known (v ∷ vs) (t ∷ ts) (k ∷ ks) zero b a e h =
 truth_known (v ∷ vs) (t ∷ ts) (k ∷ ks) (suc slot) b a e h = (h.0, truth_known vs ts ks slot b a.1 e h.1)
 
 sets_by : (code : Listing) (entry after : Entry) (c : Configuration) (variable : Target) (truth b outcome : Bool)
-    → Fits code entry c → IsTrue (may_write code variable) → c.result ≡ Some (values.Bool outcome)
+    → Fits code entry c → IsTrue (may_write code c.place variable) → c.result ≡ Some (values.Bool outcome)
     → type_of_variable code variable ≡ Some types.Bool → after ≡ entry
     → Leaves code c (sets code c variable truth (Some (values.Bool b))) after
 sets_by code entry after c variable truth false outcome f w r e p = record {
-  to = at (c.place + 1) c.store c.result c.nesting;
+  to = at (c.place + 1) c.store c.result c.nesting c.calls;
   is = refl;
   leads = refl;
-  fits = subst (λ (e : Entry). Fits code e (at (c.place + 1) c.store c.result c.nesting)) (sym p)
+  calls = refl;
+  kept = inl refl;
+  fits = subst (λ (e : Entry). Fits code e (at (c.place + 1) c.store c.result c.nesting c.calls)) (sym p)
       (record { typed = f.typed; slots = f.slots; result = f.result; mark = f.mark; nesting = f.nesting });
 }
 sets_by code entry after c (variables.Slot slot) truth true outcome f w r e p =
-    slot_leaves code entry after c slot (values.Bool truth) types.Bool entry.slots f e tt
+    slot_leaves code entry after c slot (values.Bool truth) types.Bool entry.slots entry.mark f w e tt
     (truth_known c.store.slots code.slots entry.slots slot truth f.typed.slots e f.slots)
     (truth_marked c.store.slots code.slots c.result entry.mark slot truth outcome f.typed.slots e r f.mark) p
 sets_by code entry after c (variables.Port port block) truth true outcome f w r e p =
     port_leaves code entry after c block port (values.Bool truth) types.Bool entry.mark f w e tt f.mark p
 
+-- what may be set may be written
+or_left : (a b : Bool) → IsTrue a → IsTrue (a || b)
+or_left true b h = refl
+or_left false b h = absurd (cc)
+
+may_write_set : (code : Listing) (place : ℕ) (variable : Target) → IsTrue (may_set code place variable)
+    → IsTrue (may_write code place variable)
+may_write_set code place (variables.Slot slot) h =
+    or_left (is_own code (body_at code place) slot)
+    (is_before code (body_at code place) slot && list_any (is_input slot) code.functions) h
+may_write_set code place (variables.Port port block) h = h
+
 pub sets_all : (code : Listing) (entry after : Entry) (c : Configuration) (variable : Target) (truth : Bool)
-    → Fits code entry c → IsTrue (may_write code variable)
+    → Fits code entry c → IsTrue (may_set code c.place variable)
     → MaySet entry.result (type_of_variable code variable) → after ≡ entry
     → Leaves code c (sets code c variable truth c.result) after
 sets_all code entry after c variable truth f w h p =
     let type = type_of_variable code variable in
     let t = truth_of c.result entry.result type f.result h in
     subst (λ (v : Option Value). Leaves code c (sets code c variable truth v) after) (sym t.1)
-    (sets_by code entry after c variable truth t.0 t.0 f w t.1 (bool_slot entry.result type h) p)
+    (sets_by code entry after c variable truth t.0 t.0 f (may_write_set code c.place variable w) t.1
+    (bool_slot entry.result type h) p)

@@ -26,12 +26,12 @@ use Rattle.ilranges.specs.Knowns.{IsKnown}
 use Rattle.ilranges.specs.Marks.{IsMarked, mark_of_load, constant_of, mark_of_apply, mark_of_function}
 use Rattle.ilranges.specs.Refusals.{open_after}
 use Rattle.ilranges.specs.Rules.{IsApplied, Gives, Opens, Closes, IsEntryAfter, unmarked}
-use Rattle.ilranges.specs.Safety.{IsSoundAt}
+use Rattle.ilranges.specs.Safety.{IsNoInvoke, IsSoundAt}
 use Rattle.ilranges.proofs.SafetyJumps.{jump_goes}
 use Rattle.ilranges.proofs.SafetyMarks.{load_marked, apply_marked, function_marked}
 use Rattle.ilranges.proofs.SafetyValues.{Has, operand_known, loaded_has, applied_has, result_of_operand}
 use Rattle.ilranges.proofs.SafetyValues.{transformed_has}
-use Rattle.ilranges.proofs.SafetyStores.{Leaves, writes, passes, calls_by, sets_all}
+use Rattle.ilranges.proofs.SafetyStores.{Leaves, writes, passes, gives_slot, calls_by, sets_all}
 
 -- ---- words that leave a current result
 
@@ -48,10 +48,12 @@ gives : (code : Listing) (entry after : Entry) (c : Configuration) (nesting : Li
 gives code entry after c nesting waits mark_of IsGiven value f n has marked g =
     let h = has g.known g.given in
     record {
-      to = at (c.place + 1) c.store (Some h.v) nesting;
+      to = at (c.place + 1) c.store (Some h.v) nesting c.calls;
       is = ap (with_result c nesting) h.is;
       leads = refl;
-      fits = subst (λ (e : Entry). Fits code e (at (c.place + 1) c.store (Some h.v) nesting)) (sym g.is)
+      calls = refl;
+      kept = inl refl;
+      fits = subst (λ (e : Entry). Fits code e (at (c.place + 1) c.store (Some h.v) nesting c.calls)) (sym g.is)
           (record {
             typed = f.typed;
             slots = f.slots;
@@ -69,12 +71,14 @@ opens_by : (code : Listing) (entry after : Entry) (c : Configuration) (operator 
 opens_by code entry after c operator result None f room k h = absurd h
 opens_by code entry after c operator None (Some known) f room k h = absurd k
 opens_by code entry after c operator (Some value) (Some known) f room k h =
-    let to = at (c.place + 1) c.store None (opened operator value ∷ c.nesting) in
+    let to = at (c.place + 1) c.store None (opened operator value ∷ c.nesting) c.calls in
     let test : nat_lt (length c.nesting) most_nesting ≡ true = grind (arith, nat_tests) in
     record {
       to = to;
       is = ap (λ (b : Bool). cond b (Some to) None) test;
       leads = refl;
+      calls = refl;
+      kept = inl refl;
       fits = subst (λ (e : Entry). Fits code e to) (sym h) (record {
         typed = f.typed;
         slots = f.slots;
@@ -97,39 +101,44 @@ closes_by code entry after c (o ∷ os) (x ∷ xs) f n h =
 
 -- ---- each word
 
-leaves : (code : Listing) (entry after : Entry) (c : Configuration) (word : Word) → 1 ≤ code.buses
-    → ¬ (most_nesting < open_after word (length entry.nesting)) → IsEntryAfter code entry word after
+leaves : (code : Listing) (entry after : Entry) (c : Configuration) (word : Word) → 1 ≤ code.buses → IsNoInvoke word
+    → ¬ (most_nesting < open_after word (length entry.nesting)) → IsEntryAfter code c.place entry word after
     → Fits code entry c → Leaves code c (effect code c word) after
-leaves code entry after c (words.Load negated operand) le n h f =
+leaves code entry after c (words.Load negated operand) le other n h f =
     gives code entry after c c.nesting entry.nesting (mark_of_load negated operand) _ _ f f.nesting
     (λ known. loaded_has negated (value_of code c.store operand) (known_of code entry operand) known
-    (operand_known code entry c operand f)) (λ known v. load_marked code c.store negated operand known v) h
-leaves code entry after c (words.Apply operator operand) le n h f =
+    (operand_known code entry c operand f)) (λ known v. load_marked code c.store negated operand known v) h.1
+leaves code entry after c (words.Apply operator operand) le other n h f =
     gives code entry after c c.nesting entry.nesting
     (λ known. mark_of_apply entry.mark operator (constant_of code operand)) _ _ f f.nesting
     (λ known. applied_has operator c.result (value_of code c.store operand) entry.result (known_of code entry operand)
     known f.result (result_of_operand _ _ (operand_known code entry c operand f)))
-    (λ known v e k. apply_marked code c.store c.result entry.mark operator operand v f.mark e) h
-leaves code entry after c (words.Transform function) le n h f =
+    (λ known v e k. apply_marked code c.store c.result entry.mark operator operand v f.mark e) h.1
+leaves code entry after c (words.Transform function) le other n h f =
     gives code entry after c c.nesting entry.nesting (λ known. mark_of_function entry.mark function) _ _ f f.nesting
     (λ known. transformed_has function c.result entry.result known f.result)
     (λ known v e k. function_marked c.store.slots c.result entry.mark function v f.mark e) h
-leaves code entry after c (words.Store negated variable) le n h f =
+leaves code entry after c (words.Store negated variable) le other n h f =
     writes code entry after c variable negated f h.0 h.1
-leaves code entry after c (words.Set variable) le n h f = sets_all code entry after c variable true f h.0 h.1 h.2
-leaves code entry after c (words.Reset variable) le n h f = sets_all code entry after c variable false f h.0 h.1 h.2
-leaves code entry after c (words.Pass port block operand) le n h f =
-    passes code entry after c operand block port f h.0 h.1
-leaves code entry after c (words.Call block) le n h f = calls_by code entry after c block le f h.0 h.1
-leaves code entry after c (words.Open operator) le n h f =
+leaves code entry after c (words.Set variable) le other n h f = sets_all code entry after c variable true f h.0 h.1 h.2
+leaves code entry after c (words.Reset variable) le other n h f =
+    sets_all code entry after c variable false f h.0 h.1 h.2
+leaves code entry after c (words.Pass port block operand) le other n h f =
+    passes code entry after c operand block port f h.1 h.2
+leaves code entry after c (words.Call block) le other n h f = calls_by code entry after c block le f h.1 h.2
+leaves code entry after c (words.Open operator) le other n h f =
     let l = AllZip-long IsOpenedKnown c.nesting entry.nesting f.nesting in
     let room : length c.nesting < most_nesting = elim (cases_lt (length c.nesting) most_nesting) [
       | inl lt ↦ lt
       | inr ge ↦ absurd (n (omega arith))
     ] in
     opens_by code entry after c operator c.result entry.result f room f.result h
-leaves code entry after c words.Close le n h f = closes_by code entry after c c.nesting entry.nesting f f.nesting h
-leaves code entry after c (words.Jump condition target) le n h f = absurd h
+leaves code entry after c words.Close le other n h f =
+    closes_by code entry after c c.nesting entry.nesting f f.nesting h
+leaves code entry after c (words.Jump condition target) le other n h f = absurd h
+leaves code entry after c (words.Give operand slot) le other n h f =
+    gives_slot code entry after c operand slot f h.1 h.2
+leaves code entry after c (words.Invoke function) le other n h f = absurd other
 
 -- nothing is open where a jump stands
 nothing_open : (opens : List Opened) (waits : List KnownOpened) → AllZip IsOpenedKnown opens waits
@@ -143,12 +152,21 @@ lawful_target true n = refl
 lawful_target false n = absurd (n (λ h. let k : ⊥ = cc in k))
 
 pub sound : (word : Word) → IsSoundAt word
-sound (words.Jump condition target) code met entry ways c le rule f =
+sound (words.Jump condition target) code met entry ways c le other rule f =
     jump_goes code c entry condition target ways f
     (lawful_target (is_target code c.place target) (rule.lawful causes.BadJump))
     (nothing_open c.nesting entry.nesting f.nesting (λ s. rule.lawful causes.OpenNesting (inl (s, tt))))
     (rule.lawful causes.NoResult) (rule.lawful causes.WrongType) rule.leaves
-sound word code met entry ways c le rule f =
+sound word code met entry ways c le other rule f =
     let g = rule.leaves in
-    let l = leaves code entry g.after c word le (λ s. rule.lawful causes.OpenNesting (inr s)) g.leaves f in
-    record { to = l.to; is = l.is; leads = l.leads; after = g.after; way = (l.leads, g.next); fits = l.fits }
+    let l = leaves code entry g.after c word le other (λ s. rule.lawful causes.OpenNesting (inr s)) g.leaves f in
+    record {
+      to = l.to;
+      is = l.is;
+      calls = l.calls;
+      leads = inl l.leads;
+      kept = l.kept;
+      after = g.after;
+      way = (l.leads, g.next);
+      fits = l.fits;
+    }

@@ -29,11 +29,11 @@ use Rattle.ilranges.proofs.RuleLawful.{lawful_before}
 -- ---- what is judged
 
 -- a word that leads to the next place alone
-pub onward : (IsAfter : Entry → Type 0) (entry : Entry) (changes : Changes) (change : Change)
-    → changes.next ≡ Some change → changes.target ≡ None → IsAfter (changed entry change)
-    → AreOnward IsAfter (ways_of entry changes)
-onward IsAfter entry changes change n t h = record {
-  after = changed entry change;
+pub onward : (IsAfter : Entry → Type 0) (code : Listing) (entry : Entry) (changes : Changes) (change : Change)
+    → changes.next ≡ Some change → changes.target ≡ None → IsAfter (changed code entry change)
+    → AreOnward IsAfter (ways_of code entry changes)
+onward IsAfter code entry changes change n t h = record {
+  after = changed code entry change;
   leaves = h;
   next = rw n refl;
   target = rw t refl;
@@ -45,7 +45,7 @@ judged_lawful code place entry (words.Jump condition target) ways h cause a = h.
 judged_lawful code place entry word ways h cause a = lawful_before code place entry word h.after h.leaves cause a
 
 judged_ways : (code : Listing) (place : ℕ) (entry : Entry) (word : Word) (ways : Ways)
-    → IsJudged code place entry word ways → AreWaysOf code entry word ways
+    → IsJudged code place entry word ways → AreWaysOf code place entry word ways
 judged_ways code place entry (words.Jump condition target) ways h = h.1
 judged_ways code place entry word ways h = h
 
@@ -87,6 +87,8 @@ closed_before code place entry (words.Call block) a = a
 closed_before code place entry (words.Open operator) a = a
 closed_before code place entry words.Close a = close_closed entry.nesting entry.result a
 closed_before code place entry (words.Jump condition target) a = condition_closed condition entry.result a
+closed_before code place entry (words.Give operand slot) a = a
+closed_before code place entry (words.Invoke function) a = a
 
 -- the word's own causes arise at it
 to_word : (code : Listing) (place : ℕ) (met : Bool) (entry : Entry) (word : Word) (cause : Cause)
@@ -111,13 +113,13 @@ at_least code place met entry word bound h l cause a = h cause a
 -- the least cause is that, or one of the word's own with a lower number
 pub open_refused : (code : Listing) (place : ℕ) (met : Bool) (entry : Entry) (word : Word)
     (judged : Result Changes Cause) → StaysOpen code place met word (open_after word (length entry.nesting))
-    → MatchResult judged (λ changes. IsJudged code place entry word (ways_of entry changes))
+    → MatchResult judged (λ changes. IsJudged code place entry word (ways_of code entry changes))
     (IsLeastCause (ArisesBeforeNesting code place entry word))
     → IsLeastCause (ArisesAtWord code place met entry word) (least_beside judged)
 open_refused code place met entry word (Ok changes) s h = record {
   arises = s;
   least = λ other a.
-      let e = no_other code place met entry word (judged_lawful code place entry word (ways_of entry changes) h)
+      let e = no_other code place met entry word (judged_lawful code place entry word (ways_of code entry changes) h)
       other a in
       omega (arith, ap refusal_number (sym e));
 }
@@ -161,12 +163,12 @@ to_before code place met entry word cause n a = a
 -- the rule is what is judged, and the least cause is the least of the word's own
 pub closed_ruled : (code : Listing) (place : ℕ) (met : Bool) (entry : Entry) (word : Word)
     (judged : Result Changes Cause) → ¬ StaysOpen code place met word (open_after word (length entry.nesting))
-    → MatchResult judged (λ changes. IsJudged code place entry word (ways_of entry changes))
+    → MatchResult judged (λ changes. IsJudged code place entry word (ways_of code entry changes))
     (IsLeastCause (ArisesBeforeNesting code place entry word))
-    → MatchResult judged (λ changes. IsRule code place met entry word (ways_of entry changes))
+    → MatchResult judged (λ changes. IsRule code place met entry word (ways_of code entry changes))
     (IsLeastCause (ArisesAtWord code place met entry word))
 closed_ruled code place met entry word (Ok changes) n h =
-    is_rule code place met entry word (ways_of entry changes) n h
+    is_rule code place met entry word (ways_of code entry changes) n h
 closed_ruled code place met entry word (Err cause) n h = record {
   arises = to_word code place met entry word cause h.arises;
   least = λ other a. h.least other (to_before code place met entry word other n a);

@@ -24,20 +24,23 @@ open_count : (entry after : Entry) (operator : Operator) (result : Option Known)
 open_count entry after operator None h = absurd h
 open_count entry after operator (Some saved) h = ap (λ (e : Entry). length e.nesting) h ∙ omega arith
 
-pub after_count : (code : Listing) (entry : Entry) (word : Word) (after : Entry)
-    → IsEntryAfter code entry word after → length after.nesting ≡ open_after word (length entry.nesting)
-after_count code entry (words.Load negated operand) after h = ap (λ (e : Entry). length e.nesting) h.is
-after_count code entry (words.Apply operator operand) after h = ap (λ (e : Entry). length e.nesting) h.is
-after_count code entry (words.Transform function) after h = ap (λ (e : Entry). length e.nesting) h.is
-after_count code entry (words.Store negated (Slot slot)) after h = ap (λ (e : Entry). length e.nesting) h.1.is
-after_count code entry (words.Store negated (Port port block)) after h = ap (λ (e : Entry). length e.nesting) h.1.is
-after_count code entry (words.Set variable) after h = ap (λ (e : Entry). length e.nesting) h.2
-after_count code entry (words.Reset variable) after h = ap (λ (e : Entry). length e.nesting) h.2
-after_count code entry (words.Pass port block operand) after h = ap (λ (e : Entry). length e.nesting) h.1.is
-after_count code entry (words.Call block) after h = ap (λ (e : Entry). length e.nesting) h.1
-after_count code entry (words.Open operator) after h = open_count entry after operator entry.result h
-after_count code entry words.Close after h = close_count entry after entry.nesting h
-after_count code entry (words.Jump condition target) after h = absurd h
+pub after_count : (code : Listing) (place : ℕ) (entry : Entry) (word : Word) (after : Entry)
+    → IsEntryAfter code place entry word after → length after.nesting ≡ open_after word (length entry.nesting)
+after_count code place entry (words.Load negated operand) after h = ap (λ (e : Entry). length e.nesting) h.1.is
+after_count code place entry (words.Apply operator operand) after h = ap (λ (e : Entry). length e.nesting) h.1.is
+after_count code place entry (words.Transform function) after h = ap (λ (e : Entry). length e.nesting) h.is
+after_count code place entry (words.Store negated (Slot slot)) after h = ap (λ (e : Entry). length e.nesting) h.1.is
+after_count code place entry (words.Store negated (Port port block)) after h =
+    ap (λ (e : Entry). length e.nesting) h.1.is
+after_count code place entry (words.Set variable) after h = ap (λ (e : Entry). length e.nesting) h.2
+after_count code place entry (words.Reset variable) after h = ap (λ (e : Entry). length e.nesting) h.2
+after_count code place entry (words.Pass port block operand) after h = ap (λ (e : Entry). length e.nesting) h.2.is
+after_count code place entry (words.Call block) after h = ap (λ (e : Entry). length e.nesting) h.2
+after_count code place entry (words.Open operator) after h = open_count entry after operator entry.result h
+after_count code place entry words.Close after h = close_count entry after entry.nesting h
+after_count code place entry (words.Jump condition target) after h = absurd h
+after_count code place entry (words.Give operand slot) after h = ap (λ (e : Entry). length e.nesting) h.2.is
+after_count code place entry (words.Invoke function) after h = ap (λ (e : Entry). length e.nesting) h
 
 -- ---- jumps that lead to the next place
 
@@ -57,15 +60,15 @@ closed_at code place met other ways after f e o (inr (inr j)) =
     ]
 
 has_to_close : (code : Listing) (place : ℕ) (met other : Bool) (entry : Entry) (word : Word) (ways : Ways)
-    → IsMetOrClosed met other ways → AreWaysOf code entry word ways
+    → IsMetOrClosed met other ways → AreWaysOf code place entry word ways
     → 0 < open_after word (length entry.nesting) → HasToClose code place other word → HasToClose code place met word
 has_to_close code place met other entry (words.Jump condition target) ways f h o c = tt
 has_to_close code place met other entry word ways f h o c =
-    let n = after_count code entry word h.after h.leaves in
+    let n = after_count code place entry word h.after h.leaves in
     closed_at code (place + 1) met other ways h.after f h.next (omega (arith, n, o)) c
 
 stays_open : (code : Listing) (place : ℕ) (met other : Bool) (entry : Entry) (word : Word) (ways : Ways)
-    → IsMetOrClosed met other ways → AreWaysOf code entry word ways
+    → IsMetOrClosed met other ways → AreWaysOf code place entry word ways
     → StaysOpen code place other word (open_after word (length entry.nesting))
     → StaysOpen code place met word (open_after word (length entry.nesting))
 stays_open code place met other entry word ways f h (inl s) =

@@ -15,6 +15,8 @@ refusal_number causes.TooBig = 8
 refusal_number causes.BadJump = 9
 refusal_number causes.TooManyRequests = 10
 refusal_number causes.BadSlot = 11
+refusal_number causes.TooLong = 12
+refusal_number causes.BadCall = 13
 
 -- of the causes that arise, this one has the least number
 pub record IsLeastCause (Arises : Cause → Type 0) (cause : Cause) : Type 0 where

@@ -9,11 +9,13 @@ use Rattle.ilranges.specs.declared.nesting.KnownOpened.{KnownOpened}
 use Rattle.ilranges.specs.Knowns.{known_of_type, IsKnownWithin}
 use Rattle.ilranges.specs.Marks.{IsMarkInto}
 
--- before the first word each slot has a value of its type, there is no current result, and nothing is open
+-- where the programs or a function begin each slot has a value of its type, there is no current result, and nothing is
+-- open
 abbrev pub opening : Listing → Entry
 opening code = record { slots = map known_of_type code.slots; result = None; mark = None; nesting = [] }
 
--- where control comes to a place there is no current result, and so no mark, if a program begins there
+-- where control comes to a place there is no current result, and so no mark, if a program or a function begins
+-- there
 abbrev pub arriving : Listing → ℕ → Entry → Entry
 arriving code place entry = if is_start code place then record entry { result = None; mark = None } else entry
 

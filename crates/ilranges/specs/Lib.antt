@@ -1,3 +1,4 @@
+pub mod CauseLaws
 pub mod Causes
 pub mod Changes
 pub mod ChunkSteps

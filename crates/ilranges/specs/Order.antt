@@ -52,8 +52,8 @@ IsWayInto (Some way) (Some wider) = IsInto way wider
 -- who knows more before the word knows more on each way from it
 abbrev pub KeepsEntryOrder : Word → Type 0
 KeepsEntryOrder word =
-    (code : Listing) (entry wider : Entry) (ways wider_ways : Ways) → IsInto entry wider
-    → AreWaysOf code entry word ways → AreWaysOf code wider word wider_ways
+    (code : Listing) (place : ℕ) (entry wider : Entry) (ways wider_ways : Ways) → IsInto entry wider
+    → AreWaysOf code place entry word ways → AreWaysOf code place wider word wider_ways
     → IsWayInto ways.next wider_ways.next × IsWayInto ways.target wider_ways.target
 
 -- what is refused where more is known is refused where less is, and where jumps lead that led there before

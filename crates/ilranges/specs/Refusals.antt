@@ -18,13 +18,12 @@ use Rattle.ilcode.specs.declared.word.Word.{Word}
 use Rattle.ilcode.specs.declared.word.Word.TheVariants as words
 use Rattle.ilcode.specs.Listings.{Listing}
 use Rattle.ilcode.specs.Steps.{is_start, is_target}
-use Rattle.ilblocks.specs.Stores.{Store}
 use Rattle.ilranges.specs.declared.cause.Cause.{Cause}
 use Rattle.ilranges.specs.declared.cause.Cause.TheVariants as causes
 use Rattle.ilranges.specs.declared.entry.Entry.{Entry}
 use Rattle.ilranges.specs.declared.known.Known.{Known}
 use Rattle.ilranges.specs.declared.nesting.KnownOpened.{KnownOpened}
-use Rattle.ilranges.specs.Operands.{known_of, type_of_variable, may_write}
+use Rattle.ilranges.specs.Operands.{known_of, type_of_variable, in_programs, may_name, may_set, may_write}
 use Rattle.ilranges.specs.Functions.{ArisesAtFunction}
 use Rattle.ilranges.specs.Knowns.{IsOfKind, known_of_type, ArisesAtStore}
 use Rattle.ilranges.specs.Results.{Arises}
@@ -62,11 +61,15 @@ IsWrongForSet result type = ¬ MayBe (values.Bool true) result ⊎ ¬ MayTake ty
 
 -- ---- the causes of each word, but for parentheses that stay open
 
--- LD, LDN
-abbrev pub ArisesAtLoad : Bool → Option Known → Cause → Type 0
-ArisesAtLoad negated operand causes.WrongType = IsWrongForLoad negated operand
-ArisesAtLoad negated operand causes.BadSlot = IsNone operand
-ArisesAtLoad negated operand _ = ⊥
+-- the operand isn't in its table, or may not be named here
+abbrev pub IsNotNamed : Option Known → Bool → Type 0
+IsNotNamed operand named = IsNone operand ⊎ ¬ IsTrue named
+
+-- LD, LDN, of an operand that may be named or not
+abbrev pub ArisesAtLoad : Bool → Option Known → Bool → Cause → Type 0
+ArisesAtLoad negated operand named causes.WrongType = IsWrongForLoad negated operand
+ArisesAtLoad negated operand named causes.BadSlot = IsNotNamed operand named
+ArisesAtLoad negated operand named _ = ⊥
 
 -- an operator on what is known of two values
 abbrev pub ArisesAtOperator : Operator → Option Known → Option Known → Cause → Type 0
@@ -75,10 +78,10 @@ ArisesAtOperator operator (Some left) (Some right) cause = Arises operator left 
 ArisesAtOperator operator _ _ cause = ⊥
 
 -- an operator with its operand
-abbrev pub ArisesAtApply : Operator → Option Known → Option Known → Cause → Type 0
-ArisesAtApply operator result operand causes.NoResult = IsNone result
-ArisesAtApply operator result operand causes.BadSlot = IsNone operand
-ArisesAtApply operator result operand cause = ArisesAtOperator operator result operand cause
+abbrev pub ArisesAtApply : Operator → Option Known → Option Known → Bool → Cause → Type 0
+ArisesAtApply operator result operand named causes.NoResult = IsNone result
+ArisesAtApply operator result operand named causes.BadSlot = IsNotNamed operand named
+ArisesAtApply operator result operand named cause = ArisesAtOperator operator result operand cause
 
 -- NOT, ABS, a conversion
 abbrev pub ArisesAtTransform : Function → Option Known → Cause → Type 0
@@ -91,7 +94,7 @@ abbrev pub IsOutOfSlot : Option Known → Option IlType → Range → Range → 
 IsOutOfSlot (Some result) (Some type) found allowed = ArisesAtStore result type (causes.OutOfRange found allowed)
 IsOutOfSlot _ _ found allowed = ⊥
 
--- what is stored to isn't in its table, or is an output
+-- what is stored to isn't in its table, or may not be written here: an output, or what a body may not name
 abbrev pub IsNotWritten : Option IlType → Bool → Type 0
 IsNotWritten type writable = IsNone type ⊎ ¬ IsTrue writable
 
@@ -110,17 +113,21 @@ ArisesAtSet result type writable causes.NoResult = IsNone result
 ArisesAtSet result type writable causes.BadSlot = IsNotWritten type writable
 ArisesAtSet result type writable _ = ⊥
 
--- an argument, with its operand
-abbrev pub ArisesAtPass : Option Known → Option IlType → Bool → Cause → Type 0
-ArisesAtPass operand type writable causes.WrongType = IsWrongForStore false operand type
-ArisesAtPass operand type writable (causes.OutOfRange found allowed) = IsOutOfSlot operand type found allowed
-ArisesAtPass operand type writable causes.BadSlot = IsNone operand ⊎ IsNotWritten type writable
-ArisesAtPass operand type writable _ = ⊥
+-- an argument of CAL, with its operand
+abbrev pub ArisesAtPass : Option Known → Bool → Option IlType → Bool → Cause → Type 0
+ArisesAtPass operand named type writable causes.WrongType = IsWrongForStore false operand type
+ArisesAtPass operand named type writable (causes.OutOfRange found allowed) = IsOutOfSlot operand type found allowed
+ArisesAtPass operand named type writable causes.BadSlot = IsNotNamed operand named ⊎ IsNotWritten type writable
+ArisesAtPass operand named type writable _ = ⊥
 
--- a call, of an instance of this kind
-abbrev pub ArisesAtCall : Option BlockKind → Cause → Type 0
-ArisesAtCall kind causes.BadSlot = IsNone kind
-ArisesAtCall kind _ = ⊥
+-- GIVE, with its operand and the slot that it is given to
+abbrev pub ArisesAtGive : Option Known → Bool → Option IlType → Bool → Cause → Type 0
+ArisesAtGive operand named type writable cause = ArisesAtPass operand named type writable cause
+
+-- CAL, of an instance of this kind, in the programs or not
+abbrev pub ArisesAtCall : Option BlockKind → Bool → Cause → Type 0
+ArisesAtCall kind programs causes.BadSlot = IsNone kind ⊎ ¬ IsTrue programs
+ArisesAtCall kind programs _ = ⊥
 
 -- an operator with `(`
 abbrev pub ArisesAtOpen : Option Known → Cause → Type 0
@@ -152,27 +159,34 @@ abbrev pub ArisesAtJump : Condition → Bool → Option Known → Cause → Type
 ArisesAtJump condition lawful result causes.BadJump = ¬ IsTrue lawful
 ArisesAtJump condition lawful result cause = ArisesAtCondition condition result cause
 
--- the word's own causes
+-- the word's own causes; of a function's call there are none that what is known decides
 abbrev pub ArisesBeforeNesting : Listing → ℕ → Entry → Word → Cause → Type 0
 ArisesBeforeNesting code place entry (words.Load negated operand) cause =
-    ArisesAtLoad negated (known_of code entry operand) cause
+    ArisesAtLoad negated (known_of code entry operand) (may_name code place operand) cause
 ArisesBeforeNesting code place entry (words.Apply operator operand) cause =
-    ArisesAtApply operator entry.result (known_of code entry operand) cause
+    ArisesAtApply operator entry.result (known_of code entry operand) (may_name code place operand) cause
 ArisesBeforeNesting code place entry (words.Transform function) cause = ArisesAtTransform function entry.result cause
 ArisesBeforeNesting code place entry (words.Store negated variable) cause =
-    ArisesAtStoring negated entry.result (type_of_variable code variable) (may_write code variable) cause
+    ArisesAtStoring negated entry.result (type_of_variable code variable) (may_write code place variable) cause
 ArisesBeforeNesting code place entry (words.Set variable) cause =
-    ArisesAtSet entry.result (type_of_variable code variable) (may_write code variable) cause
+    ArisesAtSet entry.result (type_of_variable code variable) (may_set code place variable) cause
 ArisesBeforeNesting code place entry (words.Reset variable) cause =
-    ArisesAtSet entry.result (type_of_variable code variable) (may_write code variable) cause
+    ArisesAtSet entry.result (type_of_variable code variable) (may_set code place variable) cause
 ArisesBeforeNesting code place entry (words.Pass port block operand) cause =
     let input = variables.Port port block in
-    ArisesAtPass (known_of code entry operand) (type_of_variable code input) (may_write code input) cause
-ArisesBeforeNesting code place entry (words.Call block) cause = ArisesAtCall (slice_get code.kinds block) cause
+    ArisesAtPass (known_of code entry operand) (may_name code place operand) (type_of_variable code input)
+    (may_write code place input) cause
+ArisesBeforeNesting code place entry (words.Call block) cause =
+    ArisesAtCall (slice_get code.kinds block) (in_programs code place) cause
 ArisesBeforeNesting code place entry (words.Open operator) cause = ArisesAtOpen entry.result cause
 ArisesBeforeNesting code place entry words.Close cause = ArisesAtClose entry.nesting entry.result cause
 ArisesBeforeNesting code place entry (words.Jump condition target) cause =
     ArisesAtJump condition (is_target code place target) entry.result cause
+ArisesBeforeNesting code place entry (words.Give operand slot) cause =
+    let given = variables.Slot slot in
+    ArisesAtGive (known_of code entry operand) (may_name code place operand) (type_of_variable code given)
+    (may_write code place given) cause
+ArisesBeforeNesting code place entry (words.Invoke function) cause = ⊥
 
 -- ---- parentheses that stay open
 
@@ -182,7 +196,7 @@ open_after (words.Open operator) count = count + 1
 open_after words.Close count = count - 1
 open_after _ count = count
 
--- nothing may be open at the place: a program begins there, the code ends, or a jump leads there
+-- nothing may be open at the place: a program or a function begins there, the code ends, or a jump leads there
 abbrev pub IsClosedAt : Listing → ℕ → Bool → Type 0
 IsClosedAt code place met = IsTrue (is_start code place) ⊎ (place ≡ length code.instructions) ⊎ IsTrue met
 

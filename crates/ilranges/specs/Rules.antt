@@ -1,6 +1,6 @@
 -- The rules of the verifier (profile): what is known after a word on each way that it leads, from what is known before
 -- it and from what the operators, functions and stores give (Results, Functions, Stores).
-use Rattle.std.specs.Prelude.{◌≡◌, ℕ, ℤ, ◌+◌, ◌⊎◌, Bool, true, false, List, [], ◌∷◌, Option, Some, None}
+use Rattle.std.specs.Prelude.{◌≡◌, ℕ, zero, suc, ℤ, ◌+◌, ◌⊎◌, Bool, true, false, List, [], ◌∷◌, Option, Some, None}
 use Rattle.std.specs.Prelude.{slice_get, slice_set, IsSome, IsTrue, ⊤}
 use Rattle.iltypes.specs.Arithmetic.{IsLeast}
 use Rattle.iltypes.specs.declared.range.Range.{Range}
@@ -17,7 +17,7 @@ use Rattle.ilcode.specs.declared.word.Target.{Target}
 use Rattle.ilcode.specs.declared.word.Target.TheVariants as variables
 use Rattle.ilcode.specs.declared.word.Word.{Word}
 use Rattle.ilcode.specs.declared.word.Word.TheVariants as words
-use Rattle.ilcode.specs.Listings.{Listing}
+use Rattle.ilcode.specs.Listings.{Listing, slots_end}
 use Rattle.ilranges.specs.declared.cause.Cause.{Cause}
 use Rattle.ilranges.specs.declared.entry.Entry.{Entry}
 use Rattle.ilranges.specs.declared.known.Known.{Known}
@@ -25,9 +25,10 @@ use Rattle.ilranges.specs.declared.known.Known.TheVariants as knowns
 use Rattle.ilranges.specs.declared.mark.ResultMark.{ResultMark}
 use Rattle.ilranges.specs.declared.mark.ResultMark.TheVariants.{Test}
 use Rattle.ilranges.specs.declared.nesting.KnownOpened.{KnownOpened}
-use Rattle.ilranges.specs.Operands.{known_of, type_of_variable, may_write}
+use Rattle.ilranges.specs.Operands.{known_of, known_of_result, type_of_variable, in_programs}
+use Rattle.ilranges.specs.Operands.{may_name, may_set, may_write}
 use Rattle.ilranges.specs.Functions.{IsAfterFunction}
-use Rattle.ilranges.specs.Knowns.{IsKnown}
+use Rattle.ilranges.specs.Knowns.{IsKnown, known_of_type}
 use Rattle.ilranges.specs.Marks.{mark_of_load, mark_of_apply, mark_of_function, constant_of}
 use Rattle.ilranges.specs.Comparisons.{IsPassing}
 use Rattle.ilranges.specs.Refusals.{ArisesAtWord}
@@ -93,6 +94,31 @@ pub record Passes (entry : Entry) (IsPassed : Known → Type 0) (after : Entry) 
   pub passed : IsPassed stored
   pub is : after ≡ record entry { mark = None }
 
+-- an operand is given to a slot, which is known as what was given from then on; the current result stays, without a
+-- mark
+pub record GivesSlot (entry : Entry) (slot : ℕ) (IsGiven : Known → Type 0) (after : Entry) : Type 0 where
+  pub stored : Known
+  pub given : IsGiven stored
+  pub is : after ≡ record entry { slots = slice_set entry.slots slot stored; mark = None }
+
+-- the slots from one number on and up to another are known by their types, the others as they were
+abbrev pub reset : ℕ → ℕ → List IlType → List Known → List Known
+reset zero (suc to) (type ∷ types) (known ∷ slots) = known_of_type type ∷ reset zero to types slots
+reset (suc from) (suc to) (type ∷ types) (known ∷ slots) = known ∷ reset from to types slots
+reset _ _ _ slots = slots
+
+-- what is known after a call of a function (that there is one is asked elsewhere): its body may have written its slots,
+-- and those of the functions before it; the current result is the function's, of which the type is known, without a
+-- mark
+abbrev pub returned : Listing → Entry → ℕ → Entry
+returned code entry function =
+    record {
+      slots = reset (slots_end code 0) (slots_end code (function + 1)) code.slots entry.slots;
+      result = known_of_result code (slice_get code.functions function);
+      mark = None;
+      nesting = entry.nesting;
+    }
+
 -- an open parenthesis
 abbrev pub waiting : Operator → Known → KnownOpened
 waiting operator saved = record { operator = operator; saved = saved }
@@ -115,31 +141,42 @@ Closes entry (innermost ∷ nesting) after =
     Gives entry nesting unmarked (IsApplied innermost.operator (Some innermost.saved) entry.result) after
 
 -- what is known after a word that leads to the next place alone, from its operand and what was known before; S and R
--- write a truth value where one was, and after a call there is no current result
-abbrev pub IsEntryAfter : Listing → Entry → Word → Entry → Type 0
-IsEntryAfter code entry (words.Load negated operand) after =
-    Gives entry entry.nesting (mark_of_load negated operand) (IsLoaded negated (known_of code entry operand)) after
-IsEntryAfter code entry (words.Apply operator operand) after =
-    Gives entry entry.nesting (λ _. mark_of_apply entry.mark operator (constant_of code operand))
+-- write a truth value where one was, and after CAL there is no current result
+abbrev pub IsEntryAfter : Listing → ℕ → Entry → Word → Entry → Type 0
+IsEntryAfter code place entry (words.Load negated operand) after =
+    IsTrue (may_name code place operand)
+    × Gives entry entry.nesting (mark_of_load negated operand) (IsLoaded negated (known_of code entry operand)) after
+IsEntryAfter code place entry (words.Apply operator operand) after =
+    IsTrue (may_name code place operand)
+    × Gives entry entry.nesting (λ _. mark_of_apply entry.mark operator (constant_of code operand))
     (IsApplied operator entry.result (known_of code entry operand)) after
-IsEntryAfter code entry (words.Transform function) after =
+IsEntryAfter code place entry (words.Transform function) after =
     Gives entry entry.nesting (λ _. mark_of_function entry.mark function) (IsTransformed function entry.result) after
-IsEntryAfter code entry (words.Store negated variable) after =
-    IsTrue (may_write code variable)
+IsEntryAfter code place entry (words.Store negated variable) after =
+    IsTrue (may_write code place variable)
     × Writes entry variable (IsStored negated entry.result (type_of_variable code variable)) after
-IsEntryAfter code entry (words.Set variable) after =
-    IsTrue (may_write code variable) × MaySet entry.result (type_of_variable code variable) × (after ≡ entry)
-IsEntryAfter code entry (words.Reset variable) after =
-    IsTrue (may_write code variable) × MaySet entry.result (type_of_variable code variable) × (after ≡ entry)
-IsEntryAfter code entry (words.Pass port block operand) after =
+IsEntryAfter code place entry (words.Set variable) after =
+    IsTrue (may_set code place variable) × MaySet entry.result (type_of_variable code variable) × (after ≡ entry)
+IsEntryAfter code place entry (words.Reset variable) after =
+    IsTrue (may_set code place variable) × MaySet entry.result (type_of_variable code variable) × (after ≡ entry)
+IsEntryAfter code place entry (words.Pass port block operand) after =
     let input = variables.Port port block in
-    IsTrue (may_write code input)
+    IsTrue (may_name code place operand)
+    × IsTrue (may_write code place input)
     × Passes entry (IsStored false (known_of code entry operand) (type_of_variable code input)) after
-IsEntryAfter code entry (words.Call block) after =
-    IsSome (slice_get code.kinds block) × (after ≡ record entry { result = None; mark = None })
-IsEntryAfter code entry (words.Open operator) after = Opens entry operator entry.result after
-IsEntryAfter code entry words.Close after = Closes entry entry.nesting after
-IsEntryAfter code entry (words.Jump condition target) after = ⊥
+IsEntryAfter code place entry (words.Call block) after =
+    IsTrue (in_programs code place)
+    × IsSome (slice_get code.kinds block)
+    × (after ≡ record entry { result = None; mark = None })
+IsEntryAfter code place entry (words.Open operator) after = Opens entry operator entry.result after
+IsEntryAfter code place entry words.Close after = Closes entry entry.nesting after
+IsEntryAfter code place entry (words.Jump condition target) after = ⊥
+IsEntryAfter code place entry (words.Give operand slot) after =
+    let given = variables.Slot slot in
+    IsTrue (may_name code place operand)
+    × IsTrue (may_write code place given)
+    × GivesSlot entry slot (IsStored false (known_of code entry operand) (type_of_variable code given)) after
+IsEntryAfter code place entry (words.Invoke function) after = after ≡ returned code entry function
 
 -- ---- ways
 
@@ -184,9 +221,9 @@ pub record AreOnward (IsAfter : Entry → Type 0) (ways : Ways) : Type 0 where
   pub target : ways.target ≡ None
 
 -- what is known on each way from the word
-abbrev pub AreWaysOf : Listing → Entry → Word → Ways → Type 0
-AreWaysOf code entry (words.Jump condition target) ways = AreJumped condition entry ways
-AreWaysOf code entry word ways = AreOnward (IsEntryAfter code entry word) ways
+abbrev pub AreWaysOf : Listing → ℕ → Entry → Word → Ways → Type 0
+AreWaysOf code place entry (words.Jump condition target) ways = AreJumped condition entry ways
+AreWaysOf code place entry word ways = AreOnward (IsEntryAfter code place entry word) ways
 
 -- the word at a place leads to another, where this is known
 abbrev pub IsWay : Word → ℕ → Ways → ℕ → Entry → Type 0
@@ -198,4 +235,4 @@ IsWay word place ways to after = (to ≡ place + 1) × (ways.next ≡ Some after
 pub record IsRule (code : Listing) (place : ℕ) (met : Bool) (entry : Entry) (word : Word) (ways : Ways)
     : Type 0 where
   pub lawful : (cause : Cause) → ¬ ArisesAtWord code place met entry word cause
-  pub leaves : AreWaysOf code entry word ways
+  pub leaves : AreWaysOf code place entry word ways

@@ -21,7 +21,7 @@ NoneArises Arising = (cause : Cause) → ¬ Arising cause
 abbrev pub IsJudged : Listing → ℕ → Entry → Word → Ways → Type 0
 IsJudged code place entry (words.Jump condition target) ways =
     NoneArises (ArisesAtJump condition (is_target code place target) entry.result) × AreJumped condition entry ways
-IsJudged code place entry word ways = AreOnward (IsEntryAfter code entry word) ways
+IsJudged code place entry word ways = AreOnward (IsEntryAfter code place entry word) ways
 
 -- the cause at a word after which a parenthesis stays open: one of its own with a lower number goes before
 abbrev pub least_beside : Result Changes Cause → Cause

@@ -33,14 +33,19 @@ pub enum Cause {
     /// A path holds more calls of request blocks than a scan may make requests.
     TooManyRequests,
     /// The word names a slot, a constant, a port or a block instance that its table does not have,
-    /// or stores to an output.
+    /// or stores to an output; or in a function it names what is not its own.
     BadSlot,
+    /// Some path has more words than a scan may take.
+    TooLong,
+    /// The function that is called is not there or not before its caller, or the call begins a
+    /// chain of too many.
+    BadCall,
 }
 
 impl Cause {
     ghost use Rattle.ilranges.specs.Causes.{refusal_number};
 
-    /// The number that is printed: 2 to 11 (profile).
+    /// The number that is printed: 2 to 13 (profile).
     pub fn number(self) -> u8
         ensures { result ≡ refusal_number self }
     {
@@ -55,6 +60,8 @@ impl Cause {
             Cause::BadJump => 9,
             Cause::TooManyRequests => 10,
             Cause::BadSlot => 11,
+            Cause::TooLong => 12,
+            Cause::BadCall => 13,
         }
     }
 }

@@ -7,6 +7,8 @@ use crate::entry::Entry;
 use crate::known::Known;
 use crate::mark::ResultMark;
 use crate::nesting::KnownOpened;
+use crate::operand::known_of_result;
+use ilcode::Code;
 use std::alloc::AllocError;
 
 /// What a word changes on one way from it.
@@ -26,6 +28,11 @@ pub enum Change {
     Open(KnownOpened),
     /// The innermost parenthesis is closed, and there is a current result, known so.
     Close(Known),
+    /// The slot of this number is known so; the current result stays, without a mark.
+    GiveSlot(usize, Known),
+    /// The function of this number was called: its slots, those of the functions before it and the
+    /// current result are known by their types.
+    Return(u16),
 }
 
 /// What a word changes on the way to the next place and on that to a jump's target; `None` where no
@@ -38,8 +45,8 @@ pub struct Changes {
 
 impl Change {
     /// Changes what is known.
-    pub fn apply(self, entry: &mut Entry) -> Result<(), AllocError>
-        ensures ok { OnOk result (entry.new ≡ changed entry.old self) }
+    pub fn apply(self, code: &Code, entry: &mut Entry) -> Result<(), AllocError>
+        ensures ok { OnOk result (entry.new ≡ changed code.now entry.old self) }
         ensures err { OnErr result (entry.new ≡ entry.old) }
     {
         match self {
@@ -62,6 +69,17 @@ impl Change {
             Change::Close(known) => {
                 entry.nesting.close();
                 entry.result = Some(known);
+                entry.mark = None;
+            }
+            Change::GiveSlot(slot, known) => {
+                entry.slots.set(slot, known)?;
+                entry.mark = None;
+            }
+            Change::Return(function) => {
+                let from = code.slots_end(0);
+                let to = code.slots_end(usize::from(function) + 1);
+                entry.slots.reset(code.slots(), from, to)?;
+                entry.result = known_of_result(code, usize::from(function));
                 entry.mark = None;
             }
         }

@@ -1,7 +1,7 @@
 //! A part of what is known of the slots, which several entries may share.
 
 ghost use Rattle.std.specs.Prelude.{◌≡◌, ◌<◌, length, slice_get, slice_set, Some};
-ghost use Rattle.std.specs.Prelude.{IfOk, OnOk, OnErr};
+ghost use Rattle.std.specs.Prelude.{IfOk, OnOk, OnErr, MatchOption};
 ghost use Rattle.std.specs.List.{AllZip};
 
 use crate::joins::{are_within, joins};
@@ -67,21 +67,25 @@ impl Chunk {
         })
     }
 
-    /// What is known where two ways meet, shared with the way that says the less, if one says no
-    /// more than the other.
-    pub(crate) fn join(&self, alloc: Global, other: &Chunk) -> Result<Chunk, AllocError>
-        requires { AllZip IsHeld self.now other.now }
-        ensures { IfOk result (λ c. AreJoins self.now other.now c) }
+    /// What is known where two ways meet, of as many slots on either, shared with the way that says
+    /// the less, if one says no more than the other; `None` where nothing holds both.
+    pub(crate) fn join(&self, alloc: Global, other: &Chunk) -> Result<Option<Chunk>, AllocError>
+        requires { length self.now ≡ length other.now }
+        ensures { IfOk result (λ made. MatchOption made
+            (¬ AllZip IsHeld self.now other.now)
+            (λ c. AreJoins self.now other.now c)) }
     {
         if are_within(&other.items, &self.items) {
-            return self.share();
+            return Ok(Some(self.share()?));
         }
         if are_within(&self.items, &other.items) {
-            return other.share();
+            return Ok(Some(other.share()?));
         }
-        let items = joins(alloc, &self.items, &other.items)?;
-        Ok(Chunk {
+        let Some(items) = joins(alloc, &self.items, &other.items)? else {
+            return Ok(None);
+        };
+        Ok(Some(Chunk {
             items: Rc::new(alloc, items)?,
-        })
+        }))
     }
 }

@@ -1,6 +1,6 @@
 //! Parts in a row.
 
-ghost use Rattle.std.specs.Prelude.{◌≡◌, IfOk};
+ghost use Rattle.std.specs.Prelude.{◌≡◌, length, IfOk, MatchOption};
 ghost use Rattle.std.specs.List.{AllZip};
 ghost use Rattle.ilranges.specs.ChunkSteps.{AreChunks, whole};
 ghost use Rattle.ilranges.specs.Joins.{AreJoins, Each, IsHeld};
@@ -36,18 +36,24 @@ pub(crate) fn share_each(alloc: Global, chunks: &[Chunk]) -> Result<Vec<Chunk>, 
     Ok(made)
 }
 
-/// The parts of what is known where two ways meet.
+/// The parts of what is known where two ways meet, of parts as long on either; `None` where nothing
+/// holds both of some.
 pub(crate) fn join_each(
     alloc: Global,
     ones: &[Chunk],
     others: &[Chunk],
-) -> Result<Vec<Chunk>, AllocError>
-    requires { AllZip (AllZip IsHeld) ones.now others.now }
-    ensures { IfOk result (λ v. Each AreJoins ones.now others.now v.items) }
+) -> Result<Option<Vec<Chunk>>, AllocError>
+    requires { AllZip (λ one other. length one ≡ length other) ones.now others.now }
+    ensures { IfOk result (λ made. MatchOption made
+        (¬ AllZip (AllZip IsHeld) ones.now others.now)
+        (λ v. Each AreJoins ones.now others.now v.items)) }
 {
     let mut made = Vec::with_capacity(alloc, ones.len())?;
     for i in 0..ones.len() {
-        made.push(ones[i].join(alloc, &others[i])?)?;
+        let Some(part) = ones[i].join(alloc, &others[i])? else {
+            return Ok(None);
+        };
+        made.push(part)?;
     }
-    Ok(made)
+    Ok(Some(made))
 }

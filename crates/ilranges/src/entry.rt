@@ -1,13 +1,12 @@
 //! What is known before a word.
 
-ghost use Rattle.std.specs.Prelude.{◌≡◌, [], IfOk, OnErr, OnOk};
-ghost use Rattle.ilranges.specs.EntrySteps.{IsResultMeeting};
+ghost use Rattle.std.specs.Prelude.{◌≡◌, [], IfOk, OnErr, OnOk, MatchOption};
+ghost use Rattle.ilranges.specs.EntrySteps.{IsMarkMeeting, IsResultMeeting};
 
 use crate::known::Known;
 use crate::mark::ResultMark;
 use crate::nesting::OpenParentheses;
 use crate::slots::Slots;
-use crate::word::is_start;
 use ilcode::Code;
 use std::alloc::{AllocError, Global};
 
@@ -28,8 +27,8 @@ impl Entry {
     ghost use Rattle.ilranges.specs.Entries.{opening, arriving};
     ghost use Rattle.ilranges.specs.Entries.{IsMeeting, MayMeet};
 
-    /// What is known before the first word: each slot has a value of its type, there is no current
-    /// result, and nothing is open.
+    /// What is known where the programs or a function begin: each slot has a value of its type,
+    /// there is no current result, and nothing is open.
     pub fn opening(alloc: Global, code: &Code) -> Result<Entry, AllocError>
         ensures { IfOk result (λ entry. entry ≡ opening code.now) }
     {
@@ -41,12 +40,12 @@ impl Entry {
         })
     }
 
-    /// What is known where control comes to the place: at the start of a program no current result,
-    /// and so no mark.
+    /// What is known where control comes to the place: at the start of a program or a function no
+    /// current result, and so no mark.
     pub fn arrive(&mut self, code: &Code, place: usize)
         ensures { self.new ≡ arriving code.now place self.old }
     {
-        if is_start(code, place) {
+        if code.is_start(place) {
             self.result = None;
             self.mark = None;
         }
@@ -64,20 +63,24 @@ impl Entry {
         })
     }
 
-    /// What is known on either way, where two ways meet.
-    pub fn join(&mut self, other: &Entry) -> Result<(), AllocError>
-        requires meeting { MayMeet self.old other.now }
-        requires closed { self.old.nesting ≡ [] }
+    /// What is known on either way, where two ways meet and nothing is open; `None` where no entry
+    /// holds both.
+    pub fn join(self, other: &Entry) -> Result<Option<Entry>, AllocError>
+        requires closed { self.nesting ≡ [] }
         requires closed_there { other.now.nesting ≡ [] }
-        ensures ok { OnOk result (IsMeeting self.old other.now self.new) }
-        ensures err { OnErr result (self.new ≡ self.old) }
+        ensures { IfOk result (λ made. MatchOption made
+            (¬ MayMeet self other.now)
+            (λ meeting. IsMeeting self other.now meeting)) }
     {
-        self.slots.join(&other.slots)?;
-        self.result = join_results(self.result, other.result);
-        if self.mark != other.mark {
-            self.mark = None;
-        }
-        Ok(())
+        let Some(slots) = self.slots.join(&other.slots)? else {
+            return Ok(None);
+        };
+        Ok(Some(Entry {
+            slots,
+            result: join_results(self.result, other.result),
+            mark: join_marks(self.mark, other.mark),
+            nesting: self.nesting,
+        }))
     }
 }
 
@@ -91,4 +94,11 @@ fn join_results(one: Option<Known>, other: Option<Known>) -> Option<Known>
         (None, _) => None,
         (_, None) => None,
     }
+}
+
+/// The mark of the current result where two ways meet: that of both, or none.
+fn join_marks(one: Option<ResultMark>, other: Option<ResultMark>) -> Option<ResultMark>
+    ensures { IsMarkMeeting one other result }
+{
+    if one != other { None } else { one }
 }

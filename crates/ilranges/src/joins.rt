@@ -1,6 +1,6 @@
 //! What is known of values where two ways meet.
 
-ghost use Rattle.std.specs.Prelude.{◌≡◌, ◌↔◌, length, IfOk, IfSome, IsNone, IsTrue};
+ghost use Rattle.std.specs.Prelude.{◌≡◌, ◌↔◌, length, IfOk, IfSome, IsNone, IsTrue, MatchOption};
 ghost use Rattle.std.specs.List.{AllZip};
 ghost use Rattle.ilranges.specs.Joins.{AreJoins, IsHeld, IsJoin};
 ghost use Rattle.ilranges.specs.JoinSteps.{AreWithin};
@@ -37,18 +37,24 @@ pub(crate) fn are_within(knowns: &[Known], wider: &[Known]) -> bool
     true
 }
 
-/// What is known of each where two ways meet.
+/// What is known of each where two ways meet, of as many on either; `None` where nothing holds both
+/// of some.
 pub(crate) fn joins(
     alloc: Global,
     ones: &[Known],
     others: &[Known],
-) -> Result<Vec<Known>, AllocError>
-    requires { AllZip IsHeld ones.now others.now }
-    ensures { IfOk result (λ v. AreJoins ones.now others.now v.items) }
+) -> Result<Option<Vec<Known>>, AllocError>
+    requires { length ones.now ≡ length others.now }
+    ensures { IfOk result (λ made. MatchOption made
+        (¬ AllZip IsHeld ones.now others.now)
+        (λ v. AreJoins ones.now others.now v.items)) }
 {
     let mut made = Vec::with_capacity(alloc, ones.len())?;
     for i in 0..ones.len() {
-        made.push(ones[i].join(others[i]).unwrap())?;
+        let Some(known) = ones[i].join(others[i]) else {
+            return Ok(None);
+        };
+        made.push(known)?;
     }
-    Ok(made)
+    Ok(Some(made))
 }

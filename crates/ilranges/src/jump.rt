@@ -2,6 +2,7 @@
 
 ghost use Rattle.std.specs.Prelude.{◌≡◌, MatchResult, slice_get};
 ghost use Rattle.std.specs.Option.{option_map};
+ghost use Rattle.ilcode.specs.Listings.{Listing};
 ghost use Rattle.ilranges.specs.Causes.{IsLeastCause};
 ghost use Rattle.ilranges.specs.Changes.{changed, ways_of};
 ghost use Rattle.ilranges.specs.Refusals.{ArisesAtCondition, ArisesAtJump};
@@ -55,8 +56,8 @@ fn test(
     limit: i64,
     outcome: bool,
 ) -> Option<Change>
-    ensures { IsTested entry.now slot comparison outcome limit (slice_get entry.now.slots slot)
-        (option_map (changed entry.now) result) }
+    ensures { (code : Listing) → IsTested entry.now slot comparison outcome limit
+        (slice_get entry.now.slots slot) (option_map (changed code entry.now) result) }
 {
     match entry.slots.get(slot) {
         Some(Known::Int(range)) => match passing(range, comparison, limit, outcome) {
@@ -70,7 +71,8 @@ fn test(
 
 /// What changes where the current result has this outcome, by its mark; `None` where it cannot.
 fn refine(entry: &Entry, outcome: bool) -> Option<Change>
-    ensures { IsRefined entry.now outcome entry.now.mark (option_map (changed entry.now) result) }
+    ensures { (code : Listing) → IsRefined entry.now outcome entry.now.mark
+        (option_map (changed code entry.now) result) }
 {
     match entry.mark {
         Some(
@@ -87,7 +89,7 @@ fn refine(entry: &Entry, outcome: bool) -> Option<Change>
 
 /// What a jump changes on each way.
 pub(crate) fn jump(entry: &Entry, condition: Condition) -> Changes
-    ensures { AreJumped condition entry.now (ways_of entry.now result) }
+    ensures { (code : Listing) → AreJumped condition entry.now (ways_of code entry.now result) }
 {
     match condition {
         Condition::Always => Changes {

@@ -32,6 +32,16 @@ impl Known {
         }
     }
 
+    /// Whether this says just that a value is of the type.
+    pub(crate) fn says(self, declared: IlType) -> bool
+        ensures { IsTrue result ↔ (self ≡ known_of_type declared) }
+    {
+        match self {
+            Known::Bool => declared == IlType::Bool,
+            Known::Int(range) => declared == IlType::Int(range),
+        }
+    }
+
     /// What is known of a constant: which value it is.
     pub fn of_value(constant: Value) -> Known
         ensures { result ≡ known_of_value constant }

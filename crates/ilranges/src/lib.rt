@@ -16,6 +16,7 @@
 #![tactic(auto)]
 
 mod cause;
+mod cause_laws;
 mod change;
 mod chunk;
 mod chunks;

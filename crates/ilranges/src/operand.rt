@@ -1,13 +1,16 @@
-//! What is known of an operand, and what a store writes.
+//! What is known of an operand, what a store writes, and what a body may name.
 
-ghost use Rattle.std.specs.Prelude.{◌≡◌};
+ghost use Rattle.std.specs.Prelude.{◌≡◌, slice_get};
+ghost use Rattle.std.specs.List.{list_any};
 ghost use Rattle.ilblocks.specs.Stores.{type_of_port, type_of_input};
-ghost use Rattle.ilcode.specs.Listings.{shape_of};
-ghost use Rattle.ilranges.specs.Operands.{known_of, type_of_variable, may_write};
+ghost use Rattle.ilcode.specs.Listings.{shape_of, body_at, slots_start};
+ghost use Rattle.ilranges.specs.Operands.{known_of, known_of_result, type_of_variable};
+ghost use Rattle.ilranges.specs.Operands.{may_name, may_set, may_write};
+ghost use Rattle.ilranges.specs.Operands.{is_own, is_input, is_before, is_writable};
 
 use crate::entry::Entry;
 use crate::known::Known;
-use ilcode::{Code, Target, WordOperand};
+use ilcode::{Code, FunctionBody, Target, WordOperand};
 use iltypes::IlType;
 
 /// The type of a port, where the code has the block instance and its kind the port.
@@ -58,12 +61,98 @@ pub(crate) fn type_of_variable(code: &Code, variable: Target) -> Option<IlType>
     }
 }
 
-/// Whether a program may write it: a variable, or an input.
-pub(crate) fn may_write(code: &Code, variable: Target) -> bool
-    ensures { result ≡ may_write code.now variable }
+/// What is known of the result of a function, where the code has it: that it is of its type.
+pub(crate) fn known_of_result(code: &Code, function: usize) -> Option<Known>
+    ensures { result ≡ known_of_result code.now (slice_get code.now.functions function) }
+{
+    match code.functions().get(function) {
+        Some(body) => {
+            code.slots()
+                .get(body.first.saturating_add(body.inputs))
+                .copied()
+                .map(Known::of)
+        }
+        None => None,
+    }
+}
+
+/// The number of a body's first slot.
+fn slots_start(code: &Code, body: usize) -> usize
+    ensures { result ≡ slots_start code.now body }
+{
+    if body == 0 {
+        0
+    } else {
+        code.slots_end(body - 1)
+    }
+}
+
+/// Whether the slot is one of the body's.
+fn is_own(code: &Code, body: usize, slot: usize) -> bool
+    ensures { result ≡ is_own code.now body slot }
+{
+    slots_start(code, body) <= slot && slot < code.slots_end(body)
+}
+
+/// Whether the slot is an input of the function.
+fn is_input(slot: usize, function: &FunctionBody) -> bool
+    ensures { result ≡ is_input slot function.now }
+{
+    function.first <= slot && slot - function.first < function.inputs
+}
+
+/// Whether the slot is an input of one of the functions.
+fn has_input(functions: &[FunctionBody], slot: usize) -> bool
+    ensures { result ≡ list_any (is_input slot) functions.now }
+{
+    functions.iter().any(|function| is_input(slot, function))
+}
+
+/// Whether the slot stands before the body's, as each does for the programs.
+fn is_before(code: &Code, body: usize, slot: usize) -> bool
+    ensures { result ≡ is_before code.now body slot }
+{
+    body == 0 || slot < slots_start(code, body)
+}
+
+/// Whether the body may write the slot: it is its own, or an input of a function that it may call.
+fn is_writable(code: &Code, body: usize, slot: usize) -> bool
+    ensures { result ≡ is_writable code.now body slot }
+{
+    is_own(code, body, slot) || is_before(code, body, slot) && has_input(code.functions(), slot)
+}
+
+/// Whether the word at the place, which is one of the body, may name the operand.
+pub(crate) fn may_name(code: &Code, place: usize, body: usize, operand: WordOperand) -> bool
+    requires { body ≡ body_at code.now place }
+    ensures { result ≡ may_name code.now place operand }
+{
+    match operand {
+        WordOperand::Slot(slot) => is_own(code, body, usize::from(slot)),
+        WordOperand::Constant(_) => true,
+        WordOperand::Port { .. } => body == 0,
+    }
+}
+
+/// Whether the word at the place, which is one of the body, may write it: a variable of these, or
+/// in the programs an input.
+pub(crate) fn may_write(code: &Code, place: usize, body: usize, variable: Target) -> bool
+    requires { body ≡ body_at code.now place }
+    ensures { result ≡ may_write code.now place variable }
 {
     match variable {
-        Target::Slot(_) => true,
-        Target::Port { port, block } => type_of_input(code, block, port).is_some(),
+        Target::Slot(slot) => is_writable(code, body, usize::from(slot)),
+        Target::Port { port, block } => body == 0 && type_of_input(code, block, port).is_some(),
+    }
+}
+
+/// Whether S and R at the place, which is one of the body, may write what is stored to.
+pub(crate) fn may_set(code: &Code, place: usize, body: usize, variable: Target) -> bool
+    requires { body ≡ body_at code.now place }
+    ensures { result ≡ may_set code.now place variable }
+{
+    match variable {
+        Target::Slot(slot) => is_own(code, body, usize::from(slot)),
+        Target::Port { .. } => may_write(code, place, body, variable),
     }
 }

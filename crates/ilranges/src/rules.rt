@@ -16,7 +16,7 @@ use iltypes::{Function, IlType, Operator};
 /// What is known under the modifier N of LDN and STN (IEC 61131-3, 3.2.2), which takes no number.
 pub(crate) fn modify(negated: bool, known: Known) -> Result<Known, Cause>
     ensures { MatchResult result
-        (IsModified negated known) (IsLeastCause (ArisesAtLoad negated (Some known))) }
+        (IsModified negated known) (IsLeastCause (ArisesAtLoad negated (Some known) true)) }
 {
     if negated {
         known.after_function(Function::Not)
@@ -25,10 +25,25 @@ pub(crate) fn modify(negated: bool, known: Known) -> Result<Known, Cause>
     }
 }
 
-/// What LD and LDN leave of an operand, which `None` stands for where its table does not have it.
-pub(crate) fn load(negated: bool, operand: Option<Known>) -> Result<Known, Cause>
+/// What LD and LDN leave of an operand, which `None` stands for where its table does not have it;
+/// `named` says whether it may be named.
+pub(crate) fn load(negated: bool, operand: Option<Known>, named: bool) -> Result<Known, Cause>
     ensures { MatchResult result
-        (IsLoaded negated operand) (IsLeastCause (ArisesAtLoad negated operand)) }
+        (λ known. IsTrue named × IsLoaded negated operand known)
+        (IsLeastCause (ArisesAtLoad negated operand named)) }
+{
+    let known = load_known(negated, operand)?;
+    if named {
+        Ok(known)
+    } else {
+        Err(Cause::BadSlot)
+    }
+}
+
+/// The same of an operand that may be named.
+fn load_known(negated: bool, operand: Option<Known>) -> Result<Known, Cause>
+    ensures { MatchResult result
+        (IsLoaded negated operand) (IsLeastCause (ArisesAtLoad negated operand true)) }
 {
     match operand {
         Some(known) => modify(negated, known),
@@ -65,15 +80,34 @@ fn if_right(right: bool, cause: Cause) -> Cause
 }
 
 /// What an operator leaves of the current result and its operand; `None` stands for what is not
-/// there.
+/// there, and `named` says whether the operand may be named.
 pub(crate) fn apply(
+    operator: Operator,
+    current: Option<Known>,
+    operand: Option<Known>,
+    named: bool,
+) -> Result<Known, Cause>
+    ensures { MatchResult result
+        (λ known. IsTrue named × IsApplied operator current operand known)
+        (IsLeastCause (ArisesAtApply operator current operand named)) }
+{
+    let known = apply_known(operator, current, operand)?;
+    if named {
+        Ok(known)
+    } else {
+        Err(Cause::BadSlot)
+    }
+}
+
+/// The same of an operand that may be named.
+fn apply_known(
     operator: Operator,
     current: Option<Known>,
     operand: Option<Known>,
 ) -> Result<Known, Cause>
     ensures { MatchResult result
         (IsApplied operator current operand)
-        (IsLeastCause (ArisesAtApply operator current operand)) }
+        (IsLeastCause (ArisesAtApply operator current operand true)) }
 {
     match (current, operand) {
         (Some(left), Some(right)) => Known::after(operator, left, right),
@@ -183,16 +217,36 @@ pub(crate) fn check_set(
     }
 }
 
-/// What an argument of CAL stores of its operand to an input of this type; `None` stands for what
-/// is not there, and `writable` says whether it is an input.
+/// What an argument of CAL stores of its operand to an input of this type, and GIVE to a slot;
+/// `None` stands for what is not there, `named` says whether the operand may be named, and
+/// `writable` whether the input or the slot may be written.
 pub(crate) fn pass(
+    operand: Option<Known>,
+    named: bool,
+    declared: Option<IlType>,
+    writable: bool,
+) -> Result<Known, Cause>
+    ensures { MatchResult result
+        (λ passed. IsTrue named × IsTrue writable × IsStored false operand declared passed)
+        (IsLeastCause (ArisesAtPass operand named declared writable)) }
+{
+    let passed = pass_known(operand, declared, writable)?;
+    if named {
+        Ok(passed)
+    } else {
+        Err(Cause::BadSlot)
+    }
+}
+
+/// The same of an operand that may be named.
+fn pass_known(
     operand: Option<Known>,
     declared: Option<IlType>,
     writable: bool,
 ) -> Result<Known, Cause>
     ensures { MatchResult result
         (λ passed. IsTrue writable × IsStored false operand declared passed)
-        (IsLeastCause (ArisesAtPass operand declared writable)) }
+        (IsLeastCause (ArisesAtPass operand true declared writable)) }
 {
     match (operand, declared) {
         (Some(known), Some(declared)) => {

@@ -1,6 +1,7 @@
 //! What is known of each slot, in parts that entries share.
 
-ghost use Rattle.std.specs.Prelude.{◌≡◌, map, slice_get, slice_set, IfOk, OnErr, OnOk};
+ghost use Rattle.std.specs.Prelude.{◌≡◌, ◌+◌, map, slice_get, slice_set, IfOk, OnErr, OnOk};
+ghost use Rattle.std.specs.Prelude.{MatchOption};
 ghost use Rattle.std.specs.List.{AllZip};
 
 use crate::chunk::Chunk;
@@ -35,6 +36,7 @@ impl Model for Slots {
 impl Slots {
     ghost use Rattle.ilranges.specs.Knowns.{known_of_type};
     ghost use Rattle.ilranges.specs.Joins.{AreJoins, IsHeld};
+    ghost use Rattle.ilranges.specs.Rules.{reset};
 
     /// What is known at first: that each value is of the slot's type.
     pub fn new(alloc: Global, types: &[IlType]) -> Result<Slots, AllocError>
@@ -74,6 +76,50 @@ impl Slots {
         }
     }
 
+    /// The slot, where there is one, is known by its type from now on. Where it is known so
+    /// already, its part stays shared.
+    fn declare(&mut self, types: &[IlType], slot: usize) -> Result<(), AllocError>
+        ensures ok { OnOk result (self.new ≡ reset slot (slot + 1) types.now self.old) }
+        ensures err { OnErr result (self.new ≡ self.old) }
+    {
+        let Some(declared) = type_at(types, slot) else {
+            return Ok(());
+        };
+        self.declare_as(slot, declared)
+    }
+
+    /// The slot, where there is one, is known by this type from now on.
+    fn declare_as(&mut self, slot: usize, declared: IlType) -> Result<(), AllocError>
+        ensures ok { OnOk result (self.new ≡ slice_set self.old slot (known_of_type declared)) }
+        ensures err { OnErr result (self.new ≡ self.old) }
+    {
+        match self.get(slot) {
+            Some(known) if known.says(declared) => Ok(()),
+            _ => self.set(slot, Known::of(declared)),
+        }
+    }
+
+    /// The same, but for the slots from one number on and up to another, which are known by their
+    /// types.
+    fn declared(&self, types: &[IlType], from: usize, to: usize) -> Result<Slots, AllocError>
+        ensures { IfOk result (λ slots. slots ≡ reset from to types.now self.now) }
+    {
+        let mut slots = self.share()?;
+        for slot in from..to {
+            slots.declare(types, slot)?;
+        }
+        Ok(slots)
+    }
+
+    /// The slots from one number on and up to another are known by their types from now on.
+    pub fn reset(&mut self, types: &[IlType], from: usize, to: usize) -> Result<(), AllocError>
+        ensures ok { OnOk result (self.new ≡ reset from to types.now self.old) }
+        ensures err { OnErr result (self.new ≡ self.old) }
+    {
+        *self = self.declared(types, from, to)?;
+        Ok(())
+    }
+
     /// The same, shared.
     pub fn share(&self) -> Result<Slots, AllocError>
         ensures { IfOk result (λ slots. slots ≡ self.now) }
@@ -85,13 +131,30 @@ impl Slots {
         })
     }
 
-    /// What is known of each slot on either way, where two ways meet.
-    pub fn join(&mut self, other: &Slots) -> Result<(), AllocError>
-        requires { AllZip IsHeld self.old other.now }
-        ensures ok { OnOk result (AreJoins self.old other.now self.new) }
-        ensures err { OnErr result (self.new ≡ self.old) }
+    /// What is known of each slot on either way, where two ways meet; `None` where nothing holds
+    /// both, or there are more slots on one.
+    pub fn join(&self, other: &Slots) -> Result<Option<Slots>, AllocError>
+        ensures { IfOk result (λ made. MatchOption made
+            (¬ AllZip IsHeld self.now other.now)
+            (λ slots. AreJoins self.now other.now slots)) }
     {
-        self.chunks = join_each(self.alloc, &self.chunks, &other.chunks)?;
-        Ok(())
+        if self.len != other.len {
+            return Ok(None);
+        }
+        let Some(chunks) = join_each(self.alloc, &self.chunks, &other.chunks)? else {
+            return Ok(None);
+        };
+        Ok(Some(Slots {
+            alloc: self.alloc,
+            chunks,
+            len: self.len,
+        }))
     }
+}
+
+/// The type of the slot, where there is one.
+fn type_at(types: &[IlType], slot: usize) -> Option<IlType>
+    ensures { result ≡ slice_get types.now slot }
+{
+    types.get(slot).copied()
 }

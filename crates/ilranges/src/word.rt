@@ -2,12 +2,13 @@
 
 ghost use Rattle.std.specs.Prelude.{◌≡◌, ◌↔◌, ◌<◌, ◌+◌, length, slice_get, Some, None};
 ghost use Rattle.std.specs.Prelude.{IsSome, IsTrue, MatchResult};
-ghost use Rattle.ilcode.specs.Steps.{is_start};
+ghost use Rattle.ilcode.specs.Listings.{Listing, body_at};
 ghost use Rattle.ilranges.specs.declared.change.Change.TheVariants.{Forget};
 ghost use Rattle.ilranges.specs.declared.entry.Entry.{Entry};
 ghost use Rattle.ilranges.specs.Causes.{IsLeastCause};
 ghost use Rattle.ilranges.specs.Changes.{changed, ways_of};
 ghost use Rattle.ilranges.specs.WordSteps.{IsJudged, least_beside};
+ghost use Rattle.ilranges.specs.Operands.{in_programs};
 ghost use Rattle.ilranges.specs.Refusals.{ArisesBeforeNesting, ArisesAtCall};
 ghost use Rattle.ilranges.specs.Refusals.{ArisesAtOpen, ArisesAtClose};
 ghost use Rattle.ilranges.specs.Refusals.{ArisesAtWord, IsClosedAt, HasToClose, StaysOpen};
@@ -21,7 +22,7 @@ use crate::jump::{check_jump, jump};
 use crate::known::Known;
 use crate::marks::{constant_of, mark_of_apply, mark_of_function, mark_of_load};
 use crate::nesting::KnownOpened;
-use crate::operand::{known_of, may_write, type_of_variable};
+use crate::operand::{known_of, may_name, may_set, may_write, type_of_variable};
 use crate::rules;
 use ilcode::{Code, Target, Word};
 use iltypes::Operator;
@@ -41,16 +42,20 @@ fn onward(change: Change) -> Changes
 /// What the word changes, or the least cause that arises at it before its parentheses.
 fn judge(code: &Code, place: usize, entry: &Entry, word: Word) -> Result<Changes, Cause>
     ensures { MatchResult result
-        (λ changes. IsJudged code.now place entry.now word (ways_of entry.now changes))
+        (λ changes. IsJudged code.now place entry.now word (ways_of code.now entry.now changes))
         (IsLeastCause (ArisesBeforeNesting code.now place entry.now word)) }
 {
+    let body = code.body_at(place);
     match word {
         Word::Load { negated, operand } => {
-            let known = rules::load(negated, known_of(code, entry, operand))?;
+            let named = may_name(code, place, body, operand);
+            let known = rules::load(negated, known_of(code, entry, operand), named)?;
             Ok(onward(Change::Give(known, mark_of_load(negated, operand, known))))
         }
         Word::Apply(operator, operand) => {
-            let known = rules::apply(operator, entry.result, known_of(code, entry, operand))?;
+            let named = may_name(code, place, body, operand);
+            let operand_known = known_of(code, entry, operand);
+            let known = rules::apply(operator, entry.result, operand_known, named)?;
             let mark = mark_of_apply(entry.mark, operator, constant_of(code, operand));
             Ok(onward(Change::Give(known, mark)))
         }
@@ -60,13 +65,14 @@ fn judge(code: &Code, place: usize, entry: &Entry, word: Word) -> Result<Changes
         }
         Word::Store { negated, variable } => {
             let declared = type_of_variable(code, variable);
-            let writable = may_write(code, variable);
+            let writable = may_write(code, place, body, variable);
             let stored = rules::store(negated, entry.result, declared, writable)?;
             Ok(onward(write(variable, stored)))
         }
         Word::Set(variable) | Word::Reset(variable) => {
             let declared = type_of_variable(code, variable);
-            rules::check_set(entry.result, declared, may_write(code, variable))?;
+            let settable = may_set(code, place, body, variable);
+            rules::check_set(entry.result, declared, settable)?;
             Ok(onward(Change::Keep))
         }
         Word::Pass {
@@ -78,12 +84,13 @@ fn judge(code: &Code, place: usize, entry: &Entry, word: Word) -> Result<Changes
             let declared = type_of_variable(code, input);
             rules::pass(
                 known_of(code, entry, operand),
+                may_name(code, place, body, operand),
                 declared,
-                may_write(code, input),
+                may_write(code, place, body, input),
             )?;
             Ok(onward(Change::Unmark))
         }
-        Word::Call(block) => Ok(onward(call(code, block)?)),
+        Word::Call(block) => Ok(onward(call(code, place, body, block)?)),
         Word::Open(operator) => Ok(onward(open(entry, operator)?)),
         Word::Close => Ok(onward(close(entry)?)),
         Word::Jump { condition, target } => {
@@ -94,12 +101,24 @@ fn judge(code: &Code, place: usize, entry: &Entry, word: Word) -> Result<Changes
             )?;
             Ok(jump(entry, condition))
         }
+        Word::Give { operand, slot } => {
+            let given = Target::Slot(slot);
+            let stored = rules::pass(
+                known_of(code, entry, operand),
+                may_name(code, place, body, operand),
+                type_of_variable(code, given),
+                may_write(code, place, body, given),
+            )?;
+            Ok(onward(Change::GiveSlot(usize::from(slot), stored)))
+        }
+        Word::Invoke(function) => Ok(onward(Change::Return(function))),
     }
 }
 
 /// What a store changes: a slot is known as what was stored, and a port as before.
 fn write(variable: Target, stored: Known) -> Change
-    ensures { (entry : Entry) → changed entry result ≡ with_stored entry variable stored }
+    ensures { (code : Listing) (entry : Entry)
+        → changed code entry result ≡ with_stored entry variable stored }
 {
     match variable {
         Target::Slot(slot) => Change::Write(usize::from(slot), stored),
@@ -107,13 +126,16 @@ fn write(variable: Target, stored: Known) -> Change
     }
 }
 
-/// What a call changes, of the block instance of this number.
-fn call(code: &Code, block: u16) -> Result<Change, Cause>
+/// What CAL changes, of the block instance of this number, at the place, which is one of the body.
+fn call(code: &Code, place: usize, body: usize, block: u16) -> Result<Change, Cause>
+    requires { body ≡ body_at code.now place }
     ensures { MatchResult result
-        (λ change. IsSome (slice_get code.now.kinds block) × (change ≡ Forget))
-        (IsLeastCause (ArisesAtCall (slice_get code.now.kinds block))) }
+        (λ change. IsTrue (in_programs code.now place)
+        × IsSome (slice_get code.now.kinds block) × (change ≡ Forget))
+        (IsLeastCause (ArisesAtCall (slice_get code.now.kinds block)
+        (in_programs code.now place))) }
 {
-    if usize::from(block) < code.kinds().len() {
+    if body == 0 && usize::from(block) < code.kinds().len() {
         Ok(Change::Forget)
     } else {
         Err(Cause::BadSlot)
@@ -123,7 +145,8 @@ fn call(code: &Code, block: u16) -> Result<Change, Cause>
 /// What an operator with `(` changes.
 fn open(entry: &Entry, operator: Operator) -> Result<Change, Cause>
     ensures { MatchResult result
-        (λ change. Opens entry.now operator entry.now.result (changed entry.now change))
+        (λ change. (code : Listing)
+        → Opens entry.now operator entry.now.result (changed code entry.now change))
         (IsLeastCause (ArisesAtOpen entry.now.result)) }
 {
     match entry.result {
@@ -135,7 +158,8 @@ fn open(entry: &Entry, operator: Operator) -> Result<Change, Cause>
 /// What `)` changes.
 fn close(entry: &Entry) -> Result<Change, Cause>
     ensures { MatchResult result
-        (λ change. Closes entry.now entry.now.nesting (changed entry.now change))
+        (λ change. (code : Listing)
+        → Closes entry.now entry.now.nesting (changed code entry.now change))
         (IsLeastCause (ArisesAtClose entry.now.nesting entry.now.result)) }
 {
     match entry.nesting.innermost() {
@@ -148,22 +172,15 @@ fn close(entry: &Entry) -> Result<Change, Cause>
     }
 }
 
-/// Whether a program begins at the place.
-pub(crate) fn is_start(code: &Code, place: usize) -> bool
-    ensures { result ≡ is_start code.now place }
-{
-    code.starts().contains(&place)
-}
-
-/// Whether nothing may be open after the place: a program begins at the next one, the code ends,
-/// or, by `met`, a jump leads there.
+/// Whether nothing may be open after the place: a program or a function begins at the next one, the
+/// code ends, or, by `met`, a jump leads there.
 fn is_closed_after(code: &Code, place: usize, met: bool) -> bool
     requires { place < length code.now.instructions }
     ensures { IsTrue result ↔ IsClosedAt code.now (place + 1) met }
 {
     let end = code.len();
     let next = place + 1;
-    is_start(code, next) || next == end || met
+    code.is_start(next) || next == end || met
 }
 
 /// Whether nothing may be open after the word at the place.
@@ -222,7 +239,7 @@ pub fn after_word(
 ) -> Result<Changes, Cause>
     requires { place < length code.now.instructions }
     ensures { MatchResult result
-        (λ changes. IsRule code.now place met entry.now word (ways_of entry.now changes))
+        (λ changes. IsRule code.now place met entry.now word (ways_of code.now entry.now changes))
         (IsLeastCause (ArisesAtWord code.now place met entry.now word)) }
 {
     let judged = judge(code, place, entry, word);

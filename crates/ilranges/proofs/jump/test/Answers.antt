@@ -11,4 +11,4 @@ returns-in-Some c =
     (λ (limit : ℤ). IsLeast (IsPassing c.args.comparison c.args.outcome limit c.in-Some-Int.range) c.in-Some.kept)
     (again w64 c.args.limit c.args.limit c.ranges.limit refl) c.in-Some.ensures.least in
     rw (← c.in-Some-Int.ensures.value, c.in-Some-Int.field-0-is)
-    (record { kept = c.in-Some.kept; least = least; is = refl })
+    (λ code. record { kept = c.in-Some.kept; least = least; is = refl })

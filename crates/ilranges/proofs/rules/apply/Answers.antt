@@ -1,21 +1,15 @@
-use Rattle.std.proofs.Common.{sym}
-use Rattle.ilranges.proofs.RuleOperators.{apply_of, no_operand, no_current, neither}
+use Rattle.std.proofs.lemmas.Result.{err_from_is_err_and}
+use Rattle.ilranges.proofs.RuleNames.{apply_refused, apply_to_others}
 use Rattle.ilranges.proofs.rules.apply.Goals as goal
 
-pub returns-in-Some-Some : goal.returns-in-Some-Some
-returns-in-Some-Some c =
-    rw (c.in-Some-Some.is-0, c.in-Some-Some.is-1)
-    (apply_of c.args.operator _ _ c.after.result c.after.ensures.known c.after.ensures.refused)
+pub returns-in_err-known : goal.returns-in_err-known
+returns-in_err-known c =
+    let p = err_from_is_err_and c.from_residual.result c.from_residual.ensures.1 in
+    rw (p.1, p.2)
+    (apply_refused c.args.operator c.args.current c.args.operand c.args.named c.in_err-known.field-0.0
+    c.in_err-known.ensures)
 
-pub returns-in-Some-None : goal.returns-in-Some-None
-returns-in-Some-None c =
-    rw (c.in-Some-None.is-0, c.in-Some-None.is-1, c.if_right.ensures)
-    (no_operand c.args.operator _ c.takes.result (sym c.takes.ensures))
-
-pub returns-in-None-Some : goal.returns-in-None-Some
-returns-in-None-Some c =
-    rw (c.in-None-Some.is-0, c.in-None-Some.is-1, c.if_right-in-None-Some.ensures)
-    (no_current c.args.operator _ c.takes-in-None-Some.result (sym c.takes-in-None-Some.ensures))
-
-pub returns-in-None-None : goal.returns-in-None-None
-returns-in-None-None c = rw (c.in-None-None.is-0, c.in-None-None.is-1) (neither c.args.operator)
+pub returns-else-named : goal.returns-else-named
+returns-else-named c =
+    apply_to_others c.args.operator c.args.current c.args.operand c.args.named c.in_ok-known.known c.if-named.false
+    c.in_ok-known.ensures

@@ -1,8 +1,5 @@
 use Rattle.std.proofs.Common.{◌≡◌, refl}
-use Rattle.std.proofs.lemmas.List.Elements.{length_all_zip}
-use Rattle.std.proofs.lemmas.Result.{IfOk-weaker}
 use Rattle.ilranges.specs.JoinSteps.{AreWithin}
-use Rattle.ilranges.specs.Joins.{IsHeld}
 use Rattle.ilranges.proofs.JoinRows.{joins_ones, joins_others}
 use Rattle.ilranges.proofs.chunk.Chunk.join.Goals as goal
 
@@ -12,13 +9,7 @@ returns-then-are_within c =
     let f : c.deref-2.result.now ≡ c.args.other.now = cc in
     let g : c.deref-4.result.now ≡ c.args.self.now = cc in
     let v : AreWithin c.args.other.now c.args.self.now = rw (← f, ← g) w in
-    IfOk-weaker c.share.result _ _ (λ d e. rw e (joins_ones _ _ v)) c.share.ensures
-
-pub are_within-requires-2 : goal.are_within-requires-2
-are_within-requires-2 c =
-    let f : c.deref-6.result.now ≡ c.args.self.now = cc in
-    let g : c.deref-8.result.now ≡ c.args.other.now = cc in
-    rw (f, g) (length_all_zip IsHeld _ _ c.requires)
+    rw c.in_ok-share.ensures (joins_ones _ _ v)
 
 pub returns-then-are_within-2 : goal.returns-then-are_within-2
 returns-then-are_within-2 c =
@@ -26,5 +17,4 @@ returns-then-are_within-2 c =
     let f : c.deref-6.result.now ≡ c.args.self.now = cc in
     let g : c.deref-8.result.now ≡ c.args.other.now = cc in
     let v : AreWithin c.args.self.now c.args.other.now = rw (← f, ← g) w in
-    IfOk-weaker c.share-then-are_within-2.result _ _
-    (λ d e. rw e (joins_others _ _ v)) c.share-then-are_within-2.ensures
+    rw c.in_ok-share-2.ensures (joins_others _ _ v)

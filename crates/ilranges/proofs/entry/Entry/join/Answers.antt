@@ -1,19 +1,17 @@
 use Rattle.std.proofs.Common.{refl}
+use Rattle.std.specs.List.{AllZip}
+use Rattle.ilranges.specs.Joins.{AreJoins, IsHeld}
 use Rattle.ilranges.proofs.JoinRows.{all_held}
-use Rattle.ilranges.proofs.EntryMeetings.{meeting_of, marks_agree, marks_differ}
-use Rattle.ilranges.proofs.MarkEquality.{marks_same, marks_apart}
+use Rattle.ilranges.proofs.EntryMeetings.{meeting_of}
 use Rattle.ilranges.proofs.entry.Entry.join.Goals as goal
 
-pub join-requires : goal.join-requires
-join-requires c =
-    all_held _ _ c.requires.meeting.wider.slots c.requires.meeting.from_one.slots c.requires.meeting.from_other.slots
+pub returns-in_default : goal.returns-in_default
+returns-in_default c =
+    let none : ¬ AllZip IsHeld c.args.self.slots c.args.other.now.slots = rw c.in_default.is at c.in_ok-slots.ensures in
+    λ m. none (all_held _ _ m.wider.slots m.from_one.slots m.from_other.slots)
 
-pub returns-then-ne-clause-ok : goal.returns-then-ne-clause-ok
-returns-then-ne-clause-ok c =
-    meeting_of _ _ _ c.requires.closed c.requires.closed_there refl c.in_ok-join.ensures.ok c.join_results-self.ensures
-    (marks_differ _ _ (marks_apart c.args.self.now.mark c.args.other.now.mark c.ne.result c.ne.ensures c.if-ne.true))
-
-pub returns-else-ne-clause-ok : goal.returns-else-ne-clause-ok
-returns-else-ne-clause-ok c =
-    meeting_of _ _ _ c.requires.closed c.requires.closed_there refl c.in_ok-join.ensures.ok c.join_results-self.ensures
-    (marks_agree _ _ (marks_same c.args.self.now.mark c.args.other.now.mark c.ne.result c.ne.ensures c.if-ne.false))
+pub returns : goal.returns
+returns c =
+    let slots : AreJoins c.args.self.slots c.args.other.now.slots c.in-Some.slots =
+    rw c.in-Some.is at c.in_ok-slots.ensures in
+    meeting_of _ _ _ c.requires.closed c.requires.closed_there refl slots c.join_results.ensures c.join_marks.ensures

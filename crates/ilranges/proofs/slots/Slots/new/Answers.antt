@@ -17,7 +17,8 @@ invariant_of-result c =
     let types = c.args.types.now in
     let all : whole c.in_ok-cut.field-0.items ≡ map known_of_type types =
     c.in_ok-cut.ensures.all ∙ c.deref.ensures.value
-    ∙ mapped_all known_of_type types c.loop-declared.declared-index c.loop-declared.items.items c.loop-declared.invariant
+    ∙ mapped_all known_of_type types c.loop-declared.declared-index c.loop-declared.items.items
+    c.loop-declared.invariant
     c.loop-declared-test.false in
     (c.in_ok-cut.ensures.full, sym (length-map types known_of_type) ∙ ap (λ (ks : List Known). length ks) (sym all))
 
