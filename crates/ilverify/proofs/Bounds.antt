@@ -1,304 +1,494 @@
--- The longest path from a place, from those of its successors.
-use Rattle.std.proofs.Common.{◌≡◌, ℕ, ◌+◌, ◌<◌, ◌≤◌, List, [], ◌∷◌, length, Some, refl, sym}
-use Rattle.std.proofs.Common.{subst, ap, arith, inl, inr, ◌⊎◌, Bool, true, false, cond, ◌∙◌}
-use Rattle.std.specs.Prelude.{slice_get, get_or, IsTrue, max}
+-- Each step along a path takes one word away from those that may still follow, and some step takes no more.
+use Rattle.std.proofs.Common.{◌≡◌, ℕ, zero, suc, ◌+◌, ◌<◌, ◌≤◌, ◌⊎◌, inl, inr, Bool, true, false, List, [], ◌∷◌, length}
+use Rattle.std.proofs.Common.{Option, Some, None, refl, sym, ap, ◌∙◌, subst, arith}
+use Rattle.std.specs.Prelude.{IsTrue, slice_get, min, max, if◌then◌else◌}
+use Rattle.std.proofs.Math.Nat.{le_refl}
 use Rattle.std.proofs.lemmas.Bool.{cases_lt}
-use Rattle.std.proofs.lemmas.List.{get_or_past}
-use Rattle.std.proofs.lemmas.Option.{slice_get-get_or}
-use Rattle.std.proofs.lemmas.Bool.Decides.{nat_tests}
-use Rattle.iltypes.specs.declared.condition.Condition.{Condition}
+use Rattle.limits.specs.Limits.{most_steps}
 use Rattle.iltypes.specs.declared.condition.Condition.TheVariants.{Always, IfTrue, IfFalse}
 use Rattle.ilcode.specs.declared.word.Word.{Word}
 use Rattle.ilcode.specs.declared.word.Word.TheVariants as words
-use Rattle.ilcode.specs.Listings.{Listing}
-use Rattle.ilcode.specs.Paths.{IsJumpTo, LeadsTo, IsNext, AreNext, IsPath, IsBound}
+use Rattle.ilcode.specs.Listings.{Listing, IsLawful, IsIn, end_of, start_of}
+use Rattle.ilcode.specs.Paths.{PathCall, path_call, Standing, standing, body_on, land, IsWord, IsJumpTo, LeadsTo}
+use Rattle.ilcode.specs.Paths.{IsNext, AreNext, IsPath, IsBound, IsTooLong}
 use Rattle.ilcode.specs.Steps.{is_target}
-use Rattle.ilverify.specs.BoundSteps.{IsLongestFrom, AreLongest, words_at, words_at_target}
+use Rattle.ilverify.specs.declared.through.Counted.TheVariants.{Words}
+use Rattle.ilverify.specs.Calls.{HasGoodCalls}
+use Rattle.ilverify.specs.Tables.{cap, AreRightFrom, IsFilled}
+use Rattle.ilverify.specs.Through.{max_if, through_at, through_to, through_in, through_after, through_from}
+use Rattle.ilverify.specs.Through.{AreThrough}
+use Rattle.ilverify.specs.BoundSteps.{longest_at, longest_to, longest_in, longest_after, longest_from}
+use Rattle.ilverify.proofs.CalledBodies.{good_call}
+use Rattle.ilverify.proofs.Fills.{at_end_is, at_place_is, target_in}
+use Rattle.ilverify.proofs.Placed.{IsPlaced, placed_within, placed_on, next_placed, call_placed, land_keeps}
+use Rattle.ilverify.proofs.Placed.{land_placed}
+use Rattle.ilverify.proofs.Placed.{LandsOn, lands_on, word_at}
+use Rattle.ilverify.proofs.Throughs.{through_is}
+use Rattle.ilverify.proofs.Spans.{span, IsNear, near_is, near_trans, near_more, near_joined, span_either, span_nowhere}
 
--- ---- one word more than the longest of the successors
+-- ---- what is kept, with open calls
 
--- no successor, or one from which so many words are the longest path
-data Reaches (code : Listing) (place words : ℕ) : Type 0 where
-  Nowhere : words ≡ 0 → Reaches code place words
-  Further : (to : ℕ) → IsNext code place to → IsLongestFrom code to words → Reaches code place words
+-- all numbers are right
+pub record AreRight (code : Listing) (through : List (Option ℕ)) (longest : List ℕ) : Type 0 where
+  pub good : HasGoodCalls code
+  pub lawful : IsLawful code
+  pub ways : AreThrough code Words through
+  pub each : (body : ℕ) → AreRightFrom code 0 (longest_from code through) longest body (start_of code body)
 
--- no more words are on the longest path from a successor
-abbrev Bounds : Listing → ℕ → ℕ → Type 0
-Bounds code place words = (to : ℕ) → IsNext code place to → (most : ℕ) × IsLongestFrom code to most × (most ≤ words)
+abbrev pub reach : Listing → List (Option ℕ) → List ℕ → List PathCall → ℕ → ℕ
+reach code through longest [] place = longest_at longest (end_of code 0) place
+reach code through longest (c ∷ cs) place =
+    span (through_at through (end_of code (c.function + 1)) place)
+    (longest_at longest (end_of code (c.function + 1)) place) (Some (reach code through longest cs c.back))
 
-path_of : (code : Listing) (place words : ℕ) → Reaches code place words
-    → (path : List ℕ) × AreNext code place path × (length path ≡ words)
-path_of code place words (Nowhere z) = ([], tt, sym z)
-path_of code place words (Further to next l) =
-    (to ∷ l.path, (next, l.is), let e = l.long in omega (arith, e))
+abbrev rest : Listing → List (Option ℕ) → List ℕ → List PathCall → Option ℕ
+rest code through longest [] = None
+rest code through longest (c ∷ cs) = Some (reach code through longest cs c.back)
 
-few : (code : Listing) (place words : ℕ) → Bounds code place words → (places : List ℕ) → AreNext code place places
-    → length places + 1 ≤ words + 1
-few code place words b [] h = omega arith
-few code place words b (to ∷ more) h =
-    let m = b to h.0 in
-    let g = m.1.greatest more h.1 in
-    omega (arith, m.2, g)
+reach_is : (code : Listing) (through : List (Option ℕ)) (longest : List ℕ) (calls : List PathCall) (place : ℕ)
+    → reach code through longest calls place
+    ≡ span (through_at through (end_of code (body_on calls)) place)
+    (longest_at longest (end_of code (body_on calls)) place)
+    (rest code through longest calls)
+reach_is code through longest [] place = refl
+reach_is code through longest (c ∷ cs) place = refl
 
-longest : (code : Listing) (place words : ℕ) → Reaches code place words → Bounds code place words
-    → IsLongestFrom code place (words + 1)
-longest code place words r b =
-    let p = path_of code place words r in
+abbrev reach_at : Listing → List (Option ℕ) → List ℕ → Standing → ℕ
+reach_at code through longest s = reach code through longest s.calls s.place
+
+-- ---- where a body ends
+
+end_reach : (code : Listing) (through : List (Option ℕ)) (longest : List ℕ) (c : PathCall) (cs : List PathCall)
+    → reach code through longest (c ∷ cs) (end_of code (c.function + 1)) ≡ reach code through longest cs c.back
+end_reach code through longest c cs =
+    let end = end_of code (c.function + 1) in
+    let r = reach code through longest cs c.back in
+    let e : span (through_at through end end) (longest_at longest end end) (Some r) ≡ span (Some 0) 0 (Some r) =
+    ap (λ (t : Option ℕ). span t (longest_at longest end end) (Some r)) (at_end_is (Some 0) None through end end refl)
+    ∙ ap (λ (l : ℕ). span (Some 0) l (Some r)) (at_end_is 0 0 longest end end refl) in
+    omega (arith, e)
+
+land_reach : (code : Listing) (through : List (Option ℕ)) (longest : List ℕ) (calls : List PathCall) (place : ℕ)
+    → reach_at code through longest (land code place calls) ≡ reach code through longest calls place
+land_reach code through longest calls place =
+    land_keeps code (λ cs p. reach code through longest cs p ≡ reach code through longest calls place)
+    (λ c cs e. sym (end_reach code through longest c cs) ∙ e) calls place refl
+
+-- where something may follow, a word stands
+land_word : (code : Listing) (through : List (Option ℕ)) (longest : List ℕ) (calls : List PathCall) (place : ℕ)
+    → IsPlaced code calls place → 1 ≤ reach code through longest calls place → IsWord code (land code place calls)
+land_word code through longest calls place h some =
+    by (land code place calls) (lands_on code calls place h)
+    (let e = land_reach code through longest calls place in omega (arith, e, some))
+  where
+    by : (s : Standing) → LandsOn code s → 1 ≤ reach_at code through longest s → IsWord code s
+    by s (inr w) k = w
+    by s (inl at) k =
+        let e = at.end in
+        let a = ap (λ (cs : List PathCall). reach code through longest cs s.place) at.none in
+        let z = at_end_is 0 0 longest (end_of code 0) s.place e in
+        absurd (omega (arith, a, z, k))
+
+-- ---- from a word to its successors
+
+record AtWord (code : Listing) (through : List (Option ℕ)) (longest : List ℕ) (calls : List PathCall) (place : ℕ)
+    (word : Word) : Type 0 where
+  right : AreRight code through longest
+  in_body : IsIn code (body_on calls) place
+  placed : IsPlaced code calls place
+  is : slice_get code.instructions place ≡ Some word
+
+-- what may follow a word
+abbrev behind : Listing → List (Option ℕ) → List ℕ → List PathCall → ℕ → Word → ℕ
+behind code through longest calls place word =
+    span (through_after code through (end_of code (body_on calls)) place word)
+    (longest_after code through longest (end_of code (body_on calls)) place word) (rest code through longest calls)
+
+longest_is : (code : Listing) (through : List (Option ℕ)) (longest : List ℕ) (calls : List PathCall) (place : ℕ)
+    (word : Word) → AtWord code through longest calls place word
+    → longest_at longest (end_of code (body_on calls)) place
+    ≡ longest_from code through longest (end_of code (body_on calls)) place word
+longest_is code through longest calls place word h =
+    let i = h.in_body in
+    at_place_is 0 0 longest (end_of code (body_on calls)) place (λ e. let lt = i.to in omega (arith, lt, e))
+    ∙ h.right.each (body_on calls) place word i.from i.to h.is
+
+reach_from : (code : Listing) (through : List (Option ℕ)) (longest : List ℕ) (calls : List PathCall) (place : ℕ)
+    (word : Word) → AtWord code through longest calls place word
+    → reach code through longest calls place
+    ≡ span (through_from code Words through (end_of code (body_on calls)) place word)
+    (longest_from code through longest (end_of code (body_on calls)) place word) (rest code through longest calls)
+reach_from code through longest [] place word h = longest_is code through longest [] place word h
+reach_from code through longest (c ∷ cs) place word h =
+    let end = end_of code (c.function + 1) in
+    let r = Some (reach code through longest cs c.back) in
+    ap (λ (t : Option ℕ). span t (longest_at longest end place) r)
+    (through_is code Words through h.right.ways c.function place word h.in_body h.is)
+    ∙ ap (λ (l : ℕ). span (through_from code Words through end place word) l r)
+    (longest_is code through longest (c ∷ cs) place word h)
+
+-- a word, and what may follow it
+word_near : (code : Listing) (through : List (Option ℕ)) (longest : List ℕ) (calls : List PathCall) (place : ℕ)
+    (word : Word) → AtWord code through longest calls place word
+    → IsNear (reach code through longest calls place) (1 + behind code through longest calls place word)
+word_near code through longest calls place word h =
+    let end = end_of code (body_on calls) in
+    near_trans (reach code through longest calls place)
+    (span (through_from code Words through end place word) (longest_from code through longest end place word)
+    (rest code through longest calls))
+    (1 + behind code through longest calls place word)
+    (near_is _ _ (reach_from code through longest calls place word h))
+    (near_more (through_after code through end place word) (longest_after code through longest end place word)
+    (rest code through longest calls))
+
+-- the next place
+abbrev onward : Listing → List (Option ℕ) → List ℕ → List PathCall → ℕ → ℕ
+onward code through longest calls place = reach code through longest calls (place + 1)
+
+-- a jump's target
+abbrev targets : Listing → List (Option ℕ) → List ℕ → List PathCall → ℕ → ℕ → ℕ
+targets code through longest calls place target =
+    span (through_to code through (end_of code (body_on calls)) place target)
+    (longest_to code longest (end_of code (body_on calls)) place target) (rest code through longest calls)
+
+-- the target is lawful, or nothing follows there
+abbrev IsLawfulTo : Listing → List (Option ℕ) → List ℕ → List PathCall → ℕ → ℕ → Bool → ℕ → Type 0
+IsLawfulTo code through longest calls place target lawful n =
+    (IsTrue lawful × (n ≡ reach code through longest calls target)) ⊎ ((IsTrue lawful → ⊥) × (n ≡ 0))
+
+targets_by : (code : Listing) (through : List (Option ℕ)) (longest : List ℕ) (calls : List PathCall)
+    (place target : ℕ) (lawful : Bool)
+    → IsLawfulTo code through longest calls place target lawful
+    (span (if lawful then through_at through (end_of code (body_on calls)) target else None)
+    (if lawful then longest_at longest (end_of code (body_on calls)) target else 0) (rest code through longest calls))
+targets_by code through longest calls place target true = inl (refl, sym (reach_is code through longest calls target))
+targets_by code through longest calls place target false =
+    inr ((λ k. let z : ⊥ = cc in z), span_nowhere (rest code through longest calls))
+
+targets_are : (code : Listing) (through : List (Option ℕ)) (longest : List ℕ) (calls : List PathCall)
+    (place target : ℕ)
+    → IsLawfulTo code through longest calls place target (is_target code place target)
+    (targets code through longest calls place target)
+targets_are code through longest calls place target =
+    targets_by code through longest calls place target (is_target code place target)
+
+-- either
+either_behind : (code : Listing) (through : List (Option ℕ)) (longest : List ℕ) (calls : List PathCall)
+    (place target : ℕ)
+    → span (max_if (through_at through (end_of code (body_on calls)) (place + 1))
+    (through_to code through (end_of code (body_on calls)) place target))
+    (max (longest_at longest (end_of code (body_on calls)) (place + 1))
+    (longest_to code longest (end_of code (body_on calls)) place target)) (rest code through longest calls)
+    ≡ max (onward code through longest calls place) (targets code through longest calls place target)
+either_behind code through longest calls place target =
+    let end = end_of code (body_on calls) in
+    span_either (through_at through end (place + 1)) (longest_at longest end (place + 1))
+    (through_to code through end place target) (longest_to code longest end place target)
+    (rest code through longest calls)
+    ∙ ap (λ (n : ℕ). max n (targets code through longest calls place target))
+    (sym (reach_is code through longest calls (place + 1)))
+
+-- the function that is called
+abbrev called : Listing → List (Option ℕ) → List ℕ → List PathCall → ℕ → ℕ → ℕ
+called code through longest calls place function =
+    reach code through longest (path_call function (place + 1) ∷ calls) (end_of code function)
+
+called_near : (code : Listing) (through : List (Option ℕ)) (longest : List ℕ) (calls : List PathCall)
+    (place function : ℕ)
+    → IsNear (behind code through longest calls place (words.Invoke function))
+    (called code through longest calls place function)
+called_near code through longest calls place function =
+    let end = end_of code (body_on calls) in
+    let t = through_in code through function in
+    let l = longest_in code longest function in
+    let u = through_at through end (place + 1) in
+    let k = longest_at longest end (place + 1) in
+    let r = rest code through longest calls in
+    let e : span t l (Some (span u k r)) ≡ called code through longest calls place function =
+    ap (λ (n : ℕ). span t l (Some n)) (sym (reach_is code through longest calls (place + 1))) in
+    subst (IsNear (behind code through longest calls place (words.Invoke function))) e (near_joined t l u k r)
+
+-- ---- a step takes one away
+
+record IsAfter (code : Listing) (through : List (Option ℕ)) (longest : List ℕ) (calls : List PathCall) (place : ℕ)
+    (t : Standing) : Type 0 where
+  less : min (1 + reach_at code through longest t) cap ≤ reach code through longest calls place
+  placed : IsPlaced code t.calls t.place
+
+after_by : (code : Listing) (through : List (Option ℕ)) (longest : List ℕ) (calls raw : List PathCall)
+    (place to : ℕ) (word : Word) (t : Standing) → AtWord code through longest calls place word
+    → min (reach code through longest raw to) cap ≤ behind code through longest calls place word
+    → IsPlaced code raw to → t ≡ land code to raw → IsAfter code through longest calls place t
+after_by code through longest calls raw place to word t h le placed e =
+    let near = word_near code through longest calls place word h in
+    let l = land_reach code through longest raw to in
+    subst (IsAfter code through longest calls place) (sym e)
+    (record { less = let a = near.above in omega (arith, a, le, l); placed = land_placed code raw to placed })
+
+after_target : (code : Listing) (through : List (Option ℕ)) (longest : List ℕ) (calls : List PathCall)
+    (place target : ℕ) (word : Word) (t : Standing) → AtWord code through longest calls place word
+    → targets code through longest calls place target ≤ behind code through longest calls place word
+    → IsJumpTo code (standing place calls) target t → IsAfter code through longest calls place t
+after_target code through longest calls place target word t h le j =
+    let ahead = target_in code (body_on calls) place target h.in_body j.lawful in
+    let on = placed_on code calls place target h.placed (let a = ahead.0 in omega (arith, a)) ahead.1 in
+    elim (targets_are code through longest calls place target) as (λ _. IsAfter code through longest calls place t) [
+      | inl e ↦
+          after_by code through longest calls calls place target word t h (let q = e.1 in omega (arith, le, q)) on j.is
+      | inr e ↦ absurd (e.0 j.lawful)
+    ]
+
+after_next : (code : Listing) (through : List (Option ℕ)) (longest : List ℕ) (calls : List PathCall) (place : ℕ)
+    (word : Word) (t : Standing) → AtWord code through longest calls place word
+    → onward code through longest calls place ≤ behind code through longest calls place word
+    → t ≡ land code (place + 1) calls → IsAfter code through longest calls place t
+after_next code through longest calls place word t h le e =
+    after_by code through longest calls calls place (place + 1) word t h (omega (arith, le))
+    (next_placed code calls place h.in_body h.placed) e
+
+-- what may follow a word that goes on alone is what may at the next place
+plain : (code : Listing) (through : List (Option ℕ)) (longest : List ℕ) (calls : List PathCall) (place : ℕ)
+    → onward code through longest calls place
+    ≤ span (through_at through (end_of code (body_on calls)) (place + 1))
+    (longest_at longest (end_of code (body_on calls)) (place + 1)) (rest code through longest calls)
+plain code through longest calls place =
+    let e = reach_is code through longest calls (place + 1) in omega (arith, e)
+
+after_if : (code : Listing) (through : List (Option ℕ)) (longest : List ℕ) (calls : List PathCall)
+    (place target : ℕ) (word : Word) (t : Standing) → AtWord code through longest calls place word
+    → behind code through longest calls place word
+    ≡ max (onward code through longest calls place) (targets code through longest calls place target)
+    → (t ≡ land code (place + 1) calls) ⊎ IsJumpTo code (standing place calls) target t
+    → IsAfter code through longest calls place t
+after_if code through longest calls place target word t h e (inl on) =
+    after_next code through longest calls place word t h (omega (arith, e)) on
+after_if code through longest calls place target word t h e (inr j) =
+    after_target code through longest calls place target word t h (omega (arith, e)) j
+
+step_after : (code : Listing) (through : List (Option ℕ)) (longest : List ℕ) (calls : List PathCall) (place : ℕ)
+    (word : Word) (t : Standing) → AtWord code through longest calls place word
+    → LeadsTo code word (standing place calls) t → IsAfter code through longest calls place t
+step_after code through longest calls place (words.Jump Always target) t h l =
+    after_target code through longest calls place target (words.Jump Always target) t h (le_refl _) l
+step_after code through longest calls place (words.Jump IfTrue target) t h l =
+    after_if code through longest calls place target (words.Jump IfTrue target) t h
+    (either_behind code through longest calls place target) l
+step_after code through longest calls place (words.Jump IfFalse target) t h l =
+    after_if code through longest calls place target (words.Jump IfFalse target) t h
+    (either_behind code through longest calls place target) l
+step_after code through longest calls place (words.Invoke function) t h l =
+    after_by code through longest calls (path_call function (place + 1) ∷ calls) place (end_of code function)
+    (words.Invoke function) t h (called_near code through longest calls place function).above
+    (call_placed code calls place function h.right.lawful h.in_body h.placed) l.is
+step_after code through longest calls place word t h l =
+    after_next code through longest calls place word t h (plain code through longest calls place) l
+
+-- ---- and some step takes no more
+
+record Goes (code : Listing) (through : List (Option ℕ)) (longest : List ℕ) (calls : List PathCall) (place : ℕ)
+    : Type 0 where
+  to : Standing
+  next : IsNext code (standing place calls) to
+  less : reach code through longest calls place ≤ 1 + reach_at code through longest to
+
+goes_by : (code : Listing) (through : List (Option ℕ)) (longest : List ℕ) (calls raw : List PathCall)
+    (place to : ℕ) (word : Word) → AtWord code through longest calls place word
+    → 2 ≤ reach code through longest calls place
+    → behind code through longest calls place word ≤ reach code through longest raw to → IsPlaced code raw to
+    → LeadsTo code word (standing place calls) (land code to raw) → Goes code through longest calls place
+goes_by code through longest calls raw place to word h some le placed leads =
+    let near = (word_near code through longest calls place word h).below in
+    let l = land_reach code through longest raw to in
     record {
-      path = p.0;
-      is = p.1;
-      long = let e = p.2 in omega (arith, e);
-      greatest = few code place words b;
+      to = land code to raw;
+      next = record {
+        word = word;
+        is = h.is;
+        leads = leads;
+        within = land_word code through longest raw to placed (omega (arith, near, le, some));
+      };
+      less = omega (arith, near, le, l);
     }
 
--- ---- a successor's number, as it is kept
-
-reaches_at : (code : Listing) (kept : List ℕ) (place to : ℕ) → AreLongest code kept (place + 1) → place < to
-    → (to < length code.instructions → IsNext code place to) → Reaches code place (words_at kept to)
-reaches_at code kept place to l lt next =
-    elim (cases_lt to (length code.instructions)) as (λ _. Reaches code place (words_at kept to)) [
-      | inl within ↦ Further to (next within) (l.each to (omega arith) within)
-      | inr ge ↦ Nowhere (get_or_past kept to 0 (omega (arith, l.long, ge)))
+goes_target : (code : Listing) (through : List (Option ℕ)) (longest : List ℕ) (calls : List PathCall)
+    (place target : ℕ) (word : Word) → AtWord code through longest calls place word
+    → 2 ≤ reach code through longest calls place
+    → behind code through longest calls place word ≤ targets code through longest calls place target
+    → ((t : Standing) → IsJumpTo code (standing place calls) target t → LeadsTo code word (standing place calls) t)
+    → Goes code through longest calls place
+goes_target code through longest calls place target word h some le leads =
+    elim (targets_are code through longest calls place target) as (λ _. Goes code through longest calls place) [
+      | inl e ↦
+          let ahead = target_in code (body_on calls) place target h.in_body e.0 in
+          let on = placed_on code calls place target h.placed (let a = ahead.0 in omega (arith, a)) ahead.1 in
+          goes_by code through longest calls calls place target word h some (let q = e.1 in omega (arith, le, q)) on
+          (leads (land code target calls) (record { lawful = e.0; is = refl }))
+      | inr e ↦
+          let near = (word_near code through longest calls place word h).below in
+          let q = e.1 in
+          absurd (omega (arith, q, le, some, near))
     ]
 
-bounded_at : (code : Listing) (kept : List ℕ) (place to words : ℕ) → AreLongest code kept (place + 1) → place < to
-    → to < length code.instructions → words_at kept to ≤ words
-    → (most : ℕ) × IsLongestFrom code to most × (most ≤ words)
-bounded_at code kept place to words l lt within le = (words_at kept to, l.each to (omega arith) within, le)
+goes_next : (code : Listing) (through : List (Option ℕ)) (longest : List ℕ) (calls : List PathCall) (place : ℕ)
+    (word : Word) → AtWord code through longest calls place word → 2 ≤ reach code through longest calls place
+    → behind code through longest calls place word ≤ onward code through longest calls place
+    → LeadsTo code word (standing place calls) (land code (place + 1) calls) → Goes code through longest calls place
+goes_next code through longest calls place word h some le leads =
+    goes_by code through longest calls calls place (place + 1) word h some le
+    (next_placed code calls place h.in_body h.placed) leads
 
--- a lawful target lies ahead
-ahead : (code : Listing) (place target : ℕ) → IsTrue (is_target code place target) → place < target
-ahead code place target h = grind (arith, nat_tests)
+goes_if : (code : Listing) (through : List (Option ℕ)) (longest : List ℕ) (calls : List PathCall)
+    (place target : ℕ) (word : Word) → AtWord code through longest calls place word
+    → 2 ≤ reach code through longest calls place
+    → behind code through longest calls place word
+    ≡ max (onward code through longest calls place) (targets code through longest calls place target)
+    → ((t : Standing) → (t ≡ land code (place + 1) calls) ⊎ IsJumpTo code (standing place calls) target t
+    → LeadsTo code word (standing place calls) t)
+    → Goes code through longest calls place
+goes_if code through longest calls place target word h some e leads =
+    elim (cases_lt (onward code through longest calls place) (targets code through longest calls place target))
+    as (λ _. Goes code through longest calls place) [
+      | inl lt ↦
+          goes_target code through longest calls place target word h some (omega (arith, e, lt))
+          (λ t j. leads t (inr j))
+      | inr ge ↦
+          goes_next code through longest calls place word h some (omega (arith, e, ge))
+          (leads (land code (place + 1) calls) (inl refl))
+    ]
 
--- the word at a place is one
-leads_by : (code : Listing) (place to : ℕ) (word : Word) → slice_get code.instructions place ≡ Some word
-    → (next : IsNext code place to) → LeadsTo code word place to
-leads_by code place to word is next =
-    let h = next.is in
-    let e : next.word ≡ word = cc in
-    subst (λ (w : Word). LeadsTo code w place to) e next.leads
+-- what may follow a word that goes on alone is what may at the next place
+plain_least : (code : Listing) (through : List (Option ℕ)) (longest : List ℕ) (calls : List PathCall) (place : ℕ)
+    → span (through_at through (end_of code (body_on calls)) (place + 1))
+    (longest_at longest (end_of code (body_on calls)) (place + 1)) (rest code through longest calls)
+    ≤ onward code through longest calls place
+plain_least code through longest calls place =
+    let e = reach_is code through longest calls (place + 1) in omega (arith, e)
 
--- ---- words that go on to the next place
+goes : (code : Listing) (through : List (Option ℕ)) (longest : List ℕ) (calls : List PathCall) (place : ℕ)
+    (word : Word) → AtWord code through longest calls place word → 2 ≤ reach code through longest calls place
+    → Goes code through longest calls place
+goes code through longest calls place (words.Jump Always target) h some =
+    goes_target code through longest calls place target (words.Jump Always target) h some (le_refl _) (λ t j. j)
+goes code through longest calls place (words.Jump IfTrue target) h some =
+    goes_if code through longest calls place target (words.Jump IfTrue target) h some
+    (either_behind code through longest calls place target) (λ t j. j)
+goes code through longest calls place (words.Jump IfFalse target) h some =
+    goes_if code through longest calls place target (words.Jump IfFalse target) h some
+    (either_behind code through longest calls place target) (λ t j. j)
+goes code through longest calls place (words.Invoke function) h some =
+    let good = good_call code h.right.good (body_on calls) place function h.in_body h.is in
+    goes_by code through longest calls (path_call function (place + 1) ∷ calls) place (end_of code function)
+    (words.Invoke function) h some (called_near code through longest calls place function).below
+    (call_placed code calls place function h.right.lawful h.in_body h.placed)
+    (record { lawful = good.callable; within = good.within; is = refl })
+goes code through longest calls place word h some =
+    goes_next code through longest calls place word h some (plain_least code through longest calls place) refl
 
-abbrev pub IsNoJump : Word → Type 0
-IsNoJump word = (condition : Condition) (target : ℕ) → word ≡ words.Jump condition target → ⊥
+-- ---- paths
 
-onward : (code : Listing) (place to : ℕ) (word : Word) → IsNoJump word → LeadsTo code word place to
-    → to ≡ place + 1
-onward code place to (words.Load negated operand) n h = h
-onward code place to (words.Apply operator operand) n h = h
-onward code place to (words.Transform function) n h = h
-onward code place to (words.Store negated variable) n h = h
-onward code place to (words.Set variable) n h = h
-onward code place to (words.Reset variable) n h = h
-onward code place to (words.Pass port block operand) n h = h
-onward code place to (words.Call block) n h = h
-onward code place to (words.Open operator) n h = h
-onward code place to words.Close n h = h
-onward code place to (words.Jump condition target) n h = absurd (n condition target refl)
+record HasWord (code : Listing) (through : List (Option ℕ)) (longest : List ℕ) (s : Standing) : Type 0 where
+  word : Word
+  there : AtWord code through longest s.calls s.place word
 
-leads_on : (code : Listing) (place : ℕ) (word : Word) → IsNoJump word → LeadsTo code word place (place + 1)
-leads_on code place (words.Load negated operand) n = refl
-leads_on code place (words.Apply operator operand) n = refl
-leads_on code place (words.Transform function) n = refl
-leads_on code place (words.Store negated variable) n = refl
-leads_on code place (words.Set variable) n = refl
-leads_on code place (words.Reset variable) n = refl
-leads_on code place (words.Pass port block operand) n = refl
-leads_on code place (words.Call block) n = refl
-leads_on code place (words.Open operator) n = refl
-leads_on code place words.Close n = refl
-leads_on code place (words.Jump condition target) n = absurd (n condition target refl)
-
-pub on_longest : (code : Listing) (kept : List ℕ) (place : ℕ) (word : Word)
-    → AreLongest code kept (place + 1) → slice_get code.instructions place ≡ Some word → IsNoJump word
-    → IsLongestFrom code place (words_at kept (place + 1) + 1)
-on_longest code kept place word l is n =
-    let r = reaches_at code kept place (place + 1) l (omega arith) (λ within.
-    record { word = word; is = is; leads = leads_on code place word n; within = within }) in
-    longest code place (words_at kept (place + 1)) r (λ to next.
-    let e = onward code place to word n (leads_by code place to word is next) in
-    let le : words_at kept to ≤ words_at kept (place + 1) = let q = ap (words_at kept) e in omega (arith, q) in
-    bounded_at code kept place to (words_at kept (place + 1)) l (omega (arith, e)) next.within le)
-
--- ---- jumps
-
--- the number that is kept for a target
-by_target : (code : Listing) (kept : List ℕ) (place target : ℕ) → AreLongest code kept (place + 1)
-    → (IsTrue (is_target code place target) → target < length code.instructions → IsNext code place target)
-    → (lawful : Bool) → is_target code place target ≡ lawful
-    → Reaches code place (cond lawful (words_at kept target) 0)
-by_target code kept place target l next true e =
-    let t : IsTrue (is_target code place target) = e in
-    reaches_at code kept place target l (ahead code place target t) (next t)
-by_target code kept place target l next false e = Nowhere refl
-
-reaches_target : (code : Listing) (kept : List ℕ) (place target : ℕ) → AreLongest code kept (place + 1)
-    → (IsTrue (is_target code place target) → target < length code.instructions → IsNext code place target)
-    → Reaches code place (words_at_target code kept place target)
-reaches_target code kept place target l next =
-    by_target code kept place target l next (is_target code place target) refl
-
-at_target : (code : Listing) (kept : List ℕ) (place target to : ℕ) → IsJumpTo code place target to
-    → words_at kept to ≡ words_at_target code kept place target
-at_target code kept place target to j =
-    let t = j.lawful in
-    let e : words_at_target code kept place target ≡ words_at kept target =
-    ap (λ (b : Bool). cond b (words_at kept target) 0) t in
-    ap (words_at kept) j.is ∙ sym e
-
-always_longest : (code : Listing) (kept : List ℕ) (place target : ℕ) → AreLongest code kept (place + 1)
-    → slice_get code.instructions place ≡ Some (words.Jump Always target)
-    → IsLongestFrom code place (words_at_target code kept place target + 1)
-always_longest code kept place target l is =
-    let r = reaches_target code kept place target l (λ lawful within.
+has_word : (code : Listing) (through : List (Option ℕ)) (longest : List ℕ) (s : Standing)
+    → AreRight code through longest → IsPlaced code s.calls s.place → IsWord code s → HasWord code through longest s
+has_word code through longest s h placed w =
+    let g = word_at code h.lawful s w in
     record {
-      word = words.Jump Always target;
-      is = is;
-      leads = record { lawful = lawful; is = refl };
-      within = within;
-    }) in
-    longest code place (words_at_target code kept place target) r (λ to next.
-    let j = leads_by code place to (words.Jump Always target) is next in
-    let e = at_target code kept place target to j in
-    let a = ahead code place target j.lawful in
-    bounded_at code kept place to (words_at_target code kept place target) l (omega (arith, a, j.is)) next.within
-    (omega (arith, e)))
+      word = g.0;
+      there = record { right = h; in_body = placed_within code s.calls s.place placed w; placed = placed; is = g.1 };
+    }
 
-or_target : (code : Listing) (kept : List ℕ) (place target to : ℕ)
-    → ((to ≡ place + 1) ⊎ IsJumpTo code place target to) → (place < to)
-    × ((words_at kept to ≡ words_at kept (place + 1)) ⊎ (words_at kept to ≡ words_at_target code kept place target))
-or_target code kept place target to (inl e) = (omega (arith, e), inl (ap (words_at kept) e))
-or_target code kept place target to (inr j) =
-    let a = ahead code place target j.lawful in
-    (omega (arith, a, j.is), inr (at_target code kept place target to j))
+next_after : (code : Listing) (through : List (Option ℕ)) (longest : List ℕ) (s t : Standing)
+    → AreRight code through longest → IsPlaced code s.calls s.place → IsWord code s → IsNext code s t
+    → IsAfter code through longest s.calls s.place t
+next_after code through longest s t h placed w n =
+    step_after code through longest s.calls s.place n.word t
+    (record { right = h; in_body = placed_within code s.calls s.place placed w; placed = placed; is = n.is }) n.leads
 
-either : (code : Listing) (kept : List ℕ) (place target : ℕ) (word : Word) → AreLongest code kept (place + 1)
-    → slice_get code.instructions place ≡ Some word
-    → ((to : ℕ) → LeadsTo code word place to → (to ≡ place + 1) ⊎ IsJumpTo code place target to)
-    → LeadsTo code word place (place + 1)
-    → (IsTrue (is_target code place target) → LeadsTo code word place target)
-    → IsLongestFrom code place (max (words_at kept (place + 1)) (words_at_target code kept place target) + 1)
-either code kept place target word l is from on off =
-    let a = words_at kept (place + 1) in
-    let b = words_at_target code kept place target in
-    let next = reaches_at code kept place (place + 1) l (omega arith) (λ within.
-    record { word = word; is = is; leads = on; within = within }) in
-    let there = reaches_target code kept place target l (λ lawful within.
-    record { word = word; is = is; leads = off lawful; within = within }) in
-    let r : Reaches code place (max a b) = elim (cases_lt a b) as (λ _. Reaches code place (max a b)) [
-      | inl lt ↦ let e : b ≡ max a b = omega (arith, lt) in subst (Reaches code place) e there
-      | inr ge ↦ let e : a ≡ max a b = omega (arith, ge) in subst (Reaches code place) e next
-    ] in
-    longest code place (max a b) r (λ to n.
-    let o = or_target code kept place target to (from to (leads_by code place to word is n)) in
-    let le : words_at kept to ≤ max a b = elim o.1 [ inl e ↦ omega (arith, e) | inr e ↦ omega (arith, e) ] in
-    bounded_at code kept place to (max a b) l o.0 n.within le)
+few_words : (code : Listing) (through : List (Option ℕ)) (longest : List ℕ) → AreRight code through longest
+    → (s : Standing) (more : List Standing) → IsPlaced code s.calls s.place → IsWord code s → AreNext code s more
+    → min (length more + 1) cap ≤ reach_at code through longest s
+few_words code through longest h s [] placed w are =
+    let x = has_word code through longest s h placed w in
+    let near = (word_near code through longest s.calls s.place x.word x.there).above in
+    omega (arith, near)
+few_words code through longest h s (t ∷ more) placed w are =
+    let a = next_after code through longest s t h placed w are.0 in
+    let i = few_words code through longest h t more a.placed are.0.within are.1 in
+    let less = a.less in
+    omega (arith, less, i)
 
-if_true_longest : (code : Listing) (kept : List ℕ) (place target : ℕ) → AreLongest code kept (place + 1)
-    → slice_get code.instructions place ≡ Some (words.Jump IfTrue target)
-    → IsLongestFrom code place (max (words_at kept (place + 1)) (words_at_target code kept place target) + 1)
-if_true_longest code kept place target l is =
-    either code kept place target (words.Jump IfTrue target) l is (λ to h. h) (inl refl)
-    (λ lawful. inr (record { lawful = lawful; is = refl }))
+record HasPath (code : Listing) (s : Standing) (n : ℕ) : Type 0 where
+  more : List Standing
+  are : AreNext code s more
+  long : length more ≡ n
 
-if_false_longest : (code : Listing) (kept : List ℕ) (place target : ℕ) → AreLongest code kept (place + 1)
-    → slice_get code.instructions place ≡ Some (words.Jump IfFalse target)
-    → IsLongestFrom code place (max (words_at kept (place + 1)) (words_at_target code kept place target) + 1)
-if_false_longest code kept place target l is =
-    either code kept place target (words.Jump IfFalse target) l is (λ to h. h) (inl refl)
-    (λ lawful. inr (record { lawful = lawful; is = refl }))
+has_path : (code : Listing) (through : List (Option ℕ)) (longest : List ℕ) → AreRight code through longest → (n : ℕ)
+    (s : Standing) → IsPlaced code s.calls s.place → IsWord code s → n < reach_at code through longest s
+    → HasPath code s n
+has_path code through longest h zero s placed w lt = record { more = []; are = tt; long = refl }
+has_path code through longest h (suc n) s placed w lt =
+    let x = has_word code through longest s h placed w in
+    let g = goes code through longest s.calls s.place x.word x.there (omega arith) in
+    let a = next_after code through longest s g.to h placed w g.next in
+    let less = g.less in
+    let p = has_path code through longest h n g.to a.placed g.next.within (omega (arith, less, lt)) in
+    record { more = g.to ∷ p.more; are = (g.next, p.are); long = let e = p.long in omega (arith, e) }
 
--- ---- by the condition that is read
+-- from the first place
+path_long : (code : Listing) (through : List (Option ℕ)) (longest : List ℕ) → AreRight code through longest
+    → (path : List Standing) → IsPath code path → min (length path) cap ≤ reach code through longest [] 0
+path_long code through longest h [] is = omega arith
+path_long code through longest h (s ∷ more) is =
+    let e = is.0 in
+    let w = subst (IsWord code) e is.1 in
+    let are = subst (λ (u : Standing). AreNext code u more) e is.2 in
+    let f = few_words code through longest h (standing 0 []) more (omega arith) w are in
+    omega (arith, f)
 
-pub always_by : (code : Listing) (kept : List ℕ) (place target : ℕ) (condition : Condition)
-    → AreLongest code kept (place + 1) → slice_get code.instructions place ≡ Some (words.Jump condition target)
-    → condition ≡ Always → IsLongestFrom code place (words_at_target code kept place target + 1)
-always_by code kept place target condition l is e =
-    always_longest code kept place target l
-    (subst (λ (c : Condition). slice_get code.instructions place ≡ Some (words.Jump c target)) e is)
+record HasFirst (code : Listing) (n : ℕ) : Type 0 where
+  path : List Standing
+  is : IsPath code path
+  long : length path ≡ n
 
-pub if_by : (code : Listing) (kept : List ℕ) (place target : ℕ) (condition : Condition)
-    → AreLongest code kept (place + 1) → slice_get code.instructions place ≡ Some (words.Jump condition target)
-    → (condition ≡ IfTrue) ⊎ (condition ≡ IfFalse)
-    → IsLongestFrom code place (max (words_at kept (place + 1)) (words_at_target code kept place target) + 1)
-if_by code kept place target condition l is (inl e) =
-    if_true_longest code kept place target l
-    (subst (λ (c : Condition). slice_get code.instructions place ≡ Some (words.Jump c target)) e is)
-if_by code kept place target condition l is (inr e) =
-    if_false_longest code kept place target l
-    (subst (λ (c : Condition). slice_get code.instructions place ≡ Some (words.Jump c target)) e is)
+first_path : (code : Listing) (through : List (Option ℕ)) (longest : List ℕ) → AreRight code through longest → (n : ℕ)
+    → n ≤ reach code through longest [] 0 → HasFirst code n
+first_path code through longest h zero le = record { path = []; is = tt; long = refl }
+first_path code through longest h (suc n) le =
+    let w = land_word code through longest [] 0 (omega arith) (omega arith) in
+    let p = has_path code through longest h n (standing 0 []) (omega arith) w (omega arith) in
+    record { path = standing 0 [] ∷ p.more; is = (refl, w, p.are); long = let e = p.long in omega (arith, e) }
 
--- the word that is read at a place
-pub word_there : (code : Listing) (place : ℕ) (read : List Word) (default word : Word)
-    → read ≡ code.instructions → place < length code.instructions → get_or read place default ≡ word
-    → slice_get code.instructions place ≡ Some word
-word_there code place read default word e lt is =
-    ap (λ (l : List Word). slice_get l place) (sym e)
-    ∙ slice_get-get_or read place default (omega (arith, ap length e, lt)) ∙ ap Some is
+pub bound_is : (code : Listing) (through : List (Option ℕ)) (longest : List ℕ) → AreRight code through longest
+    → reach code through longest [] 0 ≤ most_steps → IsBound code (reach code through longest [] 0)
+bound_is code through longest h le =
+    let p = first_path code through longest h (reach code through longest [] 0) (le_refl _) in
+    record {
+      path = p.path;
+      is = p.is;
+      long = p.long;
+      greatest = λ path is. let f = path_long code through longest h path is in omega (arith, f, le);
+    }
 
--- ---- no path is longer than the code
+pub too_long : (code : Listing) (through : List (Option ℕ)) (longest : List ℕ) → AreRight code through longest
+    → most_steps < reach code through longest [] 0 → IsTooLong code
+too_long code through longest h gt =
+    let p = first_path code through longest h cap (omega (arith, gt)) in
+    record { path = p.path; is = p.is; long = let e = p.long in omega (arith, e) }
 
-jumps_ahead : (code : Listing) (place target to : ℕ) → IsJumpTo code place target to → place < to
-jumps_ahead code place target to j = let a = ahead code place target j.lawful in omega (arith, a, j.is)
+-- ---- when all bodies are filled in
 
-or_ahead : (code : Listing) (place target to : ℕ) → ((to ≡ place + 1) ⊎ IsJumpTo code place target to) → place < to
-or_ahead code place target to (inl e) = omega (arith, e)
-or_ahead code place target to (inr j) = jumps_ahead code place target to j
-
-pub forward : (code : Listing) (place to : ℕ) (word : Word) → LeadsTo code word place to → place < to
-forward code place to (words.Load negated operand) h = omega (arith, h)
-forward code place to (words.Apply operator operand) h = omega (arith, h)
-forward code place to (words.Transform function) h = omega (arith, h)
-forward code place to (words.Store negated variable) h = omega (arith, h)
-forward code place to (words.Set variable) h = omega (arith, h)
-forward code place to (words.Reset variable) h = omega (arith, h)
-forward code place to (words.Pass port block operand) h = omega (arith, h)
-forward code place to (words.Call block) h = omega (arith, h)
-forward code place to (words.Open operator) h = omega (arith, h)
-forward code place to words.Close h = omega (arith, h)
-forward code place to (words.Jump Always target) h = jumps_ahead code place target to h
-forward code place to (words.Jump IfTrue target) h = or_ahead code place target to h
-forward code place to (words.Jump IfFalse target) h = or_ahead code place target to h
-
-few_next : (code : Listing) (place : ℕ) (more : List ℕ) → place < length code.instructions → AreNext code place more
-    → length more + place < length code.instructions
-few_next code place [] lt h = omega arith
-few_next code place (to ∷ more) lt h =
-    let e = forward code place to h.0.word h.0.leads in
-    let f = few_next code to more h.0.within h.1 in
-    omega (arith, e, f)
-
-pub few_words : (code : Listing) (place words : ℕ) → place < length code.instructions
-    → IsLongestFrom code place words → words + place ≤ length code.instructions
-few_words code place words lt l = let f = few_next code place l.path lt l.is in omega (arith, f, l.long)
-
--- ---- the bound
-
-greatest_from : (code : Listing) (words : ℕ) → IsLongestFrom code 0 words → (places : List ℕ) → IsPath code places
-    → length places ≤ words
-greatest_from code words l [] h = omega arith
-greatest_from code words l (place ∷ more) h =
-    let g = l.greatest more (subst (λ (p : ℕ). AreNext code p more) h.0 h.2) in omega (arith, g)
-
-none_from : (code : Listing) → length code.instructions ≤ 0 → (places : List ℕ) → IsPath code places
-    → length places ≤ 0
-none_from code le [] h = omega arith
-none_from code le (place ∷ more) h = absurd (omega (arith, h.1, le))
-
-pub bound_is : (code : Listing) (kept : List ℕ) → AreLongest code kept 0 → IsBound code (words_at kept 0)
-bound_is code kept l =
-    elim (cases_lt 0 (length code.instructions)) as (λ _. IsBound code (words_at kept 0)) [
-      | inl lt ↦ let f = l.each 0 (omega arith) lt in record {
-        path = 0 ∷ f.path;
-        is = (refl, lt, f.is);
-        long = let e = f.long in omega (arith, e);
-        greatest = greatest_from code (words_at kept 0) f;
-      }
-      | inr ge ↦ let z = get_or_past kept 0 0 (omega (arith, l.long, ge)) in record {
-        path = [];
-        is = tt;
-        long = sym z;
-        greatest = λ places h. let n = none_from code ge places h in omega (arith, n, z);
-      }
-    ]
+pub all_right : (code : Listing) (through : List (Option ℕ)) (longest : List ℕ) → HasGoodCalls code → IsLawful code
+    → AreThrough code Words through → IsFilled code 0 (longest_from code through) longest 0 0
+    → AreRight code through longest
+all_right code through longest good lawful done f = record {
+  good = good;
+  lawful = lawful;
+  ways = done;
+  each = each;
+}
+  where
+    each : (body : ℕ) → AreRightFrom code 0 (longest_from code through) longest body (start_of code body)
+    each zero = f.right
+    each (suc b) = f.done (suc b) (record { function = omega arith; earlier = inl refl })

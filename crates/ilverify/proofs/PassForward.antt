@@ -1,23 +1,23 @@
--- The certificate that says most, from word to word: before the first, over a word that is not reached, over one that
--- has its rule, and at one that is refused.
+-- The certificate that says most, from word to word: over a word that is not reached, over one that has its rule, and
+-- at one that is refused.
 use Rattle.std.proofs.Common.{◌≡◌, ℕ, ◌+◌, ◌<◌, ◌≤◌, ◌⊎◌, inl, inr, length, Bool, true, false, Option, Some}
-use Rattle.std.proofs.Common.{None, refl, sym, ap, ◌∙◌, subst, arith}
-use Rattle.std.specs.Prelude.{IsTrue, replicate, slice_get}
+use Rattle.std.proofs.Common.{None, refl, sym, ap, ◌∙◌, subst, arith, cond}
+use Rattle.std.specs.Prelude.{IsTrue, slice_get, nat_lt}
 use Rattle.std.specs.Option.{option_map}
-use Rattle.std.proofs.lemmas.Bool.{cases_eq}
-use Rattle.std.proofs.lemmas.List.{length-replicate}
+use Rattle.std.proofs.lemmas.Bool.{cases_eq, cases_lt}
+use Rattle.std.proofs.lemmas.Bool.Decides.{nat_tests}
 use Rattle.std.proofs.lemmas.Option.{slice_get_within}
 use Rattle.ilcode.specs.declared.word.Word.{Word}
 use Rattle.ilcode.specs.declared.word.Word.TheVariants as words
-use Rattle.ilcode.specs.Listings.{Listing}
+use Rattle.ilcode.specs.Listings.{Listing, IsLawful, start_of, end_of, body_at}
 use Rattle.ilcode.specs.Steps.{is_start, is_target}
-use Rattle.ilcode.proofs.Runs.{target_ahead}
+use Rattle.ilcode.proofs.Bodies.{target_ahead}
 use Rattle.ilranges.specs.declared.cause.Cause.{Cause}
 use Rattle.ilranges.specs.declared.cause.Cause.TheVariants as causes
 use Rattle.ilranges.specs.declared.entry.Entry.{Entry}
 use Rattle.ilranges.specs.Causes.{IsLeastCause}
 use Rattle.ilranges.specs.Entries.{IsInto, opening, arriving}
-use Rattle.ilranges.specs.Refusals.{ArisesAtWord}
+use Rattle.ilranges.specs.Refusals.{IsClosedAt, HasToClose, StaysOpen, open_after, ArisesAtWord}
 use Rattle.ilranges.specs.Rules.{Ways, IsWay, AreWaysOf, IsRule}
 use Rattle.ilranges.specs.Order.{IsWayInto}
 use Rattle.ilranges.proofs.WordParentheses.{IsMetOrClosed, rule_met}
@@ -25,9 +25,10 @@ use Rattle.ilranges.proofs.OrderRefusals.{keeps_refusals}
 use Rattle.ilranges.proofs.OrderWays.{keeps_order}
 use Rattle.ilverify.specs.Certificates.{Certificate, Leads, are_closed, is_closed, is_met, IsFine, IsConsistentBelow}
 use Rattle.ilverify.specs.Certificates.{IsCertified, Covers, IsClosest, IsRangeRefusal}
-use Rattle.ilverify.specs.PassSteps.{target_of}
-use Rattle.ilverify.proofs.PassGrowth.{below, leads_on, leads_wider, covers_trans, LeadsIf, Takes, AreStarts, starts_kept}
-use Rattle.ilverify.proofs.Lists.{get_replicate}
+use Rattle.ilverify.specs.PassSteps.{target_of, coming}
+use Rattle.ilverify.proofs.BodyEnds.{end_within, place_within, end_closed}
+use Rattle.ilverify.proofs.PassGrowth.{below, leads_on, leads_wider, covers_trans, LeadsIf, Takes, AreStarts}
+use Rattle.ilverify.proofs.PassGrowth.{starts_kept}
 use Rattle.ilverify.proofs.PassEntries.{HasNoResult, into_trans, into_forgotten, forgotten_into, forgotten_none}
 use Rattle.ilverify.proofs.PassEntries.{closed_wider, closed_is}
 
@@ -44,7 +45,8 @@ next_way (words.Jump condition target) place ways after e = inr (refl, e)
 next_way word place ways after e = (refl, e)
 
 target_way : (code : Listing) (entry : Entry) (word : Word) (place : ℕ) (ways : Ways) (after : Entry)
-    → AreWaysOf code entry word ways → ways.target ≡ Some after → IsWay word place ways (target_of place word) after
+    → AreWaysOf code place entry word ways → ways.target ≡ Some after
+    → IsWay word place ways (target_of place word) after
 target_way code entry (words.Jump condition target) place ways after h e = inl (refl, e)
 target_way code entry word place ways after h e = let n = h.target in let k : ⊥ = cc in absurd k
 
@@ -59,35 +61,6 @@ target_forward code place met entry (words.Jump condition target) ways rule =
     target_ahead code place target (true_of (is_target code place target) (rule.lawful causes.BadJump))
 target_forward code place met entry word ways rule = omega arith
 
--- ---- before the first word
-
--- no word is reached
-pub record IsBlank (code : Listing) (certificate : Certificate) : Type 0 where
-  pub long : length certificate ≡ length code.instructions
-  pub none : (place : ℕ) (entry : Entry) → ¬ (slice_get certificate place ≡ Some (Some entry))
-
-pub blank : (code : Listing) → IsBlank code (replicate (length code.instructions) None)
-blank code = record {
-  long = length-replicate (length code.instructions) None;
-  none = λ place entry e.
-      let f = get_replicate (length code.instructions) place None (Some entry) e in let k : ⊥ = cc in k;
-}
-
--- the first word alone is reached
-pub opened : (code : Listing) (a b : Certificate) → IsBlank code a → Takes a 0 (Some (opening code)) b
-    → IsClosest code b 0
-opened code a b h t = record {
-  consistent = record {
-    long = t.long ∙ h.long;
-    first = λ lt. t.leads (omega (arith, lt, t.long, h.long));
-    starts = starts_kept code a b 0 (Some (opening code)) t (λ place entry s e. absurd (h.none place entry e))
-        (λ entry e s. let q : opening code ≡ entry = cc in subst HasNoResult q (refl, refl));
-    each = λ place entry word lt ws es. absurd (omega arith);
-  };
-  covers = λ other o. t.least other (o.long ∙ sym h.long) (λ place entry e. absurd (h.none place entry e))
-      (λ lt. o.first (omega (arith, lt, o.long)));
-}
-
 -- ---- a word that is not reached
 
 pub skipped : (code : Listing) (a : Certificate) (n : ℕ) → IsClosest code a n
@@ -95,7 +68,7 @@ pub skipped : (code : Listing) (a : Certificate) (n : ℕ) → IsClosest code a 
 skipped code a n h none = record {
   consistent = record {
     long = h.consistent.long;
-    first = h.consistent.first;
+    begins = h.consistent.begins;
     starts = h.consistent.starts;
     each = λ place entry word lt ws es.
         elim (cases_eq place n) [
@@ -108,25 +81,48 @@ skipped code a n h none = record {
 
 -- ---- a word that has its rule
 
--- what is known where a way arrives
-abbrev pub arrived : Listing → ℕ → Option Entry → Option Entry
-arrived code to way = option_map (arriving code to) way
+-- where a way comes to a place of the body, and where to the body's end
+pub coming_in : (code : Listing) (end to : ℕ) (way : Option Entry) → to < end
+    → coming code end to way ≡ option_map (arriving code to) way
+coming_in code end to way lt =
+    let test : nat_lt to end ≡ true = grind (arith, nat_tests) in
+    ap (λ (b : Bool). cond b (option_map (arriving code to) way) None) test
 
-arrived_none : (code : Listing) (to : ℕ) (way : Option Entry) (entry : Entry) → arrived code to way ≡ Some entry
-    → IsTrue (is_start code to) → HasNoResult entry
-arrived_none code to None entry e t = let k : ⊥ = cc in absurd k
-arrived_none code to (Some x) entry e t =
+pub coming_out : (code : Listing) (end to : ℕ) (way : Option Entry) → end ≤ to → coming code end to way ≡ None
+coming_out code end to way ge =
+    let test : nat_lt to end ≡ false = grind (arith, nat_tests) in
+    ap (λ (b : Bool). cond b (option_map (arriving code to) way) None) test
+
+arriving_none : (code : Listing) (to : ℕ) (way : Option Entry) (entry : Entry)
+    → option_map (arriving code to) way ≡ Some entry → IsTrue (is_start code to) → HasNoResult entry
+arriving_none code to None entry e t = let k : ⊥ = cc in absurd k
+arriving_none code to (Some x) entry e t =
     let q : arriving code to x ≡ entry = cc in subst HasNoResult q (forgotten_none (is_start code to) x t)
 
+coming_none : (code : Listing) (end to : ℕ) (way : Option Entry) (entry : Entry)
+    → coming code end to way ≡ Some entry → IsTrue (is_start code to) → HasNoResult entry
+coming_none code end to way entry e t =
+    elim (cases_lt to end) [
+      | inl lt ↦ arriving_none code to way entry (sym (coming_in code end to way lt) ∙ e) t
+      | inr ge ↦ let gone = coming_out code end to way (omega (arith, ge)) in let k : ⊥ = cc in absurd k
+    ]
+
 -- the certificate holds what is known on a way that has arrived
-leads_way : (code : Listing) (certificate : Certificate) (to : ℕ) (way : Option Entry) (after : Entry)
-    → way ≡ Some after → LeadsIf certificate to (arrived code to way) → to < length certificate
+leads_arriving : (code : Listing) (certificate : Certificate) (to : ℕ) (way : Option Entry) (after : Entry)
+    → way ≡ Some after → LeadsIf certificate to (option_map (arriving code to) way) → to < length certificate
     → Leads certificate to after
-leads_way code certificate to None after e l lt = let k : ⊥ = cc in absurd k
-leads_way code certificate to (Some x) after e l lt =
+leads_arriving code certificate to None after e l lt = let k : ⊥ = cc in absurd k
+leads_arriving code certificate to (Some x) after e l lt =
     let q : x ≡ after = cc in
     subst (Leads certificate to) q
     (leads_on certificate to x (arriving code to x) (into_forgotten (is_start code to) x) (l lt))
+
+leads_way : (code : Listing) (certificate : Certificate) (end to : ℕ) (way : Option Entry) (after : Entry)
+    → way ≡ Some after → LeadsIf certificate to (coming code end to way) → to < end → to < length certificate
+    → Leads certificate to after
+leads_way code certificate end to way after e l within lt =
+    leads_arriving code certificate to way after e
+    (subst (LeadsIf certificate to) (coming_in code end to way within) l) lt
 
 leads_grow : (a b : Certificate) (to : ℕ) (way : Option Entry) → length b ≡ length a → Covers a b → LeadsIf a to way
     → LeadsIf b to way
@@ -155,37 +151,80 @@ closed_entry (Some None) h = let k : ⊥ = cc in absurd k
 closed_entry (Some (Some entry)) h = record { entry = entry; is = refl; closed = h }
 
 -- where a word leads to an entry with nothing open, it leaves nothing open
-met_or_closed : (code : Listing) (c : Certificate) (n : ℕ) (met : Bool) (ways : Ways)
-    → LeadsIf c (n + 1) (arrived code (n + 1) ways.next) → IsMetOrClosed met (is_met c (n + 1)) ways
-met_or_closed code c n met ways l after e j =
+met_or_closed : (code : Listing) (c : Certificate) (end n : ℕ) (met : Bool) (ways : Ways) → n + 1 < end
+    → LeadsIf c (n + 1) (coming code end (n + 1) ways.next) → IsMetOrClosed met (is_met c (n + 1)) ways
+met_or_closed code c end n met ways within l after e j =
     let there = closed_entry (slice_get c (n + 1)) j in
     let lt = slice_get_within c (n + 1) (Some there.entry) there.is in
-    let here = leads_way code c (n + 1) ways.next after e l lt in
+    let here = leads_way code c end (n + 1) ways.next after e l within lt in
     let same : here.wider ≡ there.entry = let x = here.is in let y = there.is in cc in
     let closed : are_closed after.nesting ≡ are_closed there.entry.nesting =
     closed_wider after there.entry (subst (IsInto after) same here.into) in
     inr (closed_is after.nesting (subst IsTrue (sym closed) there.closed))
 
+-- at the end of a body nothing may be open, whatever leads there
+closes_there : (code : Listing) (n : ℕ) (met : Bool) (word : Word) → IsClosedAt code (n + 1) met
+    → HasToClose code n met word
+closes_there code n met (words.Jump condition target) h = tt
+closes_there code n met word h = h
+
+open_anyway : (code : Listing) (n count : ℕ) (met other : Bool) (word : Word) → IsClosedAt code (n + 1) met
+    → StaysOpen code n other word count → StaysOpen code n met word count
+open_anyway code n count met other word h (inl s) = inl (s.0, closes_there code n met word h)
+open_anyway code n count met other word h (inr s) = inr s
+
+rule_closed : (code : Listing) (n : ℕ) (met other : Bool) (entry : Entry) (word : Word) (ways : Ways)
+    → IsClosedAt code (n + 1) met → IsRule code n met entry word ways → IsRule code n other entry word ways
+rule_closed code n met other entry word ways h r = record { lawful = λ cause a. lawful cause a; leaves = r.leaves }
+  where
+    lawful : (cause : Cause) → ¬ ArisesAtWord code n other entry word cause
+    lawful causes.OpenNesting a =
+        r.lawful causes.OpenNesting (open_anyway code n (open_after word (length entry.nesting)) met other word h a)
+    lawful cause a = r.lawful cause a
+
+-- the rule that the word has holds by the certificate that has taken in the word's ways
+rule_here : (code : Listing) (c : Certificate) (n : ℕ) (met : Bool) (entry : Entry) (word : Word) (ways : Ways)
+    → IsLawful code → n < length code.instructions → IsRule code n met entry word ways
+    → LeadsIf c (n + 1) (coming code (end_of code (body_at code n)) (n + 1) ways.next)
+    → IsRule code n (is_met c (n + 1)) entry word ways
+rule_here code c n met entry word ways lawful lt rule next =
+    let end = end_of code (body_at code n) in
+    elim (cases_lt (n + 1) end) [
+      | inl within ↦
+          rule_met code n met (is_met c (n + 1)) entry word ways
+          (met_or_closed code c end n met ways within next) rule
+      | inr ge ↦
+          let inside = place_within code n lt in
+          let last : n + 1 ≡ end = omega (arith, inside, ge) in
+          rule_closed code n met (is_met c (n + 1)) entry word ways
+          (end_closed code (body_at code n) (n + 1) met last) rule
+    ]
+
 -- what the word leaves at its place is fine
 fine_here : (code : Listing) (c : Certificate) (n : ℕ) (met : Bool) (entry : Entry) (word : Word) (ways : Ways)
-    → length c ≡ length code.instructions → IsRule code n met entry word ways
-    → LeadsIf c (target_of n word) (arrived code (target_of n word) ways.target)
-    → LeadsIf c (n + 1) (arrived code (n + 1) ways.next) → IsFine code c n entry word
-fine_here code c n met entry word ways long rule target next = record {
-  ways = ways;
-  rule = rule_met code n met (is_met c (n + 1)) entry word ways (met_or_closed code c n met ways next) rule;
-  leads = λ to after way lt.
-      let within : to < length c = omega (arith, lt, long) in
-      elim (way_is word n ways to after way) [
-        | inl t ↦
-            subst (λ (p : ℕ). Leads c p after) (sym t.0)
-            (leads_way code c (target_of n word) ways.target after t.1 target
-            (subst (λ (p : ℕ). p < length c) t.0 within))
-        | inr t ↦
-            subst (λ (p : ℕ). Leads c p after) (sym t.0)
-            (leads_way code c (n + 1) ways.next after t.1 next (subst (λ (p : ℕ). p < length c) t.0 within))
-      ];
-}
+    → IsLawful code → n < length code.instructions → length c ≡ length code.instructions
+    → IsRule code n met entry word ways
+    → LeadsIf c (target_of n word) (coming code (end_of code (body_at code n)) (target_of n word) ways.target)
+    → LeadsIf c (n + 1) (coming code (end_of code (body_at code n)) (n + 1) ways.next)
+    → IsFine code c n entry word
+fine_here code c n met entry word ways lawful inside long rule target next =
+    let end = end_of code (body_at code n) in
+    record {
+      ways = ways;
+      rule = rule_here code c n met entry word ways lawful inside rule next;
+      leads = λ to after way lt.
+          let within : to < length c = let e = end_within code (body_at code n) lawful in omega (arith, lt, long, e) in
+          elim (way_is word n ways to after way) [
+            | inl t ↦
+                subst (λ (p : ℕ). Leads c p after) (sym t.0)
+                (leads_way code c end (target_of n word) ways.target after t.1 target
+                (subst (λ (p : ℕ). p < end) t.0 lt) (subst (λ (p : ℕ). p < length c) t.0 within))
+            | inr t ↦
+                subst (λ (p : ℕ). Leads c p after) (sym t.0)
+                (leads_way code c end (n + 1) ways.next after t.1 next
+                (subst (λ (p : ℕ). p < end) t.0 lt) (subst (λ (p : ℕ). p < length c) t.0 within))
+          ];
+    }
 
 -- the word, whatever the names of word and entry
 fine_at : (code : Listing) (certificate : Certificate) (n place : ℕ) (entry known : Entry)
@@ -202,7 +241,7 @@ fine_at code certificate n place entry known word instruction q w ws b fine =
 -- another certificate leads where its wider ways lead, so it holds what arrives there
 arrives_there : (code : Listing) (other : Certificate) (to : ℕ) (way wider : Option Entry) → AreStarts code other
     → IsWayInto way wider → ((after : Entry) → wider ≡ Some after → to < length other → Leads other to after)
-    → LeadsIf other to (arrived code to way)
+    → LeadsIf other to (option_map (arriving code to) way)
 arrives_there code other to None wider starts w f = tt
 arrives_there code other to (Some x) None starts w f = absurd w
 arrives_there code other to (Some x) (Some y) starts w f = λ lt.
@@ -214,6 +253,17 @@ arrives_there code other to (Some x) (Some y) starts w f = λ lt.
           (into_trans x y l.wider w l.into);
     }
 
+comes_there : (code : Listing) (other : Certificate) (end to : ℕ) (way wider : Option Entry) → AreStarts code other
+    → IsWayInto way wider → ((after : Entry) → wider ≡ Some after → to < end → Leads other to after)
+    → LeadsIf other to (coming code end to way)
+comes_there code other end to way wider starts w f =
+    elim (cases_lt to end) [
+      | inl lt ↦
+          subst (LeadsIf other to) (sym (coming_in code end to way lt))
+          (arrives_there code other to way wider starts w (λ after e inside. f after e lt))
+      | inr ge ↦ subst (LeadsIf other to) (sym (coming_out code end to way (omega (arith, ge)))) tt
+    ]
+
 -- the entries up to the word stay
 same_below : (a b c : Certificate) (n target : ℕ) (way next : Option Entry) → n < target → Takes a target way b
     → Takes b (n + 1) next c → (place : ℕ) → place ≤ n → slice_get c place ≡ slice_get a place
@@ -221,25 +271,28 @@ same_below a b c n target way next ahead t u place le =
     u.elsewhere place (λ q. omega (arith, q, le)) ∙ t.elsewhere place (λ q. omega (arith, ahead, q, le))
 
 passed_consistent : (code : Listing) (a b c : Certificate) (n : ℕ) (entry : Entry) (word : Word) (ways : Ways)
-    → IsConsistentBelow code a n → slice_get code.instructions n ≡ Some word → slice_get a n ≡ Some (Some entry)
-    → IsRule code n (is_met a (n + 1)) entry word ways
-    → Takes a (target_of n word) (arrived code (target_of n word) ways.target) b
-    → Takes b (n + 1) (arrived code (n + 1) ways.next) c → IsConsistentBelow code c (n + 1)
-passed_consistent code a b c n entry word ways k w e rule t u =
+    → IsLawful code → IsConsistentBelow code a n → slice_get code.instructions n ≡ Some word
+    → slice_get a n ≡ Some (Some entry) → IsRule code n (is_met a (n + 1)) entry word ways
+    → Takes a (target_of n word) (coming code (end_of code (body_at code n)) (target_of n word) ways.target) b
+    → Takes b (n + 1) (coming code (end_of code (body_at code n)) (n + 1) ways.next) c
+    → IsConsistentBelow code c (n + 1)
+passed_consistent code a b c n entry word ways lawful k w e rule t u =
     let long : length c ≡ length a = u.long ∙ t.long in
     let covers : Covers a c = covers_trans a b c t.kept u.kept in
     let ahead = target_forward code n (is_met a (n + 1)) entry word ways rule in
     let same = same_below a b c n (target_of n word) _ _ ahead t u in
-    let target = arrived code (target_of n word) ways.target in
-    let next = arrived code (n + 1) ways.next in
-    let here : IsFine code c n entry word = fine_here code c n (is_met a (n + 1)) entry word ways (long ∙ k.long) rule
-    (leads_grow b c (target_of n word) target u.long u.kept t.leads) u.leads in
+    let end = end_of code (body_at code n) in
+    let target = coming code end (target_of n word) ways.target in
+    let next = coming code end (n + 1) ways.next in
+    let inside = slice_get_within code.instructions n word w in
+    let here : IsFine code c n entry word = fine_here code c n (is_met a (n + 1)) entry word ways lawful inside
+    (long ∙ k.long) rule (leads_grow b c (target_of n word) target u.long u.kept t.leads) u.leads in
     record {
       long = long ∙ k.long;
-      first = λ lt. leads_wider a c 0 (opening code) covers (k.first lt);
+      begins = λ body lt. leads_wider a c (start_of code body) (opening code) covers (k.begins body lt);
       starts = starts_kept code b c (n + 1) next u
           (starts_kept code a b (target_of n word) target t k.starts
-          (arrived_none code (target_of n word) ways.target)) (arrived_none code (n + 1) ways.next);
+          (coming_none code end (target_of n word) ways.target)) (coming_none code end (n + 1) ways.next);
       each = λ place known instruction lt ws es.
           let old = sym (same place (omega arith)) ∙ es in
           elim (cases_eq place n) [
@@ -257,30 +310,33 @@ passed_consistent code a b c n entry word ways k w e rule t u =
 passed_covers : (code : Listing) (a b c other : Certificate) (n : ℕ) (entry : Entry) (word : Word) (ways : Ways)
     → IsClosest code a n → slice_get code.instructions n ≡ Some word → slice_get a n ≡ Some (Some entry)
     → IsRule code n (is_met a (n + 1)) entry word ways
-    → Takes a (target_of n word) (arrived code (target_of n word) ways.target) b
-    → Takes b (n + 1) (arrived code (n + 1) ways.next) c → IsConsistentBelow code other (n + 1) → Covers c other
+    → Takes a (target_of n word) (coming code (end_of code (body_at code n)) (target_of n word) ways.target) b
+    → Takes b (n + 1) (coming code (end_of code (body_at code n)) (n + 1) ways.next) c
+    → IsConsistentBelow code other (n + 1) → Covers c other
 passed_covers code a b c other n entry word ways h w e rule t u o =
     let covers = h.covers other (below code other n (n + 1) (omega arith) o) in
     let at = covers n entry e in
     let fine = o.each n at.wider word (omega arith) w at.is in
-    let m = keeps_order word code entry at.wider ways fine.ways at.into rule.leaves fine.rule.leaves in
+    let m = keeps_order word code n entry at.wider ways fine.ways at.into rule.leaves fine.rule.leaves in
     let long_a : length other ≡ length a = o.long ∙ sym h.consistent.long in
     let long_b : length other ≡ length b = long_a ∙ sym t.long in
-    let target = arrives_there code other (target_of n word) ways.target fine.ways.target o.starts m.1
+    let end = end_of code (body_at code n) in
+    let target = comes_there code other end (target_of n word) ways.target fine.ways.target o.starts m.1
     (λ after way lt. fine.leads (target_of n word) after
-    (target_way code at.wider word n fine.ways after fine.rule.leaves way) (omega (arith, lt, o.long))) in
-    let next = arrives_there code other (n + 1) ways.next fine.ways.next o.starts m.0
-    (λ after way lt. fine.leads (n + 1) after (next_way word n fine.ways after way) (omega (arith, lt, o.long))) in
+    (target_way code at.wider word n fine.ways after fine.rule.leaves way) lt) in
+    let next = comes_there code other end (n + 1) ways.next fine.ways.next o.starts m.0
+    (λ after way lt. fine.leads (n + 1) after (next_way word n fine.ways after way) lt) in
     u.least other long_b (t.least other long_a covers target) next
 
 -- the certificate takes in what the word's ways bring, to a jump's target first
 pub passed : (code : Listing) (a b c : Certificate) (n : ℕ) (entry : Entry) (word : Word) (ways : Ways)
-    → IsClosest code a n → slice_get code.instructions n ≡ Some word → slice_get a n ≡ Some (Some entry)
-    → IsRule code n (is_met a (n + 1)) entry word ways
-    → Takes a (target_of n word) (arrived code (target_of n word) ways.target) b
-    → Takes b (n + 1) (arrived code (n + 1) ways.next) c → IsClosest code c (n + 1)
-passed code a b c n entry word ways h w e rule t u = record {
-  consistent = passed_consistent code a b c n entry word ways h.consistent w e rule t u;
+    → IsLawful code → IsClosest code a n → slice_get code.instructions n ≡ Some word
+    → slice_get a n ≡ Some (Some entry) → IsRule code n (is_met a (n + 1)) entry word ways
+    → Takes a (target_of n word) (coming code (end_of code (body_at code n)) (target_of n word) ways.target) b
+    → Takes b (n + 1) (coming code (end_of code (body_at code n)) (n + 1) ways.next) c
+    → IsClosest code c (n + 1)
+passed code a b c n entry word ways lawful h w e rule t u = record {
+  consistent = passed_consistent code a b c n entry word ways lawful h.consistent w e rule t u;
   covers = λ other o. passed_covers code a b c other n entry word ways h w e rule t u o;
 }
 

@@ -22,7 +22,7 @@ pub below : (code : Listing) (certificate : Certificate) (m n : ℕ) → m ≤ n
     → IsConsistentBelow code certificate m
 below code certificate m n le k = record {
   long = k.long;
-  first = k.first;
+  begins = k.begins;
   starts = k.starts;
   each = λ place entry word lt ws es. k.each place entry word (omega arith) ws es;
 }

@@ -2,13 +2,13 @@
 use Rattle.std.proofs.Common.{◌≡◌, ℕ, zero, suc, ◌+◌, ◌<◌, List, [], ◌∷◌, length, Option, Some, None, refl, sym}
 use Rattle.std.proofs.Common.{ap}
 use Rattle.std.proofs.Common.{◌∙◌, subst, arith, length-set, ◌⊎◌, inl, inr, Bool}
-use Rattle.std.specs.Prelude.{IsTrue, replicate, slice_get, slice_set}
+use Rattle.std.specs.Prelude.{IsTrue, slice_get, slice_set}
 use Rattle.std.specs.List.{AllZip}
 use Rattle.std.specs.Option.{option_map}
 use Rattle.std.proofs.lemmas.Bool.{cases_eq, cases_lt}
 use Rattle.std.proofs.lemmas.List.{set_past}
 use Rattle.ilcode.specs.declared.word.Word.{Word}
-use Rattle.ilcode.specs.Listings.{Listing}
+use Rattle.ilcode.specs.Listings.{Listing, IsLawful, end_of, body_at}
 use Rattle.ilcode.specs.Steps.{is_start}
 use Rattle.ilranges.specs.declared.change.Changes.{Changes}
 use Rattle.ilranges.specs.declared.entry.Entry.{Entry}
@@ -18,10 +18,10 @@ use Rattle.ilranges.specs.declared.nesting.KnownOpened.{KnownOpened}
 use Rattle.ilranges.specs.Refusals.{HasToClose}
 use Rattle.ilranges.specs.Rules.{Ways, AreWaysOf, IsRule}
 use Rattle.ilverify.specs.Certificates.{Certificate, are_closed, is_closed, is_met}
-use Rattle.ilverify.specs.PassSteps.{CanJoin, CanMeetAt, CanMeetIf, IsMeetingAt, Meets, MeetsIf, target_of, AreFollowed}
+use Rattle.ilverify.specs.PassSteps.{CanJoin, CanMeetIf, IsMeetingAt, Meets, MeetsIf, coming, target_of, AreFollowed}
 use Rattle.ilverify.specs.PassSteps.{AreTyped}
 use Rattle.ilverify.specs.PassSteps.{AreBounded, IsFound}
-use Rattle.ilverify.proofs.PassForward.{blank, opened, skipped, target_forward, passed}
+use Rattle.ilverify.proofs.PassForward.{coming_in, coming_out, skipped, target_forward, passed}
 use Rattle.ilverify.proofs.PassGrowth.{Takes, takes_none, takes_in, takes_out}
 use Rattle.ilverify.proofs.Lists.{same_set, other_set}
 use Rattle.ilverify.proofs.PassEntries.{into_self}
@@ -65,19 +65,19 @@ pub record Lifts (pending new certificate : Certificate) (to : ℕ) (way : Optio
   pub same : (place : ℕ) → slice_get pending place ≡ slice_get certificate place
       → slice_get new place ≡ slice_get grown place
 
-from_old : (at : Option (Option Entry)) (way entry old : Entry) → at ≡ Some (Some old) → IsMeetingAt at way entry
+pub from_old : (at : Option (Option Entry)) (way entry old : Entry) → at ≡ Some (Some old) → IsMeetingAt at way entry
     → IsInto old entry
 from_old None way entry old e m = absurd (cc)
 from_old (Some None) way entry old e m = absurd (cc)
 from_old (Some (Some x)) way entry old e m =
     let q : x ≡ old = cc in subst (λ (y : Entry). IsInto y entry) q m.from_one
 
-from_way : (at : Option (Option Entry)) (way entry : Entry) → IsMeetingAt at way entry → IsInto way entry
+pub from_way : (at : Option (Option Entry)) (way entry : Entry) → IsMeetingAt at way entry → IsInto way entry
 from_way None way entry m = subst (IsInto way) (sym m) (into_self way)
 from_way (Some None) way entry m = subst (IsInto way) (sym m) (into_self way)
 from_way (Some (Some old)) way entry m = m.from_other
 
-least_at : (at : Option (Option Entry)) (way entry wider : Entry) → IsMeetingAt at way entry → IsInto way wider
+pub least_at : (at : Option (Option Entry)) (way entry wider : Entry) → IsMeetingAt at way entry → IsInto way wider
     → ((old : Entry) → at ≡ Some (Some old) → IsInto old wider) → IsInto entry wider
 least_at None way entry wider m i all = subst (λ (x : Entry). IsInto x wider) (sym m) i
 least_at (Some None) way entry wider m i all = subst (λ (x : Entry). IsInto x wider) (sym m) i
@@ -127,7 +127,7 @@ none_open [] h = refl
 none_open (x ∷ xs) h = absurd h
 
 -- so may any two of them meet
-bounded_meet : (code : Listing) (old way : Entry) → IsInto old (opening code) → IsInto way (opening code)
+pub bounded_meet : (code : Listing) (old way : Entry) → IsInto old (opening code) → IsInto way (opening code)
     → CanJoin old way
 bounded_meet code old way i j = record {
   meeting = record { wider = opening code; from_one = i; from_other = j };
@@ -199,105 +199,93 @@ next_bounded code place (Some way) old new b m later entry lt e =
 -- ---- the ways from a word
 
 -- what holds of a way that arrives
-arrived_all : (P : Entry → Type 0) (code : Listing) (to : ℕ) (way : Option Entry)
+arriving_all : (P : Entry → Type 0) (code : Listing) (to : ℕ) (way : Option Entry)
     → ((entry : Entry) → way ≡ Some entry → P (arriving code to entry)) → (entry : Entry)
     → option_map (arriving code to) way ≡ Some entry → P entry
-arrived_all P code to None h entry e = absurd (cc)
-arrived_all P code to (Some way) h entry e =
+arriving_all P code to None h entry e = absurd (cc)
+arriving_all P code to (Some way) h entry e =
     let q : arriving code to way ≡ entry = cc in
     subst P q (h way refl)
 
-pub target_bounded : (code : Listing) (place to : ℕ) (met : Bool) (entry : Entry) (word : Word) (ways : Ways)
+coming_all : (P : Entry → Type 0) (code : Listing) (end to : ℕ) (way : Option Entry)
+    → ((entry : Entry) → way ≡ Some entry → P (arriving code to entry)) → (entry : Entry)
+    → coming code end to way ≡ Some entry → P entry
+coming_all P code end to way h entry e =
+    elim (cases_lt to end) [
+      | inl lt ↦ arriving_all P code to way h entry (sym (coming_in code end to way lt) ∙ e)
+      | inr ge ↦ let gone = coming_out code end to way (omega (arith, ge)) in absurd (cc)
+    ]
+
+-- nothing comes where no value goes
+none_comes : (code : Listing) (end to : ℕ) → coming code end to None ≡ None
+none_comes code end to =
+    elim (cases_lt to end) [
+      | inl lt ↦ coming_in code end to None lt
+      | inr ge ↦ coming_out code end to None (omega (arith, ge))
+    ]
+
+pub target_bounded : (code : Listing) (place end to : ℕ) (met : Bool) (entry : Entry) (word : Word) (ways : Ways)
     → AreTyped code entry.slots → IsRule code place met entry word ways
-    → IsBoundedIf code (option_map (arriving code to) ways.target)
-target_bounded code place to met entry word ways t r =
-    arrived_all (λ x. IsInto x (opening code)) code to ways.target
+    → IsBoundedIf code (coming code end to ways.target)
+target_bounded code place end to met entry word ways t r =
+    coming_all (λ x. IsInto x (opening code)) code end to ways.target
     (λ way e. closed_bounded code place to met entry way word ways r
     (target_closes code place met entry way word ways r.leaves e)
-    (target_shaped code entry way word ways t r.leaves e))
+    (target_shaped code place entry way word ways t r.leaves e))
 
-next_arrived : (code : Listing) (place to : ℕ) (met : Bool) (entry : Entry) (word : Word) (ways : Ways)
+next_arrived : (code : Listing) (place end to : ℕ) (met : Bool) (entry : Entry) (word : Word) (ways : Ways)
     → AreTyped code entry.slots → IsRule code place met entry word ways → HasToClose code place met word
-    → IsBoundedIf code (option_map (arriving code to) ways.next)
-next_arrived code place to met entry word ways t r c =
-    arrived_all (λ x. IsInto x (opening code)) code to ways.next
+    → IsBoundedIf code (coming code end to ways.next)
+next_arrived code place end to met entry word ways t r c =
+    coming_all (λ x. IsInto x (opening code)) code end to ways.next
     (λ way e. closed_bounded code place to met entry way word ways r c
-    (next_shaped code entry way word ways t r.leaves e))
+    (next_shaped code place entry way word ways t r.leaves e))
 
-next_is_typed : (code : Listing) (place to : ℕ) (met : Bool) (entry : Entry) (word : Word) (ways : Ways)
+next_is_typed : (code : Listing) (place end to : ℕ) (met : Bool) (entry : Entry) (word : Word) (ways : Ways)
     → AreTyped code entry.slots → IsRule code place met entry word ways → (way : Entry)
-    → option_map (arriving code to) ways.next ≡ Some way → AreTyped code way.slots
-next_is_typed code place to met entry word ways t r =
-    arrived_all (λ x. AreTyped code x.slots) code to ways.next
-    (λ way e. arriving_typed code (is_start code to) way (next_shaped code entry way word ways t r.leaves e).typed)
+    → coming code end to ways.next ≡ Some way → AreTyped code way.slots
+next_is_typed code place end to met entry word ways t r =
+    coming_all (λ x. AreTyped code x.slots) code end to ways.next
+    (λ way e. arriving_typed code (is_start code to) way
+    (next_shaped code place entry way word ways t r.leaves e).typed)
 
 closed_of : (nesting : List KnownOpened) → AllZip IsOpenedInto nesting [] → IsTrue (are_closed nesting)
 closed_of [] h = refl
 closed_of (x ∷ xs) h = absurd h
 
 -- where an entry is kept at the next place, a jump leads there
-kept_closes : (code : Listing) (place to : ℕ) (entry : Entry) (word : Word) (ways : Ways)
+kept_closes : (code : Listing) (place end to : ℕ) (entry : Entry) (word : Word) (ways : Ways)
     (pending between : Certificate) (target : Option Entry) → ways.target ≡ target
-    → AreBounded code place pending → AreWaysOf code entry word ways
-    → MeetsIf pending to (option_map (arriving code to) target) between → (old : Entry)
+    → AreBounded code place pending → AreWaysOf code place entry word ways
+    → MeetsIf pending to (coming code end to target) between → (old : Entry)
     → slice_get between (place + 1) ≡ Some (Some old) → HasToClose code place (is_met pending (place + 1)) word
-kept_closes code place to entry word ways pending between (Some way) q b h m old e =
+kept_closes code place end to entry word ways pending between (Some way) q b h m old e =
     target_closes code place (is_met pending (place + 1)) entry way word ways h q
-kept_closes code place to entry word ways pending between None q b h m old e =
-    let f = sym (ap (λ (l : Certificate). slice_get l (place + 1)) m) ∙ e in
+kept_closes code place end to entry word ways pending between None q b h m old e =
+    let none : MeetsIf pending to None between =
+    subst (λ (w : Option Entry). MeetsIf pending to w between) (none_comes code end to) m in
+    let f = sym (ap (λ (l : Certificate). slice_get l (place + 1)) none) ∙ e in
     let i = b (place + 1) old (omega arith) f in
     met_closes code place (is_met pending (place + 1)) word
     (subst (λ (x : Option (Option Entry)). IsTrue (is_closed x)) (sym f) (closed_of old.nesting i.nesting))
 
-pub kept_bounded : (code : Listing) (place to : ℕ) (entry : Entry) (word : Word) (ways : Ways)
+pub kept_bounded : (code : Listing) (place end to : ℕ) (entry : Entry) (word : Word) (ways : Ways)
     (pending between : Certificate) → AreTyped code entry.slots → AreBounded code place pending
     → IsRule code place (is_met pending (place + 1)) entry word ways
-    → MeetsIf pending to (option_map (arriving code to) ways.target) between → (old : Entry)
+    → MeetsIf pending to (coming code end to ways.target) between → (old : Entry)
     → slice_get between (place + 1) ≡ Some (Some old)
-    → IsBoundedIf code (option_map (arriving code (place + 1)) ways.next)
-kept_bounded code place to entry word ways pending between t b r m old e =
-    next_arrived code place (place + 1) (is_met pending (place + 1)) entry word ways t r
-    (kept_closes code place to entry word ways pending between ways.target refl b r.leaves m old e)
+    → IsBoundedIf code (coming code end (place + 1) ways.next)
+kept_bounded code place end to entry word ways pending between t b r m old e =
+    next_arrived code place end (place + 1) (is_met pending (place + 1)) entry word ways t r
+    (kept_closes code place end to entry word ways pending between ways.target refl b r.leaves m old e)
 
-pub between_bounded : (code : Listing) (place to : ℕ) (met : Bool) (entry : Entry) (word : Word) (ways : Ways)
+pub between_bounded : (code : Listing) (place end to : ℕ) (met : Bool) (entry : Entry) (word : Word) (ways : Ways)
     (pending between : Certificate) → AreTyped code entry.slots → AreBounded code place pending
     → IsRule code place met entry word ways
-    → MeetsIf pending to (option_map (arriving code to) ways.target) between → AreBounded code place between
-between_bounded code place to met entry word ways pending between t b r m =
-    meets_bounded code place to (option_map (arriving code to) ways.target) pending between b
-    (target_bounded code place to met entry word ways t r) m
-
--- ---- before the first word
-
-pub none_meets : (n place : ℕ) (way : Entry) → CanMeetAt (slice_get (replicate n None) place) way
-none_meets zero place way = tt
-none_meets (suc n) zero way = tt
-none_meets (suc n) (suc place) way = none_meets n place way
-
-pub found_first : (code : Listing) (new : Certificate)
-    → Meets (replicate (length code.instructions) None) 0 (opening code) new → IsFound code 0 new
-found_first code new m =
-    let none : Option Entry = None in
-    let unreached = replicate (length code.instructions) none in
-    let is_blank = blank code in
-    let l = lifted unreached new unreached 0 (Some (opening code)) refl refl m in
-    record {
-      certificate = l.grown;
-      closest = opened code unreached l.grown is_blank l.takes;
-      long = l.long ∙ is_blank.long;
-      same = λ later le. l.same later refl;
-      typed = λ entry e.
-          let f = same_set unreached 0 (Some m.entry) (Some entry)
-          (sym (ap (λ (l : Certificate). slice_get l 0) m.is) ∙ e) in
-          let same : m.entry ≡ entry = cc in
-          subst (λ (x : Entry). AreTyped code x.slots) same
-          (least_at (slice_get unreached 0) (opening code) m.entry (opening code) m.meeting
-          (into_self (opening code)) (λ old g. absurd (is_blank.none 0 old g))).slots;
-      bounded = λ later entry lt e.
-          absurd (is_blank.none later entry
-          (sym (other_set unreached 0 later (Some m.entry) (λ q. omega (arith, q, lt)))
-          ∙ sym (ap (λ (l : Certificate). slice_get l later) m.is) ∙ e));
-    }
+    → MeetsIf pending to (coming code end to ways.target) between → AreBounded code place between
+between_bounded code place end to met entry word ways pending between t b r m =
+    meets_bounded code place to (coming code end to ways.target) pending between b
+    (target_bounded code place end to met entry word ways t r) m
 
 -- ---- from word to word
 
@@ -326,15 +314,18 @@ found_skipped code n pending lt f e = record {
 }
 
 pub found_next : (code : Listing) (n : ℕ) (entry : Entry) (word : Word) (changes : Changes)
-    (pending new : Certificate) → IsFound code n pending → slice_get pending n ≡ Some (Some entry)
+    (pending new : Certificate) → IsLawful code → IsFound code n pending → slice_get pending n ≡ Some (Some entry)
     → slice_get code.instructions n ≡ Some word
-    → IsRule code n (is_met (slice_set pending n None) (n + 1)) entry word (ways_of entry changes)
+    → IsRule code n (is_met (slice_set pending n None) (n + 1)) entry word (ways_of code entry changes)
     → AreFollowed code n word entry changes (slice_set pending n None) new → IsFound code (n + 1) new
-found_next code n entry word changes pending new f e w r g =
+found_next code n entry word changes pending new lawful f e w r g =
     let a = f.certificate in
-    let ways = ways_of entry changes in
+    let ways = ways_of code entry changes in
     let rest = slice_set pending n None in
     let to = target_of n word in
+    let end = end_of code (body_at code n) in
+    let off_way = coming code end to ways.target in
+    let on_way = coming code end (n + 1) ways.next in
     let t = f.typed entry e in
     let b = rest_bounded code n pending f.bounded in
     let met : is_met rest (n + 1) ≡ is_met a (n + 1) = ap is_closed
@@ -342,21 +333,20 @@ found_next code n entry word changes pending new f e w r g =
     let rule = subst (λ (m : Bool). IsRule code n m entry word ways) met r in
     let ahead = target_forward code n (is_met rest (n + 1)) entry word ways r in
     let long : length rest ≡ length a = length-set pending n None ∙ f.long ∙ sym f.closest.consistent.long in
-    let off = lifted rest g.between a to (option_map (arriving code to) ways.target) long
-    (rest_same code n pending f to ahead) g.target in
+    let off = lifted rest g.between a to off_way long (rest_same code n pending f to ahead) g.target in
     let between : length g.between ≡ length off.grown = off.long ∙ long ∙ sym off.takes.long in
-    let on = lifted g.between new off.grown (n + 1) (option_map (arriving code (n + 1)) ways.next) between
+    let on = lifted g.between new off.grown (n + 1) on_way between
     (off.same (n + 1) (rest_same code n pending f (n + 1) (omega arith))) g.next in
-    let bounded = between_bounded code n to (is_met rest (n + 1)) entry word ways rest g.between t b r g.target in
+    let bounded = between_bounded code n end to (is_met rest (n + 1)) entry word ways rest g.between t b r g.target in
     record {
       certificate = on.grown;
-      closest = passed code a off.grown on.grown n entry word ways f.closest w
+      closest = passed code a off.grown on.grown n entry word ways lawful f.closest w
           (sym (f.same n (omega arith)) ∙ e) rule off.takes on.takes;
       long = on.long ∙ off.long ∙ length-set pending n None ∙ f.long;
       same = λ later le.
           on.same later (off.same later (rest_same code n pending f later (omega (arith, le))));
-      typed = next_typed code n (option_map (arriving code (n + 1)) ways.next) g.between new bounded
-          (next_is_typed code n (n + 1) (is_met rest (n + 1)) entry word ways t r)
-          (kept_bounded code n to entry word ways rest g.between t b r g.target) g.next;
-      bounded = next_bounded code n (option_map (arriving code (n + 1)) ways.next) g.between new bounded g.next;
+      typed = next_typed code n on_way g.between new bounded
+          (next_is_typed code n end (n + 1) (is_met rest (n + 1)) entry word ways t r)
+          (kept_bounded code n end to entry word ways rest g.between t b r g.target) g.next;
+      bounded = next_bounded code n on_way g.between new bounded g.next;
     }

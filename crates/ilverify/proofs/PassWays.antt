@@ -1,5 +1,5 @@
 -- What is known on the ways from a word stays within the types of the slots, and nothing is open where ways may meet.
-use Rattle.std.proofs.Common.{◌≡◌, ℕ, zero, suc, ℤ, Bool, true, false, cond, List, [], ◌∷◌, length, Option, Some}
+use Rattle.std.proofs.Common.{◌≡◌, ℕ, zero, suc, ◌+◌, ℤ, Bool, true, false, cond, List, [], ◌∷◌, length, Option, Some}
 use Rattle.std.proofs.Common.{None}
 use Rattle.std.proofs.Common.{refl, sym, ap, ◌∙◌, subst, arith, inl, inr}
 use Rattle.std.specs.Prelude.{IsTrue, map, slice_get, slice_set}
@@ -17,7 +17,7 @@ use Rattle.iltypes.specs.declared.operator.Operator.{Operator}
 use Rattle.ilcode.specs.declared.word.Word.{Word}
 use Rattle.ilcode.specs.declared.word.Word.TheVariants as words
 use Rattle.ilcode.specs.declared.word.Target.TheVariants.{Slot, Port}
-use Rattle.ilcode.specs.Listings.{Listing}
+use Rattle.ilcode.specs.Listings.{Listing, slots_end}
 use Rattle.ilcode.specs.Steps.{is_start}
 use Rattle.ilranges.specs.declared.cause.Cause.TheVariants as causes
 use Rattle.ilranges.specs.declared.entry.Entry.{Entry}
@@ -29,7 +29,10 @@ use Rattle.ilranges.specs.declared.nesting.KnownOpened.{KnownOpened}
 use Rattle.ilranges.specs.Entries.{IsOpenedInto, IsInto, opening, arriving}
 use Rattle.ilranges.specs.Knowns.{IsKnown, IsKnownWithin, known_of_type}
 use Rattle.ilranges.specs.Refusals.{HasToClose, StaysOpen, open_after}
+use Rattle.ilranges.specs.Operands.{known_of}
 use Rattle.ilranges.specs.Rules.{Ways, IsStored, Opens, Closes, IsEntryAfter, IsTested, IsRefined, AreWaysOf, IsRule}
+use Rattle.ilranges.specs.Rules.{reset}
+use Rattle.ilranges.proofs.Knowns.{known_self}
 use Rattle.ilranges.proofs.WordParentheses.{after_count}
 use Rattle.ilverify.specs.PassSteps.{AreTyped}
 
@@ -128,22 +131,42 @@ closes_typed : (code : Listing) (entry after : Entry) (nesting : List KnownOpene
 closes_typed code entry after [] t h = absurd h
 closes_typed code entry after (innermost ∷ nesting) t h = typed_at code _ after h.is t
 
-after_typed : (code : Listing) (entry : Entry) (word : Word) (after : Entry) → AreTyped code entry.slots
-    → IsEntryAfter code entry word after → AreTyped code after.slots
-after_typed code entry (words.Load negated operand) after t h = typed_at code _ after h.is t
-after_typed code entry (words.Apply operator operand) after t h = typed_at code _ after h.is t
-after_typed code entry (words.Transform function) after t h = typed_at code _ after h.is t
-after_typed code entry (words.Store negated (Slot slot)) after t h =
+-- slots of functions that are known by their types again
+reset_typed : (from to : ℕ) (types : List IlType) (slots : List Known)
+    → AllZip IsKnownWithin slots (map known_of_type types)
+    → AllZip IsKnownWithin (reset from to types slots) (map known_of_type types)
+reset_typed zero zero types slots h = h
+reset_typed (suc from) zero types slots h = h
+reset_typed zero (suc to) [] slots h = h
+reset_typed zero (suc to) (type ∷ types) [] h = h
+reset_typed zero (suc to) (type ∷ types) (known ∷ slots) h =
+    (known_self (known_of_type type), reset_typed zero to types slots h.1)
+reset_typed (suc from) (suc to) [] slots h = h
+reset_typed (suc from) (suc to) (type ∷ types) [] h = h
+reset_typed (suc from) (suc to) (type ∷ types) (known ∷ slots) h = (h.0, reset_typed from to types slots h.1)
+
+after_typed : (code : Listing) (place : ℕ) (entry : Entry) (word : Word) (after : Entry) → AreTyped code entry.slots
+    → IsEntryAfter code place entry word after → AreTyped code after.slots
+after_typed code place entry (words.Load negated operand) after t h = typed_at code _ after h.1.is t
+after_typed code place entry (words.Apply operator operand) after t h = typed_at code _ after h.1.is t
+after_typed code place entry (words.Transform function) after t h = typed_at code _ after h.is t
+after_typed code place entry (words.Store negated (Slot slot)) after t h =
     typed_at code _ after h.1.is (set_typed entry.slots code.slots slot h.1.stored t
     (λ its e. stored_typed negated entry.result (slice_get code.slots slot) h.1.stored its e h.1.written))
-after_typed code entry (words.Store negated (Port port block)) after t h = typed_at code entry after h.1.is t
-after_typed code entry (words.Set variable) after t h = typed_at code entry after h.2 t
-after_typed code entry (words.Reset variable) after t h = typed_at code entry after h.2 t
-after_typed code entry (words.Pass port block operand) after t h = typed_at code _ after h.1.is t
-after_typed code entry (words.Call block) after t h = typed_at code _ after h.1 t
-after_typed code entry (words.Open operator) after t h = opens_typed code entry after operator entry.result t h
-after_typed code entry words.Close after t h = closes_typed code entry after entry.nesting t h
-after_typed code entry (words.Jump condition target) after t h = absurd h
+after_typed code place entry (words.Store negated (Port port block)) after t h = typed_at code entry after h.1.is t
+after_typed code place entry (words.Set variable) after t h = typed_at code entry after h.2 t
+after_typed code place entry (words.Reset variable) after t h = typed_at code entry after h.2 t
+after_typed code place entry (words.Pass port block operand) after t h = typed_at code _ after h.2.is t
+after_typed code place entry (words.Call block) after t h = typed_at code _ after h.2 t
+after_typed code place entry (words.Open operator) after t h = opens_typed code entry after operator entry.result t h
+after_typed code place entry words.Close after t h = closes_typed code entry after entry.nesting t h
+after_typed code place entry (words.Jump condition target) after t h = absurd h
+after_typed code place entry (words.Give operand slot) after t h =
+    typed_at code _ after h.2.is (set_typed entry.slots code.slots slot h.2.stored t
+    (λ its e. stored_typed false (known_of code entry operand) (slice_get code.slots slot) h.2.stored its e h.2.given))
+after_typed code place entry (words.Invoke function) after t h =
+    typed_at code _ after h
+    (reset_typed (slots_end code 0) (slots_end code (function + 1)) code.slots entry.slots t)
 
 -- ---- slots and parentheses on a way
 
@@ -160,35 +183,35 @@ refined_shaped code entry way outcome o t e h =
     record { typed = r.0; count_is = ap length r.1 }
 
 -- on the way to the next place
-pub next_shaped : (code : Listing) (entry way : Entry) (word : Word) (ways : Ways) → AreTyped code entry.slots
-    → AreWaysOf code entry word ways → ways.next ≡ Some way
+pub next_shaped : (code : Listing) (place : ℕ) (entry way : Entry) (word : Word) (ways : Ways)
+    → AreTyped code entry.slots → AreWaysOf code place entry word ways → ways.next ≡ Some way
     → IsShaped code (open_after word (length entry.nesting)) way
-next_shaped code entry way (words.Jump Always target) ways t h e = let n = h.1 in absurd (cc)
-next_shaped code entry way (words.Jump IfTrue target) ways t h e =
+next_shaped code place entry way (words.Jump Always target) ways t h e = let n = h.1 in absurd (cc)
+next_shaped code place entry way (words.Jump IfTrue target) ways t h e =
     refined_shaped code entry way false ways.next t e h.1
-next_shaped code entry way (words.Jump IfFalse target) ways t h e =
+next_shaped code place entry way (words.Jump IfFalse target) ways t h e =
     refined_shaped code entry way true ways.next t e h.1
-next_shaped code entry way word ways t h e =
+next_shaped code place entry way word ways t h e =
     let n = h.next in
     let q : h.after ≡ way = cc in
     subst (IsShaped code (open_after word (length entry.nesting))) q (record {
-      typed = after_typed code entry word h.after t h.leaves;
-      count_is = after_count code entry word h.after h.leaves;
+      typed = after_typed code place entry word h.after t h.leaves;
+      count_is = after_count code place entry word h.after h.leaves;
     })
 
 -- on the way to a jump's target
-pub target_shaped : (code : Listing) (entry way : Entry) (word : Word) (ways : Ways) → AreTyped code entry.slots
-    → AreWaysOf code entry word ways → ways.target ≡ Some way
+pub target_shaped : (code : Listing) (place : ℕ) (entry way : Entry) (word : Word) (ways : Ways)
+    → AreTyped code entry.slots → AreWaysOf code place entry word ways → ways.target ≡ Some way
     → IsShaped code (open_after word (length entry.nesting)) way
-target_shaped code entry way (words.Jump Always target) ways t h e =
+target_shaped code place entry way (words.Jump Always target) ways t h e =
     let n = h.0 in
     let q : entry ≡ way = cc in
     subst (IsShaped code (length entry.nesting)) q (record { typed = t; count_is = refl })
-target_shaped code entry way (words.Jump IfTrue target) ways t h e =
+target_shaped code place entry way (words.Jump IfTrue target) ways t h e =
     refined_shaped code entry way true ways.target t e h.0
-target_shaped code entry way (words.Jump IfFalse target) ways t h e =
+target_shaped code place entry way (words.Jump IfFalse target) ways t h e =
     refined_shaped code entry way false ways.target t e h.0
-target_shaped code entry way word ways t h e = let n = h.target in let k : ⊥ = cc in absurd k
+target_shaped code place entry way word ways t h e = let n = h.target in let k : ⊥ = cc in absurd k
 
 -- ---- where nothing may be open
 
@@ -198,7 +221,7 @@ met_closes code place met (words.Jump condition target) h = tt
 met_closes code place met word h = inr (inr h)
 
 pub target_closes : (code : Listing) (place : ℕ) (met : Bool) (entry way : Entry) (word : Word) (ways : Ways)
-    → AreWaysOf code entry word ways → ways.target ≡ Some way → HasToClose code place met word
+    → AreWaysOf code place entry word ways → ways.target ≡ Some way → HasToClose code place met word
 target_closes code place met entry way (words.Jump condition target) ways h e = tt
 target_closes code place met entry way word ways h e = let n = h.target in let k : ⊥ = cc in absurd k
 

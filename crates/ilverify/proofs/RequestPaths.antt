@@ -1,118 +1,94 @@
--- Paths to a place: as they are walked, and with their last word first.
-use Rattle.std.proofs.Common.{◌≡◌, ℕ, ◌+◌, ◌<◌, List, [], ◌∷◌, ◌++◌, length, false, cond, refl, ap, arith}
-use Rattle.std.specs.Prelude.{slice_get}
+-- Paths that hold so many requests at least, by one standing more.
+use Rattle.std.proofs.Common.{◌≡◌, ℕ, ◌+◌, ◌≤◌, List, [], ◌∷◌, ◌++◌, length, false, cond, Option, Some, refl, ap}
+use Rattle.std.proofs.Common.{arith}
+use Rattle.std.specs.Prelude.{slice_get, ◌<◌}
 use Rattle.std.specs.Option.{option_map_or}
 use Rattle.std.proofs.lemmas.List.Sums.{sum_by-cons, sum_by_push}
-use Rattle.ilcode.specs.Listings.{Listing}
-use Rattle.ilcode.specs.Paths.{IsNext, AreNext, IsPath, may_request, requests_on}
-use Rattle.ilverify.specs.RequestSteps.{AreBefore, EndsBelow}
-use Rattle.ilverify.proofs.Bounds.{forward}
+use Rattle.ilcode.specs.declared.word.Word.{Word}
+use Rattle.ilcode.specs.Listings.{Listing, IsLawful}
+use Rattle.ilcode.specs.Paths.{Standing, body_on, IsWord, IsNext, AreNext, IsPath, may_request, requests_on}
+use Rattle.ilcode.proofs.Bodies.{within}
+use Rattle.ilverify.specs.declared.through.Counted.TheVariants.{Requests}
+use Rattle.ilverify.specs.Through.{weight}
+use Rattle.ilverify.specs.RequestSteps.{HasBefore}
 
--- ---- one place more
+-- ---- one standing more
 
--- how many requests the word at a place may make
-abbrev pub requests_of : Listing → ℕ → ℕ
-requests_of code place =
-    cond (option_map_or (may_request code) (slice_get code.instructions place) false) 1 0
+-- how many requests the word at a standing may make
+abbrev pub requests_of : Listing → Standing → ℕ
+requests_of code s = cond (option_map_or (may_request code) (slice_get code.instructions s.place) false) 1 0
 
-pub requests_first : (code : Listing) (place : ℕ) (places : List ℕ)
-    → requests_on code (place ∷ places) ≡ requests_of code place + requests_on code places
-requests_first code place places = sum_by-cons (λ (p : ℕ). requests_of code p) place places
+pub requests_first : (code : Listing) (s : Standing) (path : List Standing)
+    → requests_on code (s ∷ path) ≡ requests_of code s + requests_on code path
+requests_first code s path = sum_by-cons (λ (t : Standing). requests_of code t) s path
 
-pub requests_last : (code : Listing) (places : List ℕ) (place : ℕ)
-    → requests_on code (places ++ place ∷ []) ≡ requests_on code places + requests_of code place
-requests_last code places place = sum_by_push (λ (p : ℕ). requests_of code p) places place
+pub requests_last : (code : Listing) (path : List Standing) (s : Standing)
+    → requests_on code (path ++ s ∷ []) ≡ requests_on code path + requests_of code s
+requests_last code path s = sum_by_push (λ (t : Standing). requests_of code t) path s
 
-next_added : (code : Listing) (place : ℕ) (more : List ℕ) (from to : ℕ) → AreNext code place (more ++ from ∷ [])
-    → IsNext code from to → AreNext code place ((more ++ from ∷ []) ++ to ∷ [])
-next_added code place [] from to are n = (are.0, (n, tt))
-next_added code place (next ∷ more) from to are n = (are.0, next_added code next more from to are.1 n)
+pub weight_is : (code : Listing) (s : Standing) (word : Word) → slice_get code.instructions s.place ≡ Some word
+    → requests_of code s ≡ weight code Requests word
+weight_is code s word is = ap (λ (o : Option Word). cond (option_map_or (may_request code) o false) 1 0) is
 
-path_added : (code : Listing) (path : List ℕ) (from to : ℕ) → IsPath code (path ++ from ∷ []) → IsNext code from to
-    → IsPath code ((path ++ from ∷ []) ++ to ∷ [])
+next_added : (code : Listing) (s : Standing) (more : List Standing) (from to : Standing)
+    → AreNext code s (more ++ from ∷ []) → IsNext code from to → AreNext code s ((more ++ from ∷ []) ++ to ∷ [])
+next_added code s [] from to are n = (are.0, (n, tt))
+next_added code s (next ∷ more) from to are n = (are.0, next_added code next more from to are.1 n)
+
+path_added : (code : Listing) (path : List Standing) (from to : Standing) → IsPath code (path ++ from ∷ [])
+    → IsNext code from to → IsPath code ((path ++ from ∷ []) ++ to ∷ [])
 path_added code [] from to is n = (is.0, is.1, (n, tt))
 path_added code (first ∷ path) from to is n = (is.0, is.1, next_added code first path from to is.2 n)
 
--- ---- from the one form to the other
-
--- a path with so many requests before the place ends there
-pub record HasPathTo (code : Listing) (place requests : ℕ) : Type 0 where
-  pub before : List ℕ
-  pub path : IsPath code (before ++ place ∷ [])
-  pub count : requests_on code before ≡ requests
-
-pub path_to : (code : Listing) (place : ℕ) (earlier : List ℕ) → AreBefore code place earlier
-    → HasPathTo code place (requests_on code earlier)
-path_to code place [] h = record { before = []; path = (h.0, h.1, tt); count = refl }
-path_to code place (from ∷ earlier) h =
-    let p = path_to code from earlier h.1 in
-    record {
-      before = p.before ++ from ∷ [];
-      path = path_added code p.before from place p.path h.0;
-      count = let last = requests_last code p.before from in
-          let first = requests_first code from earlier in
-          omega (arith, last, first, p.count);
-    }
-
--- the words before the place, the last of them first
-pub record HasEarlier (code : Listing) (place requests : ℕ) : Type 0 where
-  pub earlier : List ℕ
-  pub are : AreBefore code place earlier
-  pub count : requests_on code earlier ≡ requests
-
-earlier_along : (code : Listing) (earlier : List ℕ) (from : ℕ) (more : List ℕ) (place : ℕ)
-    → AreBefore code from earlier → AreNext code from (more ++ place ∷ [])
-    → HasEarlier code place (requests_on code earlier + requests_on code (from ∷ more))
-earlier_along code earlier from [] place are next = record {
-  earlier = from ∷ earlier;
-  are = (next.0, are);
-  count = let a = requests_first code from earlier in
-      let b = requests_first code from [] in
-      omega (arith, a, b);
+pub before_more : (code : Listing) (s t : Standing) (requests : ℕ) (word : Word) → HasBefore code s requests
+    → slice_get code.instructions s.place ≡ Some word → IsNext code s t
+    → HasBefore code t (requests + weight code Requests word)
+before_more code s t requests word h is next = record {
+  before = h.before ++ s ∷ [];
+  path = path_added code h.before s t h.path next;
+  many = let last = requests_last code h.before s in
+      let same = weight_is code s word is in
+      let many = h.many in
+      omega (arith, last, same, many);
 }
-earlier_along code earlier from (to ∷ more) place are next =
-    let r = earlier_along code (from ∷ earlier) to more place (next.0, are) next.1 in
-    record {
-      earlier = r.earlier;
-      are = r.are;
-      count = let a = requests_first code from earlier in
-          let b = requests_first code from (to ∷ more) in
-          omega (arith, a, b, r.count);
-    }
 
-pub earlier_on : (code : Listing) (before : List ℕ) (place : ℕ) → IsPath code (before ++ place ∷ [])
-    → HasEarlier code place (requests_on code before)
-earlier_on code [] place h = record { earlier = []; are = (h.0, h.1); count = refl }
-earlier_on code (first ∷ more) place h =
-    let r = earlier_along code [] first more place (h.0, h.1) h.2 in
-    record { earlier = r.earlier; are = r.are; count = let e = r.count in omega (arith, e) }
+pub before_less : (code : Listing) (s : Standing) (requests fewer : ℕ) → HasBefore code s requests
+    → fewer ≤ requests → HasBefore code s fewer
+before_less code s requests fewer h le = record {
+  before = h.before;
+  path = h.path;
+  many = let many = h.many in omega (arith, many, le);
+}
 
--- the last word before a place stands below it
-pub ends_below : (code : Listing) (place : ℕ) (earlier : List ℕ) → AreBefore code place earlier
-    → EndsBelow place earlier
-ends_below code place [] h = tt
-ends_below code place (from ∷ earlier) h = forward code from place h.0.word h.0.leads
+-- ---- the last standing of a path
 
--- a path leads to words of the code alone
-before_within : (code : Listing) (place : ℕ) (earlier : List ℕ) → AreBefore code place earlier
-    → place < length code.instructions
-before_within code place [] h = let e = h.0 in let lt = h.1 in omega (arith, e, lt)
-before_within code place (from ∷ earlier) h = h.0.within
+last_is : (code : Listing) (s : Standing) (more : List Standing) (last : Standing)
+    → AreNext code s (more ++ last ∷ []) → IsWord code last
+last_is code s [] last are = are.0.within
+last_is code s (t ∷ more) last are = last_is code t more last are.1
 
--- a path that ends at a place ends with a word of the code
-pub path_within : (code : Listing) (before : List ℕ) (place : ℕ) → IsPath code (before ++ place ∷ [])
-    → place < length code.instructions
-path_within code before place h =
-    let e = earlier_on code before place h in before_within code place e.earlier e.are
+-- it stands at a word
+pub path_word : (code : Listing) (before : List Standing) (last : Standing) → IsPath code (before ++ last ∷ [])
+    → IsWord code last
+path_word code [] last is = is.1
+path_word code (s ∷ more) last is = last_is code s more last is.2
 
--- a path has a last word, or none
-pub record HasLast (path : List ℕ) : Type 0 where
-  pub before : List ℕ
-  pub place : ℕ
-  pub is : before ++ place ∷ [] ≡ path
+-- a path has a last standing, or none
+pub record HasLast (path : List Standing) : Type 0 where
+  pub before : List Standing
+  pub last : Standing
+  pub is : before ++ last ∷ [] ≡ path
 
-pub last_of : (first : ℕ) (more : List ℕ) → HasLast (first ∷ more)
-last_of first [] = record { before = []; place = first; is = refl }
+pub last_of : (first : Standing) (more : List Standing) → HasLast (first ∷ more)
+last_of first [] = record { before = []; last = first; is = refl }
 last_of first (next ∷ more) =
     let l = last_of next more in
-    record { before = first ∷ l.before; place = l.place; is = ap (λ (p : List ℕ). first ∷ p) l.is }
+    record { before = first ∷ l.before; last = l.last; is = ap (λ (p : List Standing). first ∷ p) l.is }
+
+-- a path ends with a word of the code
+pub path_within : (code : Listing) (before : List Standing) (last : Standing) → IsLawful code
+    → IsPath code (before ++ last ∷ []) → last.place < length code.instructions
+path_within code before last lawful is =
+    let w = path_word code before last is in
+    let l = within code lawful (body_on last.calls) in
+    omega (arith, w, l)

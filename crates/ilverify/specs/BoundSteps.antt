@@ -1,26 +1,45 @@
--- What the pass from the last word to the first has found.
-use Rattle.std.specs.Prelude.{◌≡◌, ℕ, ◌+◌, ◌<◌, ◌≤◌, List, length, get_or, if◌then◌else◌}
-use Rattle.ilcode.specs.Listings.{Listing}
-use Rattle.ilcode.specs.Paths.{AreNext}
+-- How many words there are at most on the paths from a word on that do not leave its body but by a call.
+use Rattle.std.specs.Prelude.{ℕ, ◌+◌, ◌==◌, nat_le, max, List, Option, Some, None, get_or, if◌then◌else◌}
+use Rattle.limits.specs.Limits.{most_steps}
+use Rattle.iltypes.specs.declared.condition.Condition.TheVariants.{Always}
+use Rattle.ilcode.specs.declared.word.Word.{Word}
+use Rattle.ilcode.specs.declared.word.Word.TheVariants as words
+use Rattle.ilcode.specs.Listings.{Listing, end_of}
 use Rattle.ilcode.specs.Steps.{is_target}
+use Rattle.ilverify.specs.Tables.{plus}
+use Rattle.ilverify.specs.Through.{through_in}
 
--- a path goes on from the place over so many words, that of the place among them, and none over more
-pub record IsLongestFrom (code : Listing) (place words : ℕ) : Type 0 where
-  pub path : List ℕ
-  pub is : AreNext code place path
-  pub long : length path + 1 ≡ words
-  pub greatest : (places : List ℕ) → AreNext code place places → length places + 1 ≤ words
+-- what is kept for a place of a body that ends there
+abbrev pub longest_at : List ℕ → ℕ → ℕ → ℕ
+longest_at longest end place = if place == end then 0 else get_or longest place 0
 
--- the number that is kept for a place, and 0 where none is
-abbrev pub words_at : List ℕ → ℕ → ℕ
-words_at longest place = get_or longest place 0
+-- for a jump's target, where that is lawful
+abbrev pub longest_to : Listing → List ℕ → ℕ → ℕ → ℕ → ℕ
+longest_to code longest end place target = if is_target code place target then longest_at longest end target else 0
 
--- the number that is kept for a jump's target, and 0 where that is not lawful
-abbrev pub words_at_target : Listing → List ℕ → ℕ → ℕ → ℕ
-words_at_target code longest place target = if is_target code place target then words_at longest target else 0
+-- for a function
+abbrev pub longest_in : Listing → List ℕ → ℕ → ℕ
+longest_in code longest function = longest_at longest (end_of code (function + 1)) (end_of code function)
 
--- for each place from one on the number is right
-pub record AreLongest (code : Listing) (longest : List ℕ) (from : ℕ) : Type 0 where
-  pub long : length longest ≡ length code.instructions
-  pub each : (place : ℕ) → from ≤ place → place < length code.instructions
-      → IsLongestFrom code place (words_at longest place)
+-- on a way that goes on behind a function, if one leads through it
+abbrev pub longest_behind : Option ℕ → ℕ → ℕ
+longest_behind (Some through) longest = plus through longest
+longest_behind None longest = 0
+
+-- behind a word, by what is kept for its successors
+abbrev pub longest_after : Listing → List (Option ℕ) → List ℕ → ℕ → ℕ → Word → ℕ
+longest_after code through longest end place (words.Jump Always target) = longest_to code longest end place target
+longest_after code through longest end place (words.Jump condition target) =
+    max (longest_at longest end (place + 1)) (longest_to code longest end place target)
+longest_after code through longest end place (words.Invoke function) =
+    max (longest_in code longest function)
+    (longest_behind (through_in code through function) (longest_at longest end (place + 1)))
+longest_after code through longest end place word = longest_at longest end (place + 1)
+
+-- from a word on
+abbrev pub longest_from : Listing → List (Option ℕ) → List ℕ → ℕ → ℕ → Word → ℕ
+longest_from code through longest end place word = plus 1 (longest_after code through longest end place word)
+
+-- the number, where it is within the limit
+abbrev pub limited : ℕ → Option ℕ
+limited words = if nat_le words most_steps then Some words else None

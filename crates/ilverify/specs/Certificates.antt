@@ -3,14 +3,17 @@
 use Rattle.std.specs.Prelude.{◌≡◌, ℕ, ◌+◌, ◌<◌, ◌≤◌, ◌⊎◌, Bool, true, false, List, [], ◌∷◌, length, Option, Some, None}
 use Rattle.std.specs.Prelude.{IsTrue, slice_get, ⊤}
 use Rattle.ilcode.specs.declared.word.Word.{Word}
-use Rattle.ilcode.specs.Listings.{Listing}
+use Rattle.ilcode.specs.Listings.{Listing, start_of, end_of, body_at}
+use Rattle.ilcode.specs.Paths.{IsTooLong}
 use Rattle.ilcode.specs.Steps.{is_start}
 use Rattle.ilranges.specs.Causes.{refusal_number, IsLeastCause}
+use Rattle.ilranges.specs.declared.cause.Cause.TheVariants.{BadCall, TooLong}
 use Rattle.ilranges.specs.declared.entry.Entry.{Entry}
 use Rattle.ilranges.specs.declared.nesting.KnownOpened.{KnownOpened}
 use Rattle.ilranges.specs.Entries.{IsInto, opening}
 use Rattle.ilranges.specs.Refusals.{ArisesAtWord}
 use Rattle.ilranges.specs.Rules.{Ways, IsWay, IsRule}
+use Rattle.ilverify.specs.Calls.{HasGoodCalls, IsFirstBad}
 use Rattle.ilverify.specs.Requests.{HasFewRequests, IsRequestRefusal}
 use Rattle.ilverify.specs.declared.refusal.Refusal.{Refusal}
 use Rattle.ilverify.specs.declared.refusal.VerifyError.{VerifyError}
@@ -39,19 +42,21 @@ is_closed _ = false
 abbrev pub is_met : Certificate → ℕ → Bool
 is_met certificate place = is_closed (slice_get certificate place)
 
--- no cause arises at the word, and what is known on each way from it leads into the entry of the word there
+-- no cause arises at the word, and what is known on each way from it leads into the entry of the word there; a way to
+-- the end of the word's body leads to no word of it
 pub record IsFine (code : Listing) (certificate : Certificate) (place : ℕ) (entry : Entry) (word : Word)
     : Type 0 where
   pub ways : Ways
   pub rule : IsRule code place (is_met certificate (place + 1)) entry word ways
-  pub leads : (to : ℕ) (after : Entry) → IsWay word place ways to after → to < length code.instructions
-      → Leads certificate to after
+  pub leads : (to : ℕ) (after : Entry) → IsWay word place ways to after
+      → to < end_of code (body_at code place) → Leads certificate to after
 
--- consistent at the words below a place: the first word's entry holds what is known at first, a start has no current
--- result and no mark, and each reached word is fine
+-- consistent at the words below a place: the entry of each body's first word holds what is known at first, a start has
+-- no current result and no mark, and each reached word is fine
 pub record IsConsistentBelow (code : Listing) (certificate : Certificate) (end : ℕ) : Type 0 where
   pub long : length certificate ≡ length code.instructions
-  pub first : 0 < length code.instructions → Leads certificate 0 (opening code)
+  pub begins : (body : ℕ) → start_of code body < end_of code body
+      → Leads certificate (start_of code body) (opening code)
   pub starts : (place : ℕ) (entry : Entry) → IsTrue (is_start code place)
       → slice_get certificate place ≡ Some (Some entry) → (entry.result ≡ None) × (entry.mark ≡ None)
   pub each : (place : ℕ) (entry : Entry) (word : Word) → place < end
@@ -88,11 +93,23 @@ pub record IsRangeRefusal (code : Listing) (refusal : Refusal) : Type 0 where
   pub none_further : (other : Certificate) → ¬ IsConsistentBelow code other (refusal.word + 1)
   pub uncertified : ¬ IsCertified code
 
--- the code is accepted: some certificate is consistent, and no path holds too many requests
-abbrev pub IsAccepted : Listing → Type 0
-IsAccepted code = IsCertified code × HasFewRequests code
+-- the code is accepted: each call may stand where it does, some certificate is consistent, no path holds too many
+-- requests, and none is too long
+pub record IsAccepted (code : Listing) : Type 0 where
+  pub good : HasGoodCalls code
+  pub certified : IsCertified code
+  pub few : HasFewRequests code
+  pub short : ¬ IsTooLong code
 
--- why a code may be refused: by what is known of values, or by the requests on its paths
+-- ---- why a code is refused
+
+-- before all else by the first call that may not stand where it does
+pub record IsCallRefusal (code : Listing) (refusal : Refusal) : Type 0 where
+  pub cause : refusal.cause ≡ BadCall
+  pub first : IsFirstBad code refusal.word
+  pub line : slice_get code.lines refusal.word ≡ Some refusal.line
+
+-- why a code of good calls may be refused: by what is known of values, or by the requests on its paths
 abbrev pub MayRefuse : Listing → Refusal → Type 0
 MayRefuse code refusal = IsRangeRefusal code refusal ⊎ IsRequestRefusal code refusal
 
@@ -101,10 +118,25 @@ abbrev pub IsNotAfter : Refusal → Refusal → Type 0
 IsNotAfter one other =
     (one.word < other.word) ⊎ ((one.word ≡ other.word) × (refusal_number one.cause ≤ refusal_number other.cause))
 
--- the least of the two
-pub record IsRefusal (code : Listing) (refusal : Refusal) : Type 0 where
+-- then by the least of the two
+pub record IsWordRefusal (code : Listing) (refusal : Refusal) : Type 0 where
+  pub good : HasGoodCalls code
   pub is : MayRefuse code refusal
   pub least : (other : Refusal) → MayRefuse code other → IsNotAfter refusal other
+
+-- after all else at the first word, where a path from there is too long
+pub record IsLengthRefusal (code : Listing) (refusal : Refusal) : Type 0 where
+  pub good : HasGoodCalls code
+  pub certified : IsCertified code
+  pub few : HasFewRequests code
+  pub cause : refusal.cause ≡ TooLong
+  pub long : IsTooLong code
+  pub word : refusal.word ≡ 0
+  pub line : slice_get code.lines refusal.word ≡ Some refusal.line
+
+abbrev pub IsRefusal : Listing → Refusal → Type 0
+IsRefusal code refusal =
+    IsCallRefusal code refusal ⊎ IsWordRefusal code refusal ⊎ IsLengthRefusal code refusal
 
 -- the number under which an error is reported
 abbrev pub number_of_error : VerifyError → ℕ

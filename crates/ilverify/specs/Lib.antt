@@ -1,7 +1,12 @@
 pub mod BoundSteps
+pub mod CallSteps
+pub mod Calls
 pub mod Certificates
 pub mod PassSteps
 pub mod Printed
 pub mod RequestSteps
 pub mod Requests
+pub mod Tables
+pub mod Through
+pub mod VerdictSteps
 pub mod Verdicts

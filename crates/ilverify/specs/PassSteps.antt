@@ -1,10 +1,11 @@
 -- What the pass of the verifier has found before a word, and what its steps give.
 use Rattle.std.specs.Prelude.{◌≡◌, ℕ, ◌+◌, ◌<◌, ◌≤◌, List, [], length, map, Option, Some, None, slice_get, slice_set, ⊤}
+use Rattle.std.specs.Prelude.{nat_lt, if◌then◌else◌}
 use Rattle.std.specs.List.{AllZip}
 use Rattle.std.specs.Option.{option_map}
 use Rattle.ilcode.specs.declared.word.Word.{Word}
 use Rattle.ilcode.specs.declared.word.Word.TheVariants as words
-use Rattle.ilcode.specs.Listings.{Listing}
+use Rattle.ilcode.specs.Listings.{Listing, start_of, end_of, body_at}
 use Rattle.ilranges.specs.declared.change.Change.{Change}
 use Rattle.ilranges.specs.declared.change.Changes.{Changes}
 use Rattle.ilranges.specs.declared.entry.Entry.{Entry}
@@ -61,16 +62,37 @@ abbrev pub target_of : ℕ → Word → ℕ
 target_of place (words.Jump condition target) = target
 target_of place word = place + 1
 
--- what is known where the way leads to the place
-abbrev pub arrived : Listing → ℕ → Entry → Option Change → Option Entry
-arrived code place entry change = option_map (arriving code place) (option_map (changed entry) change)
+-- what is known where a way leads to a place of a body that ends there; nothing, where the place is its end
+abbrev pub coming : Listing → ℕ → ℕ → Option Entry → Option Entry
+coming code end place way = if nat_lt place end then option_map (arriving code place) way else None
+
+abbrev pub arrived : Listing → ℕ → ℕ → Entry → Option Change → Option Entry
+arrived code end place entry change = coming code end place (option_map (changed code entry) change)
 
 -- both ways from the word have gone where they lead
 pub record AreFollowed (code : Listing) (place : ℕ) (word : Word) (entry : Entry) (changes : Changes)
     (old new : Certificate) : Type 0 where
   pub between : Certificate
-  pub target : MeetsIf old (target_of place word) (arrived code (target_of place word) entry changes.target) between
-  pub next : MeetsIf between (place + 1) (arrived code (place + 1) entry changes.next) new
+  pub target : MeetsIf old (target_of place word)
+      (arrived code (end_of code (body_at code place)) (target_of place word) entry changes.target) between
+  pub next : MeetsIf between (place + 1)
+      (arrived code (end_of code (body_at code place)) (place + 1) entry changes.next) new
+
+-- ---- before the first word
+
+-- the place is that of a body's first word, with what is known there
+pub record IsFirst (code : Listing) (place : ℕ) (entry : Entry) : Type 0 where
+  pub body : ℕ
+  pub is : start_of code body ≡ place
+  pub word : start_of code body < end_of code body
+  pub known : entry ≡ opening code
+
+-- the first words of so many bodies are reached, with what is known there at first
+pub record HaveBegun (code : Listing) (bodies : ℕ) (pending : Certificate) : Type 0 where
+  pub long : length pending ≡ length code.instructions
+  pub leads : (body : ℕ) → body < bodies → start_of code body < end_of code body
+      → slice_get pending (start_of code body) ≡ Some (Some (opening code))
+  pub each : (place : ℕ) (entry : Entry) → slice_get pending place ≡ Some (Some entry) → IsFirst code place entry
 
 -- ---- before a word
 

@@ -2,19 +2,21 @@
 use Rattle.std.specs.Prelude.{◌≡◌, ℕ, ◌<◌, ◌≤◌, List, [], ◌∷◌, ◌++◌, Some, slice_get}
 use Rattle.limits.specs.Limits.{most_requests}
 use Rattle.ilcode.specs.Listings.{Listing}
-use Rattle.ilcode.specs.Paths.{IsPath, requests_on}
+use Rattle.ilcode.specs.Paths.{Standing, IsPath, requests_on}
 use Rattle.ilranges.specs.declared.cause.Cause.TheVariants.{TooManyRequests}
 use Rattle.ilverify.specs.declared.refusal.Refusal.{Refusal}
 
 -- no path holds more calls of request blocks than the limit
 abbrev pub HasFewRequests : Listing → Type 0
-HasFewRequests code = (places : List ℕ) → IsPath code places → requests_on code places ≤ most_requests
+HasFewRequests code = (path : List Standing) → IsPath code path → requests_on code path ≤ most_requests
 
 -- a path that ends at the place holds more
 pub record HoldsTooMany (code : Listing) (place : ℕ) : Type 0 where
-  pub before : List ℕ
-  pub path : IsPath code (before ++ place ∷ [])
-  pub many : most_requests < requests_on code (before ++ place ∷ [])
+  pub before : List Standing
+  pub last : Standing
+  pub ends : last.place ≡ place
+  pub path : IsPath code (before ++ last ∷ [])
+  pub many : most_requests < requests_on code (before ++ last ∷ [])
 
 -- the word is the first at which a path holds more
 pub record IsRequestRefusal (code : Listing) (refusal : Refusal) : Type 0 where

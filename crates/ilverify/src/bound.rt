@@ -1,61 +1,137 @@
-//! The greatest number of words on a path, in one pass from the last word to the first.
+//! The greatest number of words on a path: body by body, in declared order and the programs last,
+//! each from its last word to its first. A call weighs one and what its function weighs.
 
-ghost use Rattle.std.specs.Prelude.{◌≡◌, ◌<◌, ◌+◌, length, IfOk};
-ghost use Rattle.ilcode.specs.Paths.{IsBound};
-ghost use Rattle.ilverify.specs.BoundSteps.{IsLongestFrom, AreLongest, words_at, words_at_target};
+ghost use Rattle.std.specs.Prelude.{◌≡◌, ◌≤◌, ◌<◌, length, IfOk, IfSome, MatchOption};
+ghost use Rattle.limits.specs.Limits.{most_words, most_steps};
+ghost use Rattle.ilcode.specs.Listings.{IsLawful, start_of};
+ghost use Rattle.ilcode.specs.Paths.{IsBound, IsTooLong};
+ghost use Rattle.ilverify.specs.Calls.{HasGoodCalls};
+ghost use Rattle.ilverify.specs.Tables.{AreDone, IsFilled};
+ghost use Rattle.ilverify.specs.BoundSteps.{longest_at, longest_to, longest_in, longest_behind};
+ghost use Rattle.ilverify.specs.BoundSteps.{longest_after, longest_from, limited};
 
+use crate::through::{Counted, plus, through_in, ways_through};
 use ilcode::{Code, Word};
 use iltypes::Condition;
+use limits::MOST_STEPS;
 use std::alloc::{AllocError, Global};
 
-/// The greatest number of words on a path, whatever the values.
-pub(crate) fn greatest_path(alloc: Global, code: &Code) -> Result<u32, AllocError>
-    ensures { IfOk result (λ bound. IsBound code.now bound) }
+/// The greatest number of words on a path, whatever the values; none where some path has more than
+/// the limit.
+pub(crate) fn greatest_path(alloc: Global, code: &Code) -> Result<Option<u32>, AllocError>
+    requires { HasGoodCalls code.now }
+    ensures exact { IfOk result (λ bound. MatchOption bound
+        (IsTooLong code.now)
+        (IsBound code.now)) }
+    ensures few { IfOk result (λ bound. IfSome bound (λ words. words ≤ most_steps)) }
 {
+    let through = ways_through(alloc, code, Counted::Words)?;
     let mut longest = vec![in alloc; 0u32; code.len()]?;
-    for place in (0..longest.len()).rev() {
-        longest[place] = longest_from(code, place, &longest);
+    for function in 0..code.functions().len() {
+        fill(
+            code,
+            &through,
+            &mut longest,
+            function + 1,
+            code.end_of(function),
+        );
     }
-    Ok(words_at(&longest, 0))
+    fill(code, &through, &mut longest, 0, 0);
+    Ok(limited(longest_at(&longest, code.end_of(0), 0)))
 }
 
-/// How many words are on the longest path from a place on; none past the last word.
-fn words_at(longest: &[u32], place: usize) -> u32
-    ensures { result ≡ words_at longest.now place }
+/// The number, where it is within the limit.
+fn limited(words: u32) -> Option<u32>
+    ensures { result ≡ limited words }
 {
-    longest.get(place).copied().unwrap_or(0)
+    if words <= MOST_STEPS {
+        Some(words)
+    } else {
+        None
+    }
 }
 
-/// How many words are on the longest path from a jump's target on; none where the target is not
-/// lawful.
-fn words_from_target(code: &Code, place: usize, target: u32, longest: &[u32]) -> u32
-    ensures { result ≡ words_at_target code.now longest.now place target }
+/// How many words are kept for a place of a body that ends there.
+fn longest_at(longest: &[u32], end: usize, place: usize) -> u32
+    ensures { result ≡ longest_at longest.now end place }
 {
-    let target = target as usize;
+    if place == end {
+        0
+    } else {
+        longest.get(place).copied().unwrap_or(0)
+    }
+}
+
+/// How many are kept for a jump's target; none where that is not lawful.
+fn longest_to(code: &Code, longest: &[u32], end: usize, place: usize, target: usize) -> u32
+    ensures { result ≡ longest_to code.now longest.now end place target }
+{
     if code.is_target(place, target) {
-        words_at(longest, target)
+        longest_at(longest, end, target)
     } else {
         0
     }
 }
 
-/// How many words are on the longest path from the place of a word on, where those of all later
-/// places are known.
-fn longest_from(code: &Code, place: usize, longest: &[u32]) -> u32
-    requires within { place < length code.now.instructions }
-    requires later { AreLongest code.now longest.now (place + 1) }
-    ensures { IsLongestFrom code.now place result }
+/// How many are kept for a function.
+fn longest_in(code: &Code, longest: &[u32], function: u16) -> u32
+    ensures { result ≡ longest_in code.now longest.now function }
 {
-    let next = words_at(longest, place + 1);
-    let after = match code.word(place) {
+    let function = usize::from(function);
+    longest_at(longest, code.end_of(function + 1), code.end_of(function))
+}
+
+/// How many there are on a way that goes on behind a function.
+fn longest_behind(through: Option<u32>, longest: u32) -> u32
+    ensures { result ≡ longest_behind through longest }
+{
+    match through {
+        Some(words) => plus(words, longest),
+        None => 0,
+    }
+}
+
+/// How many follow the word at a place of a body, by what is kept for its successors.
+fn longest_after(
+    code: &Code,
+    through: &[Option<u32>],
+    longest: &[u32],
+    end: usize,
+    place: usize,
+    word: Word,
+) -> u32
+    requires { place < most_words }
+    ensures { result ≡ longest_after code.now through.now longest.now end place word }
+{
+    let next = longest_at(longest, end, place + 1);
+    match word {
         Word::Jump { condition, target } => {
-            let there = words_from_target(code, place, target, longest);
+            let there = longest_to(code, longest, end, place, target as usize);
             match condition {
                 Condition::Always => there,
                 Condition::IfTrue | Condition::IfFalse => next.max(there),
             }
         }
+        Word::Invoke(function) => longest_in(code, longest, function).max(longest_behind(
+            through_in(code, through, function),
+            next,
+        )),
         _ => next,
-    };
-    after + 1
+    }
+}
+
+/// Fills in a body, where those that it may call are filled in.
+fn fill(code: &Code, through: &[Option<u32>], longest: &mut Vec<u32>, body: usize, start: usize)
+    requires lawful { IsLawful code.now }
+    requires long { length longest.old.items ≡ length code.now.instructions }
+    requires good { HasGoodCalls code.now }
+    requires start { start ≡ start_of code.now body }
+    requires done { AreDone code.now 0 (longest_from code.now through.now) longest.old.items body }
+    ensures { IsFilled code.now 0 (longest_from code.now through.now) longest.new.items body start }
+{
+    let end = code.end_of(body);
+    for place in (start..end).rev() {
+        let after = longest_after(code, through, longest, end, place, code.word(place));
+        longest[place] = plus(1, after);
+    }
 }

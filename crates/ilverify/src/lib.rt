@@ -4,10 +4,10 @@
 //! bound, or the [`Refusal`] with word, line and cause. Of a `Verified` no step is undefined, each
 //! run ends and makes few requests, and the bound is the greatest number of words on a path
 //! (`IsVerified`, specs/Verdicts.antt, to be read first). The verdict is defined by certificates
-//! (specs/Certificates.antt): an entry for each word, consistent by the rules of `ilranges`; and by
-//! the calls of request blocks on each path (specs/Requests.antt). A `Verified` has its
-//! words and constants in the form in which the machine reads them, too (`ilrows::ReadyWord`,
-//! `ilrows::Cell`).
+//! (specs/Certificates.antt): an entry for each word, consistent by the rules of `ilranges`; by
+//! where a function may be called (specs/Calls.antt); and by the length of each path and the calls
+//! of request blocks on it (specs/Requests.antt). A `Verified` has its words and constants in the
+//! form in which the machine reads them, too (`ilrows::ReadyWord`, `ilrows::Cell`).
 //!
 //! ```text
 //! let verified = verify(alloc, code)?;
@@ -15,9 +15,11 @@
 #![tactic(auto)]
 
 mod bound;
+mod calls;
 mod pass;
 mod refusal;
 mod requests;
+mod through;
 mod verified;
 mod verifier;
 

@@ -9,14 +9,14 @@
 ghost use Rattle.std.specs.Prelude.{◌≡◌, ◌+◌, ◌<◌, length, slice_get, replicate, Some, None};
 ghost use Rattle.std.specs.Prelude.{IfOk, OnOk, MatchOption};
 ghost use Rattle.limits.specs.Limits.{most_words};
-ghost use Rattle.ilcode.specs.Listings.{IsLawful};
+ghost use Rattle.ilcode.specs.Listings.{IsLawful, start_of, end_of, body_at};
 ghost use Rattle.ilranges.specs.Changes.{changed, ways_of};
 ghost use Rattle.ilranges.specs.Entries.{arriving};
 ghost use Rattle.ilranges.specs.Rules.{IsRule};
 ghost use Rattle.ilverify.specs.Certificates.{is_met, IsCertified, IsRangeRefusal};
 ghost use Rattle.ilverify.specs.PassSteps.{CanMeet, CanMeetAt, CanMeetIf, IsMeetingOf, Meets};
 ghost use Rattle.ilverify.specs.PassSteps.{MeetsIf, arrived, target_of, AreTyped, AreBounded};
-ghost use Rattle.ilverify.specs.PassSteps.{AreFollowed, IsFound};
+ghost use Rattle.ilverify.specs.PassSteps.{HaveBegun, AreFollowed, IsFound};
 
 use crate::refusal::Refusal;
 use ilcode::{Code, Word};
@@ -61,11 +61,10 @@ fn join(old: Option<Entry>, way: Entry) -> Result<Entry, AllocError>
     requires { CanMeet old way }
     ensures { IfOk result (λ entry. IsMeetingOf old way entry) }
 {
-    let Some(mut entry) = old else {
-        return Ok(way);
-    };
-    entry.join(&way)?;
-    Ok(entry)
+    match old {
+        Some(old) => Ok(old.join(&way)?.unwrap()),
+        None => Ok(way),
+    }
 }
 
 /// The way leads to the place, where that is a word's.
@@ -90,29 +89,33 @@ fn follow(
     change: Change,
 ) -> Result<(), AllocError>
     requires { CanMeetAt (slice_get pending.old.items place)
-        (arriving code.now place (changed entry change)) }
+        (arriving code.now place (changed code.now entry change)) }
     ensures { OnOk result (Meets pending.old.items place
-        (arriving code.now place (changed entry change)) pending.new.items) }
+        (arriving code.now place (changed code.now entry change)) pending.new.items) }
 {
     let mut way = entry;
-    change.apply(&mut way)?;
+    change.apply(code, &mut way)?;
     way.arrive(code, place);
     meet(pending, place, way)
 }
 
-/// The way of a jump to its target, if any value goes there.
+/// The way of a jump to its target, if any value goes there and that is not the end of the body.
 fn follow_target(
     code: &Code,
     pending: &mut Vec<Option<Entry>>,
+    end: usize,
     place: usize,
     entry: &Entry,
     change: Option<Change>,
 ) -> Result<(), AllocError>
     requires { CanMeetIf (slice_get pending.old.items place)
-        (arrived code.now place entry.now change) }
+        (arrived code.now end place entry.now change) }
     ensures { OnOk result (MeetsIf pending.old.items place
-        (arrived code.now place entry.now change) pending.new.items) }
+        (arrived code.now end place entry.now change) pending.new.items) }
 {
+    if place >= end {
+        return Ok(());
+    }
     let Some(change) = change else {
         return Ok(());
     };
@@ -120,26 +123,31 @@ fn follow_target(
     follow(code, pending, place, way, change)
 }
 
-/// The way to the next place, if any value goes there.
+/// The way to the next place, if any value goes there and that is not the end of the body.
 fn follow_next(
     code: &Code,
     pending: &mut Vec<Option<Entry>>,
+    end: usize,
     place: usize,
     entry: Entry,
     change: Option<Change>,
 ) -> Result<(), AllocError>
     requires { CanMeetIf (slice_get pending.old.items place)
-        (arrived code.now place entry change) }
+        (arrived code.now end place entry change) }
     ensures { OnOk result (MeetsIf pending.old.items place
-        (arrived code.now place entry change) pending.new.items) }
+        (arrived code.now end place entry change) pending.new.items) }
 {
+    if place >= end {
+        return Ok(());
+    }
     let Some(change) = change else {
         return Ok(());
     };
     follow(code, pending, place, entry, change)
 }
 
-/// What is known on each way from the word at the place goes where the way leads.
+/// What is known on each way from the word at the place goes where the way leads, but for a way to
+/// the end of its body.
 fn follow_ways(
     code: &Code,
     pending: &mut Vec<Option<Entry>>,
@@ -152,13 +160,14 @@ fn follow_ways(
     requires typed { AreTyped code.now entry.slots }
     requires bounded { AreBounded code.now place pending.old.items }
     requires rule { IsRule code.now place (is_met pending.old.items (place + 1)) entry word
-        (ways_of entry changes) }
+        (ways_of code.now entry changes) }
     ensures { OnOk result (AreFollowed code.now place word entry changes pending.old.items
         pending.new.items) }
 {
+    let end = code.end_of(code.body_at(place));
     let target = target_of(place, word);
-    follow_target(code, pending, target, &entry, changes.target)?;
-    follow_next(code, pending, place + 1, entry, changes.next)
+    follow_target(code, pending, end, target, &entry, changes.target)?;
+    follow_next(code, pending, end, place + 1, entry, changes.next)
 }
 
 /// Judges the word at the place, where it is reached, and follows the ways from it.
@@ -191,13 +200,40 @@ fn advance(
     }
 }
 
-/// The entries that are kept before the first word: what is known there at first.
+/// Where a body begins.
+fn start_of(code: &Code, body: usize) -> usize
+    ensures { result ≡ start_of code.now body }
+{
+    if body == 0 { 0 } else { code.end_of(body - 1) }
+}
+
+/// The first word of a body, if it has one, is reached, with what is known there at first.
+fn begin_body(
+    alloc: Global,
+    code: &Code,
+    pending: &mut Vec<Option<Entry>>,
+    body: usize,
+) -> Result<(), AllocError>
+    requires lawful { IsLawful code.now }
+    requires begun { HaveBegun code.now body pending.old.items }
+    ensures { OnOk result (HaveBegun code.now (body + 1) pending.new.items) }
+{
+    let start = start_of(code, body);
+    if start < code.end_of(body) {
+        let first = Entry::opening(alloc, code)?;
+        meet(pending, start, first)?;
+    }
+    Ok(())
+}
+
+/// The entries that are kept before the first word: what is known at first where each body begins.
 fn begin(alloc: Global, code: &Code) -> Result<Vec<Option<Entry>>, AllocError>
     ensures { IfOk result (λ pending. IsFound code.now 0 pending.items) }
 {
     let mut pending = unreached(alloc, code.len())?;
-    let first = Entry::opening(alloc, code)?;
-    meet(&mut pending, 0, first)?;
+    for body in 0..code.functions().len() + 1 {
+        begin_body(alloc, code, &mut pending, body)?;
+    }
     Ok(pending)
 }
 

@@ -56,12 +56,13 @@ returns-in_ok-follow_ways-in-Ok c =
     let word = c.word-word.result in
     let met = c.is_met-met.ensures ∙ ap (λ (p : Certificate). is_met p (n + 1))
     (c.deref.ensures.value ∙ ap (λ (x : Option Entry). slice_set pending n x) c.take.ensures.after) in
-    let rule = subst (λ (m : Bool). IsRule code n m entry word (ways_of entry changes)) met c.in-Ok.ensures in
+    let rule = subst (λ (m : Bool). IsRule code n m entry word (ways_of code entry changes)) met c.in-Ok.ensures in
     let ways = subst
     (λ (x : Option Entry). AreFollowed code n word entry changes
     (slice_set pending n x) c.follow_ways.new.pending.items)
     c.take.ensures.after c.in_ok-follow_ways-in-Ok.ensures in
-    found_next code n entry word changes pending c.follow_ways.new.pending.items f (e ∙ ap Some c.in-Some.is)
+    found_next code n entry word changes pending c.follow_ways.new.pending.items c.word-word.ensures.lawful f
+    (e ∙ ap Some c.in-Some.is)
     c.word-word.ensures.value rule ways
 
 pub returns-in-Err : goal.returns-in-Err
