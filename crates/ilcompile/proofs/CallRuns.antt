@@ -18,7 +18,7 @@ use Rattle.ilcode.specs.declared.word.WordOperand.{WordOperand}
 use Rattle.ilcode.specs.declared.word.Word.{Word}
 use Rattle.ilcode.specs.declared.word.Word.TheVariants as words
 use Rattle.ilcode.specs.Listings.{Listing, shape_of}
-use Rattle.ilcode.specs.Steps.{Configuration, at, value_of, stored_at, effect}
+use Rattle.ilcode.specs.Steps.{Configuration, OpenCall, at, value_of, stored_at, effect}
 use Rattle.ilcompile.specs.Layout.{number_of, operand_of, port_of, variable_of, word_of_argument}
 use Rattle.ilcompile.proofs.Runs.{Leads, none}
 use Rattle.ilcompile.proofs.Stands.{HasAt}
@@ -50,20 +50,20 @@ module _ (code : Listing) where
   called_same (places.Slot slot) is s = absurd is
   called_same (places.Port block port) is s = absurd is
 
-  module _ (p : ℕ) (s : Store) (r : Option Value) where
+  module _ (p : ℕ) (s : Store) (r : Option Value) (calls : List OpenCall) where
     abbrev onward : Store → Configuration
-    onward t = at (p + 1) t r []
+    onward t = at (p + 1) t r [] calls
 
     pass_effect : (n : Place) → IsServedAs code.constants Pass (Name n) → (operand : WordOperand) (o : Option Value)
         → value_of code s operand ≡ o
-        → effect code (at p s r []) (words.Pass (port_of n) (number_of n) operand)
+        → effect code (at p s r [] calls) (words.Pass (port_of n) (number_of n) operand)
         ≡ option_map onward (option_and_then (passed_place shape s n) o)
     pass_effect (places.Port block port) is operand o e =
         ap (λ v. option_map onward (option_and_then (with_port shape s block port) v)) e
     pass_effect (places.Slot slot) is operand o e = absurd is
     pass_effect (places.Block block) is operand o e = absurd is
 
-  module _ (front : List Word) where
+  module _ (front : List Word) (calls : List OpenCall) where
     then_comes : {A B : Type 0} (c : Configuration) (f : A → Configuration) (g : B → Configuration)
         (k : A → Option B) (o : Option A) → Comes code front c f o
         → ((x : A) → Comes code front (f x) g (k x)) → Comes code front c g (option_and_then k o)
@@ -77,31 +77,32 @@ module _ (code : Listing) where
 
     arguments_run : (k : ℕ) (xs : List (Argument Place)) (p : ℕ) (s : Store) (r : Option Value)
         → HasArguments k p xs
-        → Comes code front (at p s r []) (λ t. at (p + length xs) t r []) (passed access xs s)
+        → Comes code front (at p s r [] calls) (λ t. at (p + length xs) t r [] calls) (passed access xs s)
     arguments_run k [] p s r has =
         let z : p ≡ p + 0 = omega arith in
-        subst (λ q. Leads (plain code front) (at p s r []) (at q s r [])) z (none (plain code front) (at p s r []))
+        subst (λ q. Leads (plain code front) (at p s r [] calls) (at q s r [] calls)) z
+        (none (plain code front) (at p s r [] calls))
     arguments_run k (x ∷ xs) p s r has =
         let given = operand_value access s x.operand in
         let o = option_and_then (passed_place shape s x.port) given in
-        let first = comes_by code front (at p s r []) (λ t. at (p + 1) t r []) o (word_of_argument code.constants x)
-        has.0
-        (pass_effect p s r x.port has.1.0 (operand_of code.constants x.operand) given
+        let first = comes_by code front (at p s r [] calls) (λ t. at (p + 1) t r [] calls) o
+        (word_of_argument code.constants x) has.0
+        (pass_effect p s r calls x.port has.1.0 (operand_of code.constants x.operand) given
         (served_value code s x.operand has.1.1.0)) in
         let q : p + 1 + length xs ≡ p + length (x ∷ xs) = omega arith in
-        then_comes (at p s r []) (λ t. at (p + 1) t r []) (λ t. at (p + length (x ∷ xs)) t r []) (passed access xs) o
-        first
-        (λ t. subst (λ m. Comes code front (at (p + 1) t r []) (λ u. at m u r []) (passed access xs t)) q
+        then_comes (at p s r [] calls) (λ t. at (p + 1) t r [] calls) (λ t. at (p + length (x ∷ xs)) t r [] calls)
+        (passed access xs) o first
+        (λ t. subst (λ m. Comes code front (at (p + 1) t r [] calls) (λ u. at m u r [] calls) (passed access xs t)) q
         (arguments_run k xs (p + 1) t r has.2))
 
     -- a call with its arguments leaves no result
     pub call_runs : (k : ℕ) (n : Place) → IsServedAs code.constants Call (Name n)
         → (xs : List (Argument Place)) (p : ℕ) (s : Store) (r : Option Value)
         → HasArguments k p xs → slice_get front (p + length xs) ≡ Some (words.Call (number_of n))
-        → Comes code front (at p s r []) (λ t. at (p + length xs + 1) t None []) (called access n xs s)
+        → Comes code front (at p s r [] calls) (λ t. at (p + length xs + 1) t None [] calls) (called access n xs s)
     call_runs k n is xs p s r has last =
-        let done = λ (u : Store). at (p + length xs + 1) u None [] in
-        then_comes (at p s r []) (λ t. at (p + length xs) t r []) done (λ t. called_place shape t n)
+        let done = λ (u : Store). at (p + length xs + 1) u None [] calls in
+        then_comes (at p s r [] calls) (λ t. at (p + length xs) t r [] calls) done (λ t. called_place shape t n)
         (passed access xs s) (arguments_run k xs p s r has)
-        (λ t. comes_by code front (at (p + length xs) t r []) done (called_place shape t n) (words.Call (number_of n))
-        last (ap (option_map done) (called_same n is t)))
+        (λ t. comes_by code front (at (p + length xs) t r [] calls) done (called_place shape t n)
+        (words.Call (number_of n)) last (ap (option_map done) (called_same n is t)))

@@ -1,12 +1,13 @@
 -- A run that comes to the end of a code with some store, or is stuck, ends so and not otherwise.
-use Rattle.std.proofs.Common.{◌≡◌, ℕ, zero, suc, [], length, Option, Some, None, refl}
+use Rattle.std.proofs.Common.{◌≡◌, ℕ, zero, suc, [], false, cond, Option, Some, None, refl}
 use Rattle.std.proofs.Common.{sym, ap, ◌∙◌, subst, arith}
 use Rattle.std.specs.Option.{option_and_then}
-use Rattle.std.proofs.lemmas.Option.{slice_get_past, slice_get_within}
+use Rattle.std.specs.Prelude.{nat_lt, slice_get}
+use Rattle.std.proofs.lemmas.Bool.Decides.{nat_tests}
 use Rattle.iltypes.specs.declared.value.Value.{Value}
 use Rattle.ilblocks.specs.Stores.{Store}
-use Rattle.ilcode.specs.Listings.{Listing}
-use Rattle.ilcode.specs.Steps.{Configuration, at, step_by, step, start, Ends}
+use Rattle.ilcode.specs.Listings.{Listing, end_of}
+use Rattle.ilcode.specs.Steps.{Configuration, at, word_at, step_by, step, start, Ends}
 use Rattle.ilcode.specs.Steps as code_steps
 use Rattle.ilcompile.proofs.Runs.{Leads, after, same_last}
 use Rattle.ilcompile.proofs.ScanRuns.{Comes}
@@ -31,29 +32,34 @@ same_after code zero c = refl
 same_after code (suc n) c = ap (option_and_then (step code)) (same_after code n c) ∙ last_step (step code) n c
 
 module _ (code : Listing) where
-  end_last : (store : Store) (r : Option Value) → step code (at (length code.instructions) store r []) ≡ None
-  end_last store r =
-      ap (step_by code (at (length code.instructions) store r []))
-      (slice_get_past code.instructions (length code.instructions) (omega arith))
+  not_less : (n : ℕ) → nat_lt n n ≡ false
+  not_less n = grind (arith, nat_tests)
+
+  -- at the programs' end stands no word of theirs
+  no_word : (store : Store) (r : Option Value) → word_at code (at (end_of code 0) store r [] []) ≡ None
+  no_word store r =
+      ap (λ b. cond b (slice_get code.instructions (end_of code 0)) None) (not_less (end_of code 0))
+
+  end_last : (store : Store) (r : Option Value) → step code (at (end_of code 0) store r [] []) ≡ None
+  end_last store r = ap (step_by code (at (end_of code 0) store r [] [])) (no_word store r)
 
   leads_by : (from to : Store) (n : ℕ) → (e : Ends code from n to)
-      → Leads (step code) (start from) (at (length code.instructions) to e.result [])
+      → Leads (step code) (start from) (at (end_of code 0) to e.result [] [])
   leads_by from to n e = record { steps = n; is = sym (same_after code n (start from)) ∙ e.run.is }
 
   pub one_end : (from to : Store) (n : ℕ) (o : Option Store) → Comes code (start from) o
       → Ends code from n to → o ≡ Some to
   one_end from to n None h e =
-      let end = at (length code.instructions) to e.result [] in
+      let end = at (end_of code 0) to e.result [] [] in
       let same =
       same_last (step code) (start from) h.last end h.leads h.none_on (leads_by from to n e)
       (end_last to e.result) in
-      let within = slice_get_within code.instructions h.last.place h.word h.stands in
-      let place = ap (λ (c : Configuration). c.place) same in
-      absurd (omega arith)
+      let none = sym (ap (word_at code) same ∙ no_word to e.result) ∙ h.stands in
+      absurd cc
   one_end from to n (Some s) h e =
-      let end = at (length code.instructions) to e.result [] in
+      let end = at (end_of code 0) to e.result [] [] in
       let same =
-      same_last (step code) (start from) (at (length code.instructions) s h.0 []) end h.1 (end_last s h.0)
+      same_last (step code) (start from) (at (end_of code 0) s h.0 [] []) end h.1 (end_last s h.0)
       (leads_by from to n e) (end_last to e.result) in
       ap (λ (c : Configuration). Some c.store) same
 

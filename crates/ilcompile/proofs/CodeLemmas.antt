@@ -9,7 +9,9 @@ use Rattle.std.specs.declared.sync.Arc.{Arc}
 use Rattle.std.proofs.lemmas.List.{length-map}
 use Rattle.std.proofs.lemmas.Option.{slice_get-map, slice_get-get_or}
 use Rattle.std.proofs.lemmas.Slice.Zip.{AllZip-left, AllZip-long, AllZip-right}
-use Rattle.ilplan.specs.Plans.{Planned, PlannedTask}
+use Rattle.std.proofs.Math.Seq.{take-length}
+use Rattle.ilplan.specs.Plans.{Planned, PlannedTask, types_of}
+use Rattle.ilcode.specs.Listings.{lasting_types}
 use Rattle.ilverify.specs.Certificates.{IsAccepted}
 use Rattle.ilverify.specs.Verdicts.{Accepted}
 use Rattle.ilcompile.specs.Loaded.{AreCodes, IsCodeOf, accepted_of, listing_for}
@@ -65,3 +67,8 @@ code_at plan codes k code h e = zipped_at (IsCodeOf plan) plan.tasks codes k cod
 pub certified_at : (plan : Planned) (codes : List Accepted) (k : ℕ) (t : PlannedTask) → AreCodes plan codes
     → slice_get plan.tasks k ≡ Some t → IsAccepted (listing_for plan t)
 certified_at plan codes k t h e = (zipped_with (IsCodeOf plan) plan.tasks codes k t h e).1.certified
+
+-- a task's code has no functions, so that all its variables last from scan to scan
+pub all_last : (plan : Planned) (t : PlannedTask) (code : Accepted) → IsCodeOf plan t code
+    → lasting_types code.code ≡ types_of t
+all_last plan t code h = ap lasting_types h.laid ∙ take-length (types_of t)

@@ -18,12 +18,14 @@ use Rattle.ilplan.specs.declared.place.Place.{Place}
 use Rattle.ilplan.specs.Constants.{AreAmong}
 use Rattle.ilplan.proofs.Used.{uses_among}
 use Rattle.ilplan.specs.Plans.{PlannedInstance, PlannedTask, KeepsLimits, all_lines, types_of, kinds_of}
+use Rattle.ilcode.specs.declared.function.FunctionBody.{FunctionBody}
 use Rattle.ilcode.specs.declared.word.Word.{Word}
 use Rattle.ilcode.specs.Listings.{IsLawful, listing_of}
 use Rattle.ilsource.specs.Places.{line_at}
 use Rattle.ilcompile.specs.Layout.{words_of_programs, places_of_programs, starts_from, programs_of, laid_out}
 use Rattle.ilcompile.proofs.Held.{AreHeld, all_held, line_numbers_small, program_words}
 use Rattle.ilcompile.proofs.Meant.{all_served}
+use Rattle.ilcompile.proofs.OldWords.{programs_old}
 use Rattle.ilcompile.proofs.Sizes.{count_both, places_counted, programs_long}
 
 joined : {X Y Z : Type 0} (f : Y → List Z) (g : X → List Y) (xs : List X)
@@ -111,14 +113,21 @@ laid_out_lawful buses text t low high short k =
         within = starts_within 0 (length ws) t.instances (omega (arith, mine));
         first = first_start t.constants programs;
       };
+      functions = record {
+        most = omega arith;
+        each = λ number f e. absurd cc;
+        programs = starts_within 0 (length ws) t.instances (omega (arith, mine));
+      };
+      old = λ is. programs_old t.constants 0 programs;
     }
 
 -- parts that are laid out so make that code
 pub parts_are : (buses : ℕ) (text : List ℕ) (t : PlannedTask) (constants : List Value) (slots : List IlType)
-    (kinds : List BlockKind) (starts : List ℕ) (ws : List Word) (numbers : List ℕ)
+    (kinds : List BlockKind) (starts : List ℕ) (ws : List Word) (numbers : List ℕ) (functions : List FunctionBody)
     → constants ≡ t.constants → slots ≡ types_of t → kinds ≡ kinds_of t
     → starts ≡ starts_from 0 (programs_of t.instances)
     → ws ≡ words_of_programs t.constants 0 (programs_of t.instances)
-    → numbers ≡ map (line_at text) (places_of_programs (programs_of t.instances))
-    → listing_of buses constants slots kinds starts ws numbers ≡ laid_out buses text t
-parts_are buses text t constants slots kinds starts ws numbers a b c d e f = rw (a, b, c, d, e, f) refl
+    → numbers ≡ map (line_at text) (places_of_programs (programs_of t.instances)) → functions ≡ []
+    → listing_of buses constants slots kinds starts ws numbers functions ≡ laid_out buses text t
+parts_are buses text t constants slots kinds starts ws numbers functions a b c d e f g =
+    rw (a, b, c, d, e, f, g) refl

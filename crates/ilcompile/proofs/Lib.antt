@@ -5,6 +5,8 @@ pub mod Held
 pub mod Lawful
 pub mod LineRuns
 pub mod Meant
+pub mod OldWords
+pub mod Onward
 pub mod Runs
 pub mod ScanRuns
 pub mod Served

@@ -33,8 +33,8 @@ use Rattle.ilblocks.specs.Stores.{Store}
 use Rattle.ilplan.specs.declared.place.Place.{Place}
 use Rattle.ilcode.specs.declared.word.Word.{Word}
 use Rattle.ilcode.specs.declared.word.Word.TheVariants as words
-use Rattle.ilcode.specs.Listings.{Listing, shape_of}
-use Rattle.ilcode.specs.Steps.{Configuration, at, opened, stored_at, is_target, goes_to, jumps, effect}
+use Rattle.ilcode.specs.Listings.{Listing, all_starts, shape_of}
+use Rattle.ilcode.specs.Steps.{Configuration, OpenCall, at, opened, stored_at, is_target, goes_to, jumps, effect}
 use Rattle.ilplan.specs.PlanMeaning.{places_of, with_place, number_same}
 use Rattle.ilcompile.specs.Layout.{place_of_label, number_of, variable_of, word_of_argument, words_of_call}
 use Rattle.ilcompile.specs.Layout.{word_of, words_of, words_in, words_of_lines}
@@ -55,7 +55,7 @@ no_target : (code : Listing) (p : ℕ) → is_target code p 0 ≡ false
 no_target code p =
     let t : nat_lt p 0 ≡ false = grind (arith, nat_tests) in
     ap (λ b. (b && nat_le 0 (length code.instructions))
-    && not (list_any (λ start. nat_lt p start && nat_lt start 0) code.starts)) t
+    && not (list_any (λ start. nat_lt p start && nat_lt start 0) (all_starts code))) t
 
 -- CN asks for the opposite of what C asks for
 holds_not : (r : Option Value) → holds IfFalse r ≡ option_map opposite (holds IfTrue r)
@@ -69,8 +69,9 @@ holds_not_not (Some (values.Int z)) = refl
 holds_not_not (Some (values.Bool true)) = refl
 holds_not_not (Some (values.Bool false)) = refl
 
--- in a code whose words up to this end are these, where jumps from this place on are lawful up to the end
-module _ (code : Listing) (front : List Word) (base end : ℕ)
+-- in a code whose words up to this end are these, where jumps from this place on are lawful up to the end, whatever
+-- calls are open
+module _ (code : Listing) (front : List Word) (calls : List OpenCall) (base end : ℕ)
     (lawful : (p q : ℕ) → base ≤ p → p < q → q ≤ end → is_target code p q ≡ true) where
   abbrev access : Access Place Store
   access = places_of (shape_of code)
@@ -98,17 +99,17 @@ module _ (code : Listing) (front : List Word) (base end : ℕ)
   -- the run comes to the end with this store, or is stuck
   abbrev pub Passes : Configuration → Option Store → Type 0
   Passes c None = Stuck code front c
-  Passes c (Some s) = (r : Option Value) × Leads (plain code front) c (at end s r [])
+  Passes c (Some s) = (r : Option Value) × Leads (plain code front) c (at end s r [] calls)
 
   passes_later : (c d : Configuration) (o : Option Store) → Leads (plain code front) c d → Passes d o
       → Passes c o
   passes_later c d None l h = stuck_later code front c d l h
-  passes_later c d (Some s) l h = (h.0, leads_on (plain code front) c d (at end s h.0 []) l h.1)
+  passes_later c d (Some s) l h = (h.0, leads_on (plain code front) c d (at end s h.0 [] calls) l h.1)
 
   -- where lines are entered from this place on, the run passes to what they leave
   abbrev Enters : ℕ → Option ℕ → Option Value → Store → Option Store → Type 0
   Enters p None r s o = o ≡ None
-  Enters p (Some q) r s o = (p ≤ q) × (q ≤ end) × Passes (at q s r []) o
+  Enters p (Some q) r s o = (p ≤ q) × (q ≤ end) × Passes (at q s r [] calls) o
 
   abbrev entry : ℕ → List (Line Place ℕ) → Way ℕ → Option ℕ
   entry p lines On = Some p
@@ -137,82 +138,84 @@ module _ (code : Listing) (front : List Word) (base end : ℕ)
     rest x = passes number_same access lines x.way x.result x.store
 
     by_value : (s : Store) (r : Option Value) (o : Option Value)
-        → Gives code front (at p s r []) (p + n) s [] o
-        → Passes (at p s r []) (option_and_then rest (gives o s))
+        → Gives code front calls (at p s r [] calls) (p + n) s [] o
+        → Passes (at p s r [] calls) (option_and_then rest (gives o s))
     by_value s r None g = g
     by_value s r (Some v) g =
-        passes_later (at p s r []) (at (p + n) s (Some v) [])
+        passes_later (at p s r [] calls) (at (p + n) s (Some v) [] calls)
         (passes number_same access lines On (Some v) s) g (next On (Some v) s).2
 
     -- a store with this result
     by_stores : (c : Configuration) (r : Option Value) (o : Option Store)
-        → Comes code front c (λ t. at (p + n) t r []) o → Passes c (option_and_then rest (leaves r o))
+        → Comes code front c (λ t. at (p + n) t r [] calls) o → Passes c (option_and_then rest (leaves r o))
     by_stores c r None g = g
     by_stores c r (Some t) g =
-        passes_later c (at (p + n) t r []) (passes number_same access lines On r t) g (next On r t).2
+        passes_later c (at (p + n) t r [] calls) (passes number_same access lines On r t) g (next On r t).2
 
     -- a store by one word
     by_store : (s : Store) (r : Option Value) (o : Option Store)
-        → Comes code front (at p s r []) (λ t. at (p + 1) t r []) o → n ≡ 1
-        → Passes (at p s r []) (option_and_then rest (leaves r o))
+        → Comes code front (at p s r [] calls) (λ t. at (p + 1) t r [] calls) o → n ≡ 1
+        → Passes (at p s r [] calls) (option_and_then rest (leaves r o))
     by_store s r o g e =
         let z : p + 1 ≡ p + n = omega arith in
-        by_stores (at p s r []) r o (subst (λ q. Comes code front (at p s r []) (λ t. at q t r []) o) z g)
+        by_stores (at p s r [] calls) r o
+        (subst (λ q. Comes code front (at p s r [] calls) (λ t. at q t r [] calls) o) z g)
 
     by_set : (s : Store) (r : Option Value) (m : Place) → IsVariable m → (v : Value) (w : Word)
         → slice_get front p ≡ Some w
-        → effect code (at p s r []) w ≡ option_map (λ t. at (p + 1) t r []) (stored_at code s (variable_of m) v)
-        → n ≡ 1 → Passes (at p s r []) (option_and_then rest (leaves r (with_place (shape_of code) s m v)))
+        → effect code (at p s r [] calls) w
+        ≡ option_map (λ t. at (p + 1) t r [] calls) (stored_at code s (variable_of m) v)
+        → n ≡ 1 → Passes (at p s r [] calls) (option_and_then rest (leaves r (with_place (shape_of code) s m v)))
     by_set s r m variable v w is f e =
-        let on = λ (t : Store). at (p + 1) t r [] in
+        let on = λ (t : Store). at (p + 1) t r [] calls in
         let o = with_place (shape_of code) s m v in
         by_store s r o
-        (comes_by code front (at p s r []) on o w is (f ∙ ap (option_map on) (stored_same code m variable s v))) e
+        (comes_by code front (at p s r [] calls) on o w is (f ∙ ap (option_map on) (stored_same code m variable s v))) e
 
     -- a jump: to where the way goes in, or on
     goes_on : (s : Store) (r : Option Value) (target : ℕ) (w : Word) (o : Option ℕ) (x : Option Store)
         → slice_get front p ≡ Some w → n ≡ 1 → base ≤ p
-        → effect code (at p s r []) w
-        ≡ cond (is_target code p target) (Some (goes_to (at p s r []) target)) None
-        → target ≡ or_zero o → Enters (p + n) o r s x → Passes (at p s r []) x
+        → effect code (at p s r [] calls) w
+        ≡ cond (is_target code p target) (Some (goes_to (at p s r [] calls) target)) None
+        → target ≡ or_zero o → Enters (p + n) o r s x → Passes (at p s r [] calls) x
     goes_on s r target w None x is e le f z h =
-        let c = at p s r [] in
+        let c = at p s r [] calls in
         let no : is_target code p target ≡ false =
         subst (λ t. is_target code p t ≡ false) (sym z) (no_target code p) in
         subst (Passes c) (sym h)
         (stuck_here code front c w is (f ∙ ap (λ b. cond b (Some (goes_to c target)) None) no))
     goes_on s r target w (Some q) x is e le f z h =
-        let c = at p s r [] in
+        let c = at p s r [] calls in
         let from = h.0 in
         let yes : is_target code p target ≡ true =
         subst (λ t. is_target code p t ≡ true) (sym z) (lawful p q le (omega arith) h.1) in
-        let there : Some (goes_to c target) ≡ Some (at q s r []) = ap (λ t. Some (at t s r [])) z in
-        passes_later c (at q s r []) x
-        (one_word code front c (at q s r []) w is
+        let there : Some (goes_to c target) ≡ Some (at q s r [] calls) = ap (λ t. Some (at t s r [] calls)) z in
+        passes_later c (at q s r [] calls) x
+        (one_word code front c (at q s r [] calls) w is
         (f ∙ (ap (λ b. cond b (Some (goes_to c target)) None) yes ∙ there))) h.2
 
     by_jump : (s : Store) (r : Option Value) (met : Option Bool) (way : Way ℕ) (target : ℕ) (w : Word)
         → slice_get front p ≡ Some w → n ≡ 1 → base ≤ p
-        → effect code (at p s r []) w ≡ jumps code (at p s r []) target [] met
+        → effect code (at p s r [] calls) w ≡ jumps code (at p s r [] calls) target [] met
         → target ≡ or_zero (entry (p + n) lines way)
-        → Passes (at p s r []) (option_and_then rest (chosen met (after way r s) (after On r s)))
-    by_jump s r None way target w is e le f z = stuck_here code front (at p s r []) w is f
+        → Passes (at p s r [] calls) (option_and_then rest (chosen met (after way r s) (after On r s)))
+    by_jump s r None way target w is e le f z = stuck_here code front (at p s r [] calls) w is f
     by_jump s r (Some true) way target w is e le f z =
         goes_on s r target w (entry (p + n) lines way) (passes number_same access lines way r s) is e le f z
         (next way r s)
     by_jump s r (Some false) way target w is e le f z =
-        let c = at p s r [] in
-        let there : Some (goes_to c (p + 1)) ≡ Some (at (p + n) s r []) =
-        ap (λ t. Some (at t s r [])) (omega arith) in
-        passes_later c (at (p + n) s r []) (passes number_same access lines On r s)
-        (one_word code front c (at (p + n) s r []) w is (f ∙ there)) (next On r s).2
+        let c = at p s r [] calls in
+        let there : Some (goes_to c (p + 1)) ≡ Some (at (p + n) s r [] calls) =
+        ap (λ t. Some (at t s r [] calls)) (omega arith) in
+        passes_later c (at (p + n) s r [] calls) (passes number_same access lines On r s)
+        (one_word code front c (at (p + n) s r [] calls) w is (f ∙ there)) (next On r s).2
 
     -- a call, whose words stand from this place on
     call_at : (q k : ℕ) (m : Place) → IsServedAs code.constants Call (Name m) → (xs : List (Argument Place)) (s : Store)
         (r : Option Value)
         → HasWords front q (words_of_call code.constants m xs)
         → AreServed code.constants (flat_map (uses_of_argument k) xs) → q + length xs + 1 ≡ p + n
-        → Comes code front (at q s r []) (λ t. at (p + n) t None []) (called access m xs s)
+        → Comes code front (at q s r [] calls) (λ t. at (p + n) t None [] calls) (called access m xs s)
     call_at q k m called_one xs s r has sv e =
         let f = word_of_argument code.constants in
         let last = words.Call (number_of m) ∷ [] in
@@ -220,30 +223,30 @@ module _ (code : Listing) (front : List Word) (base end : ℕ)
         (served_each code.constants (uses_of_argument k) xs sv) (words_front front q (map f xs) last has) in
         let back = subst (λ z. slice_get front (q + z) ≡ Some (words.Call (number_of m))) (length-map xs f)
         (words_back front q (map f xs) last has).0 in
-        subst (λ z. Comes code front (at q s r []) (λ t. at z t None []) (called access m xs s)) e
-        (call_runs code front k m called_one xs q s r own back)
+        subst (λ z. Comes code front (at q s r [] calls) (λ t. at z t None [] calls) (called access m xs s)) e
+        (call_runs code front calls k m called_one xs q s r own back)
 
     -- a call behind a jump over it
     by_call : (s : Store) (r : Option Value) (met skipped : Option Bool) (w : Word) (o : Option Store)
         → slice_get front p ≡ Some w → base ≤ p → 0 < n
-        → effect code (at p s r []) w ≡ jumps code (at p s r []) (p + n) [] skipped
+        → effect code (at p s r [] calls) w ≡ jumps code (at p s r [] calls) (p + n) [] skipped
         → skipped ≡ option_map opposite met
-        → Comes code front (at (p + 1) s r []) (λ t. at (p + n) t None []) o
-        → Passes (at p s r []) (option_and_then rest (chosen met (leaves None o) (after On r s)))
+        → Comes code front (at (p + 1) s r [] calls) (λ t. at (p + n) t None [] calls) o
+        → Passes (at p s r [] calls) (option_and_then rest (chosen met (leaves None o) (after On r s)))
     by_call s r None skipped w o is le lt f z g =
-        let c = at p s r [] in
+        let c = at p s r [] calls in
         stuck_here code front c w is (f ∙ ap (jumps code c (p + n) []) z)
     by_call s r (Some true) skipped w o is le lt f z g =
-        let c = at p s r [] in
-        passes_later c (at (p + 1) s r []) (option_and_then rest (leaves None o))
-        (one_word code front c (at (p + 1) s r []) w is (f ∙ ap (jumps code c (p + n) []) z))
-        (by_stores (at (p + 1) s r []) None o g)
+        let c = at p s r [] calls in
+        passes_later c (at (p + 1) s r [] calls) (option_and_then rest (leaves None o))
+        (one_word code front c (at (p + 1) s r [] calls) w is (f ∙ ap (jumps code c (p + n) []) z))
+        (by_stores (at (p + 1) s r [] calls) None o g)
     by_call s r (Some false) skipped w o is le lt f z g =
-        let c = at p s r [] in
+        let c = at p s r [] calls in
         let on = next On r s in
         let yes : is_target code p (p + n) ≡ true = lawful p (p + n) le (omega arith) on.1 in
-        passes_later c (at (p + n) s r []) (passes number_same access lines On r s)
-        (one_word code front c (at (p + n) s r []) w is
+        passes_later c (at (p + n) s r [] calls) (passes number_same access lines On r s)
+        (one_word code front c (at (p + n) s r [] calls) w is
         (f ∙ (ap (jumps code c (p + n) []) z ∙ ap (λ b. cond b (Some (goes_to c (p + n))) None) yes))) on.2
 
     -- one line
@@ -251,24 +254,24 @@ module _ (code : Listing) (front : List Word) (base end : ℕ)
         → HasWords front p (option_map_or (words_of code.constants end (p + n) (place_of_label (p + n) lines)) i [])
         → n ≡ length (option_map_or (places_in_text k) i []) → base ≤ p → IsShallow i
         → AreServed code.constants (option_map_or (uses_of k) i [])
-        → Passes (at p s r []) (option_and_then rest (line_does access i r s))
+        → Passes (at p s r [] calls) (option_and_then rest (line_does access i r s))
     line_passes s r k None has e le sh sv =
         let z : p + n ≡ p = omega arith in
-        subst (λ q. Passes (at q s r []) (passes number_same access lines On r s)) z (next On r s).2
+        subst (λ q. Passes (at q s r [] calls) (passes number_same access lines On r s)) z (next On r s).2
     line_passes s r k (Some (instructions.Load negated x)) has e le sh sv =
         let o = loaded access s negated x in
         by_value s r o
-        (gives_at code front (at p s r []) (p + 1) (p + n) s [] o (omega arith)
-        (load_gives code front p s [] negated x r sv.0 has.0))
+        (gives_at code front calls (at p s r [] calls) (p + 1) (p + n) s [] o (omega arith)
+        (load_gives code front calls p s [] negated x r sv.0 has.0))
     line_passes s r k (Some (instructions.Apply operator x)) has e le sh sv =
         let o = both operator r (operand_value access s x) in
         by_value s r o
-        (gives_at code front (at p s r []) (p + 1) (p + n) s [] o (omega arith)
-        (apply_gives code front p s [] operator x r sv.0 has.0))
+        (gives_at code front calls (at p s r [] calls) (p + 1) (p + n) s [] o (omega arith)
+        (apply_gives code front calls p s [] operator x r sv.0 has.0))
     line_passes s None k (Some (instructions.Deferred operator t close)) has e le sh sv =
-        stuck_here code front (at p s None []) (words.Open operator) has.0 refl
+        stuck_here code front (at p s None [] calls) (words.Open operator) has.0 refl
     line_passes s (Some v) k (Some (instructions.Deferred operator t close)) has e le sh sv =
-        let c = at p s (Some v) [] in
+        let c = at p s (Some v) [] calls in
         let f = λ (x : Piece Place). word_of code.constants x.action in
         let m = map f (pieces_of t) in
         let q = p + 1 + length (pieces_of t) in
@@ -284,51 +287,54 @@ module _ (code : Listing) (front : List Word) (base end : ℕ)
         let placed = length-map (pieces_of t) (place_of {N = Place}) in
         let room = sh.2 in
         by_value s (Some v) o
-        (gives_at code front c (q + 1) (p + n) s [] o (omega arith)
-        (then_deferred code front c p q s [] operator (Some v) (value access s t) has.0 back
+        (gives_at code front calls c (q + 1) (p + n) s [] o (omega arith)
+        (then_deferred code front calls c p q s [] operator (Some v) (value access s t) has.0 back
         (omega arith)
-        (λ w. tree_runs code front t (p + 1) s None (opened operator w ∷ []) inner (omega arith))
+        (λ w. tree_runs code front calls t (p + 1) s None (opened operator w ∷ []) inner (omega arith))
         (none (plain code front) c)))
     line_passes s r k (Some (instructions.Transform function)) has e le sh sv =
         let o = option_and_then (value_of_function function) r in
         by_value s r o
-        (gives_at code front (at p s r []) (p + 1) (p + n) s [] o (omega arith)
-        (transform_gives code front p s [] function r has.0))
+        (gives_at code front calls (at p s r [] calls) (p + 1) (p + n) s [] o (omega arith)
+        (transform_gives code front calls p s [] function r has.0))
     line_passes s r k (Some (instructions.Limit low high)) has e le sh sv =
-        let c = at p s r [] in
+        let c = at p s r [] calls in
         let o = both Max r (operand_value access s low) in
         let both_of = both Min o (operand_value access s high) in
         by_value s r both_of
-        (gives_at code front c (p + 1 + 1) (p + n) s [] both_of (omega arith)
-        (then_apply code front c (p + 1) s [] Min high o sv.1.0 has.2.0
-        (apply_gives code front p s [] Max low r sv.0 has.0)))
+        (gives_at code front calls c (p + 1 + 1) (p + n) s [] both_of (omega arith)
+        (then_apply code front calls c (p + 1) s [] Min high o sv.1.0 has.2.0
+        (apply_gives code front calls p s [] Max low r sv.0 has.0)))
     line_passes s r k (Some (instructions.Store negated m)) has e le sh sv =
-        let on = λ (t : Store). at (p + 1) t r [] in
+        let on = λ (t : Store). at (p + 1) t r [] calls in
         let v = option_and_then (modified negated) r in
         let o = option_and_then (with_place (shape_of code) s m) v in
         by_store s r o
-        (comes_by code front (at p s r []) on o (words.Store negated (variable_of m)) has.0
+        (comes_by code front (at p s r [] calls) on o (words.Store negated (variable_of m)) has.0
         (ap (option_map on) (value_stored code m sv.0 s v))) e
     line_passes s None k (Some (instructions.Set m)) has e le sh sv =
-        stuck_here code front (at p s None []) (words.Set (variable_of m)) has.0 refl
+        stuck_here code front (at p s None [] calls) (words.Set (variable_of m)) has.0 refl
     line_passes s (Some (values.Int z)) k (Some (instructions.Set m)) has e le sh sv =
-        stuck_here code front (at p s (Some (values.Int z)) []) (words.Set (variable_of m)) has.0 refl
+        stuck_here code front (at p s (Some (values.Int z)) [] calls) (words.Set (variable_of m)) has.0 refl
     line_passes s (Some (values.Bool true)) k (Some (instructions.Set m)) has e le sh sv =
         by_set s (Some (values.Bool true)) m sv.0 (values.Bool true) (words.Set (variable_of m)) has.0 refl e
     line_passes s (Some (values.Bool false)) k (Some (instructions.Set m)) has e le sh sv =
         let r = Some (values.Bool false) in
         by_store s r (Some s)
-        (comes_by code front (at p s r []) (λ t. at (p + 1) t r []) (Some s) (words.Set (variable_of m)) has.0 refl) e
+        (comes_by code front (at p s r [] calls) (λ t. at (p + 1) t r [] calls) (Some s) (words.Set (variable_of m))
+        has.0 refl)
+        e
     line_passes s None k (Some (instructions.Reset m)) has e le sh sv =
-        stuck_here code front (at p s None []) (words.Reset (variable_of m)) has.0 refl
+        stuck_here code front (at p s None [] calls) (words.Reset (variable_of m)) has.0 refl
     line_passes s (Some (values.Int z)) k (Some (instructions.Reset m)) has e le sh sv =
-        stuck_here code front (at p s (Some (values.Int z)) []) (words.Reset (variable_of m)) has.0 refl
+        stuck_here code front (at p s (Some (values.Int z)) [] calls) (words.Reset (variable_of m)) has.0 refl
     line_passes s (Some (values.Bool true)) k (Some (instructions.Reset m)) has e le sh sv =
         by_set s (Some (values.Bool true)) m sv.0 (values.Bool false) (words.Reset (variable_of m)) has.0 refl e
     line_passes s (Some (values.Bool false)) k (Some (instructions.Reset m)) has e le sh sv =
         let r = Some (values.Bool false) in
         by_store s r (Some s)
-        (comes_by code front (at p s r []) (λ t. at (p + 1) t r []) (Some s) (words.Reset (variable_of m)) has.0 refl)
+        (comes_by code front (at p s r [] calls) (λ t. at (p + 1) t r [] calls) (Some s) (words.Reset (variable_of m))
+        has.0 refl)
         e
     line_passes s r k (Some (instructions.Jump condition l)) has e le sh sv =
         let target = place_of_label (p + n) lines l in
@@ -338,7 +344,7 @@ module _ (code : Listing) (front : List Word) (base end : ℕ)
         by_jump s r (holds condition r) Out end (words.Jump condition end) has.0 e le refl refl
     line_passes s r k (Some (instructions.Call Always m xs)) has e le sh sv =
         let long = length-replicate (length xs + 1) k in
-        by_stores (at p s r []) None (called access m xs s) (call_at p k m sv.0 xs s r has sv.1 (omega arith))
+        by_stores (at p s r [] calls) None (called access m xs s) (call_at p k m sv.0 xs s r has sv.1 (omega arith))
     line_passes s r k (Some (instructions.Call IfTrue m xs)) has e le sh sv =
         let long = length-replicate (length xs + 2) k in
         by_call s r (holds IfTrue r) (holds IfFalse r) (words.Jump IfFalse (p + n)) (called access m xs s) has.0 le
@@ -350,7 +356,7 @@ module _ (code : Listing) (front : List Word) (base end : ℕ)
 
   -- a line, and those after it, from each way on
   by_way : (lines : List (Line Place ℕ)) (p n : ℕ) (label : Option ℕ) (f : Option Value → Store → Option Store)
-      → Run (p + n) lines → ((r : Option Value) (s : Store) → Passes (at p s r []) (f r s)) → p + n ≤ end
+      → Run (p + n) lines → ((r : Option Value) (s : Store) → Passes (at p s r [] calls) (f r s)) → p + n ≤ end
       → (way : Way ℕ) (r : Option Value) (s : Store)
       → Enters p (way_in p n label lines way) r s
       (cond (takes number_same way label) (f r s) (passes number_same access lines way r s))
@@ -365,13 +371,16 @@ module _ (code : Listing) (front : List Word) (base end : ℕ)
       → HasWords front p (words_of_lines code.constants end p lines)
       → Each (IsFit code.constants) lines → base ≤ p → p + counts.words_of_lines lines ≡ end → Run p lines
   lines_run [] p has fit le e On r s =
-      let z : at p s r [] ≡ at end s r [] = ap (λ q. at q s r []) (omega arith) in (
+      let z : at p s r [] calls ≡ at end s r [] calls = ap (λ q. at q s r [] calls) (omega arith) in (
         omega arith,
         omega arith,
-        (r, subst (λ c. Leads (plain code front) (at p s r []) c) z (none (plain code front) (at p s r []))),
+        (
+          r,
+          subst (λ c. Leads (plain code front) (at p s r [] calls) c) z (none (plain code front) (at p s r [] calls)),
+        ),
       )
   lines_run [] p has fit le e (To l) r s = refl
-  lines_run [] p has fit le e Out r s = (omega arith, omega arith, (r, none (plain code front) (at end s r [])))
+  lines_run [] p has fit le e Out r s = (omega arith, omega arith, (r, none (plain code front) (at end s r [] calls)))
   lines_run (line ∷ lines) p has fit le e way r s =
       let n = counts.words_in line in
       let target = place_of_label (p + n) lines in

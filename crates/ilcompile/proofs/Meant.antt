@@ -3,6 +3,7 @@ use Rattle.std.proofs.Common.{◌≡◌, ℕ, suc, ◌+◌, List, [], ◌∷◌,
 use Rattle.std.proofs.Common.{ap, subst, arith}
 use Rattle.std.specs.Prelude.{slice_get, not, flat_map, map, IfSome}
 use Rattle.std.specs.List.{AllByRecursion, list_any}
+use Rattle.std.proofs.lemmas.List.{append-nil}
 use Rattle.iltypes.specs.declared.value.Value.{Value}
 use Rattle.ilsource.specs.declared.operand.Operand.{Operand}
 use Rattle.ilsource.specs.declared.operand.Operand.TheVariants.{Name, Constant}
@@ -19,7 +20,7 @@ use Rattle.ilplan.specs.Plans.{PlannedInstance, PlannedTask, HasOperand, HasPlac
 use Rattle.ilplan.proofs.EachOnce.{same_is}
 use Rattle.ilplan.proofs.Used.{uses_among}
 use Rattle.ilcode.specs.Listings.{Listing}
-use Rattle.ilcompile.specs.Layout.{constant_number, programs_of, laid_out}
+use Rattle.ilcompile.specs.Layout.{constant_number, starts_from, programs_of, laid_out}
 use Rattle.ilcompile.specs.Meant.{IsMeant}
 use Rattle.ilcompile.proofs.Stands.{Each}
 use Rattle.ilcompile.proofs.Served.{IsVariable, IsServedAs, AreServed, served_front, served_back}
@@ -102,7 +103,8 @@ pub is_meant : (buses : ℕ) (text : List ℕ) (t : PlannedTask) → KeepsLimits
     → IsMeant buses t (laid_out buses text t)
 is_meant buses text t k =
     let code : Listing = laid_out buses text t in
-    let comes = all_run code (programs_of t.instances) refl refl (programs_fit t k) in
+    let programs = programs_of t.instances in
+    let comes = all_run code programs refl (append-nil (starts_from 0 programs)) refl (programs_fit t k) in
     record {
       runs = λ from to h. some_end code from to _ (comes from) h;
       means = λ from to steps e. one_end code from to steps _ (comes from) e;

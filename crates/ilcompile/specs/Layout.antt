@@ -1,6 +1,6 @@
 -- How a task is laid out as code (profile): the words of its instances' lines one after another, each with its line of
 -- the text, a start where each instance begins, its variables as slots, its block instances with their kinds, and its
--- constants in order of first use. Jumps lead to places.
+-- constants in order of first use. Jumps lead to places. It has no functions.
 use Rattle.std.specs.Prelude.{ℕ, ◌+◌, List, [], ◌∷◌, ◌++◌, map, flat_map, if◌then◌else◌}
 use Rattle.std.specs.Option.{option_map_or}
 use Rattle.std.specs.List.{position_or_len}
@@ -38,7 +38,8 @@ use Rattle.ilcode.specs.Listings.{Listing, listing_of}
 abbrev pub constant_number : List Value → Value → ℕ
 constant_number constants value = position_or_len (same_value value) constants
 
--- what is named, by numbers. In a plan an operand and what is stored to is a variable or a port, an argument is given to
+-- what is named, by numbers. In a plan an operand and what is stored to is a variable or a port, an argument is given
+-- to
 -- a port, and a block instance is called: the other cases stand in no plan
 abbrev pub number_of : Place → ℕ
 number_of (places.Slot slot) = slot
@@ -143,4 +144,4 @@ abbrev pub laid_out : ℕ → List ℕ → PlannedTask → Listing
 laid_out buses text task =
     let programs = programs_of task.instances in
     listing_of buses task.constants (types_of task) (kinds_of task) (starts_from 0 programs)
-    (words_of_programs task.constants 0 programs) (map (line_at text) (places_of_programs programs))
+    (words_of_programs task.constants 0 programs) (map (line_at text) (places_of_programs programs)) []

@@ -1,6 +1,6 @@
 -- A plan with its tasks' codes, as contracts see it: for each of its tasks an accepted code (IEC 61131-3, 2.7.2, and
 -- profile).
-use Rattle.std.specs.Prelude.{◌≡◌, ℕ, List, map}
+use Rattle.std.specs.Prelude.{◌≡◌, List, map}
 use Rattle.std.specs.Arc.{arc_value}
 use Rattle.std.specs.List.{AllZip}
 use Rattle.std.specs.declared.alloc.Global.{Global}

@@ -52,7 +52,7 @@ task programs constants =
 abbrev pub AreLaidOut : List (List (Line Place ℕ)) → List Value → List ℕ → List Word → List ℕ → Type 0
 AreLaidOut programs constants starts ws numbers =
     laid_out 2 (replicate 20 10) (task programs (different_constants (flat_map (λ lines. lines) programs)))
-    ≡ listing_of 2 constants (types.Bool ∷ types.Bool ∷ []) (kinds.Ton ∷ kinds.RTrig ∷ []) starts ws numbers
+    ≡ listing_of 2 constants (types.Bool ∷ types.Bool ∷ []) (kinds.Ton ∷ kinds.RTrig ∷ []) starts ws numbers []
 
 abbrev pub truth : Value
 truth = values.Bool true

@@ -45,7 +45,10 @@ fn lay_out(alloc: Global, buses: u8, text: &[u8], task: &Task) -> Result<Code, A
     let (starts, words) = words(alloc, task.constants(), task.instances())?;
     let words = pack(alloc, &words)?;
     let lines = line_numbers(alloc, text, task.instances())?;
-    Ok(Code::new(buses, constants, slots, kinds, starts, words, lines))
+    let functions = Vec::new(alloc);
+    Ok(Code::new(
+        buses, constants, slots, kinds, starts, words, lines, functions,
+    ))
 }
 
 /// The types of the slots.

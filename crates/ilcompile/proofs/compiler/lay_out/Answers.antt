@@ -19,13 +19,14 @@ pack-requires c =
 pub new-requires : goal.new-requires
 new-requires c =
     let laid =
-    parts_are c.args.buses c.args.text.now c.args.task.now _ _ _ _ _ _
+    parts_are c.args.buses c.args.text.now c.args.task.now _ _ _ _ _ _ _
     (c.in_ok-constants.ensures.items ∙ c.as_slice.ensures.value ∙ c.constants.ensures.value)
     (rw c.slots.ensures.value at c.in_ok-slots.ensures)
     (rw c.blocks-2.ensures.value at c.in_ok-kinds.ensures)
     (rw c.instances.ensures.value at c.in_ok-starts.ensures.starts)
-    (c.in_ok-words.ensures ∙ c.deref.ensures.value ∙ rw (c.constants-2.ensures.value, c.instances.ensures.value) at c.in_ok-starts.ensures.words)
-    (rw c.instances-2.ensures.value at c.in_ok-lines.ensures) in
+    (c.in_ok-words.ensures ∙ c.deref.ensures.value
+    ∙ rw (c.constants-2.ensures.value, c.instances.ensures.value) at c.in_ok-starts.ensures.words)
+    (rw c.instances-2.ensures.value at c.in_ok-lines.ensures) c.new-functions.ensures.items in
     subst IsLawful (sym laid)
     (laid_out_lawful c.args.buses c.args.text.now c.args.task.now c.requires.first c.requires.last
     c.requires.short c.requires.limits)
@@ -33,12 +34,13 @@ new-requires c =
 pub returns-clause-meaning : goal.returns-clause-meaning
 returns-clause-meaning c =
     let laid =
-    parts_are c.args.buses c.args.text.now c.args.task.now _ _ _ _ _ _
+    parts_are c.args.buses c.args.text.now c.args.task.now _ _ _ _ _ _ _
     (c.in_ok-constants.ensures.items ∙ c.as_slice.ensures.value ∙ c.constants.ensures.value)
     (rw c.slots.ensures.value at c.in_ok-slots.ensures)
     (rw c.blocks-2.ensures.value at c.in_ok-kinds.ensures)
     (rw c.instances.ensures.value at c.in_ok-starts.ensures.starts)
-    (c.in_ok-words.ensures ∙ c.deref.ensures.value ∙ rw (c.constants-2.ensures.value, c.instances.ensures.value) at c.in_ok-starts.ensures.words)
-    (rw c.instances-2.ensures.value at c.in_ok-lines.ensures) in
+    (c.in_ok-words.ensures ∙ c.deref.ensures.value
+    ∙ rw (c.constants-2.ensures.value, c.instances.ensures.value) at c.in_ok-starts.ensures.words)
+    (rw c.instances-2.ensures.value at c.in_ok-lines.ensures) c.new-functions.ensures.items in
     subst (IsMeant c.args.buses c.args.task.now) (sym (c.new.ensures ∙ laid))
     (is_meant c.args.buses c.args.text.now c.args.task.now c.requires.limits)

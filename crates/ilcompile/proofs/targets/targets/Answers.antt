@@ -78,7 +78,8 @@ loop-index-preserved c =
       place = omega (arith, more, was, back);
       targets = ap (λ (ts : List ℕ). reverse ts) c.in_ok-push_target.ensures
           ∙ (reverse-append c.loop-index.targets.items (target_of (place_in c.loop-index.labels) line.instruction)
-          ∙ (ap (λ (ts : List ℕ). ts ++ others) (same_target (place_in c.loop-index.labels) wanted known line.instruction)
+          ∙ (ap (λ (ts : List ℕ). ts ++ others)
+          (same_target (place_in c.loop-index.labels) wanted known line.instruction)
           ∙ (ap (λ (ts : List ℕ). target_of wanted line.instruction ++ ts) (c.loop-index.invariant.targets
           ∙ ap (λ (n : ℕ). targets_of n rest) back)
           ∙ ap (λ (ls : List (Line Place ℕ)). targets_of place ls) left)));
