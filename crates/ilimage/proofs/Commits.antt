@@ -1,7 +1,7 @@
 -- What a scan of a task leaves of the image.
-use Rattle.std.proofs.Common.{◌≡◌, ◌≢◌, ℕ, zero, suc, ◌+◌, ◌-◌, ◌≤◌, List, [], ◌∷◌, map, drop, length, Bool, true}
-use Rattle.std.proofs.Common.{false, cond, Option, Some, None, refl, sym, ap, ◌∙◌, subst, inl, inr, arith}
-use Rattle.std.specs.Prelude.{slice_get, slice_set}
+use Rattle.std.proofs.Common.{◌≡◌, ◌≢◌, ℕ, zero, suc, ◌+◌, ◌-◌, ◌<◌, ◌≤◌, List, [], ◌∷◌, map, drop, length, Bool}
+use Rattle.std.proofs.Common.{true, false, cond, Option, Some, None, refl, sym, ap, ◌∙◌, subst, inl, inr, arith}
+use Rattle.std.specs.Prelude.{All, slice_get, slice_set}
 use Rattle.std.specs.Option.{option_map, option_and_then}
 use Rattle.std.proofs.lemmas.Bool.{cases_eq}
 use Rattle.std.proofs.lemmas.Option.{slice_get_past, cond_some}
@@ -10,12 +10,13 @@ use Rattle.iltypes.specs.declared.value.Value.{Value}
 use Rattle.iltypes.specs.Values.{IsOf, AreOf}
 use Rattle.ilblocks.specs.Calls.{Block}
 use Rattle.ilblocks.proofs.Blocks.{set_typed, value_at}
+use Rattle.ilcode.specs.Listings.{lasting_types}
 use Rattle.ilimage.specs.declared.external.External.{External}
 use Rattle.ilimage.specs.Images.{TaskLayout, TaskImage, ProcessImage, ImageVariable, Global, Own, image_of, layout_of}
 use Rattle.ilimage.specs.Images.{value_of, blocks_of, written_at, written_in, AreTyped, AreApart}
 use Rattle.ilimage.specs.Images.{IsLawful, IsLawfulTask, IsImage}
 use Rattle.ilimage.specs.ImageSteps.{task_of, stored_globals}
-use Rattle.ilimage.proofs.Places.{at_all, layout_at}
+use Rattle.ilimage.proofs.Places.{at_all, layout_at, typed_there}
 
 -- ---- an item that is set
 
@@ -120,7 +121,7 @@ committed image task t vs blocks =
 pub record IsScanned (image : ProcessImage) (task : ℕ) (t : TaskImage) (vs : List Value) : Type 0 where
   pub whole : IsImage image
   pub is : slice_get image.tasks task ≡ Some t
-  pub typed : AreOf vs t.layout.verified.code.slots
+  pub typed : AreOf vs (lasting_types t.layout.verified.code)
 
 same_layouts : (ts : List TaskImage) (task : ℕ) (t u : TaskImage) → slice_get ts task ≡ Some t → u.layout ≡ t.layout
     → map (λ (t : TaskImage). t.layout) (slice_set ts task u) ≡ map (λ (t : TaskImage). t.layout) ts
@@ -141,13 +142,21 @@ pub lawful_task : (image : ProcessImage) (task : ℕ) (t : TaskImage) → IsImag
 lawful_task image task t i e =
     at_all (IsLawfulTask image.types) (layout_of image).tasks task t.layout i.lawful.tasks (layout_at image task t e)
 
+-- each global variable that a task names is there
+pub named_there : (image : ProcessImage) (task : ℕ) (t : TaskImage) → IsImage image
+    → slice_get image.tasks task ≡ Some t
+    → All (λ (e : External). e.global < length image.types) t.layout.externals
+named_there image task t i e =
+    typed_there image.types (lasting_types t.layout.verified.code) t.layout.externals
+    (lawful_task image task t i e).typed
+
 pub image_stays : (image : ProcessImage) (task : ℕ) (t : TaskImage) (vs : List Value) (blocks : List Block)
     → IsScanned image task t vs → IsImage (committed image task t vs blocks)
 image_stays image task t vs blocks h =
     let lawful = lawful_task image task t h.whole h.is in
     record {
       lawful = subst IsLawful (sym (layout_stays image task t vs blocks h.is)) h.whole.lawful;
-      globals = stored_typed image.types t.layout.verified.code.slots t.layout.externals vs image.globals
+      globals = stored_typed image.types (lasting_types t.layout.verified.code) t.layout.externals vs image.globals
           lawful.typed h.typed h.whole.globals;
     }
 
@@ -187,8 +196,8 @@ by_external image task slot t vs blocks variable (Some x) h e w =
     let c = cond_some x.stored (Global x.global) variable w in
     let lawful = lawful_task image task t h.whole h.is in
     ap (value_of (committed image task t vs blocks)) (sym c.1)
-    ∙ written_global image.types t.layout.verified.code.slots t.layout.externals vs image.globals slot x lawful.typed
-    lawful.apart h.typed h.whole.globals e c.0
+    ∙ written_global image.types (lasting_types t.layout.verified.code) t.layout.externals vs image.globals slot x
+    lawful.typed lawful.apart h.typed h.whole.globals e c.0
 
 pub written : (image : ProcessImage) (task slot : ℕ) (t : TaskImage) (vs : List Value) (blocks : List Block)
     (variable : ImageVariable) → IsScanned image task t vs → written_in (layout_of image) task slot ≡ Some variable

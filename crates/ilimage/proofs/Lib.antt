@@ -1,5 +1,6 @@
 pub mod Commits
 pub mod Equality
+pub mod LastingSlots
 pub mod Overrides
 pub mod Places
 pub mod RowCommits

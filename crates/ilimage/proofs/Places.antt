@@ -10,6 +10,7 @@ use Rattle.iltypes.specs.declared.value.Value.{Value}
 use Rattle.iltypes.specs.declared.value.Value.TheVariants as values
 use Rattle.iltypes.specs.Values.{IsOf, AreOf}
 use Rattle.ilblocks.proofs.Blocks.{value_at}
+use Rattle.ilcode.specs.Listings.{lasting_types}
 use Rattle.ilverify.specs.Verdicts.{Accepted}
 use Rattle.ilimage.specs.declared.external.External.{External}
 use Rattle.ilimage.specs.Images.{TaskLayout, TaskImage, ProcessImage, layout_of, value_of, verified_of}
@@ -131,5 +132,5 @@ slot_value image task slot t e h =
     let in_slot : variable_in (layout_of image) task slot ≡ Some (variable_at task number o) =
     ap (option_map (λ (l : TaskLayout). variable_at task (slot - length l.externals) (slice_get l.externals slot)))
     (layout_at image task t e) in
-    slot_is h.types t.layout.verified.code.slots image.globals t.own.slots externals slot h.typed h.values
+    slot_is h.types (lasting_types t.layout.verified.code) image.globals t.own.slots externals slot h.typed h.values
     ∙ sym (variable_value image task number t o e) ∙ ap (option_and_then (value_of image)) (sym in_slot)

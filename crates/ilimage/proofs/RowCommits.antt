@@ -12,6 +12,7 @@ use Rattle.iltypes.specs.declared.value.Value.TheVariants as values
 use Rattle.iltypes.specs.Values.{IsOf, AreOf}
 use Rattle.ilblocks.specs.Calls.{Block}
 use Rattle.ilblocks.proofs.Blocks.{as_long, set_typed}
+use Rattle.ilcode.specs.Listings.{lasting_types}
 use Rattle.ilverify.specs.Verdicts.{Accepted}
 use Rattle.ilimage.specs.declared.external.External.{External}
 use Rattle.ilimage.specs.declared.slots.TaskSlot.{TaskSlot}
@@ -57,12 +58,12 @@ slot_typed types (type ∷ slots) (y ∷ more) zero x value t e h =
 slot_typed types (type ∷ slots) (y ∷ more) (suc slot) x value t e h = slot_typed types slots more slot x value t.1 e h
 
 by_external : (types : List IlType) (t : TaskLayout) (slot global : ℕ) (value : Value) (o : Option External)
-    → AreTyped types t.verified.code.slots t.externals → slice_get t.externals slot ≡ o → is_global global o ≡ true
-    → MayHave types global value → MayHave t.verified.code.slots slot value
+    → AreTyped types (lasting_types t.verified.code) t.externals → slice_get t.externals slot ≡ o
+    → is_global global o ≡ true → MayHave types global value → MayHave (lasting_types t.verified.code) slot value
 by_external types t slot global value None a e n h = absurd (cc)
 by_external types t slot global value (Some x) a e n h =
     let q : x.global ≡ global = eqb-true x.global global n in
-    typed_slot types t.verified.code.slots t.externals slot x value a e
+    typed_slot types (lasting_types t.verified.code) t.externals slot x value a e
     (subst (λ (g : ℕ). MayHave types g value) (sym q) h)
 
 by_task : (types : List IlType) (layouts : List TaskLayout) (task slot global : ℕ) (value : Value)
@@ -70,7 +71,7 @@ by_task : (types : List IlType) (layouts : List TaskLayout) (task slot global : 
     → names_in o slot global ≡ true → MayHave types global value → MaySlotHave layouts value task slot
 by_task types layouts task slot global value None l e n h = absurd (cc)
 by_task types layouts task slot global value (Some t) l e n h =
-    here (slice_get layouts task) (λ (t : TaskLayout). MayHave t.verified.code.slots slot value) t e
+    here (slice_get layouts task) (λ (t : TaskLayout). MayHave (lasting_types t.verified.code) slot value) t e
     (by_external types t slot global value (slice_get t.externals slot)
     (at_all (IsLawfulTask types) layouts task t l e).typed refl n h)
 
@@ -163,7 +164,7 @@ pub storable : (types : List IlType) (globals : List Value) (tasks : List TaskRo
     AreStorable (layouts_of tasks) vs (length globals) (stored_slots t.externals))
 storable types globals tasks index task vs blocks k c =
     let t = c.of.layout in
-    let slots = t.verified.code.slots in
+    let slots = lasting_types t.verified.code in
     let off = values.Bool false in
     let fit = externals_fit types slots t.externals c.lawful.typed in
     let filled = as_long vs slots c.lasting.values in
@@ -199,8 +200,8 @@ globals_stored : (types : List IlType) (globals gs : List Value) (tasks after : 
     → IsStored globals gs tasks after task vs → gs ≡ stored_globals c.of.layout.externals vs globals
 globals_stored types globals gs tasks after task vs blocks c s =
     let t = c.of.layout in
-    let fit = externals_fit types t.verified.code.slots t.externals c.lawful.typed in
-    let filled = as_long vs t.verified.code.slots c.lasting.values in
+    let fit = externals_fit types (lasting_types t.verified.code) t.externals c.lawful.typed in
+    let filled = as_long vs (lasting_types t.verified.code) c.lasting.values in
     s.written t c.layout ∙ stores_all t.externals vs globals (omega arith)
 
 -- the task that an index reads then
@@ -304,7 +305,8 @@ commit_kept types globals gs tasks after index task vs blocks read k c s is same
     let ready = s.ready.rows task read is in
     let stored = globals_stored types globals gs tasks after task vs blocks c s in
     let typed = subst (λ (gs : List Value). AreOf gs types) (sym stored)
-    (stored_typed types t.verified.code.slots t.externals vs globals c.lawful.typed c.lasting.values k.image.globals) in
+    (stored_typed types (lasting_types t.verified.code) t.externals vs globals c.lawful.typed c.lasting.values
+    k.image.globals) in
     let n = as_long globals types k.image.globals in
     let m = as_long gs types typed in
     record {

@@ -7,6 +7,7 @@ use Rattle.std.proofs.lemmas.Option.{slice_get-map, slice_get-get_or}
 use Rattle.iltypes.specs.declared.value.IlType.{IlType}
 use Rattle.iltypes.specs.declared.value.Value.{Value}
 use Rattle.ilblocks.proofs.Blocks.{as_long}
+use Rattle.ilcode.specs.Listings.{lasting_types}
 use Rattle.ilimage.specs.declared.external.External.{External}
 use Rattle.ilimage.specs.declared.slots.TaskSlot.{TaskSlot}
 use Rattle.ilimage.specs.Images.{TaskImage, image_of, IsImage}
@@ -46,7 +47,7 @@ rows_known types globals tasks rows i q k d lt =
     (sym (slice_get-map (ready_task globals) tasks k)
     ∙ sym (ap (λ (rs : List TaskRow). slice_get rs k) q) ∙ slice_get-get_or rows k d lt) in
     let lawful = lawful_task image k c.of i c.is in
-    let all = typed_there types c.of.layout.verified.code.slots c.of.layout.externals lawful.typed in
+    let all = typed_there types (lasting_types c.of.layout.verified.code) c.of.layout.externals lawful.typed in
     subst (λ (t : TaskRow). All (λ (e : External). e.global < length globals) t.layout.externals) c.gives
     (subst (λ (n : ℕ). All (λ (e : External). e.global < n) c.of.layout.externals)
     (sym (as_long globals types i.globals)) all)

@@ -6,6 +6,7 @@ use Rattle.std.proofs.lemmas.Bool.{cases_eq, eq-eqb, eqb-true}
 use Rattle.std.proofs.lemmas.List.{drop_more, length-map}
 use Rattle.std.proofs.lemmas.Option.{slice_get_within, slice_get-get_or}
 use Rattle.iltypes.specs.declared.value.Value.{Value}
+use Rattle.ilcode.specs.Listings.{lasting_types}
 use Rattle.ilimage.specs.declared.slots.TaskSlot.{TaskSlot}
 use Rattle.ilimage.specs.Images.{TaskLayout}
 use Rattle.ilimage.specs.Snapshots.{MayHave}
@@ -82,7 +83,7 @@ pub task_there : (tasks before : List TaskRow) (value : Value) (one : TaskSlot) 
     → read ≡ get_or tasks one.task read → slice_get tasks one.task ≡ Some read
 task_there tasks before value one read same may r =
     let t = there (slice_get (layouts_of before) one.task)
-    (λ (t : TaskLayout). MayHave t.verified.code.slots one.slot value) may in
+    (λ (t : TaskLayout). MayHave (lasting_types t.verified.code) one.slot value) may in
     let within = slice_get_within (layouts_of before) one.task t.of t.is in
     let n = ap length same in
     let m = length-map tasks (λ (t : TaskRow). t.layout) in

@@ -9,6 +9,7 @@ use Rattle.iltypes.specs.declared.value.IlType.{IlType}
 use Rattle.iltypes.specs.declared.value.Value.{Value}
 use Rattle.iltypes.specs.Values.{IsOf, AreOf}
 use Rattle.ilblocks.proofs.Blocks.{as_long}
+use Rattle.ilcode.specs.Listings.{lasting_types}
 use Rattle.ilimage.specs.declared.overriding.Override.{Override}
 use Rattle.ilimage.specs.declared.slots.TaskSlot.{TaskSlot}
 use Rattle.ilimage.specs.Images.{TaskLayout, TaskImage, ProcessImage, layout_of, value_of, verified_of, blocks_of}
@@ -44,7 +45,7 @@ task_shown types globals tasks image task t view e =
 pub shown_typed : (t : TaskRow) → IsTaskRow t → IsTaskImage (shown t)
 shown_typed t h =
     record {
-      values = dropped_typed t.row t.layout.verified.code.slots (length t.layout.externals) h.values;
+      values = dropped_typed t.row (lasting_types t.layout.verified.code) (length t.layout.externals) h.values;
       blocks = h.blocks;
     }
 
@@ -94,17 +95,18 @@ all_in tasks index task t i e global slot =
 
 may_here : (layouts : List TaskLayout) (task other slot : ℕ) (value : Value) (t : TaskLayout)
     → slice_get layouts task ≡ Some t → other ≡ task → MaySlotHave layouts value other slot
-    → MayHave t.verified.code.slots slot value
+    → MayHave (lasting_types t.verified.code) slot value
 may_here layouts task other slot value t e same h =
-    let f = there (slice_get layouts other) (λ (u : TaskLayout). MayHave u.verified.code.slots slot value) h in
+    let f = there (slice_get layouts other)
+    (λ (u : TaskLayout). MayHave (lasting_types u.verified.code) slot value) h in
     let g : slice_get layouts other ≡ Some t = ap (slice_get layouts) same ∙ e in
     let q : f.of ≡ t = let i = f.is in cc in
-    subst (λ (u : TaskLayout). MayHave u.verified.code.slots slot value) q f.holds
+    subst (λ (u : TaskLayout). MayHave (lasting_types u.verified.code) slot value) q f.holds
 
 -- each override is of the kind of the slots that it names
 pub overrides_fit : (types : List IlType) (globals : List Value) (tasks : List TaskRow) (index : List (List TaskSlot))
     (task : ℕ) (t : TaskRow) (overrides : List Override) (row : List Value) → IsKept types globals tasks index
-    → slice_get tasks task ≡ Some t → AreAllowed types overrides → AreOf row t.layout.verified.code.slots
+    → slice_get tasks task ≡ Some t → AreAllowed types overrides → AreOf row (lasting_types t.layout.verified.code)
     → All (λ (o : Override). All (λ (one : TaskSlot). one.task ≡ task → MaySet row one.slot o.value)
     (slots_at index o.global)) overrides
 overrides_fit types globals tasks index task t overrides row kept e h typed k d lt j b within same =
@@ -116,7 +118,7 @@ overrides_fit types globals tasks index task t overrides row kept e h typed k d 
     slice_get-map (λ (t : TaskRow). t.layout) tasks task ∙ ap (option_map (λ (t : TaskRow). t.layout)) e in
     let may = each_may_have layouts slots o.global o.value (slots_of layouts index slots o.global kept.indexed refl)
     (may_give types globals tasks o.global o.value kept.image (h k d lt)) j b within in
-    may_set row t.layout.verified.code.slots one.slot o.value typed
+    may_set row (lasting_types t.layout.verified.code) one.slot o.value typed
     (may_here layouts task one.task one.slot o.value t.layout layout same may)
 
 under_is : (types : List IlType) (globals : List Value) (tasks : List TaskRow) (index : List (List TaskSlot))
@@ -133,9 +135,9 @@ under_is types globals tasks index task t overrides kept e h =
 pub under_in_types : (types : List IlType) (globals : List Value) (tasks : List TaskRow)
     (index : List (List TaskSlot)) (task : ℕ) (t : TaskRow) (overrides : List Override)
     → IsKept types globals tasks index → slice_get tasks task ≡ Some t → AreAllowed types overrides → IsTaskRow t
-    → AreOf (row_under index task overrides t.row) t.layout.verified.code.slots
+    → AreOf (row_under index task overrides t.row) (lasting_types t.layout.verified.code)
 under_in_types types globals tasks index task t overrides kept e h typed =
-    let slots = t.layout.verified.code.slots in
+    let slots = lasting_types t.layout.verified.code in
     let lawful = lawful_row types globals tasks task t kept.image e in
     subst (λ (row : List Value). AreOf row slots) (sym (under_is types globals tasks index task t overrides kept e h))
     (slots_typed types slots (globals_under overrides globals) t.layout.externals

@@ -5,6 +5,7 @@ use Rattle.iltypes.specs.declared.value.Value.{Value}
 use Rattle.iltypes.specs.declared.value.Value.TheVariants as values
 use Rattle.iltypes.specs.Values.{AreOf}
 use Rattle.ilblocks.specs.Calls.{Block}
+use Rattle.ilcode.specs.Listings.{lasting_types}
 use Rattle.ilverify.specs.Verdicts.{Accepted}
 use Rattle.ilimage.specs.declared.external.External.{External}
 use Rattle.ilimage.specs.declared.overriding.Override.{Override}
@@ -39,5 +40,5 @@ globals_under (given ∷ more) globals = globals_under more (slice_set globals g
 -- the code's first slots are global variables with these values
 pub record HasGlobals (t : TaskLayout) (globals : List Value) : Type 0 where
   pub types : List IlType
-  pub typed : AreTyped types t.verified.code.slots t.externals
+  pub typed : AreTyped types (lasting_types t.verified.code) t.externals
   pub values : AreOf globals types

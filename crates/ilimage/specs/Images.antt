@@ -1,6 +1,7 @@
 -- The process image (IEC 61131-3, 2.4.3.1 and 2.7.2, and profile): a value for each global variable, and for each task
 -- the values of its programs' own variables and its block instances.
-use Rattle.std.specs.Prelude.{◌≡◌, ℕ, ◌+◌, ◌-◌, ◌==◌, All, List, [], ◌∷◌, map, length, drop, ⊤, if◌then◌else◌, slice_get}
+use Rattle.std.specs.Prelude.{◌≡◌, ℕ, ◌+◌, ◌-◌, ◌==◌, All, List, [], ◌∷◌, map, length, drop, ⊤, if◌then◌else◌}
+use Rattle.std.specs.Prelude.{slice_get}
 use Rattle.std.specs.Prelude.{Option, Some, None, option_map, option_and_then}
 use Rattle.std.specs.List.{AllZip}
 use Rattle.iltypes.specs.declared.value.IlType.{IlType}
@@ -8,13 +9,14 @@ use Rattle.iltypes.specs.declared.value.Value.{Value}
 use Rattle.iltypes.specs.Values.{AreOf}
 use Rattle.ilblocks.specs.Calls.{Block, IsBlockOf}
 use Rattle.ilblocks.specs.Stores.{Lasting, blocks_at_first}
+use Rattle.ilcode.specs.Listings.{lasting_types}
 use Rattle.ilverify.specs.Verdicts.{Accepted}
 use Rattle.ilimage.specs.declared.external.External.{External}
 use Rattle.ilimage.specs.declared.overriding.Override.{Override}
 use Rattle.ilimage.specs.declared.slots.StoredSlot.{StoredSlot}
 
 -- a task as the image knows it: its verified code, whose first slots are these global variables in their order; the
--- slots after them are the task's own variables
+-- programs' slots after them are the task's own variables. The slots of functions are no variables of the image
 pub record TaskLayout : Type 0 where
   pub verified : Accepted
   pub externals : List External
@@ -131,7 +133,7 @@ AreApart (external ∷ more) = All (λ other. ¬ (other.global ≡ external.glob
 
 -- a task among global variables of these types
 pub record IsLawfulTask (types : List IlType) (t : TaskLayout) : Type 0 where
-  pub typed : AreTyped types t.verified.code.slots t.externals
+  pub typed : AreTyped types (lasting_types t.verified.code) t.externals
   pub apart : AreApart t.externals
 
 pub record IsLawful (layout : Layout) : Type 0 where
@@ -139,7 +141,7 @@ pub record IsLawful (layout : Layout) : Type 0 where
 
 -- the types of a task's own variables
 abbrev pub own_types : TaskLayout → List IlType
-own_types t = drop (length t.externals) t.verified.code.slots
+own_types t = drop (length t.externals) (lasting_types t.verified.code)
 
 -- each value of the task's own variables is in its type, and each block instance is of its kind
 pub record IsTaskImage (t : TaskImage) : Type 0 where

@@ -6,6 +6,7 @@ use Rattle.std.specs.Option.{IsSomeAnd}
 use Rattle.iltypes.specs.declared.value.IlType.{IlType}
 use Rattle.iltypes.specs.declared.value.Value.{Value}
 use Rattle.iltypes.specs.declared.value.Value.TheVariants as values
+use Rattle.ilcode.specs.Listings.{lasting_types}
 use Rattle.ilrows.specs.Cells.{is_number_of}
 use Rattle.ilblocks.specs.Calls.{Block}
 use Rattle.ilimage.specs.declared.external.External.{External}
@@ -71,7 +72,7 @@ task_with slots value task t = record t { row = row_with slots value task t.row 
 -- the slot of a task may have the value
 abbrev pub MaySlotHave : List TaskLayout → Value → ℕ → ℕ → Type 0
 MaySlotHave layouts value task slot =
-    IsSomeAnd (slice_get layouts task) (λ t. MayHave t.verified.code.slots slot value)
+    IsSomeAnd (slice_get layouts task) (λ t. MayHave (lasting_types t.verified.code) slot value)
 
 -- each slot of a global variable may have the value
 abbrev pub MaySlotsHave : List TaskLayout → ℕ → Value → Type 0

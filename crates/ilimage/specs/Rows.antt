@@ -1,5 +1,5 @@
--- A worked image: of a button and a lamp one task reads the button, sets the lamp and keeps a number of its own; another
--- reads the lamp alone and keeps a truth value.
+-- A worked image: of a button and a lamp one task reads the button, sets the lamp and keeps a number of its own;
+-- another reads the lamp alone and keeps a truth value.
 use Rattle.std.specs.Prelude.{ℕ, pos, Bool, true, false, List, [], ◌∷◌}
 use Rattle.iltypes.specs.declared.value.IlType.{IlType}
 use Rattle.iltypes.specs.declared.value.IlType.TheVariants as types
@@ -9,7 +9,7 @@ use Rattle.ilcode.specs.Listings.{listing_of}
 use Rattle.ilverify.specs.Verdicts.{Accepted}
 use Rattle.ilimage.specs.declared.external.External.{External}
 use Rattle.ilimage.specs.declared.overriding.Override.{Override}
-use Rattle.ilimage.specs.Images.{TaskImage, ProcessImage, first_task, image_of}
+use Rattle.ilimage.specs.Images.{TaskLayout, TaskImage, ProcessImage, first_task, image_of}
 
 abbrev pub whole : ℕ → Value
 whole n = values.Int (pos n)
@@ -19,7 +19,7 @@ level = types.Int (record { lo = pos 0; hi = pos 254; ordered = record { le = tt
 
 -- a code without words over slots of these types
 abbrev pub accepted : List IlType → Accepted
-accepted slots = record { code = listing_of 1 [] slots [] [] [] []; bound = 0 }
+accepted slots = record { code = listing_of 1 [] slots [] [] [] [] []; bound = 0 }
 
 abbrev pub external : ℕ → Bool → External
 external global stored = record { global = global; stored = stored }
@@ -31,6 +31,18 @@ setter count =
 
 abbrev pub watcher : TaskImage
 watcher = first_task (accepted (level ∷ types.Bool ∷ [])) (external 1 false ∷ []) (values.Bool true ∷ [])
+
+-- a task whose code has a function with an input and its result, behind the slots of the first task
+abbrev pub calling : TaskLayout
+calling =
+    record {
+      verified = record {
+        code = listing_of 1 [] (level ∷ types.Bool ∷ level ∷ level ∷ level ∷ []) [] [] [] []
+            (record { start = 0; first = 3; inputs = 1; slots = 2 } ∷ []);
+        bound = 0;
+      };
+      externals = external 1 true ∷ external 0 false ∷ [];
+    }
 
 abbrev pub house : ProcessImage
 house = image_of (types.Bool ∷ level ∷ []) (values.Bool true ∷ whole 254 ∷ []) (setter 7 ∷ watcher ∷ [])

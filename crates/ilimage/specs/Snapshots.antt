@@ -7,7 +7,7 @@ use Rattle.iltypes.specs.declared.value.Value.{Value}
 use Rattle.iltypes.specs.Values.{IsOf, AreOf}
 use Rattle.ilblocks.specs.Calls.{IsBlockOf}
 use Rattle.ilblocks.specs.Stores.{Lasting, blocks_at_first}
-use Rattle.ilcode.specs.Listings.{Listing}
+use Rattle.ilcode.specs.Listings.{Listing, lasting_types}
 use Rattle.ilverify.specs.Verdicts.{Accepted}
 
 -- the code with its bound, what lasts from the scan before, and the moment
@@ -24,9 +24,9 @@ abbrev pub first_start : Accepted → List Value → ℕ → ScanStart
 first_start verified values moment =
     start_of verified (record { slots = values; blocks = blocks_at_first verified.code.kinds }) moment
 
--- each value is in its slot's type, and each block instance is of its kind
+-- a value for each slot of the programs, in the slot's type, and each block instance is of its kind
 pub record IsLastingOf (code : Listing) (lasting : Lasting) : Type 0 where
-  pub values : AreOf lasting.slots code.slots
+  pub values : AreOf lasting.slots (lasting_types code)
   pub blocks : AllZip (IsBlockOf code.buses) lasting.blocks code.kinds
 
 -- of variables of these types there is one of this number, and it may have the value

@@ -1,16 +1,17 @@
--- Rows that are kept ready: of each task, in the slots of its code, what a scan would be given now (profile).
+-- Rows that are kept ready: of each task, in the slots of its programs, what a scan would be given now (profile).
 use Rattle.std.specs.Prelude.{◌≡◌, ℕ, List, map, length, drop, slice_get, Some}
 use Rattle.std.specs.List.{AllZip}
 use Rattle.iltypes.specs.declared.value.IlType.{IlType}
 use Rattle.iltypes.specs.declared.value.Value.{Value}
 use Rattle.iltypes.specs.Values.{AreOf}
 use Rattle.ilblocks.specs.Calls.{Block, IsBlockOf}
+use Rattle.ilcode.specs.Listings.{lasting_types}
 use Rattle.ilverify.specs.Verdicts.{Accepted}
 use Rattle.ilimage.specs.declared.external.External.{External}
 use Rattle.ilimage.specs.Images.{TaskLayout, TaskImage, ProcessImage, image_of}
 use Rattle.ilimage.specs.ImageSteps.{slot_values}
 
--- a task with a value for each slot of its code, and its block instances
+-- a task with a value for each slot of its programs, and its block instances
 pub record TaskRow : Type 0 where
   pub layout : TaskLayout
   pub row : List Value
@@ -33,7 +34,7 @@ shown_image types globals tasks = image_of types globals (map shown tasks)
 
 -- each value of the row is in its slot's type, and each block instance is of its kind
 pub record IsTaskRow (t : TaskRow) : Type 0 where
-  pub values : AreOf t.row t.layout.verified.code.slots
+  pub values : AreOf t.row (lasting_types t.layout.verified.code)
   pub blocks : AllZip (IsBlockOf t.layout.verified.code.buses) t.blocks t.layout.verified.code.kinds
 
 -- the row is what gathering the values of the slots would give

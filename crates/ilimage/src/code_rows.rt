@@ -3,6 +3,7 @@
 ghost use Rattle.std.specs.Prelude.{◌≡◌, IfOk};
 ghost use Rattle.iltypes.specs.Values.{AreOf};
 ghost use Rattle.ilblocks.specs.Stores.{blocks_at_first};
+ghost use Rattle.ilcode.specs.Listings.{lasting_types};
 
 use ilblocks::{BlockKind, BlockState};
 use ilcode::Code;
@@ -11,13 +12,14 @@ use iltypes::Value;
 use std::alloc::{AllocError, Global};
 use std::sync::Arc;
 
-/// The row of these values, one in its type for each slot of the code.
+/// The row of these values, one in its type for each slot of the code's programs. Those of its
+/// functions stand behind them, and only a scan has them.
 pub(crate) fn row_of(alloc: Global, code: &Code, values: &[Value]) -> Result<ValueRow, AllocError>
-    requires { AreOf values.now code.now.slots }
+    requires { AreOf values.now (lasting_types code.now) }
     ensures { IfOk result (λ row. row ≡ values.now) }
 {
     let _words = code.words();
-    let layout = RowLayout::of(alloc, code.slots())?;
+    let layout = RowLayout::of(alloc, &code.slots()[..values.len()])?;
     ValueRow::of(alloc, Arc::new(alloc, layout)?, values)
 }
 

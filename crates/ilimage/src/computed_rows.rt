@@ -1,10 +1,10 @@
 //! The definitions on a worked image: each clause is one, proved by computing it.
 
-ghost use Rattle.std.specs.Prelude.{◌≡◌, true, Some, None};
+ghost use Rattle.std.specs.Prelude.{◌≡◌, ◌∷◌, [], true, Some, None};
 ghost use Rattle.iltypes.specs.declared.value.Value.TheVariants.{Bool as truth};
 ghost use Rattle.ilimage.specs.Images.{Global, Own, layout_of, value_of, variable_in, written_in};
-ghost use Rattle.ilimage.specs.Images.{value_under};
-ghost use Rattle.ilimage.specs.Rows.{house, lamp_twice, whole};
+ghost use Rattle.ilimage.specs.Images.{value_under, own_types};
+ghost use Rattle.ilimage.specs.Rows.{house, calling, level, lamp_twice, whole};
 
 /// What stands under a variable.
 fn values()
@@ -25,6 +25,11 @@ fn slots()
     ensures of_another_task { variable_in (layout_of house) 1 0 ≡ Some (Global 1) }
     ensures own_of_another { variable_in (layout_of house) 1 1 ≡ Some (Own 1 0) }
     ensures no_task { variable_in (layout_of house) 2 0 ≡ None }
+{}
+
+/// The types of a task's own variables: the slots of a function that its code has are none.
+fn function_slots()
+    ensures own { own_types calling ≡ level ∷ [] }
 {}
 
 /// What a scan writes from a slot: the lamp by the first task alone, the button by none, and each

@@ -178,9 +178,9 @@ impl Image {
         taken.begin(row, moment)
     }
 
-    /// Writes what a scan of a task left, a value in its type for each slot of the code and block
-    /// instances of its kinds: the globals that the task stores, its own variables and its block
-    /// instances. It takes no memory.
+    /// Writes what a scan of a task left, a value in its type for each slot of its programs and
+    /// block instances of its kinds: the globals that the task stores, its own variables and its
+    /// block instances. It takes no memory.
     pub fn commit(&mut self, task: usize, values: &ValueRow, blocks: Vec<BlockState>)
         requires { IsSomeAnd (verified_of (layout_of self.old) task) (λ verified.
             IsLastingOf verified.code (record { slots = values.now; blocks = blocks.items })) }

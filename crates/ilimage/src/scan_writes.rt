@@ -13,7 +13,7 @@ use crate::task_row::TaskRow;
 use ilrows::ValueRow;
 use iltypes::Value;
 
-/// Writes, of the values that a scan of a task left in the code's slots, those of the global
+/// Writes, of the values that a scan of a task left in the programs' slots, those of the global
 /// variables that the task stores to. It takes no memory.
 pub(crate) fn store(
     globals: &mut Vec<Value>,

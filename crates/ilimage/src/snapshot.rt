@@ -9,8 +9,9 @@ use std::alloc::{AllocError, Global};
 use std::marker::Model;
 use std::sync::Arc;
 
-/// What a scan starts from: the verified code of a task, a value for each of its slots, what each
-/// of its block instances keeps, and a moment in milliseconds.
+/// What a scan starts from: the verified code of a task, a value for each slot of its programs,
+/// what each of its block instances keeps, and a moment in milliseconds. The slots of functions are
+/// none of these.
 pub struct Snapshot {
     verified: Arc<Verified, Global>,
     row: ValueRow,
@@ -50,18 +51,19 @@ impl Snapshot {
     ghost use Rattle.iltypes.specs.Values.{AreOf};
     ghost use Rattle.ilblocks.specs.Calls.{IsBlockOf};
     ghost use Rattle.ilblocks.specs.Stores.{Lasting};
+    ghost use Rattle.ilcode.specs.Listings.{lasting_types};
     ghost use Rattle.ilimage.specs.Snapshots.{ScanStart, IsLastingOf, MayHave};
     ghost use Rattle.ilimage.specs.Snapshots.{start_of, first_start};
 
-    /// The snapshot of these values, one in its type for each slot, with each block instance as it
-    /// is before its first call.
+    /// The snapshot of these values, one in its type for each slot of the programs, with each block
+    /// instance as it is before its first call.
     pub fn new(
         alloc: Global,
         verified: Arc<Verified, Global>,
         values: &[Value],
         moment: u64,
     ) -> Result<Snapshot, AllocError>
-        requires { AreOf values.now (arc_value verified).code.slots }
+        requires { AreOf values.now (lasting_types (arc_value verified).code) }
         ensures { IfOk result (λ snapshot.
             snapshot ≡ first_start (arc_value verified) values.now moment) }
     {
@@ -75,15 +77,15 @@ impl Snapshot {
         })
     }
 
-    /// The snapshot of these values, one in its type for each slot, and block instances of the
-    /// code's kinds.
+    /// The snapshot of these values, one in its type for each slot of the programs, and block
+    /// instances of the code's kinds.
     pub(crate) fn of(
         verified: Arc<Verified, Global>,
         row: ValueRow,
         blocks: Vec<BlockState>,
         moment: u64,
     ) -> Snapshot
-        requires values { AreOf row (arc_value verified).code.slots }
+        requires values { AreOf row (lasting_types (arc_value verified).code) }
         requires blocks { AllZip (IsBlockOf (arc_value verified).code.buses) blocks.items
             (arc_value verified).code.kinds }
         ensures { result ≡ start_of (arc_value verified)
@@ -97,10 +99,10 @@ impl Snapshot {
         }
     }
 
-    /// The snapshot of the same code with these values, one in its type for each slot, these block
-    /// instances, each of its kind, and this moment. It takes no memory.
+    /// The snapshot of the same code with these values, one in its type for each slot of the
+    /// programs, these block instances, each of its kind, and this moment. It takes no memory.
     pub fn with(self, row: ValueRow, blocks: Vec<BlockState>, moment: u64) -> Snapshot
-        requires values { AreOf row self.verified.code.slots }
+        requires values { AreOf row (lasting_types self.verified.code) }
         requires blocks { AllZip (IsBlockOf self.verified.code.buses) blocks.items
             self.verified.code.kinds }
         ensures { result ≡ start_of self.verified
@@ -132,7 +134,7 @@ impl Snapshot {
 
     /// Gives a slot another value of its type.
     pub fn set(&mut self, slot: usize, value: Value)
-        requires { MayHave self.old.verified.code.slots slot value }
+        requires { MayHave (lasting_types self.old.verified.code) slot value }
         ensures { self.new ≡ start_of self.old.verified
             (record self.old.lasting { slots = slice_set self.old.lasting.slots slot value })
             self.old.moment }
@@ -147,15 +149,15 @@ impl Snapshot {
         &self.verified
     }
 
-    /// A value for each slot of the code.
+    /// A value for each slot of the programs.
     pub fn row(&self) -> &ValueRow
         ensures value { result.now ≡ self.now.lasting.slots }
-        ensures in_types { AreOf self.now.lasting.slots self.now.verified.code.slots }
+        ensures in_types { AreOf self.now.lasting.slots (lasting_types self.now.verified.code) }
     {
         &self.row
     }
 
-    /// The number of slots.
+    /// The number of the programs' slots.
     pub fn slots(&self) -> usize
         ensures value { result ≡ length self.now.lasting.slots }
     {

@@ -13,7 +13,8 @@ use std::marker::Model;
 use std::sync::Arc;
 
 /// A task in the process image: its verified code, the global variables in the code's first slots,
-/// the values of the task's own variables, which the other slots are, and its block instances.
+/// the values of the task's own variables, which the programs' other slots are, and its block
+/// instances.
 #[derive(Drop)]
 pub struct TaskImage {
     verified: Arc<Verified, Global>,
@@ -42,12 +43,13 @@ impl TaskImage {
     ghost use Rattle.std.specs.Arc.{arc_value};
     ghost use Rattle.iltypes.specs.Values.{AreOf};
     ghost use Rattle.ilblocks.specs.Calls.{IsBlockOf};
+    ghost use Rattle.ilcode.specs.Listings.{lasting_types};
     ghost use Rattle.ilimage.specs.Images.{TaskLayout, TaskImage, own_types, first_task};
     ghost use Rattle.ilimage.specs.ImageSteps.{slot_values};
 
     /// A task of this code, whose first slots are these global variables, with these values of its
-    /// own variables, one in its type for each slot that is left, and with each block instance as
-    /// it is before its first call.
+    /// own variables, one in its type for each slot of the programs that is left, and with each
+    /// block instance as it is before its first call.
     pub fn new(
         alloc: Global,
         verified: Arc<Verified, Global>,
@@ -55,7 +57,7 @@ impl TaskImage {
         values: Vec<Value>,
     ) -> Result<TaskImage, AllocError>
         requires { AreOf values.items
-            (drop (length externals.items) (arc_value verified).code.slots) }
+            (drop (length externals.items) (lasting_types (arc_value verified).code)) }
         ensures { IfOk result (λ made.
             made ≡ first_task (arc_value verified) externals.items values.items) }
     {

@@ -18,7 +18,7 @@ use std::alloc::{AllocError, Global};
 use std::marker::Model;
 use std::sync::Arc;
 
-/// A task with its row: the value of each slot of its code, of which the first are global
+/// A task with its row: the value of each slot of its programs, of which the first are global
 /// variables. From the slots of `stores` a scan stores to those.
 #[derive(Drop)]
 pub(crate) struct TaskRow {
@@ -49,6 +49,7 @@ impl TaskRow {
     ghost use Rattle.std.specs.List.{AllZip};
     ghost use Rattle.iltypes.specs.Values.{AreOf};
     ghost use Rattle.ilblocks.specs.Calls.{IsBlockOf};
+    ghost use Rattle.ilcode.specs.Listings.{lasting_types};
     ghost use Rattle.ilimage.specs.ImageSteps.{HasGlobals};
     ghost use Rattle.ilimage.specs.Snapshots.{MayHave, start_of};
     ghost use Rattle.ilimage.specs.TaskRows.{TaskRow, IsTaskRow, ready_task};
@@ -111,9 +112,9 @@ impl TaskRow {
     }
 
     /// What a scan of the task starts from at this moment with these values, one in its type for
-    /// each slot.
+    /// each slot of the programs.
     pub(crate) fn begin(&self, row: ValueRow, moment: u64) -> Result<Snapshot, AllocError>
-        requires { AreOf row self.now.layout.verified.code.slots }
+        requires { AreOf row (lasting_types self.now.layout.verified.code) }
         ensures { IfOk result (λ snapshot. snapshot ≡ start_of self.now.layout.verified
             (record { slots = row; blocks = self.now.blocks }) moment) }
     {
@@ -124,16 +125,16 @@ impl TaskRow {
 
     /// Gives a slot another value of its type.
     pub(crate) fn put(&mut self, slot: usize, value: Value)
-        requires { MayHave self.old.layout.verified.code.slots slot value }
+        requires { MayHave (lasting_types self.old.layout.verified.code) slot value }
         ensures { self.new ≡ record self.old { row = slice_set self.old.row slot value } }
     {
         self.row.set(slot, value);
     }
 
-    /// Keeps what a scan left: of the values of the code's slots those of the task's own variables,
-    /// and the block instances. It takes no memory.
+    /// Keeps what a scan left: of the values of the programs' slots those of the task's own
+    /// variables, and the block instances. It takes no memory.
     pub(crate) fn keep(&mut self, row: &ValueRow, blocks: Vec<BlockState>)
-        requires values { AreOf row.now self.old.layout.verified.code.slots }
+        requires values { AreOf row.now (lasting_types self.old.layout.verified.code) }
         requires externals { length self.old.layout.externals ≤ length row.now }
         requires blocks { AllZip (IsBlockOf self.old.layout.verified.code.buses) blocks.items
             self.old.layout.verified.code.kinds }

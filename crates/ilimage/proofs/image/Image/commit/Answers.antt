@@ -5,6 +5,7 @@ use Rattle.std.proofs.lemmas.List.{length-map}
 use Rattle.iltypes.specs.Values.{AreOf}
 use Rattle.ilblocks.specs.Calls.{IsBlockOf}
 use Rattle.ilblocks.proofs.Blocks.{as_long}
+use Rattle.ilcode.specs.Listings.{lasting_types}
 use Rattle.ilimage.specs.declared.slots.TaskSlot.{TaskSlot}
 use Rattle.ilimage.specs.Images.{TaskLayout, ProcessImage, layout_of, value_of, blocks_of, written_in}
 use Rattle.ilimage.specs.TaskRows.{TaskRow, shown, shown_image}
@@ -52,12 +53,12 @@ keep-requires c =
     c.self.invariant c.self.view_is c.requires in
     let same = layout_read c.store.new.tasks.items f.tasks.items c.args.task c.index_mut.result.now h.of.layout
     c.store.ensures.layouts h.layout c.index_mut.ensures.value in
-    let slots = h.of.layout.verified.code.slots in
+    let slots = lasting_types h.of.layout.verified.code in
     let fit = externals_fit f.types.items slots h.of.layout.externals h.lawful.typed in
     let filled = as_long vs slots h.lasting.values in
     let enough : length h.of.layout.externals ≤ length vs = omega (arith, fit, filled) in
     record {
-      values = subst (λ (l : TaskLayout). AreOf vs l.verified.code.slots) (sym same) h.lasting.values;
+      values = subst (λ (l : TaskLayout). AreOf vs (lasting_types l.verified.code)) (sym same) h.lasting.values;
       externals = subst (λ (l : TaskLayout). length l.externals ≤ length vs) (sym same) enough;
       blocks = subst (λ (l : TaskLayout). AllZip (IsBlockOf l.verified.code.buses) c.args.blocks.items
           l.verified.code.kinds) (sym same) h.lasting.blocks;

@@ -4,6 +4,7 @@ use Rattle.std.proofs.lemmas.List.{length-map}
 use Rattle.std.proofs.lemmas.Result.{IfOk-weaker}
 use Rattle.iltypes.specs.declared.value.Value.{Value}
 use Rattle.iltypes.specs.Values.{AreOf}
+use Rattle.ilcode.specs.Listings.{lasting_types}
 use Rattle.ilimage.specs.declared.slots.TaskSlot.{TaskSlot}
 use Rattle.ilimage.specs.Images.{ProcessImage}
 use Rattle.ilimage.specs.Snapshots.{ScanStart}
@@ -24,7 +25,7 @@ pub begin-requires : goal.begin-requires
 begin-requires c =
     let t = c.index-taken.result.now in
     let row = c.in_ok-copy.ensures ∙ c.row.ensures.value in
-    subst (λ (vs : List Value). AreOf vs t.layout.verified.code.slots) (sym row) c.row.ensures.in_types.values
+    subst (λ (vs : List Value). AreOf vs (lasting_types t.layout.verified.code)) (sym row) c.row.ensures.in_types.values
 
 pub returns : goal.returns
 returns c =

@@ -4,6 +4,7 @@ use Rattle.std.proofs.lemmas.List.{length-map}
 use Rattle.std.proofs.lemmas.Result.{IfOk-weaker}
 use Rattle.iltypes.specs.declared.value.Value.{Value}
 use Rattle.iltypes.specs.Values.{AreOf}
+use Rattle.ilcode.specs.Listings.{lasting_types}
 use Rattle.ilimage.specs.declared.overriding.Override.{Override}
 use Rattle.ilimage.specs.declared.slots.TaskSlot.{TaskSlot}
 use Rattle.ilimage.specs.Images.{ProcessImage}
@@ -34,7 +35,7 @@ put_overrides-requires c =
     c.requires.task c.index-taken.ensures in
     let allowed = subst (λ (i : ProcessImage). AreAllowed i.types overrides) (sym c.self.view_is) c.requires.in_types in
     let row = c.in_ok-row.ensures ∙ c.row.ensures.value in
-    let typed = subst (λ (vs : List Value). AreOf vs t.layout.verified.code.slots) (sym row)
+    let typed = subst (λ (vs : List Value). AreOf vs (lasting_types t.layout.verified.code)) (sym row)
     c.row.ensures.in_types.values in
     let known = are_known f.types.items f.globals.items f.tasks.items index overrides c.self.invariant allowed in
     let fit = overrides_fit f.types.items f.globals.items f.tasks.items index task t overrides c.in_ok-row.row
@@ -55,7 +56,7 @@ begin-requires c =
     let items = λ (v : Vec TaskSlot Global). v.items in
     let index = lists_of items f.index.items in
     let t = c.index-taken.result.now in
-    let slots = t.layout.verified.code.slots in
+    let slots = lasting_types t.layout.verified.code in
     let read = row_read f.types.items f.globals.items f.tasks.items c.args.self.now task t c.self.view_is
     c.requires.task c.index-taken.ensures in
     let allowed = subst (λ (i : ProcessImage). AreAllowed i.types overrides) (sym c.self.view_is) c.requires.in_types in

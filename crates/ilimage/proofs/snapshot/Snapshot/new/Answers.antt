@@ -7,14 +7,14 @@ use Rattle.ilblocks.specs.declared.kind.BlockKind.{BlockKind}
 use Rattle.ilblocks.specs.Calls.{Block, IsBlockOf}
 use Rattle.ilblocks.specs.Stores.{blocks_at_first}
 use Rattle.ilblocks.proofs.Stores.{at_first_are}
-use Rattle.ilcode.specs.Listings.{Listing}
+use Rattle.ilcode.specs.Listings.{Listing, lasting_types}
 use Rattle.ilverify.specs.Verdicts.{Accepted}
 use Rattle.ilimage.proofs.snapshot.Snapshot.new.Goals as goal
 
 pub row_of-requires : goal.row_of-requires
 row_of-requires c =
     let code = c.code.ensures.value ∙ ap (λ (v : Accepted). v.code) c.deref.ensures in
-    subst (λ (l : Listing). AreOf c.args.values.now l.slots) (sym code) c.requires
+    subst (λ (l : Listing). AreOf c.args.values.now (lasting_types l)) (sym code) c.requires
 
 pub invariant_of-result : goal.invariant_of-result
 invariant_of-result c =
@@ -24,7 +24,7 @@ invariant_of-result c =
     ∙ ap (λ (v : Accepted). v.code.kinds) c.deref-2.ensures in
     let blocks = c.in_ok-blocks.ensures ∙ ap (λ (ks : List BlockKind). blocks_at_first ks) kinds in
     record {
-      values = subst (λ (vs : List Value). AreOf vs code.slots) (sym c.in_ok-row.ensures) c.requires;
+      values = subst (λ (vs : List Value). AreOf vs (lasting_types code)) (sym c.in_ok-row.ensures) c.requires;
       blocks = subst (λ (bs : List Block). AllZip (IsBlockOf code.buses) bs code.kinds) (sym blocks)
           (at_first_are code.buses code.kinds);
     }

@@ -2,6 +2,7 @@ use Rattle.std.proofs.Common.{◌∙◌, List, ap, sym, subst}
 use Rattle.std.specs.List.{AllZip}
 use Rattle.iltypes.specs.Values.{AreOf}
 use Rattle.ilblocks.specs.Calls.{Block, IsBlockOf}
+use Rattle.ilcode.specs.Listings.{lasting_types}
 use Rattle.ilverify.specs.Verdicts.{Accepted}
 use Rattle.ilimage.specs.TaskRows.{TaskRow, IsTaskRow}
 use Rattle.ilimage.specs.Snapshots.{start_of}
@@ -14,7 +15,7 @@ of-requires c =
     let code = c.in_ok-verified.ensures.cases ∙ ap (λ (t : TaskRow). t.layout.verified) c.self.view_is in
     let blocks = c.in_ok-blocks.blocks.items in
     record {
-      values = subst (λ (v : Accepted). AreOf c.args.row v.code.slots) (sym code) c.requires;
+      values = subst (λ (v : Accepted). AreOf c.args.row (lasting_types v.code)) (sym code) c.requires;
       blocks = subst (λ (v : Accepted). AllZip (IsBlockOf v.code.buses) blocks v.code.kinds) (sym code)
           (subst (λ (bs : List Block). AllZip (IsBlockOf t.layout.verified.code.buses) bs t.layout.verified.code.kinds)
           (sym c.in_ok-blocks.ensures) whole.blocks);

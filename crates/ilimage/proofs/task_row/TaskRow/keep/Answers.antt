@@ -5,6 +5,7 @@ use Rattle.iltypes.specs.declared.value.Value.{Value}
 use Rattle.iltypes.specs.Values.{AreOf}
 use Rattle.ilblocks.specs.Calls.{IsBlockOf}
 use Rattle.ilblocks.proofs.Blocks.{as_long}
+use Rattle.ilcode.specs.Listings.{lasting_types}
 use Rattle.ilimage.specs.TaskRows.{TaskRow, task_row_of}
 use Rattle.ilimage.specs.RowSteps.{kept_task}
 use Rattle.ilimage.proofs.RowKinds.{same_kinds, joined_typed}
@@ -14,8 +15,8 @@ pub copy_end-requires : goal.copy_end-requires
 copy_end-requires c =
     let f = c.self.inside in
     let row = c.args.row.now in
-    let slots = (arc_value f.verified).code.slots in
-    let typed = subst (λ (t : TaskRow). AreOf row t.layout.verified.code.slots) (sym c.self.view_is)
+    let slots = lasting_types (arc_value f.verified).code in
+    let typed = subst (λ (t : TaskRow). AreOf row (lasting_types t.layout.verified.code)) (sym c.self.view_is)
     c.requires.values in
     let old = as_long f.row slots c.self.invariant.0.values in
     let new = as_long row slots typed in
@@ -30,8 +31,8 @@ pub invariant_of-self : goal.invariant_of-self
 invariant_of-self c =
     let f = c.self.inside in
     let row = c.args.row.now in
-    let slots = (arc_value f.verified).code.slots in
-    let typed = subst (λ (t : TaskRow). AreOf row t.layout.verified.code.slots) (sym c.self.view_is)
+    let slots = lasting_types (arc_value f.verified).code in
+    let typed = subst (λ (t : TaskRow). AreOf row (lasting_types t.layout.verified.code)) (sym c.self.view_is)
     c.requires.values in (
       record {
         values = subst (λ (r : List Value). AreOf r slots) (sym c.copy_end.ensures)

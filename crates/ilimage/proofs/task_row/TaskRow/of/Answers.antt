@@ -5,7 +5,7 @@ use Rattle.iltypes.specs.declared.value.Value.{Value}
 use Rattle.iltypes.specs.Values.{AreOf}
 use Rattle.ilblocks.specs.Calls.{Block, IsBlockOf}
 use Rattle.ilblocks.proofs.Blocks.{as_long}
-use Rattle.ilcode.specs.Listings.{Listing}
+use Rattle.ilcode.specs.Listings.{Listing, lasting_types}
 use Rattle.ilverify.specs.Verdicts.{Accepted}
 use Rattle.ilimage.specs.declared.external.External.{External}
 use Rattle.ilimage.specs.ImageSteps.{slot_values}
@@ -20,20 +20,21 @@ slot_values-requires c =
     let r = c.requires in
     subst (λ (n : ℕ). All (λ (e : External). e.global < n) t.externals)
     (sym (as_long c.args.globals.now r.types r.values))
-    (typed_there r.types t.verified.code.slots t.externals r.typed)
+    (typed_there r.types (lasting_types t.verified.code) t.externals r.typed)
 
 pub row_of-requires : goal.row_of-requires
 row_of-requires c =
     let t = c.args.task.now in
     let globals = c.args.globals.now in
     let r = c.requires in
-    let typed = slots_typed r.types t.layout.verified.code.slots globals t.layout.externals t.own.slots r.typed r.values
+    let slots = lasting_types t.layout.verified.code in
+    let typed = slots_typed r.types slots globals t.layout.externals t.own.slots r.typed r.values
     c.values-own.ensures.in_types in
     let code = c.code.ensures.value
     ∙ ap (λ (v : Accepted). v.code) (c.deref.ensures ∙ c.in_ok-verified.ensures.cases ∙ c.verified.ensures.value) in
-    subst (λ (vs : List Value). AreOf vs c.code.result.now.slots)
+    subst (λ (vs : List Value). AreOf vs (lasting_types c.code.result.now))
     (sym (c.deref-2.ensures.value ∙ c.in_ok-values.ensures))
-    (subst (λ (l : Listing). AreOf (slot_values globals t) l.slots) (sym code) typed)
+    (subst (λ (l : Listing). AreOf (slot_values globals t) (lasting_types l)) (sym code) typed)
 
 pub invariant_of-result : goal.invariant_of-result
 invariant_of-result c =
@@ -41,14 +42,14 @@ invariant_of-result c =
     let globals = c.args.globals.now in
     let r = c.requires in
     let listing = t.layout.verified.code in
-    let slots = listing.slots in
+    let slots = lasting_types listing in
     let typed = slots_typed r.types slots globals t.layout.externals t.own.slots r.typed r.values
     c.values-own.ensures.in_types in
     let code = c.in_ok-verified.ensures.cases ∙ c.verified.ensures.value in
     let row = c.in_ok-row.ensures ∙ c.deref-2.ensures.value ∙ c.in_ok-values.ensures in
     let blocks = c.in_ok-blocks.blocks.items in (
       record {
-        values = subst (λ (v : Accepted). AreOf c.in_ok-row.row v.code.slots) (sym code)
+        values = subst (λ (v : Accepted). AreOf c.in_ok-row.row (lasting_types v.code)) (sym code)
             (subst (λ (vs : List Value). AreOf vs slots) (sym row) typed);
         blocks = subst (λ (v : Accepted). AllZip (IsBlockOf v.code.buses) blocks v.code.kinds) (sym code)
             (subst (λ (bs : List Block). AllZip (IsBlockOf listing.buses) bs listing.kinds)

@@ -2,6 +2,7 @@ use Rattle.std.proofs.Common.{List, sym, subst}
 use Rattle.std.specs.Arc.{arc_value}
 use Rattle.iltypes.specs.declared.value.Value.{Value}
 use Rattle.iltypes.specs.Values.{AreOf}
+use Rattle.ilcode.specs.Listings.{lasting_types}
 use Rattle.ilimage.specs.Snapshots.{MayHave}
 use Rattle.ilimage.specs.TaskRows.{TaskRow}
 use Rattle.ilimage.proofs.RowKinds.{may_set, set_slot}
@@ -10,15 +11,15 @@ use Rattle.ilimage.proofs.task_row.TaskRow.put.Goals as goal
 pub set-requires : goal.set-requires
 set-requires c =
     let f = c.self.inside in
-    let may = subst (λ (t : TaskRow). MayHave t.layout.verified.code.slots c.args.slot c.args.value)
+    let may = subst (λ (t : TaskRow). MayHave (lasting_types t.layout.verified.code) c.args.slot c.args.value)
     (sym c.self.view_is) c.requires in
-    may_set f.row (arc_value f.verified).code.slots c.args.slot c.args.value c.self.invariant.0.values may
+    may_set f.row (lasting_types (arc_value f.verified).code) c.args.slot c.args.value c.self.invariant.0.values may
 
 pub invariant_of-self : goal.invariant_of-self
 invariant_of-self c =
     let f = c.self.inside in
-    let slots = (arc_value f.verified).code.slots in
-    let may = subst (λ (t : TaskRow). MayHave t.layout.verified.code.slots c.args.slot c.args.value)
+    let slots = lasting_types (arc_value f.verified).code in
+    let may = subst (λ (t : TaskRow). MayHave (lasting_types t.layout.verified.code) c.args.slot c.args.value)
     (sym c.self.view_is) c.requires in (
       record {
         values = subst (λ (r : List Value). AreOf r slots) (sym c.set.ensures)
