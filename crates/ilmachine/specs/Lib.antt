@@ -1,3 +1,4 @@
 pub mod MachineSteps
+pub mod Nestings
 pub mod ReadySteps
 pub mod Scans

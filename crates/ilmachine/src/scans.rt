@@ -19,6 +19,7 @@ pub struct Work {
     number: u64,
     snapshot: Snapshot,
     state: State,
+    room: Option<ValueRow>,
 }
 
 impl Model for Work {
@@ -29,7 +30,7 @@ impl Model for Work {
 
     ghost view = { λ w. record { number = w.number; snapshot = w.snapshot } };
 
-    ghost invariant = { λ w. IsPrepared w.snapshot w.state };
+    ghost invariant = { λ w. IsPrepared w.snapshot w.state w.room };
 }
 
 /// A scan that was made.
@@ -75,11 +76,12 @@ impl Work {
     pub fn new(number: u64, snapshot: Snapshot) -> Result<Work, AllocError>
         ensures { IfOk result (λ work. work ≡ task_of number snapshot) }
     {
-        let state = State::begin(&snapshot)?;
+        let (state, room) = State::begin(&snapshot)?;
         Ok(Work {
             number,
             snapshot,
             state,
+            room,
         })
     }
 
@@ -111,7 +113,8 @@ impl ScanResult {
         &self.snapshot
     }
 
-    /// The values of the slots at the end of the run, each in its slot's type.
+    /// The values of the slots that last, as they are at the end of the run, each in its slot's
+    /// type.
     pub fn row(&self) -> &ValueRow
         ensures value { result.now ≡ self.now.after.slots }
         ensures run { IsScan self.now.snapshot.verified (store_of self.now.snapshot)
@@ -182,13 +185,15 @@ pub fn scan_into(work: Work) -> ScanResult
         number,
         snapshot,
         mut state,
+        room,
     } = work;
     let steps = run(snapshot.verified(), &mut state);
+    let left = state.end(snapshot.verified().code(), room);
     ScanResult {
         number,
         snapshot,
         steps,
-        left: state.end(),
+        left,
     }
 }
 

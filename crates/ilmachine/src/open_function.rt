@@ -1,0 +1,21 @@
+//! Functions whose bodies run.
+
+/// A call that is open: the function, the place where its caller goes on, and how many operators
+/// waited for their parenthesis when it was opened.
+#[derive(Clone, Copy)]
+pub(crate) struct OpenFunction {
+    pub(crate) function: u16,
+    pub(crate) back: usize,
+    pub(crate) mark: usize,
+}
+
+/// What fills the unused places of a collection of fixed capacity.
+impl Default for OpenFunction {
+    fn default() -> OpenFunction {
+        OpenFunction {
+            function: 0,
+            back: 0,
+            mark: 0,
+        }
+    }
+}
