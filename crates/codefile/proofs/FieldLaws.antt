@@ -9,7 +9,9 @@ use Rattle.iltypes.specs.declared.value.IlType.{IlType}
 use Rattle.iltypes.specs.declared.value.IlType.TheVariants as types
 use Rattle.iltypes.specs.declared.value.Value.{Value}
 use Rattle.iltypes.specs.declared.value.Value.TheVariants as values
-use Rattle.codefile.specs.Files.{FitsType, FitsValue, constant, number, slot, tag, truth, whole}
+use Rattle.ilcode.specs.declared.function.FunctionBody.{FunctionBody}
+use Rattle.codefile.specs.Files.{FitsType, FitsValue, constant, function, number, slot, tag, truth, whole}
+use Rattle.codefile.specs.BodySteps.{IsSmall}
 use Rattle.codefile.specs.FieldSteps.{Holds, HoldsType}
 use Rattle.codefile.proofs.Lengths.{split}
 
@@ -81,3 +83,23 @@ module _ (bytes more first second last : List ℕ) (k : ℕ) (lo hi : ℤ) (kind
   slot_read (types.Int range) fits e =
       let read = limited 1 range.lo range.hi fits.0 fits.1 e in
       ((read.0, sym read.1, sym read.2), read.3)
+
+-- ---- functions
+
+module _ (bytes more one two three last : List ℕ) (start first inputs slots : ℕ)
+    (at_start : start ≡ from_le_bytes w32 (take 4 bytes)) (after_start : one ≡ drop 4 bytes)
+    (at_first : first ≡ from_le_bytes w32 (take 4 one)) (after_first : two ≡ drop 4 one)
+    (at_inputs : inputs ≡ from_le_bytes w32 (take 4 two)) (after_inputs : three ≡ drop 4 two)
+    (at_slots : slots ≡ from_le_bytes w32 (take 4 three)) (after_slots : last ≡ drop 4 three) where
+  pub function_read : (f : FunctionBody) → IsSmall f → bytes ≡ function f ++ more
+      → (record { start = start; first = first; inputs = inputs; slots = slots } ≡ f) × (last ≡ more)
+  function_read f small e =
+      let a = number_read bytes (number f.first ++ (number f.inputs ++ (number f.slots ++ more))) one f.start start
+      at_start after_start small.start e in
+      let b = number_read one (number f.inputs ++ (number f.slots ++ more)) two f.first first
+      at_first after_first small.first a.1 in
+      let c = number_read two (number f.slots ++ more) three f.inputs inputs at_inputs after_inputs small.inputs b.1 in
+      let d = number_read three more last f.slots slots at_slots after_slots small.slots c.1 in (
+        λ i. record { start = a.0 i; first = b.0 i; inputs = c.0 i; slots = d.0 i },
+        d.1,
+      )

@@ -1,9 +1,9 @@
 -- How long the parts of a file are, and where they stand in it.
 use Rattle.std.proofs.Common.{◌≡◌, ℕ, ◌+◌, ◌*◌, ◌≤◌, ◌<◌, ◌^◌, List, [], ◌∷◌, ◌++◌, take, drop, length, refl, ap}
-use Rattle.std.proofs.Common.{◌∙◌, arith, length-append, suc, Bool, true, false, inl, inr, lit≤}
+use Rattle.std.proofs.Common.{◌∙◌, sym, arith, length-append, suc, Bool, true, false, inl, inr, lit≤}
 use Rattle.std.specs.List.{AllByRecursion}
-use Rattle.std.specs.Prelude.{All, nat_le, if◌then◌else◌}
-use Rattle.std.proofs.lemmas.Bool.{leb-true}
+use Rattle.std.specs.Prelude.{All, nat_le, if◌then◌else◌, ◌==◌}
+use Rattle.std.proofs.lemmas.Bool.{leb-true, and_parts, eqb-true}
 use Rattle.std.proofs.lemmas.List.{take_at, drop_at}
 use Rattle.std.proofs.lemmas.Nat.{from_le_bytes-to_le_bytes_4}
 use Rattle.iltypes.specs.declared.value.IlType.{IlType}
@@ -11,13 +11,14 @@ use Rattle.iltypes.specs.declared.value.IlType.TheVariants as types
 use Rattle.iltypes.specs.declared.value.Value.{Value}
 use Rattle.iltypes.specs.declared.value.Value.TheVariants as values
 use Rattle.ilblocks.specs.declared.kind.BlockKind.{BlockKind}
+use Rattle.ilcode.specs.declared.function.FunctionBody.{FunctionBody}
 use Rattle.ilcode.specs.declared.word.Word.{Word}
-use Rattle.ilcode.specs.Listings.{Listing, IsLawful}
+use Rattle.ilcode.specs.Listings.{Listing, IsLawful, is_old}
 use Rattle.limits.specs.Limits.{few_buses, most_buses}
-use Rattle.codefile.specs.Files.{HasFile, block, blocks, constant, constants, file, file_in, number, numbers, slot}
-use Rattle.codefile.specs.Files.{slots, tables, version, word, words}
-use Rattle.codefile.specs.Faults.{AreBuses, AreFew, BeginsWell, Counts, HasHead, counts_in, head_size, most_buses_of}
-use Rattle.codefile.specs.Faults.{size, version_in}
+use Rattle.codefile.specs.Files.{HasFile, block, blocks, constant, constants, file, file_in, function, functions}
+use Rattle.codefile.specs.Files.{number, numbers, slot, slots, tables, version, word, words}
+use Rattle.codefile.specs.Faults.{AreBuses, AreFew, BeginsWell, Counts, HasHead, counts_in, functions_in, head_size}
+use Rattle.codefile.specs.Faults.{most_buses_of, size, version_in}
 use Rattle.codefile.specs.declared.version.FileVersion.{FileVersion}
 use Rattle.codefile.specs.declared.version.FileVersion.TheVariants.{One, Two}
 
@@ -36,6 +37,9 @@ block_long kind = refl
 
 pub number_long : (n : ℕ) → length (number n) ≡ 4
 number_long n = refl
+
+pub function_long : (f : FunctionBody) → length (function f) ≡ 16
+function_long f = refl
 
 pub word_long : (w : Word) → length (word w) ≡ 4
 word_long w = refl
@@ -61,6 +65,13 @@ blocks_long (x ∷ xs) = let rest = blocks_long xs in length-append (block x) (b
 pub numbers_long : (xs : List ℕ) → length (numbers xs) ≡ 4 * length xs
 numbers_long [] = refl
 numbers_long (x ∷ xs) = let rest = numbers_long xs in length-append (number x) (numbers xs) ∙ omega arith
+
+pub functions_long : (xs : List FunctionBody) → length (functions xs) ≡ 16 * length xs
+functions_long [] = refl
+functions_long (x ∷ xs) =
+    let one = function_long x in
+    let rest = functions_long xs in
+    length-append (function x) (functions xs) ∙ omega arith
 
 pub words_long : (xs : List Word) → length (words xs) ≡ 4 * length xs
 words_long [] = refl
@@ -90,6 +101,7 @@ counts_of code =
       blocks = length code.kinds;
       starts = length code.starts;
       words = length code.instructions;
+      functions = length code.functions;
     }
 
 pub few_counts : (code : Listing) → HasFile code → AreFew (counts_of code)
@@ -101,6 +113,7 @@ few_counts code h =
       blocks = l.most_blocks;
       starts = l.most_starts;
       words = l.most_instructions;
+      functions = l.functions.most;
     }
 
 -- the version of a file is read as it was printed, and the tables follow the head
@@ -112,34 +125,42 @@ pub after_head_in : (v : FileVersion) (code : Listing) → drop (head_size v) (f
 after_head_in One code = refl
 after_head_in Two code = refl
 
--- the five counts stand in the same places in both versions
-counts_in_are : (v : FileVersion) (code : Listing) → HasFile code
-    → counts_in (file_in v code) ≡ record {
-      version = v;
-      constants = length code.constants;
-      slots = length code.slots;
-      blocks = length code.kinds;
-      starts = length code.starts;
-      words = length code.instructions;
-    }
-counts_in_are v code h =
+-- an old code has few buses and no functions
+few_of_old : (buses : ℕ) (fs : List FunctionBody) → is_old buses fs ≡ true → buses ≤ few_buses
+few_of_old buses fs is = leb-true buses few_buses (and_parts (nat_le buses few_buses) (length fs == 0) is).0
+
+none_of_old : (buses : ℕ) (fs : List FunctionBody) → is_old buses fs ≡ true → length fs ≡ 0
+none_of_old buses fs is = eqb-true (length fs) 0 (and_parts (nat_le buses few_buses) (length fs == 0) is).1
+
+-- so its file needs no number of functions
+functions_again : (code : Listing) (old : Bool) → is_old code.buses code.functions ≡ old
+    → length code.functions < 2 ^ 32
+    → functions_in (if old then One else Two) (file_in (if old then One else Two) code) ≡ length code.functions
+functions_again code true is small = sym (none_of_old code.buses code.functions is)
+functions_again code false is small = from_le_bytes-to_le_bytes_4 (length code.functions) small
+
+-- the other counts stand in the same places in both versions
+pub counts_are : (code : Listing) → HasFile code → counts_in (file code) ≡ counts_of code
+counts_are code h =
     let few = few_counts code h in
     let c = few.constants in
     let s = few.slots in
     let b = few.blocks in
     let t = few.starts in
     let w = few.words in
+    let f = few.functions in
+    let again = version_again (version code) code in
+    let counted = ap (λ (v : FileVersion). functions_in v (file code)) again
+    ∙ functions_again code (is_old code.buses code.functions) refl (omega arith) in
     λ i. record {
-      version = version_again v code i;
+      version = again i;
       constants = from_le_bytes-to_le_bytes_4 (length code.constants) (omega arith) i;
       slots = from_le_bytes-to_le_bytes_4 (length code.slots) (omega arith) i;
       blocks = from_le_bytes-to_le_bytes_4 (length code.kinds) (omega arith) i;
       starts = from_le_bytes-to_le_bytes_4 (length code.starts) (omega arith) i;
       words = from_le_bytes-to_le_bytes_4 (length code.instructions) (omega arith) i;
+      functions = counted i;
     }
-
-pub counts_are : (code : Listing) → HasFile code → counts_in (file code) ≡ counts_of code
-counts_are code h = counts_in_are (version code) code h
 
 tables_long : (code : Listing) → length code.lines ≡ length code.instructions
     → head_size (version code) + length (tables code) ≡ size (counts_of code)
@@ -148,17 +169,20 @@ tables_long code each =
     let ss = slots_long code.slots in
     let bs = blocks_long code.kinds in
     let ts = numbers_long code.starts in
+    let fs = functions_long code.functions in
     let ws = words_long code.instructions in
     let ls = numbers_long code.lines in
+    let after_functions = words code.instructions ++ numbers code.lines in
+    let after_starts = functions code.functions ++ after_functions in
+    let after_blocks = numbers code.starts ++ after_starts in
+    let after_slots = blocks code.kinds ++ after_blocks in
+    let after_constants = slots code.slots ++ after_slots in
     let a = length-append (words code.instructions) (numbers code.lines) in
-    let b = length-append (numbers code.starts) (words code.instructions ++ numbers code.lines) in
-    let c = length-append (blocks code.kinds)
-    (numbers code.starts ++ (words code.instructions ++ numbers code.lines)) in
-    let d = length-append (slots code.slots)
-    (blocks code.kinds ++ (numbers code.starts ++ (words code.instructions ++ numbers code.lines))) in
-    let e = length-append (constants code.constants)
-    (slots code.slots
-    ++ (blocks code.kinds ++ (numbers code.starts ++ (words code.instructions ++ numbers code.lines)))) in
+    let b = length-append (functions code.functions) after_functions in
+    let c = length-append (numbers code.starts) after_starts in
+    let d = length-append (blocks code.kinds) after_blocks in
+    let e = length-append (slots code.slots) after_slots in
+    let f = length-append (constants code.constants) after_constants in
     omega arith
 
 long_in : (v : FileVersion) (code : Listing) → length (file_in v code) ≡ head_size v + length (tables code)
@@ -180,14 +204,14 @@ has_head code =
     (begins_in v code, omega arith)
 
 -- a code has no more buses than its version may have
-fit_version : (buses : ℕ) (few : Bool) → nat_le buses few_buses ≡ few → buses ≤ most_buses
-    → buses ≤ most_buses_of (if few then One else Two)
-fit_version buses true is most = leb-true buses few_buses is
-fit_version buses false is most = most
+fit_version : (buses : ℕ) (fs : List FunctionBody) (old : Bool) → is_old buses fs ≡ old → buses ≤ most_buses
+    → buses ≤ most_buses_of (if old then One else Two)
+fit_version buses fs true is most = few_of_old buses fs is
+fit_version buses fs false is most = most
 
 pub has_buses : (code : Listing) → HasFile code → AreBuses (file code)
 has_buses code h =
-    let fit = fit_version code.buses (nat_le code.buses few_buses) refl h.lawful.most_buses in
+    let fit = fit_version code.buses code.functions (is_old code.buses code.functions) refl h.lawful.most_buses in
     let same = ap most_buses_of (version_again (version code) code) in
     record { least = h.lawful.bus; most = omega arith; first = refl; second = refl }
 

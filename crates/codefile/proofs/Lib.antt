@@ -1,3 +1,4 @@
+pub mod BodyOrder
 pub mod FieldLaws
 pub mod FirstFaults
 pub mod Lawful

@@ -16,14 +16,17 @@ use Rattle.ilblocks.specs.declared.kind.BlockKind.{BlockKind}
 use Rattle.ilblocks.specs.declared.kind.BlockKind.TheVariants as kinds
 use Rattle.ilcode.proofs.Spellings.{spelled_once, spelling_small}
 use Rattle.ilcode.specs.Words.{HasWord, spelling}
+use Rattle.ilcode.specs.declared.function.FunctionBody.{FunctionBody}
 use Rattle.ilcode.specs.declared.word.Word.{Word}
 use Rattle.ilcode.specs.Listings.{Listing, listing_of}
 use Rattle.codefile.specs.Faults.{Counts}
-use Rattle.codefile.specs.Files.{FitsType, FitsValue, HasFile, block, block_number, constant, file, number, slot}
-use Rattle.codefile.specs.Files.{truth, whole, word}
+use Rattle.codefile.specs.Files.{FitsType, FitsValue, HasFile, block, block_number, constant, file, function, number}
+use Rattle.codefile.specs.Files.{slot, truth, whole, word}
+use Rattle.codefile.specs.BodySteps.{IsSmall}
+use Rattle.codefile.proofs.BodyOrder.{small_functions}
 use Rattle.codefile.proofs.FieldLaws.{bits_small}
-use Rattle.codefile.proofs.Lengths.{block_long, constant_long, counts_are, counts_of, number_long, slot_long}
-use Rattle.codefile.proofs.Lengths.{small_starts, word_long}
+use Rattle.codefile.proofs.Lengths.{block_long, constant_long, counts_are, counts_of, function_long, number_long}
+use Rattle.codefile.proofs.Lengths.{slot_long, small_starts, word_long}
 use Rattle.codefile.proofs.Parts.{parts}
 use Rattle.codefile.proofs.Sections.{all_top}
 
@@ -117,6 +120,14 @@ same_block : (a b : BlockKind) → ⊤ → ⊤ → block a ≡ block b → a ≡
 same_block a b fit fits e =
     sym (kind_again a) ∙ ap (λ (bs : List ℕ). kind_in (slice_index bs 0)) e ∙ kind_again b
 
+same_function : (f g : FunctionBody) → IsSmall f → IsSmall g → function f ≡ function g → f ≡ g
+same_function f g h k e =
+    let start = same_number f.start g.start h.start k.start (ap (take 4) e) in
+    let first = same_number f.first g.first h.first k.first (ap (λ (bs : List ℕ). take 4 (drop 4 bs)) e) in
+    let inputs = same_number f.inputs g.inputs h.inputs k.inputs (ap (λ (bs : List ℕ). take 4 (drop 8 bs)) e) in
+    let slots = same_number f.slots g.slots h.slots k.slots (ap (drop 12) e) in
+    λ i. record { start = start i; first = first i; inputs = inputs i; slots = slots i }
+
 same_word : (v w : Word) → HasWord v → HasWord w → word v ≡ word w → v ≡ w
 same_word v w h k e =
     spelled_once v w h k (same_number (spelling v) (spelling w) (spelling_small v h) (spelling_small w k) e)
@@ -139,9 +150,12 @@ one_code a b h k e =
     let starts = same_list number (λ (n : ℕ). n < 2 ^ 32) 4 number_long same_number a.starts b.starts
     (ap (λ (c : Counts). c.starts) counts) (small_starts a h.lawful) (small_starts b k.lawful)
     (sym mine.starts ∙ its.starts) in
+    let functions = same_list function IsSmall 16 function_long same_function a.functions b.functions
+    (ap (λ (c : Counts). c.functions) counts) (small_functions a h.lawful) (small_functions b k.lawful)
+    (sym mine.functions ∙ its.functions) in
     let words = same_list word HasWord 4 word_long same_word a.instructions b.instructions
     (ap (λ (c : Counts). c.words) counts) h.lawful.words k.lawful.words (sym mine.words ∙ its.words) in
     let lines = same_list number (λ (n : ℕ). n < 2 ^ 32) 4 number_long same_number a.lines b.lines
     (h.lawful.lines ∙ ap (λ (c : Counts). c.words) counts ∙ sym k.lawful.lines) h.lawful.numbers k.lawful.numbers
     (sym mine.lines ∙ its.lines) in
-    λ i. listing_of (buses i) (constants i) (slots i) (blocks i) (starts i) (words i) (lines i)
+    λ i. listing_of (buses i) (constants i) (slots i) (blocks i) (starts i) (words i) (lines i) (functions i)

@@ -1,11 +1,11 @@
 -- Starts one after another are those of a code.
-use Rattle.std.proofs.Common.{ℕ, zero, suc, ◌<◌, ◌≤◌, List, [], ◌∷◌, length, get_or, arith}
+use Rattle.std.proofs.Common.{◌≡◌, ℕ, zero, suc, ◌<◌, ◌≤◌, List, [], ◌∷◌, length, get_or, arith}
 use Rattle.std.specs.Prelude.{All}
 use Rattle.std.specs.List.Sorted.{IsNonDecreasing}
 use Rattle.std.proofs.lemmas.List.Elements.{All-nil, All-cons}
 use Rattle.ilcode.specs.declared.word.Word.{Word}
 use Rattle.ilcode.specs.Listings.{AreStarts}
-use Rattle.codefile.specs.FieldSteps.{BeginPrograms, Rise}
+use Rattle.codefile.specs.BodySteps.{BeginPrograms, Rise}
 
 -- no start is below one before
 above : (end before : ℕ) (starts : List ℕ) → Rise end before starts → (j d : ℕ) → j < length starts
@@ -30,21 +30,35 @@ within end before [] rise = All-nil (λ start. start ≤ end)
 within end before (start ∷ starts) rise =
     All-cons (λ start. start ≤ end) start starts rise.1 (within end start starts rise.2)
 
-pub starts_are : (starts : List ℕ) (words : List Word) → BeginPrograms starts words → AreStarts starts words
-starts_are [] words none =
+-- where a list of starts is good, so is it with a start of 0 before it
+from_first : (end start : ℕ) (starts : List ℕ) → (start ≡ 0) × Rise end start starts → Rise end 0 (start ∷ starts)
+from_first end start starts begin = let first = begin.0 in (omega arith, omega arith, begin.1)
+
+pub starts_are : (end : ℕ) (starts : List ℕ) (words : List Word) → end ≤ length words
+    → BeginPrograms end starts words → AreStarts starts words
+starts_are end [] words far none =
     record {
       ordered = λ i j d le below. absurd (omega arith);
       within = All-nil (λ start. start ≤ length words);
       first = none;
     }
-starts_are (start ∷ starts) words begin =
-    let first = begin.0 in
-    let rise : Rise (length words) 0 (start ∷ starts) = (omega arith, omega arith, begin.1) in
+starts_are end (start ∷ starts) words far begin =
+    let rise = from_first end start starts begin in
     record {
-      ordered = ordered (length words) 0 (start ∷ starts) rise;
-      within = within (length words) 0 (start ∷ starts) rise;
-      first = first;
+      ordered = ordered end 0 (start ∷ starts) rise;
+      within =
+          λ k d below.
+          let inside = within end 0 (start ∷ starts) rise k d below in
+          omega arith;
+      first = begin.0;
     }
+
+-- none begins behind the end
+pub starts_within : (end : ℕ) (starts : List ℕ) (words : List Word) → BeginPrograms end starts words
+    → All (λ start. start ≤ end) starts
+starts_within end [] words begin = All-nil (λ start. start ≤ end)
+starts_within end (start ∷ starts) words begin =
+    within end 0 (start ∷ starts) (from_first end start starts begin)
 
 -- and the starts of a code are such
 rises : (end before : ℕ) (starts : List ℕ) → IsNonDecreasing (before ∷ starts) → All (λ start. start ≤ end) starts
@@ -58,7 +72,8 @@ rises end before (start ∷ starts) sorted inside = (
       (λ k d below. inside (suc k) d (omega arith)),
 )
 
-pub starts_begin : (starts : List ℕ) (words : List Word) → AreStarts starts words → BeginPrograms starts words
-starts_begin [] words are = are.first
-starts_begin (start ∷ starts) words are =
-    (are.first, rises (length words) start starts are.ordered (λ k d below. are.within (suc k) d (omega arith)))
+pub starts_begin : (end : ℕ) (starts : List ℕ) (words : List Word) → AreStarts starts words
+    → All (λ start. start ≤ end) starts → BeginPrograms end starts words
+starts_begin end [] words are inside = are.first
+starts_begin end (start ∷ starts) words are inside =
+    (are.first, rises end start starts are.ordered (λ k d below. inside (suc k) d (omega arith)))

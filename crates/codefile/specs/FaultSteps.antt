@@ -11,4 +11,5 @@ counted c =
       blocks = c.blocks;
       starts = c.starts;
       words = c.words;
+      functions = c.functions;
     }

@@ -1,7 +1,8 @@
 -- What stands against bytes that are no code file: the first that holds, in this order. Bytes that begin otherwise, as
 -- far as they go; fewer than the head; a number of buses other than 1 to 16 in version 1 or 1 to 64 in version 2, or a
 -- byte after it that is not 0; a count beyond its limit; a length other than the counts say; and any other field. Among
--- these is a number of functions other than 0, and the number of buses of a file of version 2 that has 16 at most.
+-- these are a word GIVE or CALL in a file of version 1, and the version of a file of version 2 that has 16 buses at
+-- most and no function.
 use Rattle.std.specs.Prelude.{◌≡◌, ℕ, ◌+◌, ◌*◌, ◌≤◌, ◌<◌, ◌==◌, ◌⊎◌, if◌then◌else◌, List, length, take, drop}
 use Rattle.std.specs.Prelude.{slice_index, Result, Ok, Err, ⊤}
 use Rattle.std.specs.Int.{w32, from_le_bytes}
@@ -45,7 +46,8 @@ pub record AreBuses (bytes : List ℕ) : Type 0 where
   pub first : slice_index bytes 6 ≡ 0
   pub second : slice_index bytes 7 ≡ 0
 
--- the version, and the counts: the five numbers from byte 8 on
+-- the version, and the counts: the numbers from byte 8 on, of which version 1 has five, and version 2 has that of
+-- functions too
 pub record Counts : Type 0 where
   pub version : FileVersion
   pub constants : ℕ
@@ -53,9 +55,14 @@ pub record Counts : Type 0 where
   pub blocks : ℕ
   pub starts : ℕ
   pub words : ℕ
+  pub functions : ℕ
 
 abbrev pub number_at : List ℕ → ℕ → ℕ
 number_at bytes place = from_le_bytes w32 (take 4 (drop place bytes))
+
+abbrev pub functions_in : FileVersion → List ℕ → ℕ
+functions_in One bytes = 0
+functions_in Two bytes = number_at bytes 28
 
 abbrev pub counts_in : List ℕ → Counts
 counts_in bytes =
@@ -66,6 +73,7 @@ counts_in bytes =
       blocks = number_at bytes 16;
       starts = number_at bytes 20;
       words = number_at bytes 24;
+      functions = functions_in (version_in bytes) bytes;
     }
 
 pub record AreFew (c : Counts) : Type 0 where
@@ -74,10 +82,12 @@ pub record AreFew (c : Counts) : Type 0 where
   pub blocks : c.blocks ≤ limits.most_blocks
   pub starts : c.starts ≤ limits.most_instances
   pub words : c.words ≤ limits.most_words
+  pub functions : c.functions ≤ limits.most_functions
 
 -- the length that they ask for
 abbrev pub size : Counts → ℕ
-size c = head_size c.version + 16 * c.constants + 24 * c.slots + c.blocks + 4 * c.starts + 8 * c.words
+size c =
+    head_size c.version + 16 * c.constants + 24 * c.slots + c.blocks + 4 * c.starts + 16 * c.functions + 8 * c.words
 
 -- nothing stands against the head and the length
 pub record IsShaped (bytes : List ℕ) : Type 0 where

@@ -1,6 +1,6 @@
 -- Code files (profile): the bytes of a code, field after field. Numbers are little-endian. There are two versions, and
 -- a code has one file, of one of them.
-use Rattle.std.specs.Prelude.{◌≡◌, ℕ, ℤ, pos, nat_le, Bool, true, false, if◌then◌else◌, List, [], ◌∷◌, ◌++◌, flat_map}
+use Rattle.std.specs.Prelude.{◌≡◌, ℕ, ℤ, pos, Bool, true, false, if◌then◌else◌, List, [], ◌∷◌, ◌++◌, flat_map}
 use Rattle.std.specs.Prelude.{length, FitsSigned, ⊤}
 use Rattle.std.specs.Int.{w32, w64, cast_unsigned, to_le_bytes}
 use Rattle.std.specs.List.{AllByRecursion}
@@ -11,15 +11,15 @@ use Rattle.iltypes.specs.declared.value.Value.TheVariants as values
 use Rattle.ilblocks.specs.declared.kind.BlockKind.{BlockKind}
 use Rattle.ilblocks.specs.declared.kind.BlockKind.TheVariants as kinds
 use Rattle.ilcode.specs.Words.{spelling}
+use Rattle.ilcode.specs.declared.function.FunctionBody.{FunctionBody}
 use Rattle.ilcode.specs.declared.word.Word.{Word}
-use Rattle.ilcode.specs.Listings.{Listing, IsLawful}
-use Rattle.limits.specs.Limits.{few_buses}
+use Rattle.ilcode.specs.Listings.{Listing, IsLawful, is_old}
 use Rattle.codefile.specs.declared.version.FileVersion.{FileVersion}
 use Rattle.codefile.specs.declared.version.FileVersion.TheVariants.{One, Two}
 
 -- ---- fields
 
--- a count, a start, the bits of a word, or a line: 4 bytes
+-- a count, a start, a number of a function, the bits of a word, or a line: 4 bytes
 abbrev pub number : ℕ → List ℕ
 number n = to_le_bytes w32 n
 
@@ -64,6 +64,10 @@ block_number kinds.DevAsk = 11
 abbrev pub block : BlockKind → List ℕ
 block kind = block_number kind ∷ []
 
+-- 16 bytes: where its words begin, its first slot, and how many inputs and slots it has
+abbrev pub function : FunctionBody → List ℕ
+function f = number f.start ++ (number f.first ++ (number f.inputs ++ number f.slots))
+
 abbrev pub word : Word → List ℕ
 word w = number (spelling w)
 
@@ -89,6 +93,9 @@ blocks xs = flat_map block xs
 abbrev pub numbers : List ℕ → List ℕ
 numbers xs = flat_map number xs
 
+abbrev pub functions : List FunctionBody → List ℕ
+functions xs = flat_map function xs
+
 abbrev pub words : List Word → List ℕ
 words xs = flat_map word xs
 
@@ -100,24 +107,25 @@ counts code rest =
     ++ (number (length code.kinds)
     ++ (number (length code.starts) ++ (number (length code.instructions) ++ rest))))
 
--- the number of functions, which version 1 does not have; no code has functions yet
-abbrev pub function_count : FileVersion → List ℕ
-function_count One = []
-function_count Two = number 0
+-- the number of functions, which version 1 does not have
+abbrev pub function_count : FileVersion → List FunctionBody → List ℕ
+function_count One fs = []
+function_count Two fs = number (length fs)
 
 abbrev pub tables : Listing → List ℕ
 tables code =
     constants code.constants
     ++ (slots code.slots
-    ++ (blocks code.kinds ++ (numbers code.starts ++ (words code.instructions ++ numbers code.lines))))
+    ++ (blocks code.kinds
+    ++ (numbers code.starts ++ (functions code.functions ++ (words code.instructions ++ numbers code.lines)))))
 
 -- the bytes of a code in a version
 abbrev pub file_in : FileVersion → Listing → List ℕ
-file_in v code = magic v ++ (code.buses ∷ 0 ∷ 0 ∷ counts code (function_count v ++ tables code))
+file_in v code = magic v ++ (code.buses ∷ 0 ∷ 0 ∷ counts code (function_count v code.functions ++ tables code))
 
--- a code for few buses has a file of version 1, and any other has one of version 2
+-- a code for few buses that has no functions has a file of version 1, and any other has one of version 2
 abbrev pub version : Listing → FileVersion
-version code = if nat_le code.buses few_buses then One else Two
+version code = if is_old code.buses code.functions then One else Two
 
 -- the file of a code
 abbrev pub file : Listing → List ℕ

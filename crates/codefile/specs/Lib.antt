@@ -1,3 +1,4 @@
+pub mod BodySteps
 pub mod FaultSteps
 pub mod Faults
 pub mod FieldSteps

@@ -17,8 +17,11 @@ after_blocks bytes c = drop c.blocks (after_slots bytes c)
 abbrev pub after_starts : List ℕ → Counts → List ℕ
 after_starts bytes c = drop (4 * c.starts) (after_blocks bytes c)
 
+abbrev pub after_functions : List ℕ → Counts → List ℕ
+after_functions bytes c = drop (16 * c.functions) (after_starts bytes c)
+
 abbrev pub after_words : List ℕ → Counts → List ℕ
-after_words bytes c = drop (4 * c.words) (after_starts bytes c)
+after_words bytes c = drop (4 * c.words) (after_functions bytes c)
 
 -- the first bytes of others, so many as there are
 pub record IsFront (part bytes : List ℕ) (size : ℕ) : Type 0 where

@@ -1,16 +1,17 @@
 //! Codes as bytes.
 
-ghost use Rattle.std.specs.Prelude.{◌≡◌, ◌++◌, ◌<◌, ◌^◌, IfOk, OnOk};
+ghost use Rattle.std.specs.Prelude.{◌≡◌, ◌++◌, ◌<◌, ◌^◌, length, IfOk, OnOk};
 ghost use Rattle.std.specs.List.{AllByRecursion};
+ghost use Rattle.codefile.specs.BodySteps.{IsSmall};
 ghost use Rattle.codefile.specs.Files.{FitsType, FitsValue, IsFileOf, blocks, constant, constants};
-ghost use Rattle.codefile.specs.Files.{function_count, number, numbers, slot, slots, tag, whole};
-ghost use Rattle.codefile.specs.Files.{word, words};
+ghost use Rattle.codefile.specs.Files.{function, function_count, functions, number, numbers, slot};
+ghost use Rattle.codefile.specs.Files.{slots, tag, whole, word, words};
 ghost use Rattle.ilcode.specs.Words.{HasWord};
 
 use crate::fields::block_number;
 use crate::version::{FileVersion, version_of};
 use ilblocks::BlockKind;
-use ilcode::{Code, PackedWord};
+use ilcode::{Code, FunctionBody, PackedWord};
 use iltypes::{IlType, Value};
 use std::alloc::{AllocError, Global};
 
@@ -31,23 +32,29 @@ pub fn encode(alloc: Global, code: &Code) -> Result<Vec<u8>, AllocError>
     push_number(&mut bytes, code.kinds().len())?;
     push_number(&mut bytes, code.starts().len())?;
     push_number(&mut bytes, code.len())?;
-    push_function_count(&mut bytes, version)?;
+    push_function_count(&mut bytes, version, code.functions())?;
     push_constants(&mut bytes, code.constants())?;
     push_slots(&mut bytes, code.slots())?;
     push_blocks(&mut bytes, code.kinds())?;
     push_starts(&mut bytes, code.starts())?;
+    push_functions(&mut bytes, code.functions())?;
     push_words(&mut bytes, code.words())?;
     push_lines(&mut bytes, code.lines())?;
     Ok(bytes)
 }
 
-/// Adds the number of functions, which is 0, where the version has it.
-fn push_function_count(bytes: &mut Vec<u8>, version: FileVersion) -> Result<(), AllocError>
-    ensures { OnOk result (bytes.new.items ≡ bytes.old.items ++ function_count version) }
+/// Adds the number of functions, where the version has it.
+fn push_function_count(
+    bytes: &mut Vec<u8>,
+    version: FileVersion,
+    given: &[FunctionBody],
+) -> Result<(), AllocError>
+    requires { length given.now < 2 ^ 32 }
+    ensures { OnOk result (bytes.new.items ≡ bytes.old.items ++ function_count version given.now) }
 {
     match version {
         FileVersion::One => Ok(()),
-        FileVersion::Two => push_number(bytes, 0),
+        FileVersion::Two => push_number(bytes, given.len()),
     }
 }
 
@@ -121,6 +128,28 @@ fn push_blocks(bytes: &mut Vec<u8>, kinds: &[BlockKind]) -> Result<(), AllocErro
         bytes.push(block_number(*kind))?;
     }
     Ok(())
+}
+
+/// Adds functions.
+fn push_functions(bytes: &mut Vec<u8>, given: &[FunctionBody]) -> Result<(), AllocError>
+    requires { AllByRecursion IsSmall given.now }
+    ensures { OnOk result (bytes.new.items ≡ bytes.old.items ++ functions given.now) }
+{
+    for body in given {
+        push_function(bytes, *body)?;
+    }
+    Ok(())
+}
+
+/// Adds a function.
+fn push_function(bytes: &mut Vec<u8>, body: FunctionBody) -> Result<(), AllocError>
+    requires { IsSmall body }
+    ensures { OnOk result (bytes.new.items ≡ bytes.old.items ++ function body) }
+{
+    push_number(bytes, body.start)?;
+    push_number(bytes, body.first)?;
+    push_number(bytes, body.inputs)?;
+    push_number(bytes, body.slots)
 }
 
 /// Adds words.

@@ -10,13 +10,15 @@ ghost use Rattle.iltypes.specs.declared.value.IlType.TheVariants as types;
 ghost use Rattle.iltypes.specs.declared.value.Value.{Value as AnyValue};
 ghost use Rattle.ilblocks.specs.declared.kind.BlockKind.{BlockKind as AnyKind};
 ghost use Rattle.ilcode.specs.Words.{HasWord, spelling};
+ghost use Rattle.ilcode.specs.declared.function.FunctionBody.{FunctionBody as AnyBody};
 ghost use Rattle.ilcode.specs.declared.word.Word.{Word as AnyWord};
+ghost use Rattle.codefile.specs.BodySteps.{IsSmall};
 ghost use Rattle.codefile.specs.FieldSteps.{Holds, HoldsType};
 ghost use Rattle.codefile.specs.Files.{FitsType, FitsValue, block, block_number, constant};
-ghost use Rattle.codefile.specs.Files.{slot, word};
+ghost use Rattle.codefile.specs.Files.{function, slot, word};
 
 use ilblocks::BlockKind;
-use ilcode::PackedWord;
+use ilcode::{FunctionBody, PackedWord};
 use iltypes::{IlType, Range, Value};
 
 /// The number of 32 bits at the front, and what follows.
@@ -168,6 +170,27 @@ pub(crate) fn block_number(kind: BlockKind) -> u8
         BlockKind::DevScheme => 10,
         BlockKind::DevAsk => 11,
     }
+}
+
+/// The function at the front, and what follows.
+pub(crate) fn function_at(bytes: &[u8]) -> (FunctionBody, &[u8])
+    requires { 16 ≤ length bytes.now }
+    ensures exact { (f : AnyBody) (more : List ℕ) → IsSmall f → bytes.now ≡ function f ++ more
+        → (result.0 ≡ f) × (result.1.now ≡ more) }
+    ensures small { IsSmall result.0 }
+    ensures rest { result.1.now ≡ drop 16 bytes.now }
+{
+    let (start, rest) = number_at(bytes);
+    let (first, rest) = number_at(rest);
+    let (inputs, rest) = number_at(rest);
+    let (slots, rest) = number_at(rest);
+    let body = FunctionBody {
+        start: start as usize,
+        first: first as usize,
+        inputs: inputs as usize,
+        slots: slots as usize,
+    };
+    (body, rest)
 }
 
 /// The word at the front, if it is one, and what follows.

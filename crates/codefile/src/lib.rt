@@ -10,6 +10,7 @@
 //! ```
 #![tactic(auto)]
 
+mod bodies;
 mod decoding;
 mod encoding;
 mod fault;

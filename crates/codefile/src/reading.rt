@@ -1,25 +1,27 @@
 //! The tables of a file, each read to its end.
 
-ghost use Rattle.std.specs.Prelude.{◌≡◌, ℕ, ◌+◌, ◌*◌, ◌≤◌, ◌<◌, ◌^◌, ◌↔◌, List, length, drop};
-ghost use Rattle.std.specs.Prelude.{IfOk, IfSome, IsSomeAnd, IsTrue, slice_index};
+ghost use Rattle.std.specs.Prelude.{◌≡◌, ℕ, ◌*◌, ◌<◌, ◌^◌, List, length};
+ghost use Rattle.std.specs.Prelude.{IfOk, IfSome, IsSomeAnd, slice_index};
 ghost use Rattle.std.specs.List.{AllByRecursion};
 ghost use Rattle.iltypes.specs.declared.value.IlType.{IlType as AnyType};
 ghost use Rattle.iltypes.specs.declared.value.Value.{Value as AnyValue};
 ghost use Rattle.ilblocks.specs.declared.kind.BlockKind.{BlockKind as AnyKind};
 ghost use Rattle.ilcode.specs.Words.{HasWord};
+ghost use Rattle.ilcode.specs.declared.function.FunctionBody.{FunctionBody as AnyBody};
 ghost use Rattle.ilcode.specs.declared.word.Word.{Word as AnyWord};
 ghost use Rattle.ilcode.specs.Listings.{Listing};
-ghost use Rattle.codefile.specs.FieldSteps.{BeginPrograms, Rise};
+ghost use Rattle.codefile.specs.BodySteps.{IsSmall};
 ghost use Rattle.codefile.specs.Files.{FitsType, FitsValue, HasFile, IsFileOf, blocks, constants};
-ghost use Rattle.codefile.specs.Files.{numbers, slots, words};
+ghost use Rattle.codefile.specs.Files.{functions, numbers, slots, words};
 ghost use Rattle.codefile.specs.Faults.{IsShaped, counts_in};
 ghost use Rattle.codefile.specs.FaultSteps.{counted};
 
-use crate::fields::{block_at, constant_at, number_at, slot_at, word_at};
+use crate::bodies::are_bodies;
+use crate::fields::{block_at, constant_at, function_at, number_at, slot_at, word_at};
 use crate::shape::FileCounts;
 use crate::tables::tables_in;
 use ilblocks::BlockKind;
-use ilcode::{Code, PackedWord};
+use ilcode::{Code, FunctionBody, PackedWord};
 use iltypes::{IlType, Value};
 use std::alloc::{AllocError, Global};
 
@@ -45,14 +47,18 @@ pub(crate) fn parse(
         return Ok(None);
     };
     let starts = starts(alloc, tables.starts, counts.starts)?;
+    let functions = functions(alloc, tables.functions, counts.functions)?;
     let Some(words) = words(alloc, tables.words, counts.words)? else {
         return Ok(None);
     };
     let lines = numbers(alloc, tables.lines, counts.words)?;
-    if !are_starts(&starts, &words) {
+    let buses = bytes[5];
+    if !are_bodies(buses, counts.slots, &starts, &words, &functions) {
         return Ok(None);
     }
-    Ok(Some(Code::new(bytes[5], constants, slots, kinds, starts, words, lines)))
+    Ok(Some(Code::new(
+        buses, constants, slots, kinds, starts, words, lines, functions,
+    )))
 }
 
 /// So many constants.
@@ -152,6 +158,23 @@ fn starts(alloc: Global, bytes: &[u8], count: usize) -> Result<Vec<usize>, Alloc
     Ok(places)
 }
 
+/// So many functions.
+fn functions(alloc: Global, bytes: &[u8], count: usize) -> Result<Vec<FunctionBody>, AllocError>
+    requires { length bytes.now ≡ 16 * count }
+    ensures exact { (xs : List AnyBody) → length xs ≡ count → AllByRecursion IsSmall xs
+        → bytes.now ≡ functions xs → IfOk result (λ read. read.items ≡ xs) }
+    ensures long { IfOk result (λ read. length read.items ≡ count) }
+{
+    let mut bodies = Vec::new(alloc);
+    let mut rest = bytes;
+    for _ in 0..count {
+        let (body, after) = function_at(rest);
+        bodies.push(body)?;
+        rest = after;
+    }
+    Ok(bodies)
+}
+
 /// So many numbers of 32 bits.
 fn numbers(alloc: Global, bytes: &[u8], count: usize) -> Result<Vec<u32>, AllocError>
     requires { length bytes.now ≡ 4 * count }
@@ -168,24 +191,4 @@ fn numbers(alloc: Global, bytes: &[u8], count: usize) -> Result<Vec<u32>, AllocE
         rest = after;
     }
     Ok(given)
-}
-
-/// Whether programs may begin at these places of a code with these words.
-fn are_starts(starts: &[usize], words: &[PackedWord]) -> bool
-    ensures { IsTrue result ↔ BeginPrograms starts.now words.now }
-{
-    match starts {
-        [] => words.is_empty(),
-        [start, starts @ ..] => *start == 0 && rise(words.len(), *start, starts),
-    }
-}
-
-/// Whether each of the starts is not below the one before, and not beyond the end.
-fn rise(end: usize, before: usize, starts: &[usize]) -> bool
-    ensures { IsTrue result ↔ Rise end before starts.now }
-{
-    match starts {
-        [] => true,
-        [start, starts @ ..] => before <= *start && *start <= end && rise(end, *start, starts),
-    }
 }

@@ -2,15 +2,17 @@
 
 ghost use Rattle.std.specs.Prelude.{◌≡◌, ◌+◌, ◌≤◌, ◌↔◌, length, IfErr, IfOk, IsTrue};
 ghost use Rattle.codefile.specs.Faults.{AreBuses, AreFew, BeginsAs, BeginsWell, HasHead, IsFirst};
-ghost use Rattle.codefile.specs.Faults.{IsShaped, counts_in, number_at, size};
+ghost use Rattle.codefile.specs.Faults.{IsShaped, counts_in, functions_in, head_size, number_at};
+ghost use Rattle.codefile.specs.Faults.{size, version_in};
 ghost use Rattle.codefile.specs.FaultSteps.{counted};
 
 use crate::fault::FileCause;
 use crate::fields::number_at;
 use crate::version::{FileVersion, version_in};
-use limits::{MOST_BLOCKS, MOST_CONSTANTS, MOST_INSTANCES, MOST_SLOTS, MOST_WORDS};
+use limits::{MOST_BLOCKS, MOST_CONSTANTS, MOST_FUNCTIONS, MOST_INSTANCES, MOST_SLOTS, MOST_WORDS};
 
-/// The version, and how many there are of each: constants, slots, block instances, starts, words.
+/// The version, and how many there are of each: constants, slots, block instances, starts, words,
+/// and functions.
 #[derive(Clone, Copy)]
 pub(crate) struct FileCounts {
     pub(crate) version: FileVersion,
@@ -19,6 +21,7 @@ pub(crate) struct FileCounts {
     pub(crate) blocks: usize,
     pub(crate) starts: usize,
     pub(crate) words: usize,
+    pub(crate) functions: usize,
 }
 
 /// The counts of bytes that are as long as these ask for, or the first fault.
@@ -80,18 +83,32 @@ fn are_buses(bytes: &[u8]) -> bool
     1 <= bytes[5] && bytes[5] <= most && bytes[6] == 0 && bytes[7] == 0
 }
 
-/// The version and the five counts.
+/// The version and the counts.
 fn counts_in(bytes: &[u8]) -> FileCounts
-    requires { 28 ≤ length bytes.now }
+    requires least { 28 ≤ length bytes.now }
+    requires head { head_size (version_in bytes.now) ≤ length bytes.now }
     ensures { counted result ≡ counts_in bytes.now }
 {
+    let version = version_in(bytes);
     FileCounts {
-        version: version_in(bytes),
+        version,
         constants: count_at(bytes, 8),
         slots: count_at(bytes, 12),
         blocks: count_at(bytes, 16),
         starts: count_at(bytes, 20),
         words: count_at(bytes, 24),
+        functions: functions_in(version, bytes),
+    }
+}
+
+/// The number of functions, of which version 1 has none.
+fn functions_in(version: FileVersion, bytes: &[u8]) -> usize
+    requires { head_size version ≤ length bytes.now }
+    ensures { result ≡ functions_in version bytes.now }
+{
+    match version {
+        FileVersion::One => 0,
+        FileVersion::Two => count_at(bytes, 28),
     }
 }
 
@@ -114,6 +131,7 @@ fn are_few(counts: FileCounts) -> bool
         && counts.blocks <= MOST_BLOCKS
         && counts.starts <= MOST_INSTANCES
         && counts.words <= MOST_WORDS
+        && counts.functions <= MOST_FUNCTIONS
 }
 
 /// The length that the counts ask for.
@@ -126,5 +144,6 @@ fn size(counts: FileCounts) -> usize
         + 24 * counts.slots
         + counts.blocks
         + 4 * counts.starts
+        + 16 * counts.functions
         + 8 * counts.words
 }

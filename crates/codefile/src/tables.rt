@@ -3,8 +3,9 @@
 ghost use Rattle.std.specs.Prelude.{◌≡◌, ◌*◌, length};
 ghost use Rattle.codefile.specs.Faults.{size};
 ghost use Rattle.codefile.specs.FaultSteps.{counted};
-ghost use Rattle.codefile.specs.TableSteps.{IsFront, after_blocks, after_constants, after_head};
-ghost use Rattle.codefile.specs.TableSteps.{after_slots, after_starts, after_words};
+ghost use Rattle.codefile.specs.TableSteps.{IsFront, after_blocks, after_constants};
+ghost use Rattle.codefile.specs.TableSteps.{after_functions, after_head, after_slots, after_starts};
+ghost use Rattle.codefile.specs.TableSteps.{after_words};
 
 use crate::shape::FileCounts;
 
@@ -15,6 +16,7 @@ pub(crate) struct FileTables<'a> {
     pub(crate) slots: &'a [u8],
     pub(crate) blocks: &'a [u8],
     pub(crate) starts: &'a [u8],
+    pub(crate) functions: &'a [u8],
     pub(crate) words: &'a [u8],
     pub(crate) lines: &'a [u8],
 }
@@ -30,7 +32,9 @@ pub(crate) fn tables_in(bytes: &[u8], counts: FileCounts) -> FileTables<'_>
         counts.blocks }
     ensures starts { IsFront result.starts.now (after_blocks bytes.now (counted counts))
         (4 * counts.starts) }
-    ensures words { IsFront result.words.now (after_starts bytes.now (counted counts))
+    ensures functions { IsFront result.functions.now (after_starts bytes.now (counted counts))
+        (16 * counts.functions) }
+    ensures words { IsFront result.words.now (after_functions bytes.now (counted counts))
         (4 * counts.words) }
     ensures lines { result.lines.now ≡ after_words bytes.now (counted counts) }
     ensures lines_long { length result.lines.now ≡ 4 * counts.words }
@@ -40,12 +44,14 @@ pub(crate) fn tables_in(bytes: &[u8], counts: FileCounts) -> FileTables<'_>
     let (slots, rest) = rest.split_at(24 * counts.slots);
     let (blocks, rest) = rest.split_at(counts.blocks);
     let (starts, rest) = rest.split_at(4 * counts.starts);
+    let (functions, rest) = rest.split_at(16 * counts.functions);
     let (words, lines) = rest.split_at(4 * counts.words);
     FileTables {
         constants,
         slots,
         blocks,
         starts,
+        functions,
         words,
         lines,
     }

@@ -2,17 +2,18 @@
 
 ghost use Rattle.std.specs.Prelude.{◌≡◌};
 ghost use Rattle.codefile.specs.Faults.{version_in};
+ghost use Rattle.ilcode.specs.Listings.{is_old};
 ghost use Rattle.codefile.specs.Files.{version};
 
-use ilcode::Code;
+use ilcode::{Code, FunctionBody};
 use limits::{FEW_BUSES, MOST_BUSES};
 
 /// The versions of code files.
 #[derive(Clone, Copy)]
 pub(crate) enum FileVersion {
-    /// Of a code for few buses.
+    /// Of a code for few buses that has no functions.
     One,
-    /// Of any other code: it has one count more, that of functions.
+    /// Of any other code: it has one count more, that of functions, and where these stand.
     Two,
 }
 
@@ -20,11 +21,18 @@ pub(crate) enum FileVersion {
 pub(crate) fn version_of(code: &Code) -> FileVersion
     ensures { result ≡ version code.now }
 {
-    if code.buses() <= FEW_BUSES {
+    if is_old(code.buses(), code.functions()) {
         FileVersion::One
     } else {
         FileVersion::Two
     }
+}
+
+/// Whether the buses are few and there are no functions.
+pub(crate) fn is_old(buses: u8, functions: &[FunctionBody]) -> bool
+    ensures { result ≡ is_old buses functions.now }
+{
+    buses <= FEW_BUSES && functions.is_empty()
 }
 
 /// The version of bytes that begin as a code file, as far as they go.
