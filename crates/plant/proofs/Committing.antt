@@ -8,6 +8,7 @@ use Rattle.std.proofs.lemmas.Bool.Decides.{eqb_tells}
 use Rattle.std.proofs.lemmas.Slice.Zip.{AllZip-long}
 use Rattle.std.specs.Prelude.{if◌then◌else◌, is_some, slice_get, IfSome, map, option_map}
 use Rattle.gearcmd.specs.declared.requests.Request.{Request}
+use Rattle.ilblocks.specs.Stores.{Store}
 use Rattle.ilcode.specs.Listings.{Listing}
 use Rattle.ilcode.specs.Steps.{Ends}
 use Rattle.ilplan.specs.Plans.{PlannedTask, KeepsLimits}
@@ -17,6 +18,7 @@ use Rattle.ilverify.specs.Verdicts.{Accepted}
 use Rattle.ilimage.specs.Images.{ProcessImage, TaskImage, TaskLayout}
 use Rattle.ilimage.specs.Snapshots.{ScanStart}
 use Rattle.ilmachine.specs.Scans.{Scan, IsScan, store_of}
+use Rattle.ilmachine.proofs.ScanEnds.{plain_run}
 use Rattle.ilcompile.specs.Loaded.{AreCodes, IsCodeOf}
 use Rattle.ilcompile.proofs.CodeLemmas.{zipped_at}
 use Rattle.plantevents.specs.declared.event.Event.{Event}
@@ -119,8 +121,10 @@ pub result_meant : (p : Plant) (running : OpenScan) (task : PlannedTask) (result
     → IsScan result.snapshot.verified (store_of result.snapshot) result.steps result.after
     → IsResult p running result
 result_meant p running task result is_task limits of_task number same run =
-    let ends = subst (λ (code : Listing). Ends code (store_of result.snapshot) result.steps result.after) of_task.laid
-    run.run in
+    let code = result.snapshot.verified in
+    let none : code.code.functions ≡ [] = ap (λ (l : Listing). l.functions) of_task.laid in
+    let ends = subst (λ (l : Listing). Ends l (store_of result.snapshot) result.steps result.after) of_task.laid
+    (plain_run code (store_of result.snapshot) result.after result.steps none run) in
     let meant = (is_meant p.plan.buses p.plan.text task limits).means (store_of result.snapshot) result.after
     result.steps ends in
     record {
@@ -148,6 +152,8 @@ open_committed p k w t task result says coded open_scan is_task limits run =
     let long = AllZip-long (IsCodeOf p.plant.plan) p.plant.plan.tasks p.plant.codes coded in
     let buses : result.snapshot.verified.code.buses ≡ p.plant.plan.buses =
     ap (λ (code : Listing). code.buses) of_task.laid in
+    let its = subst (All (λ (r : Request). r.bus < result.snapshot.verified.code.buses))
+    (sym (ap (λ (s : Store). s.requests) run.left)) run.in_types.requests in
     record {
       allowed = record {
         known = open_scan.is.known;
@@ -160,7 +166,7 @@ open_committed p k w t task result says coded open_scan is_task limits run =
       task = open_scan.task;
       known = open_known p k w t result says open_scan;
       code = code_there p.plant.plan.tasks p.plant.codes t result.snapshot.verified long is_code;
-      requests = subst (λ (n : ℕ). All (λ (r : Request). r.bus < n) result.after.requests) buses run.in_types.requests;
+      requests = subst (λ (n : ℕ). All (λ (r : Request). r.bus < n) result.after.requests) buses its;
       few = let asks = run.asks in omega arith;
     }
 

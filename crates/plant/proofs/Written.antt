@@ -9,6 +9,7 @@ use Rattle.iltypes.specs.declared.value.Value.{Value}
 use Rattle.iltypes.specs.Values.{AreOf}
 use Rattle.ilblocks.specs.Calls.{Block}
 use Rattle.ilblocks.proofs.Blocks.{as_long}
+use Rattle.ilcode.specs.Listings.{lasting_types}
 use Rattle.ilimage.specs.Images.{ProcessImage, TaskImage, TaskLayout, Layout, ImageVariable, Own, IsImage, layout_of}
 use Rattle.ilimage.specs.Images.{value_of, blocks_of, own_types, written_at, written_in}
 use Rattle.ilimage.proofs.Places.{externals_fit, layout_at}
@@ -31,9 +32,9 @@ pub record IsEnded (image : ProcessImage) (t : ℕ) (of : TaskImage) (slots : Li
 
 pub is_ended : (image : ProcessImage) (t : ℕ) (of : TaskImage) (slots : List Value) → IsImage image
     → slice_get image.tasks t ≡ Some of → AreOf of.own.slots (own_types of.layout)
-    → AreOf slots of.layout.verified.code.slots → IsEnded image t of slots
+    → AreOf slots (lasting_types of.layout.verified.code) → IsEnded image t of slots
 is_ended image t of slots whole is owned typed =
-    let types = of.layout.verified.code.slots in
+    let types = lasting_types of.layout.verified.code in
     let fit = externals_fit image.types types of.layout.externals (lawful_task image t of whole is).typed in
     let long = as_long slots types typed in
     let own = as_long of.own.slots (own_types of.layout) owned in

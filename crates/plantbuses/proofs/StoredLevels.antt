@@ -18,8 +18,8 @@ use Rattle.ilimage.specs.declared.external.External.{External}
 use Rattle.ilimage.specs.declared.slots.StoredSlot.{StoredSlot}
 use Rattle.ilimage.specs.Images.{ProcessImage, TaskImage, IsImage, layout_of}
 use Rattle.ilimage.specs.Images.{TaskLayout, stored_slot, stored_from, stored_slots}
-use Rattle.ilimage.proofs.Commits.{lawful_task}
-use Rattle.ilimage.proofs.Places.{typed_there, layout_at}
+use Rattle.ilimage.proofs.Commits.{named_there}
+use Rattle.ilimage.proofs.Places.{layout_at}
 use Rattle.ilimage.proofs.StoredSlots.{all_stores}
 use Rattle.plantevents.specs.declared.event.Event.{Event}
 use Rattle.plantevents.specs.Plants.{Plant}
@@ -87,8 +87,7 @@ pub store_there : (plan : Planned) (image : ProcessImage) (t : ℕ) (of : TaskIm
     → image.types ≡ map (λ (g : GlobalVariable). g.value_type) plan.globals → i < length stores
     → (get_or stores i none).global < length plan.globals
 store_there plan image t of stores i none whole is same types lt =
-    let lawful = lawful_task image t of whole is in
-    let all = typed_there image.types of.layout.verified.code.slots of.layout.externals lawful.typed in
+    let all = named_there image t of whole is in
     let known = all_stores (λ (s : StoredSlot). s.global < length image.types) of.layout.externals
     (λ s x at. all_at (λ (e : External). e.global < length image.types) of.layout.externals s x all at) in
     let within = subst (λ (ss : List StoredSlot). (get_or ss i none).global < length image.types) (sym same)

@@ -28,7 +28,7 @@ abbrev pub copying : Accepted
 copying =
     record {
       code = listing_of 1 [] (types_of (task (Cyclic 100) 0 (named 0 ∷ named 1 ∷ []) (ld 1 ∷ st 0 ∷ []))) [] (0 ∷ [])
-          (Load false (Slot 1) ∷ St false (variables.Slot 0) ∷ []) (1 ∷ 1 ∷ []);
+          (Load false (Slot 1) ∷ St false (variables.Slot 0) ∷ []) (1 ∷ 1 ∷ []) [];
       bound = 2;
     }
 

@@ -97,7 +97,7 @@ tasks =
 
 -- a code without words over a task's slots
 abbrev pub code : PlannedTask → Accepted
-code t = record { code = listing_of 1 [] (types_of t) [] [] [] []; bound = 0 }
+code t = record { code = listing_of 1 [] (types_of t) [] [] [] [] []; bound = 0 }
 
 -- the button is instance 2 of the device with short address 5
 abbrev pub button : EventSource
@@ -123,7 +123,8 @@ pushes zero = []
 pushes (suc n) = push (suc n) ∷ pushes n
 
 abbrev pub snapshot : ScanStart
-snapshot = start_of (record { code = listing_of 1 [] [] [] [] [] []; bound = 0 }) (record { slots = []; blocks = [] }) 0
+snapshot =
+    start_of (record { code = listing_of 1 [] [] [] [] [] [] []; bound = 0 }) (record { slots = []; blocks = [] }) 0
 
 abbrev pub take : ℕ → ℕ → Event
 take w t = Take w t snapshot

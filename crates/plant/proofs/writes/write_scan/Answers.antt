@@ -3,6 +3,7 @@ use Rattle.std.specs.Prelude.{IfSome, slice_get}
 use Rattle.std.specs.Option.{IsSomeAnd}
 use Rattle.iltypes.specs.declared.value.Value.{Value}
 use Rattle.iltypes.specs.Values.{AreOf}
+use Rattle.ilcode.specs.Listings.{lasting_types}
 use Rattle.ilverify.specs.Verdicts.{Accepted}
 use Rattle.ilblocks.specs.Calls.{Block}
 use Rattle.ilimage.specs.Images.{TaskImage, IsTaskImage, layout_of}
@@ -20,8 +21,9 @@ returns c = λ p w n running h follows busy of_task.
     let here = with_task image t code (subst (λ (o : Option Accepted). IsSomeAnd o code) (sym c.requires) refl) in
     let own : IsTaskImage here.of = subst (λ (o : Option TaskImage). IfSome o IsTaskImage) here.is
     c.externals-own.ensures.own in
-    let typed = subst (λ (a : Accepted). AreOf scan.after.slots a.code.slots) (sym here.holds)
-    parts.run.in_types.slots in
+    let typed = subst (λ (a : Accepted). AreOf scan.after.slots (lasting_types a.code)) (sym here.holds)
+    (subst (λ (vs : List Value). AreOf vs (lasting_types scan.snapshot.verified.code)) parts.values
+    parts.in_types.values) in
     let ended = is_ended image t here.of scan.after.slots c.externals-own.ensures.image here.is own.values typed in
     let done : IsCommitted image c.commit.new.self t scan.after.slots scan.after.blocks = record {
       same = c.commit.ensures.layout;
