@@ -22,6 +22,7 @@ use Rattle.ilcompile.specs.Meant.{IsMeant}
 use Rattle.ilcompile.proofs.Meant.{is_meant}
 use Rattle.ilverify.specs.Verdicts.{Accepted}
 use Rattle.ilmachine.specs.Scans.{IsScan}
+use Rattle.ilmachine.proofs.ScanEnds.{plain_run, plain_types}
 use Rattle.ilcompile.specs.Loaded.{AreCodes, IsCodeOf, Loaded}
 use Rattle.plantload.specs.Loading.{IsPlanOfText, IsSetup}
 use Rattle.ilcompile.proofs.CodeLemmas.{code_at}
@@ -65,11 +66,12 @@ record IsLeft (tree : Tree) (buses : ℕ) (task : SourceTask) (code : Accepted) 
   few : AreFew code each
 
 module _ (tree : Tree) (buses : ℕ) (task : SourceTask) (code : Accepted)
-    (meant : IsMeant buses (planned_task tree task) code.code) where
+    (meant : IsMeant buses (planned_task tree task) code.code) (none : code.code.functions ≡ []) where
   one_scan : (from after : Store) (steps : ℕ) → IsScan code from steps after
       → source_scan tree buses task from ≡ Some after
   one_scan from after steps scan =
-      sym (means_the_same tree buses task from) ∙ meant.means from after steps scan.run
+      sym (means_the_same tree buses task from)
+      ∙ meant.means from after steps (plain_run code from after steps none scan)
 
   few_more : (before : List Taking) (last : Taking) → AreFew code before → last.steps ≤ code.bound
       → AreFew code (before ++ last ∷ [])
@@ -103,7 +105,8 @@ module _ (tree : Tree) (buses : ℕ) (task : SourceTask) (code : Accepted)
       let meant_last = one_scan (store_at h.1 (scans * every)) last.after h.2.steps last.scan in
       record {
         means = (requests_of h.0, h.1, last.after, before.means, meant_last, asked, last.left);
-        in_types = subst (λ (l : Lasting). AreOf l.slots code.code.slots) (sym last.left) last.scan.in_types.slots;
+        in_types = subst (λ (l : Lasting). AreOf l.slots code.code.slots) (sym last.left)
+            (plain_types code (store_at h.1 (scans * every)) last.after h.2.steps none last.scan);
         many = omega (arith, long, all, earlier);
         few = subst (AreFew code) (sym h.5) (few_more h.0 h.2 before.few last.scan.few);
       }
@@ -154,6 +157,9 @@ module _ (wiring : Wiring) (bytes : List ℕ) (setup : Loaded) (is : IsSetup wir
       let there = code_at setup.plan setup.codes number r.code is.codes r.coded in
       code_is (slice_get setup.plan.tasks number) r.task setup.plan r.code r.is there
 
+  none : r.code.code.functions ≡ []
+  none = ap (λ (l : Listing). l.functions) coded.laid
+
   slots : r.code.code.slots ≡ types_of r.task
   slots = ap (λ (l : Listing). l.slots) coded.laid
 
@@ -168,7 +174,7 @@ module _ (wiring : Wiring) (bytes : List ℕ) (setup : Loaded) (is : IsSetup wir
   done : IsLeft tree wiring.buses task r.code every scans (lasting_at_first r.task) each to
   done =
       let fit = subst (λ (ts : List IlType). AreOf (first_values r.task) ts) (sym slots) firsts in
-      left tree wiring.buses task r.code meant every scans (lasting_at_first r.task) each to fit r.run
+      left tree wiring.buses task r.code meant none every scans (lasting_at_first r.task) each to fit r.run
 
   pub has_task : HasTask (run_of setup number each to)
   has_task =

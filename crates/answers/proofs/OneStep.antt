@@ -4,8 +4,8 @@ use Rattle.std.proofs.Common.{Result, Ok, Err, sym, ap, ◌∙◌, subst, arith,
 use Rattle.std.proofs.lemmas.Bool.{cases_lt}
 use Rattle.ilblocks.specs.Stores.{Lasting, Store, lasting_of, store_at}
 use Rattle.ilplan.specs.Plans.{Planned, PlannedTask}
-use Rattle.ilcode.proofs.RunPaths.{one_end}
 use Rattle.ilverify.specs.Verdicts.{Accepted}
+use Rattle.ilmachine.proofs.ScanEnds.{one_scan}
 use Rattle.wordlines.specs.Wirings.{Wiring}
 use Rattle.ilcompile.specs.Loaded.{Loaded}
 use Rattle.plantload.specs.Loading.{IsLoadFault, IsPlanOfText}
@@ -23,8 +23,7 @@ use Rattle.answers.specs.Stepping.{AreScansOf, IsScanAt, Run, ScansTo, lasting_a
 same_scan : (code : Accepted) (moment : ℕ) (from : Lasting) (s t : Taking) (a b : Lasting)
     → IsScanAt code moment from s a → IsScanAt code moment from t b → (s ≡ t) × (a ≡ b)
 same_scan code moment from s t a b h g =
-    let begun = store_at from moment in
-    let ends = one_end code.code begun s.steps t.steps h.after g.after h.scan.run g.scan.run in
+    let ends = one_scan code (store_at from moment) h.after g.after s.steps t.steps h.scan g.scan in
     let moments : s.moment ≡ t.moment = h.at_moment ∙ sym g.at_moment in
     let asked = ap (λ (store : Store). store.requests) ends.1 in
     let requests : s.requests ≡ t.requests = h.requests ∙ asked ∙ sym g.requests in

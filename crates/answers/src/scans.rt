@@ -4,6 +4,7 @@ ghost use Rattle.std.specs.Prelude.{◌≡◌, ◌+◌, ◌*◌, ◌^◌, ◌≤
 ghost use Rattle.std.specs.Arc.{arc_value};
 ghost use Rattle.iltypes.specs.Values.{AreOf};
 ghost use Rattle.ilblocks.specs.Stores.{blocks_at_first};
+ghost use Rattle.ilcode.specs.Listings.{lasting_types};
 ghost use Rattle.answers.specs.Stepping.{IsScanAt, ScansTo, lasting};
 
 use gearcmd::Request;
@@ -89,7 +90,7 @@ pub fn make(
     scans: u32,
     every: u32,
 ) -> Result<Scans, AllocError>
-    requires { AreOf from.now (arc_value code.now).code.slots }
+    requires { AreOf from.now (lasting_types (arc_value code.now).code) }
     ensures { IfOk result (λ made. ScansTo (arc_value code.now) every scans
         (lasting from.now (blocks_at_first (arc_value code.now).code.kinds))
         made.each.items made.left.lasting) }

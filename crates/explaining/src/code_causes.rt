@@ -37,6 +37,17 @@ fn advice_of(cause: Cause) -> Advice {
                 other",
             line: "JMPC later",
         },
+        Cause::TooLong => Advice {
+            what: "a path of over 16,777,216 words",
+            cure: "call fewer functions in functions, or put calls on ways that exclude each\n\
+                other",
+            line: "JMPC later",
+        },
+        Cause::BadCall => Advice {
+            what: "a call of a function that may not stand there",
+            cure: "a function calls those before it alone, and at most 8 calls are open at once",
+            line: "(nothing)",
+        },
         _ => Advice {
             what: "a code that no text has",
             cure: "report it",

@@ -5,6 +5,7 @@ use crate::marking::{line_of, write_found, write_line};
 use crate::ways::write_way;
 use crate::{code_causes, name_causes, text_causes};
 use ilcompile::compile;
+use ilranges::Cause;
 use ilscope::NameFault;
 use iltext::TextFault;
 use plantload::{LoadFault, RefusedTask};
@@ -57,7 +58,8 @@ fn explain_name<W: Write>(out: &mut W, text: &[u8], fault: &NameFault) -> io::Re
     }
 }
 
-/// Explains a task whose code is refused.
+/// Explains a task whose code is refused: with a way to the word, but where what is wrong is told
+/// of the whole code.
 fn explain_code<W: Write>(
     alloc: Global,
     out: &mut W,
@@ -67,6 +69,9 @@ fn explain_code<W: Write>(
     let refusal = refused.refusal();
     write_line(out, text, refusal.line, None)?;
     code_causes::write_cause(out, refusal.cause, line_of(text, refusal.line))?;
+    if matches!(refusal.cause, Cause::TooLong | Cause::BadCall) {
+        return Ok(());
+    }
     let code = compile(alloc, refused.plan(), refused.task())?;
     write_way(
         alloc,

@@ -72,7 +72,8 @@ fn way_to(
     Ok(way)
 }
 
-/// A place from which control goes to this one: the one before it, or else the last jump there.
+/// A place from which control goes to this one: the one before it, or else the last jump there. A
+/// function begins at its first word, whatever calls it.
 fn place_before(code: &Code, reached: &[bool], place: usize) -> Option<usize> {
     let before = place.checked_sub(1)?;
     if is_reached(reached, before) && goes_on(code, before) {
@@ -95,8 +96,11 @@ fn is_reached(reached: &[bool], place: usize) -> bool {
     }
 }
 
-/// Whether control may go from a place to the next one.
+/// Whether control may go from a place to the next one, of the same body.
 fn goes_on(code: &Code, place: usize) -> bool {
+    if !is_one_body(code, place, place.saturating_add(1)) {
+        return false;
+    }
     match code.get(place) {
         Some(Word::Jump { condition, .. }) => condition != Condition::Always,
         Some(_) => true,
@@ -104,12 +108,19 @@ fn goes_on(code: &Code, place: usize) -> bool {
     }
 }
 
-/// Whether the word at a place jumps to another one.
+/// Whether the word at a place jumps to another one, of the same body.
 fn jumps_to(code: &Code, from: usize, place: usize) -> bool {
     match code.get(from) {
-        Some(Word::Jump { target, .. }) => target as usize == place,
+        Some(Word::Jump { target, .. }) => {
+            target as usize == place && is_one_body(code, from, place)
+        }
         _ => false,
     }
+}
+
+/// Whether the words at two places are of the programs, or of one function.
+fn is_one_body(code: &Code, one: usize, other: usize) -> bool {
+    code.body_at(one) == code.body_at(other)
 }
 
 /// Writes the word to which a flow has come, with what is known before it.

@@ -1,6 +1,7 @@
 //! Going over the words of a code.
 
 use crate::joining::meet;
+use crate::paths::start_of;
 use ilcode::{Code, Word};
 use ilranges::{Cause, Change, Changes, Entry, after_word};
 use std::alloc::{AllocError, Global};
@@ -25,7 +26,8 @@ pub enum Judged {
 }
 
 impl Flow {
-    /// Before the first word.
+    /// Before the first word. The first word of each function is known at once: there any values
+    /// may come.
     ///
     /// # Errors
     ///
@@ -35,8 +37,12 @@ impl Flow {
         for _ in 0..code.len() {
             pending.push(None)?;
         }
-        let first = Entry::opening(alloc, code)?;
-        meet(code, &mut pending, 0, first)?;
+        for body in 0..code.functions().len().saturating_add(1) {
+            let start = start_of(code, body);
+            if start < code.end_of(body) {
+                meet(code, &mut pending, start, Entry::opening(alloc, code)?)?;
+            }
+        }
         Ok(Flow { pending, place: 0 })
     }
 
@@ -118,16 +124,19 @@ impl Flow {
         entry: &Entry,
         changes: Changes,
     ) -> Result<(), AllocError> {
+        let end = code.end_of(code.body_at(place));
         if let Word::Jump { target, .. } = word {
-            self.follow(code, target as usize, entry, changes.target)?;
+            self.follow(code, end, target as usize, entry, changes.target)?;
         }
-        self.follow(code, place.saturating_add(1), entry, changes.next)
+        self.follow(code, end, place.saturating_add(1), entry, changes.next)
     }
 
-    /// What is known on a way goes where the way leads, if any value goes there.
+    /// What is known on a way of a body that ends there goes where the way leads, if any value goes
+    /// there. At the body's end nothing is kept: what its caller knows is known from the call.
     fn follow(
         &mut self,
         code: &Code,
+        end: usize,
         place: usize,
         entry: &Entry,
         change: Option<Change>,
@@ -135,8 +144,11 @@ impl Flow {
         let Some(change) = change else {
             return Ok(());
         };
+        if place >= end {
+            return Ok(());
+        }
         let mut way = entry.share()?;
-        change.apply(&mut way)?;
+        change.apply(code, &mut way)?;
         way.arrive(code, place);
         meet(code, &mut self.pending, place, way)
     }

@@ -1,6 +1,6 @@
 //! What is known before a word, in words.
 
-use crate::spelling::slot_name;
+use crate::spelling::SlotText;
 use ilcode::{Target, Word, WordOperand};
 use ilplan::Plan;
 use ilranges::{Entry, Known};
@@ -21,13 +21,15 @@ impl KnownText<'_> {
         let Some(slot) = slot_of(self.word) else {
             return Ok(());
         };
-        match (
-            slot_name(self.plan, self.task, slot),
-            self.entry.slots.get(slot),
-        ) {
-            (Some(name), Some(known)) => write!(f, ", {name} {}", ValuesText { known }),
-            _ => Ok(()),
-        }
+        let Some(known) = self.entry.slots.get(slot) else {
+            return Ok(());
+        };
+        let name = SlotText {
+            plan: self.plan,
+            task: self.task,
+            slot,
+        };
+        write!(f, ", {name} {}", ValuesText { known })
     }
 }
 
@@ -47,6 +49,7 @@ fn slot_of(word: Word) -> Option<usize> {
         Word::Load { operand, .. } => slot_of_operand(operand),
         Word::Apply(_, operand) => slot_of_operand(operand),
         Word::Pass { operand, .. } => slot_of_operand(operand),
+        Word::Give { operand, .. } => slot_of_operand(operand),
         Word::Store { variable, .. } => slot_of_target(variable),
         Word::Set(variable) => slot_of_target(variable),
         Word::Reset(variable) => slot_of_target(variable),

@@ -24,6 +24,7 @@ mod notes;
 mod paths;
 mod programs;
 mod spelling;
+mod stars;
 mod table;
 mod unreached;
 mod uses;

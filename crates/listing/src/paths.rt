@@ -1,23 +1,105 @@
-//! The longest paths of a code, and the paths with the most requests.
+//! The longest paths of a code, and the paths with the most requests. A path goes through the body
+//! of each function that it calls.
 
 use ilcode::{Code, Word};
 use iltypes::Condition;
 use std::alloc::{AllocError, Global};
 
-/// For each place how many words the longest path from there has, whatever the values, and 0 behind
-/// the last word.
+/// What is counted on a path.
+#[derive(Clone, Copy)]
+pub(crate) enum Counted {
+    /// Its words.
+    Words,
+    /// Its calls of request blocks.
+    Requests,
+}
+
+/// The most that paths from a place hold, whatever the values, those that begin there within the
+/// body of the place.
+#[derive(Clone, Copy)]
+pub(crate) struct Most {
+    /// On one that goes through to the body's end, where there is such a path.
+    pub through: Option<u32>,
+    /// On any.
+    pub any: u32,
+}
+
+/// At the end of a body.
+const AT_END: Most = Most {
+    through: Some(0),
+    any: 0,
+};
+
+/// Where no path leads.
+const NOWHERE: Most = Most {
+    through: None,
+    any: 0,
+};
+
+impl Most {
+    /// With so many before.
+    fn after(self, count: u32) -> Most {
+        Most {
+            through: sum(Some(count), self.through),
+            any: self.any.saturating_add(count),
+        }
+    }
+
+    /// On either way.
+    fn or(self, other: Most) -> Most {
+        Most {
+            through: greater(self.through, other.through),
+            any: self.any.max(other.any),
+        }
+    }
+
+    /// Through a body, and then on from the call of it.
+    fn and_then(self, on: Most) -> Most {
+        Most {
+            through: sum(self.through, on.through),
+            any: self.any.max(sum(self.through, Some(on.any)).unwrap_or(0)),
+        }
+    }
+}
+
+/// The sum, where there are both.
+fn sum(one: Option<u32>, other: Option<u32>) -> Option<u32> {
+    match (one, other) {
+        (Some(one), Some(other)) => Some(one.saturating_add(other)),
+        _ => None,
+    }
+}
+
+/// The greater one, where there is one.
+fn greater(one: Option<u32>, other: Option<u32>) -> Option<u32> {
+    match (one, other) {
+        (Some(one), Some(other)) => Some(one.max(other)),
+        (None, other) => other,
+        (one, None) => one,
+    }
+}
+
+/// For each place the most that paths from there hold. A function calls those before it alone, so
+/// the functions are gone over in their order and the programs last, each from its last word to its
+/// first.
 ///
 /// # Errors
 ///
 /// The allocator is out of memory.
-pub fn longest_paths(alloc: Global, code: &Code) -> Result<Vec<u32>, AllocError> {
-    let mut longest = zeros(alloc, code)?;
-    for back in 0..code.len() {
-        let place = code.len() - 1 - back;
-        let words = most_after(code, place, &longest).saturating_add(1);
-        set(&mut longest, place, words);
+pub(crate) fn most_on_paths(
+    alloc: Global,
+    code: &Code,
+    counted: Counted,
+) -> Result<Vec<Most>, AllocError> {
+    let mut most = Vec::new(alloc);
+    for _ in 0..code.len() {
+        most.push(NOWHERE)?;
     }
-    Ok(longest)
+    for function in 0..code.functions().len() {
+        fill(code, &mut most, counted, function.saturating_add(1));
+    }
+    fill(code, &mut most, counted, 0);
+    Ok(most)
 }
 
 /// The most calls of request blocks on a path, whatever the values.
@@ -25,39 +107,90 @@ pub fn longest_paths(alloc: Global, code: &Code) -> Result<Vec<u32>, AllocError>
 /// # Errors
 ///
 /// The allocator is out of memory.
-pub fn most_requests(alloc: Global, code: &Code) -> Result<u32, AllocError> {
-    let mut most = zeros(alloc, code)?;
-    for back in 0..code.len() {
-        let place = code.len() - 1 - back;
-        let calls = u32::from(may_request(code, code.word(place)));
-        let requests = most_after(code, place, &most).saturating_add(calls);
-        set(&mut most, place, requests);
-    }
-    Ok(at(&most, 0))
+pub(crate) fn most_requests(alloc: Global, code: &Code) -> Result<u32, AllocError> {
+    let most = most_on_paths(alloc, code, Counted::Requests)?;
+    Ok(most_at(code, &most, 0, 0).any)
 }
 
-/// A zero for each place, and for the one behind the last word.
-fn zeros(alloc: Global, code: &Code) -> Result<Vec<u32>, AllocError> {
-    let mut counts = Vec::new(alloc);
-    for _ in 0..code.len() {
-        counts.push(0)?;
+/// Fills in the places of a body.
+fn fill(code: &Code, most: &mut Vec<Most>, counted: Counted, body: usize) {
+    let start = start_of(code, body);
+    for place in (start..code.end_of(body)).rev() {
+        let here = most_from(code, most, counted, body, place);
+        if let Some(kept) = most.get_mut(place) {
+            *kept = here;
+        }
     }
-    counts.push(0)?;
-    Ok(counts)
 }
 
-/// Of the places that control may go to from a word, the greatest count.
-fn most_after(code: &Code, place: usize, counts: &[u32]) -> u32 {
-    let next = at(counts, place.saturating_add(1));
-    match code.get(place) {
-        Some(Word::Jump { condition, target }) => {
-            let there = at(counts, target as usize);
+/// The place where a body begins: that of the programs is 0, that of function n is n + 1.
+pub(crate) fn start_of(code: &Code, body: usize) -> usize {
+    match body.checked_sub(1) {
+        Some(function) => code.end_of(function),
+        None => 0,
+    }
+}
+
+/// The most on paths from a word of a body on.
+fn most_from(code: &Code, most: &[Most], counted: Counted, body: usize, place: usize) -> Most {
+    let Some(word) = code.get(place) else {
+        return NOWHERE;
+    };
+    let next = most_at(code, most, body, place.saturating_add(1));
+    let on = match word {
+        Word::Jump { condition, target } => {
+            let there = most_at_target(code, most, body, place, target as usize);
             match condition {
                 Condition::Always => there,
-                Condition::IfTrue | Condition::IfFalse => there.max(next),
+                Condition::IfTrue | Condition::IfFalse => there.or(next),
             }
         }
+        Word::Invoke(function) => most_in(code, most, usize::from(function)).and_then(next),
         _ => next,
+    };
+    on.after(weight(code, counted, word))
+}
+
+/// The most on paths from a place of a body on.
+pub(crate) fn most_at(code: &Code, most: &[Most], body: usize, place: usize) -> Most {
+    if place >= code.end_of(body) {
+        return AT_END;
+    }
+    match most.get(place) {
+        Some(kept) => *kept,
+        None => NOWHERE,
+    }
+}
+
+/// The most on paths from a jump's target on, to which the jump at the place may lead.
+pub(crate) fn most_at_target(
+    code: &Code,
+    most: &[Most],
+    body: usize,
+    place: usize,
+    target: usize,
+) -> Most {
+    if code.is_target(place, target) {
+        most_at(code, most, body, target)
+    } else {
+        NOWHERE
+    }
+}
+
+/// The most on paths through a function.
+pub(crate) fn most_in(code: &Code, most: &[Most], function: usize) -> Most {
+    if function >= code.functions().len() {
+        return NOWHERE;
+    }
+    let body = function.saturating_add(1);
+    most_at(code, most, body, start_of(code, body))
+}
+
+/// What a word counts.
+fn weight(code: &Code, counted: Counted, word: Word) -> u32 {
+    match counted {
+        Counted::Words => 1,
+        Counted::Requests => u32::from(may_request(code, word)),
     }
 }
 
@@ -69,20 +202,5 @@ fn may_request(code: &Code, word: Word) -> bool {
             None => false,
         },
         _ => false,
-    }
-}
-
-/// The count at a place.
-fn at(counts: &[u32], place: usize) -> u32 {
-    match counts.get(place) {
-        Some(count) => *count,
-        None => 0,
-    }
-}
-
-/// Keeps the count of a place.
-fn set(counts: &mut Vec<u32>, place: usize, count: u32) {
-    if let Some(kept) = counts.get_mut(place) {
-        *kept = count;
     }
 }

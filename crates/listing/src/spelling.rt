@@ -3,6 +3,7 @@
 use ilcode::Code;
 use ilplan::{DeclaredName, Plan, SlotName, SlotOwner};
 use iltypes::{Condition, Function, Operator};
+use std::fmt;
 
 /// How an operator is written.
 pub(crate) fn operator_text(operator: Operator) -> &'static str {
@@ -38,11 +39,15 @@ pub(crate) fn function_text(function: Function) -> &'static str {
     }
 }
 
-/// How a jump to a word of a code is written: one to where a program begins, or past the last word,
-/// as a return.
+/// Whether a jump to a place of a code is a return: where a program or a function begins, and past
+/// the last word, the one before ends.
+pub(crate) fn is_return(code: &Code, target: usize) -> bool {
+    target >= code.len() || code.is_start(target)
+}
+
+/// How a jump to a word of a code is written.
 pub(crate) fn jump_text(code: &Code, condition: Condition, target: usize) -> &'static str {
-    let is_return = target >= code.len() || code.starts().contains(&target);
-    match (condition, is_return) {
+    match (condition, is_return(code, target)) {
         (Condition::Always, true) => "RET",
         (Condition::IfTrue, true) => "RETC",
         (Condition::IfFalse, true) => "RETCN",
@@ -53,13 +58,30 @@ pub(crate) fn jump_text(code: &Code, condition: Condition, target: usize) -> &'s
 }
 
 /// The name of the variable in a task's slot.
-pub(crate) fn slot_name(plan: &Plan, task: usize, slot: usize) -> Option<SlotName<'_>> {
+fn slot_name(plan: &Plan, task: usize, slot: usize) -> Option<SlotName<'_>> {
     if task >= plan.tasks() {
         return None;
     }
     match plan.task(task).slots().get(slot) {
         Some(found) => variable_name(plan, found.variable),
         None => None,
+    }
+}
+
+/// The variable in a task's slot: by its name, or by the slot's number where it is a function's.
+#[derive(Clone, Copy)]
+pub(crate) struct SlotText<'a> {
+    pub plan: &'a Plan,
+    pub task: usize,
+    pub slot: usize,
+}
+
+impl fmt::Display for SlotText<'_> {
+    fn fmt<W: fmt::Write>(&self, f: &mut fmt::Formatter<W>) -> fmt::Result {
+        match slot_name(self.plan, self.task, self.slot) {
+            Some(name) => write!(f, "{name}"),
+            None => write!(f, "slot {}", self.slot),
+        }
     }
 }
 

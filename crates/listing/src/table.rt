@@ -4,7 +4,8 @@ ghost use Rattle.std.specs.Prelude.{◌<◌, length};
 
 use crate::flow::{Flow, Judged};
 use crate::knowing::KnownText;
-use crate::paths::longest_paths;
+use crate::paths::{Counted, Most, most_at, most_at_target, most_in, most_on_paths};
+use crate::stars::{is_marked, words_of_longest};
 use crate::words::WordText;
 use ilcode::{Code, Word};
 use ilcompile::Setup;
@@ -14,19 +15,22 @@ use std::alloc::Global;
 use std::io;
 use std::io::Write;
 
-/// The way of a task's table: its code, and the longest path from each of its words.
+/// The way of a task's table: its code, the longest path from each of its words, and the words of a
+/// longest path of the code.
 #[derive(Clone, Copy)]
 struct Table<'a> {
     alloc: Global,
     plan: &'a Plan,
     code: &'a Code,
     task: usize,
-    longest: &'a [u32],
+    most: &'a [Most],
+    on_longest: &'a [bool],
 }
 
-/// Writes the words of a task: a line with their number and the bound, and then a line for each. A
-/// star marks the words of a longest path, `left` is the number of words of the longest path from
-/// there to the end.
+/// Writes the words of a task: a line with their number and the bound, and then a line for each,
+/// and one before the words of each function. A star marks the words of a longest path, `left` is
+/// the number of words of the longest path from there to the end, which is that of its function
+/// where the word is one of a function.
 ///
 /// # Errors
 ///
@@ -41,7 +45,8 @@ pub fn write_task<W: Write>(
 {
     let verified = setup.code(task);
     let code = verified.code();
-    let longest = longest_paths(alloc, code)?;
+    let most = most_on_paths(alloc, code, Counted::Words)?;
+    let on_longest = words_of_longest(alloc, code, &most)?;
     let name = setup.plan().task_name(task);
     let words = code.len();
     let bound = verified.bound();
@@ -55,65 +60,52 @@ pub fn write_task<W: Write>(
         plan: setup.plan(),
         code,
         task,
-        longest: &longest,
+        most: &most,
+        on_longest: &on_longest,
     };
     write_words(out, &table)
 }
 
-/// Writes a line for each word.
+/// Writes a line for each word, and one before the words of each function.
 fn write_words<W: Write>(out: &mut W, table: &Table) -> io::Result<()> {
     let mut flow = Flow::new(table.alloc, table.code)?;
-    let mut longest_at = 0;
     for place in 0..table.code.len() {
-        let is_longest = place == longest_at;
-        if is_longest {
-            longest_at = next_of_longest(table, place);
-        }
-        write_word(out, table, &flow, place, is_longest)?;
+        write_functions_at(out, table, place)?;
+        write_word(out, table, &flow, place)?;
         if flow.advance(table.code)? != Judged::Accepted {
             return Ok(());
+        }
+    }
+    write_functions_at(out, table, table.code.len())
+}
+
+/// Writes a line for each function that begins at a place: its number, its words, and the greatest
+/// number of words on a path from its first word on.
+fn write_functions_at<W: Write>(out: &mut W, table: &Table, place: usize) -> io::Result<()> {
+    let functions = table.code.functions();
+    for number in 0..functions.len() {
+        let start = functions[number].start;
+        if start == place {
+            let end = table.code.end_of(number.saturating_add(1));
+            let words = end.saturating_sub(start);
+            let bound = most_in(table.code, table.most, number).any;
+            writeln!(out, "function {number} words {words} bound {bound}")?;
         }
     }
     Ok(())
 }
 
-/// How many words the longest path from a place has.
-fn left_at(table: &Table, place: usize) -> u32 {
-    match table.longest.get(place) {
-        Some(words) => *words,
-        None => 0,
-    }
-}
-
-/// Where the longest path goes on from a place: to the next word where both ways are as long.
-fn next_of_longest(table: &Table, place: usize) -> usize {
-    let next = place.saturating_add(1);
-    match table.code.get(place) {
-        Some(Word::Jump { condition, target }) => {
-            let target = target as usize;
-            let is_only = condition == Condition::Always;
-            if is_only || left_at(table, target) > left_at(table, next) {
-                target
-            } else {
-                next
-            }
-        }
-        _ => next,
-    }
+/// How many words the longest path from a place of a body has.
+fn left_at(table: &Table, body: usize, place: usize) -> u32 {
+    most_at(table.code, table.most, body, place).any
 }
 
 /// Writes the line of a word.
-fn write_word<W: Write>(
-    out: &mut W,
-    table: &Table,
-    flow: &Flow,
-    place: usize,
-    is_longest: bool,
-) -> io::Result<()> {
+fn write_word<W: Write>(out: &mut W, table: &Table, flow: &Flow, place: usize) -> io::Result<()> {
     let Some(word) = table.code.get(place) else {
         return Ok(());
     };
-    write_numbers(out, table, place, is_longest)?;
+    write_numbers(out, table, place)?;
     let alloc = table.alloc;
     let text = WordText {
         plan: table.plan,
@@ -129,14 +121,10 @@ fn write_word<W: Write>(
 }
 
 /// Writes the numbers of a word.
-fn write_numbers<W: Write>(
-    out: &mut W,
-    table: &Table,
-    place: usize,
-    is_longest: bool,
-) -> io::Result<()> {
+fn write_numbers<W: Write>(out: &mut W, table: &Table, place: usize) -> io::Result<()> {
+    let is_longest = is_marked(table.on_longest, place);
     let star = if is_longest { "*" } else { " " };
-    let left = left_at(table, place);
+    let left = left_at(table, table.code.body_at(place), place);
     let line = match table.code.lines().get(place) {
         Some(line) => *line as usize,
         None => 0,
@@ -160,15 +148,28 @@ fn write_known<W: Write>(out: &mut W, table: &Table, flow: &Flow, word: Word) ->
     }
 }
 
-/// Writes how long the longest paths are on both ways from a jump that has two.
+/// Writes how long the longest paths are on both ways from a jump that has two, and in a function
+/// that is called.
 fn write_ways<W: Write>(out: &mut W, table: &Table, place: usize, word: Word) -> io::Result<()> {
-    let Word::Jump { condition, target } = word else {
-        return Ok(());
-    };
-    if condition == Condition::Always {
-        return Ok(());
+    match word {
+        Word::Jump { condition, target } => {
+            if condition == Condition::Always {
+                return Ok(());
+            }
+            write_both(out, table, place, target as usize)
+        }
+        Word::Invoke(function) => {
+            let within = most_in(table.code, table.most, usize::from(function)).any;
+            write!(out, "; {within} in the function")
+        }
+        _ => Ok(()),
     }
-    let there = left_at(table, target as usize);
-    let next = left_at(table, place.saturating_add(1));
+}
+
+/// Writes how long the longest paths are on both ways from a jump.
+fn write_both<W: Write>(out: &mut W, table: &Table, place: usize, target: usize) -> io::Result<()> {
+    let body = table.code.body_at(place);
+    let there = most_at_target(table.code, table.most, body, place, target).any;
+    let next = left_at(table, body, place.saturating_add(1));
     write!(out, "; {there} left there, else {next}")
 }

@@ -72,6 +72,10 @@ fn add_word(uses: &mut Vec<Use>, word: Word, line: usize) {
         Word::Store { variable, .. } => add_target(uses, variable, stored),
         Word::Set(variable) => add_target(uses, variable, stored),
         Word::Reset(variable) => add_target(uses, variable, stored),
+        Word::Give { operand, slot } => {
+            add_operand(uses, operand, read);
+            add_slot(uses, usize::from(slot), stored);
+        }
         _ => {}
     }
 }

@@ -1,11 +1,14 @@
 //! Words as they are written.
 
-use crate::spelling::{block_name, function_text, jump_text, operator_text, port_name, slot_name};
+use crate::spelling::{
+    SlotText, block_name, function_text, is_return, jump_text, operator_text, port_name,
+};
 use ilcode::{Code, Target, Word, WordOperand};
 use ilplan::Plan;
 use std::fmt;
 
-/// A word of a task's code, as it could stand in a text; a jump leads to the number of a word.
+/// A word of a task's code, as it could stand in a text; a jump leads to the number of a word, and
+/// CALL names a function by its number.
 #[derive(Clone, Copy)]
 pub struct WordText<'a> {
     pub plan: &'a Plan,
@@ -50,7 +53,7 @@ impl WordText<'_> {
         name: &str,
         target: usize,
     ) -> fmt::Result {
-        if target >= self.code.len() || self.code.starts().contains(&target) {
+        if is_return(self.code, target) {
             write!(f, "{name}")
         } else {
             write!(f, "{name} {target}")
@@ -98,6 +101,11 @@ impl fmt::Display for WordText<'_> {
                 let name = jump_text(self.code, condition, target as usize);
                 self.write_jump(f, name, target as usize)
             }
+            Word::Give { operand, slot } => {
+                let to = self.target(Target::Slot(slot));
+                write!(f, "{to} := {}", self.operand(operand))
+            }
+            Word::Invoke(function) => write!(f, "CALL {function}"),
         }
     }
 }
@@ -131,10 +139,14 @@ impl OperandText<'_> {
 impl fmt::Display for OperandText<'_> {
     fn fmt<W: fmt::Write>(&self, f: &mut fmt::Formatter<W>) -> fmt::Result {
         match self.operand {
-            WordOperand::Slot(slot) => match slot_name(self.plan, self.task, usize::from(slot)) {
-                Some(name) => write!(f, "{name}"),
-                None => write!(f, "?"),
-            },
+            WordOperand::Slot(slot) => {
+                let slot = SlotText {
+                    plan: self.plan,
+                    task: self.task,
+                    slot: usize::from(slot),
+                };
+                write!(f, "{slot}")
+            }
             WordOperand::Constant(number) => {
                 match self.code.constants().get(usize::from(number)) {
                     Some(value) => write!(f, "{value}"),

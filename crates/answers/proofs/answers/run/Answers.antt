@@ -1,0 +1,36 @@
+use Rattle.std.proofs.Common.{◌≡◌, ◌∙◌, Option, Some, List, ap, subst}
+use Rattle.std.specs.Prelude.{IfSome, slice_get}
+use Rattle.std.specs.Arc.{arc_value}
+use Rattle.std.proofs.lemmas.Result.{IfOk-weaker}
+use Rattle.iltypes.specs.declared.value.Value.{Value}
+use Rattle.ilblocks.specs.declared.kind.BlockKind.{BlockKind}
+use Rattle.ilblocks.specs.Stores.{Lasting, blocks_at_first}
+use Rattle.ilplan.specs.Plans.{Planned, PlannedTask, first_values, kinds_of}
+use Rattle.ilcode.specs.Listings.{Listing}
+use Rattle.ilcompile.specs.Loaded.{IsCodeOf}
+use Rattle.answers.specs.Stepping.{ScansTo, lasting, lasting_at_first}
+use Rattle.answers.proofs.answers.run.Goals as goal
+
+-- the code is that of the task, so its block instances are the task's
+pub returns-clause-made : goal.returns-clause-made
+returns-clause-made c =
+    let setup = c.args.setup.now in
+    let t = c.task-of_task.result.now in
+    let code = arc_value c.code.result.now in
+    let is : slice_get setup.plan.tasks c.args.task ≡ Some t =
+    subst (λ (p : Planned). slice_get p.tasks c.args.task ≡ Some t) c.plan.ensures.value c.task-of_task.ensures.value in
+    let of : IsCodeOf setup.plan t code =
+    subst (λ (o : Option PlannedTask). IfSome o (λ t. IsCodeOf setup.plan t code)) is c.code.ensures.of_task in
+    let kinds : code.code.kinds ≡ kinds_of t = ap (λ (l : Listing). l.kinds) of.laid in
+    let first : c.deref.result.now ≡ first_values t = c.deref.ensures.value ∙ c.in_ok-first.ensures in
+    let begins : lasting c.deref.result.now (blocks_at_first code.code.kinds) ≡ lasting_at_first t =
+    ap (λ (vs : List Value). lasting vs (blocks_at_first code.code.kinds)) first
+    ∙ ap (λ (ks : List BlockKind). lasting (first_values t) (blocks_at_first ks)) kinds in
+    IfOk-weaker c.make.result _ _ (λ made run. record {
+      task = t;
+      is = is;
+      code = code;
+      coded = c.code.ensures.value;
+      run =
+          subst (λ (l : Lasting). ScansTo code c.args.every c.args.scans l made.each.items made.left.lasting) begins run;
+    }) c.make.ensures
