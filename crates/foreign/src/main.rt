@@ -2,13 +2,15 @@
 //! becomes of each.
 //!
 //! What crosses the boundary: one word of the command line, how many random files are tried, and
-//! three lines with how many files had which end (`tally`): of all fronts of a worked file, of the
-//! file with each single bit changed (`worked`), and of random files (`random_files`). What is read as a
-//! code is written again; what is accepted is scanned from values at each end of its slots' types,
-//! and at random (`trials`). A file that is written otherwise, and a scan that exceeds its bound or
-//! leaves a type, is wrong, and the exit status is 1: `foreign 100000` is a call.
+//! three lines for each version with how many files had which end (`tally`): of all fronts of a
+//! worked file, of the file with each single bit changed (`worked`), and of random files
+//! (`random_files`), which have functions in version 2. What is read as a code is written again;
+//! what is accepted is scanned from values at each end of its slots' types, and at random
+//! (`trials`). A file that is written otherwise, and a scan that exceeds its bound or leaves a
+//! type, is wrong, and the exit status is 1: `foreign 100000` is a call.
 #![tactic(auto)]
 
+mod bodies;
 mod random_files;
 mod tally;
 mod trials;
@@ -20,19 +22,27 @@ use std::alloc::{AllocError, Global};
 use std::process::ExitCode;
 use std::rt::Env;
 use std::{env, io};
-use tally::Tally;
+use tally::{Ends, Tally};
 use trials::tried;
-use worked::{changed, fronts};
+use worked::{CALLING, STRAIGHT, changed, fronts};
 
 fn main(rt: HostRuntime) -> io::Result<ExitCode> {
     let count = asked(&rt)?;
-    let fronts = fronts(rt.alloc())?;
-    let changed = changed(rt.alloc())?;
-    let random = random(rt.alloc(), count)?;
-    println!(rt; "fronts: {fronts}")?;
-    println!(rt; "changed bits: {changed}")?;
-    println!(rt; "random: {random}")?;
-    Ok(if fronts.is_good() && changed.is_good() && random.is_good() {
+    let old = Ends {
+        fronts: fronts(rt.alloc(), &STRAIGHT)?,
+        changed: changed(rt.alloc(), &STRAIGHT)?,
+        random: random(rt.alloc(), count)?,
+    };
+    let new = Ends {
+        fronts: fronts(rt.alloc(), &CALLING)?,
+        changed: changed(rt.alloc(), &CALLING)?,
+        random: random_with_functions(rt.alloc(), count)?,
+    };
+    println!(rt; "version 1")?;
+    println!(rt; "{old}")?;
+    println!(rt; "version 2")?;
+    println!(rt; "{new}")?;
+    Ok(if old.are_good() && new.are_good() {
         ExitCode::SUCCESS
     } else {
         ExitCode::FAILURE
@@ -55,6 +65,17 @@ fn random(alloc: Global, count: u32) -> Result<Tally, AllocError> {
     let mut tally = Tally::default();
     for _ in 0..count {
         let bytes = files.next(alloc)?;
+        tally.count(tried(alloc, &bytes, files.word())?);
+    }
+    Ok(tally)
+}
+
+/// What becomes of so many random files with functions.
+fn random_with_functions(alloc: Global, count: u32) -> Result<Tally, AllocError> {
+    let mut files = RandomFiles::new(43);
+    let mut tally = Tally::default();
+    for _ in 0..count {
+        let bytes = files.next_with_functions(alloc)?;
         tally.count(tried(alloc, &bytes, files.word())?);
     }
     Ok(tally)

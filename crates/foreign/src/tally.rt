@@ -66,3 +66,29 @@ impl fmt::Display for Tally {
         )
     }
 }
+
+/// What became of the files of a version.
+#[derive(Clone, Copy)]
+pub(crate) struct Ends {
+    /// Of the fronts of a worked file.
+    pub(crate) fronts: Tally,
+    /// Of the worked file with each single bit changed.
+    pub(crate) changed: Tally,
+    /// Of random files.
+    pub(crate) random: Tally,
+}
+
+impl Ends {
+    /// Whether none was wrong.
+    pub(crate) fn are_good(&self) -> bool {
+        self.fronts.is_good() && self.changed.is_good() && self.random.is_good()
+    }
+}
+
+impl fmt::Display for Ends {
+    fn fmt<W: fmt::Write>(&self, f: &mut fmt::Formatter<W>) -> fmt::Result {
+        writeln!(f, "fronts: {}", self.fronts)?;
+        writeln!(f, "changed bits: {}", self.changed)?;
+        write!(f, "random: {}", self.random)
+    }
+}

@@ -1,11 +1,15 @@
 //! What becomes of bytes that may be a code file.
 
+ghost use Rattle.std.specs.Prelude.{◌≡◌, IfOk};
+ghost use Rattle.ilcode.specs.Listings.{lasting_types};
+
 use crate::tally::Ending;
 use crate::values::{Choice, are_of, is_row_of, values_of};
 use codefile::{FileFault, decode, encode};
 use ilcode::Code;
 use ilimage::Snapshot;
 use ilmachine::{ScanResult, scan};
+use iltypes::IlType;
 use ilverify::{Verified, VerifyError, verify};
 use std::alloc::{AllocError, Global};
 use std::sync::Arc;
@@ -53,8 +57,9 @@ fn are_good(
     code: Arc<Verified, Global>,
     choice: Choice,
 ) -> Result<bool, AllocError> {
-    let values = values_of(alloc, code.code().slots(), choice)?;
-    if !are_of(&values, code.code().slots()) {
+    let types = lasting(alloc, code.code())?;
+    let values = values_of(alloc, &types, choice)?;
+    if !are_of(&values, &types) {
         return Ok(false);
     }
     let first = scan(Snapshot::new(alloc, code, &values, MOMENTS.0)?)?;
@@ -65,8 +70,20 @@ fn are_good(
     Ok(is_good(&next))
 }
 
-/// Whether the scan stayed within the bound of its code and left each slot a value of its type.
+/// The types of the slots of a code's programs.
+fn lasting(alloc: Global, code: &Code) -> Result<Vec<IlType>, AllocError>
+    ensures { IfOk result (λ types. types.items ≡ lasting_types code.now) }
+{
+    let mut types = Vec::from_slice(alloc, code.slots())?;
+    types.truncate(code.slots_end(0));
+    Ok(types)
+}
+
+/// Whether the scan stayed within the bound of its code and left each slot of its programs a value
+/// of its type.
 fn is_good(scan: &ScanResult) -> bool {
     let code = scan.snapshot().verified();
-    scan.steps() <= code.bound() && is_row_of(scan.row(), code.code().slots())
+    scan.steps() <= code.bound()
+        && scan.row().len() == code.code().slots_end(0)
+        && is_row_of(scan.row(), code.code().slots())
 }

@@ -72,14 +72,12 @@ pub(crate) fn are_of(values: &[Value], types: &[IlType]) -> bool
     }
 }
 
-/// Whether each value of the row is in its type.
+/// Whether each value of the row has a type and is in it; there may be types of more.
 pub(crate) fn is_row_of(row: &ValueRow, types: &[IlType]) -> bool {
-    if row.len() != types.len() {
-        return false;
-    }
-    for (slot, value_type) in types.iter().enumerate() {
-        if !value_type.holds(row.get(slot)) {
-            return false;
+    for slot in 0..row.len() {
+        match types.get(slot) {
+            Some(value_type) if value_type.holds(row.get(slot)) => {}
+            _ => return false,
         }
     }
     true

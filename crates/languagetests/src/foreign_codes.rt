@@ -4,7 +4,7 @@
 
 ghost use Rattle.std.specs.Prelude.{IsTrue};
 ghost use Rattle.std.specs.List.{AllByRecursion};
-ghost use Rattle.ilcode.specs.Words.{HasWord};
+ghost use Rattle.ilcode.specs.Words.{HasWord, IsOldWord};
 
 use ilblocks::BlockKind;
 use ilcode::{Code, PackedWord, Target, Word, WordOperand, pack};
@@ -521,18 +521,27 @@ const CONDITIONS: &[Row] = &[
     ("back, if not, of no result", 1, &[JMPCN_0], (3, 0)),
 ];
 
-/// Whether 32 bits can hold each word.
+/// Whether 32 bits can hold each word, and none gives a slot or calls a function.
 fn may_pack(words: &[Word]) -> bool
-    ensures { IsTrue result → AllByRecursion HasWord words.now }
+    ensures held { IsTrue result → AllByRecursion HasWord words.now }
+    ensures old { IsTrue result → AllByRecursion IsOldWord words.now }
 {
     match words {
         [] => true,
-        [word, words @ ..] => word.may_pack() && may_pack(words),
+        [word, words @ ..] => word.may_pack() && is_old(*word) && may_pack(words),
     }
 }
 
-/// The code of the words, of which the second program begins at a place; all stand on line 1.
-#[tactic(auto, using(crate::proofs::Ones::ones_small))]
+/// Whether a word neither gives a slot nor calls a function.
+fn is_old(word: Word) -> bool
+    ensures { IsTrue result → IsOldWord word }
+{
+    !matches!(word, Word::Give { .. } | Word::Invoke(_))
+}
+
+/// The code of the words, of which the second program begins at a place; all stand on line 1. It has
+/// no functions.
+#[tactic(auto, using(crate::proofs::Ones::ones_small, crate::proofs::Functions::none))]
 fn code(alloc: Global, start: usize, words: &[Word]) -> Result<Option<Code>, AllocError> {
     if start > words.len() || words.len() > 65_536 || !may_pack(words) {
         return Ok(None);
@@ -548,7 +557,8 @@ fn code(alloc: Global, start: usize, words: &[Word]) -> Result<Option<Code>, All
     let starts = vec![in alloc; 0usize, start]?;
     let lines = vec![in alloc; 1u32; words.len()]?;
     let words = pack(alloc, words)?;
-    Ok(Some(Code::new(1, constants, slots, kinds, starts, words, lines)))
+    let functions = Vec::new(alloc);
+    Ok(Some(Code::new(1, constants, slots, kinds, starts, words, lines, functions)))
 }
 
 /// The number of the cause and the word; 0 and the bound, where the code is accepted.
