@@ -13,10 +13,10 @@ use Rattle.iltypes.specs.declared.condition.Condition.TheVariants.{IfTrue}
 use Rattle.ilsource.specs.declared.instruction.Instruction.{Instruction}
 use Rattle.ilsource.specs.declared.instruction.Instruction.TheVariants as instructions
 use Rattle.ilsource.specs.declared.instruction.Line.{Line}
-use Rattle.ilsource.specs.Trees.{Tree, Load, Reload, Apply, Transform, Deferred}
+use Rattle.ilsource.specs.Trees.{Tree, Load, Reload, Apply, Transform, Deferred, Call}
 use Rattle.ilsource.specs.Meaning.{Access, Way, On, To, Out, After, operand_value, loaded, value, after, gives, leaves}
 use Rattle.iltypes.specs.Conditions.{holds, chosen}
-use Rattle.ilsource.specs.Meaning.{passed, called, line_does}
+use Rattle.ilsource.specs.Meaning.{operand_values, joined, given, passed, called, line_does}
 use Rattle.ilsource.specs.Passes.{has_label, takes, at_end, passes, scan}
 use Rattle.ilsource.specs.Renaming.{NewNames, by_name, rename_tree, rename_argument, rename, rename_line}
 use Rattle.ilsource.specs.Renaming.{IsSeen, IsLabelKept, AreKept, IsRenamed, AreRenamed}
@@ -27,12 +27,30 @@ module _ {N M S T : Type 0} (a : Access N S) (b : Access M T) (new : NewNames N 
       → loaded b (view s) negated (new.operand o) ≡ loaded a s negated o
   loaded_same s negated o = ap (option_and_then (modified negated)) (h.read s o)
 
+  operands_same : (s : S) (os : List (Operand N))
+      → operand_values b (view s) (map new.operand os) ≡ operand_values a s os
+  operands_same s [] = refl
+  operands_same s (o ∷ os) = let e = h.read s o in let g = operands_same s os in rw (e, g) refl
+
+  arguments_same : (f : N) (o : Option (List Value))
+      → option_and_then (b.give (new.name f)) o ≡ option_and_then (a.give f) o
+  arguments_same f None = refl
+  arguments_same f (Some vs) = h.give f vs
+
+  given_same : (s : S) (f : N) (r : Option Value) (os : List (Operand N))
+      → given b (new.name f) r (operand_values b (view s) (map new.operand os)) ≡ given a f r (operand_values a s os)
+  given_same s f r os =
+      ap (λ o. given b (new.name f) r o) (operands_same s os) ∙ arguments_same f (joined r (operand_values a s os))
+
   tree_same : (s : S) (t : Tree N) → value b (view s) (rename_tree new t) ≡ value a s t
   tree_same s (Load at negated o) = loaded_same s negated o
   tree_same s (Reload t at negated o) = let e = tree_same s t in let g = loaded_same s negated o in rw (e, g) refl
   tree_same s (Apply t at operator o) = let e = tree_same s t in let g = h.read s o in rw (e, g) refl
   tree_same s (Transform t at function) = ap (option_and_then (value_of_function function)) (tree_same s t)
   tree_same s (Deferred t at operator u close) = let e = tree_same s t in let g = tree_same s u in rw (e, g) refl
+  tree_same s (Call t at f os) =
+      ap (λ r. given b (new.name f) r (operand_values b (view s) (map new.operand os))) (tree_same s t)
+      ∙ given_same s f (value a s t) os
 
   then_same : (k : S → Option S) (k' : T → Option T) (o : Option S) → ((s : S) → k' (view s) ≡ option_map view (k s))
       → option_and_then k' (option_map view o) ≡ option_map view (option_and_then k o)
@@ -123,6 +141,9 @@ module _ {N M L K S T : Type 0} (a : Access N S) (b : Access M T) (new : NewName
   line_same s r (Some (instructions.Call condition n xs)) =
       chosen_same (holds condition r) _ _ _ _
       (ap (leaves None) (called_same a b new view h n xs s) ∙ leaves_same None (called a n xs s)) refl
+  line_same s r (Some (instructions.Invoke f os)) =
+      ap (λ x. gives x (view s)) (given_same a b new view h s f r os)
+      ∙ gives_same (given a f r (operand_values a s os)) s
 
   end_same : (way : Way L) (s : S) → at_end (way_of way) (view s) ≡ option_map view (at_end way s)
   end_same On s = refl

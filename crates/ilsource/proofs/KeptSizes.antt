@@ -11,10 +11,12 @@ use Rattle.ilsource.specs.declared.instruction.Instruction.{Instruction}
 use Rattle.ilsource.specs.declared.instruction.Instruction.TheVariants as instructions
 use Rattle.ilsource.specs.declared.nested.Action.{Action}
 use Rattle.ilsource.specs.declared.nested.Action.TheVariants as actions
+use Rattle.ilsource.specs.declared.operand.Operand.{Operand}
 use Rattle.ilsource.specs.declared.operand.Operand.TheVariants.{Name}
-use Rattle.ilsource.specs.Trees.{Tree, Load, Reload, Apply, Transform, Deferred, piece, pieces_of, depth}
+use Rattle.ilsource.specs.Trees.{Tree, Load, Reload, Apply, Transform, Deferred, Call}
+use Rattle.ilsource.specs.Trees.{piece, give_pieces, call_pieces, pieces_of, depth}
 use Rattle.ilsource.specs.Words.{place_of, places_of, MayDefer, IsShallow}
-use Rattle.ilsource.specs.Uses.{uses_of_action, uses_of_piece, uses_of_argument, uses_of}
+use Rattle.ilsource.specs.Uses.{read_at, uses_of_action, uses_of_piece, uses_of_argument, uses_of}
 use Rattle.ilsource.specs.Renaming.{NewNames, rename_action, rename_piece, rename_tree}
 use Rattle.ilsource.specs.Renaming.{rename_argument, rename_use, rename}
 
@@ -39,6 +41,19 @@ flat_same f f' r g e (x ∷ xs) =
     ∙ sym (map-append g (f x) (flat_map f xs))
 
 module _ {N M : Type 0} (new : NewNames N M) where
+  gives_same : (at : ℕ) (f : N) (number : ℕ) (os : List (Operand N))
+      → give_pieces at (new.name f) number (map new.operand os)
+      ≡ map (rename_piece new) (give_pieces at f number os)
+  gives_same at f number [] = refl
+  gives_same at f number (o ∷ os) =
+      ap (λ ps. piece at (actions.Give (new.name f) number (new.operand o)) ∷ ps) (gives_same at f (number + 1) os)
+
+  call_same : (at : ℕ) (f : N) (os : List (Operand N))
+      → call_pieces at (new.name f) (map new.operand os) ≡ map (rename_piece new) (call_pieces at f os)
+  call_same at f os =
+      ap (λ ps. piece at (actions.Hand (new.name f)) ∷ ps)
+      (one_more_same (rename_piece new) (give_pieces at f 1 os) _ (piece at (actions.Invoke f)) (gives_same at f 1 os))
+
   pub pieces_same : (t : Tree N) → pieces_of (rename_tree new t) ≡ map (rename_piece new) (pieces_of t)
   pieces_same (Load at negated o) = refl
   pieces_same (Reload t at negated o) =
@@ -50,6 +65,10 @@ module _ {N M : Type 0} (new : NewNames N M) where
   pieces_same (Deferred t at operator u close) =
       group_same (rename_piece new) (pieces_of t) (pieces_of u) _ _ (piece at (actions.Open operator))
       (piece close actions.Close) (pieces_same t) (pieces_same u)
+  pieces_same (Call t at f os) =
+      ap (λ ps. ps ++ call_pieces at (new.name f) (map new.operand os)) (pieces_same t)
+      ∙ ap (λ ps. map (rename_piece new) (pieces_of t) ++ ps) (call_same at f os)
+      ∙ sym (map-append (rename_piece new) (pieces_of t) (call_pieces at f os))
 
   depth_same : (t : Tree N) → depth (rename_tree new t) ≡ depth t
   depth_same (Load at negated o) = refl
@@ -57,6 +76,7 @@ module _ {N M : Type 0} (new : NewNames N M) where
   depth_same (Apply t at operator o) = depth_same t
   depth_same (Transform t at function) = depth_same t
   depth_same (Deferred t at operator u close) = let e = depth_same t in let g = depth_same u in rw (e, g) refl
+  depth_same (Call t at f os) = depth_same t
 
   still_may_defer : (t : Tree N) → MayDefer t → MayDefer (rename_tree new t)
   still_may_defer (Load at negated o) h = tt
@@ -64,6 +84,7 @@ module _ {N M : Type 0} (new : NewNames N M) where
   still_may_defer (Apply t at operator o) h = still_may_defer t h
   still_may_defer (Transform t at function) h = still_may_defer t h
   still_may_defer (Deferred t at operator u close) h = (still_may_defer t h.0, h.1, still_may_defer u h.2)
+  still_may_defer (Call t at f os) h = still_may_defer t h
 
   places_same : (t : Tree N) → map place_of (pieces_of (rename_tree new t)) ≡ map place_of (pieces_of t)
   places_same t = ap (map place_of) (pieces_same t) ∙ map-map place_of (rename_piece new) (pieces_of t)
@@ -76,6 +97,9 @@ module _ {N M : Type 0} (new : NewNames N M) where
     action_uses at (actions.Transform function) = refl
     action_uses at (actions.Open operator) = refl
     action_uses at actions.Close = refl
+    action_uses at (actions.Hand f) = let e = h f in rw e refl
+    action_uses at (actions.Give f number o) = refl
+    action_uses at (actions.Invoke f) = refl
 
     tree_uses : (t : Tree N)
         → flat_map uses_of_piece (pieces_of (rename_tree new t))
@@ -92,6 +116,11 @@ module _ {N M : Type 0} (new : NewNames N M) where
         flat_same (uses_of_argument at) (uses_of_argument at) (rename_argument new) (rename_use new)
         (λ x. let e = h x.port in rw e refl) xs
 
+  reads_same : (at : ℕ) (os : List (Operand N))
+      → map (read_at at) (map new.operand os) ≡ map (rename_use new) (map (read_at at) os)
+  reads_same at [] = refl
+  reads_same at (o ∷ os) = ap (λ us. read_at at (new.operand o) ∷ us) (reads_same at os)
+
 module _ {N M L K : Type 0} (new : NewNames N M) (label : L → K) where
   pub places_kept : (at : ℕ) (i : Option (Instruction N L))
       → option_map_or (places_of at) (option_map (rename new label) i) [] ≡ option_map_or (places_of at) i []
@@ -103,6 +132,7 @@ module _ {N M L K : Type 0} (new : NewNames N M) (label : L → K) where
       ap (λ k. replicate (k + 2) at) (length-map xs (rename_argument new))
   places_kept at (Some (instructions.Call IfFalse n xs)) =
       ap (λ k. replicate (k + 2) at) (length-map xs (rename_argument new))
+  places_kept at (Some (instructions.Invoke f os)) = ap (λ k. replicate (k + 2) at) (length-map os new.operand)
   places_kept at _ = refl
 
   pub still_shallow : (i : Option (Instruction N L)) → IsShallow i → IsShallow (option_map (rename new label) i)
@@ -126,3 +156,4 @@ module _ {N M L K : Type 0} (new : NewNames N M) (label : L → K) where
   uses_kept h at (Some (instructions.Return condition)) = refl
   uses_kept h at (Some (instructions.Call condition n xs)) =
       let e = h n in let g = argument_uses new h at xs in rw (e, g) refl
+  uses_kept h at (Some (instructions.Invoke f os)) = let e = h f in let g = reads_same new at os in rw (e, g) refl

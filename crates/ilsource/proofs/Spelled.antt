@@ -14,9 +14,15 @@ spelled_tree ps t h = ap (λ (x : List _). tree_of x) h.is ∙ tree_again t
 pub spelled_back : {N : Type 0} (ps : List (Piece N)) (t : Tree N) → Spells ps t → pieces_of (tree_of ps) ≡ ps
 spelled_back ps t h = ap (λ (x : Tree _). pieces_of x) (spelled_tree ps t h) ∙ sym h.is
 
+-- some pieces more
+pub some_more : {N : Type 0} (ps qs more : List (Piece N)) (t u : Tree N)
+    → qs ≡ ps ++ more → pieces_of (tree_of ps) ≡ ps → tree_of ps ≡ t
+    → pieces_of u ≡ pieces_of t ++ more → Spells qs u
+some_more ps qs more t u e inv v f =
+    record { is = e ∙ (ap (λ (x : List _). x ++ more) (sym inv ∙ ap (λ (x : Tree _). pieces_of x) v) ∙ sym f) }
+
 -- one piece more
 pub one_more : {N : Type 0} (ps qs : List (Piece N)) (p : Piece N) (t u : Tree N)
     → qs ≡ ps ++ p ∷ [] → pieces_of (tree_of ps) ≡ ps → tree_of ps ≡ t
     → pieces_of u ≡ pieces_of t ++ p ∷ [] → Spells qs u
-one_more ps qs p t u e inv v f =
-    record { is = e ∙ (ap (λ (x : List _). x ++ p ∷ []) (sym inv ∙ ap (λ (x : Tree _). pieces_of x) v) ∙ sym f) }
+one_more ps qs p t u e inv v f = some_more ps qs (p ∷ []) t u e inv v f

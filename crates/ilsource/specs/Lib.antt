@@ -1,4 +1,6 @@
 pub mod Configurations
+pub mod FunctionRows
+pub mod Functions
 pub mod Meaning
 pub mod Names
 pub mod Passes

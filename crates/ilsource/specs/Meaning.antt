@@ -1,6 +1,6 @@
 -- What a tree is worth and what an instruction does (IEC 61131-3, 3.2), over any kind of name N, label L and store S.
--- There is no value, and nothing is done, at a use of no result, at a store outside a variable's type, and at an
--- operator that has no value.
+-- There is no value, and nothing is done, at a use of no result, at a store outside a variable's type, at an operator
+-- that has no value, and at a function that gives none.
 use Rattle.std.specs.Prelude.{Bool, true, false, Option, Some, None, List, [], ◌∷◌}
 use Rattle.std.specs.Option.{option_and_then}
 use Rattle.iltypes.specs.declared.value.Value.{Value}
@@ -15,16 +15,17 @@ use Rattle.ilsource.specs.declared.operand.Operand.{Operand}
 use Rattle.ilsource.specs.declared.operand.Operand.TheVariants.{Name, Constant}
 use Rattle.ilsource.specs.declared.instruction.Instruction.{Instruction}
 use Rattle.ilsource.specs.declared.instruction.Instruction.TheVariants as instructions
-use Rattle.ilsource.specs.Trees.{Tree, Load, Reload, Apply, Transform, Deferred}
+use Rattle.ilsource.specs.Trees.{Tree, Load, Reload, Apply, Transform, Deferred, Call}
 
 -- all that is known of names and stores: how a name is read and written, how an argument is stored at a port of the
--- block that is called, and what the call leaves; each where that is defined, so that a write is of a value in the
--- variable's type
+-- block that is called, what the call leaves, and what a function gives on arguments; each where that is defined, so
+-- that a write is of a value in the variable's type
 pub record Access (N S : Type 0) : Type 0 where
   pub read : S → N → Option Value
   pub write : S → N → Value → Option S
   pub pass : S → N → Value → Option S
   pub call : S → N → Option S
+  pub give : N → List Value → Option Value
 
 abbrev pub operand_value : {N S : Type 0} → Access N S → S → Operand N → Option Value
 operand_value a s (Name n) = a.read s n
@@ -39,6 +40,21 @@ abbrev pub second : Option Value → Option Value → Option Value
 second None o = None
 second (Some v) o = o
 
+-- a value before others, where there are all
+abbrev pub joined : Option Value → Option (List Value) → Option (List Value)
+joined None o = None
+joined (Some v) None = None
+joined (Some v) (Some vs) = Some (v ∷ vs)
+
+-- the values of operands, where each has one
+abbrev pub operand_values : {N S : Type 0} → Access N S → S → List (Operand N) → Option (List Value)
+operand_values a s [] = Some []
+operand_values a s (o ∷ os) = joined (operand_value a s o) (operand_values a s os)
+
+-- what a function gives: the current result is its first argument, and the operands are the others
+abbrev pub given : {N S : Type 0} → Access N S → N → Option Value → Option (List Value) → Option Value
+given a f r o = option_and_then (a.give f) (joined r o)
+
 -- the value of a tree, wherever it stands in the text
 abbrev pub value : {N S : Type 0} → Access N S → S → Tree N → Option Value
 value a s (Load at negated o) = loaded a s negated o
@@ -46,6 +62,7 @@ value a s (Reload t at negated o) = second (value a s t) (loaded a s negated o)
 value a s (Apply t at operator o) = both operator (value a s t) (operand_value a s o)
 value a s (Transform t at function) = option_and_then (value_of_function function) (value a s t)
 value a s (Deferred t at operator u close) = both operator (value a s t) (value a s u)
+value a s (Call t at f os) = given a f (value a s t) (operand_values a s os)
 
 -- where the run goes on after an instruction: on the next line, on the next line with a label, or nowhere
 pub data Way (L : Type 0) : Type 0 where
@@ -96,6 +113,7 @@ does a (instructions.Jump condition l) r s = chosen (holds condition r) (after (
 does a (instructions.Return condition) r s = chosen (holds condition r) (after Out r s) (after On r s)
 does a (instructions.Call condition n xs) r s =
     chosen (holds condition r) (leaves None (called a n xs s)) (after On r s)
+does a (instructions.Invoke f os) r s = gives (given a f r (operand_values a s os)) s
 
 -- a line without an instruction does nothing
 abbrev pub line_does : {N L S : Type 0} → Access N S → Option (Instruction N L) → Option Value → S → Option (After L S)

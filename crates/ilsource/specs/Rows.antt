@@ -31,6 +31,7 @@ variables =
       write = λ s n v. if allowed v then Some (slice_set s n v) else None;
       pass = λ s n v. if allowed v then Some (slice_set s n v) else None;
       call = λ s n. Some (slice_set s n (truth true));
+      give = λ n vs. None;
     }
 
 abbrev pub same : ℕ → ℕ → Bool

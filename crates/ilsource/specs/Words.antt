@@ -1,6 +1,7 @@
 -- The words of code that lines become, each with its place in the text (profile): one word each, but two of LIMIT (MAX
 -- and MIN); one for each piece between the two of `OP(` and `)`; one for each argument before that of CAL, and of CALC
--- and CALCN a jump before all.
+-- and CALCN a jump before all; one for each operand of a function's call, with one that hands the result over before
+-- them and that of the call after them.
 use Rattle.std.specs.Prelude.{ℕ, ◌+◌, ◌≤◌, List, [], ◌∷◌, ◌++◌, map, length, replicate, sum_by}
 use Rattle.std.specs.Prelude.{Option, Some, IsTrue, ⊤}
 use Rattle.std.specs.Option.{option_map_or}
@@ -11,7 +12,7 @@ use Rattle.ilsource.specs.declared.instruction.Instruction.{Instruction}
 use Rattle.ilsource.specs.declared.instruction.Instruction.TheVariants as instructions
 use Rattle.ilsource.specs.declared.instruction.Line.{Line}
 use Rattle.ilsource.specs.declared.nested.Piece.{Piece}
-use Rattle.ilsource.specs.Trees.{Tree, Load, Reload, Apply, Transform, Deferred, depth, pieces_of}
+use Rattle.ilsource.specs.Trees.{Tree, Load, Reload, Apply, Transform, Deferred, Call, depth, pieces_of}
 
 abbrev pub place_of : {N : Type 0} → Piece N → ℕ
 place_of p = p.at
@@ -23,6 +24,7 @@ places_of at (instructions.Limit low high) = at ∷ at ∷ []
 places_of at (instructions.Call Always n xs) = replicate (length xs + 1) at
 places_of at (instructions.Call IfTrue n xs) = replicate (length xs + 2) at
 places_of at (instructions.Call IfFalse n xs) = replicate (length xs + 2) at
+places_of at (instructions.Invoke f os) = replicate (length os + 2) at
 places_of at _ = at ∷ []
 
 -- a label alone is no word
@@ -46,6 +48,7 @@ MayDefer (Reload t at negated o) = MayDefer t
 MayDefer (Apply t at operator o) = MayDefer t
 MayDefer (Transform t at function) = MayDefer t
 MayDefer (Deferred t at operator u close) = MayDefer t × IsTrue (may_defer operator) × MayDefer u
+MayDefer (Call t at f os) = MayDefer t
 
 -- parentheses stand after operators that may be deferred, and no more are open at once than the limit
 abbrev pub IsShallow : {N L : Type 0} → Option (Instruction N L) → Type 0

@@ -13,6 +13,10 @@ ghost use Rattle.ilsource.specs.Uses.{read_at, use_at};
 ghost use Rattle.ilsource.specs.declared.uses.Purpose.TheVariants as purposes;
 ghost use Rattle.ilsource.specs.Rows.{backward, nested, limited, sets, returning};
 ghost use Rattle.ilsource.specs.Rows.{call, call_and_store, ld, st};
+ghost use Rattle.ilsource.specs.FunctionRows.{Gives, GivesNothing};
+ghost use Rattle.ilsource.specs.FunctionRows.{half, quarter, counted, twice, clipped, resultless};
+ghost use Rattle.ilsource.specs.FunctionRows.{difference as minus, nested as in_parentheses};
+ghost use Rattle.ilsource.specs.declared.instruction.Instruction.TheVariants.{Invoke};
 
 /// Results, stores outside a type and uses of no result.
 fn sums()
@@ -48,16 +52,43 @@ fn stores()
     ensures always { IsStuck (call_and_store Always) (before_call false) }
 {}
 
+/// What functions give: nothing on arguments outside their inputs' types, on too few or too many,
+/// and without a current result; a function sees those above it alone.
+fn functions()
+    ensures gives { Gives (half ∷ []) 0 (whole 201 ∷ []) (whole 100) }
+    ensures outside { GivesNothing (half ∷ []) 0 (whole 255 ∷ []) }
+    ensures of_another_type { GivesNothing (half ∷ []) 0 (truth true ∷ []) }
+    ensures too_many { GivesNothing (half ∷ []) 0 (whole 2 ∷ whole 3 ∷ []) }
+    ensures too_few { GivesNothing (half ∷ []) 0 [] }
+    ensures no_such { GivesNothing (half ∷ []) 1 (whole 2 ∷ []) }
+    ensures above { Gives (half ∷ quarter 0 ∷ []) 1 (whole 201 ∷ []) (whole 50) }
+    ensures itself { GivesNothing (quarter 0 ∷ half ∷ []) 0 (whole 201 ∷ []) }
+    ensures below { GivesNothing (quarter 1 ∷ half ∷ []) 0 (whole 201 ∷ []) }
+    ensures in_order { Gives (minus ∷ []) 0 (whole 9 ∷ whole 5 ∷ []) (whole 4) }
+    ensures in_parentheses { Gives (minus ∷ in_parentheses ∷ []) 1 (whole 9 ∷ []) (whole 3) }
+    ensures no_result { GivesNothing (half ∷ resultless ∷ []) 1 (whole 9 ∷ []) }
+{}
+
+/// Results and VAR begin anew at each call, and RET ends it.
+fn calls()
+    ensures anew { Gives (counted ∷ twice ∷ []) 1 (whole 3 ∷ []) (whole 8) }
+    ensures returned { Gives (clipped ∷ []) 0 (whole 101 ∷ []) (whole 7) }
+    ensures not_returned { Gives (clipped ∷ []) 0 (whole 100 ∷ []) (whole 100) }
+{}
+
 /// The places of words, and what is used, of instructions at 20.
 fn places_and_uses()
     ensures nested { Places difference (20 ∷ 20 ∷ 28 ∷ 34 ∷ []) }
     ensures limit { Places limit (20 ∷ 20 ∷ []) }
     ensures call { Places (five_to_block Always) (20 ∷ 20 ∷ []) }
     ensures conditional_call { Places (five_to_block IfFalse) (20 ∷ 20 ∷ 20 ∷ []) }
+    ensures function { Places (Invoke 1 (number 5 ∷ [])) (20 ∷ 20 ∷ 20 ∷ []) }
     ensures uses_in_parentheses { Uses difference (read_at 20 (Name 1) ∷ read_at 28 (Name 2) ∷ []) }
     ensures uses_of_limit { Uses limit (read_at 20 (number 3) ∷ read_at 20 (Name 1) ∷ []) }
     ensures uses_of_call { Uses (five_to_block IfTrue)
         (use_at 20 purposes.Call (Name 1) ∷ use_at 20 purposes.Pass (Name 2)
         ∷ read_at 20 (number 5) ∷ []) }
+    ensures uses_of_function { Uses (Invoke 1 (number 5 ∷ []))
+        (use_at 20 purposes.Invoke (Name 1) ∷ read_at 20 (number 5) ∷ []) }
     ensures label { LabelIsEmpty }
 {}

@@ -7,7 +7,8 @@ ghost use Rattle.ilsource.specs.Uses.{write_at};
 use crate::arguments::Arguments;
 use crate::nested::Nested;
 use crate::operand::Operand;
-use crate::uses::{Purpose, Use, push_use};
+use crate::operands::Operands;
+use crate::uses::{Purpose, Use, push_invoked, push_use};
 use iltypes::{Condition, Function, Operator};
 use std::alloc::AllocError;
 
@@ -53,6 +54,12 @@ pub enum Instruction<N: Drop, L: Drop> {
         instance: N,
         arguments: Arguments<N>,
     },
+    /// A call of a function: the current result and the operands are its arguments, and what it
+    /// gives is the new result.
+    Invoke {
+        function: N,
+        operands: Operands<N>,
+    },
 }
 
 /// Written out, so that it is proved here alone.
@@ -83,6 +90,10 @@ impl<N: Drop, L: Drop> Drop for Instruction<N, L> {
                 condition: _,
                 instance: _,
                 arguments: _,
+            } => {}
+            Instruction::Invoke {
+                function: _,
+                operands: _,
             } => {}
         }
     }
@@ -125,6 +136,7 @@ impl<N: Drop, L: Drop> Instruction<N, L> {
                 ..
             } => arguments.as_slice().len().saturating_add(1),
             Instruction::Call { arguments, .. } => arguments.as_slice().len().saturating_add(2),
+            Instruction::Invoke { operands, .. } => operands.as_slice().len().saturating_add(2),
             _ => 1,
         }
     }
@@ -154,6 +166,10 @@ impl<N: Drop, L: Drop> Instruction<N, L> {
                     Condition::Always => push_same(places, at, 1),
                     Condition::IfTrue | Condition::IfFalse => push_same(places, at, 2),
                 }
+            }
+            Instruction::Invoke { operands, .. } => {
+                push_same(places, at, operands.as_slice().len())?;
+                push_same(places, at, 2)
             }
             _ => push_same(places, at, 1),
         }
@@ -206,6 +222,10 @@ impl<N: Copy, L: Drop> Instruction<N, L> {
             } => {
                 push_use(uses, at, Purpose::Call, Operand::Name(*instance))?;
                 arguments.push_uses(at, uses)
+            }
+            Instruction::Invoke { function, operands } => {
+                push_invoked(uses, at, *function)?;
+                operands.push_uses(at, uses)
             }
             Instruction::Transform(_) | Instruction::Jump(..) | Instruction::Return(_) => Ok(()),
         }

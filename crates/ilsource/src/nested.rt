@@ -1,7 +1,10 @@
 //! What stands in parentheses, as one tree.
 
+ghost use Rattle.std.specs.Prelude.{◌≡◌, ◌++◌, OnOk};
+ghost use Rattle.ilsource.specs.Trees.{give_pieces, call_pieces};
+
 use crate::operand::Operand;
-use crate::uses::{Purpose, Use, push_use};
+use crate::uses::{Purpose, Use, push_invoked, push_use};
 use iltypes::{Function, Operator};
 use std::alloc::{AllocError, Global};
 use std::marker::Model;
@@ -10,7 +13,10 @@ use std::marker::Model;
 #[derive(Clone, Copy)]
 pub enum Action<N> {
     /// LD, LDN.
-    Load { negated: bool, operand: Operand<N> },
+    Load {
+        negated: bool,
+        operand: Operand<N>,
+    },
     /// An operator and its operand.
     Apply(Operator, Operand<N>),
     /// NOT, ABS, a conversion.
@@ -19,13 +25,24 @@ pub enum Action<N> {
     Open(Operator),
     /// `)`.
     Close,
+    /// The first of a call of a function: what stands before is handed to the first input.
+    Hand(N),
+    /// An operand of the call is given to the input of this number.
+    Give {
+        function: N,
+        /// The operands' are 1, 2 and so on, since the first input, 0, has what stands before.
+        number: usize,
+        operand: Operand<N>,
+    },
+    /// The last of a call: the function is invoked.
+    Invoke(N),
 }
 
 /// A piece of what stands in parentheses. Each is one word of code.
 #[derive(Clone, Copy)]
 pub struct Piece<N> {
     /// The place in the text of the first byte of the piece's instruction, or of `)`. The operator
-    /// of `OP( x` and the LD that `x` is have the same.
+    /// of `OP( x` and the LD that `x` is have the same, and so have all pieces of a call.
     pub at: usize,
     pub action: Action<N>,
 }
@@ -135,15 +152,74 @@ impl<N: Copy> Piece<N> {
         match self.action {
             Action::Load { operand, .. } => push_use(uses, self.at, Purpose::Read, operand),
             Action::Apply(_, operand) => push_use(uses, self.at, Purpose::Read, operand),
-            Action::Transform(_) | Action::Open(_) | Action::Close => Ok(()),
+            Action::Hand(function) => push_invoked(uses, self.at, function),
+            Action::Give { operand, .. } => push_use(uses, self.at, Purpose::Read, operand),
+            Action::Transform(_) | Action::Open(_) | Action::Close | Action::Invoke(_) => Ok(()),
         }
     }
 }
 
+/// Adds the pieces of a call at this place. Out of memory, some of them may have been added.
+pub fn push_call<N: Copy>(
+    pieces: &mut Vec<Piece<N>>,
+    at: usize,
+    function: N,
+    operands: &[Operand<N>],
+) -> Result<(), AllocError>
+    ensures { OnOk result
+        (pieces.new.items ≡ pieces.old.items ++ call_pieces at function operands.now) }
+{
+    let action = Action::Hand(function);
+    pieces.push(Piece { at, action })?;
+    push_gives(pieces, at, function, operands)?;
+    let action = Action::Invoke(function);
+    pieces.push(Piece { at, action })?;
+    Ok(())
+}
+
+/// Adds the pieces of the operands of a call at this place. Out of memory, some of them may have
+/// been added.
+fn push_gives<N: Copy>(
+    pieces: &mut Vec<Piece<N>>,
+    at: usize,
+    function: N,
+    operands: &[Operand<N>],
+) -> Result<(), AllocError>
+    ensures { OnOk result
+        (pieces.new.items ≡ pieces.old.items ++ give_pieces at function 1 operands.now) }
+{
+    for index in 0..operands.len() {
+        let number = index + 1;
+        let operand = operands[index];
+        let action = Action::Give {
+            function,
+            number,
+            operand,
+        };
+        pieces.push(Piece { at, action })?;
+    }
+    Ok(())
+}
+
 impl<N: Copy> Nested<N> {
-    ghost use Rattle.std.specs.Prelude.{◌≡◌, ◌++◌, flat_map, take, vec_len, OnErr, OnOk};
-    ghost use Rattle.ilsource.specs.Trees.{pieces_of};
+    ghost use Rattle.std.specs.Prelude.{◌≡◌, ◌++◌, flat_map, take, vec_len, IfOk, OnErr, OnOk};
+    ghost use Rattle.ilsource.specs.Trees.{Call, pieces_of};
     ghost use Rattle.ilsource.specs.Uses.{uses_of_piece};
+
+    /// With a call of a function on these operands, which has its first argument from what stands
+    /// before it.
+    pub fn call(
+        self,
+        at: usize,
+        function: N,
+        operands: &[Operand<N>],
+    ) -> Result<Nested<N>, AllocError>
+        ensures { IfOk result (λ tree. tree ≡ Call self at function operands.now) }
+    {
+        let Self { mut pieces } = self;
+        push_call(&mut pieces, at, function, operands)?;
+        Ok(Nested { pieces })
+    }
 
     /// Adds what the pieces use. Out of memory, some of it may have been added.
     pub(crate) fn push_uses(&self, uses: &mut Vec<Use<N>>) -> Result<(), AllocError>

@@ -2,18 +2,20 @@
 
 use crate::configuration::Configuration;
 use crate::declaration::TypeDeclaration;
+use crate::function::Function;
 use crate::program::Program;
 use std::marker::Model;
 
-/// What stands one after another in a text: the declaration of a type, or a program.
+/// What stands one after another in a text: the declaration of a type, a function, or a program.
 #[derive(Drop)]
 pub enum Element {
     DerivedType(TypeDeclaration),
+    Function(Function),
     Program(Program),
 }
 
-/// What a text spells: its types and programs in order, its configuration, and the bytes that its
-/// names stand in, which are no more than [`limits::MOST_BYTES`].
+/// What a text spells: its types, functions and programs in order, its configuration, and the bytes
+/// that its names stand in, which are no more than [`limits::MOST_BYTES`].
 #[derive(Drop)]
 pub struct Source {
     text: Vec<u8>,
@@ -46,8 +48,8 @@ impl Source {
     ghost use Rattle.limits.specs.Limits.{most_bytes};
     ghost use Rattle.ilsource.specs.SourceTrees.{Tree};
 
-    /// The source program of these types and programs and this configuration, whose names stand in
-    /// `text`.
+    /// The source program of these types, functions and programs and this configuration, whose
+    /// names stand in `text`.
     pub fn new(
         text: Vec<u8>,
         elements: Vec<Element>,
@@ -73,7 +75,7 @@ impl Source {
         &self.text
     }
 
-    /// The types and programs, in the order in which they are written.
+    /// The types, functions and programs, in the order in which they are written.
     pub fn elements(&self) -> &[Element]
         ensures { result.now ≡ self.now.elements }
     {

@@ -12,4 +12,6 @@ pub enum Symbol {
     Port { block: Name, port: Name },
     /// The block instance of a call.
     Block(Name),
+    /// The function that is invoked.
+    Function(Name),
 }

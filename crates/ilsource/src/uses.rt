@@ -1,7 +1,7 @@
 //! What lines use.
 
 ghost use Rattle.std.specs.Prelude.{◌≡◌, [], ◌∷◌, ◌++◌, OnErr, OnOk};
-ghost use Rattle.ilsource.specs.Uses.{use_at};
+ghost use Rattle.ilsource.specs.Uses.{invoke_at, use_at};
 
 use crate::operand::Operand;
 use std::alloc::AllocError;
@@ -17,9 +17,12 @@ pub enum Purpose {
     Call,
     /// It is the port of an argument.
     Pass,
+    /// It is a function that is invoked.
+    Invoke,
 }
 
-/// An operand with the place of its instruction. What is stored to, set, reset or called is a name.
+/// An operand with the place of its instruction. What is stored to, set, reset, called or invoked
+/// is a name.
 #[derive(Clone, Copy)]
 pub struct Use<N> {
     /// The place in the text of the first byte of the instruction that uses it, in or out of
@@ -27,6 +30,18 @@ pub struct Use<N> {
     pub at: usize,
     pub purpose: Purpose,
     pub operand: Operand<N>,
+}
+
+/// Adds that a function is invoked, by the call at this place.
+pub(crate) fn push_invoked<N: Drop>(
+    uses: &mut Vec<Use<N>>,
+    at: usize,
+    function: N,
+) -> Result<(), AllocError>
+    ensures ok { OnOk result (uses.new.items ≡ uses.old.items ++ invoke_at at function ∷ []) }
+    ensures err { OnErr result (uses.new.items ≡ uses.old.items) }
+{
+    push_use(uses, at, Purpose::Invoke, Operand::Name(function))
 }
 
 /// Adds a use of an operand, by the instruction at this place.

@@ -5,7 +5,8 @@ use Rattle.iltypes.specs.declared.condition.Condition.{Condition}
 use Rattle.iltypes.specs.declared.condition.Condition.TheVariants.{Always, IfTrue, IfFalse}
 use Rattle.ilsource.specs.declared.arguments.Argument.{Argument}
 use Rattle.ilsource.specs.declared.instruction.Instruction.{Instruction}
-use Rattle.ilsource.specs.declared.instruction.Instruction.TheVariants.{Call}
+use Rattle.ilsource.specs.declared.operand.Operand.{Operand}
+use Rattle.ilsource.specs.declared.instruction.Instruction.TheVariants.{Call, Invoke}
 use Rattle.ilsource.specs.Words.{places_of}
 use Rattle.ilsource.proofs.Grown.{first_kept, first_of_first, further, on_err}
 use Rattle.ilsource.proofs.instruction.Instruction.push_places.Goals as goal
@@ -28,6 +29,29 @@ two_more : {N L : Type 0} (i : Instruction N L) (condition : Condition) (n : N) 
     → mid ≡ old ++ replicate (length xs) at → new ≡ mid ++ replicate 2 at → new ≡ old ++ places_of at i
 two_more i condition n xs at old mid new e (inl f) p q = rw (e, f) (all_places old mid new (length xs) 2 at p q)
 two_more i condition n xs at old mid new e (inr f) p q = rw (e, f) (all_places old mid new (length xs) 2 at p q)
+
+-- the places of a function's operands and two more are the places of its call
+invoke_places : {N L : Type 0} (i : Instruction N L) (f : N) (os : List (Operand N)) (at : ℕ) (old mid new : List ℕ)
+    → i ≡ Invoke f os → mid ≡ old ++ replicate (length os) at → new ≡ mid ++ replicate 2 at
+    → new ≡ old ++ places_of at i
+invoke_places i f os at old mid new e p q = rw e (all_places old mid new (length os) 2 at p q)
+
+pub returns-in_ok-push_same-in-Invoke-clause-ok : goal.returns-in_ok-push_same-in-Invoke-clause-ok
+returns-in_ok-push_same-in-Invoke-clause-ok g c =
+    let operands : c.as_slice-in-Invoke.result.now ≡ c.in-Invoke.operands = c.as_slice-in-Invoke.ensures in
+    on_ok_weaker c.push_same-in-Invoke-2.result
+    (invoke_places c.args.self.now c.in-Invoke.function c.in-Invoke.operands c.args.at c.args.places.now.items
+    c.push_same-in-Invoke.new.places.items c.push_same-in-Invoke-2.new.places.items c.in-Invoke.is
+    (rw (← operands) c.in_ok-push_same-in-Invoke.ensures.ok))
+    c.push_same-in-Invoke-2.ensures.ok
+
+pub returns-in_ok-push_same-in-Invoke-clause-first : goal.returns-in_ok-push_same-in-Invoke-clause-first
+returns-in_ok-push_same-in-Invoke-clause-first g c =
+    on_err_weaker c.push_same-in-Invoke-2.result
+    (first_of_first _ _ c.args.places.now.items _ c.push_same-in-Invoke.new.places.items
+    c.push_same-in-Invoke-2.new.places.items c.args.places.now.ok.0 c.push_same-in-Invoke.new.places.ok.0
+    c.in_ok-push_same-in-Invoke.ensures.ok)
+    c.push_same-in-Invoke-2.ensures.first
 
 pub returns-in-IfTrue-clause-ok : goal.returns-in-IfTrue-clause-ok
 returns-in-IfTrue-clause-ok g c =

@@ -1,13 +1,14 @@
-use Rattle.std.proofs.Common.{◌≡◌, ◌∙◌, ◌∷◌, ◌++◌, [], ℕ, List, ap, flat_map, sym}
+use Rattle.std.proofs.Common.{◌≡◌, ◌∙◌, ◌∷◌, ◌++◌, [], ℕ, List, ap, flat_map, map, sym}
 use Rattle.std.proofs.lemmas.Result.{on_err_weaker, on_ok_weaker}
 use Rattle.iltypes.specs.declared.condition.Condition.{Condition}
 use Rattle.ilsource.specs.declared.arguments.Argument.{Argument}
 use Rattle.ilsource.specs.declared.instruction.Instruction.{Instruction}
-use Rattle.ilsource.specs.declared.instruction.Instruction.TheVariants.{Call}
+use Rattle.ilsource.specs.declared.instruction.Instruction.TheVariants.{Call, Invoke}
+use Rattle.ilsource.specs.declared.operand.Operand.{Operand}
 use Rattle.ilsource.specs.declared.operand.Operand.TheVariants.{Name}
 use Rattle.ilsource.specs.declared.uses.Purpose.TheVariants as purposes
 use Rattle.ilsource.specs.declared.uses.Use.{Use}
-use Rattle.ilsource.specs.Uses.{use_at, uses_of, uses_of_argument}
+use Rattle.ilsource.specs.Uses.{use_at, read_at, invoke_at, uses_of, uses_of_argument}
 use Rattle.ilsource.proofs.Grown.{all_kept, first_kept, first_of_first, further, on_err}
 use Rattle.ilsource.proofs.instruction.Instruction.push_uses.Goals as goal
 
@@ -18,6 +19,27 @@ call_uses : {N L : Type 0} (i : Instruction N L) (condition : Condition) (n : N)
 call_uses i condition n xs at old mid new e p q =
     further old mid new (use_at at purposes.Call (Name n) ∷ []) (flat_map (uses_of_argument at) xs) p q
     ∙ ap (λ j. old ++ uses_of at j) (sym e)
+
+-- the use of the function and those of the operands are the uses of its call
+invoke_uses : {N L : Type 0} (i : Instruction N L) (f : N) (os : List (Operand N)) (at : ℕ) (old mid new : List (Use N))
+    → i ≡ Invoke f os → mid ≡ old ++ invoke_at at f ∷ [] → new ≡ mid ++ map (read_at at) os → new ≡ old ++ uses_of at i
+invoke_uses i f os at old mid new e p q =
+    further old mid new (invoke_at at f ∷ []) (map (read_at at) os) p q ∙ ap (λ j. old ++ uses_of at j) (sym e)
+
+pub returns-in_ok-push_invoked-in-Invoke-clause-ok : goal.returns-in_ok-push_invoked-in-Invoke-clause-ok
+returns-in_ok-push_invoked-in-Invoke-clause-ok g c =
+    on_ok_weaker c.push_uses-in-Invoke.result
+    (invoke_uses c.args.self.now c.in-Invoke.function c.in-Invoke.operands c.args.at c.args.uses.now.items
+    c.push_invoked.new.uses.items c.push_uses-in-Invoke.new.uses.items c.in-Invoke.is
+    c.in_ok-push_invoked-in-Invoke.ensures.ok)
+    c.push_uses-in-Invoke.ensures.ok
+
+pub returns-in_ok-push_invoked-in-Invoke-clause-first : goal.returns-in_ok-push_invoked-in-Invoke-clause-first
+returns-in_ok-push_invoked-in-Invoke-clause-first g c =
+    on_err_weaker c.push_uses-in-Invoke.result
+    (first_of_first _ _ c.args.uses.now.items _ c.push_invoked.new.uses.items c.push_uses-in-Invoke.new.uses.items
+    c.args.uses.now.ok.0 c.push_invoked.new.uses.ok.0 c.in_ok-push_invoked-in-Invoke.ensures.ok)
+    c.push_uses-in-Invoke.ensures.first
 
 pub returns-in_ok-push_use-in-Call-clause-ok : goal.returns-in_ok-push_use-in-Call-clause-ok
 returns-in_ok-push_use-in-Call-clause-ok g c =
@@ -108,3 +130,8 @@ pub returns-in_err-push_use-in-Call-clause-first : goal.returns-in_err-push_use-
 returns-in_err-push_use-in-Call-clause-first g c =
     on_err c.from_residual-in_err-push_use-in-Call.result
     (all_kept c.args.uses.now.items _ _ c.args.uses.now.ok.0 c.in_err-push_use-in-Call.ensures.err)
+
+pub returns-in_err-push_invoked-in-Invoke-clause-first : goal.returns-in_err-push_invoked-in-Invoke-clause-first
+returns-in_err-push_invoked-in-Invoke-clause-first g c =
+    on_err c.from_residual-in_err-push_invoked-in-Invoke.result
+    (all_kept c.args.uses.now.items _ _ c.args.uses.now.ok.0 c.in_err-push_invoked-in-Invoke.ensures.err)
