@@ -1,6 +1,6 @@
 -- What stands in parentheses, as its pieces are added one after another.
 use Rattle.std.proofs.Common.{◌≡◌, ℕ, zero, suc, ◌-◌, Bool, true, false, ◌&&◌, List, [], ◌∷◌, ◌++◌, flat_map}
-use Rattle.std.proofs.Common.{Option, Some, Result, Ok, Err, refl, sym, ap, ◌∙◌, append_assoc, arith}
+use Rattle.std.proofs.Common.{◌<◌, length, Option, Some, Result, Ok, Err, refl, sym, ap, ◌∙◌, append_assoc, arith}
 use Rattle.std.proofs.lemmas.List.{append-nil}
 use Rattle.iltypes.specs.declared.operator.Operator.{Operator}
 use Rattle.iltypes.specs.Operators.{may_defer}
@@ -16,11 +16,11 @@ use Rattle.iltokens.specs.Results.{Fails, extend}
 use Rattle.ilsource.specs.declared.symbol.Symbol.{Symbol}
 use Rattle.iltokens.specs.declared.lexed.Delimiter.TheVariants as delimiters
 use Rattle.illines.specs.declared.token.Token.{Token}
-use Rattle.illines.specs.Terminals.{delimiter, closing, ended}
+use Rattle.illines.specs.Terminals.{delimiter, name, closing, ended}
 use Rattle.illines.specs.Operands.{operand}
 use Rattle.illines.specs.Instructions.{TextInstruction, TextLine, line_of, grown, grows, grows_by}
-use Rattle.illines.specs.Instructions.{on_operand, on_content, on_either, beginning, applied, inner, content_of}
-use Rattle.illines.specs.Instructions.{content}
+use Rattle.illines.specs.Instructions.{on_operand, on_content, on_either, beginning, applied, invocation}
+use Rattle.illines.specs.Instructions.{inner_operation, inner_of, inner, content_of, content}
 use Rattle.illines.specs.InstructionSteps.{pieces_at, pieces_in, may_open}
 use Rattle.illines.proofs.Extends.{extend_ok}
 
@@ -36,6 +36,7 @@ grown_pieces t at (Some (instructions.Apply operator o)) = refl
 grown_pieces t at (Some (instructions.Deferred operator u close)) = refl
 grown_pieces t at (Some (instructions.Transform function)) = refl
 grown_pieces t at (Some (instructions.Limit low high)) = simp append_assoc
+grown_pieces t at (Some (instructions.Invoke function os)) = refl
 grown_pieces t at _ = sym (append-nil (pieces_of t))
 
 grows_pieces : (t : Tree Symbol) (lines : List TextLine)
@@ -87,6 +88,13 @@ pub not_begun : (e : ReadError Token) (more at : ℕ) (front : Pieces) (ts : Lis
 unfolding content_of
 not_begun errors.Memory more at front ts h = tt
 not_begun (errors.Fault d) more at front ts h = rw h refl
+
+-- where nothing is left, no instruction begins
+pub none_inner : (more : ℕ) (front : Pieces) (ts : List Token) → length ts < 1
+    → extend pieces_in front ((inner more).read ts) ≡ Err ts
+unfolding inner_of inner_operation invocation name
+none_inner more front [] few = refl
+none_inner more front (t ∷ ts) few = absurd (omega arith)
 
 -- ---- what an operator is applied to
 

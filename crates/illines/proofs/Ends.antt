@@ -16,6 +16,7 @@ use Rattle.illines.specs.declared.token.TokenKind.TheVariants as kinds
 use Rattle.illines.specs.declared.token.Token.{Token}
 use Rattle.illines.specs.Terminals.{Seen, word, same_delimiter, delimiter, name, number, constant, closing}
 use Rattle.illines.specs.Terminals.{line_ends, spaced, line_break, ended}
+use Rattle.illines.specs.Operands.{symbol, literal, operand}
 use Rattle.illines.proofs.Delimiters.{Anything, token_of, Firm-delimiter, apart_word, apart_delimiter}
 
 -- ---- single tokens
@@ -66,15 +67,25 @@ NoComma t = (delimiter delimiters.Comma).starts t ≡ false
 abbrev pub NoOpen : Token → Type 0
 NoOpen t = (delimiter delimiters.Open).starts t ≡ false
 
+-- no operand begins here
+abbrev pub NoOperand : Token → Type 0
+NoOperand t = operand.starts t ≡ false
+
 -- what may not follow an instruction
 abbrev pub NoMore : Token → Type 0
-NoMore t = NoDot t × NoOpen t
+NoMore t = (NoDot t × NoOpen t) × (NoComma t × NoOperand t)
 
-end_apart : (t : Token) → (delimiter delimiters.LineEnd).starts t ≡ true → NoMore t
-unfolding delimiter
+pub end_apart : (t : Token) → (delimiter delimiters.LineEnd).starts t ≡ true → NoMore t
+unfolding delimiter operand symbol literal name
 end_apart t e = (
-  apart_delimiter delimiters.LineEnd (delimiter delimiters.Dot).starts (λ f g. refl) t.kind t.from t.to e,
-  apart_delimiter delimiters.LineEnd (delimiter delimiters.Open).starts (λ f g. refl) t.kind t.from t.to e,
+  (
+    apart_delimiter delimiters.LineEnd (delimiter delimiters.Dot).starts (λ f g. refl) t.kind t.from t.to e,
+    apart_delimiter delimiters.LineEnd (delimiter delimiters.Open).starts (λ f g. refl) t.kind t.from t.to e,
+  ),
+  (
+    apart_delimiter delimiters.LineEnd (delimiter delimiters.Comma).starts (λ f g. refl) t.kind t.from t.to e,
+    apart_delimiter delimiters.LineEnd operand.starts (λ f g. refl) t.kind t.from t.to e,
+  ),
 )
 
 pub Firm-ended : {A : Type 0} {a : Item Token A} → Firm Token A a NoMore → Firm Token A (ended a) NoEnd

@@ -1,13 +1,14 @@
 -- The items of instructions are lawful, in parentheses to any depth and outside them.
-use Rattle.std.proofs.Common.{◌≡◌, ℕ, zero, suc, Bool, true, false, List, refl}
+use Rattle.std.proofs.Common.{◌≡◌, ◌||◌, ℕ, zero, suc, Bool, true, false, List, refl}
 use Rattle.limits.specs.Limits.{most_nesting}
 use Rattle.iltypes.specs.declared.operator.Operator.{Operator}
 use Rattle.iltypes.specs.Operators.{may_defer}
 use Rattle.ilsource.specs.declared.operand.Operand.{Operand}
 use Rattle.ilsource.specs.Trees.{Tree}
 use Rattle.iltokens.specs.Items.{Item, is_in}
-use Rattle.iltokens.proofs.Laws.{Lawful, Lawful-fewer}
+use Rattle.iltokens.proofs.Laws.{Lawful, Lawful-fewer, Lawful-map}
 use Rattle.iltokens.proofs.Selects.{Lawful-empty}
+use Rattle.iltokens.proofs.Choices.{Lawful-alt_open}
 use Rattle.iltokens.proofs.Firm.{Firm, Firm-one, Firm-map, Firm-seq, Firm-seq_open, Firm-alt, Firm-fewer, Firm-select}
 use Rattle.iltokens.proofs.Firm.{from_opt, from_many}
 use Rattle.ilsource.specs.declared.name.Name.{Name}
@@ -23,11 +24,14 @@ use Rattle.illines.specs.declared.token.Token.{Token}
 use Rattle.illines.specs.Roles.{role_of_word, inner_role_at}
 use Rattle.illines.specs.Terminals.{delimiter, name, closing, line_break, ended}
 use Rattle.illines.specs.Operands.{symbol, literal, operand}
+use Rattle.illines.specs.Invocations.{some_operands, handed}
 use Rattle.illines.specs.Instructions.{TextLine, on_operand, on_content, on_either, bounds, operands, load, beginning}
-use Rattle.illines.specs.Instructions.{inner_of, content_of, applied, inner, instruction, label, with_label}
-use Rattle.illines.specs.Instructions.{line, lines}
+use Rattle.illines.specs.Instructions.{invoked, invocation, inner_operation, inner_of, content_of, applied, inner}
+use Rattle.illines.specs.Instructions.{operation, instruction, after_label, after_name, named_line, line, lines}
 use Rattle.illines.proofs.Delimiters.{Anything, token_of, Firm-delimiter, apart_delimiter}
 use Rattle.illines.proofs.Ends.{NoEnd, NoDot, NoMore, Firm-name, Firm-closing, Firm-line_break, Firm-ended}
+use Rattle.illines.proofs.Ends.{end_apart as end_no_more}
+use Rattle.illines.proofs.InvocationLaws.{Lawful-handed}
 use Rattle.illines.proofs.OperandLaws.{Firm-symbol, Firm-operand, operand_no_end}
 use Rattle.illines.proofs.CallLaws.{Firm-call}
 
@@ -37,12 +41,16 @@ Firm-on_operand : (operator : Operator) (at : ℕ) → Firm Token TextLine (on_o
 unfolding on_operand
 Firm-on_operand operator at = Firm-map _ Firm-operand
 
+-- whether an instruction in parentheses begins with the token: an operator, or the name of a function
+abbrev begins_as_inner : Token → Bool
+begins_as_inner t = is_in (inner_role_at t) || name.starts t
+
 -- what may not follow an instruction in parentheses
 abbrev NoInner : Token → Type 0
-NoInner t = NoEnd t × (is_in (inner_role_at t) ≡ false)
+NoInner t = NoEnd t × (begins_as_inner t ≡ false)
 
 closing_apart : (k : TokenKind) (f g : ℕ) → closing.starts (token_of k f g) ≡ true → NoInner (token_of k f g)
-unfolding closing delimiter
+unfolding closing delimiter name
 closing_apart (kinds.Good (whats.Delimiter delimiters.Close)) f g e = (refl, refl)
 closing_apart _ f g e = absurd cc
 
@@ -75,7 +83,7 @@ AreFirm applied = (operator : Operator) (at : ℕ) → Firm Token TextLine (appl
 
 -- with more that may not follow
 fewer : {A : Type 0} {a : Item Token A} → Firm Token A a NoDot → Firm Token A a NoMore
-fewer x = Firm-fewer NoMore (λ t e. e.0) x
+fewer x = Firm-fewer NoMore (λ t e. e.0.0) x
 
 Lawful-operands : (applied : Operator → ℕ → Item Token TextLine) → AreFirm applied → (role : OperatorRole) (at : ℕ)
     → Lawful Token TextLine (operands applied role at) NoMore
@@ -88,7 +96,17 @@ Lawful-operands applied law roles.Set at = (fewer (Firm-map _ Firm-symbol)).lawf
 Lawful-operands applied law roles.Reset at = (fewer (Firm-map _ Firm-symbol)).lawful
 Lawful-operands applied law (roles.Jump condition) at = (Firm-fewer NoMore (λ t e. tt) (Firm-map _ Firm-name)).lawful
 Lawful-operands applied law (roles.Return condition) at = Lawful-fewer _ _ _ _ NoMore (λ t e. tt) (Lawful-empty _ _ _)
-Lawful-operands applied law (roles.Call condition) at = (Firm-fewer NoMore (λ t e. e.1) (Firm-map _ Firm-call)).lawful
+Lawful-operands applied law (roles.Call condition) at = (Firm-fewer NoMore (λ t e. e.0.1) (Firm-map _ Firm-call)).lawful
+
+-- ---- calls of functions
+
+Lawful-invoked : (n : Name) → Lawful Token TextLine (invoked n) NoMore
+unfolding invoked
+Lawful-invoked n = Lawful-fewer _ _ _ _ NoMore (λ t e. ((e.0.0, e.1.0), e.1.1)) (Lawful-map _ _ _ _ _ _ Lawful-handed)
+
+Firm-invocation : Firm Token TextLine invocation NoMore
+unfolding invocation
+Firm-invocation = Firm-fewer NoMore (λ t e. (tt, e)) (Firm-select Firm-name (λ n t e. tt) Lawful-invoked)
 
 -- ---- what stands in parentheses
 
@@ -115,21 +133,34 @@ Firm-beginning at = Firm-fewer NoEnd (λ t e. (e, e))
     (Firm-ended (fewer Firm-load))))
     (λ t e. break_apart t e) (Firm-ended (fewer (Firm-map _ Firm-operand))))
 
-Firm-inner_of : (applied : Operator → ℕ → Item Token TextLine) → AreFirm applied
-    → Firm Token TextLine (inner_of applied) NoMore
-unfolding inner_of role_of_word
-Firm-inner_of applied law = Firm-fewer NoMore (λ t e. (tt, e))
+Firm-inner_operation : (applied : Operator → ℕ → Item Token TextLine) → AreFirm applied
+    → Firm Token TextLine (inner_operation applied) NoMore
+unfolding inner_operation role_of_word
+Firm-inner_operation applied law = Firm-fewer NoMore (λ t e. (tt, e))
     (Firm-select (Firm-one _ load_word (roles.Load false, 0) refl) (λ x t e. tt)
     (λ x. Lawful-operands applied law x.0 x.1))
 
-inner_no_end : (k : TokenKind) (f g : ℕ) → is_in (inner_role_at (token_of k f g)) ≡ true → NoEnd (token_of k f g)
-unfolding delimiter
+-- a name is no operator
+name_apart : (applied : Operator → ℕ → Item Token TextLine) (k : TokenKind) (f g : ℕ)
+    → invocation.starts (token_of k f g) ≡ true → (inner_operation applied).starts (token_of k f g) ≡ false
+unfolding invocation inner_operation name
+name_apart applied (kinds.Good whats.Name) f g e = refl
+name_apart applied _ f g e = absurd cc
+
+Firm-inner_of : (applied : Operator → ℕ → Item Token TextLine) → AreFirm applied
+    → Firm Token TextLine (inner_of applied) NoMore
+unfolding inner_of
+Firm-inner_of applied law = Firm-fewer NoMore (λ t e. (e, e))
+    (Firm-alt (Firm-inner_operation applied law) (λ t e. name_apart applied t.kind t.from t.to e) Firm-invocation)
+
+inner_no_end : (k : TokenKind) (f g : ℕ) → begins_as_inner (token_of k f g) ≡ true → NoEnd (token_of k f g)
+unfolding delimiter name
 inner_no_end (kinds.Good (whats.Delimiter delimiters.LineEnd)) f g e = absurd cc
 inner_no_end _ f g e = refl
 
 begins_inner : (applied : Operator → ℕ → Item Token TextLine) (t : Token)
-    → (ended (inner_of applied)).starts t ≡ is_in (inner_role_at t)
-unfolding inner_of
+    → (ended (inner_of applied)).starts t ≡ begins_as_inner t
+unfolding inner_of inner_operation invocation
 begins_inner applied t = refl
 
 Firm-content_of : (applied : Operator → ℕ → Item Token TextLine) → AreFirm applied
@@ -152,52 +183,81 @@ Firm-inner_line more = Firm-ended (Firm-inner_of (applied more) (Firm-applied mo
 
 -- ---- lines
 
-Firm-instruction : Firm Token TextLine instruction NoMore
-unfolding instruction role_of_word
-Firm-instruction = Firm-fewer NoMore (λ t e. (tt, e))
+Firm-operation : Firm Token TextLine operation NoMore
+unfolding operation role_of_word
+Firm-operation = Firm-fewer NoMore (λ t e. (tt, e))
     (Firm-select (Firm-one _ load_word (roles.Load false, 0) refl) (λ x t e. tt)
     (λ x. Lawful-operands (applied most_nesting) (Firm-applied most_nesting) x.0 x.1))
 
-Firm-label : Firm Token Name label Anything
-unfolding label
-Firm-label = Firm-map _ (Firm-seq Firm-name (λ t e. tt) (Firm-delimiter delimiters.Colon))
+-- a name is no operator, and an operator no name
+invocation_apart : (k : TokenKind) (f g : ℕ) → invocation.starts (token_of k f g) ≡ true
+    → operation.starts (token_of k f g) ≡ false
+unfolding invocation operation name
+invocation_apart (kinds.Good whats.Name) f g e = refl
+invocation_apart _ f g e = absurd cc
+
+operation_apart : (k : TokenKind) (f g : ℕ) → operation.starts (token_of k f g) ≡ true
+    → named_line.starts (token_of k f g) ≡ false
+unfolding operation named_line name
+operation_apart (kinds.Good whats.Name) f g e = absurd cc
+operation_apart _ f g e = refl
+
+Firm-instruction : Firm Token TextLine instruction NoMore
+unfolding instruction
+Firm-instruction = Firm-fewer NoMore (λ t e. (e, e))
+    (Firm-alt Firm-operation (λ t e. invocation_apart t.kind t.from t.to e) Firm-invocation)
 
 -- what may not follow a label alone
 abbrev NoInstruction : Token → Type 0
 NoInstruction t = NoMore t × (instruction.starts t ≡ false)
 
-Firm-with_label : Firm Token TextLine with_label NoInstruction
-unfolding with_label
-Firm-with_label = Firm-map _ (Firm-fewer NoInstruction (λ t e. (tt, e))
-    (Firm-seq_open Firm-label (λ t e. tt) (from_opt Firm-instruction)))
+Firm-after_label : (n : Name) → Firm Token TextLine (after_label n) NoInstruction
+unfolding after_label
+Firm-after_label n = Firm-map _ (Firm-fewer NoInstruction (λ t e. (tt, e))
+    (Firm-seq_open (Firm-delimiter delimiters.Colon) (λ t e. tt) (from_opt Firm-instruction)))
 
-instruction_apart : (k : TokenKind) (f g : ℕ) → instruction.starts (token_of k f g) ≡ true
-    → with_label.starts (token_of k f g) ≡ false
-unfolding instruction with_label label name
-instruction_apart (kinds.Good whats.Name) f g e = absurd cc
-instruction_apart _ f g e = refl
+-- no operand begins with a colon
+colon_apart : (n : Name) (k : TokenKind) (f g : ℕ) → (invoked n).starts (token_of k f g) ≡ true
+    → (after_label n).starts (token_of k f g) ≡ false
+unfolding invoked handed some_operands operand symbol literal name after_label delimiter
+colon_apart n (kinds.Good (whats.Delimiter m)) f g e = absurd cc
+colon_apart n _ f g e = refl
 
-end_apart : (t : Token) → line_break.starts t ≡ true → NoInstruction t
-unfolding line_break instruction delimiter
+-- what may not follow a name with which a line begins
+abbrev NoNamed : Token → Type 0
+NoNamed t = NoInstruction t × ((delimiter delimiters.Colon).starts t ≡ false)
+
+Lawful-after_name : (n : Name) → Lawful Token TextLine (after_name n) NoNamed
+unfolding after_name after_label
+Lawful-after_name n = Lawful-fewer _ _ _ _ NoNamed (λ t e. ((e.0, e.0.0), e.1))
+    (Lawful-alt_open _ _ _ _ _ _ (Firm-after_label n).lawful (Lawful-invoked n) (Firm-after_label n).solid
+    (λ t e. colon_apart n t.kind t.from t.to e))
+
+Firm-named_line : Firm Token TextLine named_line NoNamed
+unfolding named_line
+Firm-named_line = Firm-fewer NoNamed (λ t e. (tt, e)) (Firm-select Firm-name (λ n t e. tt) Lawful-after_name)
+
+end_apart : (t : Token) → line_break.starts t ≡ true → NoNamed t
+unfolding line_break instruction operation invocation name delimiter
 end_apart t e = (
   (
-    apart_delimiter delimiters.LineEnd (delimiter delimiters.Dot).starts (λ f g. refl) t.kind t.from t.to e,
-    apart_delimiter delimiters.LineEnd (delimiter delimiters.Open).starts (λ f g. refl) t.kind t.from t.to e,
+    end_no_more t e,
+    apart_delimiter delimiters.LineEnd instruction.starts (λ f g. refl) t.kind t.from t.to e,
   ),
-  apart_delimiter delimiters.LineEnd instruction.starts (λ f g. refl) t.kind t.from t.to e,
+  apart_delimiter delimiters.LineEnd (delimiter delimiters.Colon).starts (λ f g. refl) t.kind t.from t.to e,
 )
 
 pub Firm-line : Firm Token TextLine line NoEnd
 unfolding line
 Firm-line = Firm-map _ (Firm-seq
-    (Firm-alt Firm-with_label (λ t e. instruction_apart t.kind t.from t.to e) Firm-instruction)
-    (λ t e. (end_apart t e, (end_apart t e).0)) Firm-line_break)
+    (Firm-alt Firm-named_line (λ t e. operation_apart t.kind t.from t.to e) Firm-operation)
+    (λ t e. (end_apart t e, (end_apart t e).0.0)) Firm-line_break)
 
 abbrev pub NoLine : Token → Type 0
 NoLine t = line.starts t ≡ false
 
 pub line_no_end : (k : TokenKind) (f g : ℕ) → line.starts (token_of k f g) ≡ true → NoEnd (token_of k f g)
-unfolding line with_label label name instruction delimiter
+unfolding line named_line name operation delimiter
 line_no_end (kinds.Good (whats.Delimiter delimiters.LineEnd)) f g e = absurd cc
 line_no_end _ f g e = refl
 

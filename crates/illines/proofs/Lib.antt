@@ -4,6 +4,7 @@ pub mod Delimiters
 pub mod Ends
 pub mod Extends
 pub mod InstructionLaws
+pub mod InvocationLaws
 pub mod LineEnds
 pub mod OperandLaws
 pub mod Shallow

@@ -17,9 +17,9 @@ use Rattle.illines.specs.declared.token.Token.{Token}
 use Rattle.illines.specs.Terminals.{ended}
 use Rattle.illines.specs.Instructions.{TextInstruction, TextLine, grown, grows, grows_by, on_operand, on_content}
 use Rattle.illines.specs.Instructions.{on_either}
-use Rattle.illines.specs.Instructions.{operands, load, beginning, inner_of, content_of, applied, instruction, labelled}
-use Rattle.illines.specs.Instructions.{with_label}
-use Rattle.illines.specs.Instructions.{line, lines}
+use Rattle.illines.specs.Instructions.{operands, invoked, invocation, load, beginning, inner_operation, inner_of}
+use Rattle.illines.specs.Instructions.{content_of, applied, operation, instruction, labelled, after_label, after_name}
+use Rattle.illines.specs.Instructions.{named_line, line, lines}
 use Rattle.illines.proofs.InstructionLaws.{Lawful-lines}
 
 -- parentheses of the instruction have room, where so many may be open at once
@@ -61,6 +61,16 @@ module _ (more : ℕ) where
   operands_fit of fit (roles.Return condition) at ts l w = subst (Fits more) (sym w.1) tt
   operands_fit of fit (roles.Call condition) at ts l w = subst (Fits more) (sym w.2) tt
 
+  -- ---- calls of functions
+
+  invoked_fits : (n : Name) → AllFit more (invoked n)
+  unfolding invoked
+  invoked_fits n ts l w = subst (Fits more) (sym w.2) tt
+
+  invocation_fits : AllFit more invocation
+  unfolding invocation
+  invocation_fits ts l w = invoked_fits w.2 w.1 l w.5
+
   -- ---- what stands in parentheses
 
   grown_within : (t : Tree Symbol) (at : ℕ) (i : Option TextInstruction)
@@ -95,8 +105,9 @@ module _ (more : ℕ) where
   module _ (of : Operator → ℕ → Item Token TextLine)
       (fit : (operator : Operator) (at : ℕ) → AllFit more (of operator at)) where
     inner_fits : AllFit more (inner_of of)
-    unfolding inner_of
-    inner_fits ts l w = operands_fit of fit w.2.0 w.2.1 w.1 l w.5
+    unfolding inner_of inner_operation
+    inner_fits ts l (inl w) = operands_fit of fit w.2.0 w.2.1 w.1 l w.5
+    inner_fits ts l (inr w) = invocation_fits ts l w
 
     content_within : (at : ℕ) → AllWithin more (content_of of at)
     unfolding content_of
@@ -127,24 +138,34 @@ applied_fits (suc more) operator at ts l w =
 
 -- ---- lines
 
+operation_fits : AllFit most_nesting operation
+unfolding operation
+operation_fits ts l w =
+    operands_fit most_nesting (applied most_nesting) (applied_fits most_nesting) w.2.0 w.2.1 w.1 l w.5
+
 instruction_fits : AllFit most_nesting instruction
 unfolding instruction
-instruction_fits ts l w =
-    operands_fit most_nesting (applied most_nesting) (applied_fits most_nesting) w.2.0 w.2.1 w.1 l w.5
+instruction_fits ts l (inl w) = operation_fits ts l w
+instruction_fits ts l (inr w) = invocation_fits most_nesting ts l w
 
 labelled_fits : (n : Name) (ts : List Token) (o : Option TextLine)
     → opt_whole instruction ts o → Fits most_nesting (labelled n o)
 labelled_fits n ts None w = tt
 labelled_fits n ts (Some l) w = instruction_fits ts l w
 
-content_fits : AllFit most_nesting (alt with_label instruction)
-unfolding with_label
-content_fits ts l (inl w) = subst (Fits most_nesting) (sym w.2) (labelled_fits w.0.0 w.1.1 w.0.1 w.1.4)
-content_fits ts l (inr w) = instruction_fits ts l w
+after_name_fits : (n : Name) → AllFit most_nesting (after_name n)
+unfolding after_name after_label
+after_name_fits n ts l (inl w) = subst (Fits most_nesting) (sym w.2) (labelled_fits n w.1.1 w.0.1 w.1.4)
+after_name_fits n ts l (inr w) = invoked_fits most_nesting n ts l w
+
+content_fits : AllFit most_nesting (alt named_line operation)
+unfolding named_line
+content_fits ts l (inl w) = after_name_fits w.2 w.1 l w.5
+content_fits ts l (inr w) = operation_fits ts l w
 
 line_fits : AllFit most_nesting line
 unfolding line
-line_fits ts l w = ended_fits most_nesting (alt with_label instruction) content_fits ts l w
+line_fits ts l w = ended_fits most_nesting (alt named_line operation) content_fits ts l w
 
 shallow_one : (i : Option TextInstruction) → HasRoom most_nesting i → IsShallow i
 shallow_one (Some (instructions.Deferred operator u close)) room = room

@@ -5,7 +5,7 @@ use Rattle.iltypes.specs.declared.operator.Operator.TheVariants.{Min, Max}
 use Rattle.ilsource.specs.declared.instruction.Instruction.TheVariants as instructions
 use Rattle.ilsource.specs.declared.nested.Action.TheVariants as actions
 use Rattle.ilsource.specs.declared.nested.Piece.{Piece}
-use Rattle.ilsource.specs.Trees.{piece, pieces_of}
+use Rattle.ilsource.specs.Trees.{piece, pieces_of, call_pieces}
 use Rattle.iltypes.specs.Operators.{may_defer}
 use Rattle.iltokens.specs.Items.{begins}
 use Rattle.ilsource.specs.declared.symbol.Symbol.{Symbol}
@@ -22,6 +22,7 @@ pieces_at at (Some (instructions.Deferred operator u close)) =
 pieces_at at (Some (instructions.Transform function)) = piece at (actions.Transform function) ∷ []
 pieces_at at (Some (instructions.Limit low high)) =
     piece at (actions.Apply Max low) ∷ piece at (actions.Apply Min high) ∷ []
+pieces_at at (Some (instructions.Invoke function os)) = call_pieces at function os
 pieces_at at _ = []
 
 abbrev pub pieces_in : TextLine → List (Piece Symbol)

@@ -11,7 +11,7 @@ use Rattle.ilsource.specs.declared.instruction.Instruction.{Instruction}
 use Rattle.ilsource.specs.declared.instruction.Instruction.TheVariants as instructions
 use Rattle.ilsource.specs.declared.instruction.Line.{Line}
 use Rattle.ilsource.specs.declared.operand.Operand.{Operand}
-use Rattle.ilsource.specs.Trees.{Tree, Load, Reload, Apply, Transform, Deferred}
+use Rattle.ilsource.specs.Trees.{Tree, Load, Reload, Apply, Transform, Deferred, Call}
 use Rattle.iltokens.specs.Items.{Item, one, empty, map, seq, select, opt, alt, many}
 use Rattle.ilsource.specs.declared.name.Name.{Name}
 use Rattle.ilsource.specs.declared.symbol.Symbol.{Symbol}
@@ -24,6 +24,7 @@ use Rattle.illines.specs.Roles.{role_of, role_at, inner_role_at}
 use Rattle.illines.specs.Terminals.{delimiter, name, closing, line_break, ended}
 use Rattle.illines.specs.Operands.{symbol, operand}
 use Rattle.illines.specs.Calls.{call}
+use Rattle.illines.specs.Invocations.{handed}
 
 abbrev pub TextInstruction : Type 0
 TextInstruction = Instruction Symbol Name
@@ -44,6 +45,7 @@ grown t at (Some (instructions.Apply operator o)) = Apply t at operator o
 grown t at (Some (instructions.Deferred operator u close)) = Deferred t at operator u close
 grown t at (Some (instructions.Transform function)) = Transform t at function
 grown t at (Some (instructions.Limit low high)) = Apply (Apply t at Max low) at Min high
+grown t at (Some (instructions.Invoke function os)) = Call t at function os
 grown t at _ = t
 
 abbrev pub grows : Tree Symbol → TextLine → Tree Symbol
@@ -90,6 +92,16 @@ operands applied (roles.Jump condition) at = map (λ n. line_of at (instructions
 operands applied (roles.Return condition) at = empty (line_of at (instructions.Return condition))
 operands applied (roles.Call condition) at = map (λ x. line_of at (call_of condition x)) call
 
+-- ---- calls of functions
+
+-- [operand {"," operand}], after the function's name, at which the call has its place
+unfoldable pub invoked : Name → Item Token TextLine
+invoked n = map (λ os. line_of n.from (instructions.Invoke (symbols.Function n) os)) handed
+
+-- name [operand {"," operand}]
+unfoldable pub invocation : Item Token TextLine
+invocation = select name invoked
+
 -- ---- what stands in parentheses
 
 abbrev pub load_of : Option OperatorRole → ℕ → Option (Bool × ℕ)
@@ -105,8 +117,12 @@ unfoldable pub beginning : ℕ → Item Token (Tree Symbol)
 beginning at = alt (map (λ x. x.1) (seq line_break (ended load))) (ended (map (λ o. Load at false o) operand))
 
 -- an operator that may stand in parentheses, and what follows it
+unfoldable pub inner_operation : (Operator → ℕ → Item Token TextLine) → Item Token TextLine
+inner_operation applied = select (one inner_role_at) (λ x. operands applied x.0 x.1)
+
+-- such an operator, or a call of a function
 unfoldable pub inner_of : (Operator → ℕ → Item Token TextLine) → Item Token TextLine
-inner_of applied = select (one inner_role_at) (λ x. operands applied x.0 x.1)
+inner_of applied = alt (inner_operation applied) invocation
 
 -- beginning {inner end-of-line}
 unfoldable pub content_of : (Operator → ℕ → Item Token TextLine) → ℕ → Item Token (Tree Symbol)
@@ -126,25 +142,33 @@ content more at = content_of (applied more) at
 -- ---- lines
 
 -- an operator, and what follows it
-unfoldable pub instruction : Item Token TextLine
-instruction = select (one role_at) (λ x. operands (applied most_nesting) x.0 x.1)
+unfoldable pub operation : Item Token TextLine
+operation = select (one role_at) (λ x. operands (applied most_nesting) x.0 x.1)
 
--- name ":"
-unfoldable pub label : Item Token Name
-label = map (λ x. x.0) (seq name (delimiter delimiters.Colon))
+-- an operator and what follows it, or a call of a function
+unfoldable pub instruction : Item Token TextLine
+instruction = alt operation invocation
 
 -- the line of an instruction, with a label before it; the place of a label alone is the label's
 abbrev pub labelled : Name → Option TextLine → TextLine
 labelled n None = record { at = n.from; label = Some n; instruction = None }
 labelled n (Some line) = record { at = line.at; label = Some n; instruction = line.instruction }
 
--- name ":" [instruction]
-unfoldable pub with_label : Item Token TextLine
-with_label = map (λ x. labelled x.0 x.1) (seq label (opt instruction))
+-- ":" [instruction], after a label
+unfoldable pub after_label : Name → Item Token TextLine
+after_label n = map (λ x. labelled n x.1) (seq (delimiter delimiters.Colon) (opt instruction))
+
+-- what follows a name with which a line begins: it is a label where a colon follows, and else a function that is called
+unfoldable pub after_name : Name → Item Token TextLine
+after_name n = alt (after_label n) (invoked n)
+
+-- name ":" [instruction], or name [operand {"," operand}]
+unfoldable pub named_line : Item Token TextLine
+named_line = select name after_name
 
 -- [name ":"] [instruction] end-of-line, where a label, an instruction or both are written
 unfoldable pub line : Item Token TextLine
-line = ended (alt with_label instruction)
+line = ended (alt named_line operation)
 
 unfoldable pub lines : Item Token (List TextLine)
 lines = many line

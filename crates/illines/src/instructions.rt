@@ -4,16 +4,18 @@ ghost use Rattle.std.specs.Prelude.{◌≡◌, List, length};
 ghost use Rattle.iltokens.specs.Items.{begins};
 ghost use Rattle.iltokens.specs.Results.{Gives};
 ghost use Rattle.illines.specs.Instructions.{line_of, applied, on_content, content, operands};
-ghost use Rattle.illines.specs.Instructions.{instruction, label, with_label, line, lines};
+ghost use Rattle.illines.specs.Instructions.{invoked, invocation, operation, instruction};
+ghost use Rattle.illines.specs.Instructions.{after_label, named_line, line, lines};
 
 use crate::calls::call;
+use crate::invocations::handed;
 use crate::operands::{operand, symbol};
 use crate::parentheses::{bounds, content, may_open};
 use crate::reading::{begins_name, closing, delimiter, line_break, name};
 use crate::roles::{OperatorRole, role_of};
-use crate::token::Token;
-use ilsource::{Instruction, Line, Name, Nested, Symbol};
-use iltokens::{Delimiter, ReadError};
+use crate::token::{Token, TokenKind};
+use ilsource::{Instruction, Line, Name, Nested, Operands, Symbol};
+use iltokens::{Delimiter, ReadError, What};
 use iltypes::Operator;
 use limits::MOST_NESTING;
 use std::alloc::Global;
@@ -120,13 +122,42 @@ fn operands<'a>(
     Ok((line_of(at, instruction), rest))
 }
 
-/// An operator and what follows it.
-#[tactic(auto, unfolding(crate::specs::Instructions::instruction))]
-fn instruction<'a>(
+/// What follows the name of a function that is called.
+#[tactic(auto, unfolding(crate::specs::Instructions::invoked))]
+fn invoked<'a>(
+    alloc: Global,
+    name: Name,
+    ts: &'a [Token],
+) -> Result<(Line<Symbol, Name>, &'a [Token]), ReadError<'a, Token>>
+    ensures { Gives (λ x. (x.0, x.1.now)) result ((invoked name).read ts.now) }
+{
+    let (operands, rest) = handed(alloc, ts)?;
+    let instruction = Instruction::Invoke {
+        function: Symbol::Function(name),
+        operands: Operands::new(operands),
+    };
+    Ok((line_of(name.from, instruction), rest))
+}
+
+/// `name [operand {"," operand}]`: a call of a function.
+#[tactic(auto, unfolding(crate::specs::Instructions::invocation))]
+fn invocation<'a>(
     alloc: Global,
     ts: &'a [Token],
 ) -> Result<(Line<Symbol, Name>, &'a [Token]), ReadError<'a, Token>>
-    ensures { Gives (λ x. (x.0, x.1.now)) result (instruction.read ts.now) }
+    ensures { Gives (λ x. (x.0, x.1.now)) result (invocation.read ts.now) }
+{
+    let (name, rest) = name(ts)?;
+    invoked(alloc, name, rest)
+}
+
+/// An operator and what follows it.
+#[tactic(auto, unfolding(crate::specs::Instructions::operation))]
+fn operation<'a>(
+    alloc: Global,
+    ts: &'a [Token],
+) -> Result<(Line<Symbol, Name>, &'a [Token]), ReadError<'a, Token>>
+    ensures { Gives (λ x. (x.0, x.1.now)) result (operation.read ts.now) }
 {
     match ts {
         [first, rest @ ..] => match role_of(first.kind) {
@@ -137,9 +168,10 @@ fn instruction<'a>(
     }
 }
 
-#[tactic(auto, unfolding(crate::specs::Instructions::instruction))]
-fn begins_instruction(ts: &[Token]) -> bool
-    ensures { result ≡ begins instruction ts.now }
+/// Whether an operator stands first.
+#[tactic(auto, unfolding(crate::specs::Instructions::operation))]
+fn begins_operation(ts: &[Token]) -> bool
+    ensures { result ≡ begins operation ts.now }
 {
     match ts {
         [] => false,
@@ -147,33 +179,65 @@ fn begins_instruction(ts: &[Token]) -> bool
     }
 }
 
-/// `name ":"`
-#[tactic(auto, unfolding(crate::specs::Instructions::label))]
-fn label<'a>(ts: &'a [Token]) -> Result<(Name, &'a [Token]), ReadError<'a, Token>>
-    ensures { Gives (λ x. (x.0, x.1.now)) result (label.read ts.now) }
+/// An operator and what follows it, or a call of a function.
+#[tactic(auto, unfolding(crate::specs::Instructions::instruction))]
+fn instruction<'a>(
+    alloc: Global,
+    ts: &'a [Token],
+) -> Result<(Line<Symbol, Name>, &'a [Token]), ReadError<'a, Token>>
+    ensures { Gives (λ x. (x.0, x.1.now)) result (instruction.read ts.now) }
 {
-    let (label, rest) = name(ts)?;
-    let rest = delimiter(rest, Delimiter::Colon)?;
-    Ok((label, rest))
+    if begins_operation(ts) {
+        operation(alloc, ts)
+    } else {
+        invocation(alloc, ts)
+    }
 }
 
-/// Whether a label stands first.
-#[tactic(auto, unfolding(crate::specs::Instructions::with_label, crate::specs::Instructions::label))]
-fn begins_label(ts: &[Token]) -> bool
-    ensures { result ≡ begins with_label ts.now }
+/// Whether a name stands first, with which a call of a function begins, and so may a line.
+#[tactic(auto, unfolding(crate::specs::Instructions::invocation, crate::specs::Instructions::named_line))]
+fn begins_named(ts: &[Token]) -> bool
+    ensures calls { result ≡ begins invocation ts.now }
+    ensures lines { result ≡ begins named_line ts.now }
 {
     begins_name(ts)
 }
 
-/// A label, and the instruction after it, if one is written.
-#[tactic(auto, unfolding(crate::specs::Instructions::with_label))]
-fn with_label<'a>(
+/// Whether an operator or a call of a function stands first.
+#[tactic(auto, unfolding(crate::specs::Instructions::instruction))]
+fn begins_instruction(ts: &[Token]) -> bool
+    ensures { result ≡ begins instruction ts.now }
+{
+    begins_operation(ts) || begins_named(ts)
+}
+
+/// Whether `:` stands first, which makes the name before it a label.
+#[tactic(auto, unfolding(crate::specs::Instructions::after_label, crate::specs::Terminals::delimiter))]
+fn begins_after_label(label: Name, ts: &[Token]) -> bool
+    ensures { result ≡ begins (after_label label) ts.now }
+{
+    matches!(
+        ts,
+        [
+            Token {
+                kind: TokenKind::Good(What::Delimiter(Delimiter::Colon)),
+                ..
+            },
+            ..
+        ]
+    )
+}
+
+/// What follows a label: `:`, and the instruction after it, if one is written.
+#[tactic(auto, unfolding(crate::specs::Instructions::after_label))]
+fn after_label<'a>(
     alloc: Global,
+    label: Name,
     ts: &'a [Token],
 ) -> Result<(Line<Symbol, Name>, &'a [Token]), ReadError<'a, Token>>
-    ensures { Gives (λ x. (x.0, x.1.now)) result (with_label.read ts.now) }
+    ensures { Gives (λ x. (x.0, x.1.now)) result ((after_label label).read ts.now) }
 {
-    let (label, rest) = label(ts)?;
+    let rest = delimiter(ts, Delimiter::Colon)?;
     if begins_instruction(rest) {
         let (line, rest) = instruction(alloc, rest)?;
         let mut line = line;
@@ -189,6 +253,22 @@ fn with_label<'a>(
     }
 }
 
+/// A label and the instruction after it, if one is written, or a call of a function.
+#[tactic(auto, unfolding(crate::specs::Instructions::named_line, crate::specs::Instructions::after_name))]
+fn named_line<'a>(
+    alloc: Global,
+    ts: &'a [Token],
+) -> Result<(Line<Symbol, Name>, &'a [Token]), ReadError<'a, Token>>
+    ensures { Gives (λ x. (x.0, x.1.now)) result (named_line.read ts.now) }
+{
+    let (name, rest) = name(ts)?;
+    if begins_after_label(name, rest) {
+        after_label(alloc, name, rest)
+    } else {
+        invoked(alloc, name, rest)
+    }
+}
+
 /// A label, an instruction or both, the line end, and the empty lines after it.
 #[tactic(auto, unfolding(crate::specs::Instructions::line))]
 fn line<'a>(
@@ -197,10 +277,10 @@ fn line<'a>(
 ) -> Result<(Line<Symbol, Name>, &'a [Token]), ReadError<'a, Token>>
     ensures { Gives (λ x. (x.0, x.1.now)) result (line.read ts.now) }
 {
-    let (line, rest) = if begins_label(ts) {
-        with_label(alloc, ts)?
+    let (line, rest) = if begins_named(ts) {
+        named_line(alloc, ts)?
     } else {
-        instruction(alloc, ts)?
+        operation(alloc, ts)?
     };
     let rest = line_break(rest)?;
     Ok((line, rest))
@@ -210,7 +290,7 @@ fn line<'a>(
 fn begins_line(ts: &[Token]) -> bool
     ensures { result ≡ begins line ts.now }
 {
-    begins_label(ts) || begins_instruction(ts)
+    begins_named(ts) || begins_operation(ts)
 }
 
 /// `{line}`

@@ -14,6 +14,7 @@
 
 mod calls;
 mod instructions;
+mod invocations;
 mod operands;
 mod parentheses;
 mod reading;

@@ -8,15 +8,16 @@ ghost use Rattle.iltokens.specs.declared.lexed.Delimiter.TheVariants as delimite
 ghost use Rattle.illines.specs.Terminals.{delimiter, ended};
 ghost use Rattle.illines.specs.Operands.{operand};
 ghost use Rattle.illines.specs.Instructions.{bounds, load, beginning, applied, on_content};
-ghost use Rattle.illines.specs.Instructions.{operands, inner, content};
+ghost use Rattle.illines.specs.Instructions.{operands, invocation, inner, content};
 ghost use Rattle.illines.specs.InstructionSteps.{pieces_in, may_open};
 ghost use Rattle.illines.specs.Roles.{may_nest};
 
+use crate::invocations::handed;
 use crate::operands::operand;
-use crate::reading::{begins_line_end, closing, delimiter, line_break};
+use crate::reading::{begins_line_end, begins_name, closing, delimiter, line_break, name};
 use crate::roles::{OperatorRole, inner_role_of, role_of};
 use crate::token::{Token, TokenKind};
-use ilsource::{Action, Operand, Piece, Symbol};
+use ilsource::{Action, Operand, Piece, Symbol, push_call};
 use iltokens::{Delimiter, ReadError, What};
 use iltypes::Operator;
 use std::alloc::AllocError;
@@ -192,9 +193,25 @@ fn operands<'a>(
     }
 }
 
-/// An operator in parentheses and what follows it.
+/// A call of a function in parentheses: its name, and the operands.
+#[tactic(auto, unfolding(crate::specs::Instructions::invocation, crate::specs::Instructions::invoked))]
+fn invocation<'a>(
+    pieces: &mut Vec<Piece<Symbol>>,
+    ts: &'a [Token],
+) -> Result<&'a [Token], ReadError<'a, Token>>
+    ensures { Gives (λ rest. (pieces.new.items, rest.now)) result
+        (extend pieces_in pieces.old.items (invocation.read ts.now)) }
+{
+    let alloc = *pieces.allocator();
+    let (function, rest) = name(ts)?;
+    let (operands, rest) = handed(alloc, rest)?;
+    push_call(pieces, function.from, Symbol::Function(function), &operands)?;
+    Ok(rest)
+}
+
+/// An operator in parentheses and what follows it, or a call of a function.
 #[cycle(nest)]
-#[tactic(auto, unfolding(crate::specs::Instructions::inner_of))]
+#[tactic(auto, unfolding(crate::specs::Instructions::inner_of, crate::specs::Instructions::inner_operation))]
 fn inner<'a>(
     more: usize,
     pieces: &mut Vec<Piece<Symbol>>,
@@ -206,7 +223,7 @@ fn inner<'a>(
     match ts {
         [first, rest @ ..] => match inner_role_of(first.kind) {
             Some(role) => operands(more, role, first.from, pieces, rest),
-            None => Err(ReadError::Fault(ts)),
+            None => invocation(pieces, ts),
         },
         [] => Err(ReadError::Fault(ts)),
     }
@@ -226,13 +243,13 @@ fn inner_line<'a>(
     line_break(rest)
 }
 
-#[tactic(auto, unfolding(crate::specs::Instructions::inner_of))]
+#[tactic(auto, unfolding(crate::specs::Instructions::inner_of, crate::specs::Instructions::inner_operation, crate::specs::Instructions::invocation))]
 fn begins_inner(more: usize, ts: &[Token]) -> bool
     ensures { result ≡ begins (ended (inner more)) ts.now }
 {
     match ts {
         [] => false,
-        [first, ..] => inner_role_of(first.kind).is_some(),
+        [first, ..] => inner_role_of(first.kind).is_some() || begins_name(ts),
     }
 }
 

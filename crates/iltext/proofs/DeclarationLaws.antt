@@ -76,7 +76,7 @@ unfolding range integer simple
 range_apart (kinds.Good (whats.Keyword w)) f g e = integer_apart w e
 range_apart _ f g e = absurd (false≢true e)
 
-Firm-specification : Firm Token Specification specification (λ t. NoEnd t × NoOpen t)
+pub Firm-specification : Firm Token Specification specification (λ t. NoEnd t × NoOpen t)
 unfolding specification
 Firm-specification = Firm-fewer (λ t. NoEnd t × NoOpen t) (λ t e. (e.0, e))
     (Firm-alt (Firm-spaced Firm-simple) (λ t e. range_apart t.kind t.from t.to e) Firm-range)
@@ -143,7 +143,7 @@ pub Lawful-names_after : (first : Name) → Lawful Token (List Name) (names_afte
 unfolding names_after more_names next_name
 Lawful-names_after first = Lawful-map _ _ _ _ _ _ Lawful-more_names
 
-Firm-names : Firm Token (List Name) names (λ t. NoEnd t × NoComma t)
+pub Firm-names : Firm Token (List Name) names (λ t. NoEnd t × NoComma t)
 unfolding names names_after more_names next_name
 Firm-names = Firm-fewer (λ t. NoEnd t × NoComma t) (λ t e. (e.0, e))
     (Firm-select (Firm-spaced Firm-name) (λ first t e. delimiter_no_end delimiters.Comma refl t e) Lawful-names_after)
@@ -206,14 +206,14 @@ unfolding declarations declaration names name word delimiter
 inside_no_end (kinds.Good (whats.Delimiter m)) f g e = absurd (false≢true e)
 inside_no_end _ f g e = refl
 
-Firm-vars : Firm Token (List DeclaredNames) vars NoEnd
+pub Firm-vars : Firm Token (List DeclaredNames) vars NoEnd
 unfolding vars
 Firm-vars = Firm-map _ (Firm-seq (Firm-spaced (Firm-word words.Var)) (λ t e. inside_no_end t.kind t.from t.to e)
     (Firm-lead Lawful-declarations (λ t e. last_apart words.EndVar t e) (Firm-spaced (Firm-word words.EndVar))))
 
 -- ---- externals
 
-close_apart : (t : Token) → (delimiter delimiters.Semicolon).starts t ≡ true → NoEnd t × NoOpen t
+pub close_apart : (t : Token) → (delimiter delimiters.Semicolon).starts t ≡ true → NoEnd t × NoOpen t
 unfolding delimiter
 close_apart t e = (
   delimiter_no_end delimiters.Semicolon refl t e,

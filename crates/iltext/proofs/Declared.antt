@@ -31,7 +31,7 @@ use Rattle.iltext.proofs.Free.{Free, Free-word, Free-delimiter, Free-name, Free-
 pub spaced_word : (w : Keyword) → defers (kinds.Good (whats.Keyword w)) ≡ false → Holds Free (spaced (word w))
 spaced_word w h = Free-spaced (Free-word w h)
 
-spaced_delimiter : (m : _) → defers (kinds.Good (whats.Delimiter m)) ≡ false → Holds Free (spaced (delimiter m))
+pub spaced_delimiter : (m : _) → defers (kinds.Good (whats.Delimiter m)) ≡ false → Holds Free (spaced (delimiter m))
 spaced_delimiter m h = Free-spaced (Free-delimiter m h)
 
 pub spaced_name : Holds Free (spaced name)
@@ -83,7 +83,7 @@ Free-range : Holds Free range
 unfolding range
 Free-range = Holds-map Free _ (Holds-seq Free (Free-spaced Free-integer) (Holds-opt Free Free-interval))
 
-Free-specification : Holds Free specification
+pub Free-specification : Holds Free specification
 unfolding specification
 Free-specification = Holds-alt Free (Free-spaced Free-simple) Free-range
 
@@ -114,7 +114,7 @@ Free-names_after : (first : _) → Holds Free (names_after first)
 unfolding names_after more_names
 Free-names_after first = Holds-map Free _ (Holds-many Free Free-next_name)
 
-Free-names : Holds Free names
+pub Free-names : Holds Free names
 unfolding names
 Free-names = Holds-select Free spaced_name Free-names_after
 
@@ -156,7 +156,7 @@ unfolding declaration
 Free-declaration =
     Holds-map Free _ (Holds-seq Free Free-names (Holds-seq Free (spaced_delimiter delimiters.Colon refl) Free-declared))
 
-Free-vars : Holds Free vars
+pub Free-vars : Holds Free vars
 unfolding vars declarations role_of_word
 Free-vars =
     Holds-map Free _ (Holds-seq Free (spaced_word words.Var refl)

@@ -17,10 +17,11 @@ use Rattle.illines.specs.Roles.{role_of, role_of_word, is_inner}
 use Rattle.illines.specs.Terminals.{Seen, same_word, word_at, same_delimiter, delimiter_at, delimiter, name_at, name}
 use Rattle.illines.specs.Terminals.{line_ends, line_break, ended, closing_at}
 use Rattle.illines.specs.Operands.{port_at, port, dot_port, symbol, literal_word, literal_at, literal, operand}
-use Rattle.illines.specs.Instructions.{bounds, load_of, load, beginning}
+use Rattle.illines.specs.Invocations.{next_operand, more_operands, some_operands, handed}
+use Rattle.illines.specs.Instructions.{bounds, invoked, invocation, load_of, load, beginning}
 use Rattle.iltext.specs.Faults.{defers, open_after}
 use Rattle.iltext.proofs.Counts.{MayNest}
-use Rattle.iltext.proofs.Tokens.{Holds, Holds-one, Holds-map, Holds-seq, Holds-alt, Holds-opt, Holds-many}
+use Rattle.iltext.proofs.Tokens.{Holds, Holds-one, Holds-map, Holds-seq, Holds-select, Holds-alt, Holds-opt, Holds-many}
 
 pub record Still (kind : TokenKind) : Type 0 where
   pub count : (before : Bool) (m : ℕ) → open_after before m kind ≡ m
@@ -172,6 +173,24 @@ unfolding bounds
 Quiet-bounds =
     Holds-map Quiet _ (Holds-seq Quiet Quiet-operand
     (Holds-seq Quiet (Quiet-delimiter delimiters.Comma quiet_comma) Quiet-operand))
+
+-- ---- calls of functions
+
+Quiet-next_operand : Holds Quiet next_operand
+unfolding next_operand
+Quiet-next_operand = Holds-map Quiet _ (Holds-seq Quiet (Quiet-delimiter delimiters.Comma quiet_comma) Quiet-operand)
+
+Quiet-some_operands : Holds Quiet some_operands
+unfolding some_operands more_operands
+Quiet-some_operands = Holds-map Quiet _ (Holds-seq Quiet Quiet-operand (Holds-many Quiet Quiet-next_operand))
+
+pub Quiet-invoked : (n : _) → Holds Quiet (invoked n)
+unfolding invoked handed
+Quiet-invoked n = Holds-map Quiet _ (Holds-map Quiet _ (Holds-opt Quiet Quiet-some_operands))
+
+pub Quiet-invocation : Holds Quiet invocation
+unfolding invocation
+Quiet-invocation = Holds-select Quiet Quiet-name Quiet-invoked
 
 -- ---- what stands first in parentheses
 

@@ -18,12 +18,13 @@ use Rattle.illines.specs.Roles.{role_of, role_of_word, may_nest, nesting, role_a
 use Rattle.illines.specs.Roles.{is_inner}
 use Rattle.illines.specs.Terminals.{ended}
 use Rattle.illines.specs.Calls.{call}
-use Rattle.illines.specs.Instructions.{TextLine, operands, inner_of, content_of, applied, content}
+use Rattle.illines.specs.Instructions.{TextLine, operands, inner_operation, inner_of, content_of, applied, content}
 use Rattle.iltext.specs.Faults.{is_deferrable, defers, open_after, open_after_all}
 use Rattle.iltext.proofs.Counts.{AreInner, ends, MayNest}
 use Rattle.iltext.proofs.Tame.{Any, Level, Level-nil, Below, Opened, Tame, Level-same, Tame-map, Tame-seq, Tame-many}
+use Rattle.iltext.proofs.Tame.{Tame-alt}
 use Rattle.iltext.proofs.Inner.{Quiet-operand, Quiet-symbol, Quiet-name, Quiet-bounds, Quiet-beginning}
-use Rattle.iltext.proofs.Inner.{Quiet-line_break}
+use Rattle.iltext.proofs.Inner.{Quiet-line_break, Quiet-invocation}
 use Rattle.iltext.proofs.Operators.{Enters, After, Tame-quiet, After-quiet, After-map, After-weaker, After-on_operand}
 use Rattle.iltext.proofs.Operators.{After-on_either}
 
@@ -207,11 +208,13 @@ Tame-ended M more x = Tame-map M more _ (Tame-seq M more x (Tame-quiet M more Qu
 
 module _ (more : ℕ) (applies : Applies more) where
   Tame-inner : Tame Any more (inner_of (applied more))
-  unfolding inner_of
+  unfolding inner_of inner_operation
   Tame-inner =
-      Tame-head Any more inner_role_at (λ x. operands (applied more) x.0 x.1) (λ t x e. (reads_inner t x e).reads)
+      Tame-alt Any more
+      (Tame-head Any more inner_role_at (λ x. operands (applied more) x.0 x.1) (λ t x e. (reads_inner t x e).reads)
       (λ t x e. After-operands Any more applies x.0 x.1 (inl (reads_inner t x e).nests))
-      (λ t x e one. kind_nests t.kind x.0 (read_at (inner_role_of t.kind) t.from x e).0)
+      (λ t x e one. kind_nests t.kind x.0 (read_at (inner_role_of t.kind) t.from x e).0))
+      (Tame-quiet Any more Quiet-invocation)
 
   Tame-inside : (at : ℕ) → Tame Any more (content more at)
   unfolding content_of

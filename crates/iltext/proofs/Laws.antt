@@ -1,7 +1,7 @@
 -- Programs, TYPE blocks and texts are lawful.
 use Rattle.std.proofs.Common.{◌≡◌, ℕ, Bool, true, false, List, Option, refl}
 use Rattle.std.proofs.lemmas.Bool.{false≢true}
-use Rattle.iltokens.specs.Items.{lead, opt}
+use Rattle.iltokens.specs.Items.{Item, lead, opt, alt}
 use Rattle.iltokens.proofs.Laws.{Lawful, Lawful-map, Lawful-lead_open}
 use Rattle.iltokens.proofs.Firm.{Firm, Firm-map, Firm-seq, Firm-lead, Firm-alt, Firm-fewer, from_opt, from_many}
 use Rattle.ilsource.specs.Configurations.{Configured}
@@ -15,16 +15,19 @@ use Rattle.illines.specs.declared.token.TokenKind.TheVariants as kinds
 use Rattle.illines.specs.declared.token.Token.{Token}
 use Rattle.illines.specs.Roles.{role_of_word}
 use Rattle.illines.specs.Terminals.{Seen, word, delimiter, name, spaced}
-use Rattle.illines.specs.Instructions.{TextLine, instruction, label, with_label, line, lines}
+use Rattle.illines.specs.Instructions.{TextLine, operation, named_line, line, lines}
 use Rattle.illines.proofs.Delimiters.{token_of, Firm-word, apart_word}
 use Rattle.illines.proofs.Ends.{NoEnd, Firm-name, Firm-spaced, Lawful-line_ends, word_no_end, name_no_end}
 use Rattle.illines.proofs.InstructionLaws.{NoLine, Lawful-lines}
 use Rattle.iltext.specs.Configurations.{configuration}
 use Rattle.iltext.specs.Declarations.{type_declaration, vars, var_external, variables}
-use Rattle.iltext.specs.Texts.{blocks, program, derived_type, derived_types, types, unit, units, text}
+use Rattle.iltext.specs.Functions.{function_word, head, function}
+use Rattle.iltext.specs.Texts.{blocks, program, derived_type, derived_types, types, function_unit, program_unit, unit}
+use Rattle.iltext.specs.Texts.{units, text}
 use Rattle.iltext.proofs.Apart.{neither, no_word, no_end}
 use Rattle.iltext.proofs.ConfigurationLaws.{Firm-configuration}
 use Rattle.iltext.proofs.DeclarationLaws.{NoName, Firm-type_declaration, last_apart, Firm-variables}
+use Rattle.iltext.proofs.FunctionLaws.{Firm-function}
 
 -- ---- programs
 
@@ -32,7 +35,7 @@ abbrev NoVar : Token → Type 0
 NoVar t = variables.starts t ≡ false
 
 end_program_apart : (t : Token) → (word words.EndProgram).starts t ≡ true → NoEnd t × NoLine t
-unfolding line with_label label name instruction role_of_word
+unfolding line named_line name operation role_of_word
 end_program_apart t e = (
   word_no_end words.EndProgram t e,
   apart_word words.EndProgram line.starts (λ f g. refl) t.kind t.from t.to e,
@@ -56,7 +59,7 @@ begins_body t = (lead lines (spaced (word words.EndProgram))).starts t
 
 body_apart : (k : TokenKind) (f g : ℕ) → begins_body (token_of k f g) ≡ true
     → NoEnd (token_of k f g) × NoVar (token_of k f g)
-unfolding variables vars var_external lines line with_label label name instruction role_of_word word delimiter
+unfolding variables vars var_external lines line named_line name operation role_of_word word delimiter
 body_apart k f g e = (
   no_end begins_body (λ f g. refl) k f g e,
   neither _ _ (no_word words.Var begins_body (λ f g. refl) k f g e)
@@ -72,7 +75,7 @@ Firm-inside = Firm-lead {b = lead lines (spaced (word words.EndProgram))} Lawful
 inside_apart : (k : TokenKind) (f g : ℕ)
     → (lead blocks (lead lines (spaced (word words.EndProgram)))).starts (token_of k f g) ≡ true
     → NoEnd (token_of k f g)
-unfolding blocks variables vars var_external lines line with_label label name instruction word delimiter
+unfolding blocks variables vars var_external lines line named_line name operation word delimiter
 inside_apart (kinds.Good (whats.Delimiter delimiters.LineEnd)) f g e = absurd (false≢true e)
 inside_apart _ f g e = refl
 
@@ -105,20 +108,37 @@ Firm-types = Firm-map _ (Firm-seq (Firm-spaced (Firm-word words.Type)) (λ t e. 
 
 -- ---- texts
 
-program_apart : (t : Token) → (word words.Program).starts t ≡ true → (word words.Type).starts t ≡ false
-unfolding word
-program_apart t e = apart_word words.Program (word words.Type).starts (λ f g. refl) t.kind t.from t.to e
+-- none of the words TYPE, FUNCTION and PROGRAM is another
+abbrev others : Item Token (List Element)
+others = alt function_unit program_unit
+
+type_apart : (k : TokenKind) (f g : ℕ) → others.starts (token_of k f g) ≡ true → types.starts (token_of k f g) ≡ false
+unfolding types function_unit function head function_word program_unit program word
+type_apart k f g e = no_word words.Type others.starts (λ f g. refl) k f g e
+
+program_apart : (t : Token) → program_unit.starts t ≡ true → function_unit.starts t ≡ false
+unfolding function_unit function head function_word program_unit program
+program_apart t e = apart_word words.Program function_unit.starts (λ f g. refl) t.kind t.from t.to e
+
+Firm-function_unit : Firm Token (List Element) function_unit NoEnd
+unfolding function_unit
+Firm-function_unit = Firm-map _ Firm-function
+
+Firm-program_unit : Firm Token (List Element) program_unit NoEnd
+unfolding program_unit
+Firm-program_unit = Firm-map _ Firm-program
 
 pub Firm-unit : Firm Token (List Element) unit NoEnd
-unfolding unit types program
-Firm-unit = Firm-fewer NoEnd (λ t e. (e, e))
-    (Firm-alt Firm-types (λ t e. program_apart t e) (Firm-map _ Firm-program))
+unfolding unit
+Firm-unit = Firm-fewer NoEnd (λ t e. (e, (e, e)))
+    (Firm-alt Firm-types (λ t e. type_apart t.kind t.from t.to e)
+    (Firm-alt Firm-function_unit (λ t e. program_apart t e) Firm-program_unit))
 
 abbrev NoUnit : Token → Type 0
 NoUnit t = unit.starts t ≡ false
 
 unit_no_end : (k : TokenKind) (f g : ℕ) → unit.starts (token_of k f g) ≡ true → NoEnd (token_of k f g)
-unfolding unit types program word delimiter
+unfolding unit types function_unit function head function_word program_unit program word delimiter
 unit_no_end (kinds.Good (whats.Delimiter m)) f g e = absurd (false≢true e)
 unit_no_end _ f g e = refl
 
@@ -128,7 +148,7 @@ Lawful-units = Lawful-map _ _ _ _ _ _ (from_many (λ t e. unit_no_end t.kind t.f
 
 configuration_apart : (k : TokenKind) (f g : ℕ) → configuration.starts (token_of k f g) ≡ true
     → NoEnd (token_of k f g) × NoUnit (token_of k f g)
-unfolding configuration unit types program word delimiter
+unfolding configuration unit types function_unit function head function_word program_unit program word delimiter
 configuration_apart k f g e = (
   word_no_end words.Configuration (token_of k f g) e,
   apart_word words.Configuration unit.starts (λ f g. refl) k f g e,
@@ -145,7 +165,7 @@ Lawful-parts = Lawful-lead_open _ _ _ _ _ _ _ Lawful-units (from_opt Firm-config
 
 part_no_end : (k : TokenKind) (f g : ℕ) → (lead units (opt configuration)).starts (token_of k f g) ≡ true
     → NoEnd (token_of k f g)
-unfolding units unit types program configuration word delimiter
+unfolding units unit types function_unit function head function_word program_unit program configuration word delimiter
 part_no_end (kinds.Good (whats.Delimiter m)) f g e = absurd (false≢true e)
 part_no_end _ f g e = refl
 

@@ -8,6 +8,9 @@ pub mod Declared
 pub mod Depths
 pub mod Following
 pub mod Free
+pub mod FunctionLaws
+pub mod FunctionParts
+pub mod FunctionTokens
 pub mod GlobalLaws
 pub mod Inner
 pub mod Instructions

@@ -9,8 +9,8 @@ use Rattle.iltokens.proofs.Laws.{Solid}
 use Rattle.iltokens.specs.declared.lexed.Delimiter.TheVariants as delimiters
 use Rattle.illines.specs.declared.token.Token.{Token}
 use Rattle.illines.specs.Terminals.{delimiter, closing, line_break, ended}
-use Rattle.illines.specs.Instructions.{TextLine, on_operand, on_content, on_either, beginning, inner_of}
-use Rattle.illines.specs.Instructions.{content_of, applied, content}
+use Rattle.illines.specs.Instructions.{TextLine, on_operand, on_content, on_either, beginning, inner_operation}
+use Rattle.illines.specs.Instructions.{inner_of, content_of, applied, content}
 use Rattle.illines.proofs.OperandLaws.{Firm-operand}
 use Rattle.iltext.specs.Faults.{defers, open_after_all}
 use Rattle.iltext.proofs.Counts.{AreInner, closed, Closes, closes_none, counted-append, delimiter_nests, ends}
@@ -107,8 +107,8 @@ unfolding content_of beginning line_break delimiter
 content_none more at = inl (inl (inl (inl tt)))
 
 inner_none : (more : ℕ) → (ended (inner_of (applied more))).part []
-unfolding inner_of
-inner_none more = inl (inl tt)
+unfolding inner_of inner_operation
+inner_none more = inl (inl (inl tt))
 
 content_front : (more at : ℕ) (ts : List Token) (x : _) → (content more at).whole ts x → (content more at).part ts
 unfolding content_of

@@ -1,8 +1,8 @@
 -- What lines that are read name may stand there: operands are constants, variables and ports, block instances are
--- called, and arguments are given to ports.
+-- called, arguments are given to ports, and functions are invoked.
 use Rattle.std.proofs.Common.{◌≡◌, ℕ, zero, suc, Bool, true, false, List, [], ◌∷◌, ◌++◌, Option, Some, None, Ok, inl, inr}
-use Rattle.std.proofs.Common.{sym, subst, ◌∙◌}
-use Rattle.std.specs.Prelude.{⊤, flat_map}
+use Rattle.std.proofs.Common.{◌+◌, sym, subst, ◌∙◌}
+use Rattle.std.specs.Prelude.{⊤, map, flat_map, unwrap_or}
 use Rattle.std.specs.List.{AllByRecursion}
 use Rattle.std.specs.Option.{option_map_or}
 use Rattle.limits.specs.Limits.{most_nesting}
@@ -18,8 +18,8 @@ use Rattle.ilsource.specs.declared.operand.Operand.{Operand}
 use Rattle.ilsource.specs.declared.operand.Operand.TheVariants.{Name as Named}
 use Rattle.ilsource.specs.declared.uses.Purpose.TheVariants.{Read, Write, Pass}
 use Rattle.ilsource.specs.declared.uses.Use.{Use}
-use Rattle.ilsource.specs.Trees.{Tree, piece, pieces_of}
-use Rattle.ilsource.specs.Uses.{uses_in, uses_of, uses_of_argument, uses_of_piece}
+use Rattle.ilsource.specs.Trees.{Tree, piece, give_pieces, call_pieces, pieces_of}
+use Rattle.ilsource.specs.Uses.{read_at, uses_in, uses_of, uses_of_argument, uses_of_piece}
 use Rattle.iltokens.specs.Items.{Item, alt, opt_whole, many_whole}
 use Rattle.ilsource.specs.declared.name.Name.{Name}
 use Rattle.ilsource.specs.declared.symbol.Symbol.{Symbol}
@@ -27,9 +27,11 @@ use Rattle.ilsource.specs.Programs.{MayStand, MayBeUsed, AreSorted}
 use Rattle.illines.specs.declared.roles.OperatorRole.{OperatorRole}
 use Rattle.illines.specs.declared.roles.OperatorRole.TheVariants as roles
 use Rattle.illines.specs.Calls.{argument, arguments, call, called, more_arguments, next_argument, passed}
-use Rattle.illines.specs.Instructions.{applied, beginning, bounds, content_of, grown, grows, grows_by, inner_of}
-use Rattle.illines.specs.Instructions.{instruction, labelled, line, lines, load, on_content, on_either, on_operand}
-use Rattle.illines.specs.Instructions.{operands, TextInstruction, TextLine, with_label}
+use Rattle.illines.specs.Instructions.{after_label, after_name, applied, beginning, bounds, content_of, grown, grows}
+use Rattle.illines.specs.Instructions.{grows_by, inner_of, inner_operation, instruction, invocation, invoked, labelled}
+use Rattle.illines.specs.Instructions.{line, lines, load, named_line, on_content, on_either, on_operand, operands}
+use Rattle.illines.specs.Instructions.{operation, TextInstruction, TextLine}
+use Rattle.illines.specs.Invocations.{handed, more_operands, next_operand, some_operands}
 use Rattle.illines.specs.Operands.{literal, named_or, operand, spaced_operand, spaced_symbol, symbol, symbol_of}
 use Rattle.illines.specs.Terminals.{ended, spaced}
 use Rattle.illines.specs.declared.token.Token.{Token}
@@ -187,7 +189,54 @@ module _ (of : Operator → ℕ → Item Token TextLine) (may : (operator : Oper
     operands_may (roles.Call condition) at ts l w =
         subst LineMay (sym w.2) (tt, arguments_used at w.0.1 (call_may _ _ w.1))
 
+-- ---- calls of functions
+
+abbrev OperandsMay : List (Operand Symbol) → Type 0
+OperandsMay os = AllByRecursion (MayStand Read) os
+
+next_operand_may : (ts : List Token) (o : Operand Symbol) → next_operand.whole ts o → MayStand Read o
+unfolding next_operand
+next_operand_may ts o w = subst (MayStand Read) (sym w.2) (operand_may _ _ w.1.4)
+
+many_operands_may : (ts : List Token) (os : List (Operand Symbol)) → many_whole next_operand ts os → OperandsMay os
+many_operands_may ts [] w = tt
+many_operands_may ts (o ∷ os) w = (next_operand_may w.0 o w.3, many_operands_may w.1 os w.4)
+
+more_operands_may : (ts : List Token) (os : List (Operand Symbol)) → more_operands.whole ts os → OperandsMay os
+unfolding more_operands
+more_operands_may ts os w = many_operands_may ts os w
+
+some_operands_may : (ts : List Token) (os : List (Operand Symbol)) → some_operands.whole ts os → OperandsMay os
+unfolding some_operands
+some_operands_may ts os w = subst OperandsMay (sym w.2) (operand_may _ _ w.1.3, more_operands_may _ _ w.1.4)
+
+optional_operands_may : (ts : List Token) (o : Option (List (Operand Symbol))) → opt_whole some_operands ts o
+    → OperandsMay (unwrap_or o [])
+optional_operands_may ts None w = tt
+optional_operands_may ts (Some os) w = some_operands_may ts os w
+
+handed_may : (ts : List Token) (os : List (Operand Symbol)) → handed.whole ts os → OperandsMay os
+unfolding handed
+handed_may ts os w = subst OperandsMay (sym w.2) (optional_operands_may _ _ w.1)
+
+read_may : (at : ℕ) (os : List (Operand Symbol)) → OperandsMay os → MayAll (map (read_at at) os)
+read_may at [] h = tt
+read_may at (o ∷ os) h = (h.0, read_may at os h.1)
+
+invoked_may : (n : Name) → AllLinesMay (invoked n)
+unfolding invoked
+invoked_may n ts l w = subst LineMay (sym w.2) (tt, read_may n.from w.0 (handed_may _ _ w.1))
+
+invocation_may : AllLinesMay invocation
+unfolding invocation
+invocation_may ts l w = invoked_may w.2 w.1 l w.5
+
 -- ---- what stands in parentheses
+
+given_may : (at : ℕ) (f : Symbol) (number : ℕ) (os : List (Operand Symbol)) → MayAll (map (read_at at) os)
+    → MayAll (used (give_pieces at f number os))
+given_may at f number [] h = tt
+given_may at f number (o ∷ os) h = (h.0, given_may at f (number + 1) os h.1)
 
 grown_may : (t : Tree Symbol) (at : ℕ) (i : Option TextInstruction) → TreeMay t
     → MayAll (option_map_or (uses_of at) i []) → TreeMay (grown t at i)
@@ -203,6 +252,9 @@ grown_may t at (Some (instructions.Transform function)) h k =
 grown_may t at (Some (instructions.Limit low high)) h k =
     more_used (pieces_of t ++ piece at (actions.Apply Max low) ∷ []) (piece at (actions.Apply Min high) ∷ [])
     (more_used (pieces_of t) (piece at (actions.Apply Max low) ∷ []) h (k.0, tt)) (k.1.0, tt)
+grown_may t at (Some (instructions.Invoke f os)) h k =
+    more_used (pieces_of t) (call_pieces at f os) h
+    (k.0, more_used (give_pieces at f 1 os) (piece at (actions.Invoke f) ∷ []) (given_may at f 1 os k.1) tt)
 grown_may t at _ h k = h
 
 load_may : AllTreesMay load
@@ -229,8 +281,9 @@ ended_may item may ts l w = subst LineMay (sym w.2) (may w.1.0 w.0.0 w.1.3)
 module _ (of : Operator → ℕ → Item Token TextLine) (may : (operator : Operator) (at : ℕ) → AllLinesMay (of operator at))
   where
     inner_may : AllLinesMay (inner_of of)
-    unfolding inner_of
-    inner_may ts l w = operands_may of may w.2.0 w.2.1 w.1 l w.5
+    unfolding inner_of inner_operation
+    inner_may ts l (inl w) = operands_may of may w.2.0 w.2.1 w.1 l w.5
+    inner_may ts l (inr w) = invocation_may ts l w
 
     content_may : (at : ℕ) → AllTreesMay (content_of of at)
     unfolding content_of
@@ -258,22 +311,32 @@ all_applied (suc more) operator at ts l w =
 
 -- ---- lines
 
+operation_may : AllLinesMay operation
+unfolding operation
+operation_may ts l w = operands_may (applied most_nesting) (all_applied most_nesting) w.2.0 w.2.1 w.1 l w.5
+
 instruction_may : AllLinesMay instruction
 unfolding instruction
-instruction_may ts l w = operands_may (applied most_nesting) (all_applied most_nesting) w.2.0 w.2.1 w.1 l w.5
+instruction_may ts l (inl w) = operation_may ts l w
+instruction_may ts l (inr w) = invocation_may ts l w
 
 labelled_may : (n : Name) (ts : List Token) (o : Option TextLine) → opt_whole instruction ts o → LineMay (labelled n o)
 labelled_may n ts None w = tt
 labelled_may n ts (Some l) w = instruction_may ts l w
 
-unended_may : AllLinesMay (alt with_label instruction)
-unfolding with_label
-unended_may ts l (inl w) = subst LineMay (sym w.2) (labelled_may w.0.0 w.1.1 w.0.1 w.1.4)
-unended_may ts l (inr w) = instruction_may ts l w
+after_name_may : (n : Name) → AllLinesMay (after_name n)
+unfolding after_name after_label
+after_name_may n ts l (inl w) = subst LineMay (sym w.2) (labelled_may n w.1.1 w.0.1 w.1.4)
+after_name_may n ts l (inr w) = invoked_may n ts l w
+
+unended_may : AllLinesMay (alt named_line operation)
+unfolding named_line
+unended_may ts l (inl w) = after_name_may w.2 w.1 l w.5
+unended_may ts l (inr w) = operation_may ts l w
 
 line_may : AllLinesMay line
 unfolding line
-line_may ts l w = ended_may (alt with_label instruction) unended_may ts l w
+line_may ts l w = ended_may (alt named_line operation) unended_may ts l w
 
 all_may : (ts : List Token) (ls : List TextLine) → many_whole line ts ls → AreSorted ls
 all_may ts [] w = tt

@@ -2,7 +2,7 @@
 -- inside the content of a parenthesis.
 use Rattle.std.proofs.Common.{◌≡◌, ℕ, zero, suc, Bool, true, false, List, [], ◌∷◌, ◌++◌, Option, Some, None, refl}
 use Rattle.std.proofs.Common.{◌⊎◌, inl, inr, sym, ap, subst, ◌∙◌, append_assoc}
-use Rattle.iltokens.specs.Items.{Item, map, seq, lead, opt, opt_whole, alt, many}
+use Rattle.iltokens.specs.Items.{Item, map, seq, lead, select, opt, opt_whole, alt, many}
 use Rattle.iltokens.specs.Items.{many_whole}
 use Rattle.illines.specs.declared.token.Token.{Token}
 use Rattle.illines.specs.Instructions.{content}
@@ -145,6 +145,21 @@ module _ (M : ℕ → Type 0) where
     pub Tame-lead : {A B : Type 0} {a : Item Token A} {b : Item Token B} → Tame M more a → Tame M more b
         → Tame M more (lead a b)
     Tame-lead {a} {b} x y = record { whole = seq_whole a b x y; part = seq_part a b x y }
+
+    module _ {A B : Type 0} (a : Item Token A) (b : A → Item Token B) (x : Tame M more a)
+        (y : (z : A) → Tame M more (b z)) where
+      select_whole : (ts : List Token) (z : B) → (select a b).whole ts z → Level M false ts × (ends false ts ≡ false)
+      select_whole ts z w = both ts w.0 w.1 w.3 (x.whole w.0 w.2 w.4) ((y w.2).whole w.1 z w.5)
+
+      select_part : (ts : List Token) → (select a b).part ts → Ends (select a b).part ts
+      select_part ts (inl h) = ends_as a.part (select a b).part ts (λ w k. inl k) (x.part ts h)
+      select_part ts (inr h) =
+          after (b h.2).part (select a b).part ts h.0 h.1 h.3 (x.whole h.0 h.2 h.4)
+          (λ w k. inr (h.0, w, h.2, refl, h.4, k)) ((y h.2).part h.1 h.5)
+
+    pub Tame-select : {A B : Type 0} {a : Item Token A} {b : A → Item Token B} → Tame M more a
+        → ((z : A) → Tame M more (b z)) → Tame M more (select a b)
+    Tame-select {a} {b} x y = record { whole = select_whole a b x y; part = select_part a b x y }
 
     module _ {A : Type 0} (a : Item Token A) (x : Tame M more a) where
       opt_whole_level : (ts : List Token) (o : Option A) → opt_whole a ts o → Level M false ts × (ends false ts ≡ false)

@@ -5,40 +5,53 @@ use Rattle.iltokens.specs.declared.keyword.Keyword.TheVariants as words
 use Rattle.iltokens.specs.declared.lexed.Delimiter.TheVariants as delimiters
 use Rattle.illines.specs.declared.token.Token.{Token}
 use Rattle.illines.specs.Roles.{role_of_word, role_at}
-use Rattle.illines.specs.Instructions.{operands, applied, content, instruction, label, with_label, line, lines}
+use Rattle.illines.specs.Instructions.{operands, applied, content, operation, instruction, after_label, after_name}
+use Rattle.illines.specs.Instructions.{named_line, line, lines}
 use Rattle.iltext.specs.Faults.{open_after_all}
-use Rattle.iltext.specs.Texts.{blocks, program, derived_type, derived_types, types, unit, units, text}
+use Rattle.iltext.specs.Functions.{function}
+use Rattle.iltext.specs.Texts.{blocks, program, derived_type, derived_types, types, function_unit, program_unit, unit}
+use Rattle.iltext.specs.Texts.{units, text}
 use Rattle.iltext.specs.Nested.{IsOpen, IsInside}
 use Rattle.iltext.proofs.Counts.{opened_after}
 use Rattle.iltext.proofs.Tame.{Any, Nil, Level, Opened, Tame, Tame-map, Tame-seq, Tame-lead, Tame-opt, Tame-alt}
-use Rattle.iltext.proofs.Tame.{Tame-many}
+use Rattle.iltext.proofs.Tame.{Tame-select, Tame-many}
 use Rattle.iltext.proofs.Tokens.{Holds-map, Holds-seq, Holds-lead, Holds-many}
-use Rattle.iltext.proofs.Inner.{Quiet-line_ends}
+use Rattle.iltext.proofs.Inner.{Quiet-line_ends, Quiet-invoked, Quiet-invocation}
+use Rattle.iltext.proofs.Operators.{Tame-quiet}
 use Rattle.iltext.proofs.Instructions.{Tame-head, Tame-ended, Tame-content, After-operands, applies, reads_outer}
 use Rattle.iltext.proofs.Free.{Free, Free-delimiter, Free-name, Free-call, Tame-free, After-free, free_quiet}
 use Rattle.iltext.proofs.Declared.{spaced_word, spaced_name, Free-type_declaration, Free-variables, Free-configuration}
+use Rattle.iltext.proofs.FunctionTokens.{Free-head, Free-var_input, Free-own_variables}
 use Rattle.iltext.proofs.Depths.{Deep, Depth, content_depth, counted_as, depth_more, is_open}
 
 -- ---- lines
 
-Tame-instruction : Tame Nil 32 instruction
-unfolding instruction
-Tame-instruction =
+Tame-operation : Tame Nil 32 operation
+unfolding operation
+Tame-operation =
     Tame-head Nil 32 role_at (λ x. operands (applied 32) x.0 x.1) reads_outer
     (λ t x e. After-operands Nil 32 (applies 32) x.0 x.1 (inr (After-free 32 x.1 Free-call)))
     (λ t x e one. absurd (let no : ◌≡◌ {A = ℕ} 1 0 = one in omega arith))
 
-Tame-label : Tame Nil 32 label
-unfolding label
-Tame-label = Tame-free 32 (Holds-map Free _ (Holds-seq Free Free-name (Free-delimiter delimiters.Colon refl)))
+Tame-instruction : Tame Nil 32 instruction
+unfolding instruction
+Tame-instruction = Tame-alt Nil 32 Tame-operation (Tame-quiet Nil 32 Quiet-invocation)
 
-Tame-with_label : Tame Nil 32 with_label
-unfolding with_label
-Tame-with_label = Tame-map Nil 32 _ (Tame-seq Nil 32 Tame-label (Tame-opt Nil 32 Tame-instruction))
+Tame-after_name : (n : _) → Tame Nil 32 (after_name n)
+unfolding after_name after_label
+Tame-after_name n =
+    Tame-alt Nil 32
+    (Tame-map Nil 32 _ (Tame-seq Nil 32 (Tame-free 32 (Free-delimiter delimiters.Colon refl))
+    (Tame-opt Nil 32 Tame-instruction)))
+    (Tame-quiet Nil 32 (Quiet-invoked n))
+
+Tame-named_line : Tame Nil 32 named_line
+unfolding named_line
+Tame-named_line = Tame-select Nil 32 (Tame-free 32 Free-name) Tame-after_name
 
 Tame-lines : Tame Nil 32 lines
 unfolding lines line
-Tame-lines = Tame-many Nil 32 (Tame-ended Nil 32 (Tame-alt Nil 32 Tame-with_label Tame-instruction))
+Tame-lines = Tame-many Nil 32 (Tame-ended Nil 32 (Tame-alt Nil 32 Tame-named_line Tame-operation))
 
 -- ---- texts
 
@@ -50,6 +63,14 @@ Tame-program =
     (Tame-lead Nil 32 (Tame-free 32 (Holds-map Free _ (Holds-many Free Free-variables)))
     (Tame-lead Nil 32 Tame-lines (Tame-free 32 (spaced_word words.EndProgram refl))))))
 
+Tame-function : Tame Nil 32 function
+unfolding function role_of_word
+Tame-function =
+    Tame-map Nil 32 _ (Tame-seq Nil 32 (Tame-free 32 Free-head)
+    (Tame-seq Nil 32 (Tame-free 32 Free-var_input)
+    (Tame-lead Nil 32 (Tame-free 32 Free-own_variables)
+    (Tame-lead Nil 32 Tame-lines (Tame-free 32 (spaced_word words.EndFunction refl))))))
+
 Tame-types : Tame Nil 32 types
 unfolding types derived_types derived_type role_of_word
 Tame-types =
@@ -57,8 +78,10 @@ Tame-types =
     (Holds-lead Free (Holds-many Free (Holds-map Free _ Free-type_declaration)) (spaced_word words.EndType refl))))
 
 Tame-units : Tame Nil 32 units
-unfolding units unit
-Tame-units = Tame-map Nil 32 _ (Tame-many Nil 32 (Tame-alt Nil 32 Tame-types (Tame-map Nil 32 _ Tame-program)))
+unfolding units unit function_unit program_unit
+Tame-units =
+    Tame-map Nil 32 _ (Tame-many Nil 32 (Tame-alt Nil 32 Tame-types
+    (Tame-alt Nil 32 (Tame-map Nil 32 _ Tame-function) (Tame-map Nil 32 _ Tame-program))))
 
 pub Tame-text : Tame Nil 32 text
 unfolding text

@@ -2,6 +2,7 @@ pub mod Configurations
 pub mod Cutting
 pub mod Declarations
 pub mod Faults
+pub mod Functions
 pub mod Globals
 pub mod Nested
 pub mod Parsing

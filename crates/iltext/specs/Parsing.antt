@@ -11,7 +11,8 @@ use Rattle.iltext.specs.Cutting.{Cuts}
 use Rattle.iltext.specs.Faults.{Reports}
 use Rattle.iltext.specs.Texts.{text}
 
--- the bytes spell the source program: their tokens are those of its types and programs and of its configuration
+-- the bytes spell the source program: their tokens are those of its types, functions and programs and of its
+-- configuration
 pub record IsText (bytes : List ℕ) (tree : Tree) : Type 0 where
   pub short : length bytes ≤ most_bytes
   pub same : tree.text ≡ bytes

@@ -12,6 +12,7 @@ use Rattle.illines.specs.Terminals.{word, name, line_ends, spaced}
 use Rattle.illines.specs.Instructions.{lines}
 use Rattle.iltext.specs.Configurations.{configuration}
 use Rattle.iltext.specs.Declarations.{type_declaration, variables, flat}
+use Rattle.iltext.specs.Functions.{function}
 
 -- the declarations of all VAR and VAR_EXTERNAL blocks in order
 unfoldable pub blocks : Item Token (List DeclaredNames)
@@ -32,12 +33,19 @@ derived_types = many derived_type
 unfoldable pub types : Item Token (List Element)
 types = map (λ x. x.1.0) (seq (spaced (word words.Type)) (lead derived_types (spaced (word words.EndType))))
 
+unfoldable pub function_unit : Item Token (List Element)
+function_unit = map (λ f. elements.Function f ∷ []) function
+
+unfoldable pub program_unit : Item Token (List Element)
+program_unit = map (λ p. elements.Program p ∷ []) program
+
+-- a TYPE block, a function or a program
 unfoldable pub unit : Item Token (List Element)
-unit = alt types (map (λ p. elements.Program p ∷ []) program)
+unit = alt types (alt function_unit program_unit)
 
 unfoldable pub units : Item Token (List Element)
 units = map flat (many unit)
 
--- any number of TYPE blocks and programs, in any order, and at the end a configuration, if there is one
+-- any number of TYPE blocks, functions and programs, in any order, and at the end a configuration, if there is one
 unfoldable pub text : Item Token (List Element × Option Configured)
 text = map (λ x. x.1) (lead line_ends (lead units (opt configuration)))

@@ -122,7 +122,9 @@ fn begins_simple(ts: &[Token]) -> bool
 
 /// The type that is written.
 #[tactic(auto, unfolding(crate::specs::Declarations::specification))]
-fn specification<'a>(ts: &'a [Token]) -> Result<(Specification, &'a [Token]), ReadError<'a, Token>>
+pub fn specification<'a>(
+    ts: &'a [Token],
+) -> Result<(Specification, &'a [Token]), ReadError<'a, Token>>
     ensures { Gives (λ x. (x.0, x.1.now)) result (specification.read ts.now) }
 {
     if begins_simple(ts) {
@@ -232,7 +234,7 @@ pub fn names_after<'a>(
 
 /// `name {"," name}`
 #[tactic(auto, unfolding(crate::specs::Declarations::names))]
-fn names<'a>(
+pub fn names<'a>(
     alloc: Global,
     ts: &'a [Token],
 ) -> Result<(Vec<Name>, &'a [Token]), ReadError<'a, Token>>
@@ -315,7 +317,7 @@ fn declarations<'a>(
 
 /// `VAR {declaration} END_VAR`
 #[tactic(auto, unfolding(crate::specs::Declarations::vars))]
-fn vars<'a>(
+pub fn vars<'a>(
     alloc: Global,
     ts: &'a [Token],
 ) -> Result<(Vec<Declaration>, &'a [Token]), ReadError<'a, Token>>
@@ -378,8 +380,9 @@ fn var_external<'a>(
     Ok((all, rest))
 }
 
+/// Whether a VAR block stands first.
 #[tactic(auto, unfolding(crate::specs::Declarations::vars, illines::specs::Terminals::word))]
-fn begins_vars(ts: &[Token]) -> bool
+pub fn begins_vars(ts: &[Token]) -> bool
     ensures { result ≡ begins vars ts.now }
 {
     begins_word(ts, Keyword::Var)

@@ -3,7 +3,8 @@
 //! What crosses the boundary: [`parse`], which gives a [`Source`] exactly where the bytes spell it,
 //! or a [`TextFault`] with line, column and cause. Read specs/Parsing.antt first: a text's tokens
 //! (specs/Cutting.antt) are those of `iltokens`; the grammar is a set of items over them
-//! (specs/Texts.antt, Declarations.antt and Configurations.antt, with the lines of `illines`),
+//! (specs/Texts.antt, Declarations.antt, Functions.antt and Configurations.antt, with the lines of
+//! `illines`),
 //! whose reading is exact by the laws of items, which `iltokens` has too; a fault stands at the
 //! first token that goes on as no text (specs/Faults.antt).
 //!
@@ -22,6 +23,7 @@ mod configurations;
 mod cutting;
 mod declarations;
 mod fault;
+mod functions;
 mod globals;
 mod nesting;
 mod parser;

@@ -65,7 +65,7 @@ fn parse_tokens(alloc: Global, text: &[u8], ts: &[Token]) -> Result<Source, Text
     }
 }
 
-/// The source program of these types and programs and this configuration.
+/// The source program of these types, functions and programs and this configuration.
 fn with_text(
     alloc: Global,
     text: &[u8],

@@ -6,10 +6,11 @@ ghost use Rattle.iltokens.specs.Stops.{whole_read};
 ghost use Rattle.iltokens.specs.Results.{Gives};
 ghost use Rattle.iltext.specs.Declarations.{variables};
 ghost use Rattle.iltext.specs.Texts.{blocks, program, derived_type, derived_types};
-ghost use Rattle.iltext.specs.Texts.{types, unit, units, text};
+ghost use Rattle.iltext.specs.Texts.{types, function_unit, program_unit, unit, units, text};
 
 use crate::configurations::optional_configuration;
 use crate::declarations::{begins_declaration, begins_variables, type_declaration, variables};
+use crate::functions::function;
 use illines::{Token, TokenKind, end, line_ends, lines, spaced_name, spaced_word};
 use ilsource::{Configuration, Declaration, Element, Program};
 use iltokens::{Keyword, ReadError, What};
@@ -105,7 +106,51 @@ fn begins_types(ts: &[Token]) -> bool
     )
 }
 
-/// A TYPE block or a program.
+/// A function, as an element of the text.
+#[tactic(auto, unfolding(crate::specs::Texts::function_unit))]
+fn function_unit<'a>(
+    alloc: Global,
+    ts: &'a [Token],
+) -> Result<(Vec<Element>, &'a [Token]), ReadError<'a, Token>>
+    ensures { Gives (λ x. (x.0.items, x.1.now)) result (function_unit.read ts.now) }
+{
+    let (function, rest) = function(alloc, ts)?;
+    let mut all = Vec::new(alloc);
+    all.push(Element::Function(function))?;
+    Ok((all, rest))
+}
+
+#[tactic(auto, unfolding(crate::specs::Texts::function_unit, crate::specs::Functions::function, crate::specs::Functions::head, crate::specs::Functions::function_word))]
+fn begins_function_unit(ts: &[Token]) -> bool
+    ensures { result ≡ begins function_unit ts.now }
+{
+    matches!(
+        ts,
+        [
+            Token {
+                kind: TokenKind::Good(What::Keyword(Keyword::Function)),
+                ..
+            },
+            ..
+        ]
+    )
+}
+
+/// A program, as an element of the text.
+#[tactic(auto, unfolding(crate::specs::Texts::program_unit))]
+fn program_unit<'a>(
+    alloc: Global,
+    ts: &'a [Token],
+) -> Result<(Vec<Element>, &'a [Token]), ReadError<'a, Token>>
+    ensures { Gives (λ x. (x.0.items, x.1.now)) result (program_unit.read ts.now) }
+{
+    let (program, rest) = program(alloc, ts)?;
+    let mut all = Vec::new(alloc);
+    all.push(Element::Program(program))?;
+    Ok((all, rest))
+}
+
+/// A TYPE block, a function or a program.
 #[tactic(auto, unfolding(crate::specs::Texts::unit))]
 fn unit<'a>(
     alloc: Global,
@@ -115,15 +160,14 @@ fn unit<'a>(
 {
     if begins_types(ts) {
         types(alloc, ts)
+    } else if begins_function_unit(ts) {
+        function_unit(alloc, ts)
     } else {
-        let (program, rest) = program(alloc, ts)?;
-        let mut all = Vec::new(alloc);
-        all.push(Element::Program(program))?;
-        Ok((all, rest))
+        program_unit(alloc, ts)
     }
 }
 
-#[tactic(auto, unfolding(crate::specs::Texts::unit, crate::specs::Texts::types, crate::specs::Texts::program, illines::specs::Terminals::word))]
+#[tactic(auto, unfolding(crate::specs::Texts::unit, crate::specs::Texts::types, crate::specs::Texts::function_unit, crate::specs::Functions::function, crate::specs::Functions::head, crate::specs::Functions::function_word, crate::specs::Texts::program_unit, crate::specs::Texts::program, illines::specs::Terminals::word))]
 fn begins_unit(ts: &[Token]) -> bool
     ensures { result ≡ begins unit ts.now }
 {
@@ -132,7 +176,9 @@ fn begins_unit(ts: &[Token]) -> bool
         [
             Token {
                 kind: TokenKind::Good(
-                    What::Keyword(Keyword::Type) | What::Keyword(Keyword::Program)
+                    What::Keyword(Keyword::Type)
+                        | What::Keyword(Keyword::Function)
+                        | What::Keyword(Keyword::Program)
                 ),
                 ..
             },
@@ -159,10 +205,10 @@ fn units<'a>(
     Ok((all, rest))
 }
 
-/// What a text spells: its types and programs, and its configuration.
+/// What a text spells: its types, functions and programs, and its configuration.
 type TextParts = (Vec<Element>, Option<Configuration>);
 
-/// The types and programs that the tokens spell, and the configuration.
+/// The types, functions and programs that the tokens spell, and the configuration.
 #[tactic(auto, unfolding(crate::specs::Texts::text))]
 pub fn whole_text<'a>(alloc: Global, ts: &'a [Token]) -> Result<TextParts, ReadError<'a, Token>>
     ensures { Gives (λ x. (x.0.items, x.1)) result (whole_read text ts.now) }

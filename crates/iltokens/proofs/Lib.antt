@@ -1,4 +1,5 @@
 pub mod BlanksAgain
+pub mod Choices
 pub mod Comments
 pub mod DigitLaws
 pub mod DigitsAgain

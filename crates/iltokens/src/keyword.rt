@@ -106,10 +106,13 @@ pub enum Keyword {
     False,
     Type,
     EndType,
+    Function,
+    EndFunction,
     Program,
     EndProgram,
     Var,
     EndVar,
+    VarInput,
     VarExternal,
     VarGlobal,
     Configuration,
@@ -164,13 +167,14 @@ const D_WORDS: Words = &[
 const E_WORDS: Words = &[
     (b"EQ", Keyword::Eq),
     (b"END_TYPE", Keyword::EndType),
+    (b"END_FUNCTION", Keyword::EndFunction),
     (b"END_PROGRAM", Keyword::EndProgram),
     (b"END_VAR", Keyword::EndVar),
     (b"END_CONFIGURATION", Keyword::EndConfiguration),
     (b"END_RESOURCE", Keyword::EndResource),
 ];
 
-const F_WORDS: Words = &[(b"FALSE", Keyword::False)];
+const F_WORDS: Words = &[(b"FALSE", Keyword::False), (b"FUNCTION", Keyword::Function)];
 
 const G_WORDS: Words = &[
     (b"GT", Keyword::Gt),
@@ -281,6 +285,7 @@ const U_WORDS: Words = &[
 
 const V_WORDS: Words = &[
     (b"VAR", Keyword::Var),
+    (b"VAR_INPUT", Keyword::VarInput),
     (b"VAR_EXTERNAL", Keyword::VarExternal),
     (b"VAR_GLOBAL", Keyword::VarGlobal),
 ];

@@ -5,7 +5,7 @@ use Rattle.iltokens.proofs.Loops.{adds_on, adds_none, all_added, adding_shrinks}
 use Rattle.illines.specs.Terminals.{ended}
 use Rattle.illines.specs.Instructions.{inner}
 use Rattle.illines.specs.InstructionSteps.{pieces_in, may_open}
-use Rattle.illines.proofs.Contents.{begun, not_begun, by_content, operand_fails, operand_applied}
+use Rattle.illines.proofs.Contents.{begun, not_begun, none_inner, by_content, operand_fails, operand_applied}
 use Rattle.illines.proofs.Extends.{fails_extended}
 use Rattle.illines.proofs.InstructionLaws.{Firm-inner_line}
 use Rattle.illines.proofs.parentheses.+nest.Goals as goal
@@ -30,6 +30,9 @@ applied-returns-in_ok-push t c =
     ∙ c.if-may_open.false in
     rw (c.in_ok-push.ensures, operand_applied c.args.more c.args.at c.args.operator _ isnt _ _ c.in_ok-operand.ensures)
     refl
+
+pub inner-returns-in-empty : goal.inner-returns-in-empty
+inner-returns-in-empty t c = none_inner c.args.more c.args.pieces.now.items c.args.ts.now c.in-empty.len_below
 
 pub content-returns-in_err-first : goal.content-returns-in_err-first
 content-returns-in_err-first t c =
