@@ -4,6 +4,7 @@ pub mod FoundOrder
 pub mod Kept
 pub mod Least
 pub mod OneCause
+pub mod Parts
 pub mod Places
 pub mod Subranges
 pub mod TwiceAddresses

@@ -1,9 +1,9 @@
--- What one declaration of a program says, and all of a program's (IEC 61131-3, 2.3.3.1, 2.4.3 and 2.5.2.2): variables
--- below the types above them, block instances, and externals.
-use Rattle.std.specs.Prelude.{List, [], Option, map, flat_map, option_map, unwrap_or}
+-- What one declaration of a program says, all of a program's, and all of a function's (IEC 61131-3, 2.3.3.1, 2.4.3,
+-- 2.5.1 and 2.5.2.2): variables below the types above them, block instances, and externals.
+use Rattle.std.specs.Prelude.{List, [], ◌∷◌, ◌++◌, Option, None, map, flat_map, option_map, unwrap_or}
 use Rattle.ilblocks.specs.declared.kind.BlockKind.{BlockKind}
 use Rattle.iltypes.specs.declared.value.IlType.{IlType}
-use Rattle.ilsource.specs.Programs.{DeclaredNames, Written}
+use Rattle.ilsource.specs.Programs.{DeclaredNames, Written, WrittenFunction}
 use Rattle.ilsource.specs.declared.declaration.Constant.{Constant}
 use Rattle.ilsource.specs.declared.declaration.Declared.{Declared}
 use Rattle.ilsource.specs.declared.declaration.Declared.TheVariants as declared_as
@@ -71,3 +71,25 @@ externals_in types_above declaration = externals_among types_above declaration.n
 -- what a program has in VAR_EXTERNAL, in declared order
 abbrev pub externals_of : TypeNames → Written → List DeclaredExternal
 externals_of types_above program = flat_map (externals_in types_above) program.declarations
+
+-- ---- functions
+
+-- the names that a function declares, in the order of the text: its own, those of its inputs, those of its VAR
+abbrev pub function_names : WrittenFunction → List Name
+function_names f = f.name ∷ flat_map (λ d. d.names) (f.inputs ++ f.variables)
+
+-- the result of a function, as it is declared: a variable with the function's name
+abbrev pub result_declaration : WrittenFunction → DeclaredNames
+result_declaration f = record { names = f.name ∷ []; declared = declared_as.Variables f.result_type None }
+
+-- a function's inputs, in declared order
+abbrev pub inputs_of : TypeNames → WrittenFunction → List DeclaredVariable
+inputs_of types_above f = flat_map (variables_in types_above) f.inputs
+
+-- the variable with the function's name; it begins as its type says
+abbrev pub result_variable : TypeNames → WrittenFunction → DeclaredVariable
+result_variable types_above f = variable (type_of types_above f.result_type None) f.name
+
+-- a function's other variables: the one with its name, which is its result, and its VAR in declared order
+abbrev pub own_variables_of : TypeNames → WrittenFunction → List DeclaredVariable
+own_variables_of types_above f = result_variable types_above f ∷ flat_map (variables_in types_above) f.variables

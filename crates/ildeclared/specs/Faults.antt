@@ -94,6 +94,15 @@ IsBadIn types_above place declaration =
     IsBadDeclared types_above declaration.declared
     × IsSomeAnd (slice_get declaration.names 0) (λ name. place ≡ name.from)
 
+-- block instances are declared, the first name at the place; a function may have none
+abbrev pub AreBlocks : Declared → Type 0
+AreBlocks (declared_as.Blocks kind) = ⊤
+AreBlocks _ = ⊥
+
+abbrev pub AreBlocksIn : ℕ → DeclaredNames → Type 0
+AreBlocksIn place declaration =
+    AreBlocks declaration.declared × IsSomeAnd (slice_get declaration.names 0) (λ name. place ≡ name.from)
+
 -- a fault of what one declaration says
 abbrev pub IsFaultIn : TypeNames → DeclaredNames → ℕ → NameCause → Type 0
 IsFaultIn types_above declaration place cause =

@@ -10,13 +10,13 @@ use thiserror::Error;
 /// What is wrong with a name or a declaration.
 #[derive(Clone, Copy, PartialEq, Eq, Debug)]
 pub enum NameCause {
-    /// A name that is not declared, or a port that a block does not have; a type's name that is not
-    /// declared above.
+    /// A name that is not declared, or a port that a block does not have; a type's name or a
+    /// function's that is not declared above.
     Unknown,
-    /// A name that is declared again, a label that an earlier line of the program has too, or a
-    /// port that is given again in one call.
+    /// A name that is declared again, a label that an earlier line of the program or the function
+    /// has too, or a port that is given again in one call.
     Twice,
-    /// The label of a jump that no line of its program has.
+    /// The label of a jump that no line of its program or function has.
     UnknownLabel,
     /// The label of a jump that its own line or one before it has.
     BackwardJump,
@@ -27,16 +27,18 @@ pub enum NameCause {
     InputRangeTooSmall,
     /// A global variable that a second task stores to.
     WrittenTwice,
-    /// A store or an initial value for an input, or a store to an output port.
+    /// A store or an initial value for an input, a store to a function's input, or one to an output
+    /// port.
     WritesInput,
     /// A program instance without a task.
     NoTask,
-    /// A declaration or an instruction that exceeds a limit.
+    /// A declaration or an instruction that exceeds a limit, or a function that is too deep.
     TooMany,
     /// A subrange that is empty or has numbers outside its base, an initial value that the type
     /// does not have, an external of another type than the global variable, a type that does not
-    /// fit the address, or a task without one way to be started, or with a priority outside 0 to
-    /// 65535.
+    /// fit the address, a task without one way to be started, or with a priority outside 0 to
+    /// 65535, a function without an input or with a block instance, or a call with a wrong number
+    /// of operands.
     BadDeclaration,
 }
 

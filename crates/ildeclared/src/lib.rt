@@ -2,10 +2,10 @@
 //! it.
 //!
 //! What crosses the boundary: the [`DeclaredVariable`]s, [`DeclaredBlock`]s and
-//! [`DeclaredExternal`]s of a program and the [`DeclaredGlobal`]s of a configuration, as their
-//! declarations say them, below the [`DeclaredTypes`], which are a table of [`Names`]; and the
-//! least fault, [`Found`] at its place in the text, with its [`NameCause`]. The definition to read
-//! first is `data_type` (specs/DataTypes.antt), what a type means.
+//! [`DeclaredExternal`]s of a program, the variables of a function, and the [`DeclaredGlobal`]s of
+//! a configuration, as their declarations say them, below the [`DeclaredTypes`], which are a table
+//! of [`Names`]; and the least fault, [`Found`] at its place in the text, with its [`NameCause`].
+//! The definition to read first is `data_type` (specs/DataTypes.antt), what a type means.
 //!
 //! ```text
 //! let variables = variables_of(alloc, lower, &types, program)?;
@@ -22,6 +22,7 @@ mod external;
 mod externals;
 mod fault;
 mod found;
+mod functions;
 mod global;
 mod globals;
 mod located;
@@ -39,6 +40,9 @@ pub use external::DeclaredExternal;
 pub use externals::{external_names, externals_of};
 pub use fault::{NameCause, NameFault};
 pub use found::{Found, found_where, lesser_of};
+pub use functions::{
+    fault_of_blocks, fault_of_result, function_names, inputs_of, own_variables_of,
+};
 pub use global::DeclaredGlobal;
 pub use globals::{addresses_of, fault_of_globals, global_names, globals_of, value_types_of};
 pub use located::{bad_addresses, badly_located, inputs_given, inputs_too_small};

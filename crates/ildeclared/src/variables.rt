@@ -1,13 +1,14 @@
 //! The variables of a program.
 
-ghost use Rattle.std.specs.Prelude.{◌≡◌, ◌++◌, IfOk, OnOk, map};
-ghost use Rattle.ildeclared.specs.Declarations.{names_of, variable, variables_of};
+ghost use Rattle.std.specs.Prelude.{◌≡◌, ◌++◌, IfOk, OnOk, flat_map, map};
+ghost use Rattle.ildeclared.specs.Declarations.{names_of, type_of, variable};
+ghost use Rattle.ildeclared.specs.Declarations.{variables_in, variables_of};
 ghost use Rattle.ildeclared.specs.Kept.{types_in};
 
 use crate::data_type::DataType;
 use crate::types::{DeclaredTypes, declared_type};
 use crate::variable::DeclaredVariable;
-use ilsource::{Declared, Name, Program};
+use ilsource::{Constant, Declaration, Declared, Name, Program, Specification};
 use std::alloc::{AllocError, Global};
 
 /// A program's variables below these types, in declared order. `lower` is the text in lower case.
@@ -21,19 +22,43 @@ pub fn variables_of(
         v.items ≡ variables_of (types_in lower.now types.now) program.now) }
 {
     let mut variables = Vec::new(alloc);
-    for declaration in program.declarations() {
+    add_declared(&mut variables, lower, types, program.declarations())?;
+    Ok(variables)
+}
+
+/// Adds the variables that some declarations declare below these types.
+pub(crate) fn add_declared(
+    variables: &mut Vec<DeclaredVariable>,
+    lower: &[u8],
+    types: &DeclaredTypes,
+    declarations: &[Declaration],
+) -> Result<(), AllocError>
+    ensures { OnOk result (variables.new.items ≡ variables.old.items
+        ++ flat_map (variables_in (types_in lower.now types.now)) declarations.now) }
+{
+    for declaration in declarations {
         if let Declared::Variables {
             specification,
             initial,
         } = declaration.declared()
         {
-            let declared = declared_type(lower, types, specification, initial).unwrap_or(
-                DataType::truth_values(),
-            );
-            add_variables(&mut variables, declared, declaration.names())?;
+            let declared = meant_type(lower, types, specification, initial);
+            add_variables(variables, declared, declaration.names())?;
         }
     }
-    Ok(variables)
+    Ok(())
+}
+
+/// What a declaration means below these types; FALSE of BOOL where it is at fault.
+pub(crate) fn meant_type(
+    lower: &[u8],
+    types: &DeclaredTypes,
+    specification: Specification,
+    initial: Option<Constant>,
+) -> DataType
+    ensures { result ≡ type_of (types_in lower.now types.now) specification initial }
+{
+    declared_type(lower, types, specification, initial).unwrap_or(DataType::truth_values())
 }
 
 /// Adds the variables of one declaration.
@@ -52,7 +77,7 @@ fn add_variables(
 }
 
 /// The variable of this name, with what its declaration says.
-fn variable_of(name: Name, declared: DataType) -> DeclaredVariable
+pub(crate) fn variable_of(name: Name, declared: DataType) -> DeclaredVariable
     ensures { result ≡ variable declared name }
 {
     DeclaredVariable {

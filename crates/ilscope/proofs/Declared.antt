@@ -16,23 +16,23 @@ use Rattle.ilscope.proofs.LeastOfDeclarations.{some_of}
 use Rattle.ilscope.proofs.Numbered.{found_some, some_found}
 use Rattle.ilscope.proofs.FilledTables.{spelled_is}
 
-module _ (spelled : Name → List ℕ) (names : DeclaredProgram → List Name) where
-  -- there is a table for each program
-  pub as_many : (programs : List DeclaredProgram) (numbers : List (Kept ℕ))
+module _ {X : Type 0} (spelled : Name → List ℕ) (names : X → List Name) where
+  -- there is a table for each program or function
+  pub as_many : (programs : List X) (numbers : List (Kept ℕ))
       → AreAllNumbers spelled names programs numbers → length programs ≡ length numbers
   as_many [] [] h = refl
   as_many [] (n ∷ ns) h = absurd h
   as_many (p ∷ ps) [] h = absurd h
   as_many (p ∷ ps) (n ∷ ns) h = ap suc (as_many ps ns h.1)
 
-  pub numbers_at : (programs : List DeclaredProgram) (numbers : List (Kept ℕ)) (i : ℕ) (program : DeclaredProgram)
+  pub numbers_at : (programs : List X) (numbers : List (Kept ℕ)) (i : ℕ) (program : X)
       (d : Kept ℕ) →
       AreAllNumbers spelled names programs numbers → slice_get programs i ≡ Some program
       → AreNumbersOf spelled (names program) (get_or numbers i d)
   numbers_at [] numbers i program d h e = absurd cc
   numbers_at (p ∷ ps) [] i program d h e = absurd h
   numbers_at (p ∷ ps) (n ∷ ns) zero program d h e = let same : p ≡ program =
-      cc in subst (λ (q : DeclaredProgram). AreNumbersOf spelled (names q) n) same h.0
+      cc in subst (λ (q : X). AreNumbersOf spelled (names q) n) same h.0
   numbers_at (p ∷ ps) (n ∷ ns) (suc i) program d h e = numbers_at ps ns i program d h.1 e
 
 first_at-map : {X Y : Type 0} (test : Y → Bool) (f : X → Y) (xs : List X)
@@ -53,13 +53,13 @@ number_is name_of xs text lower numbers name e h =
     ∙ sym (first_at-map (bytes_eq key) (folded text) (map name_of xs))
     ∙ sym (first_at-map (λ n. bytes_eq key (folded text n)) name_of xs)
 
--- the same in the table of a program
-module _ {X : Type 0} (elements : DeclaredProgram → List X) (name_of : X → Name) where
-  abbrev names_of : DeclaredProgram → List Name
+-- the same in the table of a program or a function
+module _ {P X : Type 0} (elements : P → List X) (name_of : X → Name) where
+  abbrev names_of : P → List Name
   names_of program = map name_of (elements program)
 
-  pub number_at : (text lower : List ℕ) (programs : List DeclaredProgram) (tables : List (Kept ℕ)) (table : Kept ℕ)
-      (i : ℕ) (program : DeclaredProgram) (name : Name)
+  pub number_at : (text lower : List ℕ) (programs : List P) (tables : List (Kept ℕ)) (table : Kept ℕ)
+      (i : ℕ) (program : P) (name : Name)
       → lower ≡ lowered text → AreAllNumbers (folded text) names_of programs tables
       → slice_get programs i ≡ Some program → table ≡ get_or tables i table →
       lookup (bytes_eq (text_of lower name)) table

@@ -8,7 +8,7 @@ use Rattle.ilsource.specs.SourceTrees.{Tree, types_of}
 use Rattle.ilsource.specs.declared.declaration.TypeDeclaration.{TypeDeclaration}
 use Rattle.ilsource.specs.declared.name.Name.{Name}
 use Rattle.ilsource.specs.declared.source.Element.{Element}
-use Rattle.ilsource.specs.declared.source.Element.TheVariants.{DerivedType, Program}
+use Rattle.ilsource.specs.declared.source.Element.TheVariants.{DerivedType, Function, Program}
 use Rattle.ildeclared.specs.DataTypes.{TypeNames, types_below}
 use Rattle.ildeclared.specs.Faults.{IsLeastOf, OfCause, SomeOf}
 use Rattle.ildeclared.specs.Globals.{globals_in, value_types_in}
@@ -20,11 +20,12 @@ use Rattle.ildeclared.specs.declared.found.Found.{Found}
 use Rattle.ildeclared.specs.declared.global.DeclaredGlobal.{DeclaredGlobal}
 use Rattle.ildeclared.proofs.Least.{both_least, either_least}
 use Rattle.ilscope.specs.Configured.{declared_globals_of, globals_of, task_declarations, types_of_text}
-use Rattle.ilscope.specs.Declarations.{DeclaredProgram, declared_program, declared_programs, name_of, standing}
+use Rattle.ilscope.specs.Declarations.{DeclaredFunction, DeclaredProgram, declared_function, declared_functions}
+use Rattle.ilscope.specs.Declarations.{declared_program, declared_programs, name_of, standing}
 use Rattle.ilscope.specs.Faults.{IsTwiceIn}
 use Rattle.ilscope.specs.ScopeSteps.{AreAllNumbers, AreNumbersOf, AreTablesOf, IsFaultInElements, IsFaultInTables}
 use Rattle.ilscope.specs.ScopeSteps.{IsFaultOfElement, IsGathered, IsGlobalOrTaskTwice, IsTwiceNumbered, above_all}
-use Rattle.ilscope.specs.ScopeSteps.{block_names, external_names, variable_names}
+use Rattle.ilscope.specs.ScopeSteps.{block_names, external_names, names_of_function, variable_names}
 use Rattle.ilscope.specs.Tables.{lowered}
 use Rattle.ilscope.proofs.Spelling.{key_is}
 
@@ -32,16 +33,17 @@ pub spelled_is : (lower text : List ℕ) → lower ≡ lowered text → text_of 
 spelled_is lower text e = λ i name. (ap (λ (w : List ℕ). text_of w name) e ∙ key_is text name) i
 
 -- the types above what stands below all elements, the nearest first
-above_all_is : (above : List TypeDeclaration) (all : List Element)
-    → above_all above all ≡ reverse_aux (types_of all) above
+above_all_is : (above all : List Element) → types_of (above_all above all) ≡ reverse_aux (types_of all) (types_of above)
 above_all_is above [] = refl
-above_all_is above (DerivedType type ∷ more) = above_all_is (type ∷ above) more
-above_all_is above (Program program ∷ more) = above_all_is above more
+above_all_is above (DerivedType type ∷ more) = above_all_is (DerivedType type ∷ above) more
+above_all_is above (Function function ∷ more) = above_all_is (Function function ∷ above) more
+above_all_is above (Program program ∷ more) = above_all_is (Program program ∷ above) more
 
 -- what is gathered from all elements of a text, and what is kept of its configuration
 module _ (tree : Tree) (lower : List ℕ) (types : Kept (Option DataType)) (programs : List DeclaredProgram)
-    (variables blocks externals : List (Kept ℕ)) (least : Option Found) (lower_is : lower ≡ lowered tree.text)
-    (gathered : IsGathered lower tree.elements types programs variables blocks externals least) where
+    (variables blocks externals : List (Kept ℕ)) (functions : List DeclaredFunction) (own : List (Kept ℕ))
+    (least : Option Found) (lower_is : lower ≡ lowered tree.text)
+    (gathered : IsGathered lower tree.elements types programs variables blocks externals functions own least) where
   same : text_of lower ≡ folded tree.text
   same = spelled_is lower tree.text lower_is
 
@@ -50,10 +52,15 @@ module _ (tree : Tree) (lower : List ℕ) (types : Kept (Option DataType)) (prog
       gathered.declared
       ∙ ap (λ (s : Name → List ℕ). filter_map (declared_program s) (standing [] tree.elements)) same
 
+  pub functions_are : functions ≡ declared_functions tree
+  functions_are =
+      gathered.functions_declared
+      ∙ ap (λ (s : Name → List ℕ). filter_map (declared_function s) (standing [] tree.elements)) same
+
   pub types_are : types_in lower types ≡ types_of_text tree
   types_are =
       (λ i name. gathered.meant name i)
-      ∙ ap (λ (s : Name → List ℕ). types_below s (above_all [] tree.elements)) same
+      ∙ ap (λ (s : Name → List ℕ). types_below s (types_of (above_all [] tree.elements))) same
       ∙ ap (λ (above : List TypeDeclaration). types_below (folded tree.text) above) (above_all_is [] tree.elements)
 
   numbered : (names : List Name) (numbers : Kept ℕ) → AreNumbersOf (text_of lower) names numbers
@@ -61,15 +68,16 @@ module _ (tree : Tree) (lower : List ℕ) (types : Kept (Option DataType)) (prog
   numbered names numbers h = subst (λ (s : Name → List ℕ). AreNumbersOf s names numbers) same h
 
   pub filled : (globals : List DeclaredGlobal) (value_types : List (Option IlType))
-      (global_numbers task_numbers program_numbers : Kept ℕ) →
+      (global_numbers task_numbers program_numbers function_numbers : Kept ℕ) →
       globals ≡ flat_map (globals_in (types_in lower types)) (declared_globals_of tree) →
       value_types ≡ flat_map (value_types_in (types_in lower types)) (declared_globals_of tree) →
       AreNumbersOf (text_of lower) (map (λ g. g.name) globals) global_numbers →
       AreNumbersOf (text_of lower) (map (λ t. t.name) (task_declarations tree)) task_numbers →
       AreNumbersOf (text_of lower) (map (λ p. p.program.name) programs) program_numbers →
-      AreTablesOf tree lower types programs variables blocks externals globals value_types global_numbers task_numbers
-      program_numbers
-  filled globals value_types global_numbers task_numbers program_numbers g v n t p =
+      AreNumbersOf (text_of lower) (map (λ f. f.function.name) functions) function_numbers →
+      AreTablesOf tree lower types programs variables blocks externals functions own globals value_types global_numbers
+      task_numbers program_numbers function_numbers
+  filled globals value_types global_numbers task_numbers program_numbers function_numbers g v n t p f =
       let globals_are : globals ≡ globals_of tree =
       g ∙ ap (λ (names : TypeNames). flat_map (globals_in names) (declared_globals_of tree)) types_are
       in
@@ -85,6 +93,9 @@ module _ (tree : Tree) (lower : List ℕ) (types : Kept (Option DataType)) (prog
         externals_numbered =
             subst (λ (s : Name → List ℕ). AreAllNumbers s external_names programs externals) same
             gathered.externals_numbered;
+        functions_declared = functions_are;
+        own_numbered =
+            subst (λ (s : Name → List ℕ). AreAllNumbers s names_of_function functions own) same gathered.own_numbered;
         global_variables = globals_are;
         global_types =
             v ∙ ap (λ (names : TypeNames). flat_map (value_types_in names) (declared_globals_of tree)) types_are;
@@ -95,6 +106,9 @@ module _ (tree : Tree) (lower : List ℕ) (types : Kept (Option DataType)) (prog
         programs_numbered =
             subst (λ (ps : List DeclaredProgram). AreNumbersOf (folded tree.text) (map (λ p. p.program.name) ps)
             program_numbers) programs_are (numbered (map (λ p. p.program.name) programs) program_numbers p);
+        functions_numbered =
+            subst (λ (fs : List DeclaredFunction). AreNumbersOf (folded tree.text) (map (λ f. f.function.name) fs)
+            function_numbers) functions_are (numbered (map (λ f. f.function.name) functions) function_numbers f);
       }
 
   pub found_in_tables : (globals : List DeclaredGlobal) (element configured : Option Found) →
@@ -143,9 +157,11 @@ moved_twice lower l names ns found e f h =
 
 -- and what is gathered
 pub moved_gathered : (lower l : List ℕ) (front elements : List Element) (types : Kept (Option DataType))
-    (programs : List DeclaredProgram) (variables blocks externals : List (Kept ℕ)) (least : Option Found) →
-    lower ≡ l → front ≡ elements → IsGathered lower front types programs variables blocks externals least →
-    IsGathered l elements types programs variables blocks externals least
-moved_gathered lower l front elements types programs variables blocks externals least e f h =
-    subst (λ (w : List ℕ). IsGathered w elements types programs variables blocks externals least) e
-    (subst (λ (es : List Element). IsGathered lower es types programs variables blocks externals least) f h)
+    (programs : List DeclaredProgram) (variables blocks externals : List (Kept ℕ)) (functions : List DeclaredFunction)
+    (own : List (Kept ℕ)) (least : Option Found) → lower ≡ l → front ≡ elements →
+    IsGathered lower front types programs variables blocks externals functions own least →
+    IsGathered l elements types programs variables blocks externals functions own least
+moved_gathered lower l front elements types programs variables blocks externals functions own least e f h =
+    subst (λ (w : List ℕ). IsGathered w elements types programs variables blocks externals functions own least) e
+    (subst (λ (es : List Element). IsGathered lower es types programs variables blocks externals functions own least) f
+    h)

@@ -3,14 +3,13 @@ use Rattle.std.proofs.Common.{◌≡◌, ℕ, List, [], ◌∷◌, refl, sym, su
 use Rattle.std.specs.Prelude.{Option, Some, None, MatchOption}
 use Rattle.ilsource.specs.Configurations.{DeclaredGlobals}
 use Rattle.ilsource.specs.Names.{folded}
-use Rattle.ilsource.specs.Programs.{DeclaredNames}
-use Rattle.ilsource.specs.SourceTrees.{Tree, programs_of}
-use Rattle.ilsource.specs.declared.declaration.TypeDeclaration.{TypeDeclaration}
+use Rattle.ilsource.specs.Programs.{DeclaredNames, Written, WrittenFunction}
+use Rattle.ilsource.specs.SourceTrees.{Tree, functions_of, programs_of}
 use Rattle.ilsource.specs.declared.name.Name.{Name}
 use Rattle.ilsource.specs.declared.source.Element.{Element}
-use Rattle.ilsource.specs.declared.source.Element.TheVariants.{DerivedType, Program}
-use Rattle.ildeclared.specs.DataTypes.{TypeNames, types_below}
-use Rattle.ildeclared.specs.Declarations.{names_of}
+use Rattle.ilsource.specs.declared.source.Element.TheVariants.{DerivedType, Function, Program}
+use Rattle.ildeclared.specs.DataTypes.{TypeNames}
+use Rattle.ildeclared.specs.Declarations.{function_names, names_of}
 use Rattle.ildeclared.specs.Faults.{SomeOf, IsBadIn, IsLeast, IsLeastOf, IsUnknownTypeIn, IsFaultIn}
 use Rattle.ildeclared.specs.Globals.{as_variables}
 use Rattle.ildeclared.specs.Order.{lesser_of_two}
@@ -24,7 +23,7 @@ use Rattle.ildeclared.specs.declared.found.Found.{Found}
 use Rattle.ildeclared.proofs.FoundOrder.{best_same, or_else}
 use Rattle.ildeclared.proofs.Least.{both_least}
 use Rattle.ilscope.specs.Configured.{declared_globals_of, types_of_text}
-use Rattle.ilscope.specs.Declarations.{Standing, declarations_in, standing}
+use Rattle.ilscope.specs.Declarations.{Standing, declarations_in, standing, types_at}
 use Rattle.ilscope.specs.Faults.{IsFaultOfDeclarations, IsTwiceIn}
 use Rattle.ilscope.specs.Reports.{IsReportOf, IsReportOfOption, ReportsLeast}
 use Rattle.ilscope.specs.ScopeSteps.{IsFaultInElements, IsFaultInGlobals, IsFaultInTables, IsFaultOfElement}
@@ -49,22 +48,42 @@ some_one P (x ∷ xs) (inl p) = (p.0, inl p.1)
 some_one P (x ∷ xs) (inr s) = let t = some_one P xs s in (t.0, inr t.1)
 
 module _ (spelled : Name → List ℕ) (place : ℕ) where
-  to_programs : (above : List TypeDeclaration) (all : List Element)
-      → SomeOf (λ one. IsTwiceIn spelled (names_in one.element) place) (standing above all) →
-      SomeOf (λ program. IsTwiceIn spelled (names_of program) place) (programs_of all)
-  to_programs above [] s = s
-  to_programs above (DerivedType type ∷ more) (inl t) = absurd t
-  to_programs above (DerivedType type ∷ more) (inr s) = to_programs (type ∷ above) more s
-  to_programs above (Program program ∷ more) (inl t) = inl t
-  to_programs above (Program program ∷ more) (inr s) = inr (to_programs above more s)
+  abbrev IsProgramTwice : Written → Type 0
+  IsProgramTwice program = IsTwiceIn spelled (names_of program) place
 
-  from_programs : (above : List TypeDeclaration) (all : List Element)
-      → SomeOf (λ program. IsTwiceIn spelled (names_of program) place) (programs_of all) →
-      SomeOf (λ one. IsTwiceIn spelled (names_in one.element) place) (standing above all)
+  abbrev IsFunctionTwice : WrittenFunction → Type 0
+  IsFunctionTwice function = IsTwiceIn spelled (function_names function) place
+
+  abbrev IsOneTwice : Standing → Type 0
+  IsOneTwice one = IsTwiceIn spelled (names_in one.element) place
+
+  to_elements : (above all : List Element) → SomeOf IsOneTwice (standing above all)
+      → SomeOf IsProgramTwice (programs_of all) ⊎ SomeOf IsFunctionTwice (functions_of all)
+  to_elements above [] s = absurd s
+  to_elements above (DerivedType type ∷ more) (inl t) = absurd t
+  to_elements above (DerivedType type ∷ more) (inr s) = to_elements (DerivedType type ∷ above) more s
+  to_elements above (Function function ∷ more) (inl t) = inr (inl t)
+  to_elements above (Function function ∷ more) (inr s) =
+      or_else (λ p. inl p) (λ f. inr (inr f)) (to_elements (Function function ∷ above) more s)
+  to_elements above (Program program ∷ more) (inl t) = inl (inl t)
+  to_elements above (Program program ∷ more) (inr s) =
+      or_else (λ p. inl (inr p)) (λ f. inr f) (to_elements (Program program ∷ above) more s)
+
+  from_programs : (above all : List Element) → SomeOf IsProgramTwice (programs_of all)
+      → SomeOf IsOneTwice (standing above all)
   from_programs above [] s = s
-  from_programs above (DerivedType type ∷ more) s = inr (from_programs (type ∷ above) more s)
+  from_programs above (DerivedType type ∷ more) s = inr (from_programs (DerivedType type ∷ above) more s)
+  from_programs above (Function function ∷ more) s = inr (from_programs (Function function ∷ above) more s)
   from_programs above (Program program ∷ more) (inl t) = inl t
-  from_programs above (Program program ∷ more) (inr s) = inr (from_programs above more s)
+  from_programs above (Program program ∷ more) (inr s) = inr (from_programs (Program program ∷ above) more s)
+
+  from_functions : (above all : List Element) → SomeOf IsFunctionTwice (functions_of all)
+      → SomeOf IsOneTwice (standing above all)
+  from_functions above [] s = s
+  from_functions above (DerivedType type ∷ more) s = inr (from_functions (DerivedType type ∷ above) more s)
+  from_functions above (Program program ∷ more) s = inr (from_functions (Program program ∷ above) more s)
+  from_functions above (Function function ∷ more) (inl t) = inl t
+  from_functions above (Function function ∷ more) (inr s) = inr (from_functions (Function function ∷ above) more s)
 
 -- the faults of one element, by their causes
 module _ (spelled : Name → List ℕ) (place : ℕ) where
@@ -73,17 +92,17 @@ module _ (spelled : Name → List ℕ) (place : ℕ) where
 
   abbrev IsUnknownAt : Standing → Type 0
   IsUnknownAt one =
-      SomeOf (λ d. IsUnknownTypeIn (types_below spelled one.above) place d.declared) (declarations_in one.element)
+      SomeOf (λ d. IsUnknownTypeIn (types_at spelled one) place d.declared) (declarations_in one.element)
 
   abbrev IsBadAt : Standing → Type 0
-  IsBadAt one = SomeOf (λ d. IsBadIn (types_below spelled one.above) place d) (declarations_in one.element)
+  IsBadAt one = SomeOf (λ d. IsBadIn (types_at spelled one) place d) (declarations_in one.element)
 
   said : (cause : NameCause) (one : Standing)
-      → SomeOf (λ d. IsFaultIn (types_below spelled one.above) d place cause) (declarations_in one.element) →
+      → SomeOf (λ d. IsFaultIn (types_at spelled one) d place cause) (declarations_in one.element) →
       ((cause ≡ Unknown) × IsUnknownAt one) ⊎ ((cause ≡ BadDeclaration) × IsBadAt one)
   said cause one s =
-      let unknown = λ (d : DeclaredNames). IsUnknownTypeIn (types_below spelled one.above) place d.declared in
-      let bad = λ (d : DeclaredNames). IsBadIn (types_below spelled one.above) place d in
+      let unknown = λ (d : DeclaredNames). IsUnknownTypeIn (types_at spelled one) place d.declared in
+      let bad = λ (d : DeclaredNames). IsBadIn (types_at spelled one) place d in
       or_else (λ u. inl (some_one unknown (declarations_in one.element) u))
       (λ b. inr (some_one bad (declarations_in one.element) b))
       (some_either (λ d. (cause ≡ Unknown) × unknown d) (λ d. (cause ≡ BadDeclaration) × bad d)
@@ -130,7 +149,8 @@ module _ (scoped : Scoped) where
   elements_are : (place : ℕ) (cause : NameCause) → IsFaultInElements tree place cause → IsFault place cause
   elements_are place cause s =
       or_else
-      (λ t. of_its place cause Twice t.0 (inr (inl (to_programs (folded tree.text) place [] tree.elements t.1))))
+      (λ t. of_its place cause Twice t.0
+      (or_else (λ p. inr (inl p)) (λ f. inr (inr (inl f))) (to_elements (folded tree.text) place [] tree.elements t.1)))
       (λ r. or_else
       (λ u. of_its place cause Unknown u.0 (inl (inl u.1)))
       (λ b. of_its place cause BadDeclaration b.0 (inl (inl b.1))) r)
@@ -139,8 +159,8 @@ module _ (scoped : Scoped) where
   tables_are : (place : ℕ) (cause : NameCause) → IsFaultInTables tree place cause → IsFault place cause
   tables_are place cause (inl s) = elements_are place cause s
   tables_are place cause (inr (e, inl t)) = of_its place cause Twice e (inl t)
-  tables_are place cause (inr (e, inr (inl t))) = of_its place cause Twice e (inr (inr (inl t)))
-  tables_are place cause (inr (e, inr (inr t))) = of_its place cause Twice e (inr (inr (inr (inl t))))
+  tables_are place cause (inr (e, inr (inl t))) = of_its place cause Twice e (inr (inr (inr (inl t))))
+  tables_are place cause (inr (e, inr (inr t))) = of_its place cause Twice e (inr (inr (inr (inr (inl t)))))
 
   globals_are : (place : ℕ) (cause : NameCause) → IsFaultInGlobals tree place cause → IsFault place cause
   globals_are place cause s =
@@ -152,7 +172,7 @@ module _ (scoped : Scoped) where
   configured_are : (place : ℕ) (cause : NameCause) → IsFaultOfConfiguration scoped place cause → IsFault place cause
   configured_are place cause (inl (inl s)) = globals_are place cause s
   configured_are place cause (inl (inr s)) = of_its place cause Unknown s.0 (inr s.1)
-  configured_are place cause (inr (inl (inl s))) = of_its place cause Twice s.0 (inr (inr (inr (inr s.1))))
+  configured_are place cause (inr (inl (inl s))) = of_its place cause Twice s.0 (inr (inr (inr (inr (inr s.1)))))
   configured_are place cause (inr (inl (inr s))) = of_its place cause BadDeclaration s.0 (inr s.1)
   configured_are place cause (inr (inr (inl (inl s)))) = of_its place cause BadAddress s.0 s.1
   configured_are place cause (inr (inr (inl (inr (inl s))))) = of_its place cause InputRangeTooSmall s.0 s.1
@@ -173,9 +193,12 @@ module _ (scoped : Scoped) where
   are_found place Twice (inr (inl s)) =
       inl (inl (some_of (λ one t. inl (refl, t)) (standing [] tree.elements)
       (from_programs (folded tree.text) place [] tree.elements s)))
-  are_found place Twice (inr (inr (inl t))) = inl (inr (refl, inr (inl t)))
-  are_found place Twice (inr (inr (inr (inl t)))) = inl (inr (refl, inr (inr t)))
-  are_found place Twice (inr (inr (inr (inr t)))) = inr (inr (inl (inl (refl, t))))
+  are_found place Twice (inr (inr (inl s))) =
+      inl (inl (some_of (λ one t. inl (refl, t)) (standing [] tree.elements)
+      (from_functions (folded tree.text) place [] tree.elements s)))
+  are_found place Twice (inr (inr (inr (inl t)))) = inl (inr (refl, inr (inl t)))
+  are_found place Twice (inr (inr (inr (inr (inl t))))) = inl (inr (refl, inr (inr t)))
+  are_found place Twice (inr (inr (inr (inr (inr t))))) = inr (inr (inl (inl (refl, t))))
   are_found place UnknownLabel s = absurd s
   are_found place BackwardJump s = absurd s
   are_found place BadAddress s = inr (inr (inr (inl (inl (refl, s)))))

@@ -35,7 +35,7 @@ use Rattle.ilsource.specs.declared.declaration.Specification.TheVariants as spec
 use Rattle.ilsource.specs.declared.declaration.TypeDeclaration.{TypeDeclaration}
 use Rattle.ilsource.specs.declared.name.Name.{Name}
 use Rattle.ilsource.specs.declared.source.Element.{Element}
-use Rattle.ilsource.specs.declared.source.Element.TheVariants.{DerivedType, Program}
+use Rattle.ilsource.specs.declared.source.Element.TheVariants.{DerivedType, Function, Program}
 use Rattle.ildeclared.specs.DataTypes.{TypeNames, data_type, declared_type, range_if, truth_values, types_below}
 use Rattle.ildeclared.specs.DataTypes.{value_in, whole_numbers, with_initial}
 use Rattle.ildeclared.specs.Declarations.{type_of, values_of}
@@ -50,7 +50,7 @@ use Rattle.ildeclared.specs.declared.fault.NameCause.TheVariants.{BadDeclaration
 use Rattle.ildeclared.specs.declared.global.DeclaredGlobal.{DeclaredGlobal}
 use Rattle.ildeclared.proofs.Subranges.{le_to}
 use Rattle.ilscope.specs.Configured.{declared_globals_of, globals_of, types_of_text}
-use Rattle.ilscope.specs.Declarations.{declarations_in, standing}
+use Rattle.ilscope.specs.Declarations.{declarations_in, standing, types_at}
 use Rattle.ilscope.specs.Faults.{IsFaultOfDeclarations}
 use Rattle.ilscope.proofs.Typed.{declared_typed_globals, has_zero}
 
@@ -145,37 +145,40 @@ sound_more spelled above type sound its name =
     by None h false p e f = absurd cc
 
 module _ (spelled : Name → List ℕ) where
-  abbrev IsUnknownFrom : List TypeDeclaration → List Element → ℕ → Type 0
+  abbrev IsUnknownFrom : List Element → List Element → ℕ → Type 0
   IsUnknownFrom above elements place =
       SomeOf
-      (λ one.
-      SomeOf (λ d. IsUnknownTypeIn (types_below spelled one.above) place d.declared) (declarations_in one.element))
+      (λ one. SomeOf (λ d. IsUnknownTypeIn (types_at spelled one) place d.declared) (declarations_in one.element))
       (standing above elements)
 
-  abbrev IsBadFrom : List TypeDeclaration → List Element → ℕ → Type 0
+  abbrev IsBadFrom : List Element → List Element → ℕ → Type 0
   IsBadFrom above elements place =
       SomeOf
-      (λ one. SomeOf (λ d. IsBadIn (types_below spelled one.above) place d) (declarations_in one.element))
+      (λ one. SomeOf (λ d. IsBadIn (types_at spelled one) place d) (declarations_in one.element))
       (standing above elements)
 
-  sound_below : (elements : List Element) (above : List TypeDeclaration) → IsSound (types_below spelled above)
+  sound_below : (elements above : List Element) → IsSound (types_below spelled (types_of above))
       → ((place : ℕ) → ¬ IsUnknownFrom above elements place) → ((place : ℕ) → ¬ IsBadFrom above elements place)
-      → IsSound (types_below spelled (reverse (types_of elements) ++ above))
+      → IsSound (types_below spelled (reverse (types_of elements) ++ types_of above))
   sound_below [] above sound known good = sound
   sound_below (DerivedType type ∷ more) above sound known good =
-      let its = meant (types_below spelled above) sound type.specification type.initial
+      let types : List TypeDeclaration = types_of above in
+      let its = meant (types_below spelled types) sound type.specification type.initial
       (λ place u. known place (inl (inl u))) (λ b. good type.name.from (inl (inl (b, refl))))
       in
-      let rest = sound_below more (type ∷ above) (sound_more spelled above type sound its)
+      let rest = sound_below more (DerivedType type ∷ above) (sound_more spelled types type sound its)
       (λ place s. known place (inr s)) (λ place s. good place (inr s))
       in
-      let order : reverse (types_of more) ++ type ∷ above ≡ reverse (type ∷ types_of more) ++ above =
-      sym (append_assoc (reverse (types_of more)) (type ∷ []) above)
-      ∙ ap (λ (ts : List TypeDeclaration). ts ++ above) (sym (reverse-append (type ∷ []) (types_of more)))
+      let order : reverse (types_of more) ++ type ∷ types ≡ reverse (type ∷ types_of more) ++ types =
+      sym (append_assoc (reverse (types_of more)) (type ∷ []) types)
+      ∙ ap (λ (ts : List TypeDeclaration). ts ++ types) (sym (reverse-append (type ∷ []) (types_of more)))
       in
       subst (λ (ts : List TypeDeclaration). IsSound (types_below spelled ts)) order rest
+  sound_below (Function function ∷ more) above sound known good =
+      sound_below more (Function function ∷ above) sound (λ place s. known place (inr s))
+      (λ place s. good place (inr s))
   sound_below (Program program ∷ more) above sound known good =
-      sound_below more above sound (λ place s. known place (inr s)) (λ place s. good place (inr s))
+      sound_below more (Program program ∷ above) sound (λ place s. known place (inr s)) (λ place s. good place (inr s))
 
 -- ---- global variables
 
@@ -433,4 +436,4 @@ pub globals_apart : (tree : Tree) (wiring : Wiring)
     → ((place : ℕ) (cause : NameCause) → ¬ IsFaultOfDeclarations tree wiring place cause)
     → AllPairs AreAtOthers (globals_of tree)
 globals_apart tree wiring h =
-    apart (globals_of tree) (λ place s. h place Twice (inr (inr (inr (inr (inr s))))))
+    apart (globals_of tree) (λ place s. h place Twice (inr (inr (inr (inr (inr (inr s)))))))

@@ -1,5 +1,6 @@
 -- Each variable's initial value is one of its type.
-use Rattle.std.proofs.Common.{◌≡◌, ℕ, zero, suc, ℤ, pos, ◌≤ℤ◌, List, [], ◌∷◌, map, Bool, true, false, refl, arith}
+use Rattle.std.proofs.Common.{◌≡◌, ℕ, zero, suc, ℤ, pos, ◌≤ℤ◌, List, [], ◌∷◌, length, map, Bool, true, false, refl}
+use Rattle.std.proofs.Common.{arith}
 use Rattle.std.proofs.Math.Dec.{T}
 use Rattle.std.proofs.lemmas.Int.{ints}
 use Rattle.std.proofs.lemmas.List.Elements.{All-append, All-map, All-nil}
@@ -17,9 +18,9 @@ use Rattle.iltypes.specs.Functions.{least_of, greatest_of}
 use Rattle.iltypes.specs.declared.function.IntegerType.{IntegerType}
 use Rattle.iltypes.specs.declared.function.IntegerType.TheVariants as integers
 use Rattle.ilsource.specs.Names.{folded}
-use Rattle.ilsource.specs.Programs.{DeclaredNames}
+use Rattle.ilsource.specs.Programs.{DeclaredNames, WrittenFunction}
 use Rattle.ilsource.specs.Configurations.{DeclaredGlobals}
-use Rattle.ilsource.specs.SourceTrees.{Tree, types_of}
+use Rattle.ilsource.specs.SourceTrees.{Tree, functions_of, types_of}
 use Rattle.ilsource.specs.declared.address.DirectAddress.{DirectAddress}
 use Rattle.ilsource.specs.declared.declaration.Constant.{Constant}
 use Rattle.ilsource.specs.declared.declaration.Constant.TheVariants as constants
@@ -30,17 +31,19 @@ use Rattle.ilsource.specs.declared.declaration.Specification.TheVariants as spec
 use Rattle.ilsource.specs.declared.declaration.TypeDeclaration.{TypeDeclaration}
 use Rattle.ilsource.specs.declared.name.Name.{Name}
 use Rattle.ilsource.specs.declared.source.Element.{Element}
-use Rattle.ilsource.specs.declared.source.Element.TheVariants.{DerivedType, Program}
+use Rattle.ilsource.specs.declared.source.Element.TheVariants.{DerivedType, Function, Program}
 use Rattle.ildeclared.specs.DataTypes.{TypeNames, data_type, declared_type, number_in, range_if, truth_of, types_below}
 use Rattle.ildeclared.specs.DataTypes.{value_in, whole_numbers, with_initial}
-use Rattle.ildeclared.specs.Declarations.{type_of, variable, variables_among, variables_in}
+use Rattle.ildeclared.specs.Declarations.{own_variables_of, result_variable, type_of, variable, variables_among}
+use Rattle.ildeclared.specs.Declarations.{variables_in}
 use Rattle.ildeclared.specs.Globals.{global, global_type, globals_in, initial_at, located_type}
 use Rattle.ildeclared.specs.declared.data_type.DataType.{DataType}
 use Rattle.ildeclared.specs.declared.global.DeclaredGlobal.{DeclaredGlobal}
 use Rattle.ildeclared.specs.declared.variable.DeclaredVariable.{DeclaredVariable}
 use Rattle.ildeclared.proofs.Subranges.{le_from}
 use Rattle.ilscope.specs.Configured.{declared_globals_of, globals_of, types_of_text}
-use Rattle.ilscope.specs.Declarations.{DeclaredProgram, declared_program, declared_programs, standing, with_declared}
+use Rattle.ilscope.specs.Declarations.{DeclaredFunction, DeclaredProgram, declared_function, declared_functions}
+use Rattle.ilscope.specs.Declarations.{declared_program, declared_programs, standing, with_declared, with_inputs}
 
 abbrev IsTyped : DataType → Type 0
 IsTyped type = IsOf type.initial type.value_type
@@ -178,22 +181,47 @@ all_one : {X : Type 0} (P : X → Type 0) (x : X) → P x → All P (x ∷ [])
 all_one P x h zero d below = h
 all_one P x h (suc k) d below = absurd (omega arith)
 
-programs_typed : (spelled : Name → List ℕ) (above : List TypeDeclaration) (all : List Element) →
+programs_typed : (spelled : Name → List ℕ) (above all : List Element) →
     All (λ p. All IsTypedVariable p.variables) (filter_map (declared_program spelled) (standing above all))
 programs_typed spelled above [] = All-nil (λ (p : DeclaredProgram). All IsTypedVariable p.variables)
-programs_typed spelled above (DerivedType type ∷ more) = programs_typed spelled (type ∷ above) more
+programs_typed spelled above (DerivedType type ∷ more) = programs_typed spelled (DerivedType type ∷ above) more
+programs_typed spelled above (Function f ∷ more) = programs_typed spelled (Function f ∷ above) more
 programs_typed spelled above (Program p ∷ more) =
-    All-append (λ (q : DeclaredProgram). All IsTypedVariable q.variables)
-    (with_declared (types_below spelled above) p ∷ [])
-    (filter_map (declared_program spelled) (standing above more))
-    (all_one (λ (q : DeclaredProgram). All IsTypedVariable q.variables)
-    (with_declared (types_below spelled above) p)
-    (variables_typed (types_below spelled above) (below_typed spelled above) p.declarations))
-    (programs_typed spelled above more)
+    let types = types_below spelled (types_of above) in
+    let one = with_declared types (length (functions_of above)) p in
+    All-append (λ (q : DeclaredProgram). All IsTypedVariable q.variables) (one ∷ [])
+    (filter_map (declared_program spelled) (standing (Program p ∷ above) more))
+    (all_one (λ (q : DeclaredProgram). All IsTypedVariable q.variables) one
+    (variables_typed types (below_typed spelled (types_of above)) p.declarations))
+    (programs_typed spelled (Program p ∷ above) more)
 
 -- each initial value is one of its variable's type
 pub declared_typed_programs : (tree : Tree) → All (λ p. All IsTypedVariable p.variables) (declared_programs tree)
 declared_typed_programs tree = programs_typed (folded tree.text) [] tree.elements
+
+own_typed : (above : TypeNames) → AreTyped above → (f : WrittenFunction)
+    → All IsTypedVariable (own_variables_of above f)
+own_typed above h f =
+    All-append IsTypedVariable (result_variable above f ∷ []) (flat_map (variables_in above) f.variables)
+    (all_one IsTypedVariable (result_variable above f) (type_typed above h f.result_type None))
+    (variables_typed above h f.variables)
+
+functions_typed : (spelled : Name → List ℕ) (above all : List Element) →
+    All (λ f. All IsTypedVariable f.variables) (filter_map (declared_function spelled) (standing above all))
+functions_typed spelled above [] = All-nil (λ (f : DeclaredFunction). All IsTypedVariable f.variables)
+functions_typed spelled above (DerivedType type ∷ more) = functions_typed spelled (DerivedType type ∷ above) more
+functions_typed spelled above (Program p ∷ more) = functions_typed spelled (Program p ∷ above) more
+functions_typed spelled above (Function f ∷ more) =
+    let types = types_below spelled (types_of above) in
+    let one = with_inputs types (length (functions_of above)) f in
+    All-append (λ (g : DeclaredFunction). All IsTypedVariable g.variables) (one ∷ [])
+    (filter_map (declared_function spelled) (standing (Function f ∷ above) more))
+    (all_one (λ (g : DeclaredFunction). All IsTypedVariable g.variables) one
+    (own_typed types (below_typed spelled (types_of above)) f))
+    (functions_typed spelled (Function f ∷ above) more)
+
+pub declared_typed_functions : (tree : Tree) → All (λ f. All IsTypedVariable f.variables) (declared_functions tree)
+declared_typed_functions tree = functions_typed (folded tree.text) [] tree.elements
 
 -- the same of a global variable
 abbrev pub IsTypedGlobal : DeclaredGlobal → Type 0

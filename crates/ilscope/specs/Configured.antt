@@ -15,7 +15,7 @@ use Rattle.ilsource.specs.declared.name.Name.{Name}
 use Rattle.ildeclared.specs.DataTypes.{TypeNames, types_below}
 use Rattle.ildeclared.specs.Globals.{globals_in, value_types_in}
 use Rattle.ildeclared.specs.declared.global.DeclaredGlobal.{DeclaredGlobal}
-use Rattle.ilscope.specs.Declarations.{declared_programs}
+use Rattle.ilscope.specs.Declarations.{declared_functions, declared_programs}
 use Rattle.ilscope.specs.Tables.{first_at}
 
 -- ---- global variables
@@ -71,3 +71,10 @@ task_number tree name =
 abbrev pub program_number : Tree → Name → Option ℕ
 program_number tree name =
     first_at (λ p. bytes_eq (folded tree.text name) (folded tree.text p.program.name)) (declared_programs tree)
+
+-- ---- functions
+
+-- the number of the function of this name
+abbrev pub function_number : Tree → Name → Option ℕ
+function_number tree name =
+    first_at (λ f. bytes_eq (folded tree.text name) (folded tree.text f.function.name)) (declared_functions tree)

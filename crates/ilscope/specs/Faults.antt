@@ -1,19 +1,21 @@
 -- Faults of declarations in a source program: each stands at a place of the text, a byte's offset, and has a cause
--- (IEC 61131-3, 2.3.3.1, 2.4.3 and 2.7.1: a name is declared once, a type above its use, an initial value is of the
--- type, an external is a global variable of the same type, a program instance is one of a program, with a task).
+-- (IEC 61131-3, 2.3.3.1, 2.4.3, 2.5.1 and 2.7.1: a name is declared once, a type above its use, an initial value is of
+-- the type, an external is a global variable of the same type, a program instance is one of a program, with a task;
+-- the profile's is that a function has an input and no block instance).
 use Rattle.std.specs.Prelude.{◌≡◌, ◌≢◌, ◌⊎◌, ⊤, ℕ, pos, ◌<ℤ◌, List, [], map, Option, Some, None, IsSomeAnd}
 use Rattle.wordlines.specs.Wirings.{Wiring}
 use Rattle.iltypes.specs.declared.value.IlType.{IlType}
 use Rattle.iltokens.specs.declared.lexed.AddressKind.TheVariants as address_kinds
 use Rattle.ilsource.specs.Names.{folded}
 use Rattle.ilsource.specs.Programs.{DeclaredNames}
-use Rattle.ilsource.specs.SourceTrees.{Tree, programs_of}
+use Rattle.ilsource.specs.SourceTrees.{Tree, functions_of, programs_of}
 use Rattle.ilsource.specs.declared.configuration.InstanceDeclaration.{InstanceDeclaration}
 use Rattle.ilsource.specs.declared.configuration.TaskDeclaration.{TaskDeclaration}
 use Rattle.ilsource.specs.declared.name.Name.{Name}
-use Rattle.ildeclared.specs.DataTypes.{TypeNames, types_below}
-use Rattle.ildeclared.specs.Declarations.{names_of}
-use Rattle.ildeclared.specs.Faults.{SomeOf, SomeLater, IsAddressTwice, IsBadAddressAt, IsBadIn, IsBadlyLocatedIn}
+use Rattle.ildeclared.specs.DataTypes.{TypeNames}
+use Rattle.ildeclared.specs.Declarations.{function_names, names_of}
+use Rattle.ildeclared.specs.Faults.{AreBlocksIn, SomeOf, SomeLater, IsAddressTwice, IsBadAddressAt, IsBadIn}
+use Rattle.ildeclared.specs.Faults.{IsBadlyLocatedIn}
 use Rattle.ildeclared.specs.Faults.{IsInputGivenIn, IsInputTooSmallIn, IsUnknownTypeIn}
 use Rattle.ildeclared.specs.Globals.{as_variables}
 use Rattle.ildeclared.specs.declared.fault.NameCause.{NameCause}
@@ -23,14 +25,15 @@ use Rattle.ildeclared.specs.declared.global.DeclaredGlobal.{DeclaredGlobal}
 use Rattle.ilscope.specs.Configured.{types_of_text, declared_globals_of, task_declarations, instance_declarations}
 use Rattle.ilscope.specs.Configured.{global_named, global_number, task_number, program_number, addresses_of, globals_of}
 use Rattle.ilscope.specs.Configured.{values_of_global}
-use Rattle.ilscope.specs.Declarations.{standing, declarations_in, declared_programs, name_of, DeclaredProgram}
+use Rattle.ilscope.specs.Declarations.{standing, declarations_in, declared_functions, declared_programs, name_of}
+use Rattle.ilscope.specs.Declarations.{types_at, DeclaredFunction, DeclaredProgram}
 
--- some declaration of a type, of variables or of global variables has the property, where the names of types mean this
--- above it
+-- some declaration of a type, of a function's result, of variables or of global variables has the property, where the
+-- names of types mean this above it
 abbrev pub SomeDeclaration : (TypeNames → DeclaredNames → Type 0) → Tree → Type 0
 SomeDeclaration P tree =
     SomeOf
-    (λ one. SomeOf (P (types_below (folded tree.text) one.above)) (declarations_in one.element))
+    (λ one. SomeOf (P (types_at (folded tree.text) one)) (declarations_in one.element))
     (standing [] tree.elements)
     ⊎ SomeOf (λ d. P (types_of_text tree) (as_variables d)) (declared_globals_of tree)
 
@@ -77,12 +80,14 @@ abbrev pub IsTwiceIn : (Name → List ℕ) → List Name → ℕ → Type 0
 IsTwiceIn spelled names place =
     SomeLater (λ earlier later. (spelled earlier ≡ spelled later) × (place ≡ later.from)) names
 
--- what is declared again at the place: a type or a program; a variable, block instance or external of a program; a
--- global variable, a task or a program instance; an address
+-- what is declared again at the place: a type, a function or a program; a variable, block instance or external of a
+-- program; a function's own name, an input or a variable of its VAR; a global variable, a task or a program instance;
+-- or an address
 abbrev pub IsTwice : Tree → ℕ → Type 0
 IsTwice tree place =
     IsTwiceIn (folded tree.text) (map name_of tree.elements) place
     ⊎ SomeOf (λ program. IsTwiceIn (folded tree.text) (names_of program) place) (programs_of tree.elements)
+    ⊎ SomeOf (λ function. IsTwiceIn (folded tree.text) (function_names function) place) (functions_of tree.elements)
     ⊎ IsTwiceIn (folded tree.text) (map (λ g. g.name) (globals_of tree)) place
     ⊎ IsTwiceIn (folded tree.text) (map (λ t. t.name) (task_declarations tree)) place
     ⊎ IsTwiceIn (folded tree.text) (map (λ i. i.name) (instance_declarations tree)) place
@@ -118,12 +123,21 @@ IsBadTask t = IsBadlyStarted t.single t.interval ⊎ (t.priority <ℤ pos 0) ⊎
 abbrev pub IsBadTaskAt : ℕ → TaskDeclaration → Type 0
 IsBadTaskAt place t = IsBadTask t × (place ≡ t.name.from)
 
+-- a function, its name at the place, has no input
+abbrev pub HasNoInput : ℕ → DeclaredFunction → Type 0
+HasNoInput place f = (f.inputs ≡ []) × (place ≡ f.function.name.from)
+
+-- a function has no input, or a declaration in its VAR, at the place, is of block instances
+abbrev pub IsBadFunction : ℕ → DeclaredFunction → Type 0
+IsBadFunction place f = HasNoInput place f ⊎ SomeOf (AreBlocksIn place) f.function.variables
+
 abbrev pub IsBad : Tree → ℕ → Type 0
 IsBad tree place =
     SomeDeclaration (λ types_above declaration. IsBadIn types_above place declaration) tree
     ⊎ IsOtherExternal tree place
     ⊎ IsBadlyLocated tree place
     ⊎ SomeOf (IsBadTaskAt place) (task_declarations tree)
+    ⊎ SomeOf (IsBadFunction place) (declared_functions tree)
 
 -- ---- addresses (profile)
 

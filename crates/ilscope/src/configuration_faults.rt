@@ -1,8 +1,9 @@
-//! The faults of a configuration, and of what names it.
+//! The faults of a configuration, of what names it, and of functions as such.
 
 ghost use Rattle.std.specs.Prelude.{◌≡◌};
 
 use crate::configuration::{declared_globals, instance_names, instances_of, tasks_of};
+use crate::functions::bad_functions;
 use crate::numbers::numbers_of;
 use crate::other_types::other_externals;
 use crate::tables::Tables;
@@ -83,7 +84,8 @@ impl<'a> Tables<'a> {
         addresses_of(alloc, self.globals.as_slice())
     }
 
-    /// The first external of another type, variable that does not fit its address, or bad task.
+    /// The first external of another type, variable that does not fit its address, bad task, or
+    /// function without an input or with a block instance.
     fn bad_declaration(&self) -> Option<Found>
         ensures { IsLeastOf (OfCause BadDeclaration (IsBadInConfiguration self.now)) result }
     {
@@ -96,7 +98,8 @@ impl<'a> Tables<'a> {
         );
         let located = badly_located(lower, &self.types, declared_globals(self.source));
         let task = bad_tasks(tasks_of(self.source));
-        lesser_of(external, lesser_of(located, task))
+        let function = bad_functions(self.functions.as_slice());
+        lesser_of(external, lesser_of(located, lesser_of(task, function)))
     }
 
     /// The first address that is not there, or SINGLE on a variable that is no trigger.

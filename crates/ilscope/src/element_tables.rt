@@ -1,17 +1,18 @@
 //! What the elements of a text declare, with the numbers of its programs.
 
 use crate::gathering::Gathering;
-use crate::numbers::{element_given_twice, numbers_of_programs};
+use crate::numbers::{element_given_twice, numbers_of_functions, numbers_of_programs};
 use ildeclared::{Found, Names};
 use ilsource::Element;
 use std::alloc::{AllocError, Global};
 
-/// What is gathered from all elements of a text, the numbers of its programs, and the least fault
-/// of a name of a type or a program that is given again.
+/// What is gathered from all elements of a text, the numbers of its programs and of its functions,
+/// and the least fault of a name of a type, a function or a program that is given again.
 #[derive(Drop)]
 pub(crate) struct ElementTables<'a> {
     pub(crate) gathering: Gathering<'a>,
     pub(crate) program_numbers: Names<usize>,
+    pub(crate) function_numbers: Names<usize>,
     pub(crate) element_twice: Option<Found>,
 }
 
@@ -33,18 +34,24 @@ impl<'a> ElementTables<'a> {
         ensures gathered { IfOk result (λ tables. IsGathered lower.now elements.now
             tables.gathering.types tables.gathering.programs.items
             tables.gathering.variable_numbers.items tables.gathering.block_numbers.items
-            tables.gathering.external_numbers.items tables.gathering.least) }
+            tables.gathering.external_numbers.items tables.gathering.functions.items
+            tables.gathering.own_numbers.items tables.gathering.least) }
         ensures programs { IfOk result (λ tables. AreNumbersOf (text_of lower.now)
             (map (λ p. p.program.name) tables.gathering.programs.items) tables.program_numbers) }
+        ensures functions { IfOk result (λ tables. AreNumbersOf (text_of lower.now)
+            (map (λ f. f.function.name) tables.gathering.functions.items)
+            tables.function_numbers) }
         ensures twice { IfOk result (λ tables. IsLeastOf (OfCause Twice
             (IsTwiceIn (text_of lower.now) (map name_of elements.now))) tables.element_twice) }
     {
         let element_twice = element_given_twice(alloc, lower, elements)?;
         let gathering = Gathering::of(alloc, lower, elements)?;
         let program_numbers = numbers_of_programs(alloc, lower, &gathering.programs)?;
+        let function_numbers = numbers_of_functions(alloc, lower, &gathering.functions)?;
         Ok(ElementTables {
             gathering,
             program_numbers,
+            function_numbers,
             element_twice,
         })
     }

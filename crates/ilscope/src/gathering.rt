@@ -3,13 +3,19 @@
 ghost use Rattle.std.specs.Prelude.{◌≡◌, ◌++◌, [], ◌∷◌, List, IfOk, OnOk, map};
 ghost use Rattle.ilsource.specs.declared.source.Element.{Element};
 ghost use Rattle.ilsource.specs.declared.source.Element.TheVariants as elements;
-ghost use Rattle.ilscope.specs.Declarations.{name_of};
+ghost use Rattle.ildeclared.specs.Faults.{IsFaultIn, IsLeastOf, SomeOf};
+ghost use Rattle.ildeclared.specs.Kept.{types_in};
+ghost use Rattle.ilscope.specs.Declarations.{declarations_in, name_of};
 ghost use Rattle.ilscope.specs.ScopeSteps.{IsGathered};
 
+use crate::function_scope::FunctionScope;
+use crate::function_tables::FunctionTables;
 use crate::program_scope::ProgramScope;
 use crate::program_tables::ProgramTables;
-use ildeclared::{DeclaredTypes, Found, Names, declared_type, fault_of, fault_of_all, lesser_of};
-use ilsource::{Declared, Element, Name, Program, TypeDeclaration};
+use ildeclared::{
+    DeclaredTypes, Found, Names, declared_type, fault_of, fault_of_all, fault_of_result, lesser_of,
+};
+use ilsource::{Declared, Element, Function, Name, Program, TypeDeclaration};
 use std::alloc::{AllocError, Global};
 
 /// What is gathered from the elements up to a place.
@@ -19,6 +25,8 @@ pub(crate) struct Gathering<'a> {
     pub(crate) variable_numbers: Vec<Names<usize>>,
     pub(crate) block_numbers: Vec<Names<usize>>,
     pub(crate) external_numbers: Vec<Names<usize>>,
+    pub(crate) functions: Vec<FunctionScope<'a>>,
+    pub(crate) own_numbers: Vec<Names<usize>>,
     pub(crate) least: Option<Found>,
 }
 
@@ -31,6 +39,8 @@ impl Drop for Gathering<'_> {
             variable_numbers: _,
             block_numbers: _,
             external_numbers: _,
+            functions: _,
+            own_numbers: _,
             least: _,
         } = self;
     }
@@ -44,7 +54,8 @@ impl<'a> Gathering<'a> {
         elements: &'a [Element],
     ) -> Result<Gathering<'a>, AllocError>
         ensures { IfOk result (λ g. IsGathered lower.now elements.now g.types g.programs.items
-            g.variable_numbers.items g.block_numbers.items g.external_numbers.items g.least) }
+            g.variable_numbers.items g.block_numbers.items g.external_numbers.items
+            g.functions.items g.own_numbers.items g.least) }
     {
         let mut gathering = Gathering {
             types: Names::new(alloc),
@@ -52,6 +63,8 @@ impl<'a> Gathering<'a> {
             variable_numbers: Vec::new(alloc),
             block_numbers: Vec::new(alloc),
             external_numbers: Vec::new(alloc),
+            functions: Vec::new(alloc),
+            own_numbers: Vec::new(alloc),
             least: None,
         };
         for element in elements {
@@ -69,6 +82,8 @@ impl<'a> Gathering<'a> {
         Vec<Names<usize>>,
         Vec<Names<usize>>,
         Vec<Names<usize>>,
+        Vec<FunctionScope<'a>>,
+        Vec<Names<usize>>,
         Option<Found>,
     )
         ensures types { result.0 ≡ self.entry.types }
@@ -76,7 +91,9 @@ impl<'a> Gathering<'a> {
         ensures variable_numbers { result.2 ≡ self.entry.variable_numbers }
         ensures block_numbers { result.3 ≡ self.entry.block_numbers }
         ensures external_numbers { result.4 ≡ self.entry.external_numbers }
-        ensures least { result.5 ≡ self.entry.least }
+        ensures functions { result.5 ≡ self.entry.functions }
+        ensures own_numbers { result.6 ≡ self.entry.own_numbers }
+        ensures least { result.7 ≡ self.entry.least }
     {
         let Gathering {
             types,
@@ -84,6 +101,8 @@ impl<'a> Gathering<'a> {
             variable_numbers,
             block_numbers,
             external_numbers,
+            functions,
+            own_numbers,
             least,
         } = self;
         (
@@ -92,6 +111,8 @@ impl<'a> Gathering<'a> {
             variable_numbers,
             block_numbers,
             external_numbers,
+            functions,
+            own_numbers,
             least,
         )
     }
@@ -102,14 +123,17 @@ impl<'a> Gathering<'a> {
             → IsGathered lower.now front
             self.old.types self.old.programs.items
             self.old.variable_numbers.items self.old.block_numbers.items
-            self.old.external_numbers.items self.old.least
+            self.old.external_numbers.items self.old.functions.items
+            self.old.own_numbers.items self.old.least
             → IsGathered lower.now (front ++ element.now ∷ [])
             self.new.types self.new.programs.items
             self.new.variable_numbers.items self.new.block_numbers.items
-            self.new.external_numbers.items self.new.least) }
+            self.new.external_numbers.items self.new.functions.items
+            self.new.own_numbers.items self.new.least) }
     {
         match element {
             Element::DerivedType(declared) => self.add_type(alloc, lower, *declared),
+            Element::Function(function) => self.add_function(alloc, lower, function),
             Element::Program(program) => self.add_program(alloc, lower, program),
         }
     }
@@ -125,11 +149,13 @@ impl<'a> Gathering<'a> {
             → IsGathered lower.now front
             self.old.types self.old.programs.items
             self.old.variable_numbers.items self.old.block_numbers.items
-            self.old.external_numbers.items self.old.least
+            self.old.external_numbers.items self.old.functions.items
+            self.old.own_numbers.items self.old.least
             → IsGathered lower.now (front ++ elements.DerivedType declared ∷ [])
             self.new.types self.new.programs.items
             self.new.variable_numbers.items self.new.block_numbers.items
-            self.new.external_numbers.items self.new.least) }
+            self.new.external_numbers.items self.new.functions.items
+            self.new.own_numbers.items self.new.least) }
     {
         let TypeDeclaration {
             name,
@@ -147,6 +173,39 @@ impl<'a> Gathering<'a> {
         Ok(())
     }
 
+    /// Adds a function, the next element.
+    fn add_function(
+        &mut self,
+        alloc: Global,
+        lower: &[u8],
+        function: &'a Function,
+    ) -> Result<(), AllocError>
+        ensures { OnOk result ((front : List Element)
+            → IsGathered lower.now front
+            self.old.types self.old.programs.items
+            self.old.variable_numbers.items self.old.block_numbers.items
+            self.old.external_numbers.items self.old.functions.items
+            self.old.own_numbers.items self.old.least
+            → IsGathered lower.now (front ++ elements.Function function.now ∷ [])
+            self.new.types self.new.programs.items
+            self.new.variable_numbers.items self.new.block_numbers.items
+            self.new.external_numbers.items self.new.functions.items
+            self.new.own_numbers.items self.new.least) }
+    {
+        let above = self.functions.len();
+        let tables = FunctionTables::of(alloc, lower, &self.types, above, function)?;
+        let fault = fault_of_function(lower, &self.types, function);
+        let FunctionTables {
+            scope,
+            own_numbers,
+            twice,
+        } = tables;
+        self.own_numbers.push(own_numbers)?;
+        self.functions.push(scope)?;
+        self.least = lesser_of(self.least, lesser_of(twice, fault));
+        Ok(())
+    }
+
     /// Adds a program, the next element.
     fn add_program(
         &mut self,
@@ -158,13 +217,16 @@ impl<'a> Gathering<'a> {
             → IsGathered lower.now front
             self.old.types self.old.programs.items
             self.old.variable_numbers.items self.old.block_numbers.items
-            self.old.external_numbers.items self.old.least
+            self.old.external_numbers.items self.old.functions.items
+            self.old.own_numbers.items self.old.least
             → IsGathered lower.now (front ++ elements.Program program.now ∷ [])
             self.new.types self.new.programs.items
             self.new.variable_numbers.items self.new.block_numbers.items
-            self.new.external_numbers.items self.new.least) }
+            self.new.external_numbers.items self.new.functions.items
+            self.new.own_numbers.items self.new.least) }
     {
-        let tables = ProgramTables::of(alloc, lower, &self.types, program)?;
+        let above = self.functions.len();
+        let tables = ProgramTables::of(alloc, lower, &self.types, above, program)?;
         let fault = fault_of_all(lower, &self.types, program.declarations());
         let ProgramTables {
             scope,
@@ -185,6 +247,21 @@ impl<'a> Gathering<'a> {
         self.least = lesser_of(self.least, lesser_of(twice, fault));
         Ok(())
     }
+}
+
+/// The least fault of what a function declares below these types: of its result, its inputs or its
+/// VAR. `lower` is the text in lower case.
+fn fault_of_function(lower: &[u8], types: &DeclaredTypes, function: &Function) -> Option<Found>
+    ensures { IsLeastOf (λ place cause. SomeOf
+        (λ d. IsFaultIn (types_in lower.now types.now) d place cause)
+        (declarations_in (elements.Function function.now))) result }
+{
+    let inputs = fault_of_all(lower, types, function.inputs());
+    let variables = fault_of_all(lower, types, function.variables());
+    lesser_of(
+        fault_of_result(lower, types, function),
+        lesser_of(inputs, variables),
+    )
 }
 
 /// Adds the numbers of one program's names to those of the programs before it. It is apart from
@@ -209,7 +286,7 @@ fn add_numbers(
     Ok(())
 }
 
-/// The names of types and programs.
+/// The names of types, functions and programs.
 pub(crate) fn element_names(alloc: Global, elements: &[Element]) -> Result<Vec<Name>, AllocError>
     ensures { IfOk result (λ v. v.items ≡ map name_of elements.now) }
 {
@@ -217,6 +294,7 @@ pub(crate) fn element_names(alloc: Global, elements: &[Element]) -> Result<Vec<N
     for element in elements {
         names.push(match element {
             Element::DerivedType(declared) => declared.name,
+            Element::Function(function) => function.name(),
             Element::Program(program) => program.name(),
         })?;
     }

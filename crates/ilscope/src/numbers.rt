@@ -1,6 +1,7 @@
 //! Numbers of names, and names that are given again.
 
-ghost use Rattle.std.specs.Prelude.{◌≡◌, ℕ, List, IfOk, OnOk, IsSome, bytes_eq, map};
+ghost use Rattle.std.specs.Prelude.{◌≡◌, ◌++◌, ℕ, List, IfOk, OnOk, IsSome, bytes_eq};
+ghost use Rattle.std.specs.Prelude.{map};
 ghost use Rattle.std.specs.Map.{lookup};
 ghost use Rattle.ilsource.specs.Names.{text_of};
 ghost use Rattle.ildeclared.specs.Declarations.{names_of};
@@ -13,6 +14,7 @@ ghost use Rattle.ilscope.specs.Faults.{IsTwiceIn};
 ghost use Rattle.ilscope.specs.Tables.{first_at};
 
 use crate::configuration::{program_names, task_names, tasks_of};
+use crate::function_scope::FunctionScope;
 use crate::gathering::element_names;
 use crate::program_scope::ProgramScope;
 use ildeclared::{
@@ -66,7 +68,7 @@ fn add_name(
     }))
 }
 
-/// The least fault of a name of a type or program that is given again.
+/// The least fault of a name of a type, a function or a program that is given again.
 pub(crate) fn element_given_twice(
     alloc: Global,
     lower: &[u8],
@@ -139,6 +141,52 @@ pub(crate) fn numbers_of_variables(
     let names = variable_names(alloc, variables)?;
     let (numbers, _) = numbers_of(alloc, lower, &names)?;
     Ok(numbers)
+}
+
+/// The numbers of a function's inputs and, after them, of its other variables under their names.
+pub(crate) fn numbers_of_own(
+    alloc: Global,
+    lower: &[u8],
+    inputs: &[DeclaredVariable],
+    variables: &[DeclaredVariable],
+) -> Result<Names<usize>, AllocError>
+    ensures { IfOk result (λ numbers. (key : List ℕ) → lookup (bytes_eq key) numbers
+        ≡ first_at (bytes_eq key)
+        (map (text_of lower.now) (map (λ v. v.name) (inputs.now ++ variables.now)))) }
+{
+    let mut names = variable_names(alloc, inputs)?;
+    let others = variable_names(alloc, variables)?;
+    names.extend_from_slice(&others)?;
+    let (numbers, _) = numbers_of(alloc, lower, &names)?;
+    Ok(numbers)
+}
+
+/// The numbers of functions under their names.
+pub(crate) fn numbers_of_functions(
+    alloc: Global,
+    lower: &[u8],
+    functions: &[FunctionScope<'_>],
+) -> Result<Names<usize>, AllocError>
+    ensures { IfOk result (λ numbers. (key : List ℕ) → lookup (bytes_eq key) numbers
+        ≡ first_at (bytes_eq key)
+        (map (text_of lower.now) (map (λ f. f.function.name) functions.now))) }
+{
+    let names = names_of_functions(alloc, functions)?;
+    let (numbers, _) = numbers_of(alloc, lower, &names)?;
+    Ok(numbers)
+}
+
+/// The names of functions.
+fn names_of_functions(
+    alloc: Global,
+    functions: &[FunctionScope<'_>],
+) -> Result<Vec<Name>, AllocError>
+    ensures { IfOk result (λ v. v.items ≡ map (λ f. f.function.name) functions.now) }
+{
+    functions
+        .iter()
+        .map(|function| function.function().name())
+        .collect(alloc)
 }
 
 /// The numbers of a program's block instances under their names.

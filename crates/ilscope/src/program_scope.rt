@@ -10,6 +10,7 @@ pub struct ProgramScope<'a> {
     variables: Vec<DeclaredVariable>,
     blocks: Vec<DeclaredBlock>,
     externals: Vec<DeclaredExternal>,
+    functions: usize,
 }
 
 /// Written out, so that it is proved here alone.
@@ -20,6 +21,7 @@ impl Drop for ProgramScope<'_> {
             variables: _,
             blocks: _,
             externals: _,
+            functions: _,
         } = self;
     }
 }
@@ -38,30 +40,34 @@ impl<'a> Model for ProgramScope<'a> {
       variables = p.variables.items;
       blocks = p.blocks.items;
       externals = p.externals.items;
+      functions = p.functions;
     } };
 }
 
 impl<'a> ProgramScope<'a> {
     ghost use Rattle.std.specs.Prelude.{◌≡◌};
 
-    /// The program, and its variables, block instances and externals in the order in which they
-    /// are declared.
+    /// The program, its variables, block instances and externals in the order in which they are
+    /// declared, and how many functions stand above it.
     pub(crate) fn new(
         program: &'a Program,
         variables: Vec<DeclaredVariable>,
         blocks: Vec<DeclaredBlock>,
         externals: Vec<DeclaredExternal>,
+        functions: usize,
     ) -> ProgramScope<'a>
         ensures program { result.program ≡ program.now }
         ensures variables { result.variables ≡ variables.items }
         ensures blocks { result.blocks ≡ blocks.items }
         ensures externals { result.externals ≡ externals.items }
+        ensures functions { result.functions ≡ functions }
     {
         ProgramScope {
             program,
             variables,
             blocks,
             externals,
+            functions,
         }
     }
 
@@ -91,5 +97,12 @@ impl<'a> ProgramScope<'a> {
         ensures value { result.now ≡ self.now.externals }
     {
         &self.externals
+    }
+
+    /// How many functions stand above it.
+    pub fn functions(&self) -> usize
+        ensures value { result ≡ self.now.functions }
+    {
+        self.functions
     }
 }

@@ -32,15 +32,17 @@ impl<'a> ProgramTables<'a> {
     ghost use Rattle.ildeclared.specs.declared.fault.NameCause.TheVariants.{Twice};
     ghost use Rattle.ilscope.specs.Faults.{IsTwiceIn};
 
-    /// The tables of a program below these types. `lower` is the text in lower case.
+    /// The tables of a program below these types and so many functions. `lower` is the text in
+    /// lower case.
     pub(crate) fn of(
         alloc: Global,
         lower: &[u8],
         types: &DeclaredTypes,
+        functions: usize,
         program: &'a Program,
     ) -> Result<ProgramTables<'a>, AllocError>
         ensures scope { IfOk result (λ tables.
-            tables.scope ≡ with_declared (types_in lower.now types.now) program.now) }
+            tables.scope ≡ with_declared (types_in lower.now types.now) functions program.now) }
         ensures variables { IfOk result (λ tables. AreNumbersOf (text_of lower.now)
             (variable_names tables.scope) tables.variable_numbers) }
         ensures blocks { IfOk result (λ tables. AreNumbersOf (text_of lower.now)
@@ -51,7 +53,7 @@ impl<'a> ProgramTables<'a> {
             (OfCause Twice (IsTwiceIn (text_of lower.now) (names_of program.now))) tables.twice) }
     {
         let twice = name_given_twice(alloc, lower, program)?;
-        let scope = scope_of(alloc, lower, types, program)?;
+        let scope = scope_of(alloc, lower, types, functions, program)?;
         let (variable_numbers, block_numbers, external_numbers) = numbers_in(alloc, lower, &scope)?;
         Ok(ProgramTables {
             scope,
@@ -83,18 +85,20 @@ fn numbers_in(
     Ok((variables, blocks, externals))
 }
 
-/// A program with what it declares below these types. `lower` is the text in lower case.
+/// A program with what it declares below these types and so many functions. `lower` is the text in
+/// lower case.
 fn scope_of<'a>(
     alloc: Global,
     lower: &[u8],
     types: &DeclaredTypes,
+    functions: usize,
     program: &'a Program,
 ) -> Result<ProgramScope<'a>, AllocError>
     ensures { IfOk result (λ scope.
-        scope ≡ with_declared (types_in lower.now types.now) program.now) }
+        scope ≡ with_declared (types_in lower.now types.now) functions program.now) }
 {
     let variables = variables_of(alloc, lower, types, program)?;
     let blocks = blocks_of(alloc, program)?;
     let externals = externals_of(alloc, lower, types, program)?;
-    Ok(ProgramScope::new(program, variables, blocks, externals))
+    Ok(ProgramScope::new(program, variables, blocks, externals, functions))
 }

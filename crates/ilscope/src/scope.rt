@@ -5,6 +5,8 @@
 
 ghost use Rattle.ilscope.specs.Reports.{IsReportOf, IsReportOfOption};
 
+use crate::body_number::BodyNumber;
+use crate::function_scope::FunctionScope;
 use crate::program_scope::ProgramScope;
 use crate::tables::Tables;
 use ilblocks::BlockKind;
@@ -39,16 +41,18 @@ impl<'a> Model for Scope<'a> {
 }
 
 impl<'a> Scope<'a> {
-    ghost use Rattle.std.specs.Prelude.{◌≡◌, ◌<◌, ◌↔◌, ℕ, All, IfOk, IfSome, IsNone, MatchOption};
-    ghost use Rattle.std.specs.Prelude.{Some, length, option_map, slice_get};
+    ghost use Rattle.std.specs.Prelude.{◌≡◌, ◌↔◌, ℕ, All, IfOk, IfSome, IsNone, IsSome};
+    ghost use Rattle.std.specs.Prelude.{MatchOption, Some, option_map, slice_get};
     ghost use Rattle.iltypes.specs.Values.{IsOf};
     ghost use Rattle.ilsource.specs.Names.{SameName, folded};
     ghost use Rattle.ildeclared.specs.Faults.{SomeOf, IsLeastOf};
     ghost use Rattle.ildeclared.specs.declared.fault.NameCause.{NameCause};
     ghost use Rattle.ildeclared.specs.declared.fault.NameFault.{NameFault};
-    ghost use Rattle.ilscope.specs.Configured.{global_number, globals_of, program_number};
+    ghost use Rattle.ilscope.specs.Configured.{function_number, global_number, globals_of};
+    ghost use Rattle.ilscope.specs.Configured.{program_number};
     ghost use Rattle.ilscope.specs.Configured.{task_declarations, task_number};
-    ghost use Rattle.ilscope.specs.Declarations.{DeclaredProgram, declared_programs};
+    ghost use Rattle.ilscope.specs.Declarations.{DeclaredProgram, body_at, declared_functions};
+    ghost use Rattle.ilscope.specs.Declarations.{declared_programs};
     ghost use Rattle.ilscope.specs.Faults.{IsFaultOfDeclarations};
     ghost use Rattle.ilscope.specs.Reports.{ReportsLeast};
     ghost use Rattle.ilscope.specs.Tables.{block_number, external_number, variable_number};
@@ -112,6 +116,15 @@ impl<'a> Scope<'a> {
         self.tables.programs()
     }
 
+    /// The functions in order, each with its variables.
+    pub fn functions(&self) -> &[FunctionScope<'a>]
+        ensures value { result.now ≡ declared_functions self.now.tree }
+        // Each initial value is one of its variable's type.
+        ensures typed { All (λ f. All (λ v. IsOf v.initial v.value_type) f.variables) result.now }
+    {
+        self.tables.functions()
+    }
+
     /// A name's bytes with letters in lower case, as names are looked up.
     pub fn spelling(&self, name: Name) -> &[u8]
         ensures value { result.now ≡ folded self.now.tree.text name }
@@ -119,52 +132,45 @@ impl<'a> Scope<'a> {
         self.tables.spelling(name)
     }
 
-    /// The number of the first variable with this name, in the program with this number, which is
-    /// below the number of programs.
-    pub fn variable_number(&self, program: usize, name: Name) -> Option<usize>
-        requires { program < length (declared_programs self.now.tree) }
-        ensures value { (p : DeclaredProgram)
-            → slice_get (declared_programs self.now.tree) program ≡ Some p
+    /// The number of the first variable with this name, in the program or the function with this
+    /// number, which is there.
+    pub fn variable_number(&self, body: BodyNumber, name: Name) -> Option<usize>
+        requires { IsSome (body_at self.now.tree body) }
+        ensures value { (p : DeclaredProgram) → body_at self.now.tree body ≡ Some p
             → result ≡ variable_number (folded self.now.tree.text) p.variables name }
-        ensures none { (p : DeclaredProgram)
-            → slice_get (declared_programs self.now.tree) program ≡ Some p
+        ensures none { (p : DeclaredProgram) → body_at self.now.tree body ≡ Some p
             → (IsNone result
             ↔ ¬ SomeOf (λ v. SameName self.now.tree.text name v.name) p.variables) }
     {
-        self.tables.variable_number(program, name)
+        self.tables.variable_number(body, name)
     }
 
-    /// The number of the first external with this name, in the program with this number, which is
-    /// below the number of programs.
-    pub fn external_number(&self, program: usize, name: Name) -> Option<usize>
-        requires { program < length (declared_programs self.now.tree) }
-        ensures value { (p : DeclaredProgram)
-            → slice_get (declared_programs self.now.tree) program ≡ Some p
+    /// The number of the first external with this name, in the program or the function with this
+    /// number, which is there.
+    pub fn external_number(&self, body: BodyNumber, name: Name) -> Option<usize>
+        requires { IsSome (body_at self.now.tree body) }
+        ensures value { (p : DeclaredProgram) → body_at self.now.tree body ≡ Some p
             → result ≡ external_number (folded self.now.tree.text) p.externals name }
-        ensures none { (p : DeclaredProgram)
-            → slice_get (declared_programs self.now.tree) program ≡ Some p
+        ensures none { (p : DeclaredProgram) → body_at self.now.tree body ≡ Some p
             → (IsNone result
             ↔ ¬ SomeOf (λ e. SameName self.now.tree.text name e.name) p.externals) }
     {
-        self.tables.external_number(program, name)
+        self.tables.external_number(body, name)
     }
 
-    /// The number of the first block instance with this name, in the program with this number,
-    /// which is below the number of programs; and its kind.
-    pub fn block(&self, program: usize, name: Name) -> Option<(usize, BlockKind)>
-        requires { program < length (declared_programs self.now.tree) }
-        ensures number { (p : DeclaredProgram)
-            → slice_get (declared_programs self.now.tree) program ≡ Some p
+    /// The number of the first block instance with this name, in the program or the function with
+    /// this number, which is there; and its kind.
+    pub fn block(&self, body: BodyNumber, name: Name) -> Option<(usize, BlockKind)>
+        requires { IsSome (body_at self.now.tree body) }
+        ensures number { (p : DeclaredProgram) → body_at self.now.tree body ≡ Some p
             → option_map (λ b. b.0) result
             ≡ block_number (folded self.now.tree.text) p.blocks name }
-        ensures kind { (p : DeclaredProgram)
-            → slice_get (declared_programs self.now.tree) program ≡ Some p
+        ensures kind { (p : DeclaredProgram) → body_at self.now.tree body ≡ Some p
             → IfSome result (λ b. option_map (λ d. d.kind) (slice_get p.blocks b.0) ≡ Some b.1) }
-        ensures none { (p : DeclaredProgram)
-            → slice_get (declared_programs self.now.tree) program ≡ Some p
+        ensures none { (p : DeclaredProgram) → body_at self.now.tree body ≡ Some p
             → (IsNone result ↔ ¬ SomeOf (λ b. SameName self.now.tree.text name b.name) p.blocks) }
     {
-        self.tables.block(program, name)
+        self.tables.block(body, name)
     }
 
     /// The global variables, in declared order.
@@ -203,6 +209,16 @@ impl<'a> Scope<'a> {
             (declared_programs self.now.tree) }
     {
         self.tables.program_number(name)
+    }
+
+    /// The number of the first function with this name.
+    pub fn function_number(&self, name: Name) -> Option<usize>
+        ensures value { result ≡ function_number self.now.tree name }
+        ensures none { IsNone result
+            ↔ ¬ SomeOf (λ f. SameName self.now.tree.text name f.function.name)
+            (declared_functions self.now.tree) }
+    {
+        self.tables.function_number(name)
     }
 }
 

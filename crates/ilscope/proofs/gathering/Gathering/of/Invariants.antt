@@ -6,4 +6,4 @@ abbrev pub invariant-loop-element : goal.invariant-loop-element
 invariant-loop-element l =
     IsGathered l.fn.lower (take l.element-index l.fn.elements) l.gathering.types l.gathering.programs.items
     l.gathering.variable_numbers.items l.gathering.block_numbers.items l.gathering.external_numbers.items
-    l.gathering.least
+    l.gathering.functions.items l.gathering.own_numbers.items l.gathering.least

@@ -14,8 +14,8 @@ use Rattle.ildeclared.specs.declared.global.DeclaredGlobal.{DeclaredGlobal}
 use Rattle.ildeclared.proofs.Least.{either_least}
 use Rattle.ilscope.specs.Configured.{declared_globals_of, global_number, globals_of, task_declarations, types_of_text}
 use Rattle.ilscope.specs.Configured.{values_of_global}
-use Rattle.ilscope.specs.Declarations.{DeclaredProgram, declared_programs}
-use Rattle.ilscope.specs.Faults.{IsBadTaskAt, IsBadlyLocated, IsOtherExternal, IsOtherExternalIn}
+use Rattle.ilscope.specs.Declarations.{DeclaredFunction, DeclaredProgram, declared_functions, declared_programs}
+use Rattle.ilscope.specs.Faults.{IsBadFunction, IsBadTaskAt, IsBadlyLocated, IsOtherExternal, IsOtherExternalIn}
 use Rattle.ilscope.specs.ScopeSteps.{IsBadInConfiguration}
 use Rattle.ilscope.proofs.LookedUp.{moved, names_are}
 use Rattle.ilscope.proofs.tables.Tables.bad_declaration.Goals as goal
@@ -32,6 +32,7 @@ returns c =
     let external = c.other_externals-external.result in
     let located = c.badly_located-located.result in
     let task = c.bad_tasks-task.result in
+    let function = c.bad_functions-function.result in
     let globals : kept_under lower inside.global_numbers ≡ global_number tree =
     names_are (λ (g : DeclaredGlobal). g.name) (globals_of tree) tree.text lower inside.global_numbers
     (c.as_slice-lower.ensures.value ∙ c.self.invariant.text) c.self.invariant.globals_numbered
@@ -61,11 +62,20 @@ returns c =
     subst (λ (ts : List TaskDeclaration). IsLeastOf (OfCause BadDeclaration (λ place. SomeOf (IsBadTaskAt place) ts))
     task) c.tasks_of.ensures c.bad_tasks-task.ensures
     in
-    rw (c.lesser_of-2.ensures, c.lesser_of.ensures)
+    let functions : IsLeastOf (OfCause BadDeclaration (λ place. SomeOf (IsBadFunction place) (declared_functions tree)))
+    function =
+    subst (λ (fs : List DeclaredFunction). IsLeastOf (OfCause BadDeclaration (λ place. SomeOf (IsBadFunction place) fs))
+    function) (c.as_slice-3.ensures.value ∙ c.self.invariant.functions_declared) c.bad_functions-function.ensures
+    in
+    rw (c.lesser_of-3.ensures, c.lesser_of-2.ensures, c.lesser_of.ensures)
     (subst (λ (t : Tree). IsLeastOf (OfCause BadDeclaration (IsBadInConfiguration t))
-    (lesser_of_two external (lesser_of_two located task))) c.self.view_is
+    (lesser_of_two external (lesser_of_two located (lesser_of_two task function)))) c.self.view_is
     (either_least BadDeclaration (IsOtherExternal tree)
-    (λ at. IsBadlyLocated tree at ⊎ SomeOf (IsBadTaskAt at) (task_declarations tree)) external
-    (lesser_of_two located task) externals
-    (either_least BadDeclaration (IsBadlyLocated tree) (λ at. SomeOf (IsBadTaskAt at) (task_declarations tree)) located
-    task of_located tasks)))
+    (λ at. IsBadlyLocated tree at ⊎ (SomeOf (IsBadTaskAt at) (task_declarations tree)
+    ⊎ SomeOf (IsBadFunction at) (declared_functions tree))) external
+    (lesser_of_two located (lesser_of_two task function)) externals
+    (either_least BadDeclaration (IsBadlyLocated tree)
+    (λ at. SomeOf (IsBadTaskAt at) (task_declarations tree) ⊎ SomeOf (IsBadFunction at) (declared_functions tree))
+    located (lesser_of_two task function) of_located
+    (either_least BadDeclaration (λ at. SomeOf (IsBadTaskAt at) (task_declarations tree))
+    (λ at. SomeOf (IsBadFunction at) (declared_functions tree)) task function tasks functions))))

@@ -25,17 +25,28 @@ invariant_of-tables c =
     let lower_is : lower ≡ lowered tree.text = c.in_ok-lower.ensures ∙ ap lowered c.text.ensures.value in
     let gathered =
     moved_gathered c.deref.result.now lower c.elements.result.now tree.elements g.types g.programs.items
-    g.variable_numbers.items g.block_numbers.items g.external_numbers.items g.least c.deref.ensures.value
+    g.variable_numbers.items g.block_numbers.items g.external_numbers.items g.functions.items g.own_numbers.items
+    g.least c.deref.ensures.value
     c.elements.ensures c.in_ok-gathered.ensures.gathered
     in
     let global_names = map (λ g. g.name) configured.globals.items in
     let task_names = map (λ t. t.name) (task_declarations tree) in
     let program_names = map (λ p. p.program.name) g.programs.items in
+    let function_names = map (λ f. f.function.name) g.functions.items in
     let parts = c.into_parts-types.ensures in
-    rw (parts.types, parts.programs, parts.variable_numbers, parts.block_numbers, parts.external_numbers)
+    rw (
+      parts.types,
+      parts.programs,
+      parts.variable_numbers,
+      parts.block_numbers,
+      parts.external_numbers,
+      parts.functions,
+      parts.own_numbers,
+    )
     (filled tree lower g.types g.programs.items g.variable_numbers.items g.block_numbers.items g.external_numbers.items
-    g.least lower_is gathered configured.globals.items configured.value_types.items configured.global_numbers
-    configured.task_numbers elements.program_numbers
+    g.functions.items g.own_numbers.items g.least lower_is gathered configured.globals.items
+    configured.value_types.items configured.global_numbers
+    configured.task_numbers elements.program_numbers elements.function_numbers
     (says.globals
     ∙ ap (λ (l : List ℕ). flat_map (globals_in (types_in l g.types)) (declared_globals_of tree))
     c.deref-2.ensures.value)
@@ -47,7 +58,9 @@ invariant_of-tables c =
     (moved_numbers c.deref-2.result.now lower task_names task_names configured.task_numbers c.deref-2.ensures.value refl
     says.task_numbers)
     (moved_numbers c.deref.result.now lower program_names program_names elements.program_numbers c.deref.ensures.value
-    refl c.in_ok-gathered.ensures.programs))
+    refl c.in_ok-gathered.ensures.programs)
+    (moved_numbers c.deref.result.now lower function_names function_names elements.function_numbers
+    c.deref.ensures.value refl c.in_ok-gathered.ensures.functions))
 
 pub returns-clause-least : goal.returns-clause-least
 returns-clause-least c =
@@ -60,13 +73,15 @@ returns-clause-least c =
     let lower_is : lower ≡ lowered tree.text = c.in_ok-lower.ensures ∙ ap lowered c.text.ensures.value in
     let gathered =
     moved_gathered c.deref.result.now lower c.elements.result.now tree.elements g.types g.programs.items
-    g.variable_numbers.items g.block_numbers.items g.external_numbers.items g.least c.deref.ensures.value
+    g.variable_numbers.items g.block_numbers.items g.external_numbers.items g.functions.items g.own_numbers.items
+    g.least c.deref.ensures.value
     c.elements.ensures c.in_ok-gathered.ensures.gathered
     in
     let tasks = task_declarations tree in
     rw (c.lesser_of-found.ensures, c.into_parts-types.ensures.least, c.lesser_of.ensures)
     (found_in_tables tree lower g.types g.programs.items g.variable_numbers.items g.block_numbers.items
-    g.external_numbers.items g.least lower_is gathered configured.globals.items elements.element_twice
+    g.external_numbers.items g.functions.items g.own_numbers.items g.least lower_is gathered configured.globals.items
+    elements.element_twice
     configured.configured_twice
     (says.globals
     ∙ ap (λ (l : List ℕ). flat_map (globals_in (types_in l g.types)) (declared_globals_of tree))

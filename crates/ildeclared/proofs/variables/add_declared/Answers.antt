@@ -1,6 +1,5 @@
-use Rattle.std.proofs.Common.{◌≡◌, ◌≢◌, ◌∙◌, ◌<◌, ◌≤◌, List, [], ◌++◌, length, map, get_or, ap, refl, sym, subst}
-use Rattle.std.specs.Prelude.{Option, unwrap_or}
-use Rattle.ilsource.specs.Programs.{DeclaredNames}
+use Rattle.std.proofs.Common.{◌≡◌, ◌≢◌, ◌∙◌, List, [], ◌++◌, map, ap, refl, sym}
+use Rattle.std.specs.Prelude.{Option}
 use Rattle.ilsource.specs.declared.declaration.Constant.{Constant}
 use Rattle.ilsource.specs.declared.declaration.Specification.{Specification}
 use Rattle.ilsource.specs.declared.declaration.Declared.{Declared}
@@ -9,9 +8,9 @@ use Rattle.ilsource.specs.declared.name.Name.{Name}
 use Rattle.ildeclared.specs.DataTypes.{TypeNames}
 use Rattle.ildeclared.specs.Declarations.{variable, variables_among, variables_in}
 use Rattle.ildeclared.specs.Kept.{types_in}
-use Rattle.ildeclared.proofs.Collected.{none_added, those_more, those_of_all}
-use Rattle.ildeclared.proofs.variables.variables_of.Goals as goal
-use Rattle.ildeclared.proofs.variables.variables_of.Goals.{in-Variables+in_ok-add_variables, in_default}
+use Rattle.ildeclared.proofs.Collected.{none_added, those_added, those_of_all_added}
+use Rattle.ildeclared.proofs.variables.add_declared.Goals as goal
+use Rattle.ildeclared.proofs.variables.add_declared.Goals.{in-Variables+in_ok-add_variables, in_default}
 
 -- no other declaration has a variable
 no_variables : (types : TypeNames) (names : List Name) (d e : Declared) → e ≡ d
@@ -26,20 +25,15 @@ pub loop-declaration-preserved : goal.loop-declaration-preserved
 loop-declaration-preserved c =
     let types = types_in c.args.lower.now c.args.types.now in
     let before = c.loop-declaration.variables.items in
-    let i = c.loop-declaration.declaration-index in
     let item = c.declaration-item.result in
-    let its = c.declarations-declaration-items.ensures in
-    those_more (variables_in types) c.args.program.now.declarations i item before c.match-declared.variables.items
-    (subst (λ (ds : List DeclaredNames). i < length ds) its c.loop-declaration-test.true)
-    (subst (λ (ds : List DeclaredNames). item ≡ get_or ds i item) its c.declaration-item.is)
-    c.loop-declaration.invariant
+    those_added (variables_in types) c.args.declarations.now c.loop-declaration.declaration-index item
+    c.args.variables.now.items before c.match-declared.variables.items c.loop-declaration-test.true
+    c.declaration-item.is c.loop-declaration.invariant
     (elim c.match-declared.branch [
       | in-Variables+in_ok-add_variables w ↦
           (λ k. (w.variables-is k).items)
           ∙ w.in_ok-add_variables.ensures
-          ∙ (λ k. before ++ map (variable (w.unwrap_or-declared.ensures k)) (w.names.ensures k))
-          ∙ (λ k. before
-          ++ map (variable (unwrap_or (w.declared_type.ensures k) (w.truth_values.ensures k))) item.names)
+          ∙ (λ k. before ++ map (variable (w.meant_type-declared.ensures k)) (w.names.ensures k))
           ∙ ap (λ (d : Declared). before ++ variables_among types item.names d)
           (sym w.in-Variables.is ∙ c.declared.ensures)
       | in_default w ↦
@@ -50,9 +44,6 @@ loop-declaration-preserved c =
 
 pub returns : goal.returns
 returns c =
-    let i = c.loop-declaration.declaration-index in
-    those_of_all (variables_in (types_in c.args.lower.now c.args.types.now)) c.args.program.now.declarations i
-    c.loop-declaration.variables.items
-    (subst (λ (ds : List DeclaredNames). length ds ≤ i) c.declarations-declaration-items.ensures
-    c.loop-declaration-test.false)
-    c.loop-declaration.invariant
+    those_of_all_added (variables_in (types_in c.args.lower.now c.args.types.now)) c.args.declarations.now
+    c.loop-declaration.declaration-index c.args.variables.now.items c.loop-declaration.variables.items
+    c.loop-declaration-test.false c.loop-declaration.invariant

@@ -6,7 +6,7 @@ use Rattle.ildeclared.specs.declared.block.DeclaredBlock.{DeclaredBlock}
 use Rattle.ildeclared.proofs.Least.{got_at}
 use Rattle.ilscope.specs.Declarations.{DeclaredProgram}
 use Rattle.ilscope.proofs.Declared.{first_below, none_is, program_is}
-use Rattle.ilscope.proofs.tables.Tables.block.Goals as goal
+use Rattle.ilscope.proofs.tables.Tables.block_of_program.Goals as goal
 
 pub returns-in_err-number-clause-none : goal.returns-in_err-number-clause-none
 returns-in_err-number-clause-none c p e =
