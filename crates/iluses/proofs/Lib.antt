@@ -1,4 +1,7 @@
 pub mod ArgumentPorts
+pub mod Bodies
+pub mod CallsRead
+pub mod FunctionsFound
 pub mod JumpFaults
 pub mod LabelNumbers
 pub mod Lists

@@ -1,8 +1,10 @@
 -- Faults of names in lines: each stands at a place of the text, a byte's offset, and has a cause (IEC 61131-3, 2.4.3: a
--- variable is declared; 2.5.2: a block instance is declared, and its outputs are not written; 3.2.2: a jump leads to a
--- label of its program; the profile's are that jumps go forward, and that no program stores to an input). Labels are a
--- space of their own in each program.
-use Rattle.std.specs.Prelude.{◌≡◌, ℕ, List, [], ◌∷◌, ◌++◌, filter_map, slice_get, ◌⊎◌}
+-- variable is declared; 2.5.1: a function has an argument for each input; 2.5.2: a block instance is declared, and its
+-- outputs are not written; 3.2.2: a jump leads to a label of its program; the profile's are that jumps go forward, that
+-- a function is declared above its call, and that nothing is stored to an input). What is said of a program's lines is
+-- said of a function's too: it names its own variables, no block instance, and no global variable. Labels are a space
+-- of their own in each program and each function.
+use Rattle.std.specs.Prelude.{◌≡◌, ℕ, ◌+◌, List, [], ◌∷◌, ◌++◌, filter_map, length, slice_get, take, ◌⊎◌}
 use Rattle.std.specs.Prelude.{Option, Some, None, IsNone, IsSomeAnd, IsTrue, Bool, true, false, option_map}
 use Rattle.std.specs.Prelude.{option_and_then}
 use Rattle.ilsource.specs.declared.instruction.Instruction.{Instruction}
@@ -15,19 +17,22 @@ use Rattle.ilsource.specs.declared.uses.Purpose.TheVariants.{Write, Pass}
 use Rattle.ilsource.specs.declared.uses.Use.{Use}
 use Rattle.ilsource.specs.declared.name.Name.{Name}
 use Rattle.ilsource.specs.declared.symbol.Symbol.{Symbol}
-use Rattle.ilsource.specs.declared.symbol.Symbol.TheVariants.{Variable, Port, Block}
+use Rattle.ilsource.specs.declared.symbol.Symbol.TheVariants.{Variable, Port, Block, Function}
 use Rattle.ilsource.specs.Names.{SameName, folded, text_of}
 use Rattle.ilsource.specs.SourceTrees.{Tree}
 use Rattle.ildeclared.specs.Faults.{IsInput, OfCause, SomeOf}
 use Rattle.ildeclared.specs.declared.fault.NameCause.{NameCause}
 use Rattle.ildeclared.specs.declared.fault.NameCause.TheVariants.{Unknown, Twice, UnknownLabel, BackwardJump}
-use Rattle.ildeclared.specs.declared.fault.NameCause.TheVariants.{WritesInput}
+use Rattle.ildeclared.specs.declared.fault.NameCause.TheVariants.{WritesInput, BadDeclaration}
 use Rattle.ilscope.specs.Configured.{global_named, global_number}
-use Rattle.ilscope.specs.Declarations.{declared_programs, DeclaredProgram}
+use Rattle.ilscope.specs.Declarations.{as_program, bodies_of, declared_functions}
+use Rattle.ilscope.specs.Declarations.{DeclaredFunction, DeclaredProgram}
 use Rattle.ilscope.specs.Faults.{IsTwiceIn}
 use Rattle.ilscope.specs.Tables.{first_at}
 use Rattle.ilblocks.specs.declared.kind.BlockKind.{BlockKind}
 use Rattle.ilblocks.specs.Ports.{port_named, input_type}
+use Rattle.iluses.specs.Calls.{calls_of}
+use Rattle.iluses.specs.declared.calls.FunctionCall.{FunctionCall}
 use Rattle.iluses.specs.SameNames.{same_name}
 use Rattle.iluses.specs.Uses.{uses_of}
 
@@ -38,6 +43,14 @@ IsNoVariable text p name =
 
 abbrev pub IsNoBlock : List ℕ → DeclaredProgram → Name → Type 0
 IsNoBlock text p name = ¬ SomeOf (λ b. SameName text name b.name) p.blocks
+
+-- the functions that are declared above the program
+abbrev pub functions_above : Tree → DeclaredProgram → List DeclaredFunction
+functions_above tree p = take p.functions (declared_functions tree)
+
+-- none of them has the name
+abbrev pub IsNoFunction : Tree → DeclaredProgram → Name → Type 0
+IsNoFunction tree p name = ¬ SomeOf (λ f. SameName tree.text name f.function.name) (functions_above tree p)
 
 -- the number of the port of a name, of the first block instance of a name; none where there is no such port
 abbrev pub port_number : List ℕ → DeclaredProgram → Name → Name → Option (BlockKind × ℕ)
@@ -51,29 +64,51 @@ abbrev pub place_of_port : Purpose → Name → Name → ℕ
 place_of_port Pass block port = port.from
 place_of_port _ block port = block.from
 
--- the symbol names, at the place, nothing that the program declares for this purpose: a variable, a block instance, or
--- a port that its block has
-abbrev pub IsUnknownSymbol : List ℕ → DeclaredProgram → ℕ → Purpose → Symbol → Type 0
-IsUnknownSymbol text p place purpose (Variable name) = IsNoVariable text p name × (place ≡ name.from)
-IsUnknownSymbol text p place purpose (Port block port) =
-    (port_number text p block port ≡ None) × (place ≡ place_of_port purpose block port)
-IsUnknownSymbol text p place purpose (Block name) = IsNoBlock text p name × (place ≡ name.from)
+-- the symbol names, at the place, nothing that is declared for this purpose: by the program a variable, a block
+-- instance, or a port that its block has; above the program a function
+abbrev pub IsUnknownSymbol : Tree → DeclaredProgram → ℕ → Purpose → Symbol → Type 0
+IsUnknownSymbol tree p place purpose (Variable name) = IsNoVariable tree.text p name × (place ≡ name.from)
+IsUnknownSymbol tree p place purpose (Port block port) =
+    (port_number tree.text p block port ≡ None) × (place ≡ place_of_port purpose block port)
+IsUnknownSymbol tree p place purpose (Block name) = IsNoBlock tree.text p name × (place ≡ name.from)
+IsUnknownSymbol tree p place purpose (Function name) = IsNoFunction tree p name × (place ≡ name.from)
 
-abbrev pub IsUnknownOperand : List ℕ → DeclaredProgram → ℕ → Purpose → Operand Symbol → Type 0
-IsUnknownOperand text p place purpose (Named symbol) = IsUnknownSymbol text p place purpose symbol
-IsUnknownOperand text p place purpose (Constant value) = ⊥
+abbrev pub IsUnknownOperand : Tree → DeclaredProgram → ℕ → Purpose → Operand Symbol → Type 0
+IsUnknownOperand tree p place purpose (Named symbol) = IsUnknownSymbol tree p place purpose symbol
+IsUnknownOperand tree p place purpose (Constant value) = ⊥
 
-abbrev pub IsUnknownUse : List ℕ → DeclaredProgram → ℕ → Use Symbol → Type 0
-IsUnknownUse text p place u = IsUnknownOperand text p place u.purpose u.operand
+abbrev pub IsUnknownUse : Tree → DeclaredProgram → ℕ → Use Symbol → Type 0
+IsUnknownUse tree p place u = IsUnknownOperand tree p place u.purpose u.operand
 
--- a use, at the place, of what the program does not declare
-abbrev pub IsUnknownIn : List ℕ → DeclaredProgram → ℕ → List (Use Symbol) → Type 0
-IsUnknownIn text p place uses = SomeOf (IsUnknownUse text p place) uses
+-- a use, at the place, of what is not declared for it
+abbrev pub IsUnknownIn : Tree → DeclaredProgram → ℕ → List (Use Symbol) → Type 0
+IsUnknownIn tree p place uses = SomeOf (IsUnknownUse tree p place) uses
 
--- a line uses, at the place, what its program does not declare
+-- a line uses, at the place, what is not declared for it
 abbrev pub IsUnknownName : Tree → ℕ → Type 0
-IsUnknownName tree place =
-    SomeOf (λ p. IsUnknownIn tree.text p place (uses_of p.program.lines)) (declared_programs tree)
+IsUnknownName tree place = SomeOf (λ p. IsUnknownIn tree p place (uses_of p.program.lines)) (bodies_of tree)
+
+-- ---- calls of functions
+
+-- the first function above with the name
+abbrev pub function_called : Tree → DeclaredProgram → Name → Option DeclaredFunction
+function_called tree p name =
+    option_and_then
+    (slice_get (functions_above tree p))
+    (first_at (λ f. same_name tree.text name f.function.name) (functions_above tree p))
+
+-- the name of the function, at the place, which has not one input more than the call has operands
+abbrev pub IsCalledWrongly : Tree → DeclaredProgram → ℕ → ℕ → Symbol → Type 0
+IsCalledWrongly tree p place operands (Function name) =
+    IsSomeAnd (function_called tree p name) (λ f. ¬ (length f.inputs ≡ operands + 1)) × (place ≡ name.from)
+IsCalledWrongly tree p place operands _ = ⊥
+
+-- one of the calls, at the place, has a wrong number of operands
+abbrev pub IsWrongIn : Tree → DeclaredProgram → ℕ → List FunctionCall → Type 0
+IsWrongIn tree p place calls = SomeOf (λ c. IsCalledWrongly tree p place c.operands c.function) calls
+
+abbrev pub IsWrongCall : Tree → ℕ → Type 0
+IsWrongCall tree place = SomeOf (λ p. IsWrongIn tree p place (calls_of p.program.lines)) (bodies_of tree)
 
 -- ---- ports
 
@@ -98,7 +133,7 @@ WritesOutput text p place u = WritesOperand text p place u.purpose u.operand
 -- a line stores, at the place, to an output port
 abbrev pub IsOutputWritten : Tree → ℕ → Type 0
 IsOutputWritten tree place =
-    SomeOf (λ p. SomeOf (WritesOutput tree.text p place) (uses_of p.program.lines)) (declared_programs tree)
+    SomeOf (λ p. SomeOf (WritesOutput tree.text p place) (uses_of p.program.lines)) (bodies_of tree)
 
 -- the words of the ports of a call's arguments, in order
 abbrev pub port_in : Symbol → Option Name
@@ -143,10 +178,23 @@ StoresToInput tree p place u =
     (stored_name u.purpose u.operand)
     (λ name. IsExternal tree.text p name × IsNamedInput tree name × (place ≡ name.from))
 
--- a line of a program stores, at the place, to a global variable that is an input
+-- a line stores, at the place, to a global variable that is an input
 abbrev pub IsInputWritten : Tree → ℕ → Type 0
 IsInputWritten tree place =
-    SomeOf (λ p. SomeOf (StoresToInput tree p place) (uses_of p.program.lines)) (declared_programs tree)
+    SomeOf (λ p. SomeOf (StoresToInput tree p place) (uses_of p.program.lines)) (bodies_of tree)
+
+-- a use stores, at the place, to an input of the function
+abbrev pub StoresToOwnInput : List ℕ → DeclaredFunction → ℕ → Use Symbol → Type 0
+StoresToOwnInput text f place u =
+    IsSomeAnd
+    (stored_name u.purpose u.operand)
+    (λ name. SomeOf (λ v. SameName text name v.name) f.inputs × (place ≡ name.from))
+
+-- a line of a function stores, at the place, to an input of it
+abbrev pub IsOwnInputWritten : Tree → ℕ → Type 0
+IsOwnInputWritten tree place =
+    SomeOf
+    (λ f. SomeOf (StoresToOwnInput tree.text f place) (uses_of f.function.lines)) (declared_functions tree)
 
 -- some line of the program, reached or not, stores to the global variable of this number
 abbrev pub ProgramStores : Tree → ℕ → DeclaredProgram → Type 0
@@ -157,7 +205,7 @@ abbrev pub IsGivenTwice : Tree → ℕ → Type 0
 IsGivenTwice tree place =
     SomeOf
     (λ p. SomeOf (λ line. IsTwiceIn (folded tree.text) (ports_given line.instruction) place) p.program.lines)
-    (declared_programs tree)
+    (bodies_of tree)
 
 -- ---- labels
 
@@ -189,29 +237,48 @@ pub record JumpsBack (text : List ℕ) (lines : List (Line Symbol Name)) (place 
   pub is : lines ≡ before ++ line ∷ after
   pub jumps : JumpsTo (λ label. SomeOf (SameName text label) (labels_of (before ++ line ∷ []))) place line.instruction
 
--- some program has the label at the place on a line before, too
+-- some program or function has the label at the place on a line before, too
 abbrev pub IsLabelTwice : Tree → ℕ → Type 0
 IsLabelTwice tree place =
-    SomeOf (λ p. IsTwiceIn (folded tree.text) (labels_of p.program.lines) place) (declared_programs tree)
+    SomeOf (λ p. IsTwiceIn (folded tree.text) (labels_of p.program.lines) place) (bodies_of tree)
 
--- some program has no line with the label, at the place, of a jump
+-- some program or function has no line with the label, at the place, of a jump
 abbrev pub IsUnknownLabel : Tree → ℕ → Type 0
-IsUnknownLabel tree place = SomeOf (λ p. JumpsNowhere tree.text p.program.lines place) (declared_programs tree)
+IsUnknownLabel tree place = SomeOf (λ p. JumpsNowhere tree.text p.program.lines place) (bodies_of tree)
 
--- some program jumps, at the place, back or to the line itself
+-- some program or function jumps, at the place, back or to the line itself
 abbrev pub IsBackwardJump : Tree → ℕ → Type 0
-IsBackwardJump tree place = SomeOf (λ p. JumpsBack tree.text p.program.lines place) (declared_programs tree)
+IsBackwardJump tree place = SomeOf (λ p. JumpsBack tree.text p.program.lines place) (bodies_of tree)
 
 -- ---- with their causes
 
--- a use names what its program does not declare, or stores to an output port or to an input
+-- a use names what is not declared for it, or stores to an output port or to an input
 abbrev pub IsFaultAtUse : Tree → DeclaredProgram → Use Symbol → ℕ → NameCause → Type 0
 IsFaultAtUse tree p u place cause =
-    OfCause Unknown (λ at. IsUnknownUse tree.text p at u) place cause
+    OfCause Unknown (λ at. IsUnknownUse tree p at u) place cause
     ⊎ OfCause WritesInput (λ at. WritesOutput tree.text p at u ⊎ StoresToInput tree p at u) place cause
 
 abbrev pub IsFaultAtUses : Tree → DeclaredProgram → List (Use Symbol) → ℕ → NameCause → Type 0
 IsFaultAtUses tree p uses place cause = SomeOf (λ u. IsFaultAtUse tree p u place cause) uses
+
+-- such a fault in a function, or a store to an input of its own
+abbrev pub IsFaultInFunction : Tree → DeclaredFunction → ℕ → NameCause → Type 0
+IsFaultInFunction tree f place cause =
+    IsFaultAtUses tree (as_program f) (uses_of f.function.lines) place cause
+    ⊎ OfCause WritesInput (λ at. SomeOf (StoresToOwnInput tree.text f at) (uses_of f.function.lines)) place cause
+
+-- such a fault in any program or function, or a store to an input of a function in it
+abbrev pub IsFaultOfUses : Tree → ℕ → NameCause → Type 0
+IsFaultOfUses tree place cause =
+    SomeOf (λ p. IsFaultAtUses tree p (uses_of p.program.lines) place cause) (bodies_of tree)
+    ⊎ OfCause WritesInput (IsOwnInputWritten tree) place cause
+
+-- a fault of a call of a function, and of a store to an input of one's own
+abbrev pub IsFaultOfCalls : Tree → DeclaredProgram → List (Line Symbol Name) → ℕ → NameCause → Type 0
+IsFaultOfCalls tree p lines = OfCause BadDeclaration (λ place. IsWrongIn tree p place (calls_of lines))
+
+abbrev pub IsFaultAtInputs : List ℕ → DeclaredFunction → List (Use Symbol) → ℕ → NameCause → Type 0
+IsFaultAtInputs text f uses = OfCause WritesInput (λ place. SomeOf (StoresToOwnInput text f place) uses)
 
 -- a fault of a jump
 abbrev pub IsFaultOfJumps : List ℕ → List (Line Symbol Name) → ℕ → NameCause → Type 0
@@ -233,3 +300,8 @@ IsGivenTwiceIn text lines place =
 abbrev pub IsFaultOfLines : List ℕ → List (Line Symbol Name) → ℕ → NameCause → Type 0
 IsFaultOfLines text lines place cause =
     IsFaultOfLabels text lines place cause ⊎ OfCause Twice (IsGivenTwiceIn text lines) place cause
+
+-- a fault of a program's lines as such, or of a function's: also of a call with a wrong number of operands
+abbrev pub IsFaultOfBody : Tree → DeclaredProgram → ℕ → NameCause → Type 0
+IsFaultOfBody tree p place cause =
+    IsFaultOfLines tree.text p.program.lines place cause ⊎ IsFaultOfCalls tree p p.program.lines place cause

@@ -1,3 +1,5 @@
+pub mod CallSteps
+pub mod Calls
 pub mod Faults
 pub mod JumpSteps
 pub mod LabelSteps

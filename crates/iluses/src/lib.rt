@@ -12,6 +12,7 @@
 #![tactic(auto)]
 
 mod arguments;
+mod calls;
 mod jumps;
 mod labels;
 mod lines;
@@ -21,6 +22,7 @@ mod triggers;
 mod unknown;
 mod uses;
 
+pub use calls::{FunctionCall, function_called};
 pub use labels::number_labels;
 pub use lines::fault_of_lines;
 pub use ports::port_of;

@@ -1,37 +1,84 @@
-//! Faults of lines as such: of labels, and of ports that one call gives again.
+//! Faults of lines as such: of labels, of ports that one call gives again, and of calls with a
+//! wrong number of operands.
 
-ghost use Rattle.std.specs.Prelude.{IfOk};
+ghost use Rattle.std.specs.Prelude.{◌≡◌, IfOk, IsSome, Some};
 ghost use Rattle.ildeclared.specs.Faults.{IsLeastOf, SomeOf};
-ghost use Rattle.ilscope.specs.Declarations.{declared_programs};
-ghost use Rattle.iluses.specs.Faults.{IsFaultOfLabels, IsFaultOfLines};
+ghost use Rattle.ilscope.specs.Declarations.{DeclaredProgram, as_program, bodies_of, body_at};
+ghost use Rattle.ilscope.specs.Declarations.{declared_functions, declared_programs};
+ghost use Rattle.iluses.specs.Faults.{IsFaultOfBody, IsFaultOfLabels, IsFaultOfLines};
 
 use crate::arguments::given_twice;
+use crate::calls::fault_of_calls;
 use crate::jumps::fault_of_jumps;
 use crate::labels::number_labels;
-use ilscope::{Found, Scope, lesser_of};
+use ilscope::{BodyNumber, Found, Scope, lesser_of};
 use ilsource::{Line, Name, Symbol};
 use std::alloc::{AllocError, Global};
 
-/// The least fault of a label, of one that is given again or of a jump's, or of a port that is
-/// given again.
+/// The least fault, in any program or function, of a label, of one that is given again or of a
+/// jump's, of a port that is given again, or of a call with a wrong number of operands.
 ///
 /// # Errors
 ///
 /// The allocator is out of memory.
 pub fn fault_of_lines(alloc: Global, scope: &Scope<'_>) -> Result<Option<Found>, AllocError>
     ensures { IfOk result (λ found. IsLeastOf
-        (λ place cause. SomeOf (λ p. IsFaultOfLines scope.now.tree.text p.program.lines place cause)
+        (λ place cause. SomeOf (λ p. IsFaultOfBody scope.now.tree p place cause)
+        (bodies_of scope.now.tree)) found) }
+{
+    let programs = fault_in_programs(alloc, scope)?;
+    let functions = fault_in_functions(alloc, scope)?;
+    Ok(lesser_of(programs, functions))
+}
+
+/// The least such fault in a program.
+fn fault_in_programs(alloc: Global, scope: &Scope<'_>) -> Result<Option<Found>, AllocError>
+    ensures { IfOk result (λ found. IsLeastOf
+        (λ place cause. SomeOf (λ p. IsFaultOfBody scope.now.tree p place cause)
         (declared_programs scope.now.tree)) found) }
 {
     let mut least = None;
-    for program in scope.programs() {
-        let fault = fault_in_lines(alloc, scope, program.program().lines())?;
+    for (number, program) in scope.programs().iter().enumerate() {
+        let lines = program.program().lines();
+        let fault = fault_of_body(alloc, scope, BodyNumber::Program(number), lines)?;
         least = lesser_of(least, fault);
     }
     Ok(least)
 }
 
-/// The least such fault among one program's lines.
+/// The least such fault in a function.
+fn fault_in_functions(alloc: Global, scope: &Scope<'_>) -> Result<Option<Found>, AllocError>
+    ensures { IfOk result (λ found. IsLeastOf
+        (λ place cause. SomeOf (λ f. IsFaultOfBody scope.now.tree (as_program f) place cause)
+        (declared_functions scope.now.tree)) found) }
+{
+    let mut least = None;
+    for (number, function) in scope.functions().iter().enumerate() {
+        let lines = function.function().lines();
+        let fault = fault_of_body(alloc, scope, BodyNumber::Function(number), lines)?;
+        least = lesser_of(least, fault);
+    }
+    Ok(least)
+}
+
+/// The least such fault in the program or the function with this number, which has these lines.
+fn fault_of_body(
+    alloc: Global,
+    scope: &Scope<'_>,
+    body: BodyNumber,
+    lines: &[Line<Symbol, Name>],
+) -> Result<Option<Found>, AllocError>
+    requires { IsSome (body_at scope.now.tree body) }
+    ensures { (p : DeclaredProgram) → body_at scope.now.tree body ≡ Some p
+        → lines.now ≡ p.program.lines
+        → IfOk result (λ found. IsLeastOf (IsFaultOfBody scope.now.tree p) found) }
+{
+    let said = fault_in_lines(alloc, scope, lines)?;
+    let called = fault_of_calls(alloc, scope, body, lines)?;
+    Ok(lesser_of(said, called))
+}
+
+/// The least fault of a label or of a port among one program's lines.
 fn fault_in_lines(
     alloc: Global,
     scope: &Scope<'_>,

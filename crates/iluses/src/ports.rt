@@ -1,28 +1,28 @@
 //! Ports of block instances.
 
-ghost use Rattle.std.specs.Prelude.{◌≡◌, ◌<◌, Some, length, slice_get};
+ghost use Rattle.std.specs.Prelude.{◌≡◌, IsSome, Some};
 ghost use Rattle.ildeclared.specs.Faults.{IsLeastOf, OfCause};
 ghost use Rattle.ildeclared.specs.declared.fault.NameCause.TheVariants.{WritesInput};
-ghost use Rattle.ilscope.specs.Declarations.{declared_programs, DeclaredProgram};
+ghost use Rattle.ilscope.specs.Declarations.{DeclaredProgram, body_at};
 ghost use Rattle.iluses.specs.Faults.{place_of_port, port_number, writes, WritesOutput};
 
 use ilblocks::BlockKind;
-use ilscope::{Found, NameCause, Scope};
+use ilscope::{BodyNumber, Found, NameCause, Scope};
 use ilsource::{Name, Operand, Purpose, Symbol, Use};
 
-/// The kind of a block instance of the program with this number, and the number of its port of this
-/// name; none where there is no such port.
+/// The kind of a block instance of the program or the function with this number, and the number of
+/// its port of this name; none where there is no such port.
 pub fn port_of(
     scope: &Scope<'_>,
-    number: usize,
+    body: BodyNumber,
     block: Name,
     port: Name,
 ) -> Option<(BlockKind, usize)>
-    requires { number < length (declared_programs scope.now.tree) }
-    ensures { (p : DeclaredProgram) → slice_get (declared_programs scope.now.tree) number ≡ Some p
+    requires { IsSome (body_at scope.now.tree body) }
+    ensures { (p : DeclaredProgram) → body_at scope.now.tree body ≡ Some p
         → result ≡ port_number scope.now.tree.text p block port }
 {
-    let (_, kind) = scope.block(number, block)?;
+    let (_, kind) = scope.block(body, block)?;
     let port = kind.port_named(port.text(scope.source().text()))?;
     Some((kind, port))
 }
@@ -37,10 +37,14 @@ pub(crate) fn place_of_port(purpose: Purpose, block: Name, port: Name) -> usize
     }
 }
 
-/// The fault of a use that stores to an output, in the program with this number.
-pub(crate) fn output_written(scope: &Scope<'_>, number: usize, used: Use<Symbol>) -> Option<Found>
-    requires { number < length (declared_programs scope.now.tree) }
-    ensures { (p : DeclaredProgram) → slice_get (declared_programs scope.now.tree) number ≡ Some p
+/// The fault of a use that stores to an output, in the program or the function with this number.
+pub(crate) fn output_written(
+    scope: &Scope<'_>,
+    body: BodyNumber,
+    used: Use<Symbol>,
+) -> Option<Found>
+    requires { IsSome (body_at scope.now.tree body) }
+    ensures { (p : DeclaredProgram) → body_at scope.now.tree body ≡ Some p
         → IsLeastOf
         (OfCause WritesInput (λ place. WritesOutput scope.now.tree.text p place used)) result }
 {
@@ -50,7 +54,7 @@ pub(crate) fn output_written(scope: &Scope<'_>, number: usize, used: Use<Symbol>
     if !writes(used.purpose) {
         return None;
     }
-    let (kind, place) = port_of(scope, number, block, port)?;
+    let (kind, place) = port_of(scope, body, block, port)?;
     // Whether a port is an input does not depend on the number of buses.
     if kind.input_type(1, place).is_some() {
         return None;

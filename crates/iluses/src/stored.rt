@@ -1,18 +1,21 @@
 //! Global variables that lines store to.
 
-ghost use Rattle.std.specs.Prelude.{◌≡◌, ◌<◌, ◌↔◌, ℕ, All, IfOk, IsTrue, Some, length};
+ghost use Rattle.std.specs.Prelude.{◌≡◌, ◌<◌, ◌↔◌, ℕ, All, IfOk, IsSome, IsTrue, Some, length};
 ghost use Rattle.std.specs.Prelude.{option_and_then};
 ghost use Rattle.std.specs.Prelude.{slice_get};
 ghost use Rattle.ilsource.specs.declared.name.Name.{Name};
 ghost use Rattle.ildeclared.specs.Faults.{IsInput, IsLeastOf, OfCause, SomeOf};
 ghost use Rattle.ildeclared.specs.declared.fault.NameCause.TheVariants.{WritesInput};
 ghost use Rattle.ilscope.specs.Configured.{global_named, globals_of};
-ghost use Rattle.ilscope.specs.Declarations.{declared_programs, DeclaredProgram};
-ghost use Rattle.iluses.specs.Faults.{IsNamedInput, ProgramStores, StoresExternal, StoresTo};
-ghost use Rattle.iluses.specs.Faults.{StoresToInput, stored_name};
+ghost use Rattle.ilscope.specs.Declarations.{DeclaredFunction, DeclaredProgram, body_at};
+ghost use Rattle.ilscope.specs.Declarations.{declared_functions, declared_programs};
+ghost use Rattle.ilsource.specs.Names.{SameName};
+ghost use Rattle.iluses.specs.Faults.{IsFaultAtInputs, IsNamedInput, ProgramStores};
+ghost use Rattle.iluses.specs.Faults.{StoresExternal, StoresTo, StoresToInput, StoresToOwnInput};
+ghost use Rattle.iluses.specs.Faults.{stored_name};
 
 use crate::uses::uses_of;
-use ilscope::{Found, NameCause, Scope};
+use ilscope::{BodyNumber, Found, NameCause, Scope, found_where, lesser_of};
 use ilsource::{DirectAddress, Name, Operand, Purpose, Symbol, Use};
 use iltokens::AddressKind;
 use std::alloc::{AllocError, Global};
@@ -36,7 +39,7 @@ pub fn stored_globals(
     ensures there { IfOk result (λ v.
         All (λ its. its < length (globals_of scope.now.tree)) v.items) }
 {
-    let uses = uses_of(alloc, scope.programs()[number].program())?;
+    let uses = uses_of(alloc, scope.programs()[number].program().lines())?;
     let mut stored = Vec::new(alloc);
     for used in &uses {
         if let Some(global) = stored_global(scope, number, *used) {
@@ -52,17 +55,18 @@ fn stored_global(scope: &Scope<'_>, number: usize, used: Use<Symbol>) -> Option<
     ensures { (p : DeclaredProgram) → slice_get (declared_programs scope.now.tree) number ≡ Some p
         → (global : ℕ) → (result ≡ Some global) ↔ StoresTo scope.now.tree global p used }
 {
-    scope.global_number(stored_external(scope, number, used)?)
+    scope.global_number(stored_external(scope, BodyNumber::Program(number), used)?)
 }
 
-/// The fault of a use that stores to an input, in the program with this number.
-pub(crate) fn input_written(scope: &Scope<'_>, number: usize, used: Use<Symbol>) -> Option<Found>
-    requires { number < length (declared_programs scope.now.tree) }
-    ensures { (p : DeclaredProgram) → slice_get (declared_programs scope.now.tree) number ≡ Some p
+/// The fault of a use that stores to an input, in the program or the function with this
+/// number.
+pub(crate) fn input_written(scope: &Scope<'_>, body: BodyNumber, used: Use<Symbol>) -> Option<Found>
+    requires { IsSome (body_at scope.now.tree body) }
+    ensures { (p : DeclaredProgram) → body_at scope.now.tree body ≡ Some p
         → IsLeastOf
         (OfCause WritesInput (λ place. StoresToInput scope.now.tree p place used)) result }
 {
-    let name = stored_external(scope, number, used)?;
+    let name = stored_external(scope, body, used)?;
     if !is_named_input(scope, name) {
         return None;
     }
@@ -73,17 +77,17 @@ pub(crate) fn input_written(scope: &Scope<'_>, number: usize, used: Use<Symbol>)
 }
 
 /// The name of the external that a use in the program with this number stores to.
-fn stored_external(scope: &Scope<'_>, number: usize, used: Use<Symbol>) -> Option<Name>
-    requires { number < length (declared_programs scope.now.tree) }
-    ensures { (p : DeclaredProgram) → slice_get (declared_programs scope.now.tree) number ≡ Some p
+fn stored_external(scope: &Scope<'_>, body: BodyNumber, used: Use<Symbol>) -> Option<Name>
+    requires { IsSome (body_at scope.now.tree body) }
+    ensures { (p : DeclaredProgram) → body_at scope.now.tree body ≡ Some p
         → (name : Name)
         → (result ≡ Some name) ↔ StoresExternal scope.now.tree.text p used name }
 {
     let name = stored_name(used)?;
-    if scope.variable_number(number, name).is_some() {
+    if scope.variable_number(body, name).is_some() {
         return None;
     }
-    scope.external_number(number, name)?;
+    scope.external_number(body, name)?;
     Some(name)
 }
 
@@ -120,4 +124,51 @@ fn is_input(address: DirectAddress) -> bool
     ensures { IsTrue result ↔ IsInput address }
 {
     !matches!(address.kind, AddressKind::OutputByte)
+}
+
+/// The least fault of a use that stores to an input of the function with this number.
+pub(crate) fn fault_at_inputs(
+    scope: &Scope<'_>,
+    number: usize,
+    uses: &[Use<Symbol>],
+) -> Option<Found>
+    requires { number < length (declared_functions scope.now.tree) }
+    ensures { (f : DeclaredFunction)
+        → slice_get (declared_functions scope.now.tree) number ≡ Some f
+        → IsLeastOf (IsFaultAtInputs scope.now.tree.text f uses.now) result }
+{
+    let mut least = None;
+    for used in uses {
+        least = lesser_of(least, own_input_written(scope, number, *used));
+    }
+    least
+}
+
+/// The fault of one such use.
+fn own_input_written(scope: &Scope<'_>, number: usize, used: Use<Symbol>) -> Option<Found>
+    requires { number < length (declared_functions scope.now.tree) }
+    ensures { (f : DeclaredFunction)
+        → slice_get (declared_functions scope.now.tree) number ≡ Some f
+        → IsLeastOf (OfCause WritesInput
+        (λ place. StoresToOwnInput scope.now.tree.text f place used)) result }
+{
+    let name = stored_name(used)?;
+    found_where(
+        is_own_input(scope, number, name),
+        name.from,
+        NameCause::WritesInput,
+    )
+}
+
+/// Whether the name is that of an input of the function with this number.
+fn is_own_input(scope: &Scope<'_>, number: usize, name: Name) -> bool
+    requires { number < length (declared_functions scope.now.tree) }
+    ensures { (f : DeclaredFunction)
+        → slice_get (declared_functions scope.now.tree) number ≡ Some f
+        → IsTrue result ↔ SomeOf (λ v. SameName scope.now.tree.text name v.name) f.inputs }
+{
+    match scope.variable_number(BodyNumber::Function(number), name) {
+        Some(variable) => variable < scope.functions()[number].inputs().len(),
+        None => false,
+    }
 }

@@ -1,48 +1,53 @@
-//! Names that their program does not declare.
+//! Names that are not declared where they are used.
 
-ghost use Rattle.std.specs.Prelude.{◌≡◌, ◌<◌, ◌↔◌, IsTrue, Some, length, slice_get};
-ghost use Rattle.ildeclared.specs.Faults.{IsLeastOf, OfCause};
+ghost use Rattle.std.specs.Prelude.{◌≡◌, ◌↔◌, IsSome, IsTrue, Some};
+ghost use Rattle.ilsource.specs.Names.{SameName};
+ghost use Rattle.ildeclared.specs.Faults.{IsLeastOf, OfCause, SomeOf};
 ghost use Rattle.ildeclared.specs.declared.fault.NameCause.TheVariants.{Unknown};
-ghost use Rattle.ilscope.specs.Declarations.{declared_programs, DeclaredProgram};
+ghost use Rattle.ilscope.specs.Declarations.{DeclaredProgram, body_at};
 ghost use Rattle.iluses.specs.Faults.{IsNoVariable, IsUnknownSymbol, IsUnknownUse};
+ghost use Rattle.iluses.specs.Faults.{functions_above};
 
+use crate::calls::function_called;
 use crate::ports::{place_of_port, port_of};
-use ilscope::{Found, NameCause, Scope};
+use ilscope::{BodyNumber, Found, NameCause, Scope};
 use ilsource::{Name, Operand, Purpose, Symbol, Use};
 
-/// The fault of a use of what the program with this number does not declare.
-pub(crate) fn unknown_use(scope: &Scope<'_>, number: usize, used: Use<Symbol>) -> Option<Found>
-    requires { number < length (declared_programs scope.now.tree) }
-    ensures { (p : DeclaredProgram) → slice_get (declared_programs scope.now.tree) number ≡ Some p
+/// The fault of a use of what is not declared for it, in the program or the function with this
+/// number.
+pub(crate) fn unknown_use(scope: &Scope<'_>, body: BodyNumber, used: Use<Symbol>) -> Option<Found>
+    requires { IsSome (body_at scope.now.tree body) }
+    ensures { (p : DeclaredProgram) → body_at scope.now.tree body ≡ Some p
         → IsLeastOf
-        (OfCause Unknown (λ place. IsUnknownUse scope.now.tree.text p place used)) result }
+        (OfCause Unknown (λ place. IsUnknownUse scope.now.tree p place used)) result }
 {
     let Operand::Name(symbol) = used.operand else {
         return None;
     };
-    unknown_symbol(scope, number, used.purpose, symbol)
+    unknown_symbol(scope, body, used.purpose, symbol)
 }
 
-/// The fault of a symbol for which the program with this number declares nothing.
+/// The fault of a symbol for which nothing is declared.
 fn unknown_symbol(
     scope: &Scope<'_>,
-    number: usize,
+    body: BodyNumber,
     purpose: Purpose,
     symbol: Symbol,
 ) -> Option<Found>
-    requires { number < length (declared_programs scope.now.tree) }
-    ensures { (p : DeclaredProgram) → slice_get (declared_programs scope.now.tree) number ≡ Some p
+    requires { IsSome (body_at scope.now.tree body) }
+    ensures { (p : DeclaredProgram) → body_at scope.now.tree body ≡ Some p
         → IsLeastOf
         (OfCause Unknown
-        (λ place. IsUnknownSymbol scope.now.tree.text p place purpose symbol)) result }
+        (λ place. IsUnknownSymbol scope.now.tree p place purpose symbol)) result }
 {
     let (is_declared, at) = match symbol {
-        Symbol::Variable(name) => (is_variable(scope, number, name), name.from),
+        Symbol::Variable(name) => (is_variable(scope, body, name), name.from),
         Symbol::Port { block, port } => (
-            port_of(scope, number, block, port).is_some(),
+            port_of(scope, body, block, port).is_some(),
             place_of_port(purpose, block, port),
         ),
-        Symbol::Block(name) => (scope.block(number, name).is_some(), name.from),
+        Symbol::Block(name) => (scope.block(body, name).is_some(), name.from),
+        Symbol::Function(name) => (is_function(scope, body, name), name.from),
     };
     if is_declared {
         return None;
@@ -53,11 +58,21 @@ fn unknown_symbol(
     })
 }
 
-/// Whether the program with this number has a variable or an external of this name.
-fn is_variable(scope: &Scope<'_>, number: usize, name: Name) -> bool
-    requires { number < length (declared_programs scope.now.tree) }
-    ensures { (p : DeclaredProgram) → slice_get (declared_programs scope.now.tree) number ≡ Some p
+/// Whether the program or the function with this number has a variable or an external of this name.
+fn is_variable(scope: &Scope<'_>, body: BodyNumber, name: Name) -> bool
+    requires { IsSome (body_at scope.now.tree body) }
+    ensures { (p : DeclaredProgram) → body_at scope.now.tree body ≡ Some p
         → IsTrue result ↔ ¬ IsNoVariable scope.now.tree.text p name }
 {
-    scope.variable_number(number, name).is_some() || scope.external_number(number, name).is_some()
+    scope.variable_number(body, name).is_some() || scope.external_number(body, name).is_some()
+}
+
+/// Whether a function of this name is declared above the program or the function with this number.
+fn is_function(scope: &Scope<'_>, body: BodyNumber, name: Name) -> bool
+    requires { IsSome (body_at scope.now.tree body) }
+    ensures { (p : DeclaredProgram) → body_at scope.now.tree body ≡ Some p
+        → IsTrue result ↔ SomeOf (λ f. SameName scope.now.tree.text name f.function.name)
+        (functions_above scope.now.tree p) }
+{
+    function_called(scope, body, name).is_some()
 }

@@ -1,40 +1,51 @@
-//! What programs use, and what is at fault with it.
+//! What lines use, and what is at fault with it.
 
-ghost use Rattle.std.specs.Prelude.{◌≡◌, ◌<◌, IfOk, Some, length, slice_get};
+ghost use Rattle.std.specs.Prelude.{◌≡◌, ◌<◌, IfOk, IsSome, Some, length, slice_get};
 ghost use Rattle.ildeclared.specs.Faults.{IsLeastOf, SomeOf};
-ghost use Rattle.ilscope.specs.Declarations.{declared_programs, DeclaredProgram};
-ghost use Rattle.iluses.specs.Faults.{IsFaultAtUse, IsFaultAtUses};
+ghost use Rattle.ilscope.specs.Declarations.{DeclaredFunction, DeclaredProgram, body_at};
+ghost use Rattle.ilscope.specs.Declarations.{declared_functions, declared_programs};
+ghost use Rattle.iluses.specs.Faults.{IsFaultAtUse, IsFaultAtUses, IsFaultInFunction};
+ghost use Rattle.iluses.specs.Faults.{IsFaultOfUses};
 ghost use Rattle.iluses.specs.Uses.{uses_of};
 
 use crate::ports::output_written;
-use crate::stored::input_written;
+use crate::stored::{fault_at_inputs, input_written};
 use crate::unknown::unknown_use;
-use ilscope::{Found, Scope, lesser_of};
-use ilsource::{Program, Symbol, Use};
+use ilscope::{BodyNumber, Found, Scope, lesser_of};
+use ilsource::{Line, Name, Symbol, Use};
 use std::alloc::{AllocError, Global};
 
-/// What a program's lines use, in the order of the text.
+/// What lines use, in the order of the text.
 ///
 /// # Errors
 ///
 /// The allocator is out of memory.
-pub fn uses_of(alloc: Global, program: &Program) -> Result<Vec<Use<Symbol>>, AllocError>
-    ensures { IfOk result (λ v. v.items ≡ uses_of program.now.lines) }
+pub fn uses_of(alloc: Global, lines: &[Line<Symbol, Name>]) -> Result<Vec<Use<Symbol>>, AllocError>
+    ensures { IfOk result (λ v. v.items ≡ uses_of lines.now) }
 {
     let mut uses = Vec::new(alloc);
-    for line in program.lines() {
+    for line in lines {
         line.push_uses(&mut uses)?;
     }
     Ok(uses)
 }
 
-/// The least fault of a use: of what its program does not declare, or of a store to an output port
-/// or to an input.
+/// The least fault of a use, in any program or function: of what is not declared for it, or of a
+/// store to an output port or to an input.
 ///
 /// # Errors
 ///
 /// The allocator is out of memory.
 pub fn fault_at_uses(alloc: Global, scope: &Scope<'_>) -> Result<Option<Found>, AllocError>
+    ensures { IfOk result (λ found. IsLeastOf (IsFaultOfUses scope.now.tree) found) }
+{
+    let programs = fault_in_programs(alloc, scope)?;
+    let functions = fault_in_functions(alloc, scope)?;
+    Ok(lesser_of(programs, functions))
+}
+
+/// The least such fault in a program.
+fn fault_in_programs(alloc: Global, scope: &Scope<'_>) -> Result<Option<Found>, AllocError>
     ensures { IfOk result (λ found. IsLeastOf
         (λ place cause. SomeOf
         (λ p. IsFaultAtUses scope.now.tree p (uses_of p.program.lines) place cause)
@@ -42,34 +53,65 @@ pub fn fault_at_uses(alloc: Global, scope: &Scope<'_>) -> Result<Option<Found>, 
 {
     let mut least = None;
     for (number, program) in scope.programs().iter().enumerate() {
-        let uses = uses_of(alloc, program.program())?;
-        least = lesser_of(least, fault_in_uses(scope, number, &uses));
+        let uses = uses_of(alloc, program.program().lines())?;
+        least = lesser_of(
+            least,
+            fault_in_uses(scope, BodyNumber::Program(number), &uses),
+        );
     }
     Ok(least)
 }
 
-/// The least such fault among uses in the program with this number.
-fn fault_in_uses(scope: &Scope<'_>, number: usize, uses: &[Use<Symbol>]) -> Option<Found>
-    requires { number < length (declared_programs scope.now.tree) }
-    ensures { (p : DeclaredProgram) → slice_get (declared_programs scope.now.tree) number ≡ Some p
+/// The least such fault in a function.
+fn fault_in_functions(alloc: Global, scope: &Scope<'_>) -> Result<Option<Found>, AllocError>
+    ensures { IfOk result (λ found. IsLeastOf (λ place cause. SomeOf
+        (λ f. IsFaultInFunction scope.now.tree f place cause)
+        (declared_functions scope.now.tree)) found) }
+{
+    let mut least = None;
+    for (number, function) in scope.functions().iter().enumerate() {
+        let uses = uses_of(alloc, function.function().lines())?;
+        let fault = fault_in_function(scope, number, &uses);
+        least = lesser_of(least, fault);
+    }
+    Ok(least)
+}
+
+/// The least such fault in the function with this number, which uses these.
+fn fault_in_function(scope: &Scope<'_>, number: usize, uses: &[Use<Symbol>]) -> Option<Found>
+    requires { number < length (declared_functions scope.now.tree) }
+    ensures { (f : DeclaredFunction)
+        → slice_get (declared_functions scope.now.tree) number ≡ Some f
+        → uses.now ≡ uses_of f.function.lines
+        → IsLeastOf (IsFaultInFunction scope.now.tree f) result }
+{
+    let used = fault_in_uses(scope, BodyNumber::Function(number), uses);
+    lesser_of(used, fault_at_inputs(scope, number, uses))
+}
+
+/// The least such fault among uses in the program or the function with this number, stores to
+/// inputs of its own apart.
+fn fault_in_uses(scope: &Scope<'_>, body: BodyNumber, uses: &[Use<Symbol>]) -> Option<Found>
+    requires { IsSome (body_at scope.now.tree body) }
+    ensures { (p : DeclaredProgram) → body_at scope.now.tree body ≡ Some p
         → IsLeastOf (IsFaultAtUses scope.now.tree p uses.now) result }
 {
     let mut least = None;
     for used in uses {
-        least = lesser_of(least, fault_of_use(scope, number, *used));
+        least = lesser_of(least, fault_of_use(scope, body, *used));
     }
     least
 }
 
 /// The least fault of one use.
-fn fault_of_use(scope: &Scope<'_>, number: usize, used: Use<Symbol>) -> Option<Found>
-    requires { number < length (declared_programs scope.now.tree) }
-    ensures { (p : DeclaredProgram) → slice_get (declared_programs scope.now.tree) number ≡ Some p
+fn fault_of_use(scope: &Scope<'_>, body: BodyNumber, used: Use<Symbol>) -> Option<Found>
+    requires { IsSome (body_at scope.now.tree body) }
+    ensures { (p : DeclaredProgram) → body_at scope.now.tree body ≡ Some p
         → IsLeastOf (IsFaultAtUse scope.now.tree p used) result }
 {
     let written = lesser_of(
-        output_written(scope, number, used),
-        input_written(scope, number, used),
+        output_written(scope, body, used),
+        input_written(scope, body, used),
     );
-    lesser_of(unknown_use(scope, number, used), written)
+    lesser_of(unknown_use(scope, body, used), written)
 }

@@ -4,6 +4,8 @@ use Rattle.std.proofs.lemmas.Option.{get_or_from_slice_get}
 use Rattle.std.specs.Prelude.{All, Some, slice_get}
 use Rattle.ilsource.specs.declared.uses.Use.{Use}
 use Rattle.ilsource.specs.Programs.{Written}
+use Rattle.ilsource.specs.declared.instruction.Line.{Line}
+use Rattle.ilsource.specs.declared.name.Name.{Name}
 use Rattle.ilsource.specs.declared.symbol.Symbol.{Symbol}
 use Rattle.ildeclared.proofs.Least.{got_at}
 use Rattle.ilscope.specs.Configured.{globals_of}
@@ -64,7 +66,9 @@ returns-clause-stored c p at =
     let program = found ∙ get_or_from_slice_get (declared_programs tree) c.args.number p _ at in
     let used : c.deref-used-items.result.now ≡ uses_of p.program.lines =
     c.deref-used-items.ensures.value ∙ c.in_ok-uses.ensures
-    ∙ ap (λ (w : Written). uses_of w.lines) (c.program.ensures.value ∙ ap (λ (q : DeclaredProgram). q.program) program)
+    ∙ ap (λ (ls : List (Line Symbol Name)). uses_of ls)
+    (c.lines.ensures.value ∙ ap (λ (w : Written). w.lines)
+    (c.program.ensures.value ∙ ap (λ (q : DeclaredProgram). q.program) program))
     in
     subst (λ (us : List (Use Symbol)). AreThose (λ g u. StoresTo tree g p u) c.loop-used.stored.items us)
     (take_all c.loop-used.used-index c.deref-used-items.result.now c.loop-used-test.false ∙ used)

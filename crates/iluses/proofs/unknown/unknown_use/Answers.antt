@@ -9,6 +9,6 @@ use Rattle.iluses.proofs.unknown.unknown_use.Goals as goal
 pub returns : goal.returns
 returns c p at =
     subst (λ (o : Operand Symbol). IsLeastOf
-    (OfCause Unknown (λ place. IsUnknownOperand c.args.scope.now.tree.text p place c.args.used.purpose o))
+    (OfCause Unknown (λ place. IsUnknownOperand c.args.scope.now.tree p place c.args.used.purpose o))
     c.unknown_symbol.result)
     (sym c.in-Name.is) (c.unknown_symbol.ensures p at)

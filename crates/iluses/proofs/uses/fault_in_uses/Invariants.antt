@@ -1,11 +1,11 @@
 use Rattle.std.proofs.Common.{◌≡◌, take}
-use Rattle.std.specs.Prelude.{Some, slice_get}
+use Rattle.std.specs.Prelude.{Some}
 use Rattle.ildeclared.specs.Faults.{IsLeastOf}
-use Rattle.ilscope.specs.Declarations.{declared_programs, DeclaredProgram}
+use Rattle.ilscope.specs.Declarations.{body_at, DeclaredProgram}
 use Rattle.iluses.specs.Faults.{IsFaultAtUses}
 use Rattle.iluses.proofs.uses.fault_in_uses.Given as goal
 
 abbrev pub invariant-loop-used : goal.invariant-loop-used
 invariant-loop-used l =
-    (p : DeclaredProgram) → slice_get (declared_programs l.scope.tree) l.number ≡ Some p
+    (p : DeclaredProgram) → body_at l.scope.tree l.body ≡ Some p
     → IsLeastOf (IsFaultAtUses l.scope.tree p (take l.used-index l.uses)) l.least

@@ -11,7 +11,7 @@ returns c p at =
     let tree = c.args.scope.now.tree in
     let used = c.args.used in
     rw (c.lesser_of.ensures, c.lesser_of-written.ensures)
-    (both_least (OfCause Unknown (λ place. IsUnknownUse tree.text p place used))
+    (both_least (OfCause Unknown (λ place. IsUnknownUse tree p place used))
     (OfCause WritesInput (λ place. WritesOutput tree.text p place used ⊎ StoresToInput tree p place used))
     c.unknown_use.result _ (c.unknown_use.ensures p at)
     (of_both WritesInput (λ place. WritesOutput tree.text p place used) (λ place. StoresToInput tree p place used)

@@ -3,7 +3,7 @@ use Rattle.ildeclared.specs.Faults.{IsLeastOf, SomeOf}
 use Rattle.ilscope.specs.Declarations.{declared_programs}
 use Rattle.iluses.specs.Faults.{IsFaultAtUses}
 use Rattle.iluses.specs.Uses.{uses_of}
-use Rattle.iluses.proofs.uses.fault_at_uses.Given as goal
+use Rattle.iluses.proofs.uses.fault_in_programs.Given as goal
 
 abbrev pub invariant-loop-number : goal.invariant-loop-number
 invariant-loop-number l =
