@@ -17,6 +17,7 @@ use Rattle.ilplan.specs.declared.global.Global.{Global as GlobalVariable}
 use Rattle.ilplan.specs.declared.slot.Slot.{Slot}
 use Rattle.ilplan.specs.declared.slot.SlotOwner.{SlotOwner}
 use Rattle.ilplan.specs.declared.slot.SlotOwner.TheVariants.{Global, Own}
+use Rattle.ilplan.specs.Functions.{PlannedFunction}
 use Rattle.ilplan.specs.Plans.{Planned, PlannedTask, KeepsLimits, IsLawful, IsDeclared, IsTaskOf, HasTrigger, IsThere}
 use Rattle.ilplan.specs.Plans.{type_and_initial, first_value, first_values, is_trigger_of, types_of}
 
@@ -73,13 +74,18 @@ task_there inside tasks k task same within is =
     let here = slice_get-get_or inside k task (subst (λ (ts : List PlannedTask). k < length ts) (sym same) within) in
     subst (λ (ts : List PlannedTask). slice_get ts k ≡ Some task) same (here ∙ ap Some (sym is))
 
+pub task_limits : (plan : Planned) (k : ℕ) (task : PlannedTask) → IsLawful plan → slice_get plan.tasks k ≡ Some task
+    → KeepsLimits plan.functions task
+task_limits plan k task lawful is = at (KeepsLimits plan.functions) plan.tasks k task lawful.limits is
+
 pub task_of_plan : (plan : Planned) (k : ℕ) (task : PlannedTask) → IsLawful plan → slice_get plan.tasks k ≡ Some task
     → IsTaskOf plan.globals task
 task_of_plan plan k task lawful is = at (IsTaskOf plan.globals) plan.tasks k task lawful.tasks is
 
 module _ (globals : List GlobalVariable) (task : PlannedTask) (declared : IsTaskOf globals task) where
-  pub firsts_typed : KeepsLimits task → AreOf (first_values task) (types_of task)
-  firsts_typed keeps = firsts globals task task.slots declared.0 declared.1 keeps.initials
+  pub firsts_typed : (functions : List PlannedFunction) → KeepsLimits functions task
+      → AreOf (first_values task) (types_of task)
+  firsts_typed functions keeps = firsts globals task task.slots declared.0 declared.1 keeps.initials
 
   -- a global variable that a slot names is there
   pub is_there : (slot : ℕ) (s : Slot) → slice_get task.slots slot ≡ Some s → IsThere globals s.variable

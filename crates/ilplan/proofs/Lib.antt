@@ -1,3 +1,4 @@
+pub mod CallsAdded
 pub mod Declared
 pub mod EachOnce
 pub mod Keys

@@ -1,7 +1,7 @@
 -- Which slots lines store to: what one line adds, and one line after another.
 use Rattle.std.proofs.Common.{◌≡◌, ℕ, ◌<◌, List, [], ◌∷◌, ◌++◌, length, refl, sym, ap, ◌∙◌, subst, arith}
 use Rattle.std.proofs.Common.{Bool, true, false, ◌||◌, ◌+◌, ◌≢◌, ◌≤◌, get_or, take, replicate, set}
-use Rattle.std.specs.Prelude.{flat_map, Option, Some, None, ◌==◌, option_and_then}
+use Rattle.std.specs.Prelude.{flat_map, map, Option, Some, None, ◌==◌, option_and_then}
 use Rattle.std.specs.List.{list_any}
 use Rattle.std.specs.Option.{option_map_or}
 use Rattle.std.proofs.lemmas.Bool.Decides.{Decides-eqb, not_from_Decides}
@@ -17,9 +17,10 @@ use Rattle.ilsource.specs.declared.instruction.Line.{Line}
 use Rattle.ilsource.specs.declared.nested.Action.{Action}
 use Rattle.ilsource.specs.declared.nested.Action.TheVariants as actions
 use Rattle.ilsource.specs.declared.nested.Piece.{Piece}
+use Rattle.ilsource.specs.declared.operand.Operand.{Operand}
 use Rattle.ilsource.specs.declared.uses.Use.{Use}
 use Rattle.ilsource.specs.Trees.{pieces_of}
-use Rattle.ilsource.specs.Uses.{uses_in, uses_of, uses_of_action, uses_of_piece, uses_of_argument, write_at}
+use Rattle.ilsource.specs.Uses.{uses_in, uses_of, uses_of_action, uses_of_piece, uses_of_argument, read_at, write_at}
 use Rattle.ilplan.specs.declared.place.Place.{Place}
 use Rattle.ilplan.specs.declared.place.Place.TheVariants as places
 use Rattle.ilplan.specs.Plans.{PlannedInstance, all_lines, writes_slot}
@@ -37,6 +38,9 @@ no_action_writes slot at (actions.Apply operator o) = refl
 no_action_writes slot at (actions.Open operator) = refl
 no_action_writes slot at (actions.Close) = refl
 no_action_writes slot at (actions.Transform function) = refl
+no_action_writes slot at (actions.Hand f) = refl
+no_action_writes slot at (actions.Give f number o) = refl
+no_action_writes slot at (actions.Invoke f) = refl
 
 no_piece_writes : (slot : ℕ) (pieces : List (Piece Place))
     → list_any (writes_slot slot) (flat_map uses_of_piece pieces) ≡ false
@@ -51,6 +55,11 @@ no_argument_writes : (slot at : ℕ) (arguments : List (Argument Place))
 no_argument_writes slot at [] = refl
 no_argument_writes slot at (x ∷ arguments) = no_argument_writes slot at arguments
 
+no_operand_writes : (slot at : ℕ) (operands : List (Operand Place))
+    → list_any (writes_slot slot) (map (read_at at) operands) ≡ false
+no_operand_writes slot at [] = refl
+no_operand_writes slot at (o ∷ operands) = no_operand_writes slot at operands
+
 or_none : (b : Bool) → b ≡ (b || false)
 or_none true = refl
 or_none false = refl
@@ -62,6 +71,7 @@ writes_place : (slot at : ℕ) (place : Place)
 writes_place slot at (places.Slot number) = sym (or_none (number == slot))
 writes_place slot at (places.Port block port) = refl
 writes_place slot at (places.Block block) = refl
+writes_place slot at (places.Function number) = refl
 
 writes_by : (slot at : ℕ) (i : Instruction Place ℕ)
     → list_any (writes_slot slot) (uses_of at i) ≡ option_map_or (λ number. number == slot) (stored_by i) false
@@ -76,6 +86,7 @@ writes_by slot at (instructions.Reset place) = writes_place slot at place
 writes_by slot at (instructions.Jump condition label) = refl
 writes_by slot at (instructions.Return condition) = refl
 writes_by slot at (instructions.Call condition place arguments) = no_argument_writes slot at arguments
+writes_by slot at (instructions.Invoke f operands) = no_operand_writes slot at operands
 
 writes_in : (slot at : ℕ) (o : Option (Instruction Place ℕ))
     → list_any (writes_slot slot) (option_map_or (uses_of at) o [])

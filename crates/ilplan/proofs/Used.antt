@@ -24,7 +24,8 @@ later_among : (v : Value) (rest : List Value) (o : Option Value) → list_any (s
 later_among v rest None e = e
 later_among v rest (Some w) e = rw e (or_true (same_value v w))
 
-among : {N : Type 0} (values : List Value) (uses : List (Use N))
+-- the constants of uses are among values where these have all of them
+pub among : {N : Type 0} (values : List Value) (uses : List (Use N))
     → ((v : Value) → list_any (same_value v) (constants_used uses) ≡ true → list_any (same_value v) values ≡ true)
     → AreAmong values uses
 among values [] h = tt

@@ -39,9 +39,13 @@ constant_in (Constant value) = Some value
 abbrev pub constants_used : {N : Type 0} → List (Use N) → List Value
 constants_used uses = filter_map (λ u. constant_in u.operand) uses
 
+-- the constants of lines, in order of use
+abbrev pub constants_in : {N L : Type 0} → List (Line N L) → List Value
+constants_in lines = constants_used (flat_map uses_in lines)
+
 -- the different constants of lines, in order of first use
 abbrev pub different_constants : {N L : Type 0} → List (Line N L) → List Value
-different_constants lines = each_once (constants_used (flat_map uses_in lines))
+different_constants lines = each_once (constants_in lines)
 
 -- the constants of the uses are among the values
 abbrev pub AreAmong : {N : Type 0} → List Value → List (Use N) → Type 0

@@ -1,5 +1,6 @@
 -- Plans as contracts see them, and what holds of each task (profile).
-use Rattle.std.specs.Prelude.{◌≡◌, ℕ, pos, ◌<◌, ◌≤◌, ◌==◌, List, [], ◌∷◌, flat_map, map, length, Bool, true, false, ⊤}
+use Rattle.std.specs.Prelude.{◌≡◌, ℕ, pos, ◌+◌, ◌<◌, ◌≤◌, ◌==◌, List, [], ◌∷◌, ◌++◌, flat_map, map, length, sum_by}
+use Rattle.std.specs.Prelude.{Bool, true, false, ⊤}
 use Rattle.std.specs.Prelude.{Option, None, Some, IfSome, slice_get, option_and_then, option_map, if◌then◌else◌}
 use Rattle.std.specs.Prelude.{All, AllPairs, Any, ◌≤ℤ◌, IsSomeAnd}
 use Rattle.std.specs.List.{AllByRecursion, list_any}
@@ -12,12 +13,15 @@ use Rattle.iltypes.specs.Values.{IsOf, AreOf}
 use Rattle.wordlines.specs.declared.sources.BoundSource.{BoundSource}
 use Rattle.wordlines.specs.declared.tries.BusTries.{BusTries}
 use Rattle.wordlines.specs.Wirings.{Wiring, IsAt, IsWithinLimits}
+use Rattle.ilsource.specs.declared.instruction.Instruction.{Instruction}
+use Rattle.ilsource.specs.declared.instruction.Instruction.TheVariants as instructions
 use Rattle.ilsource.specs.declared.instruction.Line.{Line}
 use Rattle.ilsource.specs.declared.operand.Operand.{Operand}
 use Rattle.ilsource.specs.declared.operand.Operand.TheVariants.{Name as Named, Constant}
 use Rattle.ilsource.specs.declared.uses.Purpose.{Purpose}
-use Rattle.ilsource.specs.declared.uses.Purpose.TheVariants.{Read, Write, Call, Pass}
+use Rattle.ilsource.specs.declared.uses.Purpose.TheVariants.{Read, Write, Call, Pass, Invoke}
 use Rattle.ilsource.specs.declared.uses.Use.{Use}
+use Rattle.ilsource.specs.Trees as trees
 use Rattle.ilsource.specs.Uses.{uses_in}
 use Rattle.ilsource.specs.Words.{words_of_lines, AreShallow}
 use Rattle.ilsource.specs.declared.name.Name.{Name}
@@ -39,7 +43,9 @@ use Rattle.ilplan.specs.declared.slot.SlotOwner.{SlotOwner}
 use Rattle.ilplan.specs.declared.slot.SlotOwner.TheVariants.{Global, Own}
 use Rattle.ilplan.specs.declared.place.Place.{Place}
 use Rattle.ilplan.specs.declared.place.Place.TheVariants as places
-use Rattle.ilplan.specs.Constants.{different_constants}
+use Rattle.ilplan.specs.Constants.{each_once, constants_in}
+use Rattle.ilplan.specs.Functions.{PlannedFunction, starting_values, slots_of_function, words_of_function}
+use Rattle.ilplan.specs.Functions.{constants_of_function, those_in, used_from, depths_from}
 
 -- the kind of a task by what starts it: a cyclic one by the clock, an event task by an event
 abbrev pub task_kind : Activation → TaskKind
@@ -68,13 +74,14 @@ pub record PlannedTask : Type 0 where
   pub instances : List PlannedInstance
 
 -- a plan: the text that its names and places are of, the number of buses, the sources of events that are bound, what is
--- said of the attempts of buses, the global variables, the tasks
+-- said of the attempts of buses, the global variables, the functions in declared order, the tasks
 pub record Planned : Type 0 where
   pub text : List ℕ
   pub buses : ℕ
   pub sources : List BoundSource
   pub tries : List BusTries
   pub globals : List GlobalVariable
+  pub functions : List PlannedFunction
   pub tasks : List PlannedTask
 
 -- the task, and the plan, of these parts
@@ -91,9 +98,18 @@ task_of name activation priority slots blocks constants instances =
       instances = instances;
     }
 
-abbrev pub plan_of : List ℕ → ℕ → List BoundSource → List BusTries → List GlobalVariable → List PlannedTask → Planned
-plan_of text buses sources tries globals tasks =
-    record { text = text; buses = buses; sources = sources; tries = tries; globals = globals; tasks = tasks }
+abbrev pub plan_of : List ℕ → ℕ → List BoundSource → List BusTries → List GlobalVariable → List PlannedFunction
+    → List PlannedTask → Planned
+plan_of text buses sources tries globals functions tasks =
+    record {
+      text = text;
+      buses = buses;
+      sources = sources;
+      tries = tries;
+      globals = globals;
+      functions = functions;
+      tasks = tasks;
+    }
 
 -- what the plan's binding says
 abbrev pub wiring_of : Planned → Wiring
@@ -117,6 +133,24 @@ shape_of buses task = record { buses = buses; slots = types_of task; kinds = kin
 -- all lines of the instances, in order
 abbrev pub all_lines : List PlannedInstance → List (Line Place ℕ)
 all_lines instances = flat_map (λ i. i.lines) instances
+
+-- ---- functions of a task
+
+-- each of these functions, in declared order, where the lines of the instances use it
+abbrev pub used_by : List PlannedFunction → List PlannedInstance → List (Option PlannedFunction)
+used_by functions instances = used_from (all_lines instances) 0 functions
+
+abbrev pub used_functions : List PlannedFunction → PlannedTask → List (Option PlannedFunction)
+used_functions functions task = used_by functions task.instances
+
+-- those that the task uses
+abbrev pub functions_of : List PlannedFunction → PlannedTask → List PlannedFunction
+functions_of functions task = those_in (used_functions functions task)
+
+-- the different constants of the instances' lines and then of these functions, in order of first use
+abbrev pub constants_for : List PlannedInstance → List PlannedFunction → List Value
+constants_for instances functions =
+    each_once (constants_in (all_lines instances) ++ flat_map constants_of_function functions)
 
 -- ---- what a task stores, and what scans by hand begin from
 
@@ -145,6 +179,96 @@ first_value task slot = if is_trigger_of task.activation slot.variable then valu
 abbrev pub first_values : PlannedTask → List Value
 first_values task = map (first_value task) task.slots
 
+-- ---- what lines may name
+
+-- so many variables, ports of block instances of these kinds, and functions with so many inputs each
+pub record Nameable : Type 0 where
+  pub slots : ℕ
+  pub kinds : List BlockKind
+  pub inputs : List ℕ
+
+abbrev pub inputs_of : List PlannedFunction → List ℕ
+inputs_of functions = map (λ f. length f.inputs) functions
+
+-- the lines of a task, among these functions
+abbrev pub in_task : List PlannedFunction → PlannedTask → Nameable
+in_task functions task =
+    record { slots = length task.slots; kinds = kinds_of task; inputs = inputs_of functions }
+
+-- the body of a function behind these: its own variables alone, no block instance, and the functions before it
+abbrev pub in_body : List PlannedFunction → PlannedFunction → Nameable
+in_body before f = record { slots = slots_of_function f; kinds = []; inputs = inputs_of before }
+
+-- the block instance of this number has the port of this number
+abbrev pub HasPort : Nameable → ℕ → ℕ → Type 0
+HasPort names block port = IsSomeAnd (slice_get names.kinds block) (λ kind. port < length (ports_of kind))
+
+-- a variable or a port, as operands and stores name them
+abbrev pub HasPlace : Nameable → Place → Type 0
+HasPlace names (places.Slot slot) = slot < names.slots
+HasPlace names (places.Port block port) = HasPort names block port
+HasPlace names (places.Block block) = ⊥
+HasPlace names (places.Function number) = ⊥
+
+-- what is named is in its table, and of the sort that may stand there: an operand is a constant, a variable or a port, a
+-- variable or a port is written, a block instance is called, an argument is given to a port, and a function is invoked
+abbrev pub HasOperand : Nameable → Purpose → Operand Place → Type 0
+HasOperand names Read (Constant value) = ⊤
+HasOperand names Read (Named place) = HasPlace names place
+HasOperand names Write (Constant value) = ⊤
+HasOperand names Write (Named place) = HasPlace names place
+HasOperand names Call (Named (places.Block block)) = block < length names.kinds
+HasOperand names Call operand = ⊥
+HasOperand names Pass (Named (places.Port block port)) = HasPort names block port
+HasOperand names Pass operand = ⊥
+HasOperand names Invoke (Named (places.Function number)) = number < length names.inputs
+HasOperand names Invoke operand = ⊥
+
+abbrev pub HasUse : Nameable → Use Place → Type 0
+HasUse names u = HasOperand names u.purpose u.operand
+
+-- the function has so many inputs
+abbrev pub Takes : Nameable → Place → ℕ → Type 0
+Takes names (places.Function number) arguments = slice_get names.inputs number ≡ Some arguments
+Takes names place arguments = ⊥
+
+-- each call in a tree has an argument for each input of its function: what stands before it, and the operands
+abbrev pub IsGiven : Nameable → trees.Tree Place → Type 0
+IsGiven names (trees.Load at negated o) = ⊤
+IsGiven names (trees.Reload t at negated o) = IsGiven names t
+IsGiven names (trees.Apply t at operator o) = IsGiven names t
+IsGiven names (trees.Transform t at function) = IsGiven names t
+IsGiven names (trees.Deferred t at operator u close) = IsGiven names t × IsGiven names u
+IsGiven names (trees.Call t at f os) = IsGiven names t × Takes names f (length os + 1)
+
+-- each call in an instruction does, the current result being the first argument
+abbrev pub GivesAll : Nameable → Option (Instruction Place ℕ) → Type 0
+GivesAll names (Some (instructions.Deferred operator t close)) = IsGiven names t
+GivesAll names (Some (instructions.Invoke f os)) = Takes names f (length os + 1)
+GivesAll names _ = ⊤
+
+-- lines name what is there, each where it may stand, give all arguments, and open no more parentheses than the limit
+pub record AreLinesOf (names : Nameable) (lines : List (Line Place ℕ)) : Type 0 where
+  pub named : AllByRecursion (HasUse names) (flat_map uses_in lines)
+  pub given : AllByRecursion (λ line. GivesAll names line.instruction) lines
+  pub shallow : AreShallow lines
+
+-- ---- what holds of each function
+
+-- a function behind these has one input at least, no more than the limit, a result, starting values of their types, and
+-- lines of its own
+pub record IsFunction (before : List PlannedFunction) (f : PlannedFunction) : Type 0 where
+  pub some_input : 1 ≤ length f.inputs
+  pub most_inputs : length f.inputs ≤ limits.most_inputs
+  pub result : 1 ≤ length f.variables
+  pub initials : AreOf (starting_values f) (map (λ v. v.value_type) f.variables)
+  pub lines : AreLinesOf (in_body before f) f.lines
+
+-- each of these is one behind those before it
+abbrev pub AreFunctions : List PlannedFunction → List PlannedFunction → Type 0
+AreFunctions before [] = ⊤
+AreFunctions before (f ∷ fs) = IsFunction before f × AreFunctions (before ++ f ∷ []) fs
+
 -- ---- what holds of each task
 
 -- an interval has 1 millisecond or more
@@ -163,42 +287,18 @@ abbrev pub AreOrdered : List SlotOwner → Type 0
 AreOrdered [] = ⊤
 AreOrdered (variable ∷ variables) = AllByRecursion (Precedes variable) variables × AreOrdered variables
 
--- the block instance of this number has the port of this number
-abbrev pub HasPort : PlannedTask → ℕ → ℕ → Type 0
-HasPort task block port = IsSomeAnd (slice_get (kinds_of task) block) (λ kind. port < length (ports_of kind))
-
--- a variable or a port, as operands and stores name them
-abbrev pub HasPlace : PlannedTask → Place → Type 0
-HasPlace task (places.Slot slot) = slot < length task.slots
-HasPlace task (places.Port block port) = HasPort task block port
-HasPlace task (places.Block block) = ⊥
-
--- what is named is in its table, and of the sort that may stand there: an operand is a constant, a variable or a port, a
--- variable or a port is written, a block instance is called, and an argument is given to a port
-abbrev pub HasOperand : PlannedTask → Purpose → Operand Place → Type 0
-HasOperand task Read (Constant value) = ⊤
-HasOperand task Read (Named place) = HasPlace task place
-HasOperand task Write (Constant value) = ⊤
-HasOperand task Write (Named place) = HasPlace task place
-HasOperand task Call (Named (places.Block block)) = block < length task.blocks
-HasOperand task Call operand = ⊥
-HasOperand task Pass (Named (places.Port block port)) = HasPort task block port
-HasOperand task Pass operand = ⊥
-
-abbrev pub HasUse : PlannedTask → Use Place → Type 0
-HasUse task u = HasOperand task u.purpose u.operand
-
--- it has no more of anything than the limits, what its lines name is there, its constants are the different ones of its
--- lines, each slot is at first of its type, and global variables come first, in rising order
-pub record KeepsLimits (task : PlannedTask) : Type 0 where
+-- with the functions that it uses it has no more of anything than the limits; what its lines name is there; its
+-- constants are the different ones of its lines and of those functions; each slot is at first of its type; and global
+-- variables come first, in rising order
+pub record KeepsLimits (functions : List PlannedFunction) (task : PlannedTask) : Type 0 where
   pub most_instances : length task.instances ≤ limits.most_instances
-  pub most_slots : length task.slots ≤ limits.most_slots
+  pub most_slots : length task.slots + sum_by slots_of_function (functions_of functions task) ≤ limits.most_slots
   pub most_blocks : length task.blocks ≤ limits.most_blocks
   pub most_constants : length task.constants ≤ limits.most_constants
-  pub most_words : words_of_lines (all_lines task.instances) ≤ limits.most_words
-  pub shallow : AreShallow (all_lines task.instances)
-  pub named : AllByRecursion (HasUse task) (flat_map uses_in (all_lines task.instances))
-  pub constants : task.constants ≡ different_constants (all_lines task.instances)
+  pub most_words : words_of_lines (all_lines task.instances) + sum_by words_of_function (functions_of functions task)
+      ≤ limits.most_words
+  pub lines : AreLinesOf (in_task functions task) (all_lines task.instances)
+  pub constants : task.constants ≡ constants_for task.instances (functions_of functions task)
   pub initials : AreOf (initials_of task) (types_of task)
   pub ordered : AreOrdered (map (λ s. s.variable) task.slots)
   pub interval : HasInterval task.activation
@@ -274,7 +374,8 @@ IsTaskOf globals task =
     × AllByRecursion (λ s. IsDeclared globals s.variable s.value_type s.initial) task.slots
 
 -- its text is no longer than the limit, its buses and sources are those of a binding, its global variables are located
--- where they may be, each at an address of its own, and its tasks name what is there
+-- where they may be, each at an address of its own, no function is deeper than the limit or calls one that stands behind
+-- it, and its tasks keep their limits and name what is there
 pub record IsLawful (plan : Planned) : Type 0 where
   pub text : length plan.text ≤ limits.most_bytes
   pub wiring : IsWithinLimits (wiring_of plan)
@@ -282,6 +383,10 @@ pub record IsLawful (plan : Planned) : Type 0 where
   pub located : All (IsLocatedIn (wiring_of plan)) plan.globals
   pub apart : AllPairs AreApart plan.globals
   pub initials : AreOf (map (λ g. g.initial) plan.globals) (map (λ g. g.value_type) plan.globals)
+  pub most_functions : length plan.functions ≤ limits.most_functions
+  pub functions : AreFunctions [] plan.functions
+  pub depths : All (λ depth. depth ≤ limits.most_calls) (depths_from [] plan.functions)
+  pub limits : AllByRecursion (KeepsLimits plan.functions) plan.tasks
   pub tasks : AllByRecursion (IsTaskOf plan.globals) plan.tasks
 
 -- a task's slot, where there is one

@@ -88,13 +88,13 @@ after_trigger a b is_edge = record (before a b) { blocks = triggered is_edge ∷
 
 -- on so many buses a scan of the lines goes from this store to that
 abbrev pub Scans : ℕ → List (Line Place ℕ) → Store → Store → Type 0
-Scans buses lines from to = plan_scan buses (task lines) from ≡ Some to
+Scans buses lines from to = plan_scan buses [] (task lines) from ≡ Some to
 
 -- it leaves so many requests
 abbrev pub Requests : ℕ → List (Line Place ℕ) → ℕ → Type 0
 Requests buses lines count =
-    option_map (λ s. length s.requests) (plan_scan buses (task lines) (before true false)) ≡ Some count
+    option_map (λ s. length s.requests) (plan_scan buses [] (task lines) (before true false)) ≡ Some count
 
 -- it has no meaning
 abbrev pub IsStuck : ℕ → List (Line Place ℕ) → Type 0
-IsStuck buses lines = plan_scan buses (task lines) (before true false) ≡ None
+IsStuck buses lines = plan_scan buses [] (task lines) (before true false) ≡ None

@@ -1,10 +1,10 @@
 //! Plans: what the tasks of a source program do, over places in a store instead of names.
 //!
 //! What crosses the boundary: [`Plan`] with its [`Task`]s, their [`ProgramInstance`]s, [`Slot`]s
-//! and [`FunctionBlock`]s, which the resolving of names makes and the compiler lays out. The lines
-//! of an instance are those of `ilsource`, over [`Place`]s. What holds of each task is `KeepsLimits`
-//! (specs/Plans.antt), and what a scan of it means is `plan_scan` (specs/PlanMeaning.antt), to be
-//! read first.
+//! and [`FunctionBlock`]s, and the [`UserFunction`]s that they call, which the resolving of names
+//! makes and the compiler lays out. The lines of an instance are those of `ilsource`, over
+//! [`Place`]s. What holds of each task is `KeepsLimits` (specs/Plans.antt), and what a scan of it
+//! means is `plan_scan` (specs/PlanMeaning.antt), to be read first.
 //!
 //! ```text
 //! let task = plan.task(0);
@@ -16,6 +16,7 @@ mod activation;
 mod computed_rows;
 mod constants;
 mod declared_name;
+mod function;
 mod global;
 mod instance;
 mod place;
@@ -23,10 +24,12 @@ mod plan;
 mod slot;
 mod stored;
 mod task;
+mod usage;
 
 pub use activation::Activation;
 pub use constants::{Constants, each_value_stands_once};
 pub use declared_name::{DeclaredName, SlotName};
+pub use function::{FunctionInput, FunctionVariable, UserFunction};
 pub use global::{Global, Location};
 pub use instance::{FunctionBlock, ProgramInstance};
 pub use place::Place;

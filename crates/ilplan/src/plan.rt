@@ -1,21 +1,26 @@
 //! Plans.
 
 use crate::declared_name::{DeclaredName, SlotName};
+use crate::function::UserFunction;
 use crate::global::Global;
 use crate::slot::SlotOwner;
 use crate::task::Task;
+use crate::usage::used_functions;
 use gearcmd::TaskKind;
+use std::alloc::{AllocError, Global as GlobalAllocator};
 use std::marker::Model;
 use wordlines::{BoundSource, BusTries, tries_in};
 
 /// What a source program's tasks do, over slots in place of names. It has 1 to
-/// [`limits::MOST_BUSES`] buses, and at most [`limits::MOST_TASKS`] tasks.
+/// [`limits::MOST_BUSES`] buses, and at most [`limits::MOST_TASKS`] tasks. A function calls those
+/// before it alone.
 pub struct Plan {
     text: Vec<u8>,
     buses: u8,
     sources: Vec<BoundSource>,
     tries: Vec<BusTries>,
     globals: Vec<Global>,
+    functions: Vec<UserFunction>,
     tasks: Vec<Task>,
 }
 
@@ -28,6 +33,7 @@ impl Drop for Plan {
             sources: _,
             tries: _,
             globals: _,
+            functions: _,
             tasks: _,
         } = self;
     }
@@ -35,45 +41,47 @@ impl Drop for Plan {
 
 impl Model for Plan {
     ghost use Rattle.std.specs.Coded.{codes};
+    ghost use Rattle.ilplan.specs.contracts.function.UserFunction as function;
     ghost use Rattle.ilplan.specs.contracts.task.Task as task;
     ghost use Rattle.ilplan.specs.Plans.{Planned, IsLawful, plan_of};
 
     ghost Value = { Planned };
 
-    ghost coded = { Prim.hlevel (codes, task.the_row.coded) };
+    ghost coded = { Prim.hlevel (codes, function.the_row.coded, task.the_row.coded) };
 
     ghost view = { λ p. plan_of p.text.items p.buses p.sources.items p.tries.items
-        p.globals.items p.tasks.items };
+        p.globals.items p.functions.items p.tasks.items };
 
     ghost invariant = { λ p. IsLawful (plan_of p.text.items p.buses p.sources.items
-        p.tries.items p.globals.items p.tasks.items) };
+        p.tries.items p.globals.items p.functions.items p.tasks.items) };
 }
 
 impl Plan {
-    ghost use Rattle.std.specs.Prelude.{◌≡◌, ◌<◌, length, slice_get, Some, IfSome};
-    ghost use Rattle.std.specs.Prelude.{option_map, option_and_then};
+    ghost use Rattle.std.specs.Prelude.{◌≡◌, ◌<◌, length, map, slice_get, Some, IfOk, IfSome};
+    ghost use Rattle.std.specs.Prelude.{is_some, option_map, option_and_then};
     ghost use Rattle.limits.specs.Limits.{AreTries};
     ghost use Rattle.wordlines.specs.Wirings.{tries_in};
     ghost use Rattle.ilsource.specs.Names.{text_of};
     ghost use Rattle.iltypes.specs.Values.{AreOf};
     ghost use Rattle.ilplan.specs.Plans.{Planned, KeepsLimits, IsLawful, plan_of, slot_at};
-    ghost use Rattle.ilplan.specs.Plans.{first_values, task_kind, types_of};
+    ghost use Rattle.ilplan.specs.Plans.{first_values, task_kind, types_of, used_functions};
     ghost use Rattle.ilplan.specs.Plans.{IsTaskOf, IsThere, instance_name, variable_name};
 
-    /// The plan of these tasks, whose names stand in `text`, on so many buses with these sources of
-    /// events and these attempts.
+    /// The plan of these tasks and functions, whose names stand in `text`, on so many buses with
+    /// these sources of events and these attempts.
     pub fn new(
         text: Vec<u8>,
         buses: u8,
         sources: Vec<BoundSource>,
         tries: Vec<BusTries>,
         globals: Vec<Global>,
+        functions: Vec<UserFunction>,
         tasks: Vec<Task>,
     ) -> Plan
         requires { IsLawful (plan_of text.items buses sources.items tries.items globals.items
-            tasks.items) }
+            functions.items tasks.items) }
         ensures { result ≡ plan_of text.items buses sources.items tries.items globals.items
-            tasks.items }
+            functions.items tasks.items }
     {
         Plan {
             text,
@@ -81,6 +89,7 @@ impl Plan {
             sources,
             tries,
             globals,
+            functions,
             tasks,
         }
     }
@@ -115,6 +124,31 @@ impl Plan {
         tries_in(&self.tries, bus)
     }
 
+    /// The functions, in declared order.
+    pub fn functions(&self) -> &[UserFunction]
+        ensures value { result.now ≡ self.now.functions }
+    {
+        &self.functions
+    }
+
+    /// For each function whether the task of this number uses it: its lines call it, reached or
+    /// not, or a function does that it uses.
+    ///
+    /// # Errors
+    ///
+    /// The allocator is out of memory.
+    pub fn used_functions(
+        &self,
+        alloc: GlobalAllocator,
+        task: usize,
+    ) -> Result<Vec<bool>, AllocError>
+        requires { task < length self.now.tasks }
+        ensures { IfOk result (λ used. IfSome (slice_get self.now.tasks task)
+            (λ t. used.items ≡ map is_some (used_functions self.now.functions t))) }
+    {
+        used_functions(alloc, &self.functions, self.task(task).instances())
+    }
+
     /// How many tasks there are.
     pub fn tasks(&self) -> usize
         ensures value { result ≡ length self.now.tasks }
@@ -126,14 +160,12 @@ impl Plan {
     pub fn task(&self, task: usize) -> &Task
         requires { task < length self.now.tasks }
         ensures value { slice_get self.now.tasks task ≡ Some result.now }
-        ensures limits { KeepsLimits result.now }
+        ensures limits { KeepsLimits self.now.functions result.now }
         ensures declared { IsTaskOf self.now.globals result.now }
         // A trigger is BOOL, so that it may be TRUE.
         ensures typed { AreOf (first_values result.now) (types_of result.now) }
     {
-        let task = &self.tasks[task];
-        let _instances = task.instances();
-        task
+        &self.tasks[task]
     }
 
     /// The name of a task, as declared.

@@ -62,7 +62,7 @@ fn slot_of(place: Place) -> Option<usize>
     ensures { result ≡ slot_of place }
 {
     match place {
-        Place::Slot(slot) => Some(usize::from(slot)),
-        Place::Port { .. } | Place::Block(_) => None,
+        Place::Slot(slot) => Some(slot),
+        Place::Port { .. } | Place::Block(_) | Place::Function(_) => None,
     }
 }

@@ -9,8 +9,8 @@ use iltypes::Value;
 use std::alloc::{AllocError, Global};
 use std::marker::Model;
 
-/// A task: its instances, which run in order, their variables and their constants. It keeps the
-/// limits of the crate `limits`.
+/// A task: its instances, which run in order, their variables and its constants, which are those of
+/// its instances and of the functions that it uses.
 pub struct Task {
     name: String,
     activation: Activation,
@@ -43,7 +43,7 @@ impl Model for Task {
     ghost use Rattle.std.specs.Prelude.{string_bytes, length};
     ghost use Rattle.std.specs.Coded.{codes};
     ghost use Rattle.ilplan.specs.contracts.instance.ProgramInstance as instance;
-    ghost use Rattle.ilplan.specs.Plans.{PlannedTask, KeepsLimits, task_of};
+    ghost use Rattle.ilplan.specs.Plans.{PlannedTask, task_of};
     ghost use Rattle.ilplan.specs.StoreSteps.{AreStored};
 
     ghost Value = { PlannedTask };
@@ -53,17 +53,16 @@ impl Model for Task {
     ghost view = { λ t. task_of (string_bytes t.name) t.activation t.priority t.slots.items
         t.blocks.items t.constants t.instances.items };
 
-    ghost invariant = { λ t. KeepsLimits (task_of (string_bytes t.name) t.activation t.priority
-        t.slots.items t.blocks.items t.constants t.instances.items)
-        × AreStored t.instances.items (length t.slots.items) t.stored.items };
+    ghost invariant = { λ t. AreStored t.instances.items (length t.slots.items) t.stored.items };
 }
 
 impl Task {
     ghost use Rattle.std.specs.Prelude.{◌≡◌, ◌<◌, length, string_bytes, IfOk};
-    ghost use Rattle.ilplan.specs.Plans.{PlannedTask, KeepsLimits, task_of, stores};
+    ghost use Rattle.ilplan.specs.Plans.{PlannedTask, task_of, stores};
     ghost use Rattle.ilplan.specs.Plans.{first_value, first_values};
 
-    /// The task of these parts, which keep the limits.
+    /// The task of these parts. That they keep the limits is asked of a plan, which has the
+    /// functions.
     ///
     /// # Errors
     ///
@@ -78,8 +77,6 @@ impl Task {
         constants: Constants,
         instances: Vec<ProgramInstance>,
     ) -> Result<Task, AllocError>
-        requires { KeepsLimits (task_of (string_bytes name) activation priority slots.items
-            blocks.items constants instances.items) }
         ensures { IfOk result (λ task. task ≡ task_of (string_bytes name) activation priority
             slots.items blocks.items constants instances.items) }
     {
@@ -169,7 +166,8 @@ impl Task {
         &self.blocks
     }
 
-    /// The different constants of its lines, in order of first use.
+    /// The different constants of its lines and of the functions that it uses, in order of first
+    /// use.
     pub fn constants(&self) -> &Constants
         ensures value { result.now ≡ self.now.constants }
     {
@@ -179,7 +177,6 @@ impl Task {
     /// The program instances, in declared order.
     pub fn instances(&self) -> &[ProgramInstance]
         ensures value { result.now ≡ self.now.instances }
-        ensures limits { KeepsLimits self.now }
     {
         &self.instances
     }
