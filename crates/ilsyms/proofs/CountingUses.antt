@@ -10,7 +10,6 @@ use Rattle.std.proofs.lemmas.List.{append-nil}
 use Rattle.std.proofs.lemmas.List.Elements.{filter_map-append}
 use Rattle.iltypes.specs.declared.value.Value.{Value}
 use Rattle.ilsource.specs.declared.uses.Use.{Use}
-use Rattle.ilsource.specs.declared.symbol.Symbol.{Symbol}
 use Rattle.limits.specs.Limits.{most_constants}
 use Rattle.ilplan.specs.Constants.{same_value, constant_in, constants_used, each_once, with_constant}
 use Rattle.ilplan.proofs.EachOnce.{any_each_once, each_once_more, is_same}
@@ -23,17 +22,17 @@ pub used_append : {N : Type 0} (us vs : List (Use N))
 used_append {N} us vs = filter_map-append (λ (u : Use N). constant_in u.operand) us vs
 
 -- how many different constants some uses have
-abbrev pub many : List (Use Symbol) → ℕ
+abbrev pub many : {N : Type 0} → List (Use N) → ℕ
 many uses = length (each_once (constants_used uses))
 
 -- a name is no constant
-name_used : (us : List (Use Symbol)) (u : Use Symbol) → constant_in u.operand ≡ None
+name_used : {N : Type 0} (us : List (Use N)) (u : Use N) → constant_in u.operand ≡ None
     → each_once (constants_used (us ++ u ∷ [])) ≡ each_once (constants_used us)
 name_used us u e =
     ap each_once
     (used_append us (u ∷ []) ∙ ap (λ o. constants_used us ++ cons_option o []) e ∙ append-nil (constants_used us))
 
-constant_used : (us : List (Use Symbol)) (u : Use Symbol) (v : Value) → constant_in u.operand ≡ Some v
+constant_used : {N : Type 0} (us : List (Use N)) (u : Use N) (v : Value) → constant_in u.operand ≡ Some v
     → each_once (constants_used (us ++ u ∷ [])) ≡ with_constant (each_once (constants_used us)) v
 constant_used us u v e =
     ap each_once (used_append us (u ∷ []) ∙ ap (λ o. constants_used us ++ cons_option o []) e)
@@ -49,7 +48,7 @@ with_length known v = by (list_any (same_value v) known)
     by true = inl refl
     by false = inr (omega (arith, length-append known (v ∷ [])))
 
-more_used : (us : List (Use Symbol)) (u : Use Symbol)
+more_used : {N : Type 0} (us : List (Use N)) (u : Use N)
     → (many us ≤ many (us ++ u ∷ [])) × (many (us ++ u ∷ []) ≤ many us + 1)
 more_used us u = by (constant_in u.operand) refl
   where
@@ -69,7 +68,7 @@ more_used us u = by (constant_in u.operand) refl
         one v (ap (λ (vs : List Value). length vs) (constant_used us u v e))
         (with_length (each_once (constants_used us)) v)
 
-pub not_fewer : (us vs : List (Use Symbol)) → many us ≤ many (us ++ vs)
+pub not_fewer : {N : Type 0} (us vs : List (Use N)) → many us ≤ many (us ++ vs)
 not_fewer us [] = let e = ap many (append-nil us) in omega (arith, e)
 not_fewer us (v ∷ vs) =
     let e = ap many (append_assoc us (v ∷ []) vs) in
@@ -102,7 +101,7 @@ last_or_before (x ∷ us) u (b ∷ before) after last e =
     under x b h (inr e) = inr (e.0, (λ i. h i ∷ e.1 i))
 
 -- what makes too many of some uses does so of more
-still_too_many : (us : List (Use Symbol)) (u : Use Symbol) (place : ℕ) → MakesTooManyConstants us place
+still_too_many : {N : Type 0} (us : List (Use N)) (u : Use N) (place : ℕ) → MakesTooManyConstants us place
     → MakesTooManyConstants (us ++ u ∷ []) place
 still_too_many us u place m = record {
   before = m.before;
@@ -115,20 +114,20 @@ still_too_many us u place m = record {
 }
 
 -- the use at the place is the one more that makes too many
-abbrev IsLast : List (Use Symbol) → Use Symbol → ℕ → Type 0
+abbrev IsLast : {N : Type 0} → List (Use N) → Use N → ℕ → Type 0
 IsLast us u place = (many us ≡ most_constants) × (many (us ++ u ∷ []) ≡ most_constants + 1) × (place ≡ u.at)
 
-too_many_of_more : (us : List (Use Symbol)) (u : Use Symbol) (place : ℕ) → MakesTooManyConstants (us ++ u ∷ []) place
-    → MakesTooManyConstants us place ⊎ IsLast us u place
-too_many_of_more us u place m = by (last_or_before us u m.before m.after m.last m.is)
+too_many_of_more : {N : Type 0} (us : List (Use N)) (u : Use N) (place : ℕ)
+    → MakesTooManyConstants (us ++ u ∷ []) place → MakesTooManyConstants us place ⊎ IsLast us u place
+too_many_of_more {N} us u place m = by (last_or_before us u m.before m.after m.last m.is)
   where
-    by : ((us ≡ m.before) × (u ≡ m.last)) ⊎ ((rest : List (Use Symbol)) × (us ≡ m.before ++ m.last ∷ rest))
+    by : ((us ≡ m.before) × (u ≡ m.last)) ⊎ ((rest : List (Use N)) × (us ≡ m.before ++ m.last ∷ rest))
         → MakesTooManyConstants us place ⊎ IsLast us u place
     by (inl e) =
         inr (
           ap many e.0 ∙ m.full,
           ap many (λ i. e.0 i ++ e.1 i ∷ []) ∙ m.more,
-          m.stands ∙ ap (λ (v : Use Symbol). v.at) (sym e.1),
+          m.stands ∙ ap (λ (v : Use N). v.at) (sym e.1),
         )
     by (inr e) = inl (record {
       before = m.before;
@@ -141,20 +140,21 @@ too_many_of_more us u place m = by (last_or_before us u m.before m.after m.last 
     })
 
 -- more than the limit
-too_many_are_more : (us : List (Use Symbol)) (place : ℕ) → MakesTooManyConstants us place → most_constants + 1 ≤ many us
+too_many_are_more : {N : Type 0} (us : List (Use N)) (place : ℕ) → MakesTooManyConstants us place
+    → most_constants + 1 ≤ many us
 too_many_are_more us place m =
     let e = ap many (m.is ∙ sym (append_assoc m.before (m.last ∷ []) m.after)) in
     let more = not_fewer (m.before ++ m.last ∷ []) m.after in
     let g = m.more in
     omega (arith, e, more, g)
 
-pub none_counted : AreCounted [] [] None
+pub none_counted : {N : Type 0} → AreCounted {N = N} [] [] None
 none_counted = record {
   different = refl;
   too_many = λ place. ((λ e. absurd cc), (λ m. absurd (nothing_there m.before m.after m.last m.is)));
 }
 
-module _ (us : List (Use Symbol)) (known more : List Value) (excess : Option ℕ) (u : Use Symbol)
+module _ {N : Type 0} (us : List (Use N)) (known more : List Value) (excess : Option ℕ) (u : Use N)
     (c : AreCounted us known excess) (e : more ≡ each_once (constants_used (us ++ u ∷ []))) where
   last_counted : many us ≡ most_constants → many (us ++ u ∷ []) ≡ most_constants + 1
       → AreCounted (us ++ u ∷ []) more (Some u.at)
@@ -196,7 +196,7 @@ module _ (us : List (Use Symbol)) (known more : List Value) (excess : Option ℕ
       there place (inr l) = absurd (not_last (l.0, l.1))
 
 -- a use of a name
-pub name_counted : (us : List (Use Symbol)) (known : List Value) (excess : Option ℕ) (u : Use Symbol)
+pub name_counted : {N : Type 0} (us : List (Use N)) (known : List Value) (excess : Option ℕ) (u : Use N)
     → AreCounted us known excess → constant_in u.operand ≡ None → AreCounted (us ++ u ∷ []) known excess
 name_counted us known excess u c e =
     let same = name_used us u e in
@@ -204,7 +204,7 @@ name_counted us known excess u c e =
     (λ l. let f = l.0 in let m = l.1 in let n = ap (λ (vs : List Value). length vs) same in omega (arith, f, m, n))
 
 -- a use of a constant: the one that makes too many, and any other
-module _ (us : List (Use Symbol)) (known more : List Value) (excess : Option ℕ) (u : Use Symbol) (v : Value)
+module _ {N : Type 0} (us : List (Use N)) (known more : List Value) (excess : Option ℕ) (u : Use N) (v : Value)
     (c : AreCounted us known excess) (is : constant_in u.operand ≡ Some v) (e : more ≡ with_constant known v) where
   same : more ≡ each_once (constants_used (us ++ u ∷ []))
   same = e ∙ ap (λ known. with_constant known v) c.different ∙ sym (constant_used us u v is)
@@ -228,11 +228,11 @@ module _ (us : List (Use Symbol)) (known more : List Value) (excess : Option ℕ
 -- ---- uses of constants that are all known
 
 -- the constants of the uses are among those of others
-abbrev pub AreKnown : List (Use Symbol) → List (Use Symbol) → Type 0
+abbrev pub AreKnown : {N : Type 0} → List (Use N) → List (Use N) → Type 0
 AreKnown us vs = (v : Value) → list_any (same_value v) (constants_used vs) ≡ true
     → list_any (same_value v) (constants_used us) ≡ true
 
-known_already : (us : List (Use Symbol)) (u : Use Symbol) (v : Value) → constant_in u.operand ≡ Some v
+known_already : {N : Type 0} (us : List (Use N)) (u : Use N) (v : Value) → constant_in u.operand ≡ Some v
     → list_any (same_value v) (constants_used us) ≡ true
     → each_once (constants_used (us ++ u ∷ [])) ≡ each_once (constants_used us)
 known_already us u v is there =
@@ -240,12 +240,12 @@ known_already us u v is there =
     ∙ ap (λ b. cond b (each_once (constants_used us)) (each_once (constants_used us) ++ v ∷ []))
     (any_each_once v (constants_used us) ∙ there)
 
-pub known_counted : (vs us : List (Use Symbol)) (known : List Value) (excess : Option ℕ) → AreKnown us vs
+pub known_counted : {N : Type 0} (vs us : List (Use N)) (known : List Value) (excess : Option ℕ) → AreKnown us vs
     → AreCounted us known excess → AreCounted (us ++ vs) known excess
-known_counted [] us known excess are c =
-    subst (λ (ws : List (Use Symbol)). AreCounted ws known excess) (sym (append-nil us)) c
-known_counted (u ∷ vs) us known excess are c =
-    subst (λ (ws : List (Use Symbol)). AreCounted ws known excess) (append_assoc us (u ∷ []) vs)
+known_counted {N} [] us known excess are c =
+    subst (λ (ws : List (Use N)). AreCounted ws known excess) (sym (append-nil us)) c
+known_counted {N} (u ∷ vs) us known excess are c =
+    subst (λ (ws : List (Use N)). AreCounted ws known excess) (append_assoc us (u ∷ []) vs)
     (known_counted vs (us ++ u ∷ []) known excess (λ v e. still (list_any (same_value v) (constants_used us)) v
     (later v (constant_in u.operand) refl e)) (one (constant_in u.operand) refl))
   where
@@ -274,10 +274,10 @@ known_counted (u ∷ vs) us known excess are c =
         (λ l. let f = l.0 in let m = l.1 in let n = ap (λ (ws : List Value). length ws) same in omega (arith, f, m, n))
 
 -- where none makes too many there are at most as many as the limit
-few_of_more : (front back : List (Use Symbol)) → ((place : ℕ) → ¬ MakesTooManyConstants (front ++ back) place)
+few_of_more : {N : Type 0} (front back : List (Use N)) → ((place : ℕ) → ¬ MakesTooManyConstants (front ++ back) place)
     → many front ≤ most_constants → many (front ++ back) ≤ most_constants
 few_of_more front [] none few = let e = ap many (append-nil front) in omega (arith, e, few)
-few_of_more front (u ∷ back) none few =
+few_of_more {N} front (u ∷ back) none few =
     let all = append_assoc front (u ∷ []) back in
     subst (λ us. many us ≤ most_constants) all
     (few_of_more (front ++ u ∷ []) back (subst (λ us. (place : ℕ) → ¬ MakesTooManyConstants us place) (sym all) none)
@@ -299,6 +299,6 @@ few_of_more front (u ∷ back) none few =
           stands = refl;
         }))
 
-pub few_constants : (us : List (Use Symbol)) → ((place : ℕ) → ¬ MakesTooManyConstants us place)
+pub few_constants : {N : Type 0} (us : List (Use N)) → ((place : ℕ) → ¬ MakesTooManyConstants us place)
     → length (each_once (constants_used us)) ≤ most_constants
 few_constants us none = few_of_more [] us none (omega arith)

@@ -15,11 +15,13 @@ use Rattle.ildeclared.specs.declared.fault.NameCause.TheVariants.{WritesInput, N
 use Rattle.ildeclared.specs.declared.found.Found.{Found}
 use Rattle.ildeclared.proofs.FoundOrder.{best_same, or_else}
 use Rattle.ildeclared.proofs.Least.{both_least}
-use Rattle.ilscope.specs.Declarations.{declared_programs, DeclaredProgram}
+use Rattle.ilscope.specs.Declarations.{bodies_of, DeclaredProgram}
 use Rattle.ilscope.specs.Faults.{IsTwiceIn}
 use Rattle.ilscope.proofs.LeastOfDeclarations.{some_of}
 use Rattle.iluses.specs.Faults.{IsUnknownUse, StoresToInput, WritesOutput, JumpsBack, JumpsNowhere, labels_of}
-use Rattle.iluses.specs.Faults.{IsFaultOfLines, IsGivenTwiceIn, IsFaultAtUse, IsFaultAtUses}
+use Rattle.iluses.specs.Calls.{calls_of}
+use Rattle.iluses.specs.Faults.{IsFaultAtUse, IsFaultAtUses, IsFaultOfBody, IsFaultOfLabels, IsFaultOfUses}
+use Rattle.iluses.specs.Faults.{IsGivenTwiceIn, IsWrongIn}
 use Rattle.iluses.specs.Uses.{uses_of}
 use Rattle.ilsyms.specs.Faults.{IsFaultOfUse, IsTooMany, IsWrittenTwice}
 
@@ -46,17 +48,17 @@ two_of P Q (x ∷ xs) (inr s) = or_else (λ t. inl (inr t)) (λ t. inr (inr t)) 
 
 module _ (tree : Tree) where
   abbrev Programs : List DeclaredProgram
-  Programs = declared_programs tree
+  Programs = bodies_of tree
 
   abbrev IsUsed : ℕ → NameCause → Type 0
   IsUsed place cause = SomeOf (λ p. IsFaultAtUses tree p (uses_of p.program.lines) place cause) Programs
 
   abbrev IsWritten : ℕ → NameCause → Type 0
-  IsWritten place cause = SomeOf (λ p. IsFaultOfLines tree.text p.program.lines place cause) Programs
+  IsWritten place cause = SomeOf (λ p. IsFaultOfBody tree p place cause) Programs
 
   abbrev IsPart : ℕ → NameCause → Type 0
   IsPart place cause =
-      (IsUsed place cause ⊎ IsWritten place cause)
+      (IsFaultOfUses tree place cause ⊎ IsWritten place cause)
       ⊎ (OfCause WrittenTwice (IsWrittenTwice tree) place cause ⊎ OfCause TooMany (IsTooMany tree) place cause)
 
   -- ---- what lines use
@@ -87,12 +89,13 @@ module _ (tree : Tree) where
 
   used : (place : ℕ) (cause : NameCause) → IsUsed place cause → IsFaultOfUse tree place cause
   used place Unknown s =
-      used_by place Unknown (λ p u. IsUnknownUse tree.text p place u)
+      used_by place Unknown (λ p u. IsUnknownUse tree p place u)
       (λ p u f. or_else (λ t. t.1) (λ t. absurd (let e = t.0 in cc)) f) s
   used place WritesInput s =
-      both_written place Programs
+      or_else (λ o. inl o) (λ i. inr (inl i))
+      (both_written place Programs
       (used_by place WritesInput (λ p u. WritesOutput tree.text p place u ⊎ StoresToInput tree p place u)
-      (λ p u f. or_else (λ t. absurd (let e = t.0 in cc)) (λ t. t.1) f) s)
+      (λ p u f. or_else (λ t. absurd (let e = t.0 in cc)) (λ t. t.1) f) s))
   used place Twice s = absurd (none_used place Twice (λ e. cc) (λ e. cc) s)
   used place UnknownLabel s = absurd (none_used place UnknownLabel (λ e. cc) (λ e. cc) s)
   used place BackwardJump s = absurd (none_used place BackwardJump (λ e. cc) (λ e. cc) s)
@@ -107,14 +110,20 @@ module _ (tree : Tree) where
 
   -- what each fault of lines of this cause is
   lines_by : (place : ℕ) (cause : NameCause) (P : DeclaredProgram → Type 0)
-      → ((p : DeclaredProgram) → IsFaultOfLines tree.text p.program.lines place cause → P p) → IsWritten place cause
+      → ((p : DeclaredProgram) → IsFaultOfBody tree p place cause → P p) → IsWritten place cause
       → SomeOf P Programs
   lines_by place cause P each s = some_of (λ p f. each p f) Programs s
 
   -- and there is none of other causes
   none_written : (place : ℕ) (cause : NameCause)
-      → ((p : DeclaredProgram) → IsFaultOfLines tree.text p.program.lines place cause → ⊥) → ¬ IsWritten place cause
+      → ((p : DeclaredProgram) → IsFaultOfBody tree p place cause → ⊥) → ¬ IsWritten place cause
   none_written place cause none s = none_of Programs (lines_by place cause (λ p. ⊥) none s)
+
+  -- a cause that neither labels nor ports nor calls have
+  no_line : (place : ℕ) (cause : NameCause) (p : DeclaredProgram) → ¬ (cause ≡ Twice) → ¬ (cause ≡ BadDeclaration)
+      → ¬ IsFaultOfLabels tree.text p.program.lines place cause → ¬ IsFaultOfBody tree p place cause
+  no_line place cause p twice bad none f =
+      or_else (λ l. or_else (λ k. none k) (λ t. twice t.0) l) (λ t. bad t.0) f
 
   written : (place : ℕ) (cause : NameCause) → IsWritten place cause → IsFaultOfUse tree place cause
   written place Twice s =
@@ -122,32 +131,36 @@ module _ (tree : Tree) where
       (λ p. IsGivenTwiceIn tree.text p.program.lines place) Programs (lines_by place Twice
       (λ p. IsTwiceIn (folded tree.text) (labels_of p.program.lines) place
       ⊎ IsGivenTwiceIn tree.text p.program.lines place)
-      (λ p f. or_else inl (λ t. inr t.1) f) s)
+      (λ p f. or_else (λ l. or_else inl (λ t. inr t.1) l) (λ t. absurd (let e = t.0 in cc)) f) s)
   written place UnknownLabel s =
       lines_by place UnknownLabel (λ p. JumpsNowhere tree.text p.program.lines place)
-      (λ p f. or_else (λ l. l) (λ t. absurd (let e = t.0 in cc)) f) s
+      (λ p f. or_else (λ l. or_else (λ k. k) (λ t. absurd (let e = t.0 in cc)) l) (λ t. absurd (let e = t.0 in cc)) f) s
   written place BackwardJump s =
       lines_by place BackwardJump (λ p. JumpsBack tree.text p.program.lines place)
-      (λ p f. or_else (λ l. l) (λ t. absurd (let e = t.0 in cc)) f) s
-  written place Unknown s =
-      absurd (none_written place Unknown (λ p f. or_else (λ l. l) (λ t. let e = t.0 in cc) f) s)
-  written place BadAddress s =
-      absurd (none_written place BadAddress (λ p f. or_else (λ l. l) (λ t. let e = t.0 in cc) f) s)
-  written place InputRangeTooSmall s =
-      absurd (none_written place InputRangeTooSmall (λ p f. or_else (λ l. l) (λ t. let e = t.0 in cc) f) s)
-  written place WrittenTwice s =
-      absurd (none_written place WrittenTwice (λ p f. or_else (λ l. l) (λ t. let e = t.0 in cc) f) s)
-  written place WritesInput s =
-      absurd (none_written place WritesInput (λ p f. or_else (λ l. l) (λ t. let e = t.0 in cc) f) s)
-  written place NoTask s =
-      absurd (none_written place NoTask (λ p f. or_else (λ l. l) (λ t. let e = t.0 in cc) f) s)
-  written place TooMany s =
-      absurd (none_written place TooMany (λ p f. or_else (λ l. l) (λ t. let e = t.0 in cc) f) s)
+      (λ p f. or_else (λ l. or_else (λ k. k) (λ t. absurd (let e = t.0 in cc)) l) (λ t. absurd (let e = t.0 in cc)) f) s
   written place BadDeclaration s =
-      absurd (none_written place BadDeclaration (λ p f. or_else (λ l. l) (λ t. let e = t.0 in cc) f) s)
+      lines_by place BadDeclaration (λ p. IsWrongIn tree p place (calls_of p.program.lines))
+      (λ p f. or_else (λ l. or_else (λ k. absurd k) (λ t. absurd (let e = t.0 in cc)) l) (λ t. t.1) f) s
+  written place Unknown s =
+      absurd (none_written place Unknown (λ p f. no_line place Unknown p (λ e. cc) (λ e. cc) (λ k. k) f) s)
+  written place BadAddress s =
+      absurd (none_written place BadAddress (λ p f. no_line place BadAddress p (λ e. cc) (λ e. cc) (λ k. k) f) s)
+  written place InputRangeTooSmall s =
+      absurd (none_written place InputRangeTooSmall
+      (λ p f. no_line place InputRangeTooSmall p (λ e. cc) (λ e. cc) (λ k. k) f) s)
+  written place WrittenTwice s =
+      absurd (none_written place WrittenTwice (λ p f. no_line place WrittenTwice p (λ e. cc) (λ e. cc) (λ k. k) f) s)
+  written place WritesInput s =
+      absurd (none_written place WritesInput (λ p f. no_line place WritesInput p (λ e. cc) (λ e. cc) (λ k. k) f) s)
+  written place NoTask s =
+      absurd (none_written place NoTask (λ p f. no_line place NoTask p (λ e. cc) (λ e. cc) (λ k. k) f) s)
+  written place TooMany s =
+      absurd (none_written place TooMany (λ p f. no_line place TooMany p (λ e. cc) (λ e. cc) (λ k. k) f) s)
 
   whole : (place : ℕ) (cause : NameCause) → IsPart place cause → IsFaultOfUse tree place cause
-  whole place cause (inl (inl u)) = used place cause u
+  whole place cause (inl (inl (inl u))) = used place cause u
+  whole place cause (inl (inl (inr o))) =
+      subst (λ (c : NameCause). IsFaultOfUse tree place c) (sym o.0) (inr (inr o.1))
   whole place cause (inl (inr l)) = written place cause l
   whole place cause (inr (inl t)) = subst (λ (c : NameCause). IsFaultOfUse tree place c) (sym t.0) t.1
   whole place cause (inr (inr t)) = subst (λ (c : NameCause). IsFaultOfUse tree place c) (sym t.0) t.1
@@ -158,50 +171,51 @@ module _ (tree : Tree) where
       → ((p : DeclaredProgram) (u : Use Symbol) → P p u → IsFaultAtUse tree p u place cause)
       → SomeOf (λ p. SomeOf (P p) (uses_of p.program.lines)) Programs → IsPart place cause
   uses_from place cause P each s =
-      inl (inl (some_of (λ p t. some_of (λ u f. each p u f) (uses_of p.program.lines) t) Programs s))
+      inl (inl (inl (some_of (λ p t. some_of (λ u f. each p u f) (uses_of p.program.lines) t) Programs s)))
 
   lines_from : (place : ℕ) (cause : NameCause) (P : DeclaredProgram → Type 0)
-      → ((p : DeclaredProgram) → P p → IsFaultOfLines tree.text p.program.lines place cause)
+      → ((p : DeclaredProgram) → P p → IsFaultOfBody tree p place cause)
       → SomeOf P Programs → IsPart place cause
   lines_from place cause P each s = inl (inr (some_of (λ p f. each p f) Programs s))
 
   parted : (place : ℕ) (cause : NameCause) → IsFaultOfUse tree place cause → IsPart place cause
   parted place Unknown u =
-      uses_from place Unknown (λ p u. IsUnknownUse tree.text p place u) (λ p u f. inl (refl, f)) u
+      uses_from place Unknown (λ p u. IsUnknownUse tree p place u) (λ p u f. inl (refl, f)) u
   parted place Twice (inl l) =
-      lines_from place Twice (λ p. IsTwiceIn (folded tree.text) (labels_of p.program.lines) place) (λ p f. inl f) l
+      lines_from place Twice (λ p. IsTwiceIn (folded tree.text) (labels_of p.program.lines) place)
+      (λ p f. inl (inl f)) l
   parted place Twice (inr g) =
-      lines_from place Twice (λ p. IsGivenTwiceIn tree.text p.program.lines place) (λ p f. inr (refl, f)) g
+      lines_from place Twice (λ p. IsGivenTwiceIn tree.text p.program.lines place) (λ p f. inl (inr (refl, f))) g
   parted place UnknownLabel l =
-      lines_from place UnknownLabel (λ p. JumpsNowhere tree.text p.program.lines place) (λ p f. inl f) l
+      lines_from place UnknownLabel (λ p. JumpsNowhere tree.text p.program.lines place) (λ p f. inl (inl f)) l
   parted place BackwardJump l =
-      lines_from place BackwardJump (λ p. JumpsBack tree.text p.program.lines place) (λ p f. inl f) l
+      lines_from place BackwardJump (λ p. JumpsBack tree.text p.program.lines place) (λ p f. inl (inl f)) l
   parted place WritesInput (inl w) =
       uses_from place WritesInput (λ p u. WritesOutput tree.text p place u) (λ p u f. inr (refl, inl f)) w
-  parted place WritesInput (inr w) =
+  parted place WritesInput (inr (inl w)) =
       uses_from place WritesInput (λ p u. StoresToInput tree p place u) (λ p u f. inr (refl, inr f)) w
+  parted place WritesInput (inr (inr o)) = inl (inl (inr (refl, o)))
   parted place WrittenTwice t = inr (inl (refl, t))
   parted place TooMany t = inr (inr (refl, t))
   parted place BadAddress t = absurd t
   parted place InputRangeTooSmall t = absurd t
   parted place NoTask t = absurd t
-  parted place BadDeclaration t = absurd t
+  parted place BadDeclaration t =
+      lines_from place BadDeclaration (λ p. IsWrongIn tree p place (calls_of p.program.lines)) (λ p f. inr (refl, f)) t
 
   -- the least fault is the least of the four
   pub least_of_uses : (uses lines stored many : Option Found)
-      → IsLeastOf (λ place cause. SomeOf
-      (λ p. IsFaultAtUses tree p (uses_of p.program.lines) place cause) (declared_programs tree)) uses
-      → IsLeastOf (λ place cause. SomeOf (λ p. IsFaultOfLines tree.text p.program.lines place cause)
-      (declared_programs tree)) lines
+      → IsLeastOf (IsFaultOfUses tree) uses
+      → IsLeastOf (λ place cause. SomeOf (λ p. IsFaultOfBody tree p place cause) (bodies_of tree)) lines
       → IsLeastOf (OfCause WrittenTwice (IsWrittenTwice tree)) stored
       → IsLeastOf (OfCause TooMany (IsTooMany tree)) many
       → IsLeastOf (IsFaultOfUse tree) (lesser_of_two (lesser_of_two uses lines) (lesser_of_two stored many))
   least_of_uses uses lines stored many h k l m =
       best_same IsPart (IsFaultOfUse tree) (lesser_of_two (lesser_of_two uses lines) (lesser_of_two stored many))
       whole parted
-      (both_least (λ place cause. IsUsed place cause ⊎ IsWritten place cause)
+      (both_least (λ place cause. IsFaultOfUses tree place cause ⊎ IsWritten place cause)
       (λ place cause.
       OfCause WrittenTwice (IsWrittenTwice tree) place cause ⊎ OfCause TooMany (IsTooMany tree) place cause)
       (lesser_of_two uses lines) (lesser_of_two stored many)
-      (both_least IsUsed IsWritten uses lines h k)
+      (both_least (IsFaultOfUses tree) IsWritten uses lines h k)
       (both_least (OfCause WrittenTwice (IsWrittenTwice tree)) (OfCause TooMany (IsTooMany tree)) stored many l m))

@@ -1,124 +1,88 @@
--- The programs of a task's instances are the text's, and in a well-named text each name in their lines is declared.
-use Rattle.std.proofs.Common.{◌≡◌, ℕ, suc, ◌+◌, List, [], ◌∷◌, map, Bool, true, false, refl, sym, ap, ◌∙◌, subst, arith}
-use Rattle.std.proofs.Common.{inl, inr, ◌⊎◌}
-use Rattle.std.specs.Prelude.{Option, Some, None, slice_get, option_map, option_and_then, if◌then◌else◌}
-use Rattle.std.specs.List.{AllByRecursion, cons_option, list_any}
+-- In a well-named text each name in the lines of a program or a function is declared.
+use Rattle.std.proofs.Common.{◌≡◌, ℕ, List, [], Bool, true, refl, sym, subst, inl, inr, ◌⊎◌}
+use Rattle.std.specs.Prelude.{Some, None, slice_get}
+use Rattle.std.specs.List.{list_any}
 use Rattle.std.proofs.lemmas.Bool.{both_ways}
 use Rattle.wordlines.specs.Wirings.{Wiring}
 use Rattle.ilsource.specs.declared.operand.Operand.TheVariants.{Name as Named}
 use Rattle.ilsource.specs.declared.uses.Use.{Use}
 use Rattle.ilsource.specs.Names.{SameName}
 use Rattle.ilsource.specs.SourceTrees.{Tree}
-use Rattle.ilsource.specs.declared.configuration.InstanceDeclaration.{InstanceDeclaration}
 use Rattle.ilsource.specs.declared.name.Name.{Name}
 use Rattle.ilsource.specs.declared.symbol.Symbol.{Symbol}
-use Rattle.ilsource.specs.declared.symbol.Symbol.TheVariants.{Variable, Port, Block}
+use Rattle.ilsource.specs.declared.symbol.Symbol.TheVariants.{Variable, Port, Block, Function}
 use Rattle.ildeclared.specs.Faults.{SomeOf}
 use Rattle.ildeclared.specs.declared.block.DeclaredBlock.{DeclaredBlock}
 use Rattle.ildeclared.specs.declared.external.DeclaredExternal.{DeclaredExternal}
 use Rattle.ildeclared.specs.declared.fault.NameCause.TheVariants.{Twice, Unknown}
 use Rattle.ildeclared.specs.declared.variable.DeclaredVariable.{DeclaredVariable}
-use Rattle.ilscope.specs.Configured.{global_number, program_number}
-use Rattle.ilscope.specs.Declarations.{declared_programs, DeclaredProgram}
+use Rattle.ilscope.specs.Configured.{global_number}
+use Rattle.ilscope.specs.Declarations.{as_program, bodies_of, declared_functions, declared_programs}
+use Rattle.ilscope.specs.Declarations.{DeclaredFunction, DeclaredProgram}
 use Rattle.ilscope.specs.Faults.{IsUnknownName}
-use Rattle.iluses.specs.Faults.{IsUnknownOperand, IsUnknownSymbol, IsUnknownUse, place_of_port, port_number}
+use Rattle.iluses.specs.Faults.{IsUnknownOperand, IsUnknownSymbol, IsUnknownUse, functions_above, place_of_port}
+use Rattle.iluses.specs.Faults.{port_number}
 use Rattle.iluses.specs.SameNames.{same_name}
 use Rattle.iluses.specs.Uses.{uses_of}
 use Rattle.iluses.proofs.Lists.{at_some, some_at}
 use Rattle.iluses.proofs.SameNames.{alike, same_as}
 use Rattle.ilsyms.specs.Faults.{IsWellNamed}
-use Rattle.ilsyms.specs.Tasks.{instance_named, instances_in, is_in, NamedProgram, SourceTask, tasks_of}
+use Rattle.ilsyms.specs.Tasks.{NamedProgram}
 use Rattle.ilsyms.proofs.Lists.{either}
-use Rattle.ilsyms.proofs.TaskCases.{IsDeclaredTask, IsMainTask, task_is}
 use Rattle.ilsyms.specs.Placed.{HasExternal}
 use Rattle.ilsyms.proofs.PlacedLists.{each_at, passes_some, some_passes}
-use Rattle.ilsyms.proofs.Names.{HasVariable, IsUnambiguous, programs_unambiguous}
+use Rattle.ilsyms.proofs.Names.{HasVariable, IsUnambiguous, functions_unambiguous, programs_unambiguous}
+use Rattle.ilsyms.proofs.TextBodies.{IsFunctionOf, IsOfText, IsProgramOf, in_bodies}
 
--- ---- the programs of a task are those of the text
+-- ---- one instance of a program of a well-named text, or one that stands for a function
 
-module _ (tree : Tree) where
-  abbrev IsOfText : NamedProgram → Type 0
-  IsOfText i = (d : ℕ) × (slice_get (declared_programs tree) d ≡ Some i.program)
-
-  of_number : (o : Option ℕ) (p : DeclaredProgram) → option_and_then (slice_get (declared_programs tree)) o ≡ Some p
-      → (d : ℕ) × (slice_get (declared_programs tree) d ≡ Some p)
-  of_number None p e = absurd cc
-  of_number (Some k) p e = (k, e)
-
-  declared_of_text : (task : ℕ) (is : List InstanceDeclaration) → AllByRecursion IsOfText (instances_in tree is task)
-  declared_of_text task [] = tt
-  declared_of_text task (i ∷ is) =
-      by (declared_of_text task is) (is_in tree task i)
-      (option_and_then (slice_get (declared_programs tree)) (program_number tree i.program)) refl
-    where
-      by : AllByRecursion IsOfText (instances_in tree is task) → (b : Bool) (o : Option DeclaredProgram)
-          → option_and_then (slice_get (declared_programs tree)) (program_number tree i.program) ≡ o
-          → AllByRecursion IsOfText
-          (cons_option (if b then option_map (instance_named i.name) o else None) (instances_in tree is task))
-      by rest false o e = rest
-      by rest true None e = rest
-      by rest true (Some p) e = (of_number (program_number tree i.program) p e, rest)
-
-  main_of_text : (ps : List DeclaredProgram) (n : ℕ)
-      → ((k : ℕ) → slice_get (declared_programs tree) (n + k) ≡ slice_get ps k)
-      → AllByRecursion IsOfText (map (λ p. instance_named p.program.name p) ps)
-  main_of_text [] n h = tt
-  main_of_text (p ∷ ps) n h = (
-    (n + 0, h 0),
-    main_of_text ps (n + 1)
-        (λ k. let e : n + 1 + k ≡ n + suc k = omega arith in
-        ap (slice_get (declared_programs tree)) e ∙ h (suc k)),
-  )
-
-  of_text : (number : ℕ) (t : SourceTask) → slice_get (tasks_of tree) number ≡ Some t
-      → AllByRecursion IsOfText t.instances
-  of_text number t e = by (task_is tree number t e)
-    where
-      by : IsDeclaredTask tree number t ⊎ IsMainTask tree number t → AllByRecursion IsOfText t.instances
-      by (inl d) =
-          subst (λ (s : SourceTask). AllByRecursion IsOfText s.instances) (sym d.is)
-          (declared_of_text number d.configuration.instances)
-      by (inr m) =
-          subst (λ (s : SourceTask). AllByRecursion IsOfText s.instances) (sym m.is)
-          (main_of_text (declared_programs tree) 0
-          (λ k. let e : 0 + k ≡ k = omega arith in ap (slice_get (declared_programs tree)) e))
-
--- ---- one instance of a task of a well-named text
-
-module _ (tree : Tree) (wiring : Wiring) (well : IsWellNamed tree wiring) (number : ℕ) (t : SourceTask)
-    (stands : slice_get (tasks_of tree) number ≡ Some t) (n : ℕ) (i : NamedProgram)
-    (there : slice_get t.instances n ≡ Some i) where
-  its_program : (d : ℕ) × (slice_get (declared_programs tree) d ≡ Some i.program)
-  its_program = each_at (IsOfText tree) t.instances n i (of_text tree number t stands) there
+module _ (tree : Tree) (wiring : Wiring) (well : IsWellNamed tree wiring) (i : NamedProgram)
+    (of_text : IsOfText tree i) where
+  its_body : (d : ℕ) × (slice_get (bodies_of tree) d ≡ Some i.program)
+  its_body = in_bodies tree i of_text
 
   -- an external is a global variable
   pub externals_known : (place : ℕ)
       → ¬ SomeOf (λ e. IsUnknownName (global_number tree) place e.name) i.program.externals
-  externals_known place s =
-      well place Unknown
-      (inl (inr (inl (at_some _ (declared_programs tree) its_program.0 i.program its_program.1 s))))
+  externals_known place s = by of_text
+    where
+      by : IsProgramOf tree i ⊎ IsFunctionOf tree i → ⊥
+      by (inl p) =
+          well place Unknown (inl (inr (inl (at_some _ (declared_programs tree) p.0 i.program p.1 s))))
+      by (inr f) =
+          subst (λ (p : DeclaredProgram). SomeOf (λ e. IsUnknownName (global_number tree) place e.name) p.externals)
+          f.3 s
 
-  -- each name is that of one thing that the program declares
+  -- each name is that of one thing that is declared
   pub unambiguous : IsUnambiguous tree.text i.program
-  unambiguous =
-      each_at (IsUnambiguous tree.text) (declared_programs tree) its_program.0 i.program
-      (programs_unambiguous tree.text tree.elements [] (λ place s. well place Twice (inl (inr (inl s)))))
-      its_program.1
+  unambiguous = by of_text
+    where
+      by : IsProgramOf tree i ⊎ IsFunctionOf tree i → IsUnambiguous tree.text i.program
+      by (inl p) =
+          each_at (IsUnambiguous tree.text) (declared_programs tree) p.0 i.program
+          (programs_unambiguous tree.text tree.elements [] (λ place s. well place Twice (inl (inr (inl s)))))
+          p.1
+      by (inr f) =
+          subst (IsUnambiguous tree.text) (sym f.3)
+          (each_at (λ (g : DeclaredFunction). IsUnambiguous tree.text (as_program g)) (declared_functions tree) f.0
+          f.1
+          (functions_unambiguous tree.text tree.elements [] (λ place s. well place Twice (inl (inr (inr (inl s))))))
+          f.2)
 
   abbrev uses : List (Use Symbol)
   uses = uses_of i.program.program.lines
 
   -- what is used is known, whatever it is used for
   known : (symbol : Symbol) → SomeOf (λ u. u.operand ≡ Named symbol) uses
-      → (u : Use Symbol) × ((place : ℕ) → ¬ IsUnknownSymbol tree.text i.program place u.purpose symbol)
+      → (u : Use Symbol) × ((place : ℕ) → ¬ IsUnknownSymbol tree i.program place u.purpose symbol)
   known symbol used =
       let s = some_at (λ (u : Use Symbol). u.operand ≡ Named symbol) uses used in (
         s.1,
         λ place unknown.
             well place Unknown
-            (inr (at_some _ (declared_programs tree) its_program.0 i.program its_program.1
-            (at_some (IsUnknownUse tree.text i.program place) uses s.0 s.1 s.2
-            (subst (IsUnknownOperand tree.text i.program place s.1.purpose) (sym s.3) unknown)))),
+            (inr (at_some _ (bodies_of tree) its_body.0 i.program its_body.1
+            (at_some (IsUnknownUse tree i.program place) uses s.0 s.1 s.2
+            (subst (IsUnknownOperand tree i.program place s.1.purpose) (sym s.3) unknown)))),
       )
 
   -- so a variable is declared, its own or an external
@@ -164,3 +128,18 @@ module _ (tree : Tree) (wiring : Wiring) (well : IsWellNamed tree wiring) (numbe
   port_declared block port used none =
       let its = known (Port block port) used in
       its.1 (place_of_port its.0.purpose block port) (none, refl)
+
+  -- and a function above
+  pub function_declared : (name : Name) → SomeOf (λ u. u.operand ≡ Named (Function name)) uses
+      → list_any (λ f. same_name tree.text name f.function.name) (functions_above tree i.program) ≡ true
+  function_declared name used =
+      let its = known (Function name) used in
+      either (list_any (λ f. same_name tree.text name f.function.name) (functions_above tree i.program))
+      (λ t. t)
+      (λ f. absurd (its.1 name.from (
+        (λ s.
+            both_ways _ f (some_passes (λ (g : DeclaredFunction). SameName tree.text name g.function.name)
+            (λ g. same_name tree.text name g.function.name) (λ g. same_as tree.text name g.function.name)
+            (functions_above tree i.program) s)),
+        refl,
+      )))

@@ -18,7 +18,8 @@ use Rattle.ilsyms.specs.Resolved.{label_number}
 use Rattle.ilsyms.proofs.Lists.{either, or_true}
 
 -- an element that passes is found
-pub any_found : {X : Type 0} (test : X → Bool) (xs : List X) → list_any test xs ≡ true → position_or_len test xs < length xs
+pub any_found : {X : Type 0} (test : X → Bool) (xs : List X) → list_any test xs ≡ true
+    → position_or_len test xs < length xs
 any_found test [] e = absurd cc
 any_found test (x ∷ xs) e =
     either (test x)

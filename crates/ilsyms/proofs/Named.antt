@@ -1,89 +1,60 @@
--- What the lines of a task of a well-named text name is in the tables of the task, and of the sort that may stand there.
+-- What the lines of an instance of a well-named text name is in the tables of what has the instance.
 use Rattle.std.proofs.Common.{◌≡◌, ℕ, zero, suc, ◌+◌, ◌<◌, List, [], ◌∷◌, ◌++◌, map, take, drop, length, Bool, true}
-use Rattle.std.proofs.Common.{false, refl, sym, ap, ◌∙◌, subst, arith, inl, inr, ◌⊎◌}
-use Rattle.std.specs.Prelude.{Option, Some, None, IsSomeAnd, slice_get, option_map, option_and_then, unwrap_or, flat_map}
-use Rattle.std.specs.Prelude.{filter_map, bytes_eq, ◌==◌, if◌then◌else◌}
-use Rattle.std.specs.List.{AllByRecursion, cons_option, enumerate_from, list_any}
+use Rattle.std.proofs.Common.{false, refl, sym, ap, ◌∙◌, subst, arith, inl, inr}
+use Rattle.std.specs.Prelude.{Option, Some, None, IsSomeAnd, slice_get, option_map, option_and_then, unwrap_or}
+use Rattle.std.specs.Prelude.{flat_map, filter_map, bytes_eq, ◌==◌}
+use Rattle.std.specs.List.{AllByRecursion, enumerate_from, list_any}
 use Rattle.std.specs.Option.{option_map_or}
 use Rattle.std.proofs.lemmas.Bool.{eq-eqb, or_left, or_right}
-use Rattle.std.proofs.lemmas.Grind.{flat_map-append}
-use Rattle.std.proofs.lemmas.List.{map-append}
 use Rattle.std.proofs.lemmas.List.Folds.{list_any-append}
 use Rattle.std.proofs.lemmas.Option.{slice_get-map}
-use Rattle.wordlines.specs.Wirings.{Wiring}
-use Rattle.ilsource.specs.declared.instruction.Line.{Line}
-use Rattle.ilsource.specs.declared.operand.Operand.{Operand}
-use Rattle.ilsource.specs.declared.operand.Operand.TheVariants.{Name as Named, Constant}
-use Rattle.ilsource.specs.declared.uses.Purpose.{Purpose}
-use Rattle.ilsource.specs.declared.uses.Purpose.TheVariants.{Read, Write, Call, Pass}
-use Rattle.ilsource.specs.declared.uses.Use.{Use}
-use Rattle.ilsource.specs.Renaming.{by_name, rename_line, rename_use}
-use Rattle.ilsource.specs.Uses.{uses_in}
-use Rattle.ilsource.proofs.KeptSizes.{uses_kept}
 use Rattle.ilblocks.specs.declared.kind.BlockKind.{BlockKind}
 use Rattle.ilblocks.specs.Ports.{most_ports, port_named, ports_of}
 use Rattle.ilsource.specs.Names.{SameName, folded, text_of}
-use Rattle.ilsource.specs.Programs.{AreSorted, MayBeUsed, MayStand}
 use Rattle.ilsource.specs.SourceTrees.{Tree}
-use Rattle.ilsource.specs.declared.configuration.InstanceDeclaration.{InstanceDeclaration}
 use Rattle.ilsource.specs.declared.name.Name.{Name}
-use Rattle.ilsource.specs.declared.symbol.Symbol.{Symbol}
-use Rattle.ilsource.specs.declared.symbol.Symbol.TheVariants.{Variable, Port, Block}
 use Rattle.ildeclared.specs.Faults.{SomeOf}
 use Rattle.ildeclared.specs.declared.block.DeclaredBlock.{DeclaredBlock}
 use Rattle.ildeclared.specs.declared.external.DeclaredExternal.{DeclaredExternal}
-use Rattle.ildeclared.specs.declared.fault.NameCause.TheVariants.{Unknown}
 use Rattle.ildeclared.specs.declared.global.DeclaredGlobal.{DeclaredGlobal}
 use Rattle.ildeclared.specs.declared.variable.DeclaredVariable.{DeclaredVariable}
-use Rattle.ilscope.specs.Configured.{global_number, globals_of, program_number}
-use Rattle.ilscope.specs.Declarations.{declared_programs, DeclaredProgram}
+use Rattle.ilscope.specs.Configured.{global_number, globals_of}
+use Rattle.ilscope.specs.Declarations.{DeclaredProgram}
 use Rattle.ilscope.specs.Faults.{IsUnknownName}
 use Rattle.ilscope.specs.Tables.{first_at}
-use Rattle.ilplan.specs.Plans.{PlannedTask, HasOperand, HasPort, HasUse, all_lines, kinds_of}
+use Rattle.ilplan.specs.Plans.{HasPort, Nameable}
 use Rattle.ilplan.specs.declared.instance.FunctionBlock.{FunctionBlock}
-use Rattle.ilplan.specs.declared.place.Place.{Place}
 use Rattle.ilplan.specs.declared.slot.Slot.{Slot}
 use Rattle.ilsyms.proofs.Lists.{first_below}
-use Rattle.iluses.specs.Faults.{IsNoBlock, IsNoVariable, IsUnknownOperand, IsUnknownUse, place_of_port, port_number}
+use Rattle.iluses.specs.Faults.{IsNoBlock, IsNoVariable}
 use Rattle.iluses.specs.SameNames.{same_name}
-use Rattle.iluses.specs.Uses.{uses_of}
-use Rattle.iluses.proofs.Lists.{at_some}
 use Rattle.iluses.proofs.SameNames.{alike, same_as}
-use Rattle.ilsyms.specs.Faults.{IsWellNamed}
-use Rattle.ilsyms.specs.Meaning.{block_in_store, is_block_under, is_global, is_own, place_in_store, place_of}
+use Rattle.ilsyms.specs.Meaning.{block_in_store, is_block_under, is_global, is_own, place_in_store}
 use Rattle.ilsyms.specs.Meaning.{port_of_block}
 use Rattle.ilsyms.specs.PlanningSteps.{AreApart}
-use Rattle.ilsyms.specs.Resolved.{label_number, new_places, planned_instance, planned_task}
-use Rattle.ilsyms.specs.Tasks.{instance_named, instances_in, is_in, NamedProgram, SourceTask, tasks_of}
+use Rattle.ilsyms.specs.Tasks.{NamedProgram}
 use Rattle.ilsyms.specs.Variables.{blocks_in, blocks_of, function_block, global_slots, is_among, is_named}
-use Rattle.ilsyms.specs.Variables.{lines_of, named_slot, own_slot, own_slots, slots_in, slots_of}
+use Rattle.ilsyms.specs.Variables.{named_slot, own_slot, own_slots, slots_in, slots_of}
 use Rattle.ilsyms.proofs.LabelRenaming.{any_found}
 use Rattle.ilsyms.proofs.Lists.{either}
 use Rattle.ilsyms.proofs.NumberingInstances.{block_of, blocks_in as declared_blocks, other_blocks, own_block, own_is}
-use Rattle.ilsyms.proofs.NumberingLines.{planned, renamed}
 use Rattle.ilsyms.proofs.NumberingPlaces.{found_among}
 use Rattle.ilsyms.proofs.NumberingPorts.{first_port}
 use Rattle.ilsyms.proofs.PlanningInstances.{parted_at}
-use Rattle.ilsyms.proofs.TaskCases.{IsDeclaredTask, IsMainTask, task_is}
 use Rattle.ilsyms.proofs.TaskNames.{others_around}
 
 -- ---- lists
 
-at : {X : Type 0} (P : X → Type 0) (xs : List X) (k : ℕ) (x : X) → AllByRecursion P xs → slice_get xs k ≡ Some x → P x
-at P [] k x all e = absurd cc
-at P (y ∷ xs) zero x all e = let same : y ≡ x = cc in subst P same all.0
-at P (y ∷ xs) (suc k) x all e = at P xs k x all.1 e
-
 module _ {X : Type 0} (P : X → Type 0) where
-  both : (xs ys : List X) → AllByRecursion P xs → AllByRecursion P ys → AllByRecursion P (xs ++ ys)
+  pub both : (xs ys : List X) → AllByRecursion P xs → AllByRecursion P ys → AllByRecursion P (xs ++ ys)
   both [] ys h k = k
   both (x ∷ xs) ys h k = (h.0, both xs ys h.1 k)
 
-  front : (xs ys : List X) → AllByRecursion P (xs ++ ys) → AllByRecursion P xs
+  pub front : (xs ys : List X) → AllByRecursion P (xs ++ ys) → AllByRecursion P xs
   front [] ys h = tt
   front (x ∷ xs) ys h = (h.0, front xs ys h.1)
 
-  back : (xs ys : List X) → AllByRecursion P (xs ++ ys) → AllByRecursion P ys
+  pub back : (xs ys : List X) → AllByRecursion P (xs ++ ys) → AllByRecursion P ys
   back [] ys h = h
   back (x ∷ xs) ys h = back xs ys h.1
 
@@ -115,7 +86,7 @@ any_map g test own same (x ∷ xs) e =
     (λ f. or_right (test (g x)) (list_any test (map g xs)) (any_map g test own same xs (rw f at e)))
 
 -- where none passes there is none
-none_of : {X : Type 0} (P : X → Type 0) (test : X → Bool) → ((x : X) → P x → test x ≡ true) → (xs : List X)
+pub none_of : {X : Type 0} (P : X → Type 0) (test : X → Bool) → ((x : X) → P x → test x ≡ true) → (xs : List X)
     → list_any test xs ≡ false → ¬ SomeOf P xs
 none_of P test pass [] e s = s
 none_of P test pass (x ∷ xs) e (inl p) = let t = pass x p in let g : true ≡ false = rw t at e in cc
@@ -124,55 +95,7 @@ none_of P test pass (x ∷ xs) e (inr s) =
     (λ t. let g : true ≡ false = rw t at e in cc)
     (λ f. none_of P test pass xs (rw f at e) s)
 
--- ---- the programs of a task are those of the text
-
-module _ (tree : Tree) where
-  abbrev AreOfText : List NamedProgram → Type 0
-  AreOfText is = AllByRecursion (λ i. (d : ℕ) × (slice_get (declared_programs tree) d ≡ Some i.program)) is
-
-  of_number : (o : Option ℕ) (p : DeclaredProgram) → option_and_then (slice_get (declared_programs tree)) o ≡ Some p
-      → (d : ℕ) × (slice_get (declared_programs tree) d ≡ Some p)
-  of_number None p e = absurd cc
-  of_number (Some k) p e = (k, e)
-
-  declared_of_text : (task : ℕ) (is : List InstanceDeclaration) → AreOfText (instances_in tree is task)
-  declared_of_text task [] = tt
-  declared_of_text task (i ∷ is) =
-      by (declared_of_text task is) (is_in tree task i)
-      (option_and_then (slice_get (declared_programs tree)) (program_number tree i.program)) refl
-    where
-      by : AreOfText (instances_in tree is task) → (b : Bool) (o : Option DeclaredProgram)
-          → option_and_then (slice_get (declared_programs tree)) (program_number tree i.program) ≡ o
-          → AreOfText
-          (cons_option (if b then option_map (instance_named i.name) o else None) (instances_in tree is task))
-      by rest false o e = rest
-      by rest true None e = rest
-      by rest true (Some p) e = (of_number (program_number tree i.program) p e, rest)
-
-  main_of_text : (ps : List DeclaredProgram) (n : ℕ)
-      → ((k : ℕ) → slice_get (declared_programs tree) (n + k) ≡ slice_get ps k)
-      → AreOfText (map (λ p. instance_named p.program.name p) ps)
-  main_of_text [] n h = tt
-  main_of_text (p ∷ ps) n h = (
-    (n + 0, h 0),
-    main_of_text ps (n + 1)
-        (λ k. let e : n + 1 + k ≡ n + suc k = omega arith in
-        ap (slice_get (declared_programs tree)) e ∙ h (suc k)),
-  )
-
-  of_text : (number : ℕ) (t : SourceTask) → slice_get (tasks_of tree) number ≡ Some t → AreOfText t.instances
-  of_text number t e = by (task_is tree number t e)
-    where
-      by : IsDeclaredTask tree number t ⊎ IsMainTask tree number t → AreOfText t.instances
-      by (inl d) =
-          subst (λ (s : SourceTask). AreOfText s.instances) (sym d.is)
-          (declared_of_text number d.configuration.instances)
-      by (inr m) =
-          subst (λ (s : SourceTask). AreOfText s.instances) (sym m.is)
-          (main_of_text (declared_programs tree) 0
-          (λ k. let e : 0 + k ≡ k = omega arith in ap (slice_get (declared_programs tree)) e))
-
--- ---- one instance of a task
+-- ---- one of some instances
 
 module _ (tree : Tree) (is : List NamedProgram) where
   abbrev slots : List Slot
@@ -252,7 +175,7 @@ module _ (tree : Tree) (is : List NamedProgram) where
             let first : option_map_or (λ its. its == k) (global_number tree x.name) false ≡ true = rw found equal in
             global_there name k none its (more k (or_left _ _ first))
 
-    variable_there : (name : Name)
+    pub variable_there : (name : Name)
         → ((place : ℕ) → ¬ SomeOf (λ e. IsUnknownName (global_number tree) place e.name) p.externals)
         → ¬ IsNoVariable tree.text p name → place_in_store tree slots i name < length slots
     variable_there name known is_there =
@@ -266,7 +189,7 @@ module _ (tree : Tree) (is : List NamedProgram) where
               (λ x e. same_as tree.text name x.name e) p.externals f,
         ))))
 
-    block_there : (name : Name) → ¬ IsNoBlock tree.text p name
+    pub block_there : (name : Name) → ¬ IsNoBlock tree.text p name
         → block_in_store tree.text blocks i.name name < length blocks
     block_there name is_there =
         either (list_any (λ b. same_name tree.text name b.name) p.blocks)
@@ -279,11 +202,11 @@ module _ (tree : Tree) (is : List NamedProgram) where
         (λ b. same_name tree.text name b.name) (λ b e. same_as tree.text name b.name e) p.blocks f)))
 
     -- the block instance of a name, where it has one, is the program's first of that name
-    abbrev declared_block : Name → Option DeclaredBlock
+    abbrev pub declared_block : Name → Option DeclaredBlock
     declared_block name =
         option_and_then (slice_get p.blocks) (first_at (λ b. same_name tree.text name b.name) p.blocks)
 
-    block_found : AreApart tree.text is → (name : Name)
+    pub block_found : AreApart tree.text is → (name : Name)
         → slice_get blocks (block_in_store tree.text blocks i.name name)
         ≡ option_map (function_block i.name) (declared_block name)
     block_found apart name =
@@ -299,13 +222,15 @@ module _ (tree : Tree) (is : List NamedProgram) where
         (other_blocks tree.text i.name name (take n is) others.0)
         (other_blocks tree.text i.name name (drop (n + 1) is) others.1))
 
-    module _ (task : PlannedTask) (are : task.blocks ≡ blocks) (number : ℕ) (port : Name) where
+    module _ (names : Nameable) (are : names.kinds ≡ map (λ b. b.kind) blocks) (number : ℕ) (port : Name) where
       abbrev PortThere : Type 0
-      PortThere = HasPort task number (option_map_or (port_of_block tree.text port) (slice_get blocks number) most_ports)
+      PortThere =
+          HasPort names number (option_map_or (port_of_block tree.text port) (slice_get blocks number) most_ports)
 
-      port_there : (o : Option DeclaredBlock) → slice_get blocks number ≡ option_map (function_block i.name) o
+      pub port_there : (o : Option DeclaredBlock) → slice_get blocks number ≡ option_map (function_block i.name) o
           → ¬ (option_and_then {U = BlockKind × ℕ}
-          (λ (b : DeclaredBlock). option_map {U = BlockKind × ℕ} (λ (k : ℕ). (b.kind, k)) (port_named b.kind (text_of tree.text port))) o
+          (λ (b : DeclaredBlock).
+          option_map {U = BlockKind × ℕ} (λ (k : ℕ). (b.kind, k)) (port_named b.kind (text_of tree.text port))) o
           ≡ None)
           → PortThere
       port_there None e known = absurd (known refl)
@@ -316,8 +241,8 @@ module _ (tree : Tree) (is : List NamedProgram) where
           by None found known = absurd (known refl)
           by (Some k) found known =
               let below = first_port (ports_of d.kind) (text_of tree.text port) k found in
-              let kind : slice_get (kinds_of task) number ≡ Some d.kind =
-              ap (λ (bs : List FunctionBlock). slice_get (map (λ b. b.kind) bs) number) are
+              let kind : slice_get names.kinds number ≡ Some d.kind =
+              ap (λ (ks : List BlockKind). slice_get ks number) are
               ∙ slice_get-map (λ (b : FunctionBlock). b.kind) blocks number
               ∙ ap (option_map (λ (b : FunctionBlock). b.kind)) e
               in
@@ -329,128 +254,3 @@ module _ (tree : Tree) (is : List NamedProgram) where
               option_map_or (port_of_block tree.text port) (slice_get blocks number) most_ports
               < length (ports_of its_kind))) (sym kind)
               (subst (λ m. m < length (ports_of d.kind)) (sym its) below)
-
--- ---- all that a task names
-
-module _ (tree : Tree) (wiring : Wiring) (well : IsWellNamed tree wiring) (number : ℕ) (t : SourceTask)
-    (stands : slice_get (tasks_of tree) number ≡ Some t) (apart : AreApart tree.text t.instances) where
-  abbrev task : PlannedTask
-  task = planned_task tree t
-
-  abbrev task_slots : List Slot
-  task_slots = slots_of tree t.instances
-
-  abbrev task_blocks : List FunctionBlock
-  task_blocks = blocks_of t.instances
-
-  module _ (n : ℕ) (i : NamedProgram) (there : slice_get t.instances n ≡ Some i) where
-    abbrev place : Symbol → Place
-    place = place_of tree task_slots task_blocks i
-
-    its_program : (d : ℕ) × (slice_get (declared_programs tree) d ≡ Some i.program)
-    its_program =
-        at (λ (j : NamedProgram). (d : ℕ) × (slice_get (declared_programs tree) d ≡ Some j.program)) t.instances n i
-        (of_text tree number t stands) there
-
-    externals_known : (at_place : ℕ)
-        → ¬ SomeOf (λ e. IsUnknownName (global_number tree) at_place e.name) i.program.externals
-    externals_known at_place s =
-        well at_place Unknown
-        (inl (inr (inl (at_some _ (declared_programs tree) its_program.0 i.program its_program.1 s))))
-
-    uses_known : (at_place : ℕ)
-        → ¬ SomeOf (IsUnknownUse tree.text i.program at_place) (uses_of i.program.program.lines)
-    uses_known at_place s =
-        well at_place Unknown
-        (inr (at_some _ (declared_programs tree) its_program.0 i.program its_program.1 s))
-
-    has_port : (block port : Name) → ¬ (port_number tree.text i.program block port ≡ None)
-        → HasPort task (block_in_store tree.text task_blocks i.name block)
-        (option_map_or (port_of_block tree.text port)
-        (slice_get task_blocks (block_in_store tree.text task_blocks i.name block)) most_ports)
-    has_port block port known =
-        port_there tree t.instances n i there task refl (block_in_store tree.text task_blocks i.name block) port
-        (declared_block tree t.instances n i there block) (block_found tree t.instances n i there apart block) known
-
-    has : (purpose : Purpose) (o : Operand Symbol)
-        → ((at_place : ℕ) → ¬ IsUnknownOperand tree.text i.program at_place purpose o)
-        → MayStand purpose o → HasOperand task purpose (by_name place o)
-    has Read (Constant v) known may = tt
-    has Read (Named (Variable name)) known may =
-        variable_there tree t.instances n i there name externals_known (λ none. known name.from (none, refl))
-    has Read (Named (Port block port)) known may =
-        has_port block port (λ none. known (place_of_port Read block port) (none, refl))
-    has Read (Named (Block name)) known may = absurd may
-    has Write (Constant v) known may = tt
-    has Write (Named (Variable name)) known may =
-        variable_there tree t.instances n i there name externals_known (λ none. known name.from (none, refl))
-    has Write (Named (Port block port)) known may =
-        has_port block port (λ none. known (place_of_port Write block port) (none, refl))
-    has Write (Named (Block name)) known may = absurd may
-    has Call (Constant v) known may = absurd may
-    has Call (Named (Variable name)) known may = absurd may
-    has Call (Named (Port block port)) known may = absurd may
-    has Call (Named (Block name)) known may =
-        block_there tree t.instances n i there name (λ none. known name.from (none, refl))
-    has Pass (Constant v) known may = absurd may
-    has Pass (Named (Variable name)) known may = absurd may
-    has Pass (Named (Port block port)) known may =
-        has_port block port (λ none. known (place_of_port Pass block port) (none, refl))
-    has Pass (Named (Block name)) known may = absurd may
-
-    abbrev new_use : Use Symbol → Use Place
-    new_use = rename_use (new_places tree task_slots task_blocks i)
-
-    uses_have : (us : List (Use Symbol))
-        → ((at_place : ℕ) → ¬ SomeOf (IsUnknownUse tree.text i.program at_place) us)
-        → AllByRecursion MayBeUsed us → AllByRecursion (HasUse task) (map new_use us)
-    uses_have [] known may = tt
-    uses_have (u ∷ us) known may = (
-      has u.purpose u.operand (λ at_place k. known at_place (inl k)) may.0,
-      uses_have us (λ at_place s. known at_place (inr s)) may.1,
-    )
-
-    lines_have : (label : Name → ℕ) (lines : List (Line Symbol Name))
-        → AllByRecursion (HasUse task) (map new_use (flat_map uses_in lines))
-        → AllByRecursion (HasUse task) (flat_map uses_in (renamed tree task_slots task_blocks i label lines))
-    lines_have label [] h = tt
-    lines_have label (line ∷ lines) h =
-        let new = new_places tree task_slots task_blocks i in
-        let kept = uses_kept new label (λ name. refl) line.at line.instruction in
-        let split = subst (AllByRecursion (HasUse task)) (map-append new_use (uses_in line) (flat_map uses_in lines)) h in
-        both (HasUse task) (uses_in (rename_line new label line))
-        (flat_map uses_in (renamed tree task_slots task_blocks i label lines))
-        (subst (AllByRecursion (HasUse task)) (sym kept)
-        (front (HasUse task) (map new_use (uses_in line)) (map new_use (flat_map uses_in lines)) split))
-        (lines_have label lines
-        (back (HasUse task) (map new_use (uses_in line)) (map new_use (flat_map uses_in lines)) split))
-
-    instance_has : AreSorted i.program.program.lines
-        → AllByRecursion (HasUse task) (flat_map uses_in (planned_instance tree task_slots task_blocks i).lines)
-    instance_has sorted =
-        lines_have (label_number tree.text i.program.program.lines) i.program.program.lines
-        (uses_have (uses_of i.program.program.lines) uses_known sorted)
-
-  instances_have : (js : List NamedProgram) (m : ℕ)
-      → ((k : ℕ) (j : NamedProgram) → slice_get js k ≡ Some j → slice_get t.instances (m + k) ≡ Some j)
-      → AreSorted (lines_of js)
-      → AllByRecursion (HasUse task) (flat_map uses_in (planned tree task_slots task_blocks js))
-  instances_have [] m among sorted = tt
-  instances_have (j ∷ js) m among sorted =
-      let own = j.program.program.lines in
-      let mine = (planned_instance tree task_slots task_blocks j).lines in
-      let others = planned tree task_slots task_blocks js in
-      let parts = subst (AllByRecursion MayBeUsed) (flat_map-append uses_in own (lines_of js)) sorted in
-      subst (AllByRecursion (HasUse task)) (sym (flat_map-append uses_in mine others))
-      (both (HasUse task) (flat_map uses_in mine) (flat_map uses_in others)
-      (instance_has (m + 0) j (among 0 j refl)
-      (front MayBeUsed (flat_map uses_in own) (flat_map uses_in (lines_of js)) parts))
-      (instances_have js (m + 1)
-      (λ k x e. let f : m + 1 + k ≡ m + suc k = omega arith in ap (slice_get t.instances) f ∙ among (suc k) x e)
-      (back MayBeUsed (flat_map uses_in own) (flat_map uses_in (lines_of js)) parts)))
-
-  pub all_named : AreSorted (lines_of t.instances)
-      → AllByRecursion (HasUse task) (flat_map uses_in (all_lines task.instances))
-  all_named sorted =
-      instances_have t.instances 0
-      (λ k j e. let f : 0 + k ≡ k = omega arith in ap (slice_get t.instances) f ∙ e) sorted

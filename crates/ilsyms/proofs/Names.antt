@@ -1,26 +1,27 @@
 -- Where no program declares a name twice, the variables and the block instances of one program have names of their own,
 -- and no name is that of a variable and of an external.
 use Rattle.std.proofs.Common.{◌≡◌, ℕ, List, [], ◌∷◌, ◌++◌, map, refl, sym, ap, ◌∙◌, subst, inl, inr, ◌⊎◌}
+use Rattle.std.proofs.Common.{append_assoc}
 use Rattle.std.specs.Prelude.{filter_map, flat_map}
 use Rattle.std.specs.List.{AllByRecursion}
 use Rattle.ilsource.specs.Names.{SameName, folded}
 use Rattle.ilsource.specs.Programs.{DeclaredNames}
-use Rattle.ilsource.specs.SourceTrees.{programs_of}
+use Rattle.ilsource.specs.SourceTrees.{functions_of, programs_of, types_of}
 use Rattle.ilsource.specs.declared.declaration.Declared.{Declared}
 use Rattle.ilsource.specs.declared.declaration.Declared.TheVariants.{Variables, Blocks, External}
-use Rattle.ilsource.specs.declared.declaration.TypeDeclaration.{TypeDeclaration}
 use Rattle.ilsource.specs.declared.name.Name.{Name}
 use Rattle.ilsource.specs.declared.source.Element.{Element}
-use Rattle.ilsource.specs.declared.source.Element.TheVariants.{DerivedType, Program}
+use Rattle.ilsource.specs.declared.source.Element.TheVariants.{DerivedType, Function, Program}
 use Rattle.ildeclared.specs.DataTypes.{TypeNames, types_below}
 use Rattle.ildeclared.specs.Declarations.{block, blocks_among, blocks_in, external, externals_among, externals_in}
-use Rattle.ildeclared.specs.Declarations.{names_of, type_of, values_of, variable, variables_among, variables_in}
+use Rattle.ildeclared.specs.Declarations.{function_names, names_of, result_variable, type_of, values_of, variable}
+use Rattle.ildeclared.specs.Declarations.{variables_among, variables_in}
 use Rattle.ildeclared.specs.Faults.{SomeLater, SomeOf}
 use Rattle.ildeclared.specs.declared.block.DeclaredBlock.{DeclaredBlock}
 use Rattle.ildeclared.specs.declared.external.DeclaredExternal.{DeclaredExternal}
 use Rattle.ildeclared.specs.declared.variable.DeclaredVariable.{DeclaredVariable}
 use Rattle.ildeclared.proofs.FoundOrder.{or_else}
-use Rattle.ilscope.specs.Declarations.{declared_program, DeclaredProgram, standing}
+use Rattle.ilscope.specs.Declarations.{as_program, declared_function, declared_program, DeclaredProgram, standing}
 use Rattle.ilscope.specs.Faults.{IsTwiceIn}
 use Rattle.iluses.proofs.Lists.{at_some, some_at}
 use Rattle.ilsyms.specs.Placed.{HasExternal}
@@ -209,13 +210,14 @@ module _ (text : List ℕ) where
       )
   later_twice (n ∷ names) (inr s) = let rest = later_twice names s in (rest.0, inr rest.1)
 
-  pub programs_unambiguous : (es : List Element) (above : List TypeDeclaration)
+  pub programs_unambiguous : (es above : List Element)
       → ((place : ℕ) → ¬ SomeOf (λ program. IsTwiceIn (folded text) (names_of program) place) (programs_of es))
       → AllByRecursion (IsUnambiguous text) (filter_map (declared_program (folded text)) (standing above es))
   programs_unambiguous [] above h = tt
-  programs_unambiguous (DerivedType type ∷ es) above h = programs_unambiguous es (type ∷ above) h
+  programs_unambiguous (DerivedType type ∷ es) above h = programs_unambiguous es (DerivedType type ∷ above) h
+  programs_unambiguous (Function function ∷ es) above h = programs_unambiguous es (Function function ∷ above) h
   programs_unambiguous (Program program ∷ es) above h =
-      let types = types_below (folded text) above in
+      let types = types_below (folded text) (types_of above) in
       let ds = program.declarations in
       let never : ¬ SomeLater (SameName text) (names_in ds) =
       λ s. let twice = later_twice (names_in ds) s in h twice.0 (inl twice.1)
@@ -228,5 +230,72 @@ module _ (text : List ℕ) where
               never (later_declared variable_name (variables_in types) (variables_made types) text ds s);
           blocks = λ s. never (later_declared block_name blocks_in blocks_made text ds s);
         },
-        programs_unambiguous es above (λ place s. h place (inr s)),
+        programs_unambiguous es (Program program ∷ above) (λ place s. h place (inr s)),
+      )
+
+  -- ---- all functions of a text
+
+  abbrev AreAlike : DeclaredVariable → DeclaredVariable → Type 0
+  AreAlike v w = SameName text v.name w.name
+
+  -- one of two properties
+  one_of_two : {X : Type 0} (P Q : X → Type 0) (xs : List X) → SomeOf (λ x. P x ⊎ Q x) xs → SomeOf P xs ⊎ SomeOf Q xs
+  one_of_two P Q [] s = absurd s
+  one_of_two P Q (x ∷ xs) (inl (inl p)) = inl (inl p)
+  one_of_two P Q (x ∷ xs) (inl (inr q)) = inr (inl q)
+  one_of_two P Q (x ∷ xs) (inr s) = or_else (λ t. inl (inr t)) (λ t. inr (inr t)) (one_of_two P Q xs s)
+
+  -- of variables with one in their midst, where that has a name of its own and the others have
+  one_between : (r : DeclaredVariable) (xs ys : List DeclaredVariable) → ¬ SomeLater AreAlike (xs ++ ys)
+      → ¬ SomeOf (AreAlike r) (xs ++ ys) → ¬ SomeLater AreAlike (xs ++ r ∷ ys)
+  one_between r xs ys apart other s =
+      or_else
+      (λ l. apart (later_left AreAlike xs ys l))
+      (λ m. or_else
+      (λ t. or_else (λ o. other (some_right (AreAlike r) xs ys o)) (λ l. apart (later_right AreAlike xs ys l)) t)
+      (λ c. or_else
+      (λ o. other (some_left (AreAlike r) xs ys (some_as (λ x. AreAlike x r) (AreAlike r) (λ x e. sym e) xs o)))
+      (λ o. apart (later_cross AreAlike xs ys o))
+      (one_of_two (λ x. AreAlike x r) (λ x. SomeOf (AreAlike x) ys) xs c))
+      m)
+      (later_parts AreAlike xs (r ∷ ys) s)
+
+  -- what two lists of declarations declare, together
+  declared_both : (types : TypeNames) (ds es : List DeclaredNames)
+      → flat_map (variables_in types) (ds ++ es) ≡ flat_map (variables_in types) ds ++ flat_map (variables_in types) es
+  declared_both types [] es = refl
+  declared_both types (d ∷ ds) es =
+      ap (λ (vs : List DeclaredVariable). variables_in types d ++ vs) (declared_both types ds es)
+      ∙ sym (append_assoc (variables_in types d) (flat_map (variables_in types) ds) (flat_map (variables_in types) es))
+
+  pub functions_unambiguous : (es above : List Element)
+      → ((place : ℕ) → ¬ SomeOf (λ function. IsTwiceIn (folded text) (function_names function) place) (functions_of es))
+      → AllByRecursion (λ f. IsUnambiguous text (as_program f))
+      (filter_map (declared_function (folded text)) (standing above es))
+  functions_unambiguous [] above h = tt
+  functions_unambiguous (DerivedType type ∷ es) above h = functions_unambiguous es (DerivedType type ∷ above) h
+  functions_unambiguous (Program program ∷ es) above h = functions_unambiguous es (Program program ∷ above) h
+  functions_unambiguous (Function f ∷ es) above h =
+      let types = types_below (folded text) (types_of above) in
+      let ds = f.inputs ++ f.variables in
+      let never : ¬ SomeLater (SameName text) (function_names f) =
+      λ s. let twice = later_twice (function_names f) s in h twice.0 (inl twice.1)
+      in
+      let xs : List DeclaredVariable = flat_map (variables_in types) f.inputs in
+      let ys : List DeclaredVariable = flat_map (variables_in types) f.variables in
+      let both = declared_both types f.inputs f.variables in
+      let apart : ¬ SomeLater AreAlike (xs ++ ys) =
+      λ s. never (inr (later_declared variable_name (variables_in types) (variables_made types) text ds
+      (subst (λ (vs : List DeclaredVariable). SomeLater AreAlike vs) (sym both) s)))
+      in
+      let other : ¬ SomeOf (AreAlike (result_variable types f)) (xs ++ ys) =
+      λ s. never (inl (some_declared variable_name (variables_in types) (variables_made types) (SameName text f.name) ds
+      (subst (λ (vs : List DeclaredVariable). SomeOf (AreAlike (result_variable types f)) vs) (sym both) s)))
+      in (
+        record {
+          unlike = λ name v e. e;
+          variables = one_between (result_variable types f) xs ys apart other;
+          blocks = λ s. s;
+        },
+        functions_unambiguous es (Function f ∷ above) (λ place s. h place (inr s)),
       )

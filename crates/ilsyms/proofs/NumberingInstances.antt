@@ -1,6 +1,6 @@
 -- The place of what an instance's lines name, by its number in the program, is its place in the store.
 use Rattle.std.proofs.Common.{◌≡◌, ℕ, suc, ◌+◌, List, [], ◌∷◌, ◌++◌, length, Bool, true, false, ◌||◌, refl, ap, ◌∙◌}
-use Rattle.std.proofs.Common.{arith}
+use Rattle.std.proofs.Common.{arith, sym}
 use Rattle.std.specs.Prelude.{Option, Some, None, option_map, option_and_then, slice_get, unwrap_or, if◌then◌else◌}
 use Rattle.std.specs.List.{list_any, position_or_len}
 use Rattle.std.specs.Option.{option_map_or}
@@ -15,6 +15,7 @@ use Rattle.ildeclared.specs.Kept.{Kept}
 use Rattle.ildeclared.specs.declared.block.DeclaredBlock.{DeclaredBlock}
 use Rattle.ildeclared.specs.declared.variable.DeclaredVariable.{DeclaredVariable}
 use Rattle.ilscope.specs.Configured.{global_number}
+use Rattle.ilscope.specs.Declarations.{DeclaredFunction, declared_functions}
 use Rattle.ilscope.specs.Tables.{first_at}
 use Rattle.ilplan.specs.declared.instance.FunctionBlock.{FunctionBlock}
 use Rattle.ilplan.specs.declared.slot.Slot.{Slot}
@@ -29,6 +30,7 @@ use Rattle.ilsyms.specs.NumberingSteps.{number_of_global}
 use Rattle.ilsyms.specs.Tasks.{NamedProgram}
 use Rattle.ilsyms.specs.Variables.{own_slot, function_block, slots_of, own_slots, global_slots, blocks_of}
 use Rattle.ilsyms.proofs.SlotGlobals.{no_own_global}
+use Rattle.ilsyms.proofs.NumberingLabels.{first_or_end}
 use Rattle.ilsyms.proofs.NumberingPlaces.{NonePass, number_among, found_among, passed_over}
 
 abbrev variables_in : NamedProgram → List DeclaredVariable
@@ -169,3 +171,7 @@ module _ (tree : Tree) (front back : List NamedProgram) (p : NamedProgram) (labe
     place_is (symbols.Variable name) = ap (λ n. places.Slot n) (slot_is name)
     place_is (symbols.Port block port) = λ i. places.Port (block_is block i) (port_is block port i)
     place_is (symbols.Block name) = ap (λ n. places.Block n) (block_is name)
+    place_is (symbols.Function name) =
+        ap (λ n. places.Function n)
+        (sym (first_or_end (λ (f : DeclaredFunction). same_name tree.text name f.function.name)
+        (declared_functions tree)))

@@ -14,7 +14,8 @@ use Rattle.iluses.specs.Labels.{AreNumbered}
 use Rattle.iluses.proofs.LabelNumbers.{has}
 use Rattle.ilsyms.specs.Resolved.{label_number}
 
-first_or_end : {X : Type 0} (test : X → Bool) (xs : List X)
+-- the number of the first that passes, or how many there are
+pub first_or_end : {X : Type 0} (test : X → Bool) (xs : List X)
     → unwrap_or (first_at test xs) (length xs) ≡ position_or_len test xs
 first_or_end {X} test xs =
     is_position_or_len (λ ys. unwrap_or (first_at test ys) (length ys)) test refl

@@ -76,7 +76,7 @@ past (x ∷ xs) ys k =
     let e : suc (length xs) + k ≡ suc (length xs + k) = omega arith in
     ap (λ n. slice_get (x ∷ (xs ++ ys)) n) e ∙ past xs ys k
 
-in_front : {X : Type 0} (xs ys : List X) (k : ℕ) (x : X) → slice_get xs k ≡ Some x → slice_get (xs ++ ys) k ≡ Some x
+pub in_front : {X : Type 0} (xs ys : List X) (k : ℕ) (x : X) → slice_get xs k ≡ Some x → slice_get (xs ++ ys) k ≡ Some x
 in_front [] ys k x e = absurd cc
 in_front (y ∷ xs) ys zero x e = e
 in_front (y ∷ xs) ys (suc k) x e = in_front xs ys k x e

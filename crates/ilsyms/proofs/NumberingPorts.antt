@@ -29,7 +29,8 @@ few_ports kinds.DevDo = omega arith
 few_ports kinds.DevScheme = omega arith
 few_ports kinds.DevAsk = omega arith
 
-pub first_port : (ports : List Port) (name : List ℕ) (n : ℕ) → position (is_named name) ports ≡ Some n → n < length ports
+pub first_port : (ports : List Port) (name : List ℕ) (n : ℕ) → position (is_named name) ports ≡ Some n
+    → n < length ports
 first_port [] name n e = absurd cc
 first_port (port ∷ ports) name n e = (position-Some (is_named name) (port ∷ ports) n port e).0
 

@@ -13,13 +13,14 @@ use Rattle.ilsource.specs.Names.{SameName, folded}
 use Rattle.ilsource.specs.SourceTrees.{Tree}
 use Rattle.ilsource.specs.declared.name.Name.{Name}
 use Rattle.ilsource.specs.declared.symbol.Symbol.{Symbol}
-use Rattle.ilsource.specs.declared.symbol.Symbol.TheVariants.{Variable, Port, Block}
+use Rattle.ilsource.specs.declared.symbol.Symbol.TheVariants.{Variable, Port, Block, Function}
 use Rattle.ildeclared.specs.Faults.{SomeLater, SomeOf}
 use Rattle.ildeclared.specs.declared.block.DeclaredBlock.{DeclaredBlock}
 use Rattle.ildeclared.specs.declared.global.DeclaredGlobal.{DeclaredGlobal}
 use Rattle.ildeclared.specs.declared.variable.DeclaredVariable.{DeclaredVariable}
 use Rattle.ildeclared.proofs.FoundOrder.{or_else}
 use Rattle.ilscope.specs.Configured.{globals_of}
+use Rattle.ilscope.specs.Declarations.{DeclaredFunction, declared_functions}
 use Rattle.ilscope.specs.Tables.{lowered}
 use Rattle.ilplan.specs.declared.instance.FunctionBlock.{FunctionBlock}
 use Rattle.ilplan.specs.declared.place.Place.{Place}
@@ -201,7 +202,8 @@ module _ (tree : Tree) (is : List NamedProgram) where
       by rest false s = rest s
 
   module _ (apart : AreApart text is) (unambiguous : AllByRecursion (λ i. IsUnambiguous text i.program) is)
-      (globals : ¬ SomeLater (λ g h. SameName text g.name h.name) (globals_of tree)) where
+      (globals : ¬ SomeLater (λ g h. SameName text g.name h.name) (globals_of tree))
+      (functions : ¬ SomeLater (λ f g. SameName text f.function.name g.function.name) (declared_functions tree)) where
     slots_once : ¬ SomeLater (AreOneSlot text) (slots_of tree is)
     slots_once s =
         or_else
@@ -293,11 +295,23 @@ module _ (tree : Tree) (is : List NamedProgram) where
                 y.2.1),
           )
 
+      functions_at : (name : Name) (k l : ℕ)
+          → IsSomeAnd (slice_get (declared_functions tree) k) (λ f. SameName text name f.function.name)
+          → IsSomeAnd (slice_get (declared_functions tree) l) (λ f. SameName text name f.function.name) → k ≡ l
+      functions_at name k l a b =
+          let has_name : DeclaredFunction → Type 0 = λ f. SameName text name f.function.name in
+          let x = found has_name (slice_get (declared_functions tree) k) a in
+          let y = found has_name (slice_get (declared_functions tree) l) b in
+          one_number (λ (f g : DeclaredFunction). SameName text f.function.name g.function.name) (λ f g e. sym e)
+          (declared_functions tree) functions k l x.0 y.0 x.1 y.1 (sym x.2 ∙ y.2)
+
       pub one_place : (s : Symbol) (p q : Place) → IsPlaceOf tree is i s p → IsPlaceOf tree is i s q → p ≡ q
       one_place (Variable name) (places.Slot k) (places.Slot l) a b = ap places.Slot (one_slot name k l a b)
       one_place (Port block port) (places.Port k m) (places.Port l n) a b =
           let same = ports_at block port k l m n a b in λ z. places.Port (same.0 z) (same.1 z)
       one_place (Block name) (places.Block k) (places.Block l) a b = ap places.Block (blocks_at name k l a b)
+      one_place (Function name) (places.Function k) (places.Function l) a b =
+          ap places.Function (functions_at name k l a.1 b.1)
       one_place (Variable name) (places.Port k m) q a b = absurd a
       one_place (Variable name) (places.Block k) q a b = absurd a
       one_place (Variable name) (places.Slot k) (places.Port l n) a b = absurd b
@@ -310,3 +324,15 @@ module _ (tree : Tree) (is : List NamedProgram) where
       one_place (Block name) (places.Port k m) q a b = absurd a
       one_place (Block name) (places.Block k) (places.Slot l) a b = absurd b
       one_place (Block name) (places.Block k) (places.Port l n) a b = absurd b
+      one_place (Variable name) (places.Function k) q a b = absurd a
+      one_place (Variable name) (places.Slot k) (places.Function l) a b = absurd b
+      one_place (Port block port) (places.Function k) q a b = absurd a
+      one_place (Port block port) (places.Port k m) (places.Function l) a b = absurd b
+      one_place (Block name) (places.Function k) q a b = absurd a
+      one_place (Block name) (places.Block k) (places.Function l) a b = absurd b
+      one_place (Function name) (places.Slot k) q a b = absurd a
+      one_place (Function name) (places.Port k m) q a b = absurd a
+      one_place (Function name) (places.Block k) q a b = absurd a
+      one_place (Function name) (places.Function k) (places.Slot l) a b = absurd b
+      one_place (Function name) (places.Function k) (places.Port l n) a b = absurd b
+      one_place (Function name) (places.Function k) (places.Block l) a b = absurd b

@@ -23,16 +23,20 @@ use Rattle.ildeclared.specs.Faults.{IsOtherArea}
 use Rattle.ildeclared.specs.declared.fault.NameCause.TheVariants.{Unknown, BadAddress}
 use Rattle.ildeclared.specs.declared.global.DeclaredGlobal.{DeclaredGlobal}
 use Rattle.ilscope.specs.Configured.{global_named, global_number, globals_of, task_declarations}
+use Rattle.ilscope.specs.Declarations.{declared_functions}
 use Rattle.ilscope.specs.Faults.{IsNoTriggerOf, IsTrigger, IsUnknownName, IsUnknownTriggerOf}
 use Rattle.ilscope.proofs.Sound.{IsSoundAt, IsSoundGlobal}
 use Rattle.ilscope.proofs.Typed.{declared_typed_globals, IsTypedGlobal}
 use Rattle.ilplan.specs.declared.activation.Activation.TheVariants.{Cyclic, Event}
-use Rattle.ilplan.specs.Plans.{HasTrigger, IsLawful, IsTaskOf, IsTrigger as IsPlannedTrigger}
+use Rattle.ilplan.specs.Plans.{AreFunctions, HasTrigger, IsLawful, IsTaskOf, IsTrigger as IsPlannedTrigger}
+use Rattle.ilplan.specs.Plans.{KeepsLimits}
 use Rattle.iluses.proofs.Lists.{at_some}
 use Rattle.ilsyms.specs.Faults.{IsWellNamed}
-use Rattle.ilsyms.specs.Resolved.{location, plan_of_tree, planned_global, planned_task}
+use Rattle.ilsyms.specs.Resolved.{location, plan_of_tree, planned_function, planned_functions, planned_global}
+use Rattle.ilsyms.specs.Resolved.{planned_task}
 use Rattle.ilsyms.specs.Tasks.{SourceTask, activation_of, tasks_of}
 use Rattle.ilsyms.proofs.Lists.{first_there}
+use Rattle.ilsyms.proofs.PlanFunctions.{few_functions, shallow_calls}
 use Rattle.ilsyms.proofs.PlanLimits.{few_tasks}
 use Rattle.ilsyms.proofs.GlobalLocations.{all_apart, all_located, all_sound, truth}
 use Rattle.ilsyms.proofs.SlotOrder.{all_declared}
@@ -147,10 +151,12 @@ initials_typed : (gs : List DeclaredGlobal) → All IsTypedGlobal gs
 initials_typed [] h = tt
 initials_typed (g ∷ gs) h = (h 0 g (omega arith), initials_typed gs (λ k d below. h (suc k) d (omega arith)))
 
--- the plan of a text without fault is lawful
+-- the plan of a text without fault is lawful, where its tasks keep their limits and its functions are lawful
 pub lawful : (tree : Tree) (wiring : Wiring) → length tree.text ≤ most_bytes → IsWithinLimits wiring
-    → IsWellNamed tree wiring → IsLawful (plan_of_tree tree wiring)
-lawful tree wiring short limits named =
+    → IsWellNamed tree wiring
+    → AllByRecursion (KeepsLimits (planned_functions tree)) (map (planned_task tree) (tasks_of tree))
+    → AreFunctions [] (planned_functions tree) → IsLawful (plan_of_tree tree wiring)
+lawful tree wiring short limits named keep functions =
     record {
       text = short;
       wiring = limits;
@@ -158,5 +164,11 @@ lawful tree wiring short limits named =
       located = all_located tree wiring named;
       apart = all_apart tree wiring named;
       initials = initials_typed (globals_of tree) (declared_typed_globals tree);
+      most_functions =
+          let few = few_functions tree wiring named in
+          omega (arith, few, length-map (declared_functions tree) (planned_function tree));
+      functions = functions;
+      depths = shallow_calls tree wiring named;
+      limits = keep;
       tasks = each_task tree wiring named (tasks_of tree) (one_task tree wiring named);
     }

@@ -93,23 +93,21 @@ of_task tree given number instances are at =
     ∙ slice_get-map (map (instance_at tree)) given number
     ∙ ap (option_map (map (instance_at tree))) at
 
--- one task more
-pub tasks_more : (tree : Tree) (number : ℕ) (planned : List PlannedTask) (task : PlannedTask)
-    → planned ≡ map (planned_task tree) (take number (tasks_of tree))
-    → option_map (planned_task tree) (slice_get (tasks_of tree) number) ≡ Some task
-    → planned ++ task ∷ [] ≡ map (planned_task tree) (take (number + 1) (tasks_of tree))
-tasks_more tree number planned task so_far e = by (slice_get (tasks_of tree) number) refl e
+-- what is planned of the first so many, and of one more
+pub one_planned : {X Y : Type 0} (plan : X → Y) (xs : List X) (number : ℕ) (planned : List Y) (one : Y)
+    → planned ≡ map plan (take number xs) → option_map plan (slice_get xs number) ≡ Some one
+    → planned ++ one ∷ [] ≡ map plan (take (number + 1) xs)
+one_planned {X} plan xs number planned one so_far e = by (slice_get xs number) refl e
   where
-    by : (o : Option SourceTask) → slice_get (tasks_of tree) number ≡ o → option_map (planned_task tree) o ≡ Some task
-        → planned ++ task ∷ [] ≡ map (planned_task tree) (take (number + 1) (tasks_of tree))
+    by : (o : Option X) → slice_get xs number ≡ o → option_map plan o ≡ Some one
+        → planned ++ one ∷ [] ≡ map plan (take (number + 1) xs)
     by None at e = absurd cc
-    by (Some t) at e =
-        let same : planned_task tree t ≡ task = cc in
-        let below = below_end (tasks_of tree) number t at in
+    by (Some x) at e =
+        let same : plan x ≡ one = cc in
+        let below = below_end xs number x at in
         (λ j. so_far j ++ sym same j ∷ [])
-        ∙ sym (map-append (planned_task tree) (take number (tasks_of tree)) (t ∷ []))
-        ∙ ap (map (planned_task tree))
-        (sym (take_more (tasks_of tree) number t below (sym (get_or_from_slice_get (tasks_of tree) number t t at))))
+        ∙ sym (map-append plan (take number xs) (x ∷ []))
+        ∙ ap (map plan) (sym (take_more xs number x below (sym (get_or_from_slice_get xs number x x at))))
 
 pub as_many_tasks : (tree : Tree) (given : List (List TaskInstance)) → AreInstancesOfTasks tree given
     → length given ≡ length (tasks_of tree)

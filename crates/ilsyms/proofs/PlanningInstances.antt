@@ -71,7 +71,7 @@ abbrev pub renamed : Numbering → List (Line Symbol Name) → List (Line Place 
 renamed n lines = map (rename_line (numbers n) (label_of n)) lines
 
 -- the instance, where its lines have these places
-instance_is : (tree : Tree) (front back : List NamedProgram) (p : NamedProgram) (labels : Kept ℕ)
+pub instance_is : (tree : Tree) (front back : List NamedProgram) (p : NamedProgram) (labels : Kept ℕ)
     (lines : List (Line Place ℕ)) → AreApart tree.text (front ++ p ∷ back)
     → AreNumbered tree.text p.program.program.lines labels
     → lines ≡ renamed (numbering tree front back p labels) p.program.program.lines

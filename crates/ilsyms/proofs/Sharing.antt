@@ -1,6 +1,6 @@
 -- Two names in the lines of a task have one place exactly where they mean one thing.
 use Rattle.std.proofs.Common.{◌≡◌, ℕ, zero, suc, List, [], ◌∷◌, refl, sym, ap, ◌∙◌, subst, inl, inr, ◌⊎◌}
-use Rattle.std.specs.Prelude.{Option, Some, None, IsSomeAnd, slice_get}
+use Rattle.std.specs.Prelude.{⊤, Option, Some, None, IsSomeAnd, slice_get}
 use Rattle.std.specs.List.{enumerate_from}
 use Rattle.std.proofs.lemmas.Bool.{both_ways}
 use Rattle.ilblocks.specs.Ports.{ports_of, spelling}
@@ -9,12 +9,13 @@ use Rattle.ilsource.specs.Names.{SameName, folded}
 use Rattle.ilsource.specs.SourceTrees.{Tree}
 use Rattle.ilsource.specs.declared.name.Name.{Name}
 use Rattle.ilsource.specs.declared.symbol.Symbol.{Symbol}
-use Rattle.ilsource.specs.declared.symbol.Symbol.TheVariants.{Variable, Port, Block}
+use Rattle.ilsource.specs.declared.symbol.Symbol.TheVariants.{Variable, Port, Block, Function}
 use Rattle.ildeclared.specs.declared.block.DeclaredBlock.{DeclaredBlock}
 use Rattle.ildeclared.specs.declared.external.DeclaredExternal.{DeclaredExternal}
 use Rattle.ildeclared.specs.declared.global.DeclaredGlobal.{DeclaredGlobal}
 use Rattle.ildeclared.specs.declared.variable.DeclaredVariable.{DeclaredVariable}
 use Rattle.ilscope.specs.Configured.{globals_of}
+use Rattle.ilscope.specs.Declarations.{DeclaredFunction, declared_functions}
 use Rattle.ilscope.specs.Tables.{lowered}
 use Rattle.ilplan.specs.declared.instance.FunctionBlock.{FunctionBlock}
 use Rattle.ilplan.specs.declared.place.Place.{Place}
@@ -35,6 +36,11 @@ use Rattle.ilsyms.proofs.Names.{AreUnlike}
 there_as : {X : Type 0} (P Q : X → Type 0) → ((x : X) → P x → Q x) → (o : Option X) → IsSomeAnd o P → IsSomeAnd o Q
 there_as P Q f None h = h
 there_as P Q f (Some x) h = f x h
+
+-- a name of what stands in a store
+abbrev pub IsStored : Symbol → Type 0
+IsStored (Function name) = ⊥
+IsStored symbol = ⊤
 
 -- ---- instances with names of their own
 
@@ -131,30 +137,37 @@ module _ (tree : Tree) (is : List NamedProgram) where
         (some_as (IsBlockAs one.instance x name) (IsBlockAs one.instance x its) (λ b p. (sym same.0 ∙ p.0, p.1))
         one.instance.program.blocks h)
 
-    pub moved : AreUnlike text one.instance.program → (s r : Symbol) → MeanOne text one other s r → (p : Place)
-        → IsPlaceOf tree is one.instance s p → IsPlaceOf tree is other.instance r p
-    moved unlike (Variable name) (Variable its) same (places.Slot k) a =
+    pub moved : AreUnlike text one.instance.program → (s r : Symbol) → IsStored s → MeanOne text one other s r
+        → (p : Place) → IsPlaceOf tree is one.instance s p → IsPlaceOf tree is other.instance r p
+    moved unlike (Variable name) (Variable its) stored same (places.Slot k) a =
         there_as (MeansVariable tree one.instance name) (MeansVariable tree other.instance its)
         (λ x h. variable_moved unlike name its same x h) (slice_get slots k) a
-    moved unlike (Port block port) (Port its_block its) same (places.Port k m) a =
+    moved unlike (Port block port) (Port its_block its) stored same (places.Port k m) a =
         there_as (λ (x : FunctionBlock). MeansBlock text one.instance block x × MeansPort text port m x)
         (λ x. MeansBlock text other.instance its_block x × MeansPort text its m x)
         (λ x h. (block_moved block its_block same.0 x h.0, port_renamed port its m x same.1 h.1)) (slice_get blocks k) a
-    moved unlike (Block name) (Block its) same (places.Block k) a =
+    moved unlike (Block name) (Block its) stored same (places.Block k) a =
         there_as (MeansBlock text one.instance name) (MeansBlock text other.instance its)
         (λ x h. block_moved name its same x h) (slice_get blocks k) a
-    moved unlike (Variable name) (Variable its) same (places.Port k m) a = absurd a
-    moved unlike (Variable name) (Variable its) same (places.Block k) a = absurd a
-    moved unlike (Port block port) (Port its_block its) same (places.Slot k) a = absurd a
-    moved unlike (Port block port) (Port its_block its) same (places.Block k) a = absurd a
-    moved unlike (Block name) (Block its) same (places.Slot k) a = absurd a
-    moved unlike (Block name) (Block its) same (places.Port k m) a = absurd a
-    moved unlike (Variable name) (Port block port) same p a = absurd same
-    moved unlike (Variable name) (Block its) same p a = absurd same
-    moved unlike (Port block port) (Variable its) same p a = absurd same
-    moved unlike (Port block port) (Block its) same p a = absurd same
-    moved unlike (Block name) (Variable its) same p a = absurd same
-    moved unlike (Block name) (Port block port) same p a = absurd same
+    moved unlike (Variable name) (Variable its) stored same (places.Port k m) a = absurd a
+    moved unlike (Variable name) (Variable its) stored same (places.Block k) a = absurd a
+    moved unlike (Port block port) (Port its_block its) stored same (places.Slot k) a = absurd a
+    moved unlike (Port block port) (Port its_block its) stored same (places.Block k) a = absurd a
+    moved unlike (Block name) (Block its) stored same (places.Slot k) a = absurd a
+    moved unlike (Block name) (Block its) stored same (places.Port k m) a = absurd a
+    moved unlike (Variable name) (Port block port) stored same p a = absurd same
+    moved unlike (Variable name) (Block its) stored same p a = absurd same
+    moved unlike (Port block port) (Variable its) stored same p a = absurd same
+    moved unlike (Port block port) (Block its) stored same p a = absurd same
+    moved unlike (Block name) (Variable its) stored same p a = absurd same
+    moved unlike (Block name) (Port block port) stored same p a = absurd same
+    moved unlike (Variable name) (Variable its) stored same (places.Function k) a = absurd a
+    moved unlike (Port block port) (Port its_block its) stored same (places.Function k) a = absurd a
+    moved unlike (Block name) (Block its) stored same (places.Function k) a = absurd a
+    moved unlike (Variable name) (Function its) stored same p a = absurd same
+    moved unlike (Port block port) (Function its) stored same p a = absurd same
+    moved unlike (Block name) (Function its) stored same p a = absurd same
+    moved unlike (Function name) r stored same p a = absurd stored
 
   -- ---- what stands at one place is one thing
 
@@ -236,12 +249,20 @@ module _ (tree : Tree) (is : List NamedProgram) where
     ports_at block port its_block its number (Some x) a b =
         (one_block block its_block x a.0 b.0, one_port port its number x a.1 b.1)
 
+    functions_at : (name its : Name) (o : Option DeclaredFunction)
+        → IsSomeAnd o (λ f. SameName text name f.function.name) → IsSomeAnd o (λ f. SameName text its f.function.name)
+        → SameName text name its
+    functions_at name its None a b = absurd a
+    functions_at name its (Some f) a b = a ∙ sym b
+
     pub one_thing : (s r : Symbol) (p : Place) → IsPlaceOf tree is i s p → IsPlaceOf tree is j r p
         → MeanOne text one other s r
     one_thing (Variable name) (Variable its) (places.Slot k) a b = variables_at name its (slice_get slots k) a b
     one_thing (Port block port) (Port its_block its) (places.Port k number) a b =
         ports_at block port its_block its number (slice_get blocks k) a b
     one_thing (Block name) (Block its) (places.Block k) a b = blocks_at name its (slice_get blocks k) a b
+    one_thing (Function name) (Function its) (places.Function k) a b =
+        functions_at name its (slice_get (declared_functions tree) k) a.1 b.1
     one_thing (Variable name) (Port block port) (places.Slot k) a b = absurd b
     one_thing (Variable name) (Block its) (places.Slot k) a b = absurd b
     one_thing (Variable name) r (places.Port k number) a b = absurd a
@@ -254,3 +275,15 @@ module _ (tree : Tree) (is : List NamedProgram) where
     one_thing (Block name) (Port block port) (places.Block k) a b = absurd b
     one_thing (Block name) r (places.Slot k) a b = absurd a
     one_thing (Block name) r (places.Port k number) a b = absurd a
+    one_thing (Variable name) (Function its) (places.Slot k) a b = absurd b
+    one_thing (Variable name) r (places.Function k) a b = absurd a
+    one_thing (Port block port) (Function its) (places.Port k number) a b = absurd b
+    one_thing (Port block port) r (places.Function k) a b = absurd a
+    one_thing (Block name) (Function its) (places.Block k) a b = absurd b
+    one_thing (Block name) r (places.Function k) a b = absurd a
+    one_thing (Function name) (Variable its) (places.Function k) a b = absurd b
+    one_thing (Function name) (Port block port) (places.Function k) a b = absurd b
+    one_thing (Function name) (Block its) (places.Function k) a b = absurd b
+    one_thing (Function name) r (places.Slot k) a b = absurd a
+    one_thing (Function name) r (places.Port k number) a b = absurd a
+    one_thing (Function name) r (places.Block k) a b = absurd a

@@ -15,13 +15,14 @@ use Rattle.ilblocks.specs.Ports.{is_named as has_name, most_ports, port_named, p
 use Rattle.ilsource.specs.Names.{SameName, folded, text_of}
 use Rattle.ilsource.specs.SourceTrees.{Tree}
 use Rattle.ilsource.specs.declared.name.Name.{Name}
-use Rattle.ilsource.specs.declared.symbol.Symbol.TheVariants.{Variable, Port, Block}
+use Rattle.ilsource.specs.declared.symbol.Symbol.TheVariants.{Variable, Port, Block, Function}
 use Rattle.ildeclared.specs.Faults.{SomeOf}
 use Rattle.ildeclared.specs.declared.block.DeclaredBlock.{DeclaredBlock}
 use Rattle.ildeclared.specs.declared.external.DeclaredExternal.{DeclaredExternal}
 use Rattle.ildeclared.specs.declared.global.DeclaredGlobal.{DeclaredGlobal}
 use Rattle.ildeclared.specs.declared.variable.DeclaredVariable.{DeclaredVariable}
 use Rattle.ilscope.specs.Configured.{global_number, globals_of}
+use Rattle.ilscope.specs.Declarations.{DeclaredFunction, declared_functions}
 use Rattle.ilscope.specs.Faults.{IsUnknownName}
 use Rattle.ilscope.specs.Tables.{first_at, lowered}
 use Rattle.ilplan.specs.declared.instance.FunctionBlock.{FunctionBlock}
@@ -31,11 +32,12 @@ use Rattle.iluses.specs.SameNames.{same_name}
 use Rattle.iluses.proofs.Lists.{at_some, some_at}
 use Rattle.iluses.proofs.SameNames.{alike, same_as}
 use Rattle.ilsyms.specs.Meaning.{block_in_store, is_block_under, is_global, is_own, place_in_store, port_in_store}
-use Rattle.ilsyms.specs.Meaning.{place_of, port_of_block}
+use Rattle.ilsyms.specs.Meaning.{function_in_text, place_of, port_of_block}
 use Rattle.ilsyms.specs.PlanningSteps.{AreApart, AreOthers}
 use Rattle.ilsyms.specs.Tasks.{NamedProgram}
 use Rattle.ilsyms.specs.Variables.{blocks_of, function_block, global_slot, global_slots, is_among, is_named, named_slot}
 use Rattle.ilsyms.specs.Variables.{own_slot, own_slots, slots_of}
+use Rattle.ilsyms.proofs.FunctionNames.{IsKnownFunction, function_there}
 use Rattle.ilsyms.proofs.Lists.{either}
 use Rattle.ilsyms.proofs.NumberingInstances.{block_of, blocks_in as declared_blocks, other_blocks, own_block, own_is}
 use Rattle.ilsyms.proofs.NumberingPlaces.{NonePass, found_among}
@@ -317,3 +319,14 @@ module _ (tree : Tree) (is : List NamedProgram) (apart : AreApart tree.text is) 
           let its = block_at block number first in
           named number its (port_named its.block.kind (text_of text port)) refl
           (λ none. known (ap (number_in port) its.declared ∙ none))
+
+  -- ---- functions
+
+  pub function_stands : (name : Name) → IsKnownFunction tree i.program name
+      → IsPlaceOf tree is i (Function name) (place_of tree slots blocks i (Function name))
+  function_stands name known =
+      let its = function_there tree i.program name known in (
+        its.above,
+        there_is (λ (f : DeclaredFunction). SameName text name f.function.name)
+            (slice_get (declared_functions tree) (function_in_text tree name)) its.function its.there its.named,
+      )

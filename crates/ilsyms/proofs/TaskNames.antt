@@ -6,8 +6,7 @@ use Rattle.ilsource.specs.Names.{folded}
 use Rattle.ilsource.specs.declared.configuration.InstanceDeclaration.{InstanceDeclaration}
 use Rattle.ilsource.specs.declared.name.Name.{Name}
 use Rattle.ilsource.specs.declared.source.Element.{Element}
-use Rattle.ilsource.specs.declared.source.Element.TheVariants.{DerivedType, Program}
-use Rattle.ilsource.specs.declared.declaration.TypeDeclaration.{TypeDeclaration}
+use Rattle.ilsource.specs.declared.source.Element.TheVariants.{DerivedType, Function, Program}
 use Rattle.ilsource.specs.SourceTrees.{Tree}
 use Rattle.ildeclared.specs.Faults.{SomeOf}
 use Rattle.ilscope.specs.Configured.{program_number}
@@ -29,25 +28,29 @@ module _ (text : List ℕ) where
 
   -- ---- of programs, one instance each
 
-  abbrev of_programs : List TypeDeclaration → List Element → List NamedProgram
+  abbrev of_programs : List Element → List Element → List NamedProgram
   of_programs above es =
       map (λ p. instance_named p.program.name p) (filter_map (declared_program (folded text)) (standing above es))
 
-  others : (n : Name) (es : List Element) (above : List TypeDeclaration)
+  others : (n : Name) (es above : List Element)
       → ((place : ℕ) → ¬ SomeOf (IsAgain n place) (map name_of es)) → AreOthers text n (of_programs above es)
   others n [] above h = tt
-  others n (DerivedType type ∷ es) above h = others n es (type ∷ above) (λ place s. h place (inr s))
+  others n (DerivedType type ∷ es) above h = others n es (DerivedType type ∷ above) (λ place s. h place (inr s))
+  others n (Function function ∷ es) above h = others n es (Function function ∷ above) (λ place s. h place (inr s))
   others n (Program program ∷ es) above h = (
     not_same n program.name (λ e. h program.name.from (inl (e, refl))),
-    others n es above (λ place s. h place (inr s)),
+    others n es (Program program ∷ above) (λ place s. h place (inr s)),
   )
 
-  apart : (es : List Element) (above : List TypeDeclaration)
+  apart : (es above : List Element)
       → ((place : ℕ) → ¬ IsTwiceIn (folded text) (map name_of es) place) → AreApart text (of_programs above es)
   apart [] above h = tt
-  apart (DerivedType type ∷ es) above h = apart es (type ∷ above) (λ place s. h place (inr s))
-  apart (Program program ∷ es) above h =
-      (others program.name es above (λ place s. h place (inl s)), apart es above (λ place s. h place (inr s)))
+  apart (DerivedType type ∷ es) above h = apart es (DerivedType type ∷ above) (λ place s. h place (inr s))
+  apart (Function function ∷ es) above h = apart es (Function function ∷ above) (λ place s. h place (inr s))
+  apart (Program program ∷ es) above h = (
+    others program.name es (Program program ∷ above) (λ place s. h place (inl s)),
+    apart es (Program program ∷ above) (λ place s. h place (inr s)),
+  )
 
   -- before and after an instance stand instances with other names
   before : (n : Name) (front back : List NamedProgram) (i : NamedProgram) → AreOthers text n (front ++ i ∷ back)

@@ -2,7 +2,6 @@
 use Rattle.std.specs.Prelude.{◌≡◌, ◌↔◌, ℕ, List, Bool, true, Option, Some, slice_get}
 use Rattle.iltypes.specs.declared.value.Value.{Value}
 use Rattle.ilsource.specs.declared.uses.Use.{Use}
-use Rattle.ilsource.specs.declared.symbol.Symbol.{Symbol}
 use Rattle.ilplan.specs.Constants.{constants_used, each_once}
 use Rattle.ilsource.specs.SourceTrees.{Tree}
 use Rattle.ildeclared.specs.Faults.{SomeOf}
@@ -11,7 +10,7 @@ use Rattle.ilsyms.specs.Faults.{MakesTooManyConstants}
 use Rattle.ilsyms.specs.Tasks.{NamedProgram}
 
 -- the different constants of the uses, and the place of the one that makes them too many, if there is one
-pub record AreCounted (uses : List (Use Symbol)) (constants : List Value) (excess : Option ℕ) : Type 0 where
+pub record AreCounted {N : Type 0} (uses : List (Use N)) (constants : List Value) (excess : Option ℕ) : Type 0 where
   pub different : constants ≡ each_once (constants_used uses)
   pub too_many : (place : ℕ) → (excess ≡ Some place) ↔ MakesTooManyConstants uses place
 

@@ -1,5 +1,6 @@
 pub mod CountingSteps
 pub mod Faults
+pub mod FunctionSteps
 pub mod Meaning
 pub mod NumberingSteps
 pub mod Placed

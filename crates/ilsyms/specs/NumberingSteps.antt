@@ -1,6 +1,7 @@
 -- How the names of an instance get numbers: its variables one after another, after the global variables and those of
 -- the instances before, and its block instances likewise. And how its labels get the numbers of lines.
-use Rattle.std.specs.Prelude.{◌≡◌, ℕ, ◌+◌, ◌<◌, List, bytes_eq, get_or, length, Option, Some, unwrap_or}
+use Rattle.std.specs.Prelude.{◌≡◌, ℕ, ◌+◌, ◌^◌, ◌<◌, List, [], bytes_eq, get_or, length, Option, Some, IsSome}
+use Rattle.std.specs.Prelude.{unwrap_or}
 use Rattle.std.specs.List.{position_or_len}
 use Rattle.std.specs.Map.{lookup}
 use Rattle.std.specs.Option.{option_map_or}
@@ -12,8 +13,9 @@ use Rattle.ilsource.specs.Names.{folded}
 use Rattle.ilsource.specs.SourceTrees.{Tree}
 use Rattle.ilblocks.specs.Ports.{most_ports}
 use Rattle.ildeclared.specs.Kept.{Kept}
-use Rattle.ilscope.specs.Configured.{global_number}
-use Rattle.ilscope.specs.Declarations.{DeclaredProgram}
+use Rattle.ilscope.specs.Configured.{function_number, global_number, globals_of}
+use Rattle.ilscope.specs.Declarations.{DeclaredProgram, body_at, declared_functions}
+use Rattle.ilscope.specs.declared.body_number.BodyNumber.{BodyNumber}
 use Rattle.ilscope.specs.Tables.{block_number, variable_number}
 use Rattle.ilplan.specs.declared.slot.Slot.{Slot}
 use Rattle.ilplan.specs.declared.place.Place.{Place}
@@ -44,6 +46,20 @@ numbering_of tree program slots first_slot all_blocks first_block labels =
       labels = labels;
     }
 
+-- the program of the number, or the function of the number as one; a program without anything where there is none
+abbrev pub no_program : DeclaredProgram
+no_program =
+    record {
+      program = record { name = record { from = 0; to = 0 }; declarations = []; lines = [] };
+      variables = [];
+      blocks = [];
+      externals = [];
+      functions = 0;
+    }
+
+abbrev pub program_at : Tree → BodyNumber → DeclaredProgram
+program_at tree body = unwrap_or (body_at tree body) no_program
+
 -- the number of the slot of a global variable; past the last where there is none
 abbrev pub number_of_global : List Slot → Option ℕ → ℕ
 number_of_global slots global = position_or_len (λ s. is_global global s.variable) slots
@@ -52,6 +68,18 @@ number_of_global slots global = position_or_len (λ s. is_global global s.variab
 pub record AreGlobalSlots (slots : List Slot) (count : ℕ) (numbers : List ℕ) : Type 0 where
   pub many : length numbers ≡ count
   pub each : (global : ℕ) → global < count → get_or numbers global 0 ≡ number_of_global slots (Some global)
+
+-- the numbers by which an instance of the program, or the function, is numbered: it is there and has so many lines,
+-- each number fits its type, and of functions there are few
+pub record IsNumbering (tree : Tree) (body : BodyNumber) (slots : List Slot) (global_slots : List ℕ)
+    (first_slot blocks first_block lines : ℕ) : Type 0 where
+  pub there : IsSome (body_at tree body)
+  pub all : lines ≡ length (program_at tree body).program.lines
+  pub own_slots : first_slot + length (program_at tree body).variables < 2 ^ 64
+  pub own_blocks : first_block + length (program_at tree body).blocks < 2 ^ 16
+  pub few_blocks : blocks < 2 ^ 16
+  pub few_functions : length (declared_functions tree) < 2 ^ 8
+  pub globals : AreGlobalSlots slots (length (globals_of tree)) global_slots
 
 -- the number of the slot of what a name means: a variable of the instance, else a global variable
 abbrev pub slot_number : Numbering → Name → ℕ
@@ -70,11 +98,16 @@ number_of_block n name =
 abbrev pub number_of_port : Numbering → Name → Name → ℕ
 number_of_port n block port = option_map_or (λ found. found.1) (port_number n.tree.text n.program block port) most_ports
 
+-- the number of a function; past the last where there is none
+abbrev pub number_of_function : Numbering → Name → ℕ
+number_of_function n name = unwrap_or (function_number n.tree name) (length (declared_functions n.tree))
+
 -- the place of what a line names
 abbrev pub place_by_number : Numbering → Symbol → Place
 place_by_number n (symbols.Variable name) = places.Slot (slot_number n name)
 place_by_number n (symbols.Port block port) = places.Port (number_of_block n block) (number_of_port n block port)
 place_by_number n (symbols.Block name) = places.Block (number_of_block n name)
+place_by_number n (symbols.Function name) = places.Function (number_of_function n name)
 
 abbrev pub numbers : Numbering → NewNames Symbol Place
 numbers n = record { operand = by_name (place_by_number n); name = place_by_number n }

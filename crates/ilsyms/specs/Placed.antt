@@ -1,7 +1,8 @@
 -- Where names have their places in the store of a task (IEC 61131-3, 2.1.2, 2.4.3, 2.5.2 and 2.7.2). Each program
 -- instance has variables and block instances of its own, one for each that its program declares. A global variable is
--- there once, for all programs that name it in VAR_EXTERNAL. Letter case does not matter in names.
-use Rattle.std.specs.Prelude.{◌≡◌, ◌↔◌, ◌⊎◌, ℕ, List, slice_get, Some, IsSomeAnd}
+-- there once, for all programs that name it in VAR_EXTERNAL. A function has a store of its own, with its inputs, its
+-- result and its VAR, and is known by one number wherever it is called (2.5.1). Letter case does not matter in names.
+use Rattle.std.specs.Prelude.{◌≡◌, ◌↔◌, ◌⊎◌, ℕ, ◌<◌, List, slice_get, Some, IsSomeAnd}
 use Rattle.std.specs.List.{AllByRecursion, enumerate_from}
 use Rattle.ilsource.specs.declared.operand.Operand.TheVariants.{Name as Named}
 use Rattle.ilblocks.specs.Ports.{ports_of, spelling}
@@ -9,10 +10,10 @@ use Rattle.ilsource.specs.Names.{SameName, folded}
 use Rattle.ilsource.specs.SourceTrees.{Tree}
 use Rattle.ilsource.specs.declared.name.Name.{Name}
 use Rattle.ilsource.specs.declared.symbol.Symbol.{Symbol}
-use Rattle.ilsource.specs.declared.symbol.Symbol.TheVariants.{Variable, Port, Block}
+use Rattle.ilsource.specs.declared.symbol.Symbol.TheVariants.{Variable, Port, Block, Function}
 use Rattle.ildeclared.specs.Faults.{SomeOf}
 use Rattle.ilscope.specs.Configured.{globals_of}
-use Rattle.ilscope.specs.Declarations.{DeclaredProgram}
+use Rattle.ilscope.specs.Declarations.{DeclaredProgram, declared_functions}
 use Rattle.ilscope.specs.Tables.{lowered}
 use Rattle.iluses.specs.Uses.{uses_of}
 use Rattle.ilplan.specs.declared.instance.FunctionBlock.{FunctionBlock}
@@ -21,7 +22,7 @@ use Rattle.ilplan.specs.declared.place.Place.TheVariants as places
 use Rattle.ilplan.specs.declared.slot.Slot.{Slot}
 use Rattle.ilsyms.specs.Meaning.{place_of}
 use Rattle.ilsyms.specs.Tasks.{NamedProgram, tasks_of}
-use Rattle.ilsyms.specs.Variables.{blocks_of, function_block, global_slot, own_slot, slots_of}
+use Rattle.ilsyms.specs.Variables.{alone, blocks_of, function_block, global_slot, own_slot, slots_of}
 
 -- a name in the lines of one of these instances, the one of this number
 pub record NameInLines (instances : List NamedProgram) : Type 0 where
@@ -69,6 +70,12 @@ abbrev pub MeansPort : List ℕ → Name → ℕ → FunctionBlock → Type 0
 MeansPort text name number block =
     IsSomeAnd (slice_get (ports_of block.kind) number) (λ port. folded text name ≡ lowered (spelling port.name))
 
+-- the name means the function of this number: it is declared under the name, above the program
+abbrev pub MeansFunction : Tree → DeclaredProgram → Name → ℕ → Type 0
+MeansFunction tree p name number =
+    (number < p.functions)
+    × IsSomeAnd (slice_get (declared_functions tree) number) (λ f. SameName tree.text name f.function.name)
+
 -- at the place in the store of these instances stands what the name means in the lines of one of them
 abbrev pub IsPlaceOf : Tree → List NamedProgram → NamedProgram → Symbol → Place → Type 0
 IsPlaceOf tree instances instance (Variable name) (places.Slot number) =
@@ -79,6 +86,8 @@ IsPlaceOf tree instances instance (Port block port) (places.Port number its) =
     (λ b. MeansBlock tree.text instance block b × MeansPort tree.text port its b)
 IsPlaceOf tree instances instance (Block name) (places.Block number) =
     IsSomeAnd (slice_get (blocks_of instances) number) (MeansBlock tree.text instance name)
+IsPlaceOf tree instances instance (Function name) (places.Function number) =
+    MeansFunction tree instance.program name number
 IsPlaceOf tree instances instance _ _ = ⊥
 
 -- ---- which names mean one thing
@@ -94,12 +103,13 @@ MeanOneVariable text one other name its =
 abbrev pub MeanOneBlock : List ℕ → {is : List NamedProgram} → NameInLines is → NameInLines is → Name → Name → Type 0
 MeanOneBlock text one other name its = SameName text name its × (one.number ≡ other.number)
 
--- both mean one variable, one port of one block instance, or one block instance
+-- both mean one variable, one port of one block instance, one block instance, or one function
 abbrev pub MeanOne : List ℕ → {is : List NamedProgram} → NameInLines is → NameInLines is → Symbol → Symbol → Type 0
 MeanOne text one other (Variable name) (Variable its) = MeanOneVariable text one other name its
 MeanOne text one other (Port block port) (Port its_block its) =
     MeanOneBlock text one other block its_block × SameName text port its
 MeanOne text one other (Block name) (Block its) = MeanOneBlock text one other name its
+MeanOne text one other (Function name) (Function its) = SameName text name its
 MeanOne text one other _ _ = ⊥
 
 -- ---- the law
@@ -113,6 +123,7 @@ pub record HavePlacesIn (tree : Tree) (instances : List NamedProgram) : Type 0 w
       → (place_in tree instances one ≡ place_in tree instances other)
       ↔ MeanOne tree.text one other one.symbol other.symbol
 
--- so it is in each task
-abbrev pub HavePlaces : Tree → Type 0
-HavePlaces tree = AllByRecursion (λ task. HavePlacesIn tree task.instances) (tasks_of tree)
+-- so it is in each task, and in each function by itself
+pub record HavePlaces (tree : Tree) : Type 0 where
+  pub tasks : AllByRecursion (λ task. HavePlacesIn tree task.instances) (tasks_of tree)
+  pub functions : AllByRecursion (λ f. HavePlacesIn tree (alone f)) (declared_functions tree)

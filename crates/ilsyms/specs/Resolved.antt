@@ -1,5 +1,5 @@
--- The plan of a source program: the tasks of the text with their names replaced by places in a store, and labels by the
--- numbers of lines; its global variables, and the sources of events that are bound (profile).
+-- The plan of a source program: the functions and the tasks of the text with their names replaced by places in a store,
+-- and labels by the numbers of lines; its global variables, and the sources of events that are bound (profile).
 use Rattle.std.specs.Prelude.{ℕ, ◌-◌, List, map, option_map, nat_lt, if◌then◌else◌}
 use Rattle.std.specs.List.{position_or_len}
 use Rattle.wordlines.specs.Wirings.{Wiring}
@@ -11,8 +11,11 @@ use Rattle.iltokens.specs.declared.lexed.AddressKind.TheVariants as address_kind
 use Rattle.ilsource.specs.declared.name.Name.{Name}
 use Rattle.ilsource.specs.declared.symbol.Symbol.{Symbol}
 use Rattle.ilsource.specs.SourceTrees.{Tree}
+use Rattle.iltypes.specs.declared.value.Value.{Value}
 use Rattle.ildeclared.specs.declared.global.DeclaredGlobal.{DeclaredGlobal}
+use Rattle.ildeclared.specs.declared.variable.DeclaredVariable.{DeclaredVariable}
 use Rattle.ilscope.specs.Configured.{globals_of}
+use Rattle.ilscope.specs.Declarations.{DeclaredFunction, declared_functions}
 use Rattle.ilplan.specs.declared.global.Global.{Global}
 use Rattle.ilplan.specs.declared.global.Location.{Location}
 use Rattle.ilplan.specs.declared.global.Location.TheVariants.{Level, GearAnswer, DeviceAnswer, Information, Count}
@@ -20,12 +23,14 @@ use Rattle.ilplan.specs.declared.global.Location.TheVariants.{Trigger}
 use Rattle.ilplan.specs.declared.instance.FunctionBlock.{FunctionBlock}
 use Rattle.ilplan.specs.declared.place.Place.{Place}
 use Rattle.ilplan.specs.declared.slot.Slot.{Slot}
-use Rattle.ilplan.specs.Constants.{different_constants}
-use Rattle.ilplan.specs.Plans.{PlannedInstance, PlannedTask, Planned, task_of, plan_of}
+use Rattle.ilplan.specs.declared.function.FunctionInput.{FunctionInput}
+use Rattle.ilplan.specs.declared.function.FunctionVariable.{FunctionVariable}
+use Rattle.ilplan.specs.Functions.{PlannedFunction, function_of, those_in}
+use Rattle.ilplan.specs.Plans.{PlannedInstance, PlannedTask, Planned, constants_for, plan_of, task_of, used_by}
 use Rattle.iluses.specs.SameNames.{same_name}
 use Rattle.ilsyms.specs.Meaning.{place_of}
 use Rattle.ilsyms.specs.Tasks.{NamedProgram, SourceTask, tasks_of}
-use Rattle.ilsyms.specs.Variables.{slots_of, blocks_of, lines_of}
+use Rattle.ilsyms.specs.Variables.{alone, as_instance, slots_of, blocks_of}
 
 -- where an address of a place that is there lies
 abbrev pub location : AddressKind → ℕ → ℕ → Location
@@ -66,13 +71,40 @@ abbrev pub planned_instances : Tree → List NamedProgram → List PlannedInstan
 planned_instances tree instances =
     map (planned_instance tree (slots_of tree instances) (blocks_of instances)) instances
 
+-- ---- functions
+
+abbrev pub planned_input : DeclaredVariable → FunctionInput
+planned_input v = record { name = v.name; value_type = v.value_type }
+
+abbrev pub planned_variable : DeclaredVariable → FunctionVariable
+planned_variable v = record { name = v.name; value_type = v.value_type; initial = v.initial }
+
+-- a function, planned as the one program instance of a task
+abbrev pub planned_function : Tree → DeclaredFunction → PlannedFunction
+planned_function tree f =
+    function_of f.function.name f.function.at (map planned_input f.inputs) (map planned_variable f.variables)
+    (planned_instance tree (slots_of tree (alone f)) (blocks_of (alone f)) (as_instance f)).lines
+
+abbrev pub planned_functions : Tree → List PlannedFunction
+planned_functions tree = map (planned_function tree) (declared_functions tree)
+
+-- those that a task with these instances uses, in declared order
+abbrev pub functions_used : Tree → List NamedProgram → List PlannedFunction
+functions_used tree instances = those_in (used_by (planned_functions tree) (planned_instances tree instances))
+
+-- ---- tasks
+
+-- the constants of a task with these instances, and of the functions that it uses
+abbrev pub constants_of : Tree → List NamedProgram → List Value
+constants_of tree instances = constants_for (planned_instances tree instances) (functions_used tree instances)
+
 abbrev pub planned_task : Tree → SourceTask → PlannedTask
 planned_task tree task =
     task_of task.name task.activation task.priority (slots_of tree task.instances) (blocks_of task.instances)
-    (different_constants (lines_of task.instances)) (planned_instances tree task.instances)
+    (constants_of tree task.instances) (planned_instances tree task.instances)
 
 -- the plan of the text and the binding
 abbrev pub plan_of_tree : Tree → Wiring → Planned
 plan_of_tree tree wiring =
     plan_of tree.text wiring.buses wiring.sources wiring.tries (map planned_global (globals_of tree))
-    (map (planned_task tree) (tasks_of tree))
+    (planned_functions tree) (map (planned_task tree) (tasks_of tree))

@@ -1,8 +1,8 @@
 -- The variables and block instances of program instances, their lines and what these use (IEC 61131-3, 2.4.3, 2.5.2 and
 -- 2.7.2): first the global variables that the programs name in VAR_EXTERNAL, in declared order, then the variables of
--- each instance.
-use Rattle.std.specs.Prelude.{ℕ, List, ◌++◌, flat_map, map, filter_map, Option, Some, None, Bool, false, if◌then◌else◌}
-use Rattle.std.specs.Prelude.{◌==◌}
+-- each instance. A function is seen as such an instance (2.5.1).
+use Rattle.std.specs.Prelude.{ℕ, List, [], ◌∷◌, ◌++◌, flat_map, map, filter_map, Option, Some, None, Bool, false}
+use Rattle.std.specs.Prelude.{◌==◌, if◌then◌else◌}
 use Rattle.std.specs.Option.{option_map_or}
 use Rattle.std.specs.List.{list_any, enumerate_from}
 use Rattle.ilsource.specs.declared.instruction.Line.{Line}
@@ -18,7 +18,8 @@ use Rattle.ilscope.specs.Configured.{global_number, globals_of}
 use Rattle.ilplan.specs.declared.instance.FunctionBlock.{FunctionBlock}
 use Rattle.ilplan.specs.declared.slot.Slot.{Slot}
 use Rattle.ilplan.specs.declared.slot.SlotOwner.TheVariants as variables
-use Rattle.ilsyms.specs.Tasks.{NamedProgram}
+use Rattle.ilscope.specs.Declarations.{DeclaredFunction, as_program}
+use Rattle.ilsyms.specs.Tasks.{NamedProgram, instance_named}
 
 -- ---- variables
 
@@ -81,3 +82,13 @@ shape_of tree buses instances =
 -- the lines of instances, one instance after another
 abbrev pub lines_of : List NamedProgram → List (Line Symbol Name)
 lines_of instances = flat_map (λ i. i.program.program.lines) instances
+
+-- ---- functions
+
+-- a function as a program instance under its own name
+abbrev pub as_instance : DeclaredFunction → NamedProgram
+as_instance f = instance_named f.function.name (as_program f)
+
+-- and as all that a task has: its slots are the function's inputs, its result and its VAR, and it has no block instance
+abbrev pub alone : DeclaredFunction → List NamedProgram
+alone f = as_instance f ∷ []

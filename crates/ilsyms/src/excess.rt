@@ -1,26 +1,38 @@
-//! What exceeds a limit: of tasks and program instances, and in each task of variables, block
-//! instances, words and different constants.
+//! What exceeds a limit: of tasks, program instances and functions, and in each task of variables,
+//! block instances, words and different constants.
 
-ghost use Rattle.std.specs.Prelude.{◌≡◌, IfOk, Some, map, option_map, slice_get};
-ghost use Rattle.limits.specs.Limits.{most_blocks, most_instances, most_slots, most_tasks};
+ghost use Rattle.std.specs.Prelude.{◌≡◌, ◌+◌, ◌<◌, ◌≤◌, ◌++◌, ℕ, All, IfOk, List, Some};
+ghost use Rattle.std.specs.Prelude.{flat_map, length, map, slice_get};
+ghost use Rattle.limits.specs.Limits.{most_blocks, most_functions, most_inputs, most_instances};
+ghost use Rattle.limits.specs.Limits.{most_slots, most_tasks, most_words};
 ghost use Rattle.ildeclared.specs.Faults.{IsLeastOf, OfCause, SomeOf};
 ghost use Rattle.ildeclared.specs.declared.fault.NameCause.TheVariants.{TooMany};
 ghost use Rattle.ilscope.specs.Configured.{task_declarations};
-ghost use Rattle.ilscope.specs.Declarations.{declared_programs};
-ghost use Rattle.ilsyms.specs.Faults.{IsTooMany, IsTooManyIn, instance_names, place_of_slot};
+ghost use Rattle.ilscope.specs.Declarations.{declared_functions, declared_programs};
+ghost use Rattle.ilsyms.specs.Faults.{AreTooDeep, IsTooMany, IsTooManyIn};
+ghost use Rattle.ilsyms.specs.Faults.{IsTooManyOfFunctions};
+ghost use Rattle.ilsyms.specs.Faults.{instance_names, place_of_slot};
+ghost use Rattle.ilsyms.specs.FunctionSteps.{IsPast, are_used, marked, needs_of};
 ghost use Rattle.ilsyms.specs.TaskSteps.{AreInstancesOfTasks, AreThere, instances_of};
-ghost use Rattle.ilsyms.specs.WordSteps.{places_of_program};
+ghost use Rattle.ilsyms.specs.WordSteps.{places_at, places_of_program};
 ghost use Rattle.ilsyms.specs.Tasks.{tasks_of};
 
 use crate::blocks::blocks_of;
 use crate::counting::Counted;
+use crate::needs::{Needs, calls_of_programs, needs_of_functions};
+use crate::past::{Past, slot_past_functions, word_past_functions};
 use crate::slots::slots_of;
 use crate::tasks::{TaskInstance, TaskInstances};
+use crate::usage::{depths, used_functions};
 use crate::words::{WordPlaces, word_past, words_of_programs};
 use ilplan::{FunctionBlock, Slot, SlotOwner};
-use ilscope::{Found, NameCause, ProgramScope, Scope, lesser_of};
+use ilscope::{
+    DeclaredVariable, Found, FunctionScope, NameCause, ProgramScope, Scope, found_where, lesser_of,
+};
 use ilsource::Configuration;
-use limits::{MOST_BLOCKS, MOST_INSTANCES, MOST_SLOTS, MOST_TASKS};
+use limits::{
+    MOST_BLOCKS, MOST_CALLS, MOST_FUNCTIONS, MOST_INPUTS, MOST_INSTANCES, MOST_SLOTS, MOST_TASKS,
+};
 use std::alloc::{AllocError, Global};
 
 /// The least fault of what exceeds a limit.
@@ -33,54 +45,96 @@ pub(crate) fn too_many(
     ensures { IfOk result (λ found.
         IsLeastOf (OfCause TooMany (IsTooMany scope.now.tree)) found) }
 {
+    let needs = needs_of_functions(alloc, scope)?;
     let declared = lesser_of(exceeding(task_past(scope)), exceeding(instance_past(scope)));
-    let within = too_many_in_tasks(alloc, scope, tasks)?;
-    Ok(lesser_of(declared, within))
+    let within = too_many_in_tasks(alloc, scope, &needs, tasks)?;
+    let functions = too_many_functions(alloc, scope, &needs)?;
+    Ok(lesser_of(declared, lesser_of(within, functions)))
 }
 
-/// The least fault of what exceeds a limit of a task.
+/// The least fault of what exceeds a limit of a task. `needs` are those of each function.
 fn too_many_in_tasks(
     alloc: Global,
     scope: &Scope<'_>,
+    needs: &[Needs],
     tasks: &[TaskInstances],
 ) -> Result<Option<Found>, AllocError>
-    requires { AreInstancesOfTasks scope.now.tree tasks.now }
+    requires tasks { AreInstancesOfTasks scope.now.tree tasks.now }
+    requires needs { needs.now
+        ≡ map (needs_of scope.now.tree) (declared_functions scope.now.tree) }
     ensures { IfOk result (λ found. IsLeastOf (OfCause TooMany (λ place. SomeOf
         (λ t. IsTooManyIn scope.now.tree place t.instances) (tasks_of scope.now.tree))) found) }
 {
     let words = words_of_programs(alloc, scope)?;
+    let calls = calls_of_programs(alloc, scope)?;
     let mut least = None;
     for instances in tasks {
-        let fault = too_many_in(alloc, scope, &words, instances.as_slice())?;
+        let used = used_functions(alloc, scope, &calls, needs, instances.as_slice())?;
+        let fault = too_many_in(alloc, scope, &words, needs, instances.as_slice(), &used)?;
         least = lesser_of(least, fault);
     }
     Ok(least)
 }
 
-/// The least such fault in a task with these instances. `words` are those of each program.
+/// The least such fault in a task with these instances, which uses these functions. `words` are
+/// those of each program, and `needs` those of each function.
 fn too_many_in(
     alloc: Global,
     scope: &Scope<'_>,
     words: &[WordPlaces],
+    needs: &[Needs],
     instances: &[TaskInstance],
+    used: &[bool],
 ) -> Result<Option<Found>, AllocError>
     requires there { AreThere scope.now.tree instances.now }
     requires words { words.now ≡ map places_of_program (declared_programs scope.now.tree) }
+    requires needs { needs.now
+        ≡ map (needs_of scope.now.tree) (declared_functions scope.now.tree) }
+    requires used { used.now
+        ≡ are_used scope.now.tree (instances_of scope.now.tree instances.now) }
     ensures { IfOk result (λ found. IsLeastOf (OfCause TooMany (λ place.
         IsTooManyIn scope.now.tree place (instances_of scope.now.tree instances.now))) found) }
 {
     let slots = slots_of(alloc, scope, instances)?;
     let blocks = blocks_of(alloc, scope, instances)?;
-    let counted = Counted::of(alloc, scope, instances)?;
+    let counted = Counted::of(alloc, scope, instances, used, needs)?;
     let declared = lesser_of(
-        exceeding(slot_past(scope, &slots)),
+        exceeding(slot_past(scope, &slots, used, needs)),
         exceeding(block_past(&blocks)),
     );
     let written = lesser_of(
-        exceeding(word_past(words, instances)),
+        exceeding(all_words_past(words, instances, used, needs)),
         exceeding(counted.excess),
     );
     Ok(lesser_of(declared, written))
+}
+
+/// The place of the instruction with the word that exceeds the greatest number.
+fn all_words_past(
+    words: &[WordPlaces],
+    instances: &[TaskInstance],
+    used: &[bool],
+    needs: &[Needs],
+) -> Option<usize>
+    requires { All (λ i. i.program < length words.now) instances.now }
+    ensures { result ≡ slice_get (flat_map (λ i. places_at words.now i.program) instances.now
+        ++ flat_map (λ one. one.words) (marked used.now needs.now)) most_words }
+{
+    match word_past(words, instances) {
+        Past::At(place) => Some(place),
+        Past::Left(left) => place_past(word_past_functions(left, used, needs)),
+    }
+}
+
+/// The place of what exceeds a limit, where there is such.
+fn place_past(past: Past) -> Option<usize>
+    ensures { (places : List ℕ) (limit : ℕ) → IsPast places limit past
+        → result ≡ slice_get places limit }
+{
+    match past {
+        Past::At(place) => Some(place),
+        Past::Left(_) => None,
+    }
 }
 
 /// The place of the task that exceeds the greatest number.
@@ -122,13 +176,18 @@ fn program_past(programs: &[ProgramScope<'_>]) -> Option<usize>
     Some(program.program().name().from)
 }
 
-/// The place of the declaration of the slot that exceeds the greatest number.
-fn slot_past(scope: &Scope<'_>, slots: &[Slot]) -> Option<usize>
-    ensures { result ≡ option_map (λ s. place_of_slot scope.now.tree s.variable)
-        (slice_get slots.now most_slots) }
+/// The place of the declaration of the variable that exceeds the greatest number, of a task with
+/// these slots that uses these functions; no more slots are given than one past that number.
+fn slot_past(scope: &Scope<'_>, slots: &[Slot], used: &[bool], needs: &[Needs]) -> Option<usize>
+    requires { length slots.now ≤ most_slots + 1 }
+    ensures { result
+        ≡ slice_get (map (λ s. place_of_slot scope.now.tree s.variable) slots.now
+        ++ flat_map (λ one. one.slots) (marked used.now needs.now)) most_slots }
 {
-    let slot = slots.get(MOST_SLOTS)?;
-    Some(place_of(scope, slot.variable))
+    match slots.get(MOST_SLOTS) {
+        Some(slot) => Some(place_of(scope, slot.variable)),
+        None => place_past(slot_past_functions(MOST_SLOTS - slots.len(), used, needs)),
+    }
 }
 
 /// The place of the declaration of a variable.
@@ -150,6 +209,68 @@ fn block_past(blocks: &[FunctionBlock]) -> Option<usize>
 {
     let block = blocks.get(MOST_BLOCKS)?;
     Some(block.name.from)
+}
+
+/// The least fault of functions: of one too many, of an input too many, or of one that is too deep.
+/// `needs` are those of each function.
+fn too_many_functions(
+    alloc: Global,
+    scope: &Scope<'_>,
+    needs: &[Needs],
+) -> Result<Option<Found>, AllocError>
+    requires { needs.now ≡ map (needs_of scope.now.tree) (declared_functions scope.now.tree) }
+    ensures { IfOk result (λ found.
+        IsLeastOf (OfCause TooMany (IsTooManyOfFunctions scope.now.tree)) found) }
+{
+    let depths = depths(alloc, scope, needs)?;
+    let number = exceeding(function_past(scope.functions()));
+    let inputs = too_many_inputs(scope.functions());
+    Ok(lesser_of(
+        number,
+        lesser_of(inputs, too_deep(scope.functions(), &depths)),
+    ))
+}
+
+/// The place of the function that exceeds the greatest number.
+fn function_past(functions: &[FunctionScope<'_>]) -> Option<usize>
+    ensures { result ≡ slice_get (map (λ f. f.function.name.from) functions.now) most_functions }
+{
+    let function = functions.get(MOST_FUNCTIONS)?;
+    Some(function.function().name().from)
+}
+
+/// The least fault of an input that exceeds the greatest number of its function.
+fn too_many_inputs(functions: &[FunctionScope<'_>]) -> Option<Found>
+    ensures { IsLeastOf (OfCause TooMany (λ place. SomeOf (λ f.
+        slice_get (map (λ v. v.name.from) f.inputs) most_inputs ≡ Some place) functions.now))
+        result }
+{
+    let mut least = None;
+    for function in functions {
+        least = lesser_of(least, exceeding(input_past(function.inputs())));
+    }
+    least
+}
+
+/// The place of the input that exceeds the greatest number.
+fn input_past(inputs: &[DeclaredVariable]) -> Option<usize>
+    ensures { result ≡ slice_get (map (λ v. v.name.from) inputs.now) most_inputs }
+{
+    let input = inputs.get(MOST_INPUTS)?;
+    Some(input.name.from)
+}
+
+/// The least fault of a function that is too deep, of functions with these depths.
+fn too_deep(functions: &[FunctionScope<'_>], depths: &[usize]) -> Option<Found>
+    ensures { IsLeastOf (OfCause TooMany (AreTooDeep functions.now depths.now)) result }
+{
+    let mut least = None;
+    for (function, depth) in functions.iter().zip(depths) {
+        let place = function.function().name().from;
+        let fault = found_where(*depth > MOST_CALLS, place, NameCause::TooMany);
+        least = lesser_of(least, fault);
+    }
+    least
 }
 
 /// The fault of what exceeds a limit at this place, where there is such.

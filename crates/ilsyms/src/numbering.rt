@@ -2,20 +2,20 @@
 
 use ilblocks::MOST_PORTS;
 use ilplan::{Place, Slot};
-use ilscope::{Names, ProgramScope, Scope};
+use ilscope::{BodyNumber, Names, Scope};
 use ilsource::{
-    Action, Argument, Arguments, Instruction, Line, Name, Nested, Operand, Piece, Symbol,
+    Action, Argument, Arguments, Instruction, Line, Name, Nested, Operand, Operands, Piece, Symbol,
 };
 use iluses::port_of;
 use std::alloc::{AllocError, Global};
 use std::marker::Model;
 
-/// The places of what an instance's lines name, and the numbers of the lines with its labels.
+/// The places of what an instance's lines name, or a function's, and the numbers of the lines with
+/// its labels.
 #[derive(Drop)]
 pub(crate) struct Numbering<'a, 's, 't> {
     scope: &'a Scope<'s>,
-    number: usize,
-    program: &'a ProgramScope<'s>,
+    body: BodyNumber,
     slots: &'t [Slot],
     /// For each global variable the number of its slot.
     global_slots: &'t [usize],
@@ -24,10 +24,11 @@ pub(crate) struct Numbering<'a, 's, 't> {
     first_block: usize,
     /// Under each label the number of the first line that has it.
     labels: Names<usize>,
+    /// How many lines there are.
+    lines: usize,
 }
 
 impl<'a, 's, 't> Model for Numbering<'a, 's, 't> {
-    ghost use Rattle.std.specs.Prelude.{◌≡◌, ◌+◌, ◌^◌, ◌<◌, length, slice_get, Some};
     ghost use Rattle.std.specs.Prelude.{List};
     ghost use Rattle.std.specs.Coded.{codes, code_by};
     ghost use Rattle.ilsource.specs.declared.nested.Piece.{Piece};
@@ -35,9 +36,7 @@ impl<'a, 's, 't> Model for Numbering<'a, 's, 't> {
     ghost use Rattle.ilsource.specs.TreeSteps.{tree_of, tree_again};
     ghost use Rattle.ilsource.specs.contracts.source.Element as element;
     ghost use Rattle.ilsource.specs.declared.symbol.Symbol.{Symbol};
-    ghost use Rattle.ilscope.specs.Configured.{globals_of};
-    ghost use Rattle.ilscope.specs.Declarations.{declared_programs};
-    ghost use Rattle.ilsyms.specs.NumberingSteps.{AreGlobalSlots, Numbering};
+    ghost use Rattle.ilsyms.specs.NumberingSteps.{IsNumbering, Numbering, program_at};
 
     ghost Value = { Numbering };
 
@@ -49,7 +48,7 @@ impl<'a, 's, 't> Model for Numbering<'a, 's, 't> {
 
     ghost view = { λ n. record {
       tree = n.scope.now.tree;
-      program = n.program.now;
+      program = program_at n.scope.now.tree n.body;
       slots = n.slots.now;
       first_slot = n.first_slot;
       first_block = n.first_block;
@@ -57,73 +56,60 @@ impl<'a, 's, 't> Model for Numbering<'a, 's, 't> {
       labels = n.labels;
     } };
 
-    ghost invariant = { λ n.
-        (slice_get (declared_programs n.scope.now.tree) n.number ≡ Some n.program.now)
-        × (n.first_slot + length n.program.now.variables < 2 ^ 16)
-        × (n.first_block + length n.program.now.blocks < 2 ^ 16)
-        × (length n.slots.now < 2 ^ 16) × (n.blocks < 2 ^ 16)
-        × AreGlobalSlots n.slots.now (length (globals_of n.scope.now.tree))
-        n.global_slots.now };
+    ghost invariant = { λ n. IsNumbering n.scope.now.tree n.body n.slots.now n.global_slots.now
+        n.first_slot n.blocks n.first_block n.lines };
 }
 
 impl<'a, 's, 't> Numbering<'a, 's, 't> {
-    ghost use Rattle.std.specs.Prelude.{◌≡◌, ◌+◌, ◌<◌, ◌^◌, IfOk, length, map, option_map};
-    ghost use Rattle.std.specs.Prelude.{slice_get, Some};
+    ghost use Rattle.std.specs.Prelude.{◌≡◌, IfOk, map, option_map};
     ghost use Rattle.ilsource.specs.Renaming.{rename_action, rename_tree, rename, rename_line};
     ghost use Rattle.ilsource.specs.Renaming.{rename_argument};
-    ghost use Rattle.ilscope.specs.Configured.{global_number, globals_of};
-    ghost use Rattle.ilscope.specs.Declarations.{declared_programs};
-    ghost use Rattle.ilsyms.specs.NumberingSteps.{AreGlobalSlots, Numbering, label_of, numbers};
-    ghost use Rattle.ilsyms.specs.NumberingSteps.{number_of_block, number_of_global};
-    ghost use Rattle.ilsyms.specs.NumberingSteps.{number_of_port, numbering_of, place_by_number};
-    ghost use Rattle.ilsyms.specs.NumberingSteps.{slot_number};
+    ghost use Rattle.ilscope.specs.Configured.{global_number};
+    ghost use Rattle.ilsyms.specs.NumberingSteps.{IsNumbering, label_of, number_of_block};
+    ghost use Rattle.ilsyms.specs.NumberingSteps.{number_of_function, number_of_global};
+    ghost use Rattle.ilsyms.specs.NumberingSteps.{number_of_port, numbering_of, numbers};
+    ghost use Rattle.ilsyms.specs.NumberingSteps.{place_by_number, program_at, slot_number};
 
-    /// The numbering of an instance of the program with this number. `slots` are its task's,
-    /// `global_slots` their numbers by global variable, and `blocks` the number of its task's block
-    /// instances.
+    /// The numbering of an instance of the program with this number, or of the function, which has
+    /// so many lines. `slots` are its task's or its own, `global_slots` their numbers by global
+    /// variable, and `blocks` the number of its task's block instances.
     pub(crate) fn new(
         scope: &'a Scope<'s>,
-        number: usize,
-        program: &'a ProgramScope<'s>,
+        body: BodyNumber,
         slots: &'t [Slot],
         global_slots: &'t [usize],
         first_slot: usize,
         blocks: usize,
         first_block: usize,
         labels: Names<usize>,
+        lines: usize,
     ) -> Numbering<'a, 's, 't>
-        requires program { slice_get (declared_programs scope.now.tree) number
-            ≡ Some program.now }
-        requires first_slot { first_slot + length program.now.variables < 2 ^ 16 }
-        requires first_block { first_block + length program.now.blocks < 2 ^ 16 }
-        requires slots { length slots.now < 2 ^ 16 }
-        requires global_slots { AreGlobalSlots slots.now (length (globals_of scope.now.tree))
-            global_slots.now }
-        requires blocks { blocks < 2 ^ 16 }
-        ensures { result ≡ numbering_of scope.now.tree program.now slots.now first_slot blocks
-            first_block labels }
+        requires { IsNumbering scope.now.tree body slots.now global_slots.now first_slot blocks
+            first_block lines }
+        ensures { result ≡ numbering_of scope.now.tree (program_at scope.now.tree body) slots.now
+            first_slot blocks first_block labels }
     {
         Numbering {
             scope,
-            number,
-            program,
+            body,
             slots,
             global_slots,
             first_slot,
             blocks,
             first_block,
             labels,
+            lines,
         }
     }
 
     /// The number of the slot of what a name means: a variable of the instance, else a global
     /// variable; past the last where there is neither.
-    fn slot(&self, name: Name) -> u16
+    fn slot(&self, name: Name) -> usize
         ensures { result ≡ slot_number self.now name }
     {
-        match self.scope.variable_number(self.number, name) {
-            Some(own) => (self.first_slot + own) as u16,
-            None => self.global(name) as u16,
+        match self.scope.variable_number(self.body, name) {
+            Some(own) => self.first_slot + own,
+            None => self.global(name),
         }
     }
 
@@ -142,7 +128,7 @@ impl<'a, 's, 't> Numbering<'a, 's, 't> {
     fn block(&self, name: Name) -> u16
         ensures { result ≡ number_of_block self.now name }
     {
-        match self.scope.block(self.number, name) {
+        match self.scope.block(self.body, name) {
             Some((own, _)) => (self.first_block + own) as u16,
             None => self.blocks as u16,
         }
@@ -152,9 +138,19 @@ impl<'a, 's, 't> Numbering<'a, 's, 't> {
     fn port(&self, block: Name, port: Name) -> u8
         ensures { result ≡ number_of_port self.now block port }
     {
-        match port_of(self.scope, self.number, block, port) {
+        match port_of(self.scope, self.body, block, port) {
             Some((_, number)) => number as u8,
             None => MOST_PORTS as u8,
+        }
+    }
+
+    /// The number of a function; past the last where there is none.
+    fn function(&self, name: Name) -> u8
+        ensures { result ≡ number_of_function self.now name }
+    {
+        match self.scope.function_number(name) {
+            Some(number) => number as u8,
+            None => self.scope.functions().len() as u8,
         }
     }
 
@@ -169,6 +165,7 @@ impl<'a, 's, 't> Numbering<'a, 's, 't> {
                 port: self.port(block, port),
             },
             Symbol::Block(name) => Place::Block(self.block(name)),
+            Symbol::Function(name) => Place::Function(self.function(name)),
         }
     }
 
@@ -178,7 +175,7 @@ impl<'a, 's, 't> Numbering<'a, 's, 't> {
     {
         self.labels
             .get(self.scope.spelling(label))
-            .unwrap_or(self.program.program().lines().len())
+            .unwrap_or(self.lines)
     }
 
     /// The same of a line's label, where it has one.
@@ -216,6 +213,21 @@ impl<'a, 's, 't> Numbering<'a, 's, 't> {
         Ok(Arguments::new(renamed))
     }
 
+    /// The operands of a call of a function.
+    fn operands(
+        &self,
+        alloc: Global,
+        operands: &[Operand<Symbol>],
+    ) -> Result<Operands<Place>, AllocError>
+        ensures { IfOk result (λ o. o ≡ map (numbers self.now).operand operands.now) }
+    {
+        let mut renamed = Vec::new(alloc);
+        for operand in operands {
+            renamed.push(self.operand(*operand))?;
+        }
+        Ok(Operands::new(renamed))
+    }
+
     /// What a piece does.
     fn action(&self, action: Action<Symbol>) -> Action<Place>
         ensures { result ≡ rename_action (numbers self.now) action }
@@ -226,6 +238,17 @@ impl<'a, 's, 't> Numbering<'a, 's, 't> {
                 operand: self.operand(operand),
             },
             Action::Apply(operator, operand) => Action::Apply(operator, self.operand(operand)),
+            Action::Hand(function) => Action::Hand(self.place(function)),
+            Action::Give {
+                function,
+                number,
+                operand,
+            } => Action::Give {
+                function: self.place(function),
+                number,
+                operand: self.operand(operand),
+            },
+            Action::Invoke(function) => Action::Invoke(self.place(function)),
             Action::Transform(function) => Action::Transform(function),
             Action::Open(operator) => Action::Open(operator),
             Action::Close => Action::Close,
@@ -295,6 +318,10 @@ impl<'a, 's, 't> Numbering<'a, 's, 't> {
                 condition: *condition,
                 instance: self.place(*instance),
                 arguments: self.arguments(alloc, arguments.as_slice())?,
+            },
+            Instruction::Invoke { function, operands } => Instruction::Invoke {
+                function: self.place(*function),
+                operands: self.operands(alloc, operands.as_slice())?,
             },
         })
     }

@@ -4,7 +4,8 @@ ghost use Rattle.std.specs.Prelude.{◌≡◌, ◌≤◌, IfOk, OnOk, Some, leng
 ghost use Rattle.std.specs.List.{position_or_len};
 ghost use Rattle.ilsource.specs.Words.{AreShallow};
 ghost use Rattle.ilsource.specs.Programs.{AreSorted};
-ghost use Rattle.limits.specs.Limits.{most_blocks, most_slots};
+ghost use Rattle.limits.specs.Limits.{most_blocks, most_functions};
+ghost use Rattle.ilscope.specs.Declarations.{declared_functions};
 ghost use Rattle.ilsyms.specs.TaskSteps.{AreThere, instances_of};
 ghost use Rattle.ilsyms.specs.PlanningSteps.{AreApart};
 ghost use Rattle.ilsyms.specs.Meaning.{is_global};
@@ -16,7 +17,7 @@ ghost use Rattle.ilsyms.specs.Variables.{blocks_of, lines_of, slots_of};
 use crate::numbering::Numbering;
 use crate::tasks::{TaskInstance, program_of};
 use ilplan::{FunctionBlock, ProgramInstance, Slot, SlotOwner};
-use ilscope::Scope;
+use ilscope::{BodyNumber, Scope};
 use iluses::number_labels;
 use std::alloc::{AllocError, Global};
 
@@ -33,9 +34,9 @@ pub(crate) fn plan_instances(
     requires apart { AreApart scope.now.tree.text (instances_of scope.now.tree instances.now) }
     requires slots { slots.now ≡ slots_of scope.now.tree
         (instances_of scope.now.tree instances.now) }
-    requires few_slots { length slots.now ≤ most_slots }
     requires blocks { blocks.now ≡ blocks_of (instances_of scope.now.tree instances.now) }
     requires few_blocks { length blocks.now ≤ most_blocks }
+    requires few_functions { length (declared_functions scope.now.tree) ≤ most_functions }
     ensures instances { IfOk result (λ v. v.items ≡ planned_instances scope.now.tree
         (instances_of scope.now.tree instances.now)) }
     ensures shallow { OnOk result
@@ -53,14 +54,14 @@ pub(crate) fn plan_instances(
         let (labels, _) = number_labels(alloc, scope, lines)?;
         let numbering = Numbering::new(
             scope,
-            instance.program,
-            program,
+            BodyNumber::Program(instance.program),
             slots,
             &global_slots,
             first_slot,
             blocks.len(),
             first_block,
             labels,
+            lines.len(),
         );
         let lines = numbering.lines(alloc, lines)?;
         planned.push(ProgramInstance::new(instance.name, lines))?;

@@ -7,7 +7,7 @@ ghost use Rattle.ilblocks.specs.Stores.{Store};
 ghost use Rattle.ilplan.specs.PlanMeaning.{plan_scan};
 ghost use Rattle.ilsyms.specs.Faults.{IsFault, IsWellNamed};
 ghost use Rattle.ilsyms.specs.Meaning.{source_scan};
-ghost use Rattle.ilsyms.specs.Resolved.{plan_of_tree, planned_task};
+ghost use Rattle.ilsyms.specs.Resolved.{plan_of_tree, planned_functions, planned_task};
 ghost use Rattle.ilsyms.specs.Tasks.{SourceTask};
 
 use crate::faults::least_of;
@@ -29,7 +29,7 @@ pub fn resolve(alloc: Global, source: &Source, binding: &Binding) -> Result<Plan
     ensures plan { IfOk result (λ plan. plan ≡ plan_of_tree source.now binding.now) }
     // A scan of a task leaves what a scan over names leaves, on any number of buses.
     ensures same_meaning { (buses : ℕ) (task : SourceTask) (store : Store)
-        → plan_scan buses (planned_task source.now task) store
+        → plan_scan buses (planned_functions source.now) (planned_task source.now task) store
         ≡ source_scan source.now buses task store }
     ensures named { OnOk result (IsWellNamed source.now binding.now) }
     ensures fault { IfErr result (λ fault.

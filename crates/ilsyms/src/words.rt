@@ -1,10 +1,12 @@
 //! The words of a task.
 
-ghost use Rattle.std.specs.Prelude.{◌≡◌, ◌<◌, All, IfOk, flat_map, length, map, slice_get};
+ghost use Rattle.std.specs.Prelude.{◌≡◌, ◌<◌, All, IfOk, flat_map, length, map};
 ghost use Rattle.limits.specs.Limits.{most_words};
 ghost use Rattle.ilscope.specs.Declarations.{declared_programs};
+ghost use Rattle.ilsyms.specs.FunctionSteps.{IsPast};
 ghost use Rattle.ilsyms.specs.WordSteps.{places_at, places_of_program};
 
+use crate::past::{Past, further};
 use crate::tasks::TaskInstance;
 use ilscope::Scope;
 use ilsource::Program;
@@ -64,20 +66,16 @@ pub(crate) fn words_of_programs(
     Ok(words)
 }
 
-/// The place of the instruction with the word that exceeds the greatest number, among the words of
-/// the instances' programs, one instance after another. No instance after that one is looked at.
-pub(crate) fn word_past(words: &[WordPlaces], instances: &[TaskInstance]) -> Option<usize>
+/// The instruction with the word that exceeds the greatest number, or how many words are left,
+/// among the words of the instances' programs, one instance after another.
+pub(crate) fn word_past(words: &[WordPlaces], instances: &[TaskInstance]) -> Past
     requires { All (λ i. i.program < length words.now) instances.now }
-    ensures { result
-        ≡ slice_get (flat_map (λ i. places_at words.now i.program) instances.now) most_words }
+    ensures { IsPast (flat_map (λ i. places_at words.now i.program) instances.now) most_words
+        result }
 {
-    let mut left = MOST_WORDS;
+    let mut past = Past::Left(MOST_WORDS);
     for instance in instances {
-        let places = words[instance.program].as_slice();
-        if let Some(place) = places.get(left) {
-            return Some(*place);
-        }
-        left -= places.len();
+        past = further(past, words[instance.program].as_slice());
     }
-    None
+    past
 }

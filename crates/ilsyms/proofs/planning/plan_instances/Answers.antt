@@ -1,4 +1,5 @@
-use Rattle.std.proofs.Common.{◌≡◌, ℕ, ◌∙◌, ap, sym, length, List, [], ◌∷◌, ◌++◌, arith, subst, map}
+use Rattle.std.proofs.Common.{◌≡◌, ℕ, ◌∙◌, refl, ap, sym, length, List, [], ◌∷◌, ◌++◌, arith, subst, map}
+use Rattle.std.specs.Prelude.{Some}
 use Rattle.std.specs.List.{position_or_len}
 use Rattle.std.proofs.lemmas.List.{take_all}
 use Rattle.ilsource.specs.declared.instruction.Line.{Line}
@@ -7,17 +8,20 @@ use Rattle.ilsource.specs.Programs.{Written, AreSorted}
 use Rattle.ilsource.specs.declared.name.Name.{Name}
 use Rattle.ilsource.specs.declared.symbol.Symbol.{Symbol}
 use Rattle.ildeclared.specs.declared.global.DeclaredGlobal.{DeclaredGlobal}
+use Rattle.ilscope.specs.Declarations.{DeclaredProgram, body_at}
+use Rattle.ilscope.specs.declared.body_number.BodyNumber.TheVariants as bodies
 use Rattle.ilplan.specs.Plans.{PlannedInstance}
 use Rattle.ilplan.specs.declared.slot.Slot.{Slot}
 use Rattle.ilplan.specs.declared.instance.FunctionBlock.{FunctionBlock}
 use Rattle.ilsyms.specs.declared.tasks.TaskInstance.{TaskInstance}
 use Rattle.iluses.specs.Labels.{AreNumbered}
-use Rattle.ilsyms.specs.NumberingSteps.{AreGlobalSlots}
+use Rattle.ilsyms.specs.NumberingSteps.{AreGlobalSlots, numbering_of}
 use Rattle.ilsyms.specs.PlanningSteps.{is_of_instance}
 use Rattle.ilsyms.specs.Resolved.{planned_instance}
 use Rattle.ilsyms.specs.TaskSteps.{instances_of}
 use Rattle.ilsyms.specs.Tasks.{NamedProgram}
 use Rattle.ilsyms.specs.Variables.{blocks_of, lines_of, slots_of}
+use Rattle.ilsyms.proofs.NumberingBodies.{program_is}
 use Rattle.ilsyms.proofs.PlanningInstances.{blocks_fit, blocks_more, planned_more, renamed, shallow_more, slots_fit}
 use Rattle.ilsyms.proofs.PlanningInstances.{slots_more, sorted_more}
 use Rattle.ilsyms.proofs.SlotOrder.{first_own}
@@ -48,17 +52,28 @@ new-numbering-requires c =
     let first_block = c.loop-instance.invariant.first_block in
     let as_slots = ap (λ (ss : List Slot). length ss) c.requires.slots in
     let as_blocks = ap (λ (bs : List FunctionBlock). length bs) c.requires.blocks in
+    let program = c.program_of-program.result.now in
+    let here : body_at tree (bodies.Program _) ≡ Some program = c.program_of-program.ensures in
+    let its = program_is tree (bodies.Program _) program here in
+    let lines : c.lines-lines.result.now ≡ program.program.lines =
+    c.lines-lines.ensures.value ∙ ap (λ (w : Written). w.lines) c.program.ensures.value
+    in
+    let many = ap (λ (p : DeclaredProgram). length p.variables) its in
+    let many_blocks = ap (λ (p : DeclaredProgram). length p.blocks) its in
     record {
-      program = c.program_of-program.ensures;
-      first_slot = omega (arith, slots, first_slot, as_slots, c.requires.few_slots);
-      first_block = omega (arith, blocks, first_block, as_blocks, c.requires.few_blocks);
-      slots = omega (arith, c.requires.few_slots);
-      global_slots =
+      there = rw here refl;
+      all =
+          ap (λ (ls : List (Line Symbol Name)). length ls)
+          (lines ∙ ap (λ (p : DeclaredProgram). p.program.lines) (sym its));
+      own_slots = omega (arith, slots, first_slot, as_slots, many);
+      own_blocks = omega (arith, blocks, first_block, as_blocks, c.requires.few_blocks, many_blocks);
+      few_blocks = omega (arith, c.requires.few_blocks);
+      few_functions = omega (arith, c.requires.few_functions);
+      globals =
           subst (λ (n : ℕ). AreGlobalSlots c.args.slots.now n c.deref.result.now)
           (ap (λ (gs : List DeclaredGlobal). length gs) c.globals.ensures.value)
           (subst (λ (ns : List ℕ). AreGlobalSlots c.args.slots.now (length c.globals.result.now) ns)
           (sym c.deref.ensures.value) c.in_ok-global_slots.ensures);
-      blocks = omega (arith, c.requires.few_blocks);
     }
 
 pub loop-instance-init : goal.loop-instance-init
@@ -90,7 +105,14 @@ loop-instance-preserved c =
     let lines : c.program.result.now.lines ≡ program.program.lines =
     ap (λ (w : Written). w.lines) c.program.ensures.value in
     let read = c.lines-lines.ensures.value ∙ lines in
-    let named = c.in_ok-lines.ensures ∙ (λ i. renamed (c.new-numbering.ensures i) (read i)) in
+    let here : body_at tree (bodies.Program _) ≡ Some program = c.program_of-program.ensures in
+    let its = program_is tree (bodies.Program _) program here in
+    let named =
+    c.in_ok-lines.ensures
+    ∙ (λ i. renamed (c.new-numbering.ensures i) (read i))
+    ∙ (λ i. renamed (numbering_of tree (its i) c.args.slots.now c.loop-instance.first_slot (length c.args.blocks.now)
+    c.loop-instance.first_block c.in_ok-labels.labels) program.program.lines)
+    in
     let numbered : AreNumbered tree.text program.program.lines c.in_ok-labels.labels =
     subst (λ (ls : List (Line Symbol Name)). AreNumbered tree.text ls c.in_ok-labels.labels) read
     c.in_ok-labels.ensures.numbers

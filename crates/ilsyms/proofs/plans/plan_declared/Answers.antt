@@ -93,4 +93,9 @@ returns c =
     (sym c.priority_of-priority.ensures i)
     (sym are i)))
     in
-    if_ok c.task_with.result _ _ (λ task e. planned_at tree c.args.number t task here e) c.task_with.ensures
+    record {
+      task =
+          if_ok c.task_with.result _ _ (λ task e. planned_at tree c.args.number t task here e)
+          c.task_with.ensures.task;
+      limits = c.task_with.ensures.limits;
+    }

@@ -28,4 +28,9 @@ returns c =
     let here : slice_get (tasks_of tree) c.args.number ≡ Some t =
     at ∙ (λ i. Some (task_with (sym c.in_ok-name.ensures.ok i) (Cyclic 100) 0 (sym are i)))
     in
-    if_ok c.task_with.result _ _ (λ task e. planned_at tree c.args.number t task here e) c.task_with.ensures
+    record {
+      task =
+          if_ok c.task_with.result _ _ (λ task e. planned_at tree c.args.number t task here e)
+          c.task_with.ensures.task;
+      limits = c.task_with.ensures.limits;
+    }

@@ -2,11 +2,11 @@ use Rattle.std.proofs.Common.{◌≡◌, ◌∙◌, ◌+◌, ap, sym, subst, len
 use Rattle.std.proofs.lemmas.List.{take_all}
 use Rattle.std.specs.Prelude.{string_bytes}
 use Rattle.ilplan.specs.declared.instance.FunctionBlock.{FunctionBlock}
-use Rattle.ilplan.specs.declared.slot.Slot.{Slot}
 use Rattle.ilplan.specs.Plans.{PlannedTask, KeepsLimits, task_of}
 use Rattle.ilsyms.specs.TaskSteps.{instances_of, task_with}
-use Rattle.ilsyms.specs.Resolved.{planned_task}
+use Rattle.ilsyms.specs.Resolved.{planned_functions, planned_task}
 use Rattle.ilsyms.specs.Variables.{slots_of, blocks_of}
+use Rattle.ilsyms.proofs.PlanFunctions.{few_functions}
 use Rattle.ilsyms.proofs.PlanLimits.{few_slots, few_blocks, names_apart, keeps_limits}
 use Rattle.ilsyms.proofs.PlanTasks.{if_ok}
 use Rattle.ilsyms.proofs.plans.task_with.Goals as goal
@@ -22,17 +22,6 @@ plan_instances-requires-clause-slots c =
     c.deref.ensures.value ∙ c.in_ok-slots.ensures
     ∙ take_all (4096 + 1) (slots_of c.args.scope.now.tree (instances_of c.args.scope.now.tree c.args.instances.now))
     (omega (arith, few))
-
-pub plan_instances-requires-clause-few_slots : goal.plan_instances-requires-clause-few_slots
-plan_instances-requires-clause-few_slots c =
-    let few = few_slots c.args.scope.now.tree c.args.scope.now.wiring c.requires.named c.requires.task.0 _
-    c.requires.task.1 in
-    let all = take_all (4096 + 1) (slots_of c.args.scope.now.tree
-    (instances_of c.args.scope.now.tree c.args.instances.now))
-    (omega (arith, few))
-    in
-    let same = ap (λ (ss : List Slot). length ss) (c.deref.ensures.value ∙ c.in_ok-slots.ensures ∙ all) in
-    omega (arith, few, same)
 
 pub plan_instances-requires-clause-blocks : goal.plan_instances-requires-clause-blocks
 plan_instances-requires-clause-blocks c =
@@ -50,28 +39,31 @@ plan_instances-requires-clause-few_blocks c =
     let same = ap (λ (bs : List FunctionBlock). length bs) (c.deref-2.ensures.value ∙ c.in_ok-blocks.ensures ∙ all) in
     omega (arith, few, same)
 
--- the parts are those of the task that is planned
-parts : (c : goal.In_ok-counted)
-    → task_of (string_bytes c.args.name) c.args.activation c.args.priority c.in_ok-slots.slots.items
-    c.in_ok-blocks.blocks.items c.in_ok-counted.counted.constants c.in_ok-planned.planned.items
-    ≡ planned_task c.args.scope.now.tree
-    (task_with (string_bytes c.args.name) c.args.activation c.args.priority
-    (instances_of c.args.scope.now.tree c.args.instances.now))
-parts c =
-    let tree = c.args.scope.now.tree in
-    let is = instances_of tree c.args.instances.now in
-    let many_slots = few_slots tree c.args.scope.now.wiring c.requires.named c.requires.task.0 _ c.requires.task.1 in
-    let many_blocks = few_blocks tree c.args.scope.now.wiring c.requires.named c.requires.task.0 _ c.requires.task.1 in
-    let slots = c.in_ok-slots.ensures ∙ take_all (4096 + 1) (slots_of tree is) (omega (arith, many_slots)) in
-    let blocks = c.in_ok-blocks.ensures ∙ take_all (256 + 1) (blocks_of is) (omega (arith, many_blocks)) in
-    λ i. task_of (string_bytes c.args.name) c.args.activation c.args.priority (slots i) (blocks i)
-    (c.in_ok-counted.ensures.different i) (c.in_ok-planned.ensures.instances i)
-
-pub new-requires : goal.new-requires
-new-requires c =
-    subst (λ (t : PlannedTask). KeepsLimits t) (sym (parts c))
-    (keeps_limits c.args.scope.now.tree c.args.scope.now.wiring c.requires.named c.requires.task.0 _ c.requires.task.1
-    c.in_ok-planned.ensures.shallow c.in_ok-planned.ensures.sorted)
+pub plan_instances-requires-clause-few_functions : goal.plan_instances-requires-clause-few_functions
+plan_instances-requires-clause-few_functions c =
+    few_functions c.args.scope.now.tree c.args.scope.now.wiring c.requires.named
 
 pub returns : goal.returns
-returns c = if_ok c.new.result _ _ (λ task e. e ∙ parts c.before) c.new.ensures
+returns c =
+    let tree = c.args.scope.now.tree in
+    let wiring = c.args.scope.now.wiring in
+    let is = instances_of tree c.args.instances.now in
+    let many_slots = few_slots tree wiring c.requires.named c.requires.task.0 _ c.requires.task.1 in
+    let many_blocks = few_blocks tree wiring c.requires.named c.requires.task.0 _ c.requires.task.1 in
+    let slots = c.in_ok-slots.ensures ∙ take_all (4096 + 1) (slots_of tree is) (omega (arith, many_slots)) in
+    let blocks = c.in_ok-blocks.ensures ∙ take_all (256 + 1) (blocks_of is) (omega (arith, many_blocks)) in
+    -- the parts are those of the task that is planned
+    let parts : task_of (string_bytes c.args.name) c.args.activation c.args.priority c.in_ok-slots.slots.items
+    c.in_ok-blocks.blocks.items c.args.constants c.in_ok-planned.planned.items
+    ≡ planned_task tree (task_with (string_bytes c.args.name) c.args.activation c.args.priority is) =
+    λ i. task_of (string_bytes c.args.name) c.args.activation c.args.priority (slots i) (blocks i)
+    (c.requires.constants i) (c.in_ok-planned.ensures.instances i) in
+    let keep = keeps_limits tree wiring c.requires.named c.requires.task.0 _ c.requires.task.1
+    c.in_ok-planned.ensures.shallow c.in_ok-planned.ensures.sorted in
+    record {
+      task = if_ok c.new.result _ _ (λ task e. e ∙ parts) c.new.ensures;
+      limits =
+          if_ok c.new.result _ _
+          (λ task e. subst (λ (t : PlannedTask). KeepsLimits (planned_functions tree) t) (sym (e ∙ parts)) keep)
+          c.new.ensures;
+    }

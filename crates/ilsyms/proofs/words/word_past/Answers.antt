@@ -1,35 +1,22 @@
-use Rattle.std.proofs.Common.{◌<◌, ◌≤◌, length, refl, ◌∙◌, arith}
-use Rattle.std.proofs.lemmas.Bool.Decides.{nat_tests}
-use Rattle.std.proofs.lemmas.Option.{slice_get_read}
-use Rattle.ilsyms.proofs.WordPast.{none_found, place_found, places_longer}
+use Rattle.std.proofs.Common.{ℕ, List, take, sym, ◌∙◌, subst}
+use Rattle.std.proofs.lemmas.List.{take_all}
+use Rattle.limits.specs.Limits.{most_words}
+use Rattle.ilsyms.specs.FunctionSteps.{IsPast}
+use Rattle.ilsyms.specs.declared.tasks.TaskInstance.{TaskInstance}
+use Rattle.ilsyms.proofs.WordPast.{places_more, words_in}
 use Rattle.ilsyms.proofs.words.word_past.Goals as goal
 
 pub loop-instance-preserved : goal.loop-instance-preserved
 loop-instance-preserved c =
     let words = c.args.words.now in
     let given = c.args.instances.now in
-    let own = c.as_slice-places.result.now in
-    let none = c.get.ensures.lookup in
-    let is = c.in_default.is in
-    let low : length own ≤ c.loop-instance.left = grind (arith, nat_tests, none, is) in
-    places_longer words given c.loop-instance.instance-index _ own _ c.loop-instance-test.true
-    (c.requires c.loop-instance.instance-index _ c.loop-instance-test.true)
-    (c.as_slice-places.ensures.value ∙ c.index-words-instance.is) c.loop-instance.left low 65536
-    c.loop-instance.invariant _ (omega (arith, low))
-
-pub returns-in-Some : goal.returns-in-Some
-returns-in-Some c =
-    let words = c.args.words.now in
-    let given = c.args.instances.now in
-    let own = c.as_slice-places.result.now in
-    let low : c.loop-instance.left < length own = c.in-Some.ensures.lookup.3.0 in
-    place_found words given c.loop-instance.instance-index _ own _ c.loop-instance-test.true
-    (c.requires c.loop-instance.instance-index _ c.loop-instance-test.true)
-    (c.as_slice-places.ensures.value ∙ c.index-words-instance.is) c.loop-instance.left 65536 c.in-Some.place.now
-    c.loop-instance.invariant low
-    (slice_get_read own (length own) c.loop-instance.left c.in-Some.place.now refl low c.in-Some.ensures.lookup.1)
+    let i = c.loop-instance.instance-index in
+    subst (λ (ps : List ℕ). IsPast ps most_words c.further-past.result)
+    (sym (places_more words given i _ c.as_slice.result.now _ c.loop-instance-test.true
+    (c.requires i _ c.loop-instance-test.true) (c.as_slice.ensures.value ∙ c.index-words-instance.is)))
+    (c.further-past.ensures (words_in words (take i given)) most_words c.loop-instance.invariant)
 
 pub returns : goal.returns
 returns c =
-    none_found c.args.words.now c.args.instances.now c.loop-instance.instance-index c.loop-instance.left 65536
-    c.loop-instance-test.false c.loop-instance.invariant
+    subst (λ (is : List TaskInstance). IsPast (words_in c.args.words.now is) most_words c.loop-instance.past)
+    (take_all c.loop-instance.instance-index c.args.instances.now c.loop-instance-test.false) c.loop-instance.invariant

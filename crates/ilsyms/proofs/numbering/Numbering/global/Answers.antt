@@ -21,18 +21,18 @@ pub offset_bounds-self-inside-number : goal.offset_bounds-self-inside-number
 offset_bounds-self-inside-number c =
     let is = sym c.global_number.ensures.value ∙ c.in-Some.is in
     let low = below c.self.inside.scope.now.tree c.args.name c.in-Some.number is in
-    omega (arith, low, c.self.invariant.5.many, c.self.told2.1)
+    omega (arith, low, c.self.invariant.globals.many, c.self.told2.1)
 
 pub bounds-self-inside-number : goal.bounds-self-inside-number
 bounds-self-inside-number c =
     let is = sym c.global_number.ensures.value ∙ c.in-Some.is in
     let low = below c.self.inside.scope.now.tree c.args.name c.in-Some.number is in
-    omega (arith, low, c.self.invariant.5.many)
+    omega (arith, low, c.self.invariant.globals.many)
 
 pub returns-in-Some : goal.returns-in-Some
 returns-in-Some c =
     let is = sym c.global_number.ensures.value ∙ c.in-Some.is in
-    c.self.invariant.5.each c.in-Some.number (below c.self.inside.scope.now.tree c.args.name c.in-Some.number is)
+    c.self.invariant.globals.each c.in-Some.number (below c.self.inside.scope.now.tree c.args.name c.in-Some.number is)
     ∙ ap (number_of_global c.self.inside.slots.now) (sym is)
     ∙ ap (λ (n : Numbering). number_of_global n.slots (global_number n.tree c.args.name)) c.self.view_is
 

@@ -4,7 +4,7 @@ use Rattle.iluses.specs.Uses.{uses_of}
 use Rattle.ilsyms.specs.CountingSteps.{AreCounted, AreSeen}
 use Rattle.ilsyms.specs.TaskSteps.{instances_of}
 use Rattle.ilsyms.specs.Variables.{lines_of}
-use Rattle.ilsyms.proofs.counting.Counted.of.Given as goal
+use Rattle.ilsyms.proofs.counting.Counted.of_programs.Given as goal
 
 abbrev pub invariant-loop-instance : goal.invariant-loop-instance
 invariant-loop-instance l =
