@@ -1,5 +1,6 @@
 pub mod BlockRows
 pub mod FunctionRows
+pub mod Lasting
 pub mod Listings
 pub mod LowBytes
 pub mod Paths
