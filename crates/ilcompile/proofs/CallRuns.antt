@@ -1,5 +1,5 @@
--- What the words that store to places and call them do: as the plan says.
-use Rattle.std.proofs.Common.{◌≡◌, ℕ, ◌+◌, List, [], ◌∷◌, length, Option, Some, None, refl, ap}
+-- What the words that store to places and call block instances do, over any store that shows in the code's.
+use Rattle.std.proofs.Common.{◌≡◌, ℕ, ◌+◌, ◌<◌, ◌≤◌, List, [], ◌∷◌, length, Option, Some, None, refl, ap}
 use Rattle.std.proofs.Common.{subst, arith}
 use Rattle.std.specs.Prelude.{slice_get}
 use Rattle.std.specs.Option.{option_map, option_and_then}
@@ -9,100 +9,110 @@ use Rattle.ilsource.specs.declared.operand.Operand.TheVariants.{Name}
 use Rattle.ilsource.specs.declared.uses.Purpose.TheVariants.{Call, Pass}
 use Rattle.ilsource.specs.Uses.{uses_of_argument}
 use Rattle.ilsource.specs.Meaning.{Access, operand_value, passed, called}
-use Rattle.ilblocks.specs.Stores.{Shape, Store, with_port}
+use Rattle.ilblocks.specs.Stores.{Store}
 use Rattle.ilblocks.specs.Stores as stores
 use Rattle.ilplan.specs.declared.place.Place.{Place}
-use Rattle.ilplan.specs.declared.place.Place.TheVariants as places
-use Rattle.ilplan.specs.PlanMeaning.{places_of, with_place, passed_place, called_place}
-use Rattle.ilcode.specs.declared.word.WordOperand.{WordOperand}
+use Rattle.ilplan.specs.Plans.{Nameable, HasOperand}
+use Rattle.ilcode.specs.declared.word.Target.TheVariants as variables
 use Rattle.ilcode.specs.declared.word.Word.{Word}
 use Rattle.ilcode.specs.declared.word.Word.TheVariants as words
 use Rattle.ilcode.specs.Listings.{Listing, shape_of}
-use Rattle.ilcode.specs.Steps.{Configuration, OpenCall, at, value_of, stored_at, effect}
-use Rattle.ilcompile.specs.Layout.{number_of, operand_of, port_of, variable_of, word_of_argument}
-use Rattle.ilcompile.proofs.Runs.{Leads, none}
+use Rattle.ilcode.specs.Steps.{Configuration, OpenCall, at, effect, stored_at, with_store}
+use Rattle.ilcompile.specs.Layout.{Numbers, number_of, port_of, word_of_argument}
+use Rattle.ilcompile.proofs.Named.{AreNamed}
 use Rattle.ilcompile.proofs.Stands.{HasAt}
-use Rattle.ilcompile.proofs.Served.{IsVariable, IsServedAs, AreServed, served_value}
-use Rattle.ilcompile.proofs.TreeRuns.{plain, Comes, comes_by, comes_later}
+use Rattle.ilcompile.proofs.Reaches.{Reaches, Stuck, Calm, Region, reaches_self, reaches_then, reaches_at}
+use Rattle.ilcompile.proofs.Reaches.{stuck_later}
+use Rattle.ilcompile.proofs.Reaches.{one_word, stuck_here}
+use Rattle.ilcompile.proofs.Shows.{Shows, Both}
+use Rattle.ilcompile.proofs.TreeRuns.{operand_same}
 
-module _ (code : Listing) where
-  abbrev shape : Shape
-  shape = shape_of code
+module _ {S : Type 0} (code : Listing) (numbers : Numbers) (base hi : ℕ) (calls : List OpenCall) (a : Access Place S)
+    (Sees : S → Store → Type 0) (names : Nameable) (May : ℕ → Type 0)
+    (shows : Shows code numbers base hi calls a Sees names May) (start end : ℕ)
+    (region : Region code calls start end) where
+  -- from c the run comes to the place with this result and what shows this store, with nothing open; or it is stuck
+  abbrev pub Comes : Configuration → ℕ → Option Value → Option S → Type 0
+  Comes c q r None = Stuck code c
+  Comes c q r (Some s) = (t : Store) × Sees s t × Reaches code c (at q t r [] calls)
 
-  abbrev access : Access Place Store
-  access = places_of shape
+  pub comes_later : (c d : Configuration) (q : ℕ) (r : Option Value) (o : Option S) → Reaches code c d → Comes d q r o
+      → Comes c q r o
+  comes_later c d q r None l h = stuck_later code c d l h
+  comes_later c d q r (Some s) l h = (h.0, h.1, reaches_then code c d (at q h.0 r [] calls) l h.2)
 
-  pub stored_same : (n : Place) → IsVariable n → (s : Store) (v : Value)
-      → stored_at code s (variable_of n) v ≡ with_place shape s n v
-  stored_same (places.Slot slot) is s v = refl
-  stored_same (places.Port block port) is s v = refl
-  stored_same (places.Block block) is s v = absurd is
+  -- one word that leaves another store, with this result
+  pub store_word : (p : ℕ) (t : Store) (r m : Option Value) (o : Option S) (q : Option Store) (w : Word) → Both Sees o q
+      → p < end → Calm code p t r [] calls → slice_get code.instructions p ≡ Some w
+      → effect code (at p t r [] calls) w ≡ option_map (λ u. at (p + 1) u m [] calls) q
+      → Comes (at p t r [] calls) (p + 1) m o
+  store_word p t r m None None w b lt calm is e = stuck_here code calls start end region p t r [] w lt calm is e
+  store_word p t r m None (Some u) w b lt calm is e = absurd b
+  store_word p t r m (Some s) None w b lt calm is e = absurd b
+  store_word p t r m (Some s) (Some u) w b lt calm is e =
+      (u, b, one_word code calls start end region p t r [] (at (p + 1) u m [] calls) w lt calm is e)
 
-  -- a value that may be none is stored
-  pub value_stored : (n : Place) → IsVariable n → (s : Store) (o : Option Value)
-      → option_and_then (stored_at code s (variable_of n)) o ≡ option_and_then (with_place shape s n) o
-  value_stored n is s None = refl
-  value_stored n is s (Some v) = stored_same n is s v
+  -- a value that may be none is passed to a port
+  passed_by : (s : S) (t : Store) (port : Place) (o : Option Value) → Sees s t → HasOperand names Pass (Name port)
+      → Both Sees (option_and_then (a.pass s port) o)
+      (option_and_then (stored_at code t (variables.Port (port_of port) (number_of port))) o)
+  passed_by s t port None sees has = tt
+  passed_by s t port (Some v) sees has = shows.pass s t sees port v has
 
-  called_same : (n : Place) → IsServedAs code.constants Call (Name n) → (s : Store)
-      → stores.called shape s (number_of n) ≡ called_place shape s n
-  called_same (places.Block block) is s = refl
-  called_same (places.Slot slot) is s = absurd is
-  called_same (places.Port block port) is s = absurd is
+  -- the words of arguments of a call at this place of the text stand here, and what they name is there
+  abbrev pub HasArguments : ℕ → ℕ → List (Argument Place) → Type 0
+  HasArguments k p xs =
+      HasAt (word_of_argument numbers) (λ x. AreNamed numbers.constants names May (uses_of_argument k x))
+      code.instructions p xs
 
-  module _ (p : ℕ) (s : Store) (r : Option Value) (calls : List OpenCall) where
-    abbrev onward : Store → Configuration
-    onward t = at (p + 1) t r [] calls
+  argument_runs : (k : ℕ) (x : Argument Place) (p : ℕ) (s : S) (t : Store) (r : Option Value) → Sees s t
+      → slice_get code.instructions p ≡ Some (word_of_argument numbers x)
+      → AreNamed numbers.constants names May (uses_of_argument k x) → p < end → Calm code p t r [] calls
+      → Comes (at p t r [] calls) (p + 1) r (option_and_then (a.pass s x.port) (operand_value a s x.operand))
+  argument_runs k x p s t r sees is named lt calm =
+      let same = operand_same code numbers base hi calls a Sees names May shows start end region s t x.operand sees
+      named.1.0 in
+      let o = operand_value a s x.operand in
+      let target = variables.Port (port_of x.port) (number_of x.port) in
+      store_word p t r r (option_and_then (a.pass s x.port) o) (option_and_then (stored_at code t target) o)
+      (word_of_argument numbers x) (passed_by s t x.port o sees named.0) lt calm is
+      (ap (λ v. with_store (at p t r [] calls) (option_and_then (stored_at code t target) v)) same)
 
-    pass_effect : (n : Place) → IsServedAs code.constants Pass (Name n) → (operand : WordOperand) (o : Option Value)
-        → value_of code s operand ≡ o
-        → effect code (at p s r [] calls) (words.Pass (port_of n) (number_of n) operand)
-        ≡ option_map onward (option_and_then (passed_place shape s n) o)
-    pass_effect (places.Port block port) is operand o e =
-        ap (λ v. option_map onward (option_and_then (with_port shape s block port) v)) e
-    pass_effect (places.Slot slot) is operand o e = absurd is
-    pass_effect (places.Block block) is operand o e = absurd is
+  then_comes : (c : Configuration) (q z : ℕ) (r m : Option Value) (o : Option S) (f : S → Option S) → Comes c q r o
+      → ((s : S) (t : Store) → Sees s t → Comes (at q t r [] calls) z m (f s)) → Comes c z m (option_and_then f o)
+  then_comes c q z r m None f h more = h
+  then_comes c q z r m (Some s) f h more = comes_later c (at q h.0 r [] calls) z m (f s) h.2 (more s h.0 h.1)
 
-  module _ (front : List Word) (calls : List OpenCall) where
-    then_comes : {A B : Type 0} (c : Configuration) (f : A → Configuration) (g : B → Configuration)
-        (k : A → Option B) (o : Option A) → Comes code front c f o
-        → ((x : A) → Comes code front (f x) g (k x)) → Comes code front c g (option_and_then k o)
-    then_comes c f g k None h more = h
-    then_comes c f g k (Some x) h more = comes_later code front c (f x) g (k x) h (more x)
+  pub comes_at : (c : Configuration) (p q : ℕ) (r : Option Value) (o : Option S) → p ≡ q → Comes c p r o
+      → Comes c q r o
+  comes_at c p q r o e h = subst (λ x. Comes c x r o) e h
 
-    -- the words of arguments of a call at this place of the text stand here, and their constants are in the table
-    abbrev pub HasArguments : ℕ → ℕ → List (Argument Place) → Type 0
-    HasArguments k p xs =
-        HasAt (word_of_argument code.constants) (λ x. AreServed code.constants (uses_of_argument k x)) front p xs
+  arguments_run : (k : ℕ) (xs : List (Argument Place)) (p : ℕ) (s : S) (t : Store) (r : Option Value) → Sees s t
+      → HasArguments k p xs → start ≤ p → p + length xs < end → ((u : Store) → Calm code p u r [] calls)
+      → Comes (at p t r [] calls) (p + length xs) r (passed a xs s)
+  arguments_run k [] p s t r sees has low le calm =
+      let z : p ≡ p + 0 = omega arith in
+      (t, sees, reaches_at code (at p t r [] calls) p (p + 0) t r [] calls z (reaches_self code (at p t r [] calls)))
+  arguments_run k (x ∷ xs) p s t r sees has low le calm =
+      let q : p + 1 + length xs ≡ p + length (x ∷ xs) = omega arith in
+      then_comes (at p t r [] calls) (p + 1) (p + length (x ∷ xs)) r r
+      (option_and_then (a.pass s x.port) (operand_value a s x.operand)) (passed a xs)
+      (argument_runs k x p s t r sees has.0 has.1 (omega arith) (calm t))
+      (λ s1 t1 sees1.
+      comes_at (at (p + 1) t1 r [] calls) (p + 1 + length xs) (p + length (x ∷ xs)) r (passed a xs s1) q
+      (arguments_run k xs (p + 1) s1 t1 r sees1 has.2 (omega arith) (omega arith)
+      (λ u. region.quiet (p + 1) u r [] (omega arith) (omega arith))))
 
-    arguments_run : (k : ℕ) (xs : List (Argument Place)) (p : ℕ) (s : Store) (r : Option Value)
-        → HasArguments k p xs
-        → Comes code front (at p s r [] calls) (λ t. at (p + length xs) t r [] calls) (passed access xs s)
-    arguments_run k [] p s r has =
-        let z : p ≡ p + 0 = omega arith in
-        subst (λ q. Leads (plain code front) (at p s r [] calls) (at q s r [] calls)) z
-        (none (plain code front) (at p s r [] calls))
-    arguments_run k (x ∷ xs) p s r has =
-        let given = operand_value access s x.operand in
-        let o = option_and_then (passed_place shape s x.port) given in
-        let first = comes_by code front (at p s r [] calls) (λ t. at (p + 1) t r [] calls) o
-        (word_of_argument code.constants x) has.0
-        (pass_effect p s r calls x.port has.1.0 (operand_of code.constants x.operand) given
-        (served_value code s x.operand has.1.1.0)) in
-        let q : p + 1 + length xs ≡ p + length (x ∷ xs) = omega arith in
-        then_comes (at p s r [] calls) (λ t. at (p + 1) t r [] calls) (λ t. at (p + length (x ∷ xs)) t r [] calls)
-        (passed access xs) o first
-        (λ t. subst (λ m. Comes code front (at (p + 1) t r [] calls) (λ u. at m u r [] calls) (passed access xs t)) q
-        (arguments_run k xs (p + 1) t r has.2))
-
-    -- a call with its arguments leaves no result
-    pub call_runs : (k : ℕ) (n : Place) → IsServedAs code.constants Call (Name n)
-        → (xs : List (Argument Place)) (p : ℕ) (s : Store) (r : Option Value)
-        → HasArguments k p xs → slice_get front (p + length xs) ≡ Some (words.Call (number_of n))
-        → Comes code front (at p s r [] calls) (λ t. at (p + length xs + 1) t None [] calls) (called access n xs s)
-    call_runs k n is xs p s r has last =
-        let done = λ (u : Store). at (p + length xs + 1) u None [] calls in
-        then_comes (at p s r [] calls) (λ t. at (p + length xs) t r [] calls) done (λ t. called_place shape t n)
-        (passed access xs s) (arguments_run k xs p s r has)
-        (λ t. comes_by code front (at (p + length xs) t r [] calls) done (called_place shape t n)
-        (words.Call (number_of n)) last (ap (option_map done) (called_same n is t)))
+  -- a call with its arguments leaves no result
+  pub call_runs : (k : ℕ) (n : Place) → HasOperand names Call (Name n) → (xs : List (Argument Place)) (p : ℕ) (s : S)
+      (t : Store) (r : Option Value) → Sees s t → HasArguments k p xs
+      → slice_get code.instructions (p + length xs) ≡ Some (words.Call (number_of n)) → start ≤ p → p + length xs < end
+      → ((u : Store) → Calm code p u r [] calls) → ((u : Store) → Calm code (p + length xs) u r [] calls)
+      → Comes (at p t r [] calls) (p + length xs + 1) None (called a n xs s)
+  call_runs k n is xs p s t r sees has last low le calm after =
+      let q = p + length xs in
+      then_comes (at p t r [] calls) q (q + 1) r None (passed a xs s) (λ s1. a.call s1 n)
+      (arguments_run k xs p s t r sees has low le calm)
+      (λ s1 t1 sees1.
+      store_word q t1 r None (a.call s1 n) (stores.called (shape_of code) t1 (number_of n)) (words.Call (number_of n))
+      (shows.call s1 t1 sees1 n is) le (after t1) last refl)

@@ -1,16 +1,20 @@
 -- A run that comes to the end of a code with some store, or is stuck, ends so and not otherwise.
-use Rattle.std.proofs.Common.{◌≡◌, ℕ, zero, suc, [], false, cond, Option, Some, None, refl}
+use Rattle.std.proofs.Common.{◌≡◌, ℕ, zero, suc, List, [], Bool, true, false, cond, Option, Some, None, refl}
 use Rattle.std.proofs.Common.{sym, ap, ◌∙◌, subst, arith}
 use Rattle.std.specs.Option.{option_and_then}
-use Rattle.std.specs.Prelude.{nat_lt, slice_get}
+use Rattle.std.specs.Prelude.{nat_lt, slice_get, take, ◌==◌}
 use Rattle.std.proofs.lemmas.Bool.Decides.{nat_tests}
 use Rattle.iltypes.specs.declared.value.Value.{Value}
 use Rattle.ilblocks.specs.Stores.{Store}
-use Rattle.ilcode.specs.Listings.{Listing, end_of}
-use Rattle.ilcode.specs.Steps.{Configuration, at, word_at, step_by, step, start, Ends}
+use Rattle.ilblocks.specs.Calls.{Block}
+use Rattle.ilcode.specs.Lasting.{Leaves, begun, left_of}
+use Rattle.ilcode.specs.Listings.{Listing, end_of, slots_end}
+use Rattle.ilcode.specs.Steps.{Configuration, at, entered, is_start, word_at, step_by, step, start, Ends}
 use Rattle.ilcode.specs.Steps as code_steps
 use Rattle.ilcompile.proofs.Runs.{Leads, after, same_last}
-use Rattle.ilcompile.proofs.ScanRuns.{Comes}
+use Rattle.ilcompile.proofs.Reaches.{Reaches, Stuck, calm_start}
+use Rattle.ilcompile.proofs.Seen.{SeenWhole}
+use Rattle.ilcompile.proofs.Slots.{same_front}
 
 -- a run with one step more at its end is one with one step more at its beginning
 module _ {S : Type 0} (f : S → Option S) where
@@ -47,28 +51,97 @@ module _ (code : Listing) where
       → Leads (step code) (start from) (at (end_of code 0) to e.result [] [])
   leads_by from to n e = record { steps = n; is = sym (same_after code n (start from)) ∙ e.run.is }
 
-  pub one_end : (from to : Store) (n : ℕ) (o : Option Store) → Comes code (start from) o
-      → Ends code from n to → o ≡ Some to
-  one_end from to n None h e =
-      let end = at (end_of code 0) to e.result [] [] in
-      let same =
-      same_last (step code) (start from) h.last end h.leads h.none_on (leads_by from to n e)
-      (end_last to e.result) in
-      let none = sym (ap (word_at code) same ∙ no_word to e.result) ∙ h.stands in
-      absurd cc
-  one_end from to n (Some s) h e =
-      let end = at (end_of code 0) to e.result [] [] in
-      let same =
-      same_last (step code) (start from) (at (end_of code 0) s h.0 [] []) end h.1 (end_last s h.0)
-      (leads_by from to n e) (end_last to e.result) in
-      ap (λ (c : Configuration). Some c.store) same
+  -- a run that comes to the end stands there
+  record StandsAt (from t : Store) : Type 0 where
+    result : Option Value
+    run : Leads (step code) (start from) (at (end_of code 0) t result [] [])
 
-  pub some_end : (from to : Store) (o : Option Store) → Comes code (start from) o → o ≡ Some to
-      → (n : ℕ) × Ends code from n to
-  some_end from to None h e = absurd cc
-  some_end from to (Some s) h e =
-      let q : s ≡ to = cc in (
-        h.1.steps,
-        subst (λ x. Ends code from h.1.steps x) q
-            (record { result = h.0; run = record { is = same_after code h.1.steps (start from) ∙ h.1.is } }),
-      )
+  -- the first place is entered with no result and nothing open
+  starts_there : (from : Store) (p : Configuration) → entered code (start from) ≡ Some p → start from ≡ p
+  starts_there from p e = let z : Some (start from) ≡ Some p = sym (calm_start code 0 from) ∙ e in cc
+
+  stands_by : (from t : Store) (r : Option Value) (b : Bool) → is_start code (end_of code 0) ≡ b
+      → Reaches code (start from) (at (end_of code 0) t r [] []) → StandsAt from t
+  stands_by from t r true e l =
+      let p = end_of code 0 in
+      let s = l.from (at p t None [] [])
+      (ap
+      (λ b. cond b (Some (at p t None [] [])) (cond (p == p) (Some (at p t r [] [])) (Some (at p t r [] [])))) e) in
+      record {
+        result = None;
+        run = subst (λ c. Leads (step code) c (at p t None [] [])) (sym (starts_there from s.first s.is)) s.leads;
+      }
+  stands_by from t r false e l =
+      let p = end_of code 0 in
+      let s = l.from (at p t r [] [])
+      (ap
+      (λ b. cond b (Some (at p t None [] [])) (cond (p == p) (Some (at p t r [] [])) (Some (at p t r [] [])))) e
+      ∙ either (p == p) (at p t r [] [])) in
+      record {
+        result = r;
+        run = subst (λ c. Leads (step code) c (at p t r [] [])) (sym (starts_there from s.first s.is)) s.leads;
+      }
+    where
+      either : (b : Bool) (c : Configuration) → cond b (Some c) (Some c) ≡ Some c
+      either true c = refl
+      either false c = refl
+
+  -- ---- what is left
+
+  module _ (n : ℕ) (lasting : slots_end code 0 ≡ n) where
+    -- what shows in a store is what is left of it
+    shown : (s t : Store) → SeenWhole code n s t → s ≡ left_of code t
+    shown s t h =
+        let slots : take (slots_end code 0) t.slots ≡ s.slots =
+        ap (λ k. take k t.slots) (lasting ∙ sym h.many) ∙ same_front s.slots t.slots h.held in
+        sym (ap (λ (vs : List Value). record t { slots = vs }) slots
+        ∙ (ap (λ (bs : List Block). record t { slots = s.slots; blocks = bs }) h.blocks
+        ∙ (ap (λ rs. record t { slots = s.slots; blocks = s.blocks; requests = rs }) h.requests
+        ∙ ap
+        (λ (m : ℕ). record t { slots = s.slots; blocks = s.blocks; requests = s.requests; moment = m }) h.moment)))
+
+    module _ (from : Store) where
+      abbrev begins : Configuration
+      begins = start (begun code from)
+
+      -- the run comes to the end with what shows this store, or is stuck
+      abbrev pub Comes : Option Store → Type 0
+      Comes None = Stuck code begins
+      Comes (Some s) =
+          (t : Store) × (r : Option Value) × SeenWhole code n s t
+          × Reaches code begins (at (end_of code 0) t r [] [])
+
+      pub forth : (o : Option Store) (to : Store) → Comes o → o ≡ Some to → (steps : ℕ) × Leaves code from steps to
+      forth None to h e = absurd cc
+      forth (Some s) to h e =
+          let q : s ≡ to = cc in
+          let there = stands_by (begun code from) h.0 h.1 (is_start code (end_of code 0)) refl h.3 in (
+            there.run.steps,
+            record {
+              end = h.0;
+              run = record {
+                result = there.result;
+                run = record { is = same_after code there.run.steps begins ∙ there.run.is };
+              };
+              left = sym q ∙ shown s h.0 h.2;
+            },
+          )
+
+      pub back : (o : Option Store) (to : Store) (steps : ℕ) → Comes o → Leaves code from steps to → o ≡ Some to
+      back None to steps h l =
+          let end = at (end_of code 0) l.end l.run.result [] [] in
+          let run = subst (λ c. Leads (step code) c h.last) (sym (starts_there (begun code from) h.first h.is))
+          h.leads in
+          let same = same_last (step code) begins h.last end run h.none_on (leads_by (begun code from) l.end steps
+          l.run)
+          (end_last l.end l.run.result) in
+          let none = sym (ap (word_at code) same ∙ no_word l.end l.run.result) ∙ h.stands in
+          absurd cc
+      back (Some s) to steps h l =
+          let there = stands_by (begun code from) h.0 h.1 (is_start code (end_of code 0)) refl h.3 in
+          let here = at (end_of code 0) h.0 there.result [] [] in
+          let end = at (end_of code 0) l.end l.run.result [] [] in
+          let same = same_last (step code) begins here end there.run (end_last h.0 there.result)
+          (leads_by (begun code from) l.end steps l.run) (end_last l.end l.run.result) in
+          let store = ap (λ (c : Configuration). c.store) same in
+          ap Some (shown s h.0 h.2 ∙ (ap (left_of code) store ∙ sym l.left))

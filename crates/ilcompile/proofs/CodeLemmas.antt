@@ -1,19 +1,23 @@
 -- The codes of a plan's tasks: as many as tasks, and each at its task's number.
-use Rattle.std.proofs.Common.{◌≡◌, ℕ, ◌<◌, List, length, get_or, Option, Some, None}
+use Rattle.std.proofs.Common.{◌≡◌, ℕ, ◌<◌, List, [], ◌∷◌, ◌++◌, length, take, get_or, Option, Some, None, refl}
 use Rattle.std.proofs.Common.{sym, ap, ◌∙◌, subst}
-use Rattle.std.specs.Prelude.{slice_get, IfSome, IsSomeAnd, MatchOption, option_map, ⊤}
+use Rattle.std.specs.Prelude.{slice_get, flat_map, IfSome, IsSomeAnd, MatchOption, option_map, ⊤}
 use Rattle.std.specs.Arc.{arc_value}
 use Rattle.std.specs.List.{AllZip}
 use Rattle.std.specs.declared.alloc.Global.{Global}
 use Rattle.std.specs.declared.sync.Arc.{Arc}
-use Rattle.std.proofs.lemmas.List.{length-map}
+use Rattle.std.proofs.lemmas.List.{append-nil, length-map}
 use Rattle.std.proofs.lemmas.Option.{slice_get-map, slice_get-get_or}
 use Rattle.std.proofs.lemmas.Slice.Zip.{AllZip-left, AllZip-long, AllZip-right}
 use Rattle.std.proofs.Math.Seq.{take-length}
-use Rattle.ilplan.specs.Plans.{Planned, PlannedTask, types_of}
-use Rattle.ilcode.specs.Listings.{lasting_types}
+use Rattle.ilsource.specs.Words as counts
+use Rattle.ilplan.specs.declared.slot.Slot.{Slot}
+use Rattle.ilplan.specs.Functions.{PlannedFunction, function_types}
+use Rattle.ilplan.specs.Plans.{Planned, PlannedTask, all_lines, functions_of, types_of}
+use Rattle.ilcode.specs.Listings.{first_or, lasting_types}
 use Rattle.ilverify.specs.Certificates.{IsAccepted}
 use Rattle.ilverify.specs.Verdicts.{Accepted}
+use Rattle.ilcompile.specs.Layout.{bodies_from, laid_out}
 use Rattle.ilcompile.specs.Loaded.{AreCodes, IsCodeOf, accepted_of, listing_for}
 
 -- ---- lists side by side
@@ -68,7 +72,31 @@ pub certified_at : (plan : Planned) (codes : List Accepted) (k : ℕ) (t : Plann
     → slice_get plan.tasks k ≡ Some t → IsAccepted (listing_for plan t)
 certified_at plan codes k t h e = (zipped_with (IsCodeOf plan) plan.tasks codes k t h e).1.certified
 
--- a task's code has no functions, so that all its variables last from scan to scan
+front_is : {A : Type 0} (xs ys : List A) → take (length xs) (xs ++ ys) ≡ xs
+front_is [] ys = refl
+front_is (x ∷ xs) ys = ap (λ (zs : List _). x ∷ zs) (front_is xs ys)
+
+-- the slots of functions stand behind a task's variables, which last from scan to scan
+pub lasting_laid : (buses : ℕ) (text : List ℕ) (functions : List PlannedFunction) (t : PlannedTask)
+    → lasting_types (laid_out buses text functions t) ≡ types_of t
+lasting_laid buses text functions t = by (functions_of functions t)
+  where
+    end : ℕ
+    end = counts.words_of_lines (all_lines t.instances)
+
+    by : (bodies : List PlannedFunction)
+        → take
+        (first_or (slice_get (bodies_from end (length t.slots) bodies) 0)
+        (length (types_of t ++ flat_map function_types bodies)))
+        (types_of t ++ flat_map function_types bodies)
+        ≡ types_of t
+    by [] = take-length (types_of t ++ []) ∙ append-nil (types_of t)
+    by (f ∷ fs) =
+        let types = types_of t ++ flat_map function_types (f ∷ fs) in
+        ap (λ n. take n types) (sym (length-map t.slots (λ (s : Slot). s.value_type)))
+        ∙ front_is (types_of t) (flat_map function_types (f ∷ fs))
+
+-- so all variables of a task last
 pub all_last : (plan : Planned) (t : PlannedTask) (code : Accepted) → IsCodeOf plan t code
     → lasting_types code.code ≡ types_of t
-all_last plan t code h = ap lasting_types h.laid ∙ take-length (types_of t)
+all_last plan t code h = ap lasting_types h.laid ∙ lasting_laid plan.buses plan.text plan.functions t

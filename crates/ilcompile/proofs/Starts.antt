@@ -1,4 +1,4 @@
--- Where programs begin: a start stands at the first place of each, and at no other place.
+-- Where programs and functions begin: a start stands at the first place of each, and at no other place.
 use Rattle.std.proofs.Common.{◌≡◌, ℕ, ◌+◌, ◌<◌, ◌≤◌, List, [], ◌∷◌, ◌++◌, Bool, true, false, ◌||◌}
 use Rattle.std.proofs.Common.{refl, ap, ◌∙◌, arith}
 use Rattle.std.specs.Prelude.{◌==◌, ◌&&◌, nat_lt, ⊤}
@@ -8,6 +8,7 @@ use Rattle.ilsource.specs.declared.instruction.Line.{Line}
 use Rattle.ilsource.specs.Words.{words_of_lines}
 use Rattle.ilplan.specs.declared.place.Place.{Place}
 use Rattle.ilcompile.specs.Layout.{starts_from}
+use Rattle.ilcompile.proofs.UsedFunctions.{either}
 
 abbrev pub Programs : Type 0
 Programs = List (List (Line Place ℕ))
@@ -37,16 +38,34 @@ past (s ∷ before) rest q p l h =
     let le = l.0 in
     ap (λ b. b || starts_at p (before ++ rest)) (not_before s p (omega arith)) ∙ past before rest q p l.1 h
 
-none_yet : (more : Programs) (q p : ℕ) → p < q → starts_at p (starts_from q more) ≡ false
-none_yet [] q p h = refl
-none_yet (lines ∷ more) q p h =
-    let next = q + words_of_lines lines in
-    ap (λ b. b || starts_at p (starts_from next more)) (not_after q p h) ∙ none_yet more next p (omega arith)
+-- no start is before this place
+abbrev pub FromOn : ℕ → List ℕ → Type 0
+FromOn p [] = ⊤
+FromOn p (s ∷ starts) = (p ≤ s) × FromOn p starts
 
--- between the start of a program and that of the next one there is none
-pub none_between : (before : List ℕ) (more : Programs) (p q n : ℕ) → UpTo p before → p < n → n < q
-    → starts_at n (before ++ starts_from q more) ≡ false
-none_between before more p q n l lo hi = past before (starts_from q more) p n l lo ∙ none_yet more q n hi
+pub from_less : (p q : ℕ) (starts : List ℕ) → p ≤ q → FromOn q starts → FromOn p starts
+from_less p q [] h f = tt
+from_less p q (s ∷ starts) h f = (let le = f.0 in omega arith, from_less p q starts h f.1)
+
+pub from_both : (p : ℕ) (one other : List ℕ) → FromOn p one → FromOn p other → FromOn p (one ++ other)
+from_both p [] other f g = g
+from_both p (s ∷ one) other f g = (f.0, from_both p one other f.1 g)
+
+pub programs_from : (q : ℕ) (more : Programs) → FromOn q (starts_from q more)
+programs_from q [] = tt
+programs_from q (lines ∷ more) =
+    let next = q + words_of_lines lines in
+    (omega arith, from_less q next (starts_from next more) (omega arith) (programs_from next more))
+
+none_yet : (starts : List ℕ) (q p : ℕ) → FromOn q starts → p < q → starts_at p starts ≡ false
+none_yet [] q p f h = refl
+none_yet (s ∷ starts) q p f h =
+    let le = f.0 in ap (λ b. b || starts_at p starts) (not_after s p (omega arith)) ∙ none_yet starts q p f.1 h
+
+-- between the start of a program and the next start there is none
+pub none_between : (before rest : List ℕ) (p q n : ℕ) → UpTo p before → FromOn q rest → p < n → n < q
+    → starts_at n (before ++ rest) ≡ false
+none_between before rest p q n l f lo hi = past before rest p n l lo ∙ none_yet rest q n f hi
 
 -- a program begins between the two places
 abbrev pub begins_between : ℕ → ℕ → List ℕ → Bool
@@ -71,22 +90,17 @@ none_behind (s ∷ before) rest q p n l h =
     ap (λ b. b || begins_between p n (before ++ rest)) (is_behind s p n (omega arith))
     ∙ none_behind before rest q p n l.1 h
 
-none_ahead : (more : Programs) (q p n : ℕ) → n ≤ q → begins_between p n (starts_from q more) ≡ false
-none_ahead [] q p n h = refl
-none_ahead (lines ∷ more) q p n h =
-    let next = q + words_of_lines lines in
-    ap (λ b. b || begins_between p n (starts_from next more)) (is_ahead q p n h)
-    ∙ none_ahead more next p n (omega arith)
+none_ahead : (starts : List ℕ) (q p n : ℕ) → FromOn q starts → n ≤ q → begins_between p n starts ≡ false
+none_ahead [] q p n f h = refl
+none_ahead (s ∷ starts) q p n f h =
+    let le = f.0 in
+    ap (λ b. b || begins_between p n starts) (is_ahead s p n (omega arith)) ∙ none_ahead starts q p n f.1 h
 
--- within a program none begins
-pub none_within : (before : List ℕ) (more : Programs) (q p n end : ℕ) → UpTo q before → q ≤ p → n ≤ end
-    → begins_between p n (before ++ starts_from end more) ≡ false
-none_within before more q p n end l lo hi =
-    none_behind before (starts_from end more) q p n l lo ∙ none_ahead more end p n hi
-
-either : (b c : Bool) → c ≡ true → (b || c) ≡ true
-either true c f = refl
-either false c f = f
+-- within a program or a body none begins
+pub none_within : (before rest : List ℕ) (q p n end : ℕ) → UpTo q before → FromOn end rest → q ≤ p → n ≤ end
+    → begins_between p n (before ++ rest) ≡ false
+none_within before rest q p n end l f lo hi =
+    none_behind before rest q p n l lo ∙ none_ahead rest end p n f hi
 
 -- a program begins where its words do
 pub one_there : (before after : List ℕ) (p : ℕ) → starts_at p (before ++ p ∷ after) ≡ true

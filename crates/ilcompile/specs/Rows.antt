@@ -1,12 +1,13 @@
 -- Worked layouts. The text has a line feed at each place, so that what is at place k stands on line k + 1.
 use Rattle.std.specs.Prelude.{◌≡◌, ℕ, pos, true, false, List, [], ◌∷◌, map, flat_map, replicate, Some}
 use Rattle.std.specs.Prelude.{None, length, ⊤}
+use Rattle.iltypes.specs.declared.value.IlType.{IlType}
 use Rattle.iltypes.specs.declared.value.IlType.TheVariants as types
 use Rattle.iltypes.specs.declared.value.Value.{Value}
 use Rattle.iltypes.specs.declared.value.Value.TheVariants as values
 use Rattle.iltypes.specs.declared.condition.Condition.{Condition}
 use Rattle.iltypes.specs.declared.condition.Condition.TheVariants.{Always, IfTrue, IfFalse}
-use Rattle.iltypes.specs.declared.operator.Operator.TheVariants.{Mul, Sub, Eq, Min, Max}
+use Rattle.iltypes.specs.declared.operator.Operator.TheVariants.{Add, Div, Mul, Sub, Eq, Min, Max}
 use Rattle.ilsource.specs.declared.arguments.Argument.{Argument}
 use Rattle.ilsource.specs.declared.operand.Operand.{Operand}
 use Rattle.ilsource.specs.declared.operand.Operand.TheVariants.{Name, Constant}
@@ -17,7 +18,10 @@ use Rattle.ilsource.specs.Trees as trees
 use Rattle.ilsource.specs.declared.name.Name.{Name as NameInText}
 use Rattle.ilblocks.specs.declared.kind.BlockKind.{BlockKind}
 use Rattle.ilblocks.specs.declared.kind.BlockKind.TheVariants as kinds
+use Rattle.ilplan.specs.Functions.{PlannedFunction, function_of}
 use Rattle.ilplan.specs.declared.activation.Activation.TheVariants.{Cyclic}
+use Rattle.ilplan.specs.declared.function.FunctionInput.{FunctionInput}
+use Rattle.ilplan.specs.declared.function.FunctionVariable.{FunctionVariable}
 use Rattle.ilplan.specs.declared.instance.FunctionBlock.{FunctionBlock}
 use Rattle.ilplan.specs.declared.slot.Slot.{Slot}
 use Rattle.ilplan.specs.declared.slot.SlotOwner.TheVariants.{Own}
@@ -25,6 +29,7 @@ use Rattle.ilplan.specs.declared.place.Place.{Place}
 use Rattle.ilplan.specs.declared.place.Place.TheVariants as places
 use Rattle.ilplan.specs.Constants.{different_constants}
 use Rattle.ilplan.specs.Plans.{PlannedTask, task_of}
+use Rattle.ilcode.specs.declared.function.FunctionBody.{FunctionBody}
 use Rattle.ilcode.specs.declared.word.WordOperand.TheVariants as operands
 use Rattle.ilcode.specs.declared.word.Target.{Target}
 use Rattle.ilcode.specs.declared.word.Target.TheVariants as variables
@@ -51,7 +56,7 @@ task programs constants =
 -- on two buses they are laid out with these constants, starts, words, and a line for each of these
 abbrev pub AreLaidOut : List (List (Line Place ℕ)) → List Value → List ℕ → List Word → List ℕ → Type 0
 AreLaidOut programs constants starts ws numbers =
-    laid_out 2 (replicate 20 10) (task programs (different_constants (flat_map (λ lines. lines) programs)))
+    laid_out 2 (replicate 20 10) [] (task programs (different_constants (flat_map (λ lines. lines) programs)))
     ≡ listing_of 2 constants (types.Bool ∷ types.Bool ∷ []) (kinds.Ton ∷ kinds.RTrig ∷ []) starts ws numbers []
 
 abbrev pub truth : Value
@@ -242,6 +247,72 @@ words_over_call =
     words.Load false (operands.Slot 0) ∷ words.Jump IfTrue 6 ∷ words.Jump IfFalse 6
     ∷ words.Pass 0 0 (operands.Slot 0) ∷ words.Pass 1 0 (operands.Constant 0) ∷ words.Call 0
     ∷ words.Store false in_b ∷ []
+
+-- ---- functions
+
+abbrev pub small : IlType
+small = types.Int (record { lo = pos 0; hi = pos 100; ordered = record { le = tt } })
+
+abbrev pub large : IlType
+large = types.Int (record { lo = pos 0; hi = pos 200; ordered = record { le = tt } })
+
+abbrev pub input : IlType → FunctionInput
+input value_type = record { name = no_name; value_type = value_type }
+
+abbrev pub variable : IlType → FunctionVariable
+variable value_type = record { name = no_name; value_type = value_type; initial = whole 0 }
+
+abbrev pub invoke : ℕ → ℕ → List (Operand Place) → Line Place ℕ
+invoke at number operands = line at (instructions.Invoke (places.Function number) operands)
+
+-- half the input: LD x, DIV 2, ST half
+abbrev pub half : PlannedFunction
+half =
+    function_of no_name 1 (input large ∷ []) (variable small ∷ [])
+    (ld 3 (Name (places.Slot 0)) ∷ line 4 (instructions.Apply Div (Constant (whole 2))) ∷ st 5 1 ∷ [])
+
+-- the like of it, which none calls
+abbrev pub no_one : PlannedFunction
+no_one = function_of no_name 6 (input large ∷ []) (variable large ∷ []) (invoke 7 0 [] ∷ [])
+
+-- half the sum of two inputs: LD x, ADD y, half(), ST mean
+abbrev pub mean : PlannedFunction
+mean =
+    function_of no_name 8 (input small ∷ input large ∷ []) (variable small ∷ [])
+    (ld 10 (Name (places.Slot 0)) ∷ line 11 (instructions.Apply Add (Name (places.Slot 1))) ∷ invoke 12 0 []
+    ∷ st 13 2 ∷ [])
+
+abbrev pub functions : List PlannedFunction
+functions = half ∷ no_one ∷ mean ∷ []
+
+-- LD 5, mean(9), ST b
+abbrev pub averaging : List (Line Place ℕ)
+averaging = ld 15 (Constant (whole 5)) ∷ invoke 16 2 (Constant (whole 9) ∷ []) ∷ st 17 1 ∷ []
+
+-- the program's words; those of half, which begin at place 5; and those of mean, from place 9 on
+abbrev pub words_of_averaging : List Word
+words_of_averaging =
+    words.Load false (operands.Constant 0) ∷ words.Store false (variables.Slot 4)
+    ∷ words.Give (operands.Constant 1) 5 ∷ words.Invoke 1 ∷ words.Store false in_b
+    ∷ words.Give (operands.Constant 2) 3 ∷ words.Load false (operands.Slot 2)
+    ∷ words.Apply Div (operands.Constant 3) ∷ words.Store false (variables.Slot 3)
+    ∷ words.Give (operands.Constant 2) 6 ∷ words.Load false (operands.Slot 4)
+    ∷ words.Apply Add (operands.Slot 5) ∷ words.Store false (variables.Slot 2) ∷ words.Invoke 0
+    ∷ words.Store false (variables.Slot 6) ∷ []
+
+abbrev pub bodies_of_averaging : List FunctionBody
+bodies_of_averaging =
+    record { start = 5; first = 2; inputs = 1; slots = 2 } ∷ record { start = 9; first = 4; inputs = 2; slots = 3 } ∷ []
+
+-- the task calls mean, and so it has half, but not the function between them
+abbrev pub AveragingIsLaidOut : Type 0
+AveragingIsLaidOut =
+    let constants = whole 5 ∷ whole 9 ∷ whole 0 ∷ whole 2 ∷ [] in
+    laid_out 2 (replicate 20 10) functions (task (averaging ∷ []) constants)
+    ≡ listing_of 2 constants
+    (types.Bool ∷ types.Bool ∷ large ∷ small ∷ small ∷ large ∷ small ∷ [])
+    (kinds.Ton ∷ kinds.RTrig ∷ []) (0 ∷ []) words_of_averaging
+    (16 ∷ 17 ∷ 17 ∷ 17 ∷ 18 ∷ 2 ∷ 4 ∷ 5 ∷ 6 ∷ 9 ∷ 11 ∷ 12 ∷ 13 ∷ 13 ∷ 14 ∷ []) bodies_of_averaging
 
 -- each line loads a constant
 abbrev pub AreLoads : List (Line Place ℕ) → Type 0

@@ -13,6 +13,7 @@ ghost use Rattle.ilcompile.specs.Rows.{astray, words_astray};
 ghost use Rattle.ilcompile.specs.Rows.{calling, words_calling};
 ghost use Rattle.ilcompile.specs.Rows.{calling_if, words_calling_if};
 ghost use Rattle.ilcompile.specs.Rows.{over_call, words_over_call};
+ghost use Rattle.ilcompile.specs.Rows.{AveragingIsLaidOut};
 
 /// Words in parentheses stand on lines of their own; a program without lines has a start; equal
 /// constants have one number, and 1 is not TRUE.
@@ -50,4 +51,10 @@ fn calls()
         words_calling_if (3 ∷ 4 ∷ 4 ∷ 4 ∷ 5 ∷ 6 ∷ 6 ∷ 7 ∷ 8 ∷ 8 ∷ 8 ∷ 8 ∷ []) }
     ensures over_call { AreLaidOut (over_call ∷ []) (whole 7 ∷ []) (0 ∷ [])
         words_over_call (3 ∷ 4 ∷ 5 ∷ 5 ∷ 5 ∷ 5 ∷ 6 ∷ []) }
+{}
+
+/// A task has the functions that it uses, behind its program: one that it calls, and one that this
+/// one calls, but not the one between them.
+fn functions()
+    ensures { AveragingIsLaidOut }
 {}

@@ -5,6 +5,6 @@ use Rattle.ilcompile.proofs.words.push_lines.Given as goal
 
 abbrev pub invariant-loop-line : goal.invariant-loop-line
 invariant-loop-line l =
-    AreLeft l.constants l.end
-    (l.initial.words.items ++ words_of_lines l.constants l.end (length l.initial.words.items) l.lines)
+    AreLeft l.numbers l.end
+    (l.initial.words.items ++ words_of_lines l.numbers l.end (length l.initial.words.items) l.lines)
     l.words.items l.targets.items (drop l.line-index l.lines)
