@@ -5,7 +5,7 @@ ghost use Rattle.iltypes.specs.Values.{AreOf};
 ghost use Rattle.ilcode.specs.Listings.{lasting_types, slots_end};
 ghost use Rattle.ilrows.specs.Banks.{kinds_of, kinds_of_types};
 ghost use Rattle.ilmachine.specs.MachineSteps.{IsRoomFor};
-ghost use Rattle.ilmachine.specs.Scans.{least_of, least_values};
+ghost use Rattle.ilcode.specs.Lasting.{least_of, least_values};
 
 use ilcode::Code;
 use ilrows::ValueRow;

@@ -3,7 +3,7 @@ use Rattle.ilblocks.specs.Stores.{Store}
 use Rattle.ilcode.specs.Listings.{Listing}
 use Rattle.ilverify.specs.Verdicts.{Accepted}
 use Rattle.ilmachine.specs.MachineSteps.{IsPrepared}
-use Rattle.ilmachine.specs.Scans.{least_values}
+use Rattle.ilcode.specs.Lasting.{least_values}
 use Rattle.ilmachine.proofs.Prepared.{prepared_whole}
 use Rattle.ilmachine.proofs.state.State.begin.Goals as goal
 
