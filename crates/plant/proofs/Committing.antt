@@ -10,15 +10,12 @@ use Rattle.std.specs.Prelude.{if◌then◌else◌, is_some, slice_get, IfSome, m
 use Rattle.gearcmd.specs.declared.requests.Request.{Request}
 use Rattle.ilblocks.specs.Stores.{Store}
 use Rattle.ilcode.specs.Listings.{Listing}
-use Rattle.ilcode.specs.Steps.{Ends}
-use Rattle.ilplan.specs.Plans.{PlannedTask, KeepsLimits}
+use Rattle.ilplan.specs.Plans.{PlannedTask}
 use Rattle.ilplan.specs.PlanMeaning.{plan_scan}
-use Rattle.ilcompile.proofs.Meant.{is_meant}
 use Rattle.ilverify.specs.Verdicts.{Accepted}
 use Rattle.ilimage.specs.Images.{ProcessImage, TaskImage, TaskLayout}
 use Rattle.ilimage.specs.Snapshots.{ScanStart}
 use Rattle.ilmachine.specs.Scans.{Scan, IsScan, store_of}
-use Rattle.ilmachine.proofs.ScanEnds.{plain_run}
 use Rattle.ilcompile.specs.Loaded.{AreCodes, IsCodeOf}
 use Rattle.ilcompile.proofs.CodeLemmas.{zipped_at}
 use Rattle.plantevents.specs.declared.event.Event.{Event}
@@ -115,34 +112,30 @@ code_there (x ∷ tasks) (y ∷ codes) (suc t) code many is =
 
 -- the run of a task's code ends with what its programs mean
 pub result_meant : (p : Plant) (running : OpenScan) (task : PlannedTask) (result : Scan)
-    → slice_get p.plan.tasks running.task ≡ Some task → KeepsLimits task
+    → slice_get p.plan.tasks running.task ≡ Some task
     → IsCodeOf p.plan task result.snapshot.verified → result.number ≡ running.place
     → result.snapshot ≡ running.snapshot
     → IsScan result.snapshot.verified (store_of result.snapshot) result.steps result.after
     → IsResult p running result
-result_meant p running task result is_task limits of_task number same run =
-    let code = result.snapshot.verified in
-    let none : code.code.functions ≡ [] = ap (λ (l : Listing). l.functions) of_task.laid in
-    let ends = subst (λ (l : Listing). Ends l (store_of result.snapshot) result.steps result.after) of_task.laid
-    (plain_run code (store_of result.snapshot) result.after result.steps none run) in
-    let meant = (is_meant p.plan.buses p.plan.text task limits).means (store_of result.snapshot) result.after
-    result.steps ends in
+result_meant p running task result is_task of_task number same run =
+    let meant = of_task.meant.means (store_of result.snapshot) result.after result.steps run.lasting run.run in
     record {
       number = number;
       snapshot = same;
       task = task;
       is_task = is_task;
-      meant = subst (λ (s : ScanStart). plan_scan p.plan.buses task (store_of s) ≡ Some result.after) same meant;
+      meant = subst
+          (λ (s : ScanStart). plan_scan p.plan.buses p.plan.functions task (store_of s) ≡ Some result.after) same meant;
       run = subst (λ (s : ScanStart). IsScan s.verified (store_of s) result.steps result.after) same run;
     }
 
 -- the scan that a worker has open may be committed
 pub open_committed : (p : Shown) (k : KeptPlant) (w t : ℕ) (task : PlannedTask) (result : Scan) → Says p k
     → AreCodes p.plant.plan p.plant.codes → IsOpenScanOf p w result t
-    → slice_get p.plant.plan.tasks t ≡ Some task → KeepsLimits task
+    → slice_get p.plant.plan.tasks t ≡ Some task
     → IsScan result.snapshot.verified (store_of result.snapshot) result.steps result.after
     → IsScanOfTask p w result t
-open_committed p k w t task result says coded open_scan is_task limits run =
+open_committed p k w t task result says coded open_scan is_task run =
     let running = open_scan.is.running in
     let of = open_of_task p.plant w running p.history says.legal open_scan.is.is_open in
     let is_code : slice_get p.plant.codes t ≡ Some result.snapshot.verified =
@@ -153,7 +146,7 @@ open_committed p k w t task result says coded open_scan is_task limits run =
     let buses : result.snapshot.verified.code.buses ≡ p.plant.plan.buses =
     ap (λ (code : Listing). code.buses) of_task.laid in
     let its = subst (All (λ (r : Request). r.bus < result.snapshot.verified.code.buses))
-    (sym (ap (λ (s : Store). s.requests) run.left)) run.in_types.requests in
+    (sym (ap (λ (s : Store). s.requests) run.run.left)) run.in_types.requests in
     record {
       allowed = record {
         known = open_scan.is.known;
@@ -161,7 +154,7 @@ open_committed p k w t task result says coded open_scan is_task limits run =
         is_open = open_scan.is.is_open;
         place = sym open_scan.is.number;
         meant = result_meant p.plant running task result (ap (slice_get p.plant.plan.tasks) open_scan.task ∙ is_task)
-            limits of_task open_scan.is.number open_scan.is.snapshot run;
+            of_task open_scan.is.number open_scan.is.snapshot run;
       };
       task = open_scan.task;
       known = open_known p k w t result says open_scan;

@@ -15,13 +15,13 @@ use Rattle.ilplan.specs.declared.slot.SlotOwner as slots
 use Rattle.ilplan.specs.declared.slot.SlotOwner.TheVariants as slot
 use Rattle.ilplan.specs.Plans as plans
 use Rattle.ilplan.specs.Plans.{PlannedTask, Planned, Precedes, AreOrdered, IsDeclared, type_and_initial}
-use Rattle.ilplan.specs.Plans.{types_of, KeepsLimits, IsTaskOf}
-use Rattle.ilcode.specs.Listings.{Listing, lasting_types}
+use Rattle.ilplan.specs.Plans.{KeepsLimits, IsTaskOf}
+use Rattle.ilcode.specs.Listings.{lasting_types}
 use Rattle.ilverify.specs.Verdicts.{Accepted}
 use Rattle.ilimage.specs.declared.external.External.{External}
 use Rattle.ilimage.specs.Images.{IsImage, image_of}
 use Rattle.ilimage.specs.Images.{AreTyped, AreApart, IsLawfulTask, TaskImage, first_task}
-use Rattle.ilimage.proofs.LastingSlots.{all_last}
+use Rattle.ilcompile.proofs.CodeLemmas.{all_last}
 use Rattle.ilcompile.specs.Loaded.{Loaded, IsCodeOf}
 use Rattle.plantevents.specs.Plants.{external_in, externals_from, externals_of, own_by, own_initials, first_tasks}
 use Rattle.plantevents.proofs.Slots.{variables, owns, external_of, first_global, first_own, owns_global, owns_own}
@@ -134,28 +134,21 @@ owned_from task n (x ∷ more) ordered typed =
 
 -- ---- a task before its first scan
 
--- the slots of the code that is laid out for a task are those of the task
-laid_types : (plan : Planned) (task : PlannedTask) (code : Accepted) → IsCodeOf plan task code
-    → lasting_types code.code ≡ types_of task
-laid_types plan task code is =
-    all_last code.code (ap (λ (l : Listing). l.functions) is.laid) ∙ ap (λ (l : Listing). l.slots) is.laid
-
-pub lawful_task : (plan : Planned) (task : PlannedTask) (code : Accepted) → KeepsLimits task → IsTaskOf plan.globals
-    task
-    → IsCodeOf plan task code → IsLawfulTask (global_types plan)
+pub lawful_task : (plan : Planned) (task : PlannedTask) (code : Accepted) → KeepsLimits plan.functions task
+    → IsTaskOf plan.globals task → IsCodeOf plan task code → IsLawfulTask (global_types plan)
     (record { verified = code; externals = externals_of task })
 lawful_task plan task code limits declared is =
-    let slots = laid_types plan task code is in
+    let slots = all_last plan task code is in
     record {
       typed = subst (λ (ts : List IlType). AreTyped (global_types plan) ts (externals_of task)) (sym slots)
           (typed_from plan.globals task 0 task.slots limits.ordered declared.1);
       apart = apart_from task 0 task.slots limits.ordered;
     }
 
-pub owned_task : (plan : Planned) (task : PlannedTask) (code : Accepted) → KeepsLimits task → IsCodeOf plan task code
-    → AreOf (own_initials task) (drop (length (externals_of task)) (lasting_types code.code))
+pub owned_task : (plan : Planned) (task : PlannedTask) (code : Accepted) → KeepsLimits plan.functions task
+    → IsCodeOf plan task code → AreOf (own_initials task) (drop (length (externals_of task)) (lasting_types code.code))
 owned_task plan task code limits is =
-    let slots = laid_types plan task code is in
+    let slots = all_last plan task code is in
     subst (λ (ts : List IlType). AreOf (own_initials task) (drop (length (externals_of task)) ts)) (sym slots)
     (owned_from task 0 task.slots limits.ordered limits.initials)
 
@@ -241,7 +234,7 @@ of_this o task P is all = subst (λ (q : Option PlannedTask). IfSome q P) is all
 
 pub owned_values : (setup : Loaded) (t : ℕ) (task : PlannedTask) (code : Accepted) (es : List External)
     (vs : List Value)
-    → slice_get setup.plan.tasks t ≡ Some task → KeepsLimits task
+    → slice_get setup.plan.tasks t ≡ Some task → KeepsLimits setup.plan.functions task
     → IfSome (slice_get setup.plan.tasks t) (λ task. IsCodeOf setup.plan task code)
     → es ≡ externals_of task → vs ≡ own_initials task → AreOf vs (drop (length es) (lasting_types code.code))
 owned_values setup t task code es vs is limits coded named owned =
@@ -252,7 +245,7 @@ owned_values setup t task code es vs is limits coded named owned =
 
 pub first_made : {E : Type 0} (setup : Loaded) (t : ℕ) (task : PlannedTask) (code : Accepted) (es : List External)
     (vs : List Value) (made : Result TaskImage E) → slice_get setup.plan.tasks t ≡ Some task
-    → slice_get setup.codes t ≡ Some code → KeepsLimits task → IsTaskOf setup.plan.globals task
+    → slice_get setup.codes t ≡ Some code → KeepsLimits setup.plan.functions task → IsTaskOf setup.plan.globals task
     → IfSome (slice_get setup.plan.tasks t) (λ task. IsCodeOf setup.plan task code)
     → es ≡ externals_of task → vs ≡ own_initials task → IfOk made (λ image. image ≡ first_task code es vs)
     → IfOk made (IsFirstImage setup t)

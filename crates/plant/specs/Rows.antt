@@ -7,7 +7,7 @@ use Rattle.plant.specs.Shown.{Shown, opened, grown}
 
 -- one bus, no task
 abbrev pub idle_house : Loaded
-idle_house = loaded_of (plan_of [] 1 [] [] [] []) []
+idle_house = loaded_of (plan_of [] 1 [] [] [] [] []) []
 
 abbrev pub quiet : Shown
 quiet = opened idle_house 1 100

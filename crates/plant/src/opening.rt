@@ -86,7 +86,7 @@ fn own_values(alloc: Global, task: &Task) -> Result<Vec<Value>, AllocError>
 fn planned_task(setup: &Setup, task: usize) -> &Task
     requires { task < length setup.now.plan.tasks }
     ensures value { slice_get setup.now.plan.tasks task ≡ Some result.now }
-    ensures limits { KeepsLimits result.now }
+    ensures limits { KeepsLimits setup.now.plan.functions result.now }
     ensures declared { IsTaskOf setup.now.plan.globals result.now }
 {
     setup.plan().task(task)

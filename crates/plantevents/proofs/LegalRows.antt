@@ -44,10 +44,13 @@ one = record { low = record { le = tt }; high = record { le = tt } }
 runs : IsScan copying (store_of first_snapshot) 2 first_result.after
 runs =
     record {
-      end = first_result.after;
-      run = record { result = _; run = record { is = refl } };
+      lasting = refl;
+      run = record {
+        end = first_result.after;
+        run = record { result = _; run = record { is = refl } };
+        left = refl;
+      };
       in_types = record { slots = (one, (one, tt)); blocks = tt; requests = λ k d lt. absurd (omega arith) };
-      left = refl;
       few = omega arith;
       asks = omega arith;
       moment = refl;

@@ -34,7 +34,7 @@ pub record IsResult (p : Plant) (running : OpenScan) (result : Scan) : Type 0 wh
   pub snapshot : result.snapshot ≡ running.snapshot
   pub task : PlannedTask
   pub is_task : task_at p running.task ≡ Some task
-  pub meant : plan_scan p.plan.buses task (store_of running.snapshot) ≡ Some result.after
+  pub meant : plan_scan p.plan.buses p.plan.functions task (store_of running.snapshot) ≡ Some result.after
   pub run : IsScan running.snapshot.verified (store_of running.snapshot) result.steps result.after
 
 -- the scan from place n, which the worker has open, came to this result

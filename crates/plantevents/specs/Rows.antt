@@ -106,7 +106,7 @@ button = record { scheme = DeviceInstance; a = 5; b = 2 }
 abbrev pub house : Plant
 house =
     record {
-      plan = plan_of [] 1 (record { bus = 0; number = 0; source = button } ∷ []) [] globals tasks;
+      plan = plan_of [] 1 (record { bus = 0; number = 0; source = button } ∷ []) [] globals [] tasks;
       codes = map code tasks;
       workers = 2;
     }

@@ -21,5 +21,5 @@ returns-clause-allowed c =
     let is_task = subst (λ (plan : Planned). slice_get plan.tasks t ≡ Some task) c.plan.ensures.value
     c.task-limits.ensures.value in
     subst (λ (p : Shown). IsScanOfTask p w scan t) c.self.view_is
-    (open_committed _ _ w t task scan c.self.invariant c.plan.ensures.codes is is_task c.task-limits.ensures.limits
+    (open_committed _ _ w t task scan c.self.invariant c.plan.ensures.codes is is_task
     c.row-run.ensures.run)
