@@ -2,7 +2,7 @@
 use Rattle.std.proofs.Common.{◌≡◌, ℕ, zero, suc, ◌≤◌, List, [], ◌∷◌, length, Option, Some, sym, ap, ◌∙◌, subst, arith}
 use Rattle.std.proofs.Common.{◌++◌, ◌*◌, length-append, refl}
 use Rattle.std.specs.Prelude.{slice_get, map, All, IfSome}
-use Rattle.std.proofs.lemmas.List.{length-map, map-append}
+use Rattle.std.proofs.lemmas.List.{length-map, length-take, map-append}
 use Rattle.std.proofs.lemmas.List.Elements.{All-nil, All-append, All-cons}
 use Rattle.iltypes.specs.declared.value.IlType.{IlType}
 use Rattle.iltypes.specs.declared.value.Value.{Value}
@@ -12,20 +12,18 @@ use Rattle.gearcmd.specs.declared.requests.Request.{Request}
 use Rattle.ilblocks.specs.Stores.{Lasting, Store, store_at}
 use Rattle.ilsource.specs.SourceTrees.{Tree}
 use Rattle.ilplan.specs.declared.slot.Slot.{Slot}
-use Rattle.ilplan.specs.Plans.{Planned, PlannedTask, KeepsLimits, first_values, types_of}
+use Rattle.ilplan.specs.Plans.{Planned, PlannedTask, first_values, types_of}
 use Rattle.ilsyms.specs.Meaning.{source_scan}
 use Rattle.ilsyms.specs.Resolved.{planned_task}
 use Rattle.ilsyms.specs.Tasks.{SourceTask, tasks_of}
-use Rattle.ilsyms.proofs.SameMeaning.{means_the_same}
-use Rattle.ilcode.specs.Listings.{Listing}
+use Rattle.ilcode.specs.Listings.{lasting_types, slots_end}
 use Rattle.ilcompile.specs.Meant.{IsMeant}
-use Rattle.ilcompile.proofs.Meant.{is_meant}
 use Rattle.ilverify.specs.Verdicts.{Accepted}
 use Rattle.ilmachine.specs.Scans.{IsScan}
-use Rattle.ilmachine.proofs.ScanEnds.{plain_run, plain_types}
 use Rattle.ilcompile.specs.Loaded.{AreCodes, IsCodeOf, Loaded}
 use Rattle.plantload.specs.Loading.{IsPlanOfText, IsSetup}
-use Rattle.ilcompile.proofs.CodeLemmas.{code_at}
+use Rattle.ilcompile.proofs.CodeLemmas.{all_last, code_at}
+use Rattle.plantload.proofs.MeantCodes.{codes_meant}
 use Rattle.answers.specs.Taking.{Taking}
 use Rattle.answers.specs.Answered.{IsFirstCalled, IsStepped, ScansMean}
 use Rattle.answers.specs.Stepping.{ScansTo, AreScansOf, HasTask, lasting_at_first, run_of}
@@ -61,17 +59,24 @@ requests_of each = map (λ taken. taken.requests) each
 record IsLeft (tree : Tree) (buses : ℕ) (task : SourceTask) (code : Accepted) (every scans : ℕ) (from : Lasting)
     (each : List Taking) (to : Lasting) : Type 0 where
   means : ScansMean tree buses task every scans from (requests_of each) to
-  in_types : AreOf to.slots code.code.slots
+  lasting : length to.slots ≡ length (lasting_types code.code)
   many : length each ≡ scans
   few : AreFew code each
 
 module _ (tree : Tree) (buses : ℕ) (task : SourceTask) (code : Accepted)
-    (meant : IsMeant buses (planned_task tree task) code.code) (none : code.code.functions ≡ []) where
+    (meant : IsMeant (source_scan tree buses task) code.code) where
   one_scan : (from after : Store) (steps : ℕ) → IsScan code from steps after
       → source_scan tree buses task from ≡ Some after
-  one_scan from after steps scan =
-      sym (means_the_same tree buses task from)
-      ∙ meant.means from after steps (plain_run code from after steps none scan)
+  one_scan from after steps scan = meant.means from after steps scan.lasting scan.run
+
+  -- and as many variables as last are left
+  left_lasting : (from after : Store) (steps : ℕ) → IsScan code from steps after
+      → length after.slots ≡ length (lasting_types code.code)
+  left_lasting from after steps scan =
+      let n = slots_end code.code 0 in
+      let end = as_long scan.run.end.slots code.code.slots scan.in_types.slots in
+      let left = ap (λ (s : Store). length s.slots) scan.run.left in
+      omega (arith, end, left, length-take n scan.run.end.slots, length-take n code.code.slots)
 
   few_more : (before : List Taking) (last : Taking) → AreFew code before → last.steps ≤ code.bound
       → AreFew code (before ++ last ∷ [])
@@ -87,11 +92,12 @@ module _ (tree : Tree) (buses : ℕ) (task : SourceTask) (code : Accepted)
       ap requests_of all ∙ map-append asked before (last ∷ [])
       ∙ ap (λ (rs : List Request). requests_of before ++ rs ∷ []) is
 
-  left : (every scans : ℕ) (from : Lasting) (each : List Taking) (to : Lasting) → AreOf from.slots code.code.slots
+  left : (every scans : ℕ) (from : Lasting) (each : List Taking) (to : Lasting)
+      → length from.slots ≡ length (lasting_types code.code)
       → ScansTo code every scans from each to → IsLeft tree buses task code every scans from each to
   left every zero from each to fit h = record {
     means = (ap requests_of h.0, h.1);
-    in_types = subst (λ (l : Lasting). AreOf l.slots code.code.slots) (sym h.1) fit;
+    lasting = ap (λ (l : Lasting). length l.slots) h.1 ∙ fit;
     many = ap (λ (ts : List Taking). length ts) h.0;
     few = subst (AreFew code) (sym h.0) (All-nil (λ (taken : Taking). taken.steps ≤ code.bound));
   }
@@ -105,8 +111,8 @@ module _ (tree : Tree) (buses : ℕ) (task : SourceTask) (code : Accepted)
       let meant_last = one_scan (store_at h.1 (scans * every)) last.after h.2.steps last.scan in
       record {
         means = (requests_of h.0, h.1, last.after, before.means, meant_last, asked, last.left);
-        in_types = subst (λ (l : Lasting). AreOf l.slots code.code.slots) (sym last.left)
-            (plain_types code (store_at h.1 (scans * every)) last.after h.2.steps none last.scan);
+        lasting = ap (λ (l : Lasting). length l.slots) last.left
+            ∙ left_lasting (store_at h.1 (scans * every)) last.after h.2.steps last.scan;
         many = omega (arith, long, all, earlier);
         few = subst (AreFew code) (sym h.5) (few_more h.0 h.2 before.few last.scan.few);
       }
@@ -119,9 +125,6 @@ setup_is wiring bytes plan setup p same codes = record {
   codes = subst (λ (x : Planned). AreCodes x setup.codes) (sym same) codes;
 }
 
-limits_at : (o : Option PlannedTask) (t : PlannedTask) → o ≡ Some t → IfSome o (λ t. KeepsLimits t) → KeepsLimits t
-limits_at o t is h = rw is at h
-
 typed_at : (o : Option PlannedTask) (t : PlannedTask) → o ≡ Some t
     → IfSome o (λ t. AreOf (first_values t) (types_of t)) → AreOf (first_values t) (types_of t)
 typed_at o t is h = rw is at h
@@ -132,7 +135,6 @@ code_is o t plan code is h = rw is at h
 
 module _ (wiring : Wiring) (bytes : List ℕ) (setup : Loaded) (is : IsSetup wiring bytes setup) (number scans every : ℕ)
     (each : List Taking) (to : Lasting)
-    (limits : IfSome (slice_get setup.plan.tasks number) (λ t. KeepsLimits t))
     (typed : IfSome (slice_get setup.plan.tasks number) (λ t. AreOf (first_values t) (types_of t)))
     (r : AreScansOf setup number scans every each to) where
   abbrev tree : Tree
@@ -146,9 +148,6 @@ module _ (wiring : Wiring) (bytes : List ℕ) (setup : Loaded) (is : IsSetup wir
   abbrev task : SourceTask
   task = of_tree.source
 
-  kept : KeepsLimits r.task
-  kept = limits_at (slice_get setup.plan.tasks number) r.task r.is limits
-
   firsts : AreOf (first_values r.task) (types_of r.task)
   firsts = typed_at (slice_get setup.plan.tasks number) r.task r.is typed
 
@@ -157,31 +156,24 @@ module _ (wiring : Wiring) (bytes : List ℕ) (setup : Loaded) (is : IsSetup wir
       let there = code_at setup.plan setup.codes number r.code is.codes r.coded in
       code_is (slice_get setup.plan.tasks number) r.task setup.plan r.code r.is there
 
-  none : r.code.code.functions ≡ []
-  none = ap (λ (l : Listing). l.functions) coded.laid
+  -- all of the task's variables last
+  lasting : lasting_types r.code.code ≡ types_of r.task
+  lasting = all_last setup.plan r.task r.code coded
 
-  slots : r.code.code.slots ≡ types_of r.task
-  slots = ap (λ (l : Listing). l.slots) coded.laid
-
-  meant : IsMeant wiring.buses (planned_task tree task) r.code.code
-  meant =
-      let laid = is_meant setup.plan.buses setup.plan.text r.task kept in
-      let its = subst (IsMeant setup.plan.buses r.task) (sym coded.laid) laid in
-      let on = ap (λ (p : Planned). p.buses) is.plan.resolved in
-      subst (λ (t : PlannedTask). IsMeant wiring.buses t r.code.code) of_tree.planned
-      (subst (λ (n : ℕ). IsMeant n r.task r.code.code) on its)
+  meant : IsMeant (source_scan tree wiring.buses task) r.code.code
+  meant = codes_meant wiring bytes setup is number task r.code of_tree.is r.coded
 
   done : IsLeft tree wiring.buses task r.code every scans (lasting_at_first r.task) each to
   done =
-      let fit = subst (λ (ts : List IlType). AreOf (first_values r.task) ts) (sym slots) firsts in
-      left tree wiring.buses task r.code meant none every scans (lasting_at_first r.task) each to fit r.run
+      let typed = as_long (first_values r.task) (types_of r.task) firsts in
+      let last = ap (λ (ts : List IlType). length ts) lasting in
+      left tree wiring.buses task r.code meant every scans (lasting_at_first r.task) each to (typed ∙ sym last) r.run
 
   pub has_task : HasTask (run_of setup number each to)
   has_task =
-      let typed = as_long to.slots r.code.code.slots done.in_types in
-      let types = ap (λ (ts : List IlType). length ts) slots in
+      let last = ap (λ (ts : List IlType). length ts) lasting in
       let each_typed = length-map r.task.slots (λ (s : Slot). s.value_type) in
-      record { task = r.task; is = r.is; valued = typed ∙ types ∙ each_typed }
+      record { task = r.task; is = r.is; valued = done.lasting ∙ last ∙ each_typed }
 
   pub stepped : (name : List ℕ) → IsFirstCalled setup.plan name number
       → IsStepped wiring bytes name scans every (run_of setup number each to)

@@ -3,7 +3,7 @@
 ghost use Rattle.std.specs.Prelude.{◌≡◌, ◌<◌, length, slice_get, Result, IfErr, IfOk, IfSome};
 ghost use Rattle.std.specs.Prelude.{MatchOption};
 ghost use Rattle.iltypes.specs.Values.{AreOf};
-ghost use Rattle.ilplan.specs.Plans.{KeepsLimits, first_values, types_of};
+ghost use Rattle.ilplan.specs.Plans.{first_values, types_of};
 ghost use Rattle.std.specs.Option.{option_copied};
 ghost use Rattle.ilcompile.specs.Loaded.{Loaded};
 ghost use Rattle.plantload.specs.Loading.{IsSetup};
@@ -161,7 +161,6 @@ fn run(
     requires { task < length setup.now.plan.tasks }
     ensures made { IfOk result (λ made. AreScansOf setup.now task scans every made.each.items
         made.left.lasting) }
-    ensures limits { IfSome (slice_get setup.now.plan.tasks task) (λ t. KeepsLimits t) }
     ensures typed { IfSome (slice_get setup.now.plan.tasks task)
         (λ t. AreOf (first_values t) (types_of t)) }
 {

@@ -1,15 +1,14 @@
 -- The codes of a plan's first tasks: one task more, and the first task whose code is refused.
-use Rattle.std.proofs.Common.{◌≡◌, ℕ, zero, suc, ◌+◌, ◌<◌, List, [], ◌∷◌, ◌++◌, length, get_or, Option, Some, None}
+use Rattle.std.proofs.Common.{◌≡◌, ℕ, zero, suc, ◌+◌, ◌<◌, List, [], ◌∷◌, ◌++◌, length, Option, Some, None}
 use Rattle.std.proofs.Common.{Result, Ok, Err}
 use Rattle.std.proofs.Common.{refl, sym, ap, ◌∙◌, subst, add-one, take, arith}
-use Rattle.std.specs.Prelude.{slice_get, IfSome, IsSomeAnd, MatchOption, MatchResult, option_map, ⊤}
+use Rattle.std.specs.Prelude.{slice_get, IfSome, MatchResult}
 use Rattle.std.specs.Arc.{arc_value}
 use Rattle.std.specs.List.{AllZip}
 use Rattle.std.specs.declared.alloc.Global.{Global}
 use Rattle.std.specs.declared.sync.Arc.{Arc}
-use Rattle.std.proofs.lemmas.List.{length-map, map-append}
-use Rattle.std.proofs.lemmas.Option.{slice_get-map, slice_get-get_or}
-use Rattle.std.proofs.lemmas.Slice.Zip.{AllZip-left, AllZip-long, AllZip-right, all_zipped_more}
+use Rattle.std.proofs.lemmas.List.{map-append}
+use Rattle.std.proofs.lemmas.Slice.Zip.{all_zipped_more}
 use Rattle.ilcode.specs.Listings.{Listing}
 use Rattle.ilcode.specs.Paths.{IsBound}
 use Rattle.ilplan.specs.Plans.{Planned, PlannedTask}
@@ -17,7 +16,8 @@ use Rattle.ilverify.specs.declared.refusal.VerifyError.{VerifyError}
 use Rattle.ilverify.specs.declared.refusal.VerifyError.TheVariants as verify_errors
 use Rattle.ilverify.specs.Certificates.{IsAccepted, IsError, IsRefusal}
 use Rattle.ilverify.specs.Verdicts.{Accepted}
-use Rattle.ilcompile.specs.Loaded.{AreCodes, IsCodeOf, accepted_of, listing_for}
+use Rattle.ilcompile.specs.Loaded.{IsCodeOf, accepted_of, listing_for, scan_of}
+use Rattle.ilcompile.specs.Meant.{IsMeant}
 use Rattle.ilcompile.proofs.CodeLemmas.{zipped_with}
 use Rattle.plantload.specs.Loading.{IsCodeFault, IsLoadFaultOrMemory}
 use Rattle.plantload.specs.PrintedFaults.{of_error}
@@ -69,13 +69,19 @@ pub was_ok : {A E : Type 0} (F : Type 0) (r : Result A E) (x : A) (Q : E → Typ
 was_ok F (Ok y) x Q h none = let same : x ≡ y = cc in ap Ok (sym same)
 was_ok F (Err e) x Q h none = absurd (none e h)
 
--- what is laid out for a task, accepted with its greatest path, is its code
+-- what is laid out for a task and does what it means, accepted with its greatest path, is its code
 pub is_code : (o : Option PlannedTask) (plan : Planned) (listing : Listing) (code : Accepted)
-    → IfSome o (λ t. listing ≡ listing_for plan t) → code.code ≡ listing → IsAccepted listing
-    → IsBound code.code code.bound → IfSome o (λ t. IsCodeOf plan t code)
-is_code None plan listing code layout same certified bound = tt
-is_code (Some t) plan listing code layout same certified bound =
-    record { laid = same ∙ layout; certified = subst IsAccepted layout certified; bound = bound }
+    → IfSome o (λ t. listing ≡ listing_for plan t) → IfSome o (λ t. IsMeant (scan_of plan t) listing)
+    → code.code ≡ listing → IsAccepted listing → IsBound code.code code.bound
+    → IfSome o (λ t. IsCodeOf plan t code)
+is_code None plan listing code layout meaning same certified bound = tt
+is_code (Some t) plan listing code layout meaning same certified bound =
+    record {
+      laid = same ∙ layout;
+      meant = subst (IsMeant (scan_of plan t)) (sym same) meaning;
+      certified = subst IsAccepted layout certified;
+      bound = bound;
+    }
 
 -- the tasks before one whose code is refused have certificates
 certified_before : (plan : Planned) (n : ℕ) (codes : List (Arc Accepted Global)) → AreFirst plan n codes

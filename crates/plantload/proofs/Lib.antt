@@ -1,2 +1,3 @@
 pub mod CodeLemmas
+pub mod MeantCodes
 pub mod OneAnswer

@@ -7,10 +7,14 @@ use Rattle.iltext.specs.Parsing.{IsText, IsTextFault}
 use Rattle.ilscope.specs.Reports.{ReportsLeast}
 use Rattle.ilplan.specs.Plans.{Planned, PlannedTask}
 use Rattle.ilsyms.specs.Faults.{IsFault, IsWellNamed}
+use Rattle.ilsyms.specs.Meaning.{source_scan}
 use Rattle.ilsyms.specs.Resolved.{plan_of_tree}
+use Rattle.ilsyms.specs.Tasks.{SourceTask, tasks_of}
 use Rattle.ilverify.specs.declared.refusal.Refusal.{Refusal}
 use Rattle.ilverify.specs.Certificates.{IsAccepted, IsRefusal}
+use Rattle.ilverify.specs.Verdicts.{Accepted}
 use Rattle.ilcompile.specs.Loaded.{AreCodes, Loaded, listing_for}
+use Rattle.ilcompile.specs.Meant.{IsMeant}
 use Rattle.plantload.specs.declared.fault.LoadFault.{LoadFault}
 use Rattle.plantload.specs.declared.fault.LoadFault.TheVariants.{Memory, Text, Name, Code}
 
@@ -25,6 +29,12 @@ pub record IsPlanOfText (wiring : Wiring) (bytes : List ℕ) (plan : Planned) : 
 pub record IsSetup (wiring : Wiring) (bytes : List ℕ) (setup : Loaded) : Type 0 where
   pub plan : IsPlanOfText wiring bytes setup.plan
   pub codes : AreCodes setup.plan setup.codes
+
+-- the runs of each of these codes are the scans of the source program's task of the same number, both ways
+abbrev pub AreMeant : Tree → ℕ → List Accepted → Type 0
+AreMeant tree buses codes =
+    (number : ℕ) (task : SourceTask) (code : Accepted) → slice_get (tasks_of tree) number ≡ Some task
+    → slice_get codes number ≡ Some code → IsMeant (source_scan tree buses task) code.code
 
 -- the task of this number is the first whose code has no certificate, and this is its refusal
 pub record IsFirstRefused (plan : Planned) (number : ℕ) (refusal : Refusal) : Type 0 where

@@ -6,13 +6,13 @@ ghost use Rattle.ilblocks.specs.Stores.{Store};
 ghost use Rattle.ilsource.specs.SourceTrees.{Tree};
 ghost use Rattle.ilplan.specs.PlanMeaning.{plan_scan};
 ghost use Rattle.ilsyms.specs.Meaning.{source_scan};
-ghost use Rattle.ilsyms.specs.Resolved.{planned_task};
+ghost use Rattle.ilsyms.specs.Resolved.{planned_functions, planned_task};
 ghost use Rattle.ilsyms.specs.Tasks.{SourceTask};
 ghost use Rattle.ilcode.specs.Paths.{IsBound};
 ghost use Rattle.ilverify.specs.Certificates.{IsError};
 ghost use Rattle.ilcompile.specs.Loaded.{AreCodes, IsCodeOf, Loaded, listing_for};
 ghost use Rattle.plantload.specs.Loading.{IsCodeFault, IsLoadFault, IsLoaded, IsPlanFault};
-ghost use Rattle.plantload.specs.Loading.{IsLoadFaultOrMemory, IsPlanOfText, IsSetup};
+ghost use Rattle.plantload.specs.Loading.{AreMeant, IsLoadFaultOrMemory, IsPlanOfText, IsSetup};
 ghost use Rattle.plantload.specs.PrintedFaults.{of_error};
 ghost use Rattle.plantload.specs.declared.fault.LoadFault.{LoadFault};
 
@@ -35,9 +35,13 @@ use wordlines::Binding;
 pub fn load(alloc: Global, text: &[u8], binding: &Binding) -> Result<Setup, LoadFault>
     ensures setup { IfOk result (IsSetup binding.now text.now) }
     ensures fault { IfErr result (IsLoadFaultOrMemory (IsLoadFault binding.now text.now)) }
+    // The runs of each task's code are the scans of its source program, both ways.
+    ensures meant { IfOk result (λ setup. (is : IsSetup binding.now text.now setup)
+        → AreMeant is.plan.tree binding.now.buses setup.codes) }
     // A scan of a task of the plan leaves what a scan over the source program's names leaves.
     ensures same_meaning { (tree : Tree) (buses : ℕ) (task : SourceTask) (store : Store)
-        → plan_scan buses (planned_task tree task) store ≡ source_scan tree buses task store }
+        → plan_scan buses (planned_functions tree) (planned_task tree task) store
+        ≡ source_scan tree buses task store }
     // A text has at most one answer, but for out of memory.
     ensures one { (a b : Result Loaded LoadFault) → IsLoaded binding.now text.now a
         → IsLoaded binding.now text.now b → a ≡ b }

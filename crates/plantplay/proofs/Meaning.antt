@@ -8,7 +8,7 @@ use Rattle.ilsource.specs.SourceTrees.{Tree}
 use Rattle.ilplan.specs.Plans.{Planned, PlannedTask}
 use Rattle.ilplan.specs.PlanMeaning.{plan_scan}
 use Rattle.ilsyms.specs.Meaning.{source_scan}
-use Rattle.ilsyms.specs.Resolved.{plan_of_tree, planned_task}
+use Rattle.ilsyms.specs.Resolved.{plan_of_tree, planned_functions, planned_task}
 use Rattle.ilsyms.specs.Tasks.{SourceTask, tasks_of}
 use Rattle.ilmachine.specs.Scans.{Scan, store_of}
 use Rattle.plantevents.specs.declared.event.Event.{Event}
@@ -30,7 +30,7 @@ legal_at p (x ∷ later) front e legal = legal_at p later front e legal.1
 
 abbrev pub SameMeaning : Type 0
 SameMeaning = (tree : Tree) (buses : ℕ) (task : SourceTask) (store : Store)
-    → plan_scan buses (planned_task tree task) store ≡ source_scan tree buses task store
+    → plan_scan buses (planned_functions tree) (planned_task tree task) store ≡ source_scan tree buses task store
 
 scan_meant : (p : Plant) (tree : Tree) (wiring : Wiring) → SameMeaning → p.plan ≡ plan_of_tree tree wiring
     → (front : List Event) (w n : ℕ) (result : Scan) → IsCommit p front w n result
@@ -41,8 +41,9 @@ scan_meant p tree wiring same plan front w n result commit =
     subst (λ (x : Planned). slice_get x.tasks t ≡ Some meant.task) plan meant.is_task in
     let source = planned tree t (slice_get (tasks_of tree) t) meant.task
     (sym (slice_get-map (planned_task tree) (tasks_of tree) t) ∙ there) in
-    let after : plan_scan wiring.buses meant.task store ≡ Some result.after =
-    subst (λ (x : Planned). plan_scan x.buses meant.task store ≡ Some result.after) plan meant.meant in
+    let functions = planned_functions tree in
+    let after : plan_scan wiring.buses functions meant.task store ≡ Some result.after =
+    subst (λ (x : Planned). plan_scan x.buses x.functions meant.task store ≡ Some result.after) plan meant.meant in
     record {
       running = commit.running;
       is_open = commit.is_open;
@@ -50,7 +51,7 @@ scan_meant p tree wiring same plan front w n result commit =
       task = source.0;
       is_task = source.1;
       meant = sym (same tree wiring.buses source.0 store)
-          ∙ (ap (λ (x : PlannedTask). plan_scan wiring.buses x store) source.2 ∙ after);
+          ∙ (ap (λ (x : PlannedTask). plan_scan wiring.buses functions x store) source.2 ∙ after);
     }
 
 pub scans_meant : (p : Plant) (tree : Tree) (wiring : Wiring) → SameMeaning → p.plan ≡ plan_of_tree tree wiring

@@ -19,7 +19,7 @@ new-requires c =
     let found = c.in_ok-setup.ensures.found in
     let made = c.in_ok-made.ensures in
     has_task c.args.binding.now c.args.text.now c.in_ok-setup.setup found.loaded c.in_ok-setup.number c.args.scans
-    c.args.every _ _ made.limits made.typed made.made
+    c.args.every _ _ made.typed made.made
 
 pub returns-clause-made : goal.returns-clause-made
 returns-clause-made c =
@@ -27,4 +27,4 @@ returns-clause-made c =
     let made = c.in_ok-made.ensures in
     rw c.new.ensures
     (stepped c.args.binding.now c.args.text.now c.in_ok-setup.setup found.loaded c.in_ok-setup.number c.args.scans
-    c.args.every _ _ made.limits made.typed made.made c.args.task.now found.called)
+    c.args.every _ _ made.typed made.made c.args.task.now found.called)

@@ -1,11 +1,9 @@
-use Rattle.std.proofs.Common.{◌≡◌, Result, ap, sym, subst, ◌∙◌}
-use Rattle.std.specs.Prelude.{IfOk, IfSome, slice_get}
+use Rattle.std.proofs.Common.{◌≡◌, ap, sym, subst, ◌∙◌}
+use Rattle.std.specs.Prelude.{slice_get}
 use Rattle.std.specs.Arc.{arc_value}
-use Rattle.ilcode.specs.Listings.{Listing}
 use Rattle.ilcode.specs.Paths.{IsBound}
 use Rattle.ilverify.specs.Verdicts.{Accepted}
 use Rattle.ilverify.specs.declared.refusal.VerifyError.{VerifyError}
-use Rattle.ilcompile.specs.Loaded.{listing_for}
 use Rattle.plantload.proofs.CodeLemmas.{is_code, was_ok}
 use Rattle.plantload.proofs.loading.code_of.Goals as goal
 
@@ -18,9 +16,10 @@ returns-clause-code c =
     let code = arc_value c.in_ok-code-2.code in
     let compiled = was_ok VerifyError c.compile.result listing _ c.in_ok-code.ensures.cases (λ e h. h) in
     let layout = rw compiled at c.compile.ensures.layout in
+    let meaning = rw compiled at c.compile.ensures.meaning in
     let taken = was_ok VerifyError c.shared.result c.in_ok-code-2.code _ c.in_ok-code-2.ensures.cases (λ e h. h) in
     let same : code ≡ verified = rw taken at c.shared.ensures.same in
     let accepted = c.in_ok-verified.ensures in
     let bound = subst (λ (a : Accepted). IsBound a.code a.bound) (sym same) c.shared.ensures.bound in
     let laid : code.code ≡ listing = ap (λ (a : Accepted). a.code) same ∙ accepted.accepted in
-    is_code task plan listing code layout laid accepted.certified bound
+    is_code task plan listing code layout meaning laid accepted.certified bound

@@ -1,4 +1,5 @@
 use Rattle.ilsyms.proofs.SameMeaning.{means_the_same}
+use Rattle.plantload.proofs.MeantCodes.{all_meant}
 use Rattle.plantload.proofs.OneAnswer.{one_answer}
 use Rattle.plantload.proofs.loading.load.Goals as goal
 
@@ -13,3 +14,6 @@ returns-in_err-plan-clause-same_meaning c = means_the_same
 
 pub returns-clause-same_meaning : goal.returns-clause-same_meaning
 returns-clause-same_meaning c = means_the_same
+
+pub returns-clause-meant : goal.returns-clause-meant
+returns-clause-meant c = all_meant c.args.binding.now c.args.text.now c.setup_of.result
