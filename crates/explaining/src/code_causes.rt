@@ -57,13 +57,22 @@ fn advice_of(cause: Cause) -> Advice {
 }
 
 /// Writes what is said of a cause at a line of a text: of a number that may not fit what was found,
-/// what is allowed, and the operators that keep it there.
-pub(crate) fn write_cause<W: Write>(out: &mut W, cause: Cause, found_at: &[u8]) -> io::Result<()> {
+/// what is allowed, and the operators that keep it there. Where a call of a function gives an
+/// operand, that is the number, and not the current result.
+pub(crate) fn write_cause<W: Write>(
+    out: &mut W,
+    cause: Cause,
+    found_at: &[u8],
+    is_given: bool,
+) -> io::Result<()> {
     let Cause::OutOfRange { found, allowed } = cause else {
         return write_advice(out, advice_of(cause));
     };
     write_ranges(out, found, allowed)?;
     writeln!(out, "a number that may not fit")?;
+    if is_given {
+        return write_given(out, found, allowed);
+    }
     writeln!(
         out,
         "cure: limit the number before, or declare what it goes to wider"
@@ -73,6 +82,18 @@ pub(crate) fn write_cause<W: Write>(out: &mut W, cause: Cause, found_at: &[u8]) 
     write!(out, "    ")?;
     write_bytes(out, found_at)?;
     writeln!(out)
+}
+
+/// Writes how an operand of a call of a function is kept within what is allowed.
+fn write_given<W: Write>(out: &mut W, found: Range, allowed: Range) -> io::Result<()> {
+    writeln!(
+        out,
+        "cure: limit the operand before, in a variable of its own, or declare the"
+    )?;
+    writeln!(out, "      input wider")?;
+    writeln!(out, "as it could read:")?;
+    write_limits(out, found, allowed)?;
+    writeln!(out, "    ST limited")
 }
 
 /// Writes what was found and what is allowed.

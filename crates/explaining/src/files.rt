@@ -1,13 +1,15 @@
 //! Files with their faults.
 
 use crate::advice::{Advice, write_advice};
-use crate::marking::{line_of, write_found, write_line};
+use crate::marking::{line_of, place_of, write_found, write_line};
 use crate::ways::write_way;
-use crate::{code_causes, name_causes, text_causes};
+use crate::{code_causes, function_causes, name_causes, text_causes};
+use ilcode::Word;
 use ilcompile::compile;
 use ilranges::Cause;
-use ilscope::NameFault;
-use iltext::TextFault;
+use ilscope::{NameCause, NameFault};
+use iltext::{TextFault, parse};
+use listing::{TaskNames, functions_in, write_deepest_calls, write_longest_calls};
 use plantload::{LoadFault, RefusedTask};
 use std::alloc::Global;
 use std::io;
@@ -29,7 +31,7 @@ pub fn explain_load<W: Write>(
     match fault {
         LoadFault::Memory => Ok(()),
         LoadFault::Text(fault) => explain_text(out, text, fault),
-        LoadFault::Name(fault) => explain_name(out, text, fault),
+        LoadFault::Name(fault) => explain_name(alloc, out, text, fault),
         LoadFault::Code(refused) => explain_code(alloc, out, text, refused),
     }
 }
@@ -47,19 +49,44 @@ fn explain_text<W: Write>(out: &mut W, text: &[u8], fault: &TextFault) -> io::Re
 }
 
 /// Explains a fault of names.
-fn explain_name<W: Write>(out: &mut W, text: &[u8], fault: &NameFault) -> io::Result<()> {
+fn explain_name<W: Write>(
+    alloc: Global,
+    out: &mut W,
+    text: &[u8],
+    fault: &NameFault,
+) -> io::Result<()> {
     match fault {
         NameFault::Memory => Ok(()),
         NameFault::At { line, col, cause } => {
             write_line(out, text, *line, Some(*col))?;
             write_found(out, text, *line, *col)?;
-            write_advice(out, name_causes::advice_of(*cause))
+            write_advice(out, name_advice(alloc, text, *line, *col, *cause)?)
         }
     }
 }
 
-/// Explains a task whose code is refused: with a way to the word, but where what is wrong is told
-/// of the whole code.
+/// What is said of a cause of names at a place of a text.
+fn name_advice(
+    alloc: Global,
+    text: &[u8],
+    line: usize,
+    col: usize,
+    cause: NameCause,
+) -> io::Result<Advice> {
+    let source = match parse(alloc, text) {
+        Ok(source) => source,
+        // The text was parsed before, so that memory alone is refused here.
+        Err(_) => return Err(io::Error::from(io::ErrorKind::OutOfMemory)),
+    };
+    let at = place_of(text, line, col);
+    match function_causes::advice_of(alloc, &source, at, cause)? {
+        Some(advice) => Ok(advice),
+        None => Ok(name_causes::advice_of(cause)),
+    }
+}
+
+/// Explains a task whose code is refused: with a way to the word, and where what is wrong is the
+/// number of words or the depth of calls, with the calls that make it.
 fn explain_code<W: Write>(
     alloc: Global,
     out: &mut W,
@@ -67,20 +94,28 @@ fn explain_code<W: Write>(
     refused: &RefusedTask,
 ) -> io::Result<()> {
     let refusal = refused.refusal();
-    write_line(out, text, refusal.line, None)?;
-    code_causes::write_cause(out, refusal.cause, line_of(text, refusal.line))?;
-    if matches!(refusal.cause, Cause::TooLong | Cause::BadCall) {
-        return Ok(());
-    }
     let code = compile(alloc, refused.plan(), refused.task())?;
-    write_way(
-        alloc,
-        out,
-        refused.plan(),
-        refused.task(),
-        &code,
-        refusal.word,
-    )
+    let functions = functions_in(alloc, refused.plan(), refused.task())?;
+    let names = TaskNames {
+        plan: refused.plan(),
+        task: refused.task(),
+        code: &code,
+        functions: &functions,
+    };
+    write_line(out, text, refusal.line, None)?;
+    let is_given = matches!(code.get(refusal.word), Some(Word::Give { .. }));
+    code_causes::write_cause(out, refusal.cause, line_of(text, refusal.line), is_given)?;
+    match refusal.cause {
+        Cause::TooLong => {
+            writeln!(out, "the calls that make it:")?;
+            write_longest_calls(alloc, out, &names)
+        }
+        Cause::BadCall => {
+            writeln!(out, "the chain of calls:")?;
+            write_deepest_calls(alloc, out, &names, refusal.word)
+        }
+        _ => write_way(alloc, out, &names, refusal.word),
+    }
 }
 
 /// Explains a fault of a binding.

@@ -13,6 +13,8 @@
 mod advice;
 mod code_causes;
 mod files;
+mod function_causes;
+mod function_places;
 mod marking;
 mod name_causes;
 mod text_causes;

@@ -35,6 +35,18 @@ pub(crate) fn line_of(bytes: &[u8], line: usize) -> &[u8] {
     b""
 }
 
+/// The place in a file of a line and a column, both counted from 1.
+pub(crate) fn place_of(bytes: &[u8], line: usize, col: usize) -> usize {
+    let mut place: usize = 0;
+    for (index, found) in bytes.split(|byte| *byte == b'\n').enumerate() {
+        if index.saturating_add(1) >= line {
+            return place.saturating_add(col.saturating_sub(1));
+        }
+        place = place.saturating_add(found.len()).saturating_add(1);
+    }
+    place
+}
+
 /// Writes bytes, of which those that are not printed ASCII are question marks.
 pub(crate) fn write_bytes<W: Write>(out: &mut W, bytes: &[u8]) -> io::Result<()> {
     for byte in bytes {

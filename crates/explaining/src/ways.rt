@@ -3,10 +3,9 @@
 ghost use Rattle.std.specs.Prelude.{◌<◌, length};
 
 use ilcode::{Code, Word};
-use ilplan::Plan;
 use ilranges::Entry;
 use iltypes::Condition;
-use listing::{Flow, Judged, KnownText, WordText};
+use listing::{Flow, Judged, KnownText, TaskNames, WordText};
 use std::alloc::{AllocError, Global};
 use std::io;
 use std::io::Write;
@@ -19,18 +18,17 @@ const MOST_SHOWN: usize = 16;
 pub(crate) fn write_way<W: Write>(
     alloc: Global,
     out: &mut W,
-    plan: &Plan,
-    task: usize,
-    code: &Code,
+    names: &TaskNames,
     word: usize,
 ) -> io::Result<()> {
+    let code = names.code;
     let reached = reached_before(alloc, code, word)?;
     let way = way_to(alloc, code, &reached, word)?;
     writeln!(out, "the way there, with what is known before each word:")?;
     let mut flow = Flow::new(alloc, code)?;
     for place in 0..word.saturating_add(1) {
         if way.contains(&place) {
-            write_step(alloc, out, plan, task, code, &flow)?;
+            write_step(alloc, out, names, &flow)?;
             write_meeting(out, code, &reached, place)?;
         }
         if flow.advance(code)? != Judged::Accepted {
@@ -127,25 +125,18 @@ fn is_one_body(code: &Code, one: usize, other: usize) -> bool {
 fn write_step<W: Write>(
     alloc: Global,
     out: &mut W,
-    plan: &Plan,
-    task: usize,
-    code: &Code,
+    names: &TaskNames,
     flow: &Flow,
 ) -> io::Result<()> {
-    let Some(word) = code.get(flow.place()) else {
+    let Some(word) = names.code.get(flow.place()) else {
         return Ok(());
     };
-    let line = line_at(code, flow.place());
-    let text = WordText {
-        plan,
-        code,
-        task,
-        word,
-    };
+    let line = line_at(names.code, flow.place());
+    let text = WordText { names, word };
     let text = format!(in alloc; "{text}")?;
     write!(out, "{line:>6} | {text:<24}  ")?;
     match flow.entry() {
-        Some(entry) => write_known(out, plan, task, word, entry),
+        Some(entry) => write_known(out, names, word, entry),
         None => writeln!(out),
     }
 }
@@ -153,17 +144,11 @@ fn write_step<W: Write>(
 /// Writes what is known before a word.
 fn write_known<W: Write>(
     out: &mut W,
-    plan: &Plan,
-    task: usize,
+    names: &TaskNames,
     word: Word,
     entry: &Entry,
 ) -> io::Result<()> {
-    let known = KnownText {
-        plan,
-        task,
-        word,
-        entry,
-    };
+    let known = KnownText { names, word, entry };
     writeln!(out, "{known}")
 }
 

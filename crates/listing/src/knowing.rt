@@ -1,16 +1,15 @@
 //! What is known before a word, in words.
 
 use crate::spelling::SlotText;
+use crate::task_names::TaskNames;
 use ilcode::{Target, Word, WordOperand};
-use ilplan::Plan;
 use ilranges::{Entry, Known};
 use std::fmt;
 
 /// What is known of the current result before a word, and of the variable that the word names.
 #[derive(Clone, Copy)]
 pub struct KnownText<'a> {
-    pub plan: &'a Plan,
-    pub task: usize,
+    pub names: &'a TaskNames<'a>,
     pub word: Word,
     pub entry: &'a Entry,
 }
@@ -25,8 +24,7 @@ impl KnownText<'_> {
             return Ok(());
         };
         let name = SlotText {
-            plan: self.plan,
-            task: self.task,
+            names: self.names,
             slot,
         };
         write!(f, ", {name} {}", ValuesText { known })

@@ -1,13 +1,14 @@
 //! What people ask of an accepted text: the words of its tasks as lists, with what is known before
-//! each word and which words make the bound of a scan; and notes, of what is likely not meant,
-//! though nothing stands against it.
+//! each word and which words make the bound of a scan, and who calls each function; and notes, of
+//! what is likely not meant, though nothing stands against it.
 //!
 //! What crosses the boundary: a setup, its source program, and lines on a writer; and a [`Flow`],
 //! which goes over the words of a [`Code`](ilcode::Code): before each it says what is known there
 //! ([`Entry`](ilranges::Entry)), or that no scan reaches the word, and at the first refused word
-//! why. The rules are those of `ilranges`, to be read first. All this is for people: the verdict is
-//! that of `ilverify`, and a note refuses nothing. What is printed is fixed by worked rows
-//! (crates/rows); of the code it is proved that it is safe and ends.
+//! why. A [`WordText`] and a [`KnownText`] are written with the names of the text, which
+//! [`TaskNames`] has. The rules are those of `ilranges`, to be read first. All this is for people:
+//! the verdict is that of `ilverify`, and a note refuses nothing. What is printed is fixed by
+//! worked rows (crates/rows); of the code it is proved that it is safe and ends.
 //!
 //! ```text
 //! write_task(alloc, &mut out, &setup, 0)?;
@@ -15,23 +16,29 @@
 //! ```
 #![tactic(auto)]
 
+mod bodies;
+mod chains;
 mod flow;
 mod globals;
 mod joining;
 mod knowing;
 mod names;
+mod noted;
 mod notes;
 mod paths;
 mod programs;
 mod spelling;
 mod stars;
 mod table;
+mod task_names;
 mod unreached;
 mod uses;
 mod words;
 
+pub use chains::{write_deepest_calls, write_longest_calls};
 pub use flow::{Flow, Judged};
 pub use knowing::KnownText;
 pub use notes::write_notes;
 pub use table::write_task;
+pub use task_names::{TaskNames, functions_in};
 pub use words::WordText;

@@ -1,7 +1,8 @@
 //! All notes.
 
 use crate::globals::{write_global_notes, write_source_notes, write_trigger_notes};
-use crate::programs::write_program_notes;
+use crate::noted::write_own_notes;
+use crate::programs::{functions_of_tasks, write_function_notes, write_program_notes};
 use crate::unreached::{write_request_notes, write_unreached};
 use crate::uses::global_uses;
 use ilcompile::Setup;
@@ -22,7 +23,9 @@ pub fn write_notes<W: Write>(
     source: &Source,
 ) -> io::Result<()> {
     let mut lines = Vec::new(alloc);
-    write_variable_notes(alloc, &mut lines, setup)?;
+    let used = functions_of_tasks(alloc, setup.plan())?;
+    write_variable_notes(alloc, &mut lines, setup, &used)?;
+    write_function_notes(&mut lines, setup.plan(), &used)?;
     write_program_notes(&mut lines, source)?;
     write_unreached(alloc, &mut lines, setup)?;
     write_source_notes(&mut lines, setup.plan())?;
@@ -34,9 +37,14 @@ pub fn write_notes<W: Write>(
 }
 
 /// Writes the notes on variables.
-fn write_variable_notes<W: Write>(alloc: Global, out: &mut W, setup: &Setup) -> io::Result<()> {
+fn write_variable_notes<W: Write>(
+    alloc: Global,
+    out: &mut W,
+    setup: &Setup,
+    used: &[bool],
+) -> io::Result<()> {
     let uses = global_uses(alloc, setup)?;
     write_trigger_notes(alloc, out, setup)?;
     write_global_notes(out, setup.plan(), &uses)?;
-    crate::programs::write_own_notes(alloc, out, setup)
+    write_own_notes(alloc, out, setup, used)
 }

@@ -1,16 +1,45 @@
-//! Notes on programs and their variables.
+//! Notes on functions and programs that no task has.
 
-ghost use Rattle.std.specs.Prelude.{◌<◌, length};
-
-use crate::globals::write_use;
 use crate::names::{At, shown};
-use crate::uses::{Use, uses_of};
-use ilcompile::Setup;
-use ilplan::{Plan, SlotOwner};
+use crate::stars::{is_marked, mark};
+use ilplan::Plan;
 use ilsource::{Configuration, Element, Name, Source};
-use std::alloc::Global;
+use std::alloc::{AllocError, Global};
 use std::io;
 use std::io::Write;
+
+/// For each function of a plan whether a task uses it.
+pub(crate) fn functions_of_tasks(alloc: Global, plan: &Plan) -> Result<Vec<bool>, AllocError> {
+    let mut all = Vec::new(alloc);
+    for _ in plan.functions() {
+        all.push(false)?;
+    }
+    for task in 0..plan.tasks() {
+        let used = plan.used_functions(alloc, task)?;
+        for (number, is_used) in used.iter().enumerate() {
+            if *is_used {
+                mark(&mut all, number);
+            }
+        }
+    }
+    Ok(all)
+}
+
+/// Writes a note for each function that no task uses.
+pub(crate) fn write_function_notes<W: Write>(
+    out: &mut W,
+    plan: &Plan,
+    used: &[bool],
+) -> io::Result<()> {
+    for (number, function) in plan.functions().iter().enumerate() {
+        if !is_marked(used, number) {
+            let at = At::of(plan.text(), function.name());
+            let name = shown(plan.text(), function.name());
+            writeln!(out, "note at {at}: no task uses the function {name}")?;
+        }
+    }
+    Ok(())
+}
 
 /// Writes a note for each program that no task runs, where the text has a configuration; without
 /// one the task `main` runs all.
@@ -41,44 +70,4 @@ fn write_not_run<W: Write>(out: &mut W, text: &[u8], program: Name) -> io::Resul
     let at = At::of(text, program);
     let name = shown(text, program);
     writeln!(out, "note at {at}: no task runs the program {name}")
-}
-
-/// Writes a note for each variable of a program that is used to no end, once where several
-/// instances have it.
-pub(crate) fn write_own_notes<W: Write>(
-    alloc: Global,
-    out: &mut W,
-    setup: &Setup,
-) -> io::Result<()> {
-    let mut seen = Vec::new(alloc);
-    for task in 0..setup.plan().tasks() {
-        let uses = uses_of(alloc, setup.code(task).code())?;
-        write_own_of(out, setup.plan(), task, &uses, &mut seen)?;
-    }
-    Ok(())
-}
-
-/// Writes the notes on the variables of a task's programs that were not seen before.
-fn write_own_of<W: Write>(
-    out: &mut W,
-    plan: &Plan,
-    task: usize,
-    uses: &[Use],
-    seen: &mut Vec<usize>,
-) -> io::Result<()>
-    requires { task < length plan.now.tasks }
-{
-    let slots = plan.task(task).slots();
-    for place in 0..slots.len() {
-        let slot = slots[place];
-        if let (SlotOwner::Own { name, .. }, Some(use_here)) = (slot.variable, uses.get(place)) {
-            if !seen.contains(&name.from) {
-                seen.push(name.from)?;
-                let at = At::of(plan.text(), name);
-                let is = (use_here.stored, use_here.read > 0);
-                write_use(out, at, shown(plan.text(), name), is, slot.initial)?;
-            }
-        }
-    }
-    Ok(())
 }

@@ -1,7 +1,7 @@
 //! How operators and names are written.
 
+use crate::task_names::TaskNames;
 use ilcode::Code;
-use ilplan::{DeclaredName, Plan, SlotName, SlotOwner};
 use iltypes::{Condition, Function, Operator};
 use std::fmt;
 
@@ -57,93 +57,18 @@ pub(crate) fn jump_text(code: &Code, condition: Condition, target: usize) -> &'s
     }
 }
 
-/// The name of the variable in a task's slot.
-fn slot_name(plan: &Plan, task: usize, slot: usize) -> Option<SlotName<'_>> {
-    if task >= plan.tasks() {
-        return None;
-    }
-    match plan.task(task).slots().get(slot) {
-        Some(found) => variable_name(plan, found.variable),
-        None => None,
-    }
-}
-
-/// The variable in a task's slot: by its name, or by the slot's number where it is a function's.
+/// The variable in a slot of a task's code: by its name, or by the slot's number where it has none.
 #[derive(Clone, Copy)]
 pub(crate) struct SlotText<'a> {
-    pub plan: &'a Plan,
-    pub task: usize,
+    pub names: &'a TaskNames<'a>,
     pub slot: usize,
 }
 
 impl fmt::Display for SlotText<'_> {
     fn fmt<W: fmt::Write>(&self, f: &mut fmt::Formatter<W>) -> fmt::Result {
-        match slot_name(self.plan, self.task, self.slot) {
+        match self.names.slot(self.slot) {
             Some(name) => write!(f, "{name}"),
             None => write!(f, "slot {}", self.slot),
         }
-    }
-}
-
-/// The name of a variable, as declared.
-fn variable_name(plan: &Plan, variable: SlotOwner) -> Option<SlotName<'_>> {
-    match variable {
-        SlotOwner::Global(number) => {
-            if number >= plan.globals() {
-                return None;
-            }
-            Some(SlotName {
-                instance: None,
-                variable: plan.global_name(number),
-            })
-        }
-        SlotOwner::Own { instance, name } => Some(SlotName {
-            instance: Some(DeclaredName {
-                bytes: instance.text(plan.text()),
-            }),
-            variable: DeclaredName {
-                bytes: name.text(plan.text()),
-            },
-        }),
-    }
-}
-
-/// The name of a task's block instance.
-pub(crate) fn block_name(plan: &Plan, task: usize, block: usize) -> Option<SlotName<'_>> {
-    if task >= plan.tasks() {
-        return None;
-    }
-    match plan.task(task).blocks().get(block) {
-        Some(found) => Some(SlotName {
-            instance: Some(DeclaredName {
-                bytes: found.instance.text(plan.text()),
-            }),
-            variable: DeclaredName {
-                bytes: found.name.text(plan.text()),
-            },
-        }),
-        None => None,
-    }
-}
-
-/// The name of a port of a task's block instance.
-pub(crate) fn port_name(
-    plan: &Plan,
-    task: usize,
-    block: usize,
-    port: usize,
-) -> Option<DeclaredName<'_>> {
-    if task >= plan.tasks() {
-        return None;
-    }
-    let kind = match plan.task(task).blocks().get(block) {
-        Some(found) => found.kind,
-        None => return None,
-    };
-    match kind.ports().get(port) {
-        Some(port) => Some(DeclaredName {
-            bytes: port.name.spelling(),
-        }),
-        None => None,
     }
 }

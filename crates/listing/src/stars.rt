@@ -1,4 +1,5 @@
-//! The words of a longest path. Where it calls a function it goes through the body of that.
+//! The words of a longest path, and how many of them each body has. Where the path calls a function
+//! it goes through the body of that.
 
 use crate::paths::{Most, most_at, most_at_target, most_in, start_of};
 use ilcode::{Code, Word};
@@ -28,42 +29,61 @@ impl Goal {
     }
 }
 
-/// What is marked so far.
+/// What the programs or a function have of a longest path.
+#[derive(Clone, Copy)]
+pub(crate) struct Share {
+    /// The body: 0 is the programs, function n is n + 1.
+    pub body: usize,
+    /// How often the path goes through it.
+    pub times: u32,
+    /// How many words of its own the path has there each time.
+    pub words: u32,
+}
+
+/// A longest path of a code.
+#[derive(Drop)]
+pub(crate) struct Longest {
+    /// For each place whether its word is on the path.
+    pub words: Vec<bool>,
+    /// What makes the path: the programs, and the functions from the last to the first.
+    pub shares: Vec<Share>,
+}
+
+/// What is found so far.
 #[derive(Drop)]
 struct Stars {
     /// Which words are on the path.
     words: Vec<bool>,
-    /// Through which functions it goes to their ends.
-    to_end: Vec<bool>,
-    /// In which function it ends.
-    to_any: Vec<bool>,
+    /// How often it goes through each function to the end.
+    to_end: Vec<u32>,
+    /// How often it ends in each function.
+    to_any: Vec<u32>,
 }
 
-/// For each place whether its word is on a longest path. A function is called by those behind it
-/// alone, so the programs are gone over first, and then the functions from the last to the first.
+/// A longest path. A function is called by those behind it alone, so the programs are gone over
+/// first, and then the functions from the last to the first.
 ///
 /// # Errors
 ///
 /// The allocator is out of memory.
-pub(crate) fn words_of_longest(
+pub(crate) fn longest_path(
     alloc: Global,
     code: &Code,
     most: &[Most],
-) -> Result<Vec<bool>, AllocError> {
+) -> Result<Longest, AllocError> {
     let functions = code.functions().len();
-    let mut stars = Stars {
-        words: all_unmarked(alloc, code.len())?,
-        to_end: all_unmarked(alloc, functions)?,
-        to_any: all_unmarked(alloc, functions)?,
-    };
-    follow(code, most, &mut stars, 0, Goal::Any);
+    let mut stars = no_stars(alloc, code)?;
+    let mut shares = Vec::new(alloc);
+    shares.push(follow(code, most, &mut stars, 0, 1, Goal::Any))?;
     for function in (0..functions).rev() {
         let body = function.saturating_add(1);
-        if is_marked(&stars.to_end, function) {
-            follow(code, most, &mut stars, body, Goal::End);
+        let times = count_at(&stars.to_end, function);
+        if times > 0 {
+            shares.push(follow(code, most, &mut stars, body, times, Goal::End))?;
         }
-        if is_marked(&stars.to_any, function) {
-            follow(code, most, &mut stars, body, Goal::Any);
+        let times = count_at(&stars.to_any, function);
+        if times > 0 {
+            shares.push(follow(code, most, &mut stars, body, times, Goal::Any))?;
         }
     }
     let Stars {
@@ -71,7 +91,42 @@ pub(crate) fn words_of_longest(
         to_end: _,
         to_any: _,
     } = stars;
-    Ok(words)
+    Ok(Longest { words, shares })
+}
+
+/// How often the longest path through a body calls each function.
+///
+/// # Errors
+///
+/// The allocator is out of memory.
+pub(crate) fn calls_on_longest(
+    alloc: Global,
+    code: &Code,
+    most: &[Most],
+    body: usize,
+) -> Result<Vec<u32>, AllocError> {
+    let mut stars = no_stars(alloc, code)?;
+    let _share = follow(code, most, &mut stars, body, 1, Goal::Any);
+    let Stars {
+        words: _,
+        to_end,
+        to_any,
+    } = stars;
+    let mut calls = to_any;
+    for function in 0..to_end.len() {
+        add_at(&mut calls, function, to_end[function]);
+    }
+    Ok(calls)
+}
+
+/// Nothing is found so far.
+fn no_stars(alloc: Global, code: &Code) -> Result<Stars, AllocError> {
+    let functions = code.functions().len();
+    Ok(Stars {
+        words: all_unmarked(alloc, code.len())?,
+        to_end: all_unused(alloc, functions)?,
+        to_any: all_unused(alloc, functions)?,
+    })
 }
 
 /// So many, none of them marked.
@@ -83,6 +138,30 @@ fn all_unmarked(alloc: Global, count: usize) -> Result<Vec<bool>, AllocError> {
     Ok(marks)
 }
 
+/// So many, none of them used.
+fn all_unused(alloc: Global, count: usize) -> Result<Vec<u32>, AllocError> {
+    let mut counts = Vec::new(alloc);
+    for _ in 0..count {
+        counts.push(0)?;
+    }
+    Ok(counts)
+}
+
+/// The count at a place.
+pub(crate) fn count_at(counts: &[u32], place: usize) -> u32 {
+    match counts.get(place) {
+        Some(count) => *count,
+        None => 0,
+    }
+}
+
+/// Adds to the count at a place.
+fn add_at(counts: &mut Vec<u32>, place: usize, times: u32) {
+    if let Some(count) = counts.get_mut(place) {
+        *count = count.saturating_add(times);
+    }
+}
+
 /// Whether a place is marked.
 pub(crate) fn is_marked(marks: &[bool], place: usize) -> bool {
     match marks.get(place) {
@@ -92,26 +171,37 @@ pub(crate) fn is_marked(marks: &[bool], place: usize) -> bool {
 }
 
 /// Marks a place.
-fn mark(marks: &mut Vec<bool>, place: usize) {
+pub(crate) fn mark(marks: &mut Vec<bool>, place: usize) {
     if let Some(is) = marks.get_mut(place) {
         *is = true;
     }
 }
 
-/// Marks the words of a path through a body, from its first word on.
-fn follow(code: &Code, most: &[Most], stars: &mut Stars, body: usize, goal: Goal) {
+/// Marks the words of a path through a body, from its first word on, which the longest path takes
+/// so many times; what it has of the longest path.
+fn follow(
+    code: &Code,
+    most: &[Most],
+    stars: &mut Stars,
+    body: usize,
+    times: u32,
+    goal: Goal,
+) -> Share {
     let end = code.end_of(body);
     let mut place = start_of(code, body);
+    let mut words: u32 = 0;
     for _ in 0..code.len() {
         if place >= end {
-            return;
+            break;
         }
         mark(&mut stars.words, place);
-        match place_after(code, most, stars, body, place, goal) {
+        words = words.saturating_add(1);
+        match place_after(code, most, stars, body, times, place, goal) {
             Some(after) => place = after,
-            None => return,
+            None => break,
         }
     }
+    Share { body, times, words }
 }
 
 /// Where the path goes on in the body from a place: to the next word where both ways are as long.
@@ -120,6 +210,7 @@ fn place_after(
     most: &[Most],
     stars: &mut Stars,
     body: usize,
+    times: u32,
     place: usize,
     goal: Goal,
 ) -> Option<usize> {
@@ -137,19 +228,20 @@ fn place_after(
         }
         Some(Word::Invoke(function)) => {
             let on = most_at(code, most, body, next);
-            call(code, most, stars, usize::from(function), on, goal).then_some(next)
+            call(code, most, stars, usize::from(function), times, on, goal).then_some(next)
         }
         _ => Some(next),
     }
 }
 
-/// Marks a function that the path calls: whether it goes through to its end, and then on from the
-/// call.
+/// Counts that the path calls a function so many times; whether it goes through to the function's
+/// end, and then on from the call.
 fn call(
     code: &Code,
     most: &[Most],
     stars: &mut Stars,
     function: usize,
+    times: u32,
     on: Most,
     goal: Goal,
 ) -> bool {
@@ -160,9 +252,9 @@ fn call(
         (Goal::Any, None) => false,
     };
     if is_through {
-        mark(&mut stars.to_end, function);
+        add_at(&mut stars.to_end, function, times);
     } else {
-        mark(&mut stars.to_any, function);
+        add_at(&mut stars.to_any, function, times);
     }
     is_through
 }

@@ -2,35 +2,35 @@
 
 ghost use Rattle.std.specs.Prelude.{◌<◌, length};
 
+use crate::bodies::{write_bound, write_functions_at};
 use crate::flow::{Flow, Judged};
 use crate::knowing::KnownText;
 use crate::paths::{Counted, Most, most_at, most_at_target, most_in, most_on_paths};
-use crate::stars::{is_marked, words_of_longest};
+use crate::stars::{is_marked, longest_path};
+use crate::task_names::{TaskNames, functions_in};
 use crate::words::WordText;
-use ilcode::{Code, Word};
+use ilcode::Word;
 use ilcompile::Setup;
-use ilplan::Plan;
 use iltypes::Condition;
 use std::alloc::Global;
 use std::io;
 use std::io::Write;
 
-/// The way of a task's table: its code, the longest path from each of its words, and the words of a
-/// longest path of the code.
+/// The way of a task's table: its code with the names, the longest path from each of its words, and
+/// the words of a longest path of the code.
 #[derive(Clone, Copy)]
 struct Table<'a> {
     alloc: Global,
-    plan: &'a Plan,
-    code: &'a Code,
-    task: usize,
+    names: &'a TaskNames<'a>,
     most: &'a [Most],
     on_longest: &'a [bool],
 }
 
-/// Writes the words of a task: a line with their number and the bound, and then a line for each,
-/// and one before the words of each function. A star marks the words of a longest path, `left` is
-/// the number of words of the longest path from there to the end, which is that of its function
-/// where the word is one of a function.
+/// Writes the words of a task: a line with their number and the bound, one with what makes the
+/// bound where the task uses functions, and then a line for each word, and one before the words of
+/// each function. A star marks the words of a longest path, `left` is the number of words of the
+/// longest path from there to the end, which is that of its function where the word is one of a
+/// function.
 ///
 /// # Errors
 ///
@@ -45,72 +45,70 @@ pub fn write_task<W: Write>(
 {
     let verified = setup.code(task);
     let code = verified.code();
-    let most = most_on_paths(alloc, code, Counted::Words)?;
-    let on_longest = words_of_longest(alloc, code, &most)?;
+    let functions = functions_in(alloc, setup.plan(), task)?;
+    let names = TaskNames {
+        plan: setup.plan(),
+        task,
+        code,
+        functions: &functions,
+    };
     let name = setup.plan().task_name(task);
     let words = code.len();
     let bound = verified.bound();
     writeln!(out, "task {name} words {words} bound {bound}")?;
+    write_table(alloc, out, &names, bound)
+}
+
+/// Writes what makes the bound of a task with functions, and a line for each word.
+fn write_table<W: Write>(
+    alloc: Global,
+    out: &mut W,
+    names: &TaskNames,
+    bound: u32,
+) -> io::Result<()> {
+    let most = most_on_paths(alloc, names.code, Counted::Words)?;
+    let longest = longest_path(alloc, names.code, &most)?;
+    write_bound(out, names, &longest.shares, bound)?;
     writeln!(
         out,
         "   word  line  left  what it does              known before it"
     )?;
     let table = Table {
         alloc,
-        plan: setup.plan(),
-        code,
-        task,
+        names,
         most: &most,
-        on_longest: &on_longest,
+        on_longest: &longest.words,
     };
     write_words(out, &table)
 }
 
 /// Writes a line for each word, and one before the words of each function.
 fn write_words<W: Write>(out: &mut W, table: &Table) -> io::Result<()> {
-    let mut flow = Flow::new(table.alloc, table.code)?;
-    for place in 0..table.code.len() {
-        write_functions_at(out, table, place)?;
+    let mut flow = Flow::new(table.alloc, table.names.code)?;
+    for place in 0..table.names.code.len() {
+        write_functions_at(out, table.names, table.most, place)?;
         write_word(out, table, &flow, place)?;
-        if flow.advance(table.code)? != Judged::Accepted {
+        if flow.advance(table.names.code)? != Judged::Accepted {
             return Ok(());
         }
     }
-    write_functions_at(out, table, table.code.len())
-}
-
-/// Writes a line for each function that begins at a place: its number, its words, and the greatest
-/// number of words on a path from its first word on.
-fn write_functions_at<W: Write>(out: &mut W, table: &Table, place: usize) -> io::Result<()> {
-    let functions = table.code.functions();
-    for number in 0..functions.len() {
-        let start = functions[number].start;
-        if start == place {
-            let end = table.code.end_of(number.saturating_add(1));
-            let words = end.saturating_sub(start);
-            let bound = most_in(table.code, table.most, number).any;
-            writeln!(out, "function {number} words {words} bound {bound}")?;
-        }
-    }
-    Ok(())
+    write_functions_at(out, table.names, table.most, table.names.code.len())
 }
 
 /// How many words the longest path from a place of a body has.
 fn left_at(table: &Table, body: usize, place: usize) -> u32 {
-    most_at(table.code, table.most, body, place).any
+    most_at(table.names.code, table.most, body, place).any
 }
 
 /// Writes the line of a word.
 fn write_word<W: Write>(out: &mut W, table: &Table, flow: &Flow, place: usize) -> io::Result<()> {
-    let Some(word) = table.code.get(place) else {
+    let Some(word) = table.names.code.get(place) else {
         return Ok(());
     };
     write_numbers(out, table, place)?;
     let alloc = table.alloc;
     let text = WordText {
-        plan: table.plan,
-        code: table.code,
-        task: table.task,
+        names: table.names,
         word,
     };
     let text = format!(in alloc; "{text}")?;
@@ -124,8 +122,8 @@ fn write_word<W: Write>(out: &mut W, table: &Table, flow: &Flow, place: usize) -
 fn write_numbers<W: Write>(out: &mut W, table: &Table, place: usize) -> io::Result<()> {
     let is_longest = is_marked(table.on_longest, place);
     let star = if is_longest { "*" } else { " " };
-    let left = left_at(table, table.code.body_at(place), place);
-    let line = match table.code.lines().get(place) {
+    let left = left_at(table, table.names.code.body_at(place), place);
+    let line = match table.names.code.lines().get(place) {
         Some(line) => *line as usize,
         None => 0,
     };
@@ -137,8 +135,7 @@ fn write_known<W: Write>(out: &mut W, table: &Table, flow: &Flow, word: Word) ->
     match flow.entry() {
         Some(entry) => {
             let known = KnownText {
-                plan: table.plan,
-                task: table.task,
+                names: table.names,
                 word,
                 entry,
             };
@@ -159,7 +156,7 @@ fn write_ways<W: Write>(out: &mut W, table: &Table, place: usize, word: Word) ->
             write_both(out, table, place, target as usize)
         }
         Word::Invoke(function) => {
-            let within = most_in(table.code, table.most, usize::from(function)).any;
+            let within = most_in(table.names.code, table.most, usize::from(function)).any;
             write!(out, "; {within} in the function")
         }
         _ => Ok(()),
@@ -168,8 +165,8 @@ fn write_ways<W: Write>(out: &mut W, table: &Table, place: usize, word: Word) ->
 
 /// Writes how long the longest paths are on both ways from a jump.
 fn write_both<W: Write>(out: &mut W, table: &Table, place: usize, target: usize) -> io::Result<()> {
-    let body = table.code.body_at(place);
-    let there = most_at_target(table.code, table.most, body, place, target).any;
+    let body = table.names.code.body_at(place);
+    let there = most_at_target(table.names.code, table.most, body, place, target).any;
     let next = left_at(table, body, place.saturating_add(1));
     write!(out, "; {there} left there, else {next}")
 }

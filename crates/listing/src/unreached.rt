@@ -1,9 +1,11 @@
 //! Notes on words: those that no scan reaches, and those that make requests.
 
+use crate::bodies::write_function;
 use crate::flow::{Flow, Judged};
 use crate::paths::most_requests;
+use crate::stars::{is_marked, mark};
+use crate::task_names::{TaskNames, functions_in};
 use crate::uses::line_at;
-use ilcode::Code;
 use ilcompile::Setup;
 use std::alloc::Global;
 use std::io;
@@ -13,44 +15,87 @@ use std::io::Write;
 const MOST_WAITING: u32 = limits::MOST_WAITING as u32;
 
 /// Writes a note for each line of which no scan reaches a word, the first of several one after
-/// another.
+/// another; for a line of a function once, where several tasks use it.
 pub(crate) fn write_unreached<W: Write>(
     alloc: Global,
     out: &mut W,
     setup: &Setup,
 ) -> io::Result<()> {
+    let mut told = Vec::new(alloc);
+    for _ in setup.plan().functions() {
+        told.push(false)?;
+    }
     for task in 0..setup.plan().tasks() {
-        write_unreached_of(
-            alloc,
-            out,
-            setup.code(task).code(),
-            setup.plan().task_name(task),
-        )?;
+        let functions = functions_in(alloc, setup.plan(), task)?;
+        let names = TaskNames {
+            plan: setup.plan(),
+            task,
+            code: setup.code(task).code(),
+            functions: &functions,
+        };
+        write_unreached_of(alloc, out, &names, &told)?;
+        for number in &functions {
+            mark(&mut told, *number);
+        }
     }
     Ok(())
 }
 
-/// Writes the notes on words of a task.
+/// Writes the notes on words of a task, without those of functions that were told of.
 fn write_unreached_of<W: Write>(
     alloc: Global,
     out: &mut W,
-    code: &Code,
-    task: &str,
+    names: &TaskNames,
+    told: &[bool],
 ) -> io::Result<()> {
-    let mut flow = Flow::new(alloc, code)?;
+    let mut flow = Flow::new(alloc, names.code)?;
     let mut was_reached = true;
-    for place in 0..code.len() {
+    for place in 0..names.code.len() {
         let is_reached = flow.entry().is_some();
         if was_reached && !is_reached {
-            let line = line_at(code, place);
-            writeln!(out, "note at {line}: no scan of the task {task} comes here")?;
+            write_line(out, names, told, place)?;
         }
         was_reached = is_reached;
-        if flow.advance(code)? != Judged::Accepted {
+        if flow.advance(names.code)? != Judged::Accepted {
             return Ok(());
         }
     }
     Ok(())
+}
+
+/// Writes that no scan comes to the word at a place, or no call of its function, which was not told
+/// of.
+fn write_line<W: Write>(
+    out: &mut W,
+    names: &TaskNames,
+    told: &[bool],
+    place: usize,
+) -> io::Result<()> {
+    let line = line_at(names.code, place);
+    match names.code.body_at(place).checked_sub(1) {
+        None => write_task_line(out, names, line),
+        Some(function) => {
+            let is_told = match names.functions.get(function) {
+                Some(number) => is_marked(told, *number),
+                None => false,
+            };
+            if is_told {
+                return Ok(());
+            }
+            write!(out, "note at {line}: no call of ")?;
+            write_function(out, names, function)?;
+            writeln!(out, " comes here")
+        }
+    }
+}
+
+/// Writes that no scan of the task comes to a line.
+fn write_task_line<W: Write>(out: &mut W, names: &TaskNames, line: usize) -> io::Result<()> {
+    if names.task >= names.plan.tasks() {
+        return Ok(());
+    }
+    let task = names.plan.task_name(names.task);
+    writeln!(out, "note at {line}: no scan of the task {task} comes here")
 }
 
 /// Writes a note where the tasks together may make more requests than a class of a bus has room

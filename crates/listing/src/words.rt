@@ -1,19 +1,15 @@
 //! Words as they are written.
 
-use crate::spelling::{
-    SlotText, block_name, function_text, is_return, jump_text, operator_text, port_name,
-};
-use ilcode::{Code, Target, Word, WordOperand};
-use ilplan::Plan;
+use crate::spelling::{SlotText, function_text, is_return, jump_text, operator_text};
+use crate::task_names::TaskNames;
+use ilcode::{Target, Word, WordOperand};
 use std::fmt;
 
 /// A word of a task's code, as it could stand in a text; a jump leads to the number of a word, and
-/// CALL names a function by its number.
+/// a call of a function is CALL with its name.
 #[derive(Clone, Copy)]
 pub struct WordText<'a> {
-    pub plan: &'a Plan,
-    pub code: &'a Code,
-    pub task: usize,
+    pub names: &'a TaskNames<'a>,
     pub word: Word,
 }
 
@@ -21,9 +17,7 @@ impl WordText<'_> {
     /// What an operand is.
     fn operand(&self, operand: WordOperand) -> OperandText<'_> {
         OperandText {
-            plan: self.plan,
-            code: self.code,
-            task: self.task,
+            names: self.names,
             operand,
         }
     }
@@ -53,18 +47,30 @@ impl WordText<'_> {
         name: &str,
         target: usize,
     ) -> fmt::Result {
-        if is_return(self.code, target) {
+        if is_return(self.names.code, target) {
             write!(f, "{name}")
         } else {
             write!(f, "{name} {target}")
         }
     }
 
-    /// Writes a call.
+    /// Writes a call of a block instance.
     fn write_call<W: fmt::Write>(&self, f: &mut fmt::Formatter<W>, block: usize) -> fmt::Result {
-        match block_name(self.plan, self.task, block) {
+        match self.names.block(block) {
             Some(name) => write!(f, "CAL {name}"),
             None => write!(f, "CAL ?"),
+        }
+    }
+
+    /// Writes a call of a function.
+    fn write_invoke<W: fmt::Write>(
+        &self,
+        f: &mut fmt::Formatter<W>,
+        function: usize,
+    ) -> fmt::Result {
+        match self.names.function(function) {
+            Some(name) => write!(f, "CALL {name}"),
+            None => write!(f, "CALL {function}"),
         }
     }
 }
@@ -98,14 +104,14 @@ impl fmt::Display for WordText<'_> {
             Word::Open(opened) => write!(f, "{}(", operator_text(opened)),
             Word::Close => f.write_str(")"),
             Word::Jump { condition, target } => {
-                let name = jump_text(self.code, condition, target as usize);
+                let name = jump_text(self.names.code, condition, target as usize);
                 self.write_jump(f, name, target as usize)
             }
             Word::Give { operand, slot } => {
                 let to = self.target(Target::Slot(slot));
                 write!(f, "{to} := {}", self.operand(operand))
             }
-            Word::Invoke(function) => write!(f, "CALL {function}"),
+            Word::Invoke(function) => self.write_invoke(f, usize::from(function)),
         }
     }
 }
@@ -113,9 +119,7 @@ impl fmt::Display for WordText<'_> {
 /// What a word names.
 #[derive(Clone, Copy)]
 struct OperandText<'a> {
-    plan: &'a Plan,
-    code: &'a Code,
-    task: usize,
+    names: &'a TaskNames<'a>,
     operand: WordOperand,
 }
 
@@ -127,8 +131,8 @@ impl OperandText<'_> {
         block: usize,
         port: usize,
     ) -> fmt::Result {
-        let name = block_name(self.plan, self.task, block);
-        let port = port_name(self.plan, self.task, block, port);
+        let name = self.names.block(block);
+        let port = self.names.port(block, port);
         match (name, port) {
             (Some(name), Some(port)) => write!(f, "{name}.{port}"),
             _ => write!(f, "?"),
@@ -141,14 +145,13 @@ impl fmt::Display for OperandText<'_> {
         match self.operand {
             WordOperand::Slot(slot) => {
                 let slot = SlotText {
-                    plan: self.plan,
-                    task: self.task,
+                    names: self.names,
                     slot: usize::from(slot),
                 };
                 write!(f, "{slot}")
             }
             WordOperand::Constant(number) => {
-                match self.code.constants().get(usize::from(number)) {
+                match self.names.code.constants().get(usize::from(number)) {
                     Some(value) => write!(f, "{value}"),
                     None => write!(f, "?"),
                 }

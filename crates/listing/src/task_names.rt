@@ -1,0 +1,173 @@
+//! What the words of a task's code name.
+
+ghost use Rattle.std.specs.Prelude.{◌<◌, length};
+
+use crate::names::shown;
+use ilcode::Code;
+use ilplan::{DeclaredName, Plan, SlotName, SlotOwner, UserFunction};
+use ilsource::Name;
+use std::alloc::{AllocError, Global};
+
+/// A task's code with what its words name: the task's variables and block instances, and the
+/// functions that the code has, with their variables.
+#[derive(Clone, Copy)]
+pub struct TaskNames<'a> {
+    pub plan: &'a Plan,
+    /// The task's number in the plan.
+    pub task: usize,
+    pub code: &'a Code,
+    /// For each function of the code its number in the plan ([`functions_in`]).
+    pub functions: &'a [usize],
+}
+
+/// The functions that a task's code has, by their numbers in the plan: those that it uses.
+///
+/// # Errors
+///
+/// The allocator is out of memory.
+pub fn functions_in(alloc: Global, plan: &Plan, task: usize) -> Result<Vec<usize>, AllocError>
+    requires { task < length plan.now.tasks }
+{
+    let used = plan.used_functions(alloc, task)?;
+    let mut functions = Vec::new(alloc);
+    for (number, is_used) in used.iter().enumerate() {
+        if *is_used {
+            functions.push(number)?;
+        }
+    }
+    Ok(functions)
+}
+
+impl<'a> TaskNames<'a> {
+    /// The name of the function of this number in the code, as declared.
+    pub fn function(&self, function: usize) -> Option<DeclaredName<'a>> {
+        match self.user_function(function) {
+            Some(found) => Some(shown(self.plan.text(), found.name())),
+            None => None,
+        }
+    }
+
+    /// The function of this number in the code.
+    fn user_function(&self, function: usize) -> Option<&'a UserFunction> {
+        match self.functions.get(function) {
+            Some(number) => self.plan.functions().get(*number),
+            None => None,
+        }
+    }
+
+    /// The name of the program instance of this number, as declared.
+    pub(crate) fn instance(&self, instance: usize) -> Option<DeclaredName<'a>> {
+        if self.task >= self.plan.tasks() {
+            return None;
+        }
+        match self.plan.task(self.task).instances().get(instance) {
+            Some(found) => Some(shown(self.plan.text(), found.name())),
+            None => None,
+        }
+    }
+
+    /// The name of the variable in a slot, as declared: `instance.variable`, `function.variable`,
+    /// and of a global variable its name alone. A function's result has the function's name.
+    pub(crate) fn slot(&self, slot: usize) -> Option<SlotName<'a>> {
+        if self.task >= self.plan.tasks() {
+            return None;
+        }
+        match self.plan.task(self.task).slots().get(slot) {
+            Some(found) => self.variable(found.variable),
+            None => self.function_slot(slot),
+        }
+    }
+
+    /// The name of a variable of the task.
+    fn variable(&self, variable: SlotOwner) -> Option<SlotName<'a>> {
+        match variable {
+            SlotOwner::Global(number) => {
+                if number >= self.plan.globals() {
+                    return None;
+                }
+                Some(SlotName {
+                    instance: None,
+                    variable: self.plan.global_name(number),
+                })
+            }
+            SlotOwner::Own { instance, name } => Some(self.name_within(instance, name)),
+        }
+    }
+
+    /// The name of what stands in an instance or in a function.
+    fn name_within(&self, outer: Name, name: Name) -> SlotName<'a> {
+        SlotName {
+            instance: Some(shown(self.plan.text(), outer)),
+            variable: shown(self.plan.text(), name),
+        }
+    }
+
+    /// The name of the variable of a function in a slot.
+    fn function_slot(&self, slot: usize) -> Option<SlotName<'a>> {
+        let bodies = self.code.functions();
+        for number in 0..bodies.len() {
+            let body = bodies[number];
+            if let Some(own) = slot.checked_sub(body.first) {
+                if own < body.slots {
+                    return self.own_variable(number, own);
+                }
+            }
+        }
+        None
+    }
+
+    /// The name of the variable of this number of a function, which has this number in the code.
+    fn own_variable(&self, function: usize, own: usize) -> Option<SlotName<'a>> {
+        let found = match self.user_function(function) {
+            Some(found) => found,
+            None => return None,
+        };
+        match name_in(found, own) {
+            Some(name) => Some(self.name_within(found.name(), name)),
+            None => None,
+        }
+    }
+
+    /// The name of a block instance, as declared.
+    pub(crate) fn block(&self, block: usize) -> Option<SlotName<'a>> {
+        if self.task >= self.plan.tasks() {
+            return None;
+        }
+        match self.plan.task(self.task).blocks().get(block) {
+            Some(found) => Some(self.name_within(found.instance, found.name)),
+            None => None,
+        }
+    }
+
+    /// The name of a port of a block instance.
+    pub(crate) fn port(&self, block: usize, port: usize) -> Option<DeclaredName<'a>> {
+        if self.task >= self.plan.tasks() {
+            return None;
+        }
+        let kind = match self.plan.task(self.task).blocks().get(block) {
+            Some(found) => found.kind,
+            None => return None,
+        };
+        match kind.ports().get(port) {
+            Some(port) => Some(DeclaredName {
+                bytes: port.name.spelling(),
+            }),
+            None => None,
+        }
+    }
+}
+
+/// The name of a function's variable of this number: its inputs count first, then its result and
+/// its VAR.
+pub(crate) fn name_in(function: &UserFunction, own: usize) -> Option<Name> {
+    match own.checked_sub(function.inputs().len()) {
+        Some(other) => match function.variables().get(other) {
+            Some(variable) => Some(variable.name),
+            None => None,
+        },
+        None => match function.inputs().get(own) {
+            Some(input) => Some(input.name),
+            None => None,
+        },
+    }
+}
