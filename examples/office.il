@@ -6,6 +6,15 @@ TYPE
   Answer : UINT (0..258);   (* 256 no answer, 257 a damaged one, 258 none yet *)
 END_TYPE
 
+(* Full light or none. *)
+FUNCTION full : Level
+VAR_INPUT lit : BOOL; END_VAR
+  LD lit
+  RETCN                     (* none: the level that it begins with *)
+  LD 254
+  ST full
+END_FUNCTION
+
 PROGRAM door
 VAR_EXTERNAL
   presses : Presses;
@@ -31,13 +40,8 @@ END_VAR
   CAL rest(PT := T#3m)
   LD presses
   ST seen
-  LD rest.Q
-  JMPC dark
-  LD 254
-  ST lamp
-  RET
-dark:
-  LD 0
+  LDN rest.Q
+  full
   ST lamp
 END_PROGRAM
 
