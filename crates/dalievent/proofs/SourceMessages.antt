@@ -3,7 +3,8 @@ use Rattle.std.proofs.Common.{◌≡◌, ℕ, ◌+◌, ◌-◌, ◌^◌, ◌<◌
 use Rattle.std.proofs.lemmas.Bool.{le-leb, leb-true, lt-ltb, ltb-true}
 use Rattle.std.specs.Prelude.{nat_lt, nat_le}
 use Rattle.dalievent.specs.declared.messages.EventSource.{EventSource}
-use Rattle.dalievent.specs.EventSchemes.{EventMessage, scheme_bits, a_limit, Solves, IsFrom}
+use Rattle.dalievent.specs.declared.heard.EventMessage.{EventMessage}
+use Rattle.dalievent.specs.EventSchemes.{scheme_bits, a_limit, Solves, IsFrom}
 use Rattle.dalievent.specs.Messages.{first_message, is_message, information}
 
 parts : (x y : Bool) → (x && y) ≡ true → (x ≡ true) × (y ≡ true)
@@ -20,13 +21,13 @@ pub message_of : (s : EventSource) (f : ℕ) → s.a < a_limit s.scheme → s.b 
     → (e : EventMessage) × Solves e f × IsFrom s e
 message_of s f a b is =
     let w = within s f is in (
-      record { scheme = s.scheme; a = s.a; b = s.b; info = f - first_message s },
+      record { scheme = s.scheme; a = s.a; b = s.b; information = f - first_message s },
       (a, b, (let l = w.0 in let u = w.1 in omega arith), (let l = w.0 in omega arith)),
       (refl, refl, refl),
     )
 
 -- the first message, by the parts of a message of the source
-first_is : (s : EventSource) (e : EventMessage) (f : ℕ) → Solves e f → IsFrom s e → f ≡ first_message s + e.info
+first_is : (s : EventSource) (e : EventMessage) (f : ℕ) → Solves e f → IsFrom s e → f ≡ first_message s + e.information
 first_is s e f solves from =
     let bits : scheme_bits s.scheme ≡ scheme_bits e.scheme = ap scheme_bits from.0 in
     let is = solves.3 in
@@ -41,5 +42,5 @@ is_message_of s e f solves from =
     let high : nat_lt f (first_message s + 2 ^ 10) ≡ true = lt-ltb f (first_message s + 2 ^ 10) (omega arith) in
     rw low high
 
-pub information_is : (s : EventSource) (e : EventMessage) (f : ℕ) → Solves e f → IsFrom s e → information s f ≡ e.info
+pub information_is : (s : EventSource) (e : EventMessage) (f : ℕ) → Solves e f → IsFrom s e → information s f ≡ e.information
 information_is s e f solves from = let is = first_is s e f solves from in omega arith

@@ -1,16 +1,13 @@
 -- The event messages of control devices: one equation on the frame's number for each scheme (profile).
 use Rattle.std.specs.Prelude.{◌≡◌, ℕ, ◌+◌, ◌*◌, ◌<◌, ◌^◌}
+use Rattle.daliframe.specs.Frames.{IsCommand24}
 use Rattle.daliframe.specs.declared.schemes.EventScheme.{EventScheme}
 use Rattle.daliframe.specs.declared.schemes.EventScheme.TheVariants.{Instance, Device, DeviceInstance}
 use Rattle.daliframe.specs.declared.schemes.EventScheme.TheVariants.{DeviceGroup, InstanceGroup}
+use Rattle.dalievent.specs.declared.heard.EventMessage.{EventMessage}
+use Rattle.dalievent.specs.declared.heard.Heard.{Heard}
+use Rattle.dalievent.specs.declared.heard.Heard.TheVariants.{Event, Command, Other}
 use Rattle.dalievent.specs.declared.messages.EventSource.{EventSource}
-
--- an event message: its scheme, the two parts that the scheme gives a meaning, and its information
-pub record EventMessage : Type 0 where
-  pub scheme : EventScheme
-  pub a : ℕ
-  pub b : ℕ
-  pub info : ℕ
 
 -- what the scheme adds to a frame: bits 23 and 22 are `10` or `11` where no short address is, bit 15 tells two schemes
 -- apart
@@ -32,9 +29,15 @@ a_limit InstanceGroup = 32
 -- a from bit 17 on, b from bit 10 on, and the information below
 abbrev pub Solves : EventMessage → ℕ → Type 0
 Solves e frame =
-    (e.a < a_limit e.scheme) × (e.b < 32) × (e.info < 1024)
-    × (frame ≡ scheme_bits e.scheme + 2 ^ 17 * e.a + 2 ^ 10 * e.b + e.info)
+    (e.a < a_limit e.scheme) × (e.b < 32) × (e.information < 1024)
+    × (frame ≡ scheme_bits e.scheme + 2 ^ 17 * e.a + 2 ^ 10 * e.b + e.information)
 
 -- an event comes from a source of its scheme and parts, whatever its information
 abbrev pub IsFrom : EventSource → EventMessage → Type 0
 IsFrom source e = (source.scheme ≡ e.scheme) × (source.a ≡ e.a) × (source.b ≡ e.b)
+
+-- what a frame is: the message that solves its equation; a command; or neither
+abbrev pub IsRead : ℕ → Heard → Type 0
+IsRead frame (Event message) = Solves message frame
+IsRead frame Command = IsCommand24 frame
+IsRead frame Other = (IsCommand24 frame → ⊥) × ((message : EventMessage) → Solves message frame → ⊥)

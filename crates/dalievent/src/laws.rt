@@ -2,7 +2,8 @@
 
 ghost use Rattle.std.specs.Prelude.{◌≡◌, ◌<◌, ℕ, true};
 ghost use Rattle.dalievent.specs.declared.messages.EventSource.{EventSource};
-ghost use Rattle.dalievent.specs.EventSchemes.{EventMessage, a_limit, Solves, IsFrom};
+ghost use Rattle.dalievent.specs.declared.heard.EventMessage.{EventMessage};
+ghost use Rattle.dalievent.specs.EventSchemes.{a_limit, Solves, IsFrom};
 ghost use Rattle.dalievent.specs.Messages.{is_message, information};
 
 /// The frames of a source are those that solve the equation of its scheme with its parts, and their
@@ -13,5 +14,5 @@ pub fn messages_solve_their_equation()
     ensures all { (s : EventSource) (e : EventMessage) (f : ℕ)
         → Solves e f → IsFrom s e → is_message s f ≡ true }
     ensures information { (s : EventSource) (e : EventMessage) (f : ℕ)
-        → Solves e f → IsFrom s e → information s f ≡ e.info }
+        → Solves e f → IsFrom s e → information s f ≡ e.information }
 {}
