@@ -212,6 +212,15 @@ impl Plant {
         self.limit = limit;
     }
 
+    /// Raises the limit. It is not below what it was, and 1,000,000 at most.
+    pub fn raise(&mut self, limit: u64)
+        requires above { self.old.limit ≤ limit }
+        requires most { limit ≤ most_events }
+        ensures raised { self.new ≡ record self.old { limit = limit } }
+    {
+        self.limit = limit;
+    }
+
     /// Keeps a place of the history back for a tick, until it is used.
     pub fn may_tick(&mut self) -> Result<(), CallRefusal>
         ensures refused { GivesFirst (may_tick_cases self.old) result }
