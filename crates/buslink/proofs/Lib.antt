@@ -1,2 +1,3 @@
+pub mod Eaching
 mod Trying
 mod Failures

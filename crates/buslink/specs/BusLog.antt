@@ -1,15 +1,27 @@
--- What a bus is to a contract: what was sent and heard on it so far, and its counts.
-use Rattle.std.specs.Prelude.{ℕ, ◌+◌, ◌-◌, ◌%◌, ◌^◌, min, Bool, true, false, Option, Some, None, Result, Ok, Err}
-use Rattle.std.specs.Prelude.{List, [], ◌∷◌, ◌++◌}
+-- What a bus is to a contract: its number, what comes on it, what was sent and heard on it so far, and its counts.
+use Rattle.std.specs.Prelude.{◌≡◌, ℕ, ◌+◌, ◌-◌, ◌%◌, ◌^◌, min, Bool, true, false, Option, Some, None, Result, Ok, Err, ⊤}
+use Rattle.std.specs.Prelude.{List, [], ◌∷◌, ◌++◌, option_map, IfSome}
+use Rattle.std.specs.List.{filter_map}
 use Rattle.daliframe.specs.declared.forward.Frame.{Frame}
 use Rattle.transact.specs.declared.marks.Mark.{Mark}
 use Rattle.transact.specs.declared.marks.Mark.TheVariants.{Failed}
 use Rattle.transact.specs.declared.marks.Reply.{Reply}
 use Rattle.transact.specs.declared.marks.Sent.{Sent}
 use Rattle.transact.specs.Marks.{mark_of}
+use Rattle.buslink.specs.declared.arrivals.Arrival.{Arrival}
+use Rattle.buslink.specs.declared.arrivals.Arrival.TheVariants as arrival
 use Rattle.buslink.specs.declared.faults.Fault.{Fault}
 
+-- what comes on a bus to be heard, first to last: what has come, and what is to come
+pub record Arrivals : Type 0 where
+  pub come : List Arrival
+  pub later : List Arrival
+
 pub record BusLog : Type 0 where
+  -- its number among the buses of its plant
+  pub number : ℕ
+  -- what comes on it, where that is known, as on a simulated bus
+  pub arrivals : Option Arrivals
   -- the frames that were sent, first to last, each with its priority and what became of it
   pub sent : List Sent
   -- the numbers of the 24-bit frames that were heard, first to last
@@ -68,3 +80,42 @@ after_hear (Err fault) log = record log {
 -- the same but for the spare places
 abbrev pub with_spare : ℕ → BusLog → BusLog
 with_spare spare log = record log { spare = spare }
+
+-- ---- what comes on the bus
+
+-- the frame that comes, where it is one
+abbrev pub frame_in : Arrival → Option ℕ
+frame_in (arrival.Frame frame) = Some frame
+frame_in arrival.Fault = None
+
+-- the numbers of the frames among these
+abbrev pub frames_in : List Arrival → List ℕ
+frames_in arrivals = filter_map frame_in arrivals
+
+-- all that has come was heard, where that is known
+abbrev pub HasHeardAll : BusLog → Type 0
+HasHeardAll log = IfSome log.arrivals (λ arrivals. log.heard ≡ frames_in arrivals.come)
+
+-- a call that finds that nothing had come tells that all was heard before it
+abbrev pub TellsAll : Result (Option ℕ) Fault → BusLog → Type 0
+TellsAll (Ok (Some frame)) log = ⊤
+TellsAll (Ok None) log = HasHeardAll log
+TellsAll (Err fault) log = ⊤
+
+-- the next of what is to come has come
+abbrev pub one_more_came : List Arrival → Arrivals → Arrivals
+one_more_came [] arrivals = arrivals
+one_more_came (next ∷ more) arrivals = record { come = arrivals.come ++ next ∷ []; later = more }
+
+abbrev pub after_arrival : BusLog → BusLog
+after_arrival log = record log { arrivals = option_map (λ (a : Arrivals). one_more_came a.later a) log.arrivals }
+
+-- all of it has come
+abbrev pub after_all_arrivals : BusLog → BusLog
+after_all_arrivals log =
+    record log { arrivals = option_map (λ (a : Arrivals). record { come = a.come ++ a.later; later = [] }) log.arrivals }
+
+-- it is the same bus, on which nothing came meanwhile: no call of a bus changes this
+pub record IsSameBus (first log : BusLog) : Type 0 where
+  pub number : log.number ≡ first.number
+  pub arrivals : log.arrivals ≡ first.arrivals

@@ -1,4 +1,5 @@
 pub mod BusLog
 pub mod ClockLog
+pub mod Each
 pub mod Performing
 pub mod PerformingSteps

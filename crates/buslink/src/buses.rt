@@ -1,14 +1,15 @@
 //! What the controller asks of a bus interface.
 ghost use Rattle.std.specs.Prelude.{◌≡◌, ◌<◌, ◌≤◌, IsOk, OnOk};
-ghost use Rattle.buslink.specs.BusLog.{after_send, after_hear, with_spare};
+ghost use Rattle.buslink.specs.BusLog.{TellsAll, after_send, after_hear, with_spare};
 
 use crate::Fault;
 use daliframe::{Frame, Frame24};
 use std::alloc::AllocError;
 use transact::Reply;
 
-/// A bus interface, with what became of it so far: the frames that were sent and heard, and how
-/// often it failed and heard. The two lists grow in `room` alone; `send` and `hear` take no memory.
+/// A bus interface, with its number, what comes on it where that is known, and what became of it so
+/// far: the frames that were sent and heard, and how often it failed and heard. The two lists grow
+/// in `room` alone; `send` and `hear` take no memory. No call changes the number or what comes.
 pub trait Bus: Drop {
     ghost use Rattle.buslink.specs.BusLog.{BusLog};
 
@@ -36,14 +37,16 @@ pub trait Bus: Drop {
         requires { 0 < (log self.old).spare }
         ensures { log self.new ≡ after_send frame priority result (log self.old) };
 
-    /// The next 24-bit frame that came on the bus, where there is one.
+    /// The next 24-bit frame that came on the bus, where there is one. Where there is none, all that
+    /// has come was heard.
     ///
     /// # Errors
     ///
     /// The interface failed. No frame was heard.
     fn hear(&mut self) -> Result<Option<Frame24>, Fault>
         requires { 0 < (log self.old).spare }
-        ensures { log self.new ≡ after_hear result (log self.old) };
+        ensures logged { log self.new ≡ after_hear result (log self.old) }
+        ensures all { TellsAll result (log self.old) };
 }
 
 /// A call goes to the bus in the box, and what became of that one became of the box.

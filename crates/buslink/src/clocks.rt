@@ -1,8 +1,9 @@
 //! What the controller asks of a clock.
 ghost use Rattle.std.specs.Prelude.{◌≡◌, IfSome};
-ghost use Rattle.buslink.specs.ClockLog.{after_now, IsNotBefore};
+ghost use Rattle.buslink.specs.ClockLog.{TellsEnd, after_now, IsNotBefore};
 
-/// A clock, with the moments that it gave so far and how often it was asked.
+/// A clock, with the moments that it is to give where they are known, those that it gave so far, and
+/// how often it was asked.
 pub trait Clock: Drop {
     ghost use Rattle.buslink.specs.ClockLog.{ClockLog};
 
@@ -13,7 +14,8 @@ pub trait Clock: Drop {
     /// needs when it is made.
     fn now(&mut self) -> Option<u64>
         ensures logged { log self.new ≡ after_now result (log self.old) }
-        ensures never_falls { IfSome result (λ moment. IsNotBefore moment (log self.old)) };
+        ensures never_falls { IfSome result (λ moment. IsNotBefore moment (log self.old)) }
+        ensures ends { TellsEnd result (log self.old) };
 }
 
 /// A call goes to the clock in the box, and what became of that one became of the box.

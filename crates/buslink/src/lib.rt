@@ -10,11 +10,13 @@
 //! ```
 #![tactic(auto)]
 
+mod arrivals;
 mod buses;
 mod clocks;
 mod faults;
 mod performing;
 
+pub use arrivals::Arrival;
 pub use buses::Bus;
 pub use clocks::Clock;
 pub use faults::Fault;

@@ -9,3 +9,4 @@ pub mod Kept
 pub mod ScriptedTicks
 pub mod Setups
 pub mod Simulated
+pub mod Staged

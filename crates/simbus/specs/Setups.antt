@@ -7,8 +7,8 @@ use Rattle.simbus.specs.declared.gears.Gear.{Gear}
 use Rattle.simbus.specs.declared.gears.MemoryByte.{MemoryByte}
 use Rattle.simbus.specs.declared.instances.InputInstance.{InputInstance}
 use Rattle.simbus.specs.declared.scripts.ScriptedReply.{ScriptedReply}
-use Rattle.simbus.specs.declared.scripts.Arrival.{Arrival}
-use Rattle.simbus.specs.declared.scripts.Arrival.TheVariants as arrival
+use Rattle.buslink.specs.declared.arrivals.Arrival.{Arrival}
+use Rattle.buslink.specs.declared.arrivals.Arrival.TheVariants as arrival
 
 -- whether it says that the lamp of this gear failed
 abbrev pub has_lamp_failure : ℕ → ℕ → Statement → Bool

@@ -1,16 +1,17 @@
 //! Simulated buses.
 ghost use Rattle.std.specs.Prelude.{◌≡◌, ◌+◌, ◌<◌, ◌≤◌, ◌↔◌, IfOk, IsOk, OnOk, IsTrue, length};
 ghost use Rattle.std.specs.Prelude.{reverse};
-ghost use Rattle.buslink.specs.BusLog.{after_send, with_spare, with_sent};
+ghost use Rattle.buslink.specs.BusLog.{TellsAll, after_arrival, after_send, with_spare, with_sent};
 ghost use Rattle.simbus.specs.Histories.{variables_at, instance_variables_at};
 ghost use Rattle.simbus.specs.Simulated.{setup_in, new_bus, fate_at, Sends, Hears, after_hearing};
-ghost use Rattle.simbus.specs.Simulated.{after_arrival, after_all_arrivals};
+ghost use Rattle.simbus.specs.Simulated.{IsAsSetUp, arrived, all_arrived, due_mark, later_in};
 
 use crate::equipment::Equipment;
 use crate::scripts::fate_at;
-use crate::{Arrival, BusSetup, GearVariables, InstanceVariables, ScriptedReply};
-use buslink::{Bus, Fault};
-use daliframe::{Frame, Frame24, InstanceNumber, ShortAddress};
+use crate::{BusSetup, GearVariables, InstanceVariables, ScriptedReply};
+use buslink::{Arrival, Bus, Fault};
+use daliframe::{BusNumber, Frame, Frame24, InstanceNumber, ShortAddress};
+use memo::Trace;
 use std::alloc::{AllocError, Global};
 use std::collections::VecDeque;
 use std::marker::Model;
@@ -21,8 +22,11 @@ use wordlines::FrameFate;
 /// came or nothing.
 #[derive(Drop)]
 pub struct SimBus {
+    number: BusNumber,
     equipment: Equipment,
     script: Vec<ScriptedReply>,
+    /// What calls that hear have met. It has no bytes.
+    met: Trace<Arrival>,
     waiting: VecDeque<Arrival>,
     later: VecDeque<Arrival>,
     sent: Vec<Sent>,
@@ -56,7 +60,9 @@ impl SimBus {
 
     /// Adds a frame that was sent, and what became of it.
     fn add(&mut self, frame: &Frame, priority: u8, mark: Mark)
-        requires { 0 < self.old.log.spare }
+        requires spare { 0 < self.old.log.spare }
+        requires due { mark ≡ due_mark self.old.setup self.old.script (reverse self.old.log.sent)
+            frame.now }
         ensures { self.new ≡ record self.old {
           log = with_sent frame.now priority mark
               self.old.log;
@@ -80,9 +86,10 @@ impl SimBus {
     /// Memory was refused.
     pub fn new(alloc: Global, setup: BusSetup) -> Result<Self, AllocError>
         ensures { IfOk result (λ b. b ≡ new_bus
-            (setup_in setup) setup.script.items setup.arrivals.items) }
+            setup.number (setup_in setup) setup.script.items setup.arrivals.items) }
     {
         let BusSetup {
+            number,
             gears,
             memory,
             instances,
@@ -91,8 +98,10 @@ impl SimBus {
         } = setup;
         let equipment = Equipment::new(alloc, gears.as_slice(), memory, instances.as_slice())?;
         Ok(SimBus {
+            number,
             equipment,
             script,
+            met: Trace::new(),
             waiting: VecDeque::with_capacity(alloc, arrivals.len())?,
             later: VecDeque::from_vec(arrivals),
             sent: Vec::new(alloc),
@@ -107,8 +116,9 @@ impl SimBus {
     /// The next of what comes later comes now, and is met by a call that hears. Answers whether
     /// there was any.
     pub fn arrive(&mut self) -> bool
-        ensures any { IsTrue result ↔ (0 < length self.old.later) }
-        ensures after { self.new ≡ after_arrival self.old.later self.old }
+        ensures any { IsTrue result ↔ (0 < length (later_in self.old.log.arrivals)) }
+        ensures after { self.new ≡ arrived self.old }
+        ensures log { self.new.log ≡ after_arrival self.old.log }
     {
         match self.later.pop_front() {
             Some(arrival) => {
@@ -122,7 +132,7 @@ impl SimBus {
     /// All that comes later comes now, and is met by the calls that hear, one after another in its
     /// order. So a bus that is handed to a thread hears all its events.
     pub fn arrive_all(&mut self)
-        ensures { self.new ≡ after_all_arrivals self.old }
+        ensures { self.new ≡ all_arrived self.old }
     {
         while self.arrive() {}
     }
@@ -146,6 +156,14 @@ impl SimBus {
             (reverse self.now.log.sent) address number }
     {
         self.equipment.instance(address, number)
+    }
+
+    /// What was heard is what has come and no longer waits, and what became of each frame is what
+    /// the script, the gear and the devices make of it.
+    pub fn is_as_set_up(&self)
+        ensures { IsAsSetUp self.now }
+    {
+        let _sent = self.sent.len();
     }
 
     /// The frames that were sent, first to last.
@@ -215,18 +233,22 @@ impl Bus for SimBus {
         requires { 0 < self.old.log.spare }
         ensures heard { Hears self.old.waiting result }
         ensures after { self.new ≡ after_hearing result self.old }
+        ensures all { TellsAll result self.old.log }
     {
         self.hears = self.hears.saturating_add(1);
         let next = self.waiting.pop_front();
         self.heard_none = next.is_none();
-        match &next {
-            None => Ok(None),
-            Some(Arrival::Frame(frame)) => {
-                self.heard.push(*frame).unwrap();
+        let Some(arrival) = next else {
+            return Ok(None);
+        };
+        self.met.push(&arrival);
+        match arrival {
+            Arrival::Frame(frame) => {
+                self.heard.push(frame).unwrap();
                 self.spare -= 1;
-                Ok(Some(*frame))
+                Ok(Some(frame))
             }
-            Some(Arrival::Fault) => {
+            Arrival::Fault => {
                 self.failures = self.failures.wrapping_add(1);
                 Err(Fault)
             }

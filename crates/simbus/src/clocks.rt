@@ -1,8 +1,8 @@
 //! The clock of a scenario.
 ghost use Rattle.std.specs.Prelude.{◌≡◌, IfOk, IfSome};
-ghost use Rattle.buslink.specs.ClockLog.{after_now, IsNotBefore};
+ghost use Rattle.buslink.specs.ClockLog.{TellsEnd, after_now, IsNotBefore};
 ghost use Rattle.wordlines.specs.Happenings.{tick_in, ticks};
-ghost use Rattle.simbus.specs.ScriptedTicks.{new_clock, next_moment, after_tick};
+ghost use Rattle.simbus.specs.ScriptedTicks.{IsByScript, new_clock, next_moment, after_tick};
 
 use buslink::Clock;
 use std::alloc::{AllocError, Global};
@@ -48,6 +48,13 @@ impl ScriptedClock {
             gave_none: false,
         })
     }
+
+    /// What was given and what is still to come are all that it is to give.
+    pub fn is_by_script(&self)
+        ensures { IsByScript self.now }
+    {
+        let _given = self.given;
+    }
 }
 
 /// The moments of the ticks.
@@ -78,6 +85,7 @@ impl Clock for ScriptedClock {
         ensures after { self.new ≡ after_tick self.old }
         ensures logged { self.new.log ≡ after_now result self.old.log }
         ensures never_falls { IfSome result (λ moment. IsNotBefore moment self.old.log) }
+        ensures ends { TellsEnd result self.old.log }
     {
         self.asks = self.asks.saturating_add(1);
         self.gave_none = self.given >= self.moments.len();

@@ -22,11 +22,14 @@ mod gears;
 mod instances;
 mod scripts;
 mod setups;
+mod staged;
 
 pub use buses::SimBus;
+pub use buslink::Arrival;
 pub use clocks::ScriptedClock;
 pub use gears::{Gear, GearVariables, MemoryByte};
 pub use instances::{InputInstance, InstanceVariables};
-pub use scripts::{Arrival, ScriptedReply};
+pub use scripts::ScriptedReply;
 pub use setups::BusSetup;
+pub use staged::{Scene, Staged};
 pub use wordlines::{FrameFate, Scenario, ScenarioFault, Statement, parse};

@@ -2,7 +2,6 @@
 ghost use Rattle.std.specs.Prelude.{◌≡◌};
 ghost use Rattle.simbus.specs.Simulated.{fate_at};
 
-use daliframe::Frame24;
 use wordlines::FrameFate;
 
 /// What becomes of a frame that is sent, by its place.
@@ -11,15 +10,6 @@ pub struct ScriptedReply {
     /// The place of the frame among those sent on the bus, from 1.
     pub place: u64,
     pub fate: FrameFate,
-}
-
-/// What a call that hears meets.
-#[derive(Clone, Copy)]
-pub enum Arrival {
-    /// A frame.
-    Frame(Frame24),
-    /// A fault of the bus interface.
-    Fault,
 }
 
 /// What becomes of the frame at this place.

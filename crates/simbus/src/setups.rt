@@ -12,6 +12,7 @@ use wordlines::{Scenario, Statement};
 /// What a scenario says of one bus.
 #[derive(Drop)]
 pub struct BusSetup {
+    pub number: BusNumber,
     pub gears: Vec<Gear>,
     pub memory: Vec<MemoryByte>,
     pub instances: Vec<InputInstance>,
@@ -27,6 +28,7 @@ impl BusSetup {
     ///
     /// Memory was refused.
     pub fn of(alloc: Global, scenario: &Scenario, bus: BusNumber) -> Result<Self, AllocError>
+        ensures number { IfOk result (λ s. s.number ≡ bus) }
         ensures gears { IfOk result (λ s. s.gears.items ≡ filter_map
             (gear_on bus scenario.now) scenario.now) }
         ensures memory { IfOk result (λ s. s.memory.items ≡ filter_map
@@ -40,6 +42,7 @@ impl BusSetup {
     {
         let statements = scenario.lines();
         Ok(BusSetup {
+            number: bus,
             gears: gears_on(alloc, statements, bus)?,
             memory: all_memory_on(alloc, statements, bus)?,
             instances: instances_on(alloc, statements, bus)?,

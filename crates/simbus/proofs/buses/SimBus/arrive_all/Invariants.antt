@@ -1,9 +1,9 @@
 use Rattle.std.proofs.Common.{◌≡◌, length}
-use Rattle.simbus.specs.Simulated.{after_all_arrivals}
+use Rattle.simbus.specs.Simulated.{all_arrived, later_in}
 use Rattle.simbus.proofs.buses.SimBus.arrive_all.Given as goal
 
 abbrev pub invariant-loop : goal.invariant-loop
-invariant-loop l = after_all_arrivals l.self ≡ after_all_arrivals l.fn.self
+invariant-loop l = all_arrived l.self ≡ all_arrived l.fn.self
 
 abbrev pub decreases-loop : goal.decreases-loop
-decreases-loop l = length l.self.later
+decreases-loop l = length (later_in l.self.log.arrivals)
