@@ -1,0 +1,17 @@
+use Rattle.driving.specs.Quiet.{HasNoScan}
+use Rattle.driving.proofs.Again.{turned_more}
+use Rattle.driving.proofs.Linked.{scan_then}
+use Rattle.driving.proofs.scanning.scan_all.Goals as goal
+
+pub returns-in_err-scan_next-clause-step : goal.returns-in_err-scan_next-clause-step
+returns-in_err-scan_next-clause-step g c =
+    scan_then c.args.plant.now c.loop.plant c.scan_next.new.plant c.loop.invariant.step c.in_err-scan_next.ensures.step
+
+pub loop-preserved : goal.loop-preserved
+loop-preserved g c = record {
+  step = scan_then c.args.plant.now c.loop.plant c.scan_next.new.plant c.loop.invariant.step
+      c.in_ok-scan_next.ensures.step;
+  turned = turned_more c.args.plant.now c.loop.plant c.scan_next.new.plant c.loop.counter c.loop.any
+      c.in_ok-scan_next.field-0 (HasNoScan c.loop.plant) c.loop.invariant.turned c.in_ok-scan_next.ensures.turn
+      c.if-not-branch.false;
+}

@@ -1,0 +1,53 @@
+use Rattle.std.proofs.Common.{ℕ, Option, ap, ◌∙◌}
+use Rattle.std.specs.Prelude.{Ok}
+use Rattle.buslink.specs.BusLog.{after_hear}
+use Rattle.plant.specs.Shown.{Shown}
+use Rattle.driving.proofs.BusSteps.{step_fault, step_frame, step_silent}
+use Rattle.driving.proofs.Handed.{step_idle}
+use Rattle.driving.proofs.Hearing.{heard_fault, heard_frame, heard_nothing}
+use Rattle.driving.proofs.Refused.{hear_stops, hear_tells}
+use Rattle.driving.proofs.serving.hear_next.Goals as goal
+
+pub returns-in-Err : goal.returns-in-Err
+returns-in-Err g c = record {
+  step = step_idle c.args.bus c.args.plant.now c.may_hear.new.self (g.B.Bus.log c.args.line.now)
+      (g.B.Bus.log c.room.new.self) c.in-Err.ensures.err c.in_ok-room.ensures.same;
+  only = heard_nothing c.args.bus c.args.plant.now c.may_hear.new.self
+      (ap (λ (x : Shown). x.history) c.in-Err.ensures.err);
+  turn = hear_tells c.args.plant.now c.may_hear.new.self c.args.bus (g.B.Bus.log c.args.line.now)
+      (g.B.Bus.log c.room.new.self) c.in-Err.refusal c.idle_where_refused.result c.in-Err.ensures.err
+      c.in-Err.ensures.refused c.idle_where_refused.ensures;
+  stops = hear_stops c.args.plant.now c.may_hear.new.self c.args.bus c.in-Err.refusal c.idle_where_refused.result
+      c.in-Err.ensures.err c.requires.known c.in-Err.ensures.refused c.idle_where_refused.ensures;
+}
+
+pub returns-in-Ok-clause-step : goal.returns-in-Ok-clause-step
+returns-in-Ok-clause-step g c =
+    step_frame c.args.bus c.in-Ok-Some.frame c.args.plant.now c.may_hear.new.self c.heard.new.self
+    (g.B.Bus.log c.args.line.now) (g.B.Bus.log c.room.new.self) (g.B.Bus.log c.hear.new.self)
+    c.in_default.ensures.ok c.in-Ok.ensures.ok c.in_ok-room.ensures.same
+    (c.in-Ok-Some.ensures.logged
+    ∙ ap (λ (x : Option ℕ). after_hear (Ok x) (g.B.Bus.log c.room.new.self)) c.in-Ok-Some.field-0-is)
+
+pub returns-in-Ok-clause-only : goal.returns-in-Ok-clause-only
+returns-in-Ok-clause-only g c =
+    heard_frame c.args.bus c.in-Ok-Some.frame c.args.plant.now c.may_hear.new.self c.heard.new.self c.in_default.ensures.ok
+    c.in-Ok.ensures.ok
+
+pub returns-in-Ok-None-clause-step : goal.returns-in-Ok-None-clause-step
+returns-in-Ok-None-clause-step g c =
+    step_silent c.args.bus c.args.plant.now c.may_hear.new.self (g.B.Bus.log c.args.line.now)
+    (g.B.Bus.log c.room.new.self) (g.B.Bus.log c.hear.new.self) c.in_default.ensures.ok c.in_ok-room.ensures.same
+    (c.in-Ok-None.ensures.logged
+    ∙ ap (λ (x : Option ℕ). after_hear (Ok x) (g.B.Bus.log c.room.new.self)) c.in-Ok-None.field-0-is)
+
+pub returns-in-Ok-down-clause-step : goal.returns-in-Ok-down-clause-step
+returns-in-Ok-down-clause-step g c =
+    step_fault c.args.bus c.in-Err-hear.field-0 c.args.plant.now c.may_hear.new.self c.down.new.self
+    (g.B.Bus.log c.args.line.now) (g.B.Bus.log c.room.new.self) (g.B.Bus.log c.hear.new.self)
+    c.in_default.ensures.ok c.in-Ok-down.ensures.ok c.in_ok-room.ensures.same c.in-Err-hear.ensures.logged
+
+pub returns-in-Ok-down-clause-only : goal.returns-in-Ok-down-clause-only
+returns-in-Ok-down-clause-only g c =
+    heard_fault c.args.bus c.args.plant.now c.may_hear.new.self c.down.new.self c.in_default.ensures.ok
+    c.in-Ok-down.ensures.ok

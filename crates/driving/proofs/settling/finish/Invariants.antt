@@ -1,0 +1,10 @@
+use Rattle.std.proofs.Common.{◌+◌, ◌≤◌, length, map}
+use Rattle.driving.specs.Driven.{IsDriven}
+use Rattle.driving.proofs.settling.finish.Given as goal
+
+abbrev pub invariant-loop : goal.invariant-loop
+invariant-loop g l =
+    record {
+      driven : IsDriven l.fn.plant l.plant (map g.B.Bus.log l.fn.lines.items) (map g.B.Bus.log l.lines.items);
+      long : l.counter + length l.fn.plant.history ≤ length l.plant.history;
+    }

@@ -1,0 +1,42 @@
+use Rattle.std.proofs.Common.{map}
+use Rattle.driving.specs.Quiet.{HasNoFrame, HasNoHandout}
+use Rattle.driving.specs.Links.{log_of}
+use Rattle.driving.proofs.Settled.{turned_did, turned_not}
+use Rattle.driving.proofs.Linked.{scan_nothing}
+use Rattle.driving.proofs.Turned.{finish_of_scan, finish_then, turned_none}
+use Rattle.driving.proofs.settling.turn_all.Goals as goal
+use Rattle.driving.proofs.settling.turn_all.Goals.{then-branch, else-branch}
+
+pub returns-in_err-turn_at-clause-driven : goal.returns-in_err-turn_at-clause-driven
+returns-in_err-turn_at-clause-driven g c =
+    finish_then c.args.plant.now c.loop-bus.plant c.turn_at.new.plant (map g.B.Bus.log c.args.lines.now.items)
+    (map g.B.Bus.log c.loop-bus.lines.items) (map g.B.Bus.log c.turn_at.new.lines.items) c.loop-bus.invariant.driven
+    c.in_err-turn_at.ensures.driven
+
+pub loop-bus-preserved : goal.loop-bus-preserved
+loop-bus-preserved g c =
+    let p = c.args.plant.now in let q = c.loop-bus.plant in let r = c.turn_at.new.plant in
+    let before = map g.B.Bus.log c.args.lines.now.items in let between = map g.B.Bus.log c.loop-bus.lines.items in
+    let after = map g.B.Bus.log c.turn_at.new.lines.items in
+    let n = c.loop-bus.bus in let did = c.in_ok-turn_at.field-0 in let now = c.if-branch.any in
+    let is = c.in_ok-turn_at.ensures in
+    record {
+      driven = finish_then p q r before between after c.loop-bus.invariant.driven is.driven;
+      turned = elim c.if-branch.branch [
+        | then-branch w ↦
+            turned_did p q r before between after n
+            (HasNoHandout q n × HasNoFrame q n (log_of between n) (log_of after n)) did now c.loop-bus.invariant.driven
+            is.turn w.if-branch.true w.any-is
+        | else-branch w ↦
+            turned_not p q r before between after n did c.loop-bus.any now c.loop-bus.invariant.turned
+            c.loop-bus.invariant.driven is.others is.turn w.if-branch.false w.any-is
+      ];
+    }
+
+pub loop-bus-init : goal.loop-bus-init
+loop-bus-init g c =
+    let logs = map g.B.Bus.log c.args.lines.now.items in
+    record {
+      driven = finish_of_scan c.args.plant.now c.args.plant.now logs (scan_nothing c.args.plant.now);
+      turned = turned_none c.args.plant.now logs;
+    }

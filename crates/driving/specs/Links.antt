@@ -1,0 +1,63 @@
+-- What went over a link goes with a history: each bus sent the attempts of its reports, and the history has what was
+-- heard there (IEC 62386-101, and profile).
+use Rattle.std.specs.Prelude.{◌≡◌, ◌⊎◌, ℕ, zero, suc, ◌-◌, ◌^◌, ◌<◌, ◌≤◌, min, List, [], ◌++◌, None, false}
+use Rattle.std.specs.Prelude.{slice_index_or}
+use Rattle.buslink.specs.BusLog.{BusLog, IsSameBus, one_more_failure}
+use Rattle.buslink.specs.Each.{Each}
+use Rattle.plantevents.specs.declared.event.Event.{Event}
+use Rattle.plantevents.specs.Histories.{sent_in, heard_in, downs_in}
+
+-- ---- the logs of buses, by their numbers
+
+abbrev pub no_frame : BusLog
+no_frame = record {
+  number = 0;
+  arrivals = None;
+  sent = [];
+  heard = [];
+  spare = 0;
+  failures = 0;
+  hears = 0;
+  heard_none = false;
+}
+
+-- the log of a bus among these
+abbrev pub log_of : List BusLog → ℕ → BusLog
+log_of logs bus = slice_index_or logs bus no_frame
+
+-- the count of failures after so many more
+abbrev pub more_failures : ℕ → ℕ → ℕ
+more_failures zero failures = failures
+more_failures (suc more) failures = one_more_failure (more_failures more failures)
+
+-- ---- counts of calls, which are kept at 2^64 - 1 once there
+
+-- a count is no less than it was first
+abbrev pub IsNoLess : ℕ → ℕ → Type 0
+IsNoLess first now = min first (2 ^ 64 - 1) ≤ now
+
+-- there was a call since: the count is above what it was first, or it is kept
+abbrev pub HasGrown : ℕ → ℕ → Type 0
+HasGrown first now = (now ≤ 2 ^ 64 - 1) × ((first < now) ⊎ (now ≡ 2 ^ 64 - 1))
+
+-- the bus was asked to hear since the first log
+abbrev pub IsAsked : BusLog → BusLog → Type 0
+IsAsked first log = HasGrown first.hears log.hears
+
+-- or it was not
+abbrev pub HasHeard : BusLog → BusLog → Type 0
+HasHeard first log = (log.hears ≡ first.hears) ⊎ IsAsked first log
+
+-- ---- a link and a history
+
+-- since the first log this bus sent the attempts of its reports in the history, one after another, and no other frame;
+-- the history has just the frames that were heard there; and it went down as often as its interface failed
+pub record IsLinked (first : BusLog) (bus : ℕ) (h : List Event) (log : BusLog) : Type 0 where
+  pub same : IsSameBus first log
+  pub sent : log.sent ≡ first.sent ++ sent_in bus h
+  pub heard : log.heard ≡ first.heard ++ heard_in bus h
+  pub failed : log.failures ≡ more_failures (downs_in bus h) first.failures
+
+-- so it is of each bus
+abbrev pub AreLinked : List BusLog → List Event → List BusLog → Type 0
+AreLinked firsts h logs = Each (λ b log. IsLinked (log_of firsts b) b h log) 0 logs

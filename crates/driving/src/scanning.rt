@@ -1,0 +1,83 @@
+//! Scans of tasks.
+
+ghost use Rattle.std.specs.Prelude.{◌<◌, IfErr};
+ghost use Rattle.driving.specs.Driven.{CannotGoOn};
+ghost use Rattle.driving.specs.Open.{HasNothingOpen};
+ghost use Rattle.driving.specs.Quiet.{HasNoScan};
+ghost use Rattle.driving.specs.TurnSteps.{IsScanStep, IsTold, Tells};
+
+use crate::{Halt, Observer};
+use ilmachine::scan_into;
+use plant::{CallError, CallRefusal, Plant};
+use std::alloc::Global;
+use std::io;
+
+/// The number of the scan worker that makes the scans.
+const WORKER: usize = 0;
+
+/// Tells that a scan was committed, unless it failed to tell that its task was taken.
+fn tell_scan<B, O: Observer<B>>(
+    observer: &mut O,
+    took: io::Result<()>,
+    place: u64,
+    task: usize,
+    steps: u32,
+) -> Result<bool, Halt>
+    ensures { IsTold result }
+{
+    took?;
+    observer.committed(place, WORKER, task, steps)?;
+    Ok(true)
+}
+
+/// Takes the next task, makes its scan and commits that. Whether there was one.
+pub(crate) fn scan_next<B, O: Observer<B>>(
+    alloc: Global,
+    plant: &mut Plant,
+    observer: &mut O,
+) -> Result<bool, Halt>
+    requires workers { 0 < plant.old.plant.workers }
+    requires open { HasNothingOpen plant.old }
+    ensures step { IsScanStep plant.old plant.new }
+    ensures turn { Tells plant.old plant.new (HasNoScan plant.old) result }
+    ensures stops { IfErr result (CannotGoOn plant.new) }
+{
+    let order = match plant.take(alloc, WORKER) {
+        Ok(order) => order,
+        Err(CallError::Refused(CallRefusal::NothingReady)) => return Ok(false),
+        Err(error) => return Err(Halt::from(error)),
+    };
+    let (place, task) = (order.number, order.task);
+    let took = observer.took(place, WORKER, task);
+    let made = scan_into(order.work);
+    let steps = made.steps();
+    let Ok(()) = plant.commit(WORKER, made) else {
+        unreachable!()
+    };
+    tell_scan::<B, O>(observer, took, place.saturating_add(1), task, steps)
+}
+
+/// Takes and commits all tasks that are ready, one after another. Whether there were any.
+pub(crate) fn scan_all<B, O: Observer<B>>(
+    alloc: Global,
+    plant: &mut Plant,
+    observer: &mut O,
+) -> Result<bool, Halt>
+    requires workers { 0 < plant.old.plant.workers }
+    requires open { HasNothingOpen plant.old }
+    ensures step { IsScanStep plant.old plant.new }
+    ensures turn { Tells plant.old plant.new (HasNoScan plant.old) result }
+    ensures stops { IfErr result (CannotGoOn plant.new) }
+{
+    let mut any = false;
+    for _ in 0..plant.limit() + 1 {
+        if !scan_next::<B, O>(alloc, plant, observer)? {
+            return Ok(any);
+        }
+        any = true;
+    }
+
+    // Each of these turns made the history longer, and it is no longer than its limit.
+    let _within = plant.len();
+    unreachable!()
+}
