@@ -1,6 +1,6 @@
 -- How a refusal of the plant is passed on, and that there is none where a place is kept back.
-use Rattle.std.proofs.Common.{◌≡◌, ℕ, ◌<◌, ◌≤◌, Bool, true, false, not, [], ◌∷◌, None, Some, Err, true≢false, refl}
-use Rattle.std.proofs.Common.{sym, ap, ◌∙◌, subst, arith}
+use Rattle.std.proofs.Common.{◌≡◌, ℕ, ◌<◌, ◌≤◌, Bool, true, false, not, List, [], ◌∷◌, None, Some, Err, refl}
+use Rattle.std.proofs.Common.{true≢false, sym, ap, ◌∙◌, subst, arith}
 use Rattle.std.proofs.lemmas.Bool.{lt-ltb, le-ltb}
 use Rattle.std.proofs.lemmas.Result.{err_from_is_err_and}
 use Rattle.std.specs.Prelude.{Result, ◌&&◌, nat_lt, IsErrAnd}
@@ -12,11 +12,11 @@ use Rattle.plant.specs.declared.refusal.CallError.{CallError}
 use Rattle.plant.specs.declared.refusal.CallError.TheVariants.{Memory, Refused}
 use Rattle.plant.specs.declared.refusal.CallRefusal.{CallRefusal}
 use Rattle.plant.specs.declared.refusal.CallRefusal.TheVariants.{ClockBack, Stranger, BusDown, Full}
-use Rattle.plant.specs.Refusals.{GivesFirstOrMemory, first_refusal, tick_cases, heard_cases, take_cases}
-use Rattle.plant.specs.Refusals.{may_tick_cases, down_cases, has_no_bus, is_full_for}
+use Rattle.plant.specs.Refusals.{Case, GivesFirstOrMemory, first_refusal, tick_cases, heard_cases, hand_cases}
+use Rattle.plant.specs.Refusals.{take_cases, may_tick_cases, down_cases, has_no_bus, is_full_for}
 use Rattle.plant.specs.Shown.{Shown, is_reserved, is_full}
 use Rattle.receipts.specs.Receipts.{ShareParts, IsRole, whole}
-use Rattle.plantlock.specs.Answers.{IsUnheard}
+use Rattle.plantlock.specs.Answers.{IsRefusedBy, IsUnheard}
 
 pub refused_as : {A : Type 0} → (result : Result A CallError) (refusal : CallRefusal)
     → IsErrAnd result (λ e. e ≡ Refused refusal) → result ≡ Err (Refused refusal)
@@ -171,3 +171,19 @@ down_up p s b role agree shown is =
 pub take_gives : {A : Type 0} → (p q : Shown) (w : ℕ) (result : Result A CallError) → p ≡ q
     → GivesFirstOrMemory (take_cases p w) result → GivesFirstOrMemory (take_cases q w) result
 take_gives p q w result is = subst (λ (x : Shown). GivesFirstOrMemory (take_cases x w) result) is
+
+-- ---- what is handed out
+
+pub hand_gives : {A : Type 0} → (p q : Shown) (b : ℕ) (result : Result A CallError) → p ≡ q
+    → GivesFirstOrMemory (hand_cases p b) result → GivesFirstOrMemory (hand_cases q b) result
+hand_gives p q b result is = subst (λ (x : Shown). GivesFirstOrMemory (hand_cases x b) result) is
+
+gives_error : (A : Type 0) (cases : List Case) (error : CallError) → IsRefusedBy cases error
+    → GivesFirstOrMemory {A = A} cases (Err error)
+gives_error A cases Memory is = is
+gives_error A cases (Refused refusal) is = is
+
+pub hand_refused : (A : Type 0) (p q : Shown) (b : ℕ) (error : CallError) → p ≡ q
+    → IsRefusedBy (hand_cases p b) error → GivesFirstOrMemory {A = A} (hand_cases q b) (Err error)
+hand_refused A p q b error is refused =
+    hand_gives {A = A} p q b (Err error) is (gives_error A (hand_cases p b) error refused)

@@ -9,7 +9,7 @@ use Rattle.plantevents.specs.declared.event.Event.{Event}
 use Rattle.plantevents.specs.Parts.{Placed, part}
 use Rattle.plant.specs.Shown.{Shown, is_reserved}
 use Rattle.receipts.specs.declared.receipt.NotedPart.{NotedPart}
-use Rattle.receipts.specs.Receipts.{IsRole, index_of, seat_of}
+use Rattle.receipts.specs.Receipts.{ShareParts, IsRole, index_of, seat_of, whole}
 use Rattle.receipts.specs.Tokens.{Says}
 
 -- the number of a role, and the token of its newest cell, say: its receipts are those of its events since the start,
@@ -37,6 +37,11 @@ pub record AreTied (cells : List Named) (start p : Shown) (number : ℕ × ℕ �
   pub enough : p.limit ≤ length cells
   pub slots : length tokens ≡ most_seats
   pub each : (role : Role) → IsRole start.plant role → IsTied cells start p number tokens role
+
+-- what a Share had before its receipts, and what it has now, are its role's parts of these histories
+pub record IsMet (start : List Event) (s : ShareParts) (h : List Event) : Type 0 where
+  pub before : s.before ≡ part s.role start
+  pub now : whole s ≡ part s.role h
 
 -- a place can be kept back for the role: for no scan worker
 abbrev pub HasPlace : Role → Shown → Type 0

@@ -5,8 +5,9 @@
 //! the Share of its role, and leaves a [`Receipt`] there for an event. A commit and a report of
 //! what a Share shows open are never refused. [`Shared::close`] opens the lock for good: the
 //! receipts of each Share are then exactly its part of what happened. The definitions to read first
-//! are `IsNoted` and `HasPart` (specs/Receipts.antt of `receipts`), and `AreTied`
-//! (specs/Tied.antt), which says how they are kept.
+//! are `IsUnderLock` and `Answer` (specs/Answers.antt), what a call answers of the plant under the
+//! lock, and `IsNoted` (specs/Receipts.antt of `receipts`). `AreTied` (specs/Tied.antt) says how
+//! receipts are kept.
 //!
 //! ```text
 //! let handed = shared.hand(rt, &mut share, bus)?;

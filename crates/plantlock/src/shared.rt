@@ -8,12 +8,18 @@ ghost use Rattle.plantevents.specs.Legal.{AreLegal};
 ghost use Rattle.plantevents.specs.Parts.{shown_moment, shown_down};
 ghost use Rattle.plantevents.specs.Plants.{tries_of};
 ghost use Rattle.limits.specs.Limits.{AreTries, most_buses, most_seats, most_workers};
-ghost use Rattle.receipts.specs.Opened.{AreFreshShares, HaveAllParts};
-ghost use Rattle.receipts.specs.Receipts.{ShareParts, HasPart, HaveParts, IsNoted, IsReserved};
+ghost use Rattle.receipts.specs.Each.{Each};
+ghost use Rattle.receipts.specs.Opened.{AreFreshShares, HaveAllParts, HaveReceipts};
+ghost use Rattle.receipts.specs.Receipts.{ShareParts, IsNoted, IsReserved};
 ghost use Rattle.receipts.specs.Receipts.{IsSame, whole};
 ghost use Rattle.receipts.specs.Seats.{AreUnused};
-ghost use Rattle.plantlock.specs.Answers.{IsOwn, IsUnheard, ShowsScan, ShowsTransaction};
-ghost use Rattle.plantlock.specs.Tied.{IsFront};
+ghost use Rattle.plant.specs.Matches.{IsOpenScan, IsReportOf};
+ghost use Rattle.plant.specs.Refusals.{GivesFirst, GivesFirstOrMemory, down_cases};
+ghost use Rattle.plant.specs.Refusals.{heard_cases, may_tick_cases, take_cases, tick_cases};
+ghost use Rattle.plant.specs.Shown.{grown, reserving};
+ghost use Rattle.plantlock.specs.Answers.{Decides, GivesHand, IsAnswered, IsOwn, IsUnheard};
+ghost use Rattle.plantlock.specs.Answers.{ShowsScan, ShowsTransaction};
+ghost use Rattle.plantlock.specs.Tied.{IsFront, IsMet};
 
 use crate::tied::TiedPlant;
 use daliframe::Frame24;
@@ -57,27 +63,27 @@ fn no_tokens<'a>(alloc: Global) -> Result<Vec<Option<OnceToken<'a, NotedPart>>>,
     Ok(tokens)
 }
 
-/// What one of the Shares has is its part of the history.
+/// What one of the Shares had and has is its part of the histories.
 fn meet_at<'a, J: Basis, T: Seated, K: Tallies<T>>(
     tied: &mut TiedPlant<'a, J, T, K>,
     shares: &mut Vec<Share<'a, J, T>>,
     k: usize,
 )
     requires { k < length shares.old.items }
-    ensures part { (share : ShareParts) → slice_get shares.old.items k ≡ Some share
-        → HasPart share tied.old.history }
+    ensures met { (share : ShareParts) → slice_get shares.old.items k ≡ Some share
+        → IsMet J.start.history share tied.old.history }
     ensures shares { shares.new.items ≡ shares.old.items }
     ensures tied { tied.new ≡ tied.old }
 {
     tied.meet(&mut shares[k]);
 }
 
-/// What each of the Shares has is its part of the history.
+/// What each of the Shares had and has is its part of the histories.
 fn meet_all<'a, J: Basis, T: Seated, K: Tallies<T>>(
     tied: &mut TiedPlant<'a, J, T, K>,
     shares: &mut Vec<Share<'a, J, T>>,
 )
-    ensures parts { HaveParts shares.old.items tied.old.history }
+    ensures met { Each (λ k s. IsMet J.start.history s tied.old.history) 0 shares.old.items }
     ensures shares { shares.new.items ≡ shares.old.items }
     ensures tied { tied.new ≡ tied.old }
 {
@@ -130,10 +136,17 @@ impl<'a, J: Basis, T: Seated, K: Tallies<T>> Shared<'a, J, T, K> {
     /// Keeps a place of the history back for a tick, until it is used.
     pub fn may_tick<R: Wait>(&self, rt: &R, share: &mut Share<'a, J, T>) -> Result<(), CallError>
         requires role { share.old.role ≡ roles.Clock }
+        ensures answered { IsAnswered J.start share.old share.new
+            (λ p. GivesFirstOrMemory (may_tick_cases p))
+            (λ _. reserving roles.Clock) result }
         ensures reserved { OnOk result (IsReserved share.old share.new) }
         ensures err { OnErr result (IsSame share.old share.new) }
     {
-        self.tied.lock(rt).may_tick(share)
+        let mut tied = self.tied.lock(rt);
+        tied.meet(share);
+        let answer = tied.may_tick(share);
+        tied.meet(share);
+        answer
     }
 
     /// Keeps a place of the history back for a frame of a bus, until it is used.
@@ -144,12 +157,19 @@ impl<'a, J: Basis, T: Seated, K: Tallies<T>> Shared<'a, J, T, K> {
         bus: u8,
     ) -> Result<(), CallError>
         requires role { share.old.role ≡ roles.Bus bus }
+        ensures answered { IsAnswered J.start share.old share.new
+            (λ p. GivesFirstOrMemory (heard_cases p bus))
+            (λ _. reserving (roles.Bus bus)) result }
         ensures reserved { OnOk result (IsReserved share.old share.new) }
         ensures up { OnOk result (shown_down (whole share.old) ≡ false) }
         ensures why { IfErr result (IsUnheard (whole share.old)) }
         ensures err { OnErr result (IsSame share.old share.new) }
     {
-        self.tied.lock(rt).may_hear(share, bus)
+        let mut tied = self.tied.lock(rt);
+        tied.meet(share);
+        let answer = tied.may_hear(share, bus);
+        tied.meet(share);
+        answer
     }
 
     /// Notes that it is this moment.
@@ -160,13 +180,20 @@ impl<'a, J: Basis, T: Seated, K: Tallies<T>> Shared<'a, J, T, K> {
         moment: u64,
     ) -> Result<(), CallError>
         requires role { share.old.role ≡ roles.Clock }
+        ensures answered { IsAnswered J.start share.old share.new
+            (λ p. GivesFirstOrMemory (tick_cases p moment))
+            (λ _ p. grown p (event.Tick moment)) result }
         ensures noted { OnOk result
             ((n : ℕ) × IsNoted n (event.Tick moment) share.old share.new) }
         ensures err { OnErr result (IsSame share.old share.new) }
         ensures kept { share.old.reserved ≡ true → shown_moment (whole share.old) ≤ moment
             → IsOk result }
     {
-        self.tied.lock(rt).tick(rt, share, moment)
+        let mut tied = self.tied.lock(rt);
+        tied.meet(share);
+        let answer = tied.tick(rt, share, moment);
+        tied.meet(share);
+        answer
     }
 
     /// Notes a frame that was heard on a bus.
@@ -178,13 +205,20 @@ impl<'a, J: Basis, T: Seated, K: Tallies<T>> Shared<'a, J, T, K> {
         frame: Frame24,
     ) -> Result<(), CallError>
         requires role { share.old.role ≡ roles.Bus bus }
+        ensures answered { IsAnswered J.start share.old share.new
+            (λ p. GivesFirstOrMemory (heard_cases p bus))
+            (λ _ p. grown p (event.Heard bus frame)) result }
         ensures noted { OnOk result
             ((n : ℕ) × IsNoted n (event.Heard bus frame) share.old share.new) }
         ensures err { OnErr result (IsSame share.old share.new) }
         ensures kept { share.old.reserved ≡ true → shown_down (whole share.old) ≡ false
             → IsOk result }
     {
-        self.tied.lock(rt).heard(rt, share, bus, frame)
+        let mut tied = self.tied.lock(rt);
+        tied.meet(share);
+        let answer = tied.heard(rt, share, bus, frame);
+        tied.meet(share);
+        answer
     }
 
     /// Takes the next task for a scan worker.
@@ -196,12 +230,19 @@ impl<'a, J: Basis, T: Seated, K: Tallies<T>> Shared<'a, J, T, K> {
         worker: usize,
     ) -> Result<Order, CallError>
         requires role { share.old.role ≡ roles.Worker worker }
+        ensures answered { IsAnswered J.start share.old share.new
+            (λ p. GivesFirstOrMemory (take_cases p worker))
+            (λ order p. grown p (event.Take worker order.task order.work.snapshot)) result }
         ensures noted { IfOk result (λ order. IsNoted order.number
             (event.Take worker order.task order.work.snapshot) share.old share.new) }
         ensures number { IfOk result (λ order. order.work.number ≡ order.number) }
         ensures err { OnErr result (IsSame share.old share.new) }
     {
-        self.tied.lock(rt).take(rt, alloc, share, worker)
+        let mut tied = self.tied.lock(rt);
+        tied.meet(share);
+        let answer = tied.take(rt, alloc, share, worker);
+        tied.meet(share);
+        answer
     }
 
     /// Commits a scan. The one that the Share shows open is not refused.
@@ -214,12 +255,19 @@ impl<'a, J: Basis, T: Seated, K: Tallies<T>> Shared<'a, J, T, K> {
     ) -> Result<(), ScanResult>
         requires role { share.old.role ≡ roles.Worker worker }
         requires own { IsOwn (whole share.old) scan }
+        ensures answered { IsAnswered J.start share.old share.new
+            (λ p. Decides (IsOpenScan p worker scan))
+            (λ _ p. grown p (event.Commit worker scan.number scan)) result }
         ensures noted { OnOk result
             ((n : ℕ) × IsNoted n (event.Commit worker scan.number scan) share.old share.new) }
         ensures err { IfErr result (λ back. (share.new ≡ share.old) × (back ≡ scan)) }
         ensures open { ShowsScan (whole share.old) scan → IsOk result }
     {
-        self.tied.lock(rt).commit(rt, share, worker, scan)
+        let mut tied = self.tied.lock(rt);
+        tied.meet(share);
+        let answer = tied.commit(rt, share, worker, scan);
+        tied.meet(share);
+        answer
     }
 
     /// Hands a bus what is to be sent next.
@@ -230,12 +278,19 @@ impl<'a, J: Basis, T: Seated, K: Tallies<T>> Shared<'a, J, T, K> {
         bus: u8,
     ) -> Result<Handed, CallError>
         requires role { share.old.role ≡ roles.Bus bus }
+        ensures answered { IsAnswered J.start share.old share.new
+            (GivesHand bus)
+            (λ handed p. grown p (event.Hand bus handed.origin handed.transaction)) result }
         ensures noted { IfOk result (λ handed. IsNoted handed.number
             (event.Hand bus handed.origin handed.transaction) share.old share.new) }
         ensures up { OnOk result (shown_down (whole share.old) ≡ false) }
         ensures err { OnErr result (IsSame share.old share.new) }
     {
-        self.tied.lock(rt).hand(rt, share, bus)
+        let mut tied = self.tied.lock(rt);
+        tied.meet(share);
+        let answer = tied.hand(rt, share, bus);
+        tied.meet(share);
+        answer
     }
 
     /// The attempts that a bus has for a transaction, 1 to 5.
@@ -259,13 +314,20 @@ impl<'a, J: Basis, T: Seated, K: Tallies<T>> Shared<'a, J, T, K> {
         report: Report,
     ) -> Result<(), Report>
         requires role { share.old.role ≡ roles.Bus bus }
+        ensures answered { IsAnswered J.start share.old share.new
+            (λ p. Decides (IsReportOf p bus number report))
+            (λ _ p. grown p (event.Done bus number report)) result }
         ensures noted { OnOk result
             ((n : ℕ) × IsNoted n (event.Done bus number report) share.old share.new) }
         ensures err { IfErr result (λ back. (share.new ≡ share.old) × (back ≡ report)) }
         ensures open { ShowsTransaction (whole share.old) number report.transaction
             → report.tries ≡ tries_of J.start.plant bus → IsOk result }
     {
-        self.tied.lock(rt).done(rt, share, bus, number, report)
+        let mut tied = self.tied.lock(rt);
+        tied.meet(share);
+        let answer = tied.done(rt, share, bus, number, report);
+        tied.meet(share);
+        answer
     }
 
     /// Closes a bus. Where the Share shows that it is not down, it is not refused.
@@ -276,15 +338,23 @@ impl<'a, J: Basis, T: Seated, K: Tallies<T>> Shared<'a, J, T, K> {
         bus: u8,
     ) -> Result<(), CallRefusal>
         requires role { share.old.role ≡ roles.Bus bus }
+        ensures answered { IsAnswered J.start share.old share.new
+            (λ p. GivesFirst (down_cases p bus))
+            (λ _ p. grown p (event.Down bus)) result }
         ensures noted { OnOk result ((n : ℕ) × IsNoted n (event.Down bus) share.old share.new) }
         ensures err { OnErr result (share.new ≡ share.old) }
         ensures up { shown_down (whole share.old) ≡ false → IsOk result }
     {
-        self.tied.lock(rt).down(rt, share, bus)
+        let mut tied = self.tied.lock(rt);
+        tied.meet(share);
+        let answer = tied.down(rt, share, bus);
+        tied.meet(share);
+        answer
     }
 
-    /// Opens the lock for good. The history at the start is a front of the plant's, which is legal,
-    /// and the receipts of each Share, with its part of that front, are its part of the history.
+    /// Opens the lock for good. The history at the start is a front of the plant's, which is legal.
+    /// The receipts of each Share are its role's events of those that came after that front, and
+    /// with its part of the front they are its part of the history.
     pub fn close(self, shares: Shares<'a, J, T>) -> Final<'a, J, T>
         ensures legal { AreLegal result.plant.plant result.plant.history }
         ensures plant { result.plant.plant ≡ J.start.plant }
@@ -294,6 +364,7 @@ impl<'a, J: Basis, T: Seated, K: Tallies<T>> Shared<'a, J, T, K> {
         ensures buses { result.shares.buses.items ≡ shares.entry.buses.items }
         ensures clock { result.shares.clock ≡ shares.entry.clock }
         ensures parts { HaveAllParts result.shares result.plant.history }
+        ensures receipts { HaveReceipts J.start.history result.shares result.plant.history }
     {
         let Shared { tied } = self;
         let mut tied = tied.into_inner();

@@ -8,10 +8,10 @@ ghost use Rattle.plantevents.specs.declared.role.Role.TheVariants as roles;
 ghost use Rattle.plantevents.specs.Legal.{AreLegal};
 ghost use Rattle.plantevents.specs.Parts.{part, shown_moment, shown_down};
 ghost use Rattle.plant.specs.Refusals.{GivesFirstOrMemory, tick_cases, may_tick_cases, heard_cases};
-ghost use Rattle.plant.specs.Shown.{grown, reserving, is_reserved};
+ghost use Rattle.plant.specs.Shown.{grown, reserving};
 ghost use Rattle.receipts.specs.Receipts.{IsNoted, IsReserved, IsSame, whole};
 ghost use Rattle.receipts.specs.Seats.{AreCounted};
-ghost use Rattle.plantlock.specs.Answers.{IsUnheard};
+ghost use Rattle.plantlock.specs.Answers.{IsUnderLock, IsUnheard};
 ghost use Rattle.plantlock.specs.Tied.{IsFront};
 
 mod scanning;
@@ -77,13 +77,15 @@ impl<'a, J: Basis, T: Seated, K: Tallies<T>> TiedPlant<'a, J, T, K> {
         }
     }
 
-    /// What a Share has is its part of the history, and its place is kept back in the plant.
+    /// The plant is as a Share says: what the Share has is its part of the history, which is legal,
+    /// and its place is kept back in the plant.
     pub fn meet(&mut self, share: &mut Share<'a, J, T>)
-        ensures agree { whole share.old ≡ part share.old.role self.old.history }
-        ensures place { share.old.reserved ≡ is_reserved share.old.role self.old }
+        ensures under { IsUnderLock J.start share.old self.old }
+        ensures before { share.old.before ≡ part share.old.role J.start.history }
         ensures same { (self.new ≡ self.old) × (share.new ≡ share.old) }
     {
         self.ties.meet(share);
+        let _legal = self.plant.len();
     }
 
     /// The plant, to whose history at the start events were added.

@@ -50,6 +50,7 @@ impl<'a, J: Basis, T: Seated, K: Tallies<T>> Ties<'a, J, T, K> {
             → (whole share.old ≡ part share.old.role p.history)
             × (share.old.reserved ≡ is_reserved share.old.role p) }
         ensures known { IsRole J.start.plant share.old.role }
+        ensures before { share.old.before ≡ part share.old.role J.start.history }
         ensures enough { needs share.old.role (whole share.old) share.old.reserved
             ≤ share.old.room }
         ensures same { share.new ≡ share.old }

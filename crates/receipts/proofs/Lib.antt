@@ -1,4 +1,4 @@
-pub mod Eaching
+pub use Rattle.buslink.proofs.Eaching
 pub mod Noting
 pub mod Outcomes
 pub mod Roles

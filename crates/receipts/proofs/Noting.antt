@@ -1,6 +1,7 @@
 -- What is so of a Share when an event is noted: its number grows, and it has one receipt more.
 use Rattle.std.proofs.Common.{◌≡◌, ◌≢◌, ℕ, ◌+◌, ◌*◌, ◌-◌, ◌<◌, ◌≤◌, ◌^◌, Bool, true, false, Fits, w64}
-use Rattle.std.proofs.Common.{List, [], ◌∷◌, ◌++◌, length, reverse, get_or, Option, Some, sym, ap, subst, ◌∙◌, arith}
+use Rattle.std.proofs.Common.{List, [], ◌∷◌, ◌++◌, length, reverse, get_or, Option, Some, refl, sym, ap, subst, ◌∙◌}
+use Rattle.std.proofs.Common.{arith}
 use Rattle.std.proofs.lemmas.List.{get_or_read, reverse-append}
 use Rattle.std.specs.Sync.OnceLock.{Named}
 use Rattle.std.specs.declared.sync.OnceToken.{OnceToken}
@@ -8,7 +9,7 @@ use Rattle.plantevents.specs.declared.role.Role.{Role}
 use Rattle.plantevents.specs.declared.event.Event.{Event}
 use Rattle.plantevents.specs.Parts.{Placed, placed}
 use Rattle.receipts.specs.declared.receipt.NotedPart.{NotedPart}
-use Rattle.receipts.specs.Receipts.{ShareParts, IsNoted, seat_of, needs, whole, reserved_after}
+use Rattle.receipts.specs.Receipts.{ShareParts, IsNoted, reach_of, seat_of, needs, whole, reserved_after}
 use Rattle.receipts.specs.Tokens.{Says, Held, one_if, no_lock, id_at}
 
 -- ---- numbers
@@ -104,6 +105,15 @@ is_noted index event s t u same role receipts before reserved =
       before = before;
       reserved = reserved;
     })
+
+-- where there is a receipt, they reach above 0
+pub reaches : (receipts : List Placed) (reach : ℕ) → receipts ≢ [] → reach ≡ reach_of receipts → 1 ≤ reach
+reaches [] reach some is = absurd (some refl)
+reaches (newest ∷ older) reach some is = omega (arith, is)
+
+pub one_less : (receipts : List Placed) (reach : ℕ) → receipts ≢ [] → reach ≡ reach_of receipts
+    → reach_of receipts ≡ reach - 1 + 1
+one_less receipts reach some is = let low = reaches receipts reach some is in omega (arith, is, low)
 
 -- the token is that of the cell, which has the receipts
 pub noted_held : (cells all : List Named) (index : ℕ) (cell : Named) (token : OnceToken NotedPart)

@@ -13,7 +13,7 @@ use Rattle.plant.specs.Shown.{Shown, is_reserved}
 use Rattle.receipts.specs.Receipts.{ShareParts, AreFresh, IsFresh, IsRole, index_of, seat_of, seat_at}
 use Rattle.receipts.specs.Seats.{AreCounted, AreUnused, IsNextTie}
 use Rattle.receipts.specs.Tokens.{one_if}
-use Rattle.receipts.proofs.Eaching.{each_first, each_rest, each_push, each_none}
+use Rattle.buslink.proofs.Eaching.{each_first, each_rest, each_push, each_none}
 use Rattle.receipts.proofs.Roles.{index_apart, seat_apart}
 
 length_remove : {T : Type 0} (ties : List T) → 0 < length ties → length (remove ties 0) + 1 ≡ length ties

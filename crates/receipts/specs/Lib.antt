@@ -1,4 +1,4 @@
-pub mod Each
+pub use Rattle.buslink.specs.Each
 pub mod Opened
 pub mod Receipts
 pub mod Seats

@@ -1,10 +1,11 @@
 -- The Shares of a lock: when it is made, and when it is opened for good.
-use Rattle.std.specs.Prelude.{◌≡◌, List}
+use Rattle.std.specs.Prelude.{◌≡◌, List, ◌++◌, length}
+use Rattle.buslink.specs.Each.{Each}
 use Rattle.plantevents.specs.declared.event.Event.{Event}
 use Rattle.plantevents.specs.declared.role.Role.TheVariants as roles
 use Rattle.plant.specs.Shown.{Shown}
 use Rattle.receipts.specs.declared.shares.Shares.{Shares}
-use Rattle.receipts.specs.Receipts.{AreFresh, IsFresh, HasPart, HaveParts}
+use Rattle.receipts.specs.Receipts.{AreFresh, IsFresh, HasPart, HasReceipts, HaveParts}
 
 -- one for each scan worker, each bus and the clock, none with a receipt
 pub record AreFreshShares {J T : Type 0} (start : Shown) (shares : Shares J T) : Type 0 where
@@ -17,3 +18,11 @@ pub record HaveAllParts {J T : Type 0} (shares : Shares J T) (h : List Event) : 
   pub workers : HaveParts shares.workers.items h
   pub buses : HaveParts shares.buses.items h
   pub clock : HasPart shares.clock h
+
+-- events came after the history at the start, and the receipts of each are its role's events among these
+pub record HaveReceipts {J T : Type 0} (start : List Event) (shares : Shares J T) (h : List Event) : Type 0 where
+  pub later : List Event
+  pub is : h ≡ later ++ start
+  pub workers : Each (λ k s. HasReceipts s (length start) later) 0 shares.workers.items
+  pub buses : Each (λ k s. HasReceipts s (length start) later) 0 shares.buses.items
+  pub clock : HasReceipts shares.clock (length start) later

@@ -1,6 +1,6 @@
 -- What contracts see of a Share: its receipts are the events of its role since the start of the lock (profile).
 use Rattle.std.specs.Prelude.{◌≡◌, ℕ, ◌+◌, ◌<◌, ◌/◌, ◌%◌, Bool, true, false, if◌then◌else◌, List, [], ◌++◌, ◌∷◌}
-use Rattle.std.specs.Prelude.{is_some, length, ⊤}
+use Rattle.std.specs.Prelude.{is_some, length, map, ⊤}
 use Rattle.limits.specs.Limits.{most_buses, most_workers}
 use Rattle.plantevents.specs.declared.role.Role.{Role}
 use Rattle.plantevents.specs.declared.role.Role.TheVariants.{Worker, Bus, Clock}
@@ -9,7 +9,7 @@ use Rattle.plantevents.specs.declared.event.Event.TheVariants.{Tick, Heard}
 use Rattle.plantevents.specs.Plants.{Plant}
 use Rattle.plantevents.specs.Parts.{Placed, placed, part, shown_scan, shown_hand, shown_down}
 use Rattle.plant.specs.Shown.{Shown, is_reserved}
-use Rattle.receipts.specs.Each.{Each}
+use Rattle.buslink.specs.Each.{Each}
 
 -- ---- roles
 
@@ -69,6 +69,18 @@ needs Clock part reserved = if reserved then 1 else 0
 pub record HasPart (s : ShareParts) (h : List Event) : Type 0 where
   pub is : whole s ≡ part s.role h
 
+-- so many places later
+abbrev pub moved : ℕ → Placed → Placed
+moved n x = placed (n + x.place) x.event
+
+-- the events of a role among those that follow a history of n events, each with its place
+abbrev pub part_after : ℕ → Role → List Event → List Placed
+part_after n role later = map (moved n) (part role later)
+
+-- the receipts of a Share are its role's events among those that follow a history of n events
+pub record HasReceipts (s : ShareParts) (n : ℕ) (later : List Event) : Type 0 where
+  pub is : s.receipts ≡ part_after n s.role later
+
 -- the Share of this role of a plant, which has no receipt yet and shows what the role has open or kept
 pub record IsFresh (start : Shown) (r : Role) (s : ShareParts) : Type 0 where
   pub role : s.role ≡ r
@@ -84,6 +96,15 @@ AreFresh start role n shares =
 -- the receipts of each of these Shares, with its part of the history at the start, are its part of this history
 abbrev pub HaveParts : List ShareParts → List Event → Type 0
 HaveParts shares h = Each (λ k s. HasPart s h) 0 shares
+
+-- one more than the place of the newest receipt; 0 where there is none
+abbrev pub reach_of : List Placed → ℕ
+reach_of [] = 0
+reach_of (newest ∷ older) = newest.place + 1
+
+-- this is the place of the newest receipt
+abbrev pub IsLastPlace : ℕ → List Placed → Type 0
+IsLastPlace n receipts = reach_of receipts ≡ n + 1
 
 -- ---- what a call does to a Share
 

@@ -3,7 +3,7 @@ use Rattle.std.specs.Prelude.{◌≡◌, ℕ, ◌+◌, ◌<◌, List, length}
 use Rattle.limits.specs.Limits.{most_seats}
 use Rattle.plantevents.specs.declared.role.Role.{Role}
 use Rattle.plant.specs.Shown.{Shown, is_reserved}
-use Rattle.receipts.specs.Each.{Each}
+use Rattle.buslink.specs.Each.{Each}
 use Rattle.receipts.specs.Receipts.{IsRole, index_of, seat_of, seat_at}
 use Rattle.receipts.specs.Tokens.{one_if}
 

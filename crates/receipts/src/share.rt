@@ -1,11 +1,11 @@
 //! Shares.
 
 ghost use Rattle.std.specs.Prelude.{◌≡◌, ◌≢◌, ℕ, ◌+◌, ◌*◌, ◌<◌, ◌≤◌, ◌∷◌, ◌^◌, Bool, true, List};
-ghost use Rattle.std.specs.Prelude.{OnOk, IfOk, IsOk, length};
+ghost use Rattle.std.specs.Prelude.{[], OnOk, IfOk, IsOk, length};
 ghost use Rattle.plantevents.specs.Parts.{Placed, placed, part};
 ghost use Rattle.plant.specs.Shown.{is_reserved};
 ghost use Rattle.receipts.specs.Receipts.{IsFresh, IsRole, IsSame, IsNoted, IsReserved};
-ghost use Rattle.receipts.specs.Receipts.{seat_of, needs, whole, reserved_after};
+ghost use Rattle.receipts.specs.Receipts.{IsLastPlace, seat_of, needs, whole, reserved_after};
 ghost use Rattle.receipts.specs.Tokens.{Held, Says, one_if};
 
 use crate::basis::Basis;
@@ -150,6 +150,14 @@ impl<'a, J: Basis, T: Seated> Share<'a, J, T> {
         ensures value { result ≡ self.now.reserved }
     {
         self.reserved
+    }
+
+    /// The place in the history of the newest receipt. There is one.
+    pub fn last_place(&self) -> u64
+        requires some { self.now.receipts ≢ [] }
+        ensures value { IsLastPlace result self.now.receipts }
+    {
+        self.reach - 1
     }
 
     /// Makes room for so many receipts more.

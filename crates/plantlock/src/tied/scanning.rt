@@ -7,7 +7,7 @@ ghost use Rattle.plant.specs.Matches.{IsOpenScan};
 ghost use Rattle.plant.specs.Refusals.{GivesFirstOrMemory, take_cases};
 ghost use Rattle.plant.specs.Shown.{grown};
 ghost use Rattle.receipts.specs.Receipts.{IsNoted, IsSame, whole};
-ghost use Rattle.plantlock.specs.Answers.{IsOwn, ShowsScan};
+ghost use Rattle.plantlock.specs.Answers.{Decides, IsOwn, ShowsScan};
 
 use super::TiedPlant;
 use ilmachine::ScanResult;
@@ -68,7 +68,7 @@ impl<'a, J: Basis, T: Seated, K: Tallies<T>> TiedPlant<'a, J, T, K> {
             (self.new ≡ grown self.old (event.Commit worker scan.number scan)) }
         ensures noted { OnOk result (IsNoted (length self.old.history)
             (event.Commit worker scan.number scan) share.old share.new) }
-        ensures stranger { OnErr result (¬ IsOpenScan self.old worker scan) }
+        ensures decided { Decides (IsOpenScan self.old worker scan) result }
         ensures err { IfErr result (λ back. (self.new ≡ self.old) × (share.new ≡ share.old)
             × (back ≡ scan)) }
         ensures open { ShowsScan (whole share.old) scan → IsOk result }

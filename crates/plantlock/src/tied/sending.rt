@@ -8,10 +8,10 @@ ghost use Rattle.plantevents.specs.Parts.{shown_down};
 ghost use Rattle.plantevents.specs.Plants.{tries_of};
 ghost use Rattle.limits.specs.Limits.{AreTries};
 ghost use Rattle.plant.specs.Matches.{IsReportOf};
-ghost use Rattle.plant.specs.Refusals.{GivesFirst, hand_cases, down_cases};
+ghost use Rattle.plant.specs.Refusals.{GivesFirst, GivesFirstOrMemory, hand_cases, down_cases};
 ghost use Rattle.plant.specs.Shown.{grown};
 ghost use Rattle.receipts.specs.Receipts.{IsNoted, IsSame, whole};
-ghost use Rattle.plantlock.specs.Answers.{IsRefusedBy, ShowsTransaction};
+ghost use Rattle.plantlock.specs.Answers.{Decides, IsRefusedBy, ShowsTransaction};
 
 use super::TiedPlant;
 use plant::{CallError, CallRefusal, Handed, Plant};
@@ -34,7 +34,7 @@ fn hand_out(plant: &mut Plant, bus: u8) -> Result<Handed, CallError>
         ≡ grown plant.old (event.Hand bus handed.origin handed.transaction)) }
     ensures number { IfOk result (λ handed. handed.number ≡ length plant.old.history) }
     ensures up { OnOk result (is_down bus plant.old.history ≡ false) }
-    ensures refused { IfErr result (IsRefusedBy (hand_cases plant.old bus)) }
+    ensures refused { GivesFirstOrMemory (hand_cases plant.old bus) result }
     ensures err { OnErr result (plant.new ≡ plant.old) }
 {
     match plant.hand(bus) {
@@ -68,7 +68,7 @@ impl<'a, J: Basis, T: Seated, K: Tallies<T>> TiedPlant<'a, J, T, K> {
             (event.Hand bus handed.origin handed.transaction) share.old share.new) }
         ensures number { IfOk result (λ handed. handed.number ≡ length self.old.history) }
         ensures up { OnOk result (shown_down (whole share.old) ≡ false) }
-        ensures refused { IfErr result (IsRefusedBy (hand_cases self.old bus)) }
+        ensures refused { GivesFirstOrMemory (hand_cases self.old bus) result }
         ensures err { OnErr result ((self.new ≡ self.old) × IsSame share.old share.new) }
     {
         what_a_part_shows();
@@ -117,7 +117,7 @@ impl<'a, J: Basis, T: Seated, K: Tallies<T>> TiedPlant<'a, J, T, K> {
         ensures event { OnOk result (self.new ≡ grown self.old (event.Done bus number report)) }
         ensures noted { OnOk result (IsNoted (length self.old.history)
             (event.Done bus number report) share.old share.new) }
-        ensures stranger { OnErr result (¬ IsReportOf self.old bus number report) }
+        ensures decided { Decides (IsReportOf self.old bus number report) result }
         ensures err { IfErr result (λ back. (self.new ≡ self.old) × (share.new ≡ share.old)
             × (back ≡ report)) }
         ensures open { ShowsTransaction (whole share.old) number report.transaction

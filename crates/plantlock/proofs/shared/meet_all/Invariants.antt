@@ -1,9 +1,10 @@
 use Rattle.std.proofs.Common.{◌≡◌, ℕ, ◌<◌, Some, slice_get}
-use Rattle.receipts.specs.Receipts.{HasPart, ShareParts}
+use Rattle.receipts.specs.Receipts.{ShareParts}
+use Rattle.plantlock.specs.Tied.{IsMet}
 use Rattle.plantlock.proofs.shared.meet_all.Given as goal
 
 abbrev pub invariant-loop-k : goal.invariant-loop-k
 invariant-loop-k g l =
     (l.shares.items ≡ l.fn.shares.items) × (l.tied ≡ l.fn.tied)
     × ((k : ℕ) (share : ShareParts) → k < l.k → slice_get l.fn.shares.items k ≡ Some share
-    → HasPart share l.fn.tied.history)
+    → IsMet g.J.Basis.start.history share l.fn.tied.history)

@@ -1,4 +1,4 @@
-use Rattle.std.proofs.Common.{ℕ, ◌+◌}
+use Rattle.std.proofs.Common.{◌+◌}
 use Rattle.limits.specs.Limits.{most_workers}
 use Rattle.plantevents.specs.declared.role.Role.TheVariants.{Bus}
 use Rattle.receipts.specs.Receipts.{AreFresh}

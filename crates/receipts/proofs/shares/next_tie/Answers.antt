@@ -1,4 +1,4 @@
-use Rattle.std.proofs.Common.{arith, subst, sym, ◌≡◌, List}
+use Rattle.std.proofs.Common.{subst, sym}
 use Rattle.receipts.specs.Seats.{IsNextTie}
 use Rattle.receipts.proofs.Seating.{next_unused}
 use Rattle.receipts.proofs.shares.next_tie.Goals as goal

@@ -1,4 +1,3 @@
-use Rattle.std.proofs.Common.{ℕ}
 use Rattle.plantevents.specs.declared.role.Role.TheVariants.{Worker}
 use Rattle.receipts.specs.Receipts.{AreFresh}
 use Rattle.receipts.specs.Seats.{AreCounted, AreUnused}

@@ -38,7 +38,7 @@ returns-in-Err g c =
     record {
       event = tt;
       noted = tt;
-      stranger = subst (λ (q : Shown). IsOpenScan q c.args.worker c.args.scan → ⊥) c.self.view_is
+      decided = subst (λ (q : Shown). IsOpenScan q c.args.worker c.args.scan → ⊥) c.self.view_is
           c.in-Err.ensures.stranger;
       err = (c.in-Err.ensures.err.0 ∙ c.self.view_is, c.meet.ensures.same, c.in-Err.ensures.err.1);
       «open» = λ shows. absurd (c.in-Err.ensures.stranger (scan_open g.J.Basis.start p (whole share) share.role
@@ -102,7 +102,7 @@ returns g c =
       noted = noted_after _ event share c.meet.new.share c.file.new.share (same_when _ _ c.meet.ensures.same)
           (noted_as c.len-index.result _ filed event c.meet.new.share c.file.new.share
           (c.len-index.ensures.value ∙ ap (λ (q : Shown). length q.history) c.self.view_is) noted c.file.ensures.noted);
-      stranger = tt;
+      decided = subst (λ (q : Shown). IsOpenScan q c.args.worker c.args.scan) c.self.view_is c.in-Ok.ensures.open;
       err = tt;
       «open» = λ _. refl;
     }

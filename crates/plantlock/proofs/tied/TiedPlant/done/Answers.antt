@@ -30,7 +30,7 @@ returns-in-Err g c =
     record {
       event = tt;
       noted = tt;
-      stranger = subst (λ (q : Shown). IsReportOf q c.args.bus c.args.number c.args.report → ⊥)
+      decided = subst (λ (q : Shown). IsReportOf q c.args.bus c.args.number c.args.report → ⊥)
           c.self.view_is c.in-Err.ensures.stranger;
       err = (c.in-Err.ensures.err.0 ∙ c.self.view_is, c.meet.ensures.same, c.in-Err.ensures.err.1);
       «open» = λ shows tries. absurd (c.in-Err.ensures.stranger (record {
@@ -99,7 +99,8 @@ returns g c =
       noted = noted_after _ event share c.meet.new.share c.file.new.share (same_when _ _ c.meet.ensures.same)
           (noted_as c.len-index.result _ filed event c.meet.new.share c.file.new.share
           (c.len-index.ensures.value ∙ ap (λ (q : Shown). length q.history) c.self.view_is) noted c.file.ensures.noted);
-      stranger = tt;
+      decided = subst (λ (q : Shown). IsReportOf q c.args.bus c.args.number c.args.report) c.self.view_is
+          c.in-Ok.ensures.open;
       err = tt;
       «open» = λ _ _. refl;
     }

@@ -1,14 +1,15 @@
-use Rattle.std.proofs.Common.{◌≡◌, ◌∙◌, ◌≤◌, List, length, refl, ap, sym, subst}
+use Rattle.std.proofs.Common.{◌≡◌, ◌∙◌, ◌≤◌, List, length, None, Err, refl, ap, sym, subst}
 use Rattle.gearcmd.specs.FrameLists.{FrameList}
 use Rattle.plantevents.specs.declared.event.Event.TheVariants.{Hand}
 use Rattle.plantevents.specs.declared.role.Role.{Role}
 use Rattle.plantevents.specs.Parts.{Placed, part, shown_down}
-use Rattle.plant.specs.Refusals.{hand_cases}
+use Rattle.plant.specs.declared.plant.handing.Handed.{Handed}
+use Rattle.plant.specs.Refusals.{first_refusal, hand_cases}
 use Rattle.plant.specs.Shown.{Shown, grown}
 use Rattle.receipts.specs.Receipts.{ShareParts, IsNoted, IsSame}
-use Rattle.plantlock.specs.Answers.{IsRefusedBy}
 use Rattle.plantlock.proofs.Fitting.{tied_still, same_after, place_below, place_small, room_made, when_ok}
 use Rattle.plantlock.proofs.Noted.{noted_after}
+use Rattle.plantlock.proofs.Refusing.{hand_gives, hand_refused}
 use Rattle.plantlock.proofs.tied.TiedPlant.hand.Goals as goal
 
 pub meet-requires : goal.meet-requires
@@ -27,7 +28,7 @@ returns-then-is_err g c = record {
   noted = tt;
   number = tt;
   up = tt;
-  refused = subst (λ (p : Shown). IsRefusedBy (hand_cases p c.args.bus) c.without_room.result) c.self.view_is
+  refused = hand_refused Handed c.self.inside.plant c.args.self.now c.args.bus c.without_room.result c.self.view_is
       c.without_room.ensures;
   err = (c.self.view_is, same_after _ _ _ c.meet.ensures.same c.make_room.ensures.same);
 }
@@ -45,7 +46,7 @@ returns-in-Err g c = record {
   noted = tt;
   number = tt;
   up = tt;
-  refused = subst (λ (p : Shown). IsRefusedBy (hand_cases p c.args.bus) c.in-Err.error) c.self.view_is
+  refused = hand_gives {A = Handed} c.self.inside.plant c.args.self.now c.args.bus (Err c.in-Err.error) c.self.view_is
       c.in-Err.ensures.refused;
   err = (
     c.in-Err.ensures.err ∙ c.self.view_is,
@@ -112,6 +113,7 @@ returns g c =
           ((c.meet.ensures.agree plant c.self.invariant.1).0
           ∙ ap (λ (r : Role). part r plant.history) c.requires.role)
           ∙ (sym (c.what_a_part_shows.ensures.down c.args.bus plant.history) ∙ c.in-Ok.ensures.up);
-      refused = tt;
+      refused = subst (λ (p : Shown). first_refusal (hand_cases p c.args.bus) ≡ None) c.self.view_is
+          c.in-Ok.ensures.refused;
       err = tt;
     }

@@ -1,6 +1,4 @@
-use Rattle.std.proofs.Common.{◌≡◌, ◌≤◌, reverse, sym, ap, subst, arith, refl}
-use Rattle.plantevents.specs.Parts.{Placed}
-use Rattle.receipts.specs.Receipts.{ShareParts, IsSame, needs, whole}
+use Rattle.std.proofs.Common.{reverse, ap, arith, refl}
 use Rattle.receipts.proofs.share.Share.make_room.Goals as goal
 
 pub invariant_of-self : goal.invariant_of-self
@@ -9,6 +7,7 @@ invariant_of-self g c =
       known = s.known;
       seated = s.seated;
       says = s.says;
+      last = s.last;
       enough = let e = s.enough in omega (arith, c.reserve.ensures.len, c.reserve.ensures.capacity);
     })
 

@@ -1,6 +1,6 @@
 use Rattle.std.proofs.Common.{◌≡◌, ◌+◌, ◌*◌, Bool, ◌∙◌, ap, refl, sym, subst}
 use Rattle.plantevents.specs.Parts.{placed, part}
-use Rattle.receipts.specs.Receipts.{ShareParts, seat_of, reserved_after}
+use Rattle.receipts.specs.Receipts.{ShareParts, reach_of, seat_of, reserved_after}
 use Rattle.receipts.specs.Tokens.{one_if}
 use Rattle.receipts.proofs.Noting.{not_later, twice_fits, was_fits, next_fits, next_twice_fits, is_fits, offset_fits}
 use Rattle.receipts.proofs.Noting.{grows, grown, others_stay, has_room, one_more, room_inside, room_left}
@@ -72,6 +72,10 @@ invariant_of-self g c = record {
         c.requires.cells c.requires.index c.index-cells-index.is (c.again.ensures.0 ∙ c.write-token.ensures.of)
         (c.again.ensures.1 ∙ c.write-token.ensures.value ∙ c.of-2.ensures);
   };
+  last =
+      ap reach_of
+      (sym (one_more c.self.inside.receipts.items c.push_reserved.new.self.items c.of.result
+      (placed c.args.index c.args.event) c.push_reserved.ensures.items c.of.ensures));
   enough =
       room_left c.self.inside.role (part c.self.inside.role g.J.Basis.start.history) c.self.inside.receipts.items
       c.push_reserved.new.self.items (placed c.args.index c.args.event) c.reserved_after-self-inside.result _ _ _ _

@@ -1,0 +1,11 @@
+use Rattle.std.proofs.Common.{◌∙◌}
+use Rattle.plantlock.specs.Answers.{IsAnswered}
+use Rattle.plantlock.proofs.Answered.{answered, does_or_gives_back}
+use Rattle.plantlock.proofs.shared.Shared.done.Goals as goal
+
+pub returns-clause-answered : goal.returns-clause-answered
+unfolding IsAnswered
+returns-clause-answered g c =
+    answered c.meet.ensures.under (c.deref_mut-2.ensures.value ∙ c.meet.ensures.same.0) c.done-answer.ensures.decided
+    (does_or_gives_back c.done-answer.result _ _ _ _ c.done-answer.ensures.event c.done-answer.ensures.err)
+    c.deref_mut-3.ensures.value c.meet-2.ensures.under c.meet-2.ensures.same.1
