@@ -1,4 +1,2 @@
-pub mod Finishing
-pub mod FinishSteps
 pub mod Logs
-pub mod Open
+pub mod TurnSteps

@@ -1,36 +1,14 @@
 -- Between two turns nothing is open, and the receipts of a Share are what went over its link.
-use Rattle.std.specs.Prelude.{◌≡◌, ◌⊎◌, ℕ, zero, suc, ◌-◌, ◌^◌, ◌<◌, ◌≤◌, min, List, [], ◌++◌, None, true, false}
-use Rattle.std.specs.Prelude.{slice_index_or}
+use Rattle.std.specs.Prelude.{◌≡◌, ℕ, ◌≤◌, [], ◌++◌, None, true, false}
 use Rattle.plantevents.specs.declared.role.Role.TheVariants.{Worker, Bus, Clock}
 use Rattle.plantevents.specs.Parts.{shown_moment, shown_scan, shown_hand, shown_sent, shown_heard, shown_downs, shown_given}
 use Rattle.buslink.specs.BusLog.{BusLog, one_more_failure}
-use Rattle.buslink.specs.ClockLog.{ClockLog, IsNotBefore}
+use Rattle.buslink.specs.ClockLog.{ClockLog, HasGivenAll, IsNotBefore}
+use Rattle.driving.specs.Links.{HasGrown, IsNoLess, more_failures}
 use Rattle.receipts.specs.Receipts.{ShareParts, whole}
 
-abbrev pub no_frame : BusLog
-no_frame = record { sent = []; heard = []; spare = 0; failures = 0; hears = 0; heard_none = false }
-
 abbrev pub no_moment : ClockLog
-no_moment = record { given = []; asks = 0; gave_none = false }
-
--- the log of a bus among these
-abbrev pub log_of : List BusLog → ℕ → BusLog
-log_of logs bus = slice_index_or logs bus no_frame
-
--- the count of failures after so many more
-abbrev pub more_failures : ℕ → ℕ → ℕ
-more_failures zero failures = failures
-more_failures (suc more) failures = one_more_failure (more_failures more failures)
-
--- ---- counts of calls, which are kept at 2^64 - 1 once there
-
--- a count is no less than it was first
-abbrev pub IsNoLess : ℕ → ℕ → Type 0
-IsNoLess first now = min first (2 ^ 64 - 1) ≤ now
-
--- there was a call since: the count is above what it was first, or it is kept
-abbrev pub HasGrown : ℕ → ℕ → Type 0
-HasGrown first now = (now ≤ 2 ^ 64 - 1) × ((first < now) ⊎ (now ≡ 2 ^ 64 - 1))
+no_moment = record { moments = None; given = []; asks = 0; gave_none = false }
 
 -- ---- between two turns
 
@@ -40,10 +18,13 @@ pub record IsWorker (worker : ℕ) (s : ShareParts) : Type 0 where
   pub idle : shown_scan (whole s) ≡ None
 
 -- The Share of this bus, which has no transaction open: what the bus sent and heard since the first log is what the
--- part says, it failed as often as the part says that it went down, and its count of calls that heard is no less.
+-- part says, it failed as often as the part says that it went down, and its count of calls that heard is no less. It is
+-- the same bus, and nothing came on it meanwhile.
 pub record IsServed (first : BusLog) (bus : ℕ) (s : ShareParts) (log : BusLog) : Type 0 where
   pub role : s.role ≡ Bus bus
   pub idle : shown_hand (whole s) ≡ None
+  pub number : log.number ≡ first.number
+  pub arrivals : log.arrivals ≡ first.arrivals
   pub sent : log.sent ≡ first.sent ++ shown_sent (whole s)
   pub heard : log.heard ≡ first.heard ++ shown_heard (whole s)
   pub failed : log.failures ≡ more_failures (shown_downs (whole s)) first.failures
@@ -53,6 +34,8 @@ pub record IsServed (first : BusLog) (bus : ℕ) (s : ShareParts) (log : BusLog)
 pub record HasFailed (first : BusLog) (bus : ℕ) (s : ShareParts) (log : BusLog) : Type 0 where
   pub role : s.role ≡ Bus bus
   pub idle : shown_hand (whole s) ≡ None
+  pub number : log.number ≡ first.number
+  pub arrivals : log.arrivals ≡ first.arrivals
   pub sent : log.sent ≡ first.sent ++ shown_sent (whole s)
   pub heard : log.heard ≡ first.heard ++ shown_heard (whole s)
   pub failed : log.failures ≡ one_more_failure (more_failures (shown_downs (whole s)) first.failures)
@@ -66,11 +49,14 @@ IsInTime s log = (m : ℕ) → IsNotBefore m log → shown_moment (whole s) ≤ 
 -- less
 pub record IsTimed (first : ClockLog) (s : ShareParts) (log : ClockLog) : Type 0 where
   pub role : s.role ≡ Clock
+  pub moments : log.moments ≡ first.moments
   pub given : log.given ≡ first.given ++ shown_given (whole s)
   pub in_time : IsInTime s log
   pub asks : IsNoLess first.asks log.asks
 
--- the clock came to its end: it was asked since the first log, and when it was asked last it gave no moment
+-- the clock came to its end: it was asked since the first log, when it was asked last it gave no moment, and where it is
+-- known what it is to give it gave all of that
 pub record HasEnded (first log : ClockLog) : Type 0 where
   pub grown : HasGrown first.asks log.asks
   pub none : log.gave_none ≡ true
+  pub all : HasGivenAll log

@@ -1,22 +1,25 @@
 //! A turn of the worker of a bus.
 
-ghost use Rattle.std.specs.Prelude.{◌≡◌, ◌⊎◌, false, OnOk, IfErr};
+ghost use Rattle.std.specs.Prelude.{◌≡◌, ◌≢◌, ◌⊎◌, false, OnOk, IfErr};
+ghost use Rattle.transact.specs.declared.marks.Outcome.TheVariants as outcomes;
 ghost use Rattle.plantevents.specs.Parts.{shown_down};
-ghost use Rattle.plant.specs.declared.refusal.CallError.TheVariants.{Refused};
 ghost use Rattle.plant.specs.declared.refusal.CallRefusal.TheVariants.{BusDown, NothingReady};
 ghost use Rattle.receipts.specs.Receipts.{whole};
-ghost use Rattle.plantlock.specs.Answers.{IsUnheard};
-ghost use Rattle.turns.specs.Logs.{HasFailed, HasGrown, IsServed, log_of};
+ghost use Rattle.driving.specs.declared.halt.Halt.TheVariants.{Refused, Unwritten};
+ghost use Rattle.driving.specs.Links.{HasGrown, log_of};
+ghost use Rattle.turns.specs.Logs.{HasFailed, IsServed};
+ghost use Rattle.turns.specs.TurnSteps.{IsUnasked, IsUnwritten};
 
-use crate::gate::Gate;
 use crate::links::Links;
 use crate::turn::Turn;
 use buslink::{Bus, perform};
-use plant::{CallError, CallRefusal};
+use driving::{Halt, Observer};
+use plant::{CallRefusal, Handed};
 use plantlock::{Basis, Share, Shared};
 use seats::{Seated, Tallies};
+use std::io;
 use std::sync::Wait;
-use transact::{MOST_SENT, Outcome};
+use transact::{MOST_SENT, Outcome, Report};
 
 /// A bus with its Share.
 #[derive(Drop)]
@@ -26,22 +29,55 @@ pub struct Served<'a, B: Bus, J: Basis, T: Seated> {
 }
 
 /// Where there was nothing to do, or the bus is down, the turn is idle.
-pub(crate) fn idle_where_refused(error: CallError) -> Result<Turn, CallError>
-    ensures idle { OnOk result ((error ≡ Refused NothingReady) ⊎ (error ≡ Refused BusDown)) }
+pub(crate) fn idle_where_refused(halt: Halt) -> Result<Turn, Halt>
+    ensures idle { OnOk result ((halt ≡ Refused NothingReady) ⊎ (halt ≡ Refused BusDown)) }
 {
-    match error {
-        CallError::Refused(CallRefusal::NothingReady | CallRefusal::BusDown) => Ok(Turn::Idle),
+    match halt {
+        Halt::Refused(CallRefusal::NothingReady | CallRefusal::BusDown) => Ok(Turn::Idle),
         other => Err(other),
     }
 }
 
-/// Notes under the lock that a bus goes down, since its interface failed.
+/// What a turn did, once an observer was told of it.
+fn as_told(told: io::Result<()>, turn: Turn) -> Result<Turn, Halt>
+    ensures { IfErr result IsUnwritten }
+{
+    told?;
+    Ok(turn)
+}
+
+/// Tells that a transaction was handed to a bus.
+fn tell_handed<B, O: Observer<B>>(observer: &mut O, bus: u8, handed: &Handed) -> io::Result<()> {
+    observer.handed(handed.number, bus, handed.origin, &handed.transaction)
+}
+
+/// Tells what became of a transaction, unless it failed to tell that the transaction was handed
+/// out; and whether its bus went down, at which place of the history.
+fn tell_report<B, O: Observer<B>>(
+    observer: &mut O,
+    handed: io::Result<()>,
+    place: u64,
+    down: Option<u64>,
+    bus: u8,
+    report: &Report,
+    line: &B,
+) -> Result<Turn, Halt> {
+    handed?;
+    observer.reported(place, bus, report, line)?;
+    match down {
+        None => Ok(Turn::Worked),
+        Some(place) => as_told(observer.went_down(place, bus), Turn::Down),
+    }
+}
+
+/// Notes under the lock that a bus goes down, since its interface failed. Answers the place of that
+/// in the history.
 fn go_down<'a, B: Bus, J: Basis + Links, T: Seated, K: Tallies<T>, R: Wait>(
     rt: &R,
     shared: &Shared<'a, J, T, K>,
     bus: u8,
     served: &mut Served<'a, B, J, T>,
-) -> Turn
+) -> u64
     requires up { shown_down (whole served.old.share) ≡ false }
     requires failed { HasFailed (log_of J.buses bus) bus served.old.share (B.log served.old.line) }
     ensures served { IsServed (log_of J.buses bus) bus served.new.share (B.log served.new.line) }
@@ -50,52 +86,75 @@ fn go_down<'a, B: Bus, J: Basis + Links, T: Seated, K: Tallies<T>, R: Wait>(
     let Ok(()) = shared.down(rt, &mut served.share, bus) else {
         unreachable!()
     };
-    Turn::Down
+    served.share.last_place()
+}
+
+/// Where the interface failed, the bus goes down: at which place of the history.
+fn down_where_failed<'a, B: Bus, J: Basis + Links, T: Seated, K: Tallies<T>, R: Wait>(
+    rt: &R,
+    shared: &Shared<'a, J, T, K>,
+    bus: u8,
+    served: &mut Served<'a, B, J, T>,
+    outcome: Outcome,
+) -> Option<u64>
+    requires up { shown_down (whole served.old.share) ≡ false }
+    requires fine { outcome ≢ outcomes.Failed
+        → IsServed (log_of J.buses bus) bus served.old.share (B.log served.old.line) }
+    requires failed { outcome ≡ outcomes.Failed
+        → HasFailed (log_of J.buses bus) bus served.old.share (B.log served.old.line) }
+    ensures served { IsServed (log_of J.buses bus) bus served.new.share (B.log served.new.line) }
+{
+    match outcome {
+        Outcome::Done(_) | Outcome::GaveUp => None,
+        Outcome::Failed => Some(go_down(rt, shared, bus, served)),
+    }
 }
 
 /// Hands a transaction out under the lock, sends it outside the lock, and reports it under the
 /// lock. Room for its frames is made before. Where the bus interface failed, the bus goes down.
-fn send_once<'a, B: Bus, J: Basis + Links, T: Seated, K: Tallies<T>, G: Gate, R: Wait>(
+/// What an observer fails to keep is answered once all this is done.
+fn send_once<'a, B: Bus, J: Basis + Links, T: Seated, K: Tallies<T>, O: Observer<B>, R: Wait>(
     rt: &R,
-    gate: &G,
+    observer: &mut O,
     shared: &Shared<'a, J, T, K>,
     bus: u8,
     served: &mut Served<'a, B, J, T>,
-) -> Result<Turn, CallError>
+) -> Result<Turn, Halt>
     requires served { IsServed (log_of J.buses bus) bus served.old.share (B.log served.old.line) }
     ensures served { IsServed (log_of J.buses bus) bus served.new.share (B.log served.new.line) }
 {
     served.line.room(MOST_SENT)?;
     let handed = shared.hand(rt, &mut served.share, bus)?;
+    let told = tell_handed::<B, O>(observer, bus, &handed);
     let tries = shared.tries(rt, &mut served.share, bus);
-    gate.before_transaction(bus);
     let Ok(report) = perform(&mut served.line, &handed.transaction, tries) else {
         unreachable!()
     };
     let outcome = report.outcome();
-    let Ok(()) = shared.done(rt, &mut served.share, bus, handed.number, report) else {
+    let noted = report.clone().unwrap();
+    let Ok(()) = shared.done(rt, &mut served.share, bus, handed.number, noted) else {
         unreachable!()
     };
-    match outcome {
-        Outcome::Done(_) | Outcome::GaveUp => Ok(Turn::Worked),
-        Outcome::Failed => Ok(go_down(rt, shared, bus, served)),
-    }
+    let place = served.share.last_place();
+    let down = down_where_failed(rt, shared, bus, served, outcome);
+    tell_report(observer, told, place, down, bus, &report, &served.line)
 }
 
 /// Keeps a place back under the lock, hears outside the lock, and notes the frame under the lock.
 /// Where the bus interface failed, the bus goes down. Where it succeeds, the bus was asked.
-#[tactic(auto, using(crate::proofs::Counts::grown_once))]
-fn hear_once<'a, B: Bus, J: Basis + Links, T: Seated, K: Tallies<T>, R: Wait>(
+#[tactic(auto, using(driving::proofs::Counts::grown_once))]
+fn hear_once<'a, B: Bus, J: Basis + Links, T: Seated, K: Tallies<T>, O: Observer<B>, R: Wait>(
     rt: &R,
+    observer: &mut O,
     shared: &Shared<'a, J, T, K>,
     bus: u8,
     served: &mut Served<'a, B, J, T>,
-) -> Result<Turn, CallError>
+) -> Result<Turn, Halt>
     requires served { IsServed (log_of J.buses bus) bus served.old.share (B.log served.old.line) }
     ensures served { IsServed (log_of J.buses bus) bus served.new.share (B.log served.new.line) }
     ensures asked { OnOk result
         (HasGrown (B.log served.old.line).hears (B.log served.new.line).hears) }
-    ensures why { IfErr result (IsUnheard (whole served.old.share)) }
+    ensures why { IfErr result (IsUnasked (whole served.old.share)) }
 {
     served.line.room(1)?;
     shared.may_hear(rt, &mut served.share, bus)?;
@@ -104,10 +163,16 @@ fn hear_once<'a, B: Bus, J: Basis + Links, T: Seated, K: Tallies<T>, R: Wait>(
             let Ok(()) = shared.heard(rt, &mut served.share, bus, frame) else {
                 unreachable!()
             };
-            Ok(Turn::Worked)
+            as_told(
+                observer.heard(served.share.last_place(), bus, frame),
+                Turn::Worked,
+            )
         }
         Ok(None) => Ok(Turn::Idle),
-        Err(_) => Ok(go_down(rt, shared, bus, served)),
+        Err(_) => {
+            let place = go_down(rt, shared, bus, served);
+            as_told(observer.went_down(place, bus), Turn::Down)
+        }
     }
 }
 
@@ -116,20 +181,21 @@ fn hear_once<'a, B: Bus, J: Basis + Links, T: Seated, K: Tallies<T>, R: Wait>(
 ///
 /// # Errors
 ///
-/// The allocator is out of memory, or the history is full.
-pub fn send_turn<'a, B: Bus, J: Basis + Links, T: Seated, K: Tallies<T>, G: Gate, R: Wait>(
+/// The allocator is out of memory, the history is full, or an observer failed. Nothing is open
+/// then, either.
+pub fn send_turn<'a, B: Bus, J: Basis + Links, T: Seated, K: Tallies<T>, O: Observer<B>, R: Wait>(
     rt: &R,
-    gate: &G,
+    observer: &mut O,
     shared: &Shared<'a, J, T, K>,
     bus: u8,
     served: &mut Served<'a, B, J, T>,
-) -> Result<Turn, CallError>
+) -> Result<Turn, Halt>
     requires served { IsServed (log_of J.buses bus) bus served.old.share (B.log served.old.line) }
     ensures served { IsServed (log_of J.buses bus) bus served.new.share (B.log served.new.line) }
 {
-    match send_once(rt, gate, shared, bus, served) {
+    match send_once(rt, observer, shared, bus, served) {
         Ok(turn) => Ok(turn),
-        Err(error) => idle_where_refused(error),
+        Err(halt) => idle_where_refused(halt),
     }
 }
 
@@ -138,20 +204,22 @@ pub fn send_turn<'a, B: Bus, J: Basis + Links, T: Seated, K: Tallies<T>, G: Gate
 ///
 /// # Errors
 ///
-/// The allocator is out of memory, or the history is full.
-pub fn hear_turn<'a, B: Bus, J: Basis + Links, T: Seated, K: Tallies<T>, R: Wait>(
+/// The allocator is out of memory, the history is full, or an observer failed. Nothing is open
+/// then, either.
+pub fn hear_turn<'a, B: Bus, J: Basis + Links, T: Seated, K: Tallies<T>, O: Observer<B>, R: Wait>(
     rt: &R,
+    observer: &mut O,
     shared: &Shared<'a, J, T, K>,
     bus: u8,
     served: &mut Served<'a, B, J, T>,
-) -> Result<Turn, CallError>
+) -> Result<Turn, Halt>
     requires served { IsServed (log_of J.buses bus) bus served.old.share (B.log served.old.line) }
     ensures served { IsServed (log_of J.buses bus) bus served.new.share (B.log served.new.line) }
     ensures asked { OnOk result (shown_down (whole served.old.share) ≡ false
         → HasGrown (B.log served.old.line).hears (B.log served.new.line).hears) }
 {
-    match hear_once(rt, shared, bus, served) {
+    match hear_once(rt, observer, shared, bus, served) {
         Ok(turn) => Ok(turn),
-        Err(error) => idle_where_refused(error),
+        Err(halt) => idle_where_refused(halt),
     }
 }

@@ -5,7 +5,7 @@ ghost use Rattle.turns.specs.Logs.{HasEnded, IsTimed};
 
 use crate::links::Links;
 use buslink::Clock;
-use plant::CallError;
+use driving::{Halt, Observer};
 use plantlock::{Basis, Share, Shared};
 use seats::{Seated, Tallies};
 use std::sync::Wait;
@@ -23,13 +23,24 @@ pub struct Timed<'a, C: Clock, J: Basis, T: Seated> {
 ///
 /// # Errors
 ///
-/// The allocator is out of memory, or the history is full. The clock wasn't asked.
-#[tactic(auto, using(crate::proofs::Counts::grown_by_one))]
-pub fn tick_once<'a, C: Clock, J: Basis + Links, T: Seated, K: Tallies<T>, R: Wait>(
+/// The allocator is out of memory, or the history is full: the clock wasn't asked. Or an observer
+/// failed, once the moment was noted.
+#[tactic(auto, using(driving::proofs::Counts::grown_by_one))]
+pub fn tick_once<
+    'a,
+    B,
+    C: Clock,
+    J: Basis + Links,
+    T: Seated,
+    K: Tallies<T>,
+    O: Observer<B>,
+    R: Wait,
+>(
     rt: &R,
+    observer: &mut O,
     shared: &Shared<'a, J, T, K>,
     timed: &mut Timed<'a, C, J, T>,
-) -> Result<bool, CallError>
+) -> Result<bool, Halt>
     requires timed { IsTimed J.clock timed.old.share (C.log timed.old.clock) }
     ensures timed { IsTimed J.clock timed.new.share (C.log timed.new.clock) }
     ensures ended { IfOk result (λ given. given ≡ false
@@ -42,5 +53,6 @@ pub fn tick_once<'a, C: Clock, J: Basis + Links, T: Seated, K: Tallies<T>, R: Wa
     let Ok(()) = shared.tick(rt, &mut timed.share, moment) else {
         unreachable!()
     };
+    observer.ticked(timed.share.last_place(), moment)?;
     Ok(true)
 }

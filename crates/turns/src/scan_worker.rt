@@ -3,34 +3,50 @@
 ghost use Rattle.turns.specs.Logs.{IsWorker};
 
 use crate::bus_worker::idle_where_refused;
-use crate::gate::Gate;
 use crate::turn::Turn;
+use driving::{Halt, Observer};
 use ilmachine::scan_into;
-use plant::CallError;
 use plantlock::{Basis, Share, Shared};
 use seats::{Seated, Tallies};
 use std::alloc::Global;
+use std::io;
 use std::sync::Wait;
 
+/// Tells that a scan was committed, unless it failed to tell that its task was taken.
+fn tell_scan<B, O: Observer<B>>(
+    observer: &mut O,
+    took: io::Result<()>,
+    place: u64,
+    worker: usize,
+    task: usize,
+    steps: u32,
+) -> io::Result<()> {
+    took?;
+    observer.committed(place, worker, task, steps)
+}
+
 /// Takes a task under the lock, makes its scan outside the lock, and commits it under the lock.
-/// Nothing is open afterwards.
-fn scan_once<'a, J: Basis, T: Seated, K: Tallies<T>, G: Gate, R: Wait>(
+/// Nothing is open afterwards. What an observer fails to keep is answered then.
+fn scan_once<'a, B, J: Basis, T: Seated, K: Tallies<T>, O: Observer<B>, R: Wait>(
     rt: &R,
     alloc: Global,
-    gate: &G,
+    observer: &mut O,
     shared: &Shared<'a, J, T, K>,
     worker: usize,
     share: &mut Share<'a, J, T>,
-) -> Result<(), CallError>
+) -> Result<(), Halt>
     requires worker { IsWorker worker share.old }
     ensures worker { IsWorker worker share.new }
 {
     let order = shared.take(rt, alloc, share, worker)?;
-    gate.before_scan(worker, order.task);
+    let task = order.task;
+    let took = observer.took(order.number, worker, task);
     let scan = scan_into(order.work);
+    let steps = scan.steps();
     let Ok(()) = shared.commit(rt, share, worker, scan) else {
         unreachable!()
     };
+    tell_scan::<B, O>(observer, took, share.last_place(), worker, task, steps)?;
     Ok(())
 }
 
@@ -38,20 +54,21 @@ fn scan_once<'a, J: Basis, T: Seated, K: Tallies<T>, G: Gate, R: Wait>(
 ///
 /// # Errors
 ///
-/// The allocator is out of memory, or the history is full.
-pub fn scan_turn<'a, J: Basis, T: Seated, K: Tallies<T>, G: Gate, R: Wait>(
+/// The allocator is out of memory, the history is full, or an observer failed. Nothing is open
+/// then, either.
+pub fn scan_turn<'a, B, J: Basis, T: Seated, K: Tallies<T>, O: Observer<B>, R: Wait>(
     rt: &R,
     alloc: Global,
-    gate: &G,
+    observer: &mut O,
     shared: &Shared<'a, J, T, K>,
     worker: usize,
     share: &mut Share<'a, J, T>,
-) -> Result<Turn, CallError>
+) -> Result<Turn, Halt>
     requires worker { IsWorker worker share.old }
     ensures worker { IsWorker worker share.new }
 {
-    match scan_once(rt, alloc, gate, shared, worker, share) {
+    match scan_once::<B, J, T, K, O, R>(rt, alloc, observer, shared, worker, share) {
         Ok(()) => Ok(Turn::Worked),
-        Err(error) => idle_where_refused(error),
+        Err(halt) => idle_where_refused(halt),
     }
 }

@@ -9,8 +9,8 @@ use Rattle.buslink.specs.BusLog.{BusLog, one_more_failure}
 use Rattle.buslink.specs.ClockLog.{ClockLog}
 use Rattle.plantevents.specs.declared.event.Event.{Event}
 use Rattle.plantevents.specs.Histories.{sent_in, heard_in, downs_in, given_in}
-use Rattle.turns.specs.Logs.{log_of, more_failures}
-use Rattle.turns.specs.Finishing.{IsLinked}
+use Rattle.driving.specs.Links.{log_of, more_failures}
+use Rattle.driving.specs.Links.{IsLinked}
 
 -- ---- what stood before the end of a list
 
@@ -82,6 +82,7 @@ clock_before h log = record log { given = all_but (length (given_in h)) log.give
 pub linked_before : (first log : BusLog) (b : ℕ) (h : List Event) → IsLinked first b h log
     → IsLinked (bus_before b h log) b h log
 linked_before first log b h is = record {
+  same = record { number = refl; arrivals = refl };
   sent = front_back log.sent first.sent (sent_in b h) is.sent;
   heard = front_back log.heard first.heard (heard_in b h) is.heard;
   failed = failed_back (downs_in b h) log.failures first.failures is.failed;

@@ -9,8 +9,8 @@ use Rattle.buslink.specs.BusLog.{BusLog, one_more_failure}
 use Rattle.plantevents.specs.declared.event.Event.{Event}
 use Rattle.plantevents.specs.declared.event.Event.TheVariants.{Tick, Heard, Take, Commit, Hand, Done, Down}
 use Rattle.plantevents.specs.Histories.{moment, sent_in, heard_in, downs_in, given_in}
-use Rattle.turns.specs.Logs.{more_failures}
-use Rattle.turns.specs.Finishing.{IsLinked}
+use Rattle.driving.specs.Links.{more_failures}
+use Rattle.driving.specs.Links.{IsLinked}
 
 -- ---- first what was before, then what follows
 
@@ -87,6 +87,10 @@ more_and_more (suc n) m failures =
 pub linked_on : (first log after : BusLog) (b : ℕ) (later h : List Event) → IsLinked first b h log
     → IsLinked log b later after → IsLinked first b (later ++ h) after
 linked_on first log after b later h was is = record {
+  same = record {
+    number = is.same.number ∙ was.same.number;
+    arrivals = is.same.arrivals ∙ was.same.arrivals;
+  };
   sent =
       is.sent
       ∙ (ap (λ (x : List Sent). x ++ sent_in b later) was.sent
@@ -108,6 +112,10 @@ linked_on first log after b later h was is = record {
 pub linked_since : (first log after : BusLog) (b : ℕ) (later h : List Event) → IsLinked first b h log
     → IsLinked first b (later ++ h) after → IsLinked log b later after
 linked_since first log after b later h was is = record {
+  same = record {
+    number = is.same.number ∙ sym was.same.number;
+    arrivals = is.same.arrivals ∙ sym was.same.arrivals;
+  };
   sent =
       is.sent
       ∙ (ap (λ (x : List Sent). first.sent ++ x) (sent_on b later h)

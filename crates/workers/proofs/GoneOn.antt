@@ -12,13 +12,16 @@ use Rattle.plantevents.specs.Legal.{AreLegal}
 use Rattle.plantevents.specs.Plants.{Plant}
 use Rattle.plant.specs.Shown.{Shown, kept}
 use Rattle.plantlock.specs.Tied.{IsFront}
-use Rattle.turns.specs.Logs.{HasEnded, HasGrown, IsNoLess, log_of}
-use Rattle.turns.specs.Finishing.{HasNoFrame, IsLinked, IsQuiet}
-use Rattle.turns.specs.Open.{HasNothingOpen}
-use Rattle.turns.proofs.Turned.{log_stands}
+use Rattle.driving.specs.Links.{HasGrown, IsNoLess, log_of}
+use Rattle.turns.specs.Logs.{HasEnded}
+use Rattle.driving.specs.Links.{IsLinked}
+use Rattle.driving.specs.Quiet.{HasNoFrame, IsQuiet}
+use Rattle.driving.specs.Open.{HasNothingOpen}
+use Rattle.driving.proofs.Turned.{log_stands}
 use Rattle.workers.specs.Beginnings.{IsInStep}
-use Rattle.workers.specs.Closings.{HasGoneOn, IsClosed}
-use Rattle.workers.specs.declared.closed.Closed.{Closed}
+use Rattle.workers.specs.Closings.{IsClosed}
+use Rattle.workers.specs.Runs.{HasEndedQuietly}
+use Rattle.workers.specs.declared.closed.ClosedParts.{ClosedParts}
 use Rattle.workers.proofs.Earlier.{before_at, bus_before, buses_before, clock_before, given_before, linked_before}
 use Rattle.workers.proofs.Following.{given_on, linked_on, linked_since}
 use Rattle.workers.proofs.Left.{made}
@@ -40,6 +43,13 @@ pub room_before : (p q : Shown) (limit : ℕ) → q ≡ record p { limit = limit
     → length q.history + kept q ≤ p.limit
 room_before p q limit is within = subst (λ (x : Shown). length x.history + kept x ≤ p.limit) (sym is) within
 
+-- with its own limit again it is as it was
+pub limit_back : (p q r : Shown) (limit before : ℕ) → q ≡ record p { limit = limit } → before ≡ p.limit
+    → r ≡ record q { limit = before } → r ≡ p
+limit_back p q r limit before is same back =
+    back
+    ∙ (ap (λ (x : Shown). record x { limit = before }) is ∙ ap (λ n. record p { limit = n }) same)
+
 -- ---- the logs with which it begins
 
 -- how often a bus was asked to hear is as it is now
@@ -53,11 +63,15 @@ frame_since : (p : Shown) (h : List Event) (logs after : List BusLog) (b : ℕ)
     → HasNoFrame p b (log_of (buses_before 0 h logs) b) (log_of after b)
     → HasNoFrame p b (log_of logs b) (log_of after b)
 frame_since p h logs after b (inl down) = inl down
-frame_since p h logs after b (inr none) =
-    inr (none.0, subst (λ n. HasGrown n (log_of after b).hears) (hears_before 0 h logs b) none.1)
+frame_since p h logs after b (inr silent) =
+    inr (record {
+      none = silent.none;
+      asked = subst (λ n. HasGrown n (log_of after b).hears) (hears_before 0 h logs b) silent.asked;
+      all = silent.all;
+    })
 
 -- what is quiet since then is quiet since the logs of now
-pub quiet_since : (p : Shown) (h : List Event) (logs after : List BusLog) → IsQuiet p (buses_before 0 h logs) after
+quiet_since : (p : Shown) (h : List Event) (logs after : List BusLog) → IsQuiet p (buses_before 0 h logs) after
     → IsQuiet p logs after
 quiet_since p h logs after quiet = record {
   scanned = quiet.scanned;
@@ -65,13 +79,22 @@ quiet_since p h logs after quiet = record {
   heard = λ b known. frame_since p h logs after b (quiet.heard b known);
 }
 
-pub ended_since : (h : List Event) (first log : ClockLog) → HasEnded (clock_before h first) log → HasEnded first log
-ended_since h first log is = record { grown = is.grown; none = is.none }
+ended_since : (h : List Event) (first log : ClockLog) → HasEnded (clock_before h first) log → HasEnded first log
+ended_since h first log is = record { grown = is.grown; none = is.none; all = is.all }
+
+pub quietly_since : {B C : Type 0} (h : List Event) (logs : List BusLog) (first : ClockLog) (bus_log : B → BusLog)
+    (clock_log : C → ClockLog) (left : ClosedParts B C)
+    → HasEndedQuietly (buses_before 0 h logs) (clock_before h first) bus_log clock_log left
+    → HasEndedQuietly logs first bus_log clock_log left
+quietly_since h logs first bus_log clock_log left is = record {
+  clock = ended_since h first (clock_log left.clock) is.clock;
+  quiet = quiet_since left.plant h logs (map bus_log left.buses.items) is.quiet;
+}
 
 no_less_twice : (first second now : ℕ) → IsNoLess first second → IsNoLess second now → IsNoLess first now
 no_less_twice first second now was is = omega (arith, was, is)
 
-module _ {B C : Type 0} (bus_log : B → BusLog) (clock_log : C → ClockLog) (old : Closed B C) (p : Plant)
+module _ {B C : Type 0} (bus_log : B → BusLog) (clock_log : C → ClockLog) (old : ClosedParts B C) (p : Plant)
     (logs : List BusLog) (first : ClockLog) (closed : IsClosed p logs first bus_log clock_log old) where
   abbrev pub begun : List BusLog
   begun = buses_before 0 old.plant.history (map bus_log old.buses.items)
@@ -106,6 +129,7 @@ module _ {B C : Type 0} (bus_log : B → BusLog) (clock_log : C → ClockLog) (o
     given =
         given_before first (clock_log old.clock) old.plant.history closed.clock
         ∙ ap (λ (h : List Event). begun_clock.given ++ given_in h) (sym same);
+    moments = refl;
     asks = omega arith;
   }
 
@@ -120,7 +144,7 @@ module _ {B C : Type 0} (bus_log : B → BusLog) (clock_log : C → ClockLog) (o
 
   -- ---- what it leaves
 
-  module _ (start : Shown) (new : Closed B C) (same : start.history ≡ old.plant.history)
+  module _ (start : Shown) (new : ClosedParts B C) (same : start.history ≡ old.plant.history)
       (run : IsClosed start.plant (buses_before 0 start.history (map bus_log old.buses.items))
       (clock_before start.history (clock_log old.clock)) bus_log clock_log new)
       (front : IsFront start.history new.plant.history) (count : length new.buses.items ≡ length old.buses.items) where
@@ -129,10 +153,10 @@ module _ {B C : Type 0} (bus_log : B → BusLog) (clock_log : C → ClockLog) (o
         subst (λ (h : List Event). IsClosed start.plant (buses_before 0 h (map bus_log old.buses.items))
         (clock_before h (clock_log old.clock)) bus_log clock_log new) same run
 
-    grew : new.plant.history ≡ front.later ++ old.plant.history
+    pub grew : new.plant.history ≡ front.later ++ old.plant.history
     grew = front.is ∙ ap (λ (h : List Event). front.later ++ h) same
 
-    linked_now : (k : ℕ) (line : B) → slice_get new.buses.items k ≡ Some line
+    pub linked_now : (k : ℕ) (line : B) → slice_get new.buses.items k ≡ Some line
         → IsLinked (log_of (map bus_log old.buses.items) (0 + k)) (0 + k) front.later (bus_log line)
     linked_now k line at =
         let far = slice_get_within new.buses.items k line at in
@@ -145,7 +169,7 @@ module _ {B C : Type 0} (bus_log : B → BusLog) (clock_log : C → ClockLog) (o
         (linked_since (log_of begun (0 + k)) (bus_log was.x) (bus_log line) (0 + k) front.later old.plant.history
         (linked_begun k was.x was.is) whole)
 
-    given_now : (clock_log new.clock).given ≡ (clock_log old.clock).given ++ given_in front.later
+    pub given_now : (clock_log new.clock).given ≡ (clock_log old.clock).given ++ given_in front.later
     given_now =
         goes.clock
         ∙ (ap (λ (h : List Event). begun_clock.given ++ given_in h) grew
@@ -154,8 +178,8 @@ module _ {B C : Type 0} (bus_log : B → BusLog) (clock_log : C → ClockLog) (o
         ∙ ap (λ (given : List ℕ). given ++ given_in front.later)
         (sym (given_before first (clock_log old.clock) old.plant.history closed.clock)))))
 
-    pub gone_on : HasGoneOn bus_log clock_log old new
-    gone_on = record { later = front.later; history = grew; buses = linked_now; clock = given_now }
+    pub moments_now : (clock_log new.clock).moments ≡ (clock_log old.clock).moments
+    moments_now = goes.moments
 
     no_less_now : (k : ℕ) (line : B) → slice_get new.buses.items k ≡ Some line
         → IsNoLess (log_of logs (0 + k)).hears (bus_log line).hears
@@ -195,4 +219,5 @@ module _ {B C : Type 0} (bus_log : B → BusLog) (clock_log : C → ClockLog) (o
               ∙ (append_assoc first.given (given_in old.plant.history) (given_in front.later)
               ∙ (ap (λ (given : List ℕ). first.given ++ given) (sym (given_on front.later old.plant.history))
               ∙ ap (λ (h : List Event). first.given ++ given_in h) (sym grew))));
+          moments = goes.moments ∙ closed.moments;
         }

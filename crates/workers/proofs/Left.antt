@@ -8,16 +8,21 @@ use Rattle.buslink.specs.BusLog.{BusLog}
 use Rattle.buslink.specs.ClockLog.{ClockLog}
 use Rattle.plantevents.specs.Legal.{AreLegal}
 use Rattle.plantevents.specs.Plants.{Plant}
-use Rattle.plant.specs.declared.refusal.CallError.{CallError}
-use Rattle.plant.specs.declared.refusal.CallError.TheVariants.{Memory, Refused}
+use Rattle.driving.specs.declared.halt.Halt.{Halt}
+use Rattle.driving.specs.declared.halt.Halt.TheVariants.{Memory, Refused, Unwritten}
+use Rattle.driving.proofs.Refused.{stuck_is_full}
+use Rattle.workers.specs.Endings.{ended_of}
+use Rattle.workers.specs.declared.ended.Ended.TheVariants.{Asked, Limit}
 use Rattle.plant.specs.Shown.{Shown, is_full}
 use Rattle.receipts.specs.Each.{Each}
-use Rattle.turns.specs.Logs.{IsNoLess, log_of}
-use Rattle.turns.proofs.Counts.{grown_since, no_less_since}
-use Rattle.turns.specs.Finishing.{CannotGoOn, HasHeard, HasNoFrame, IsFinish, IsLinked, IsQuiet}
-use Rattle.turns.proofs.Turned.{log_stands}
+use Rattle.driving.specs.Links.{IsNoLess, log_of}
+use Rattle.driving.proofs.Counts.{grown_since, no_less_since}
+use Rattle.driving.specs.Driven.{CannotGoOn, IsDriven}
+use Rattle.driving.specs.Links.{HasHeard, IsLinked}
+use Rattle.driving.specs.Quiet.{HasNoFrame, IsQuiet}
+use Rattle.driving.proofs.Turned.{log_stands}
 use Rattle.workers.specs.Closings.{IsClosed}
-use Rattle.workers.specs.declared.closed.Closed.{Closed}
+use Rattle.workers.specs.declared.closed.ClosedParts.{ClosedParts}
 use Rattle.workers.proofs.Lists.{each_at}
 use Rattle.workers.proofs.Told.{there}
 
@@ -30,11 +35,11 @@ made f (y ∷ ys) zero x is =
     let same : y ≡ x = cc in ap (λ w. Some (f w)) same
 made f (y ∷ ys) (suc k) x is = made f ys k x is
 
-of_made : {X Y : Type 0} (P : ℕ → Y → Type 0) (f : X → Y) (n : ℕ) (xs : List X) → Each P n (map f xs)
+pub of_made : {X Y : Type 0} (P : ℕ → Y → Type 0) (f : X → Y) (n : ℕ) (xs : List X) → Each P n (map f xs)
     → Each (λ k x. P k (f x)) n xs
 of_made P f n xs all k x is = all k (f x) (made f xs k x is)
 
-all_made : {X Y : Type 0} (P : ℕ → Y → Type 0) (f : X → Y) (n : ℕ) (xs : List X) → Each (λ k x. P k (f x)) n xs
+pub all_made : {X Y : Type 0} (P : ℕ → Y → Type 0) (f : X → Y) (n : ℕ) (xs : List X) → Each (λ k x. P k (f x)) n xs
     → Each P n (map f xs)
 all_made P f n [] all k y is = absurd (cc)
 all_made P f n (x ∷ xs) all zero y is =
@@ -83,15 +88,19 @@ still_no_less logs bus_log before after same more are k line is =
 frame_from : (p : Shown) (b : ℕ) (first second log : BusLog) → IsNoLess first.hears second.hears
     → HasNoFrame p b second log → HasNoFrame p b first log
 frame_from p b first second log was (inl down) = inl down
-frame_from p b first second log was (inr none) =
-    inr (none.0, grown_since first.hears second.hears log.hears was none.1)
+frame_from p b first second log was (inr silent) =
+    inr (record {
+      none = silent.none;
+      asked = grown_since first.hears second.hears log.hears was silent.asked;
+      all = silent.all;
+    })
 
 -- ---- the plant after what was left
 
 module _ {B C : Type 0} (p : Plant) (logs : List BusLog) (first : ClockLog) (bus_log : B → BusLog)
-    (clock_log : C → ClockLog) (old new : Closed B C) where
+    (clock_log : C → ClockLog) (old new : ClosedParts B C) where
   pub still_closed : AreLegal new.plant.plant new.plant.history
-      → IsFinish old.plant new.plant (map bus_log old.buses.items) (map bus_log new.buses.items)
+      → IsDriven old.plant new.plant (map bus_log old.buses.items) (map bus_log new.buses.items)
       → new.clock ≡ old.clock → IsClosed p logs first bus_log clock_log old
       → IsClosed p logs first bus_log clock_log new
   still_closed legal finish clock closed =
@@ -110,11 +119,12 @@ module _ {B C : Type 0} (p : Plant) (logs : List BusLog) (first : ClockLog) (bus
         clock =
             ap (λ c. (clock_log c).given) clock
             ∙ (closed.clock ∙ ap (λ given. first.given ++ given) (sym finish.given));
+        moments = ap (λ c. (clock_log c).moments) clock ∙ closed.moments;
       }
 
 -- what is quiet since the lock was opened for good is quiet since the run's start
 pub quiet_from_start : {B C : Type 0} (p : Plant) (logs : List BusLog) (first : ClockLog) (bus_log : B → BusLog)
-    (clock_log : C → ClockLog) (old : Closed B C) (q : Shown) (after : List BusLog)
+    (clock_log : C → ClockLog) (old : ClosedParts B C) (q : Shown) (after : List BusLog)
     → length old.buses.items ≡ old.plant.plant.plan.buses → q.plant ≡ old.plant.plant
     → IsClosed p logs first bus_log clock_log old → IsQuiet q (map bus_log old.buses.items) after
     → IsQuiet q logs after
@@ -129,7 +139,14 @@ quiet_from_start p logs first bus_log clock_log old q after count same closed qu
           (no_less_at logs bus_log old.buses.items closed.hears b inside) (quiet.heard b known);
     }
 
--- where it can't go on, and not for want of memory, the history is full
-pub is_full_at : (q : Shown) (error : CallError) → CannotGoOn q error → ¬ (error ≡ Memory) → is_full q ≡ true
-is_full_at q Memory stops other = absurd (other refl)
-is_full_at q (Refused refusal) stops other = stops.1
+-- where it can't go on, and ends since the history is full, it is full
+pub is_full_at : (q : Shown) (halt : Halt) → CannotGoOn q halt → ended_of halt ≡ Limit → is_full q ≡ true
+is_full_at q Memory stops is = absurd (cc)
+is_full_at q (Unwritten error) stops is = absurd (cc)
+is_full_at q (Refused refusal) stops is = stuck_is_full q stops.1
+
+-- it does not end as the clock's end
+pub never_asked : (halt : Halt) → ended_of halt ≡ Asked → ⊥
+never_asked Memory is = absurd (cc)
+never_asked (Unwritten error) is = absurd (cc)
+never_asked (Refused refusal) is = absurd (cc)

@@ -21,9 +21,10 @@ use Rattle.receipts.specs.Receipts.{ShareParts, AreFresh, IsFresh, seat_at, whol
 use Rattle.receipts.specs.Seats.{AreUnused}
 use Rattle.seats.specs.Families.{Seating}
 use Rattle.seats.specs.Openings.{fresh}
-use Rattle.turns.specs.Logs.{IsNoLess, IsServed, IsTimed, IsWorker, log_of, more_failures, no_frame}
-use Rattle.turns.specs.Finishing.{IsLinked}
-use Rattle.turns.specs.Open.{HasNothingOpen}
+use Rattle.driving.specs.Links.{IsNoLess, log_of, more_failures, no_frame}
+use Rattle.turns.specs.Logs.{IsServed, IsTimed, IsWorker}
+use Rattle.driving.specs.Links.{IsLinked}
+use Rattle.driving.specs.Open.{HasNothingOpen}
 use Rattle.workers.specs.Beginnings.{IsInStep}
 use Rattle.workers.specs.Teams.{AreWorkers}
 use Rattle.workers.proofs.Following.{all_later, moment_within}
@@ -68,6 +69,8 @@ fresh_served start b s first log known open_none hands sents heards downs linked
     record {
       role = is.role;
       idle = ap shown_hand all ∙ (sym hands ∙ open_none.no_hand b known);
+      number = linked.same.number;
+      arrivals = linked.same.arrivals;
       sent = linked.sent ∙ ap (λ (x : List Sent). first.sent ++ x) (sents ∙ ap shown_sent (sym all));
       heard = linked.heard ∙ ap (λ (x : List ℕ). first.heard ++ x) (heards ∙ ap shown_heard (sym all));
       failed = linked.failed ∙ ap (λ n. more_failures n first.failures) (downs ∙ ap shown_downs (sym all));
@@ -93,12 +96,13 @@ fresh_buses start logs log lines count open_none hands sents heards downs linked
 pub fresh_timed : (start : Shown) (s : ShareParts) (first log : ClockLog)
     → moment start.history ≡ shown_moment (part Clock start.history)
     → given_in start.history ≡ shown_given (part Clock start.history)
-    → log.given ≡ first.given ++ given_in start.history → IsNoLess first.asks log.asks → IsFresh start Clock s
-    → IsTimed first s log
-fresh_timed start s first log moments givens given asks is =
+    → log.given ≡ first.given ++ given_in start.history → log.moments ≡ first.moments → IsNoLess first.asks log.asks
+    → IsFresh start Clock s → IsTimed first s log
+fresh_timed start s first log moments givens given scripted asks is =
     let all : whole s ≡ part Clock start.history = whole_is start Clock s is in
     record {
       role = is.role;
+      moments = scripted;
       given = given ∙ ap (λ (x : List ℕ). first.given ++ x) (givens ∙ ap shown_given (sym all));
       in_time = λ m not_before.
           let of_all = subst (λ (xs : List ℕ). All (λ earlier. earlier ≤ m) xs) given not_before in
@@ -118,6 +122,7 @@ open_at_first start empty = record {
 
 linked_at_first : (log : BusLog) (b : ℕ) → IsLinked log b [] log
 linked_at_first log b = record {
+  same = record { number = refl; arrivals = refl };
   sent = sym (append-nil log.sent);
   heard = sym (append-nil log.heard);
   failed = refl;
@@ -140,6 +145,7 @@ in_step_at_first start bus_log clock_log lines clock empty =
           sym
           (ap (λ (h : List Event). (clock_log clock).given ++ given_in h) empty
           ∙ append-nil (clock_log clock).given);
+      moments = refl;
       asks = omega arith;
     }
 

@@ -13,9 +13,10 @@ use Rattle.plantevents.specs.Plants.{Plant}
 use Rattle.plant.specs.Shown.{Shown}
 use Rattle.receipts.specs.Each.{Each}
 use Rattle.receipts.specs.Receipts.{ShareParts, HasPart, HaveParts, whole}
-use Rattle.turns.specs.Finishing.{IsLinked}
-use Rattle.turns.specs.Open.{HasNothingOpen}
-use Rattle.turns.specs.Logs.{IsNoLess, IsServed, IsTimed, IsWorker, log_of, more_failures}
+use Rattle.driving.specs.Links.{IsLinked}
+use Rattle.driving.specs.Open.{HasNothingOpen}
+use Rattle.driving.specs.Links.{IsNoLess, log_of, more_failures}
+use Rattle.turns.specs.Logs.{IsServed, IsTimed, IsWorker}
 use Rattle.workers.specs.Teams.{AreServed, AreWorkers}
 use Rattle.turns.specs.declared.bus_worker.Served.{Served}
 use Rattle.workers.proofs.Lists.{each_at}
@@ -39,6 +40,7 @@ linked : (first log : BusLog) (b : ℕ) (s : ShareParts) (h : List Event) → Is
 linked first log b s h is has sent heard downs =
     let all : whole s ≡ part (Bus b) h = part_is s (Bus b) h has is.role in
     record {
+      same = record { number = is.number; arrivals = is.arrivals };
       sent = is.sent ∙ ap (λ x. first.sent ++ x) (ap shown_sent all ∙ sym sent);
       heard = is.heard ∙ ap (λ x. first.heard ++ x) (ap shown_heard all ∙ sym heard);
       failed = is.failed ∙ ap (λ n. more_failures n first.failures) (ap shown_downs all ∙ sym downs);

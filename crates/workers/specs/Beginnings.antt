@@ -6,8 +6,8 @@ use Rattle.plantevents.specs.Histories.{given_in}
 use Rattle.plantevents.specs.Plants.{Plant}
 use Rattle.plant.specs.Shown.{Shown}
 use Rattle.receipts.specs.Each.{Each}
-use Rattle.turns.specs.Logs.{IsNoLess, log_of}
-use Rattle.turns.specs.Finishing.{IsLinked}
+use Rattle.driving.specs.Links.{IsNoLess, log_of}
+use Rattle.driving.specs.Links.{IsLinked}
 use Rattle.workers.specs.declared.beginning.Begun.{Begun}
 use Rattle.workers.specs.Crews.{HasRooms}
 use Rattle.workers.specs.Teams.{IsTeam}
@@ -18,6 +18,7 @@ pub record IsInStep {B C : Type 0} (start : Shown) (logs : List BusLog) (first :
   pub buses : Each (λ b line. IsLinked (log_of logs b) b start.history (bus_log line)) 0 lines
   pub hears : Each (λ b line. IsNoLess (log_of logs b).hears (bus_log line).hears) 0 lines
   pub given : (clock_log clock).given ≡ first.given ++ given_in start.history
+  pub moments : (clock_log clock).moments ≡ first.moments
   pub asks : IsNoLess first.asks (clock_log clock).asks
 
 -- a team for each scan worker and bus of the plant, with room for their threads and for the end

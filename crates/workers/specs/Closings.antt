@@ -1,43 +1,34 @@
 -- What a run leaves: nothing is open, and the links and the history tell the same.
-use Rattle.std.specs.Prelude.{◌≡◌, List, ◌++◌, length, map}
+use Rattle.std.specs.Prelude.{◌≡◌, List, ◌++◌, length}
 use Rattle.buslink.specs.BusLog.{BusLog}
 use Rattle.buslink.specs.ClockLog.{ClockLog}
-use Rattle.plantevents.specs.declared.event.Event.{Event}
 use Rattle.plantevents.specs.Histories.{given_in}
 use Rattle.plantevents.specs.Legal.{AreLegal}
 use Rattle.plantevents.specs.Plants.{Plant}
 use Rattle.plant.specs.Shown.{IsWorkerCount}
 use Rattle.receipts.specs.Each.{Each}
-use Rattle.turns.specs.Logs.{IsNoLess, log_of}
-use Rattle.turns.specs.Finishing.{IsLinked}
-use Rattle.turns.specs.Open.{HasNothingOpen}
-use Rattle.workers.specs.declared.closed.Closed.{Closed}
+use Rattle.driving.specs.Links.{IsLinked, IsNoLess, log_of}
+use Rattle.driving.specs.Open.{HasNothingOpen}
+use Rattle.workers.specs.declared.closed.ClosedParts.{ClosedParts}
 
 -- A legal history of this plant in which nothing is open, and since the first logs each bus and the clock gave and took
--- what it says. No call that heard is forgotten.
+-- what it says. No call that heard is forgotten. They are the same buses and the same clock.
 pub record IsClosed {B C : Type 0} (p : Plant) (logs : List BusLog) (first : ClockLog) (bus_log : B → BusLog)
-    (clock_log : C → ClockLog) (closed : Closed B C) : Type 0 where
+    (clock_log : C → ClockLog) (closed : ClosedParts B C) : Type 0 where
   pub plant : closed.plant.plant ≡ p
   pub legal : AreLegal p closed.plant.history
   pub idle : HasNothingOpen closed.plant
   pub buses : Each (λ b line. IsLinked (log_of logs b) b closed.plant.history (bus_log line)) 0 closed.buses.items
   pub hears : Each (λ b line. IsNoLess (log_of logs b).hears (bus_log line).hears) 0 closed.buses.items
   pub clock : (clock_log closed.clock).given ≡ first.given ++ given_in closed.plant.history
+  pub moments : (clock_log closed.clock).moments ≡ first.moments
 
--- So it is of what a run left: another one may go on from it.
-pub record IsLeft {B C : Type 0} (bus_log : B → BusLog) (clock_log : C → ClockLog) (left : Closed B C) : Type 0 where
-  pub p : Plant
-  pub logs : List BusLog
-  pub first : ClockLog
-  pub closed : IsClosed p logs first bus_log clock_log left
-  pub workers : IsWorkerCount p.workers
-  pub count : length left.buses.items ≡ p.plan.buses
-
--- What a run leaves that went on from what another one left: the old history is a front of the new one, and each bus
--- and the clock gave and took what follows it, and that alone.
-pub record HasGoneOn {B C : Type 0} (bus_log : B → BusLog) (clock_log : C → ClockLog) (old new : Closed B C)
-    : Type 0 where
-  pub later : List Event
-  pub history : new.plant.history ≡ later ++ old.plant.history
-  pub buses : Each (λ b line. IsLinked (log_of (map bus_log old.buses.items) b) b later (bus_log line)) 0 new.buses.items
-  pub clock : (clock_log new.clock).given ≡ (clock_log old.clock).given ++ given_in later
+-- So it is of what a run left, since some logs: another one may go on from it.
+pub record IsLeft {B C : Type 0} (bus_log : B → BusLog) (clock_log : C → ClockLog) (left : ClosedParts B C) : Type 0
+  where
+    pub p : Plant
+    pub logs : List BusLog
+    pub first : ClockLog
+    pub closed : IsClosed p logs first bus_log clock_log left
+    pub workers : IsWorkerCount p.workers
+    pub count : length left.buses.items ≡ p.plan.buses

@@ -6,7 +6,8 @@ use Rattle.receipts.specs.Each.{Each}
 use Rattle.receipts.specs.Receipts.{ShareParts}
 use Rattle.turns.specs.declared.bus_worker.Served.{Served}
 use Rattle.workers.specs.declared.team.Team.{Team}
-use Rattle.turns.specs.Logs.{IsServed, IsTimed, IsWorker, log_of}
+use Rattle.driving.specs.Links.{log_of}
+use Rattle.turns.specs.Logs.{IsServed, IsTimed, IsWorker}
 
 -- each bus by its number, where the first has the number n
 abbrev pub AreServed : {B J T : Type 0} → List BusLog → (B → BusLog) → ℕ → List (Served B J T) → Type 0

@@ -1,7 +1,7 @@
 //! The lock, the links with their Shares, and the rooms, before the first thread begins.
 
 ghost use Rattle.std.specs.Prelude.{◌≡◌, ◌≤◌, [], length, map, vec_len, vec_capacity, IfOk, IfErr};
-ghost use Rattle.turns.specs.Open.{HasNothingOpen};
+ghost use Rattle.driving.specs.Open.{HasNothingOpen};
 ghost use Rattle.plant.specs.Shown.{IsWorkerCount};
 ghost use Rattle.std.specs.List.{range_with_len};
 ghost use Rattle.limits.specs.Limits.{most_buses, most_seats};

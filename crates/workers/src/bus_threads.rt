@@ -1,7 +1,8 @@
 //! Threads that serve buses.
 
 ghost use Rattle.std.specs.Prelude.{ℕ};
-ghost use Rattle.turns.specs.Logs.{IsServed, log_of};
+ghost use Rattle.driving.specs.Links.{log_of};
+ghost use Rattle.turns.specs.Logs.{IsServed};
 ghost use Rattle.workers.specs.Started.{IsStartedBus};
 
 use crate::ended::{End, Ended};
@@ -31,7 +32,8 @@ pub(crate) struct Serves {
 }
 
 impl<'a, B: Bus, J: Basis + Links, T: Seated> Promise<Served<'a, B, J, T>> for Serves {
-    ghost use Rattle.turns.specs.Logs.{IsServed, log_of};
+    ghost use Rattle.driving.specs.Links.{log_of};
+    ghost use Rattle.turns.specs.Logs.{IsServed};
 
     ghost kept_by = { λ p r. IsServed (log_of J.buses p.bus) p.bus r.share (B.log r.line) };
 }

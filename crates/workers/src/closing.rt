@@ -1,13 +1,13 @@
 //! The end of a run: the lock is opened for good.
 
-ghost use Rattle.std.specs.Prelude.{◌≡◌, ◌≤◌, [], true, length, vec_len, vec_capacity};
+ghost use Rattle.std.specs.Prelude.{◌≡◌, ◌≤◌, [], length, vec_len, vec_capacity};
 ghost use Rattle.plant.specs.Shown.{is_full};
 ghost use Rattle.plantlock.specs.Tied.{IsFront};
 ghost use Rattle.workers.specs.Closings.{IsClosed};
+ghost use Rattle.workers.specs.Endings.{ended_as_told};
 ghost use Rattle.workers.specs.Teams.{IsTeam};
-ghost use Rattle.workers.specs.declared.ended.Ended.TheVariants.{Asked, Limit};
 
-use crate::closed::Closed;
+use crate::closed::ClosedParts;
 use crate::closed_plant::ClosedPlant;
 use crate::ended::Ended;
 use crate::pairing::take_apart;
@@ -30,9 +30,7 @@ pub(crate) struct Bench<'a, B: Bus, J: Basis, T: Seated> {
 /// which the end is told proves nothing: it is, since a worker was refused a place and fullness
 /// never stops, so the other answer never comes.
 fn as_shown(plant: &Plant, told: Ended) -> Ended
-    ensures asked { result ≡ Asked → told ≡ Asked }
-    ensures full { result ≡ Limit → is_full plant.now ≡ true }
-    ensures told { (told ≡ Limit → is_full plant.now ≡ true) → result ≡ told }
+    ensures shown { result ≡ ended_as_told (is_full plant.now) told }
 {
     if matches!(told, Ended::Limit) && !plant.is_full() {
         return Ended::NoMemory;
@@ -46,7 +44,7 @@ pub(crate) fn close<'a, B: Bus, C: Clock, J: Basis + Links, T: Seated, K: Tallie
     team: Team<'a, B, C, J, T>,
     bench: Bench<'a, B, J, T>,
     ended: Ended,
-) -> Closed<B, C>
+) -> ClosedParts<B, C>
     requires none { (bench.lines.items ≡ []) × (bench.shares.items ≡ []) }
     requires room { (vec_len team.buses ≤ vec_capacity bench.lines)
         × (vec_len team.buses ≤ vec_capacity bench.shares) }
@@ -58,9 +56,7 @@ pub(crate) fn close<'a, B: Bus, C: Clock, J: Basis + Links, T: Seated, K: Tallie
     ensures clock { result.clock ≡ team.entry.timed.clock }
     ensures front { IsFront J.start.history result.plant.history }
     ensures limit { result.plant.limit ≡ J.start.limit }
-    ensures asked { result.ended ≡ Asked → ended ≡ Asked }
-    ensures full { result.ended ≡ Limit → is_full result.plant ≡ true }
-    ensures told { (ended ≡ Limit → is_full result.plant ≡ true) → result.ended ≡ ended }
+    ensures ended { result.ended ≡ ended_as_told (is_full result.plant) ended }
 {
     what_a_part_shows();
     what_a_part_shows_of_links();
@@ -81,7 +77,7 @@ pub(crate) fn close<'a, B: Bus, C: Clock, J: Basis + Links, T: Seated, K: Tallie
         clock: share,
     });
     let ended = as_shown(&plant, ended);
-    Closed {
+    ClosedParts {
         plant: ClosedPlant { plant },
         buses: lines,
         clock,

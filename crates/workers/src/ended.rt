@@ -1,6 +1,6 @@
 //! The end of a run.
 
-use plant::CallError;
+use driving::Halt;
 use std::sync::{OnceLock, Wait};
 
 /// Why a run ended.
@@ -16,18 +16,17 @@ pub enum Ended {
     NoThread,
 }
 
-impl From<CallError> for Ended {
+impl From<Halt> for Ended {
     ghost use Rattle.std.specs.Prelude.{◌≡◌};
-    ghost use Rattle.plant.specs.declared.refusal.CallError.TheVariants.{Memory};
-    ghost use Rattle.workers.specs.declared.ended.Ended.TheVariants.{Asked, Limit};
+    ghost use Rattle.workers.specs.Endings.{ended_of};
 
-    ghost from_gives = { λ error ended. (¬ (ended ≡ Asked)) × (ended ≡ Limit → ¬ (error ≡ Memory)) };
+    ghost from_gives = { λ halt ended. ended ≡ ended_of halt };
 
-    /// A worker is refused for want of memory, or of places in the history.
-    fn from(error: CallError) -> Self {
-        match error {
-            CallError::Memory => Ended::NoMemory,
-            CallError::Refused(_) => Ended::Limit,
+    /// A worker is refused a place in the history, or memory. A gate never fails.
+    fn from(halt: Halt) -> Self {
+        match halt {
+            Halt::Memory | Halt::Unwritten(_) => Ended::NoMemory,
+            Halt::Refused(_) => Ended::Limit,
         }
     }
 }

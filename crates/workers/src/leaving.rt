@@ -6,24 +6,25 @@ ghost use Rattle.buslink.specs.ClockLog.{ClockLog};
 ghost use Rattle.plantevents.specs.Plants.{Plant as Planted};
 ghost use Rattle.plant.specs.Shown.{is_full};
 ghost use Rattle.plantlock.specs.Tied.{IsFront};
-ghost use Rattle.turns.specs.Finishing.{IsQuiet};
+ghost use Rattle.driving.specs.Quiet.{IsQuiet};
 ghost use Rattle.workers.specs.Closings.{IsClosed};
 ghost use Rattle.workers.specs.declared.ended.Ended.TheVariants.{Asked, Limit};
 
-use crate::closed::Closed;
+use crate::closed::ClosedParts;
 use crate::closed_plant::ClosedPlant;
 use crate::ended::Ended;
 use buslink::{Bus, Clock};
+use driving::settle;
 use std::alloc::Global;
-use turns::{Gate, settle};
+use turns::{Gate, Passing};
 
 /// Does what is left where the clock came to its end: scans, sends and hears until there is nothing
 /// left to be done, the history is full, or memory is wanting.
 pub(crate) fn leave<B: Bus, C: Clock, G: Gate>(
     alloc: Global,
     gate: &G,
-    closed: Closed<B, C>,
-) -> Closed<B, C>
+    closed: ClosedParts<B, C>,
+) -> ClosedParts<B, C>
     requires workers { 0 < closed.plant.plant.workers }
     requires count { vec_len closed.buses ≡ closed.plant.plant.plan.buses }
     ensures closed { (p : Planted) (logs : List BusLog) (first : ClockLog)
@@ -39,14 +40,14 @@ pub(crate) fn leave<B: Bus, C: Clock, G: Gate>(
         → is_full result.plant ≡ true }
     ensures count { length result.buses.items ≡ vec_len closed.buses }
 {
-    let Closed {
+    let ClosedParts {
         plant,
         mut buses,
         clock,
         ended,
     } = closed;
     if !matches!(ended, Ended::Asked) {
-        return Closed {
+        return ClosedParts {
             plant,
             buses,
             clock,
@@ -54,12 +55,13 @@ pub(crate) fn leave<B: Bus, C: Clock, G: Gate>(
         };
     }
     let mut plant = plant.into_plant();
-    let ended = match settle(alloc, gate, &mut plant, &mut buses) {
+    let mut passing = Passing { gate };
+    let ended = match settle(alloc, &mut plant, &mut buses, &mut passing) {
         Ok(()) => Ended::Asked,
         Err(error) => Ended::from(error),
     };
     let _events = plant.len();
-    Closed {
+    ClosedParts {
         plant: ClosedPlant { plant },
         buses,
         clock,

@@ -3,8 +3,8 @@
 //! What crosses the boundary: [`run`] opens a plant on buses and a clock, lets a thread work for each
 //! scan worker and each bus until the end is told, and opens the lock for good. A [`Closed`] is what
 //! it leaves: the plant with its history, in which nothing is open, the buses, the clock, and why the
-//! run ended. [`run_again`] goes on from it. The definitions to read first are `IsClosed` and
-//! `HasGoneOn` (specs/Closings.antt).
+//! run ended. [`run_again`] goes on from it. The definitions to read first are `HasRun` and
+//! `HasGoneOn` (specs/Runs.antt), and `IsClosed` (specs/Closings.antt).
 //!
 //! ```text
 //! let left = run(rt, alloc, Opening { setup, limit }, buses, clock, 2, &OpenGate)?;
@@ -23,6 +23,7 @@ mod ended;
 mod leaving;
 mod pairing;
 mod pause;
+mod rest;
 mod running;
 mod scan_threads;
 mod serving;
@@ -30,8 +31,9 @@ mod team;
 mod working;
 
 pub use again::run_again;
-pub use closed::{Closed, NotGoneOn, NotStarted};
+pub use closed::{Closed, ClosedParts, NotGoneOn, NotStarted};
 pub use closed_plant::ClosedPlant;
 pub use ended::Ended;
+pub use rest::Rest;
 pub use running::{Opening, run};
 pub use turns::{Gate, OpenGate};

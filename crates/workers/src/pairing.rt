@@ -4,7 +4,8 @@ ghost use Rattle.std.specs.Prelude.{◌≡◌, ◌≤◌, [], length, map, vec_l
 ghost use Rattle.plantevents.specs.declared.role.Role.TheVariants as roles;
 ghost use Rattle.receipts.specs.Each.{Each};
 ghost use Rattle.receipts.specs.Receipts.{ShareParts, AreFresh, IsFresh};
-ghost use Rattle.turns.specs.Logs.{IsServed, log_of};
+ghost use Rattle.driving.specs.Links.{log_of};
+ghost use Rattle.turns.specs.Logs.{IsServed};
 ghost use Rattle.workers.specs.Teams.{AreServed};
 
 use buslink::Bus;

@@ -1,16 +1,14 @@
 //! A run, from the plant's opening to its close.
 
-ghost use Rattle.std.specs.Prelude.{◌≡◌, ◌≤◌, true, length, map, vec_len, IfOk, IfErr, OnOk};
+ghost use Rattle.std.specs.Prelude.{◌≡◌, ◌≤◌, true, length, vec_len, IfOk, IfErr, MatchResult};
 ghost use Rattle.limits.specs.Limits.{most_buses};
 ghost use Rattle.plant.specs.declared.open_fault.OpenFault.TheVariants.{Memory};
-ghost use Rattle.plant.specs.Shown.{IsWorkerCount, IsLimit, IsRoomy, is_full, plant_of};
+ghost use Rattle.plant.specs.Shown.{IsWorkerCount, is_full};
 ghost use Rattle.plantlock.specs.Tied.{IsFront};
-ghost use Rattle.turns.specs.Logs.{HasEnded};
-ghost use Rattle.turns.specs.Finishing.{IsQuiet};
-ghost use Rattle.turns.specs.Open.{HasNothingOpen};
+ghost use Rattle.driving.specs.Open.{HasNothingOpen};
 ghost use Rattle.workers.specs.Beginnings.{IsInStep};
-ghost use Rattle.workers.specs.Closings.{IsClosed, IsLeft};
-ghost use Rattle.workers.specs.Starts.{AreCounts, IsStartFault};
+ghost use Rattle.workers.specs.Closings.{IsClosed};
+ghost use Rattle.workers.specs.Runs.{HasEndedQuietly, HasRun, IsNotStarted};
 ghost use Rattle.workers.specs.declared.ended.Ended.TheVariants.{Asked, Limit};
 
 use crate::beginning::{Begun, NotBegun, begin};
@@ -78,9 +76,8 @@ pub(crate) fn run_named<
     requires workers { IsWorkerCount J.start.plant.workers }
     requires buses { (vec_len lines ≡ J.start.plant.plan.buses) × (vec_len lines ≤ most_buses) }
     ensures closed { IfOk result (IsClosed J.start.plant J.buses J.clock B.log C.log) }
-    ensures left { IfOk result (λ c. c.ended ≡ Asked
-        → IsQuiet c.plant J.buses (map B.log c.buses.items)) }
-    ensures asked { IfOk result (λ c. c.ended ≡ Asked → HasEnded J.clock (C.log c.clock)) }
+    ensures ended { IfOk result
+        (λ c. c.ended ≡ Asked → HasEndedQuietly J.buses J.clock B.log C.log c) }
     ensures full { IfOk result (λ c. c.ended ≡ Limit → is_full c.plant ≡ true) }
     ensures front { IfOk result (λ c. IsFront J.start.history c.plant.history) }
     ensures limit { IfOk result (λ c. c.plant.limit ≡ J.start.limit) }
@@ -108,7 +105,8 @@ pub(crate) fn run_named<
     let Worked { team, ended } = work(rt, crew);
     let ended = end.cut_short().unwrap_or(ended);
     let closed = close(shared, team, bench, ended);
-    Ok(leave(alloc, gate, closed))
+    let parts = leave(alloc, gate, closed);
+    Ok(Closed { parts })
 }
 
 /// A run that doesn't start for want of memory.
@@ -146,21 +144,9 @@ pub fn run<B: Bus + Send, C: Clock + Send, G: Gate, R: Threads + Wait + Timer + 
     workers: usize,
     gate: &G,
 ) -> Result<Closed<B, C>, NotStarted<B, C>>
-    ensures closed { IfOk result (IsClosed (plant_of opening.setup workers) (map B.log buses.items)
-        (C.log clock) B.log C.log) }
-    ensures left { IfOk result (λ c. c.ended ≡ Asked
-        → IsQuiet c.plant (map B.log buses.items) (map B.log c.buses.items)) }
-    ensures asked { IfOk result (λ c. c.ended ≡ Asked → HasEnded (C.log clock) (C.log c.clock)) }
-    ensures full { IfOk result (λ c. c.ended ≡ Limit → is_full c.plant ≡ true) }
-    ensures again { IfOk result (IsLeft B.log C.log) }
-    ensures kept { IfOk result (λ c. c.plant.limit ≡ opening.limit) }
-    ensures count { IfOk result (λ c. length c.buses.items ≡ vec_len buses) }
-    ensures counts { OnOk result (AreCounts opening.setup workers (vec_len buses)) }
-    ensures limit { OnOk result (IsLimit opening.limit) }
-    ensures roomy { OnOk result (IsRoomy opening.setup.plan.buses opening.limit) }
-    ensures fault { IfErr result
-        (λ e. IsStartFault opening.setup workers (vec_len buses) opening.limit e.fault) }
-    ensures err { IfErr result (λ e. (e.buses.items ≡ buses.items) × (e.clock ≡ clock)) }
+    ensures run { MatchResult result
+        (HasRun opening.setup workers opening.limit buses.items clock B.log C.log)
+        (IsNotStarted opening.setup workers opening.limit buses.items clock) }
 {
     let Opening { setup, limit } = opening;
     let _within = setup.plan().buses();

@@ -1,37 +1,40 @@
 //! The loops of the workers, until the end is told.
 
 ghost use Rattle.std.specs.Prelude.{◌≡◌};
-ghost use Rattle.turns.specs.Logs.{HasEnded, IsServed, IsTimed, IsWorker, log_of};
+ghost use Rattle.driving.specs.Links.{log_of};
+ghost use Rattle.turns.specs.Logs.{HasEnded, IsServed, IsTimed, IsWorker};
 ghost use Rattle.workers.specs.declared.ended.Ended.TheVariants.{Asked};
 
 use crate::ended::{End, Ended};
 use crate::pause::Pause;
 use buslink::{Bus, Clock};
-use plant::CallError;
+use driving::{Halt, Observer, Unobserved};
 use plantlock::{Basis, Share, Shared};
 use seats::{Seated, Tallies};
 use std::alloc::Global;
 use std::sync::Wait;
 use std::time::Clock as Timer;
-use turns::{Gate, Links, Served, Timed, Turn, hear_turn, scan_turn, send_turn, tick_once};
+use turns::{
+    Gate, Links, Passing, Served, Timed, Turn, hear_turn, scan_turn, send_turn, tick_once,
+};
 
 /// Sends what is to be sent next on a bus, and hears what came, where the end wasn't told meanwhile.
-fn serve_once<'a, B: Bus, J: Basis + Links, T: Seated, K: Tallies<T>, G: Gate, R: Wait>(
+fn serve_once<'a, B: Bus, J: Basis + Links, T: Seated, K: Tallies<T>, O: Observer<B>, R: Wait>(
     rt: &R,
-    gate: &G,
+    observer: &mut O,
     shared: &Shared<'a, J, T, K>,
     end: &End,
     bus: u8,
     served: &mut Served<'a, B, J, T>,
-) -> Result<Turn, CallError>
+) -> Result<Turn, Halt>
     requires served { IsServed (log_of J.buses bus) bus served.old.share (B.log served.old.line) }
     ensures served { IsServed (log_of J.buses bus) bus served.new.share (B.log served.new.line) }
 {
-    let sent = send_turn(rt, gate, shared, bus, served)?;
+    let sent = send_turn(rt, observer, shared, bus, served)?;
     if matches!(sent, Turn::Down) || end.is_told() {
         return Ok(sent);
     }
-    match hear_turn(rt, shared, bus, served)? {
+    match hear_turn(rt, observer, shared, bus, served)? {
         Turn::Idle => Ok(sent),
         heard => Ok(heard),
     }
@@ -49,17 +52,18 @@ pub fn serve_bus<'a, B: Bus, J: Basis + Links, T: Seated, K: Tallies<T>, G: Gate
     requires served { IsServed (log_of J.buses bus) bus served.old.share (B.log served.old.line) }
     ensures served { IsServed (log_of J.buses bus) bus served.new.share (B.log served.new.line) }
 {
+    let mut passing = Passing { gate };
     let mut pause = Pause::new();
     for _ in rt.forever() {
         if end.is_told() {
             return;
         }
-        match serve_once(rt, gate, shared, end, bus, served) {
+        match serve_once(rt, &mut passing, shared, end, bus, served) {
             Ok(Turn::Worked) => pause.begin_anew(),
             Ok(Turn::Idle) => pause.wait(rt),
             Ok(Turn::Down) => return,
-            Err(error) => {
-                end.tell(rt, Ended::from(error));
+            Err(halt) => {
+                end.tell(rt, Ended::from(halt));
                 return;
             }
         }
@@ -80,16 +84,24 @@ pub fn serve_tasks<'a, J: Basis, T: Seated, K: Tallies<T>, G: Gate, R: Wait + Ti
     requires worker { IsWorker worker share.old }
     ensures worker { IsWorker worker share.new }
 {
+    let mut passing = Passing { gate };
     let mut pause = Pause::new();
     for _ in rt.forever() {
         if end.is_told() {
             return;
         }
-        match scan_turn(rt, alloc, gate, shared, worker, share) {
+        match scan_turn::<(), J, T, K, Passing<G>, R>(
+            rt,
+            alloc,
+            &mut passing,
+            shared,
+            worker,
+            share,
+        ) {
             Ok(Turn::Worked) => pause.begin_anew(),
             Ok(_) => pause.wait(rt),
-            Err(error) => {
-                end.tell(rt, Ended::from(error));
+            Err(halt) => {
+                end.tell(rt, Ended::from(halt));
                 return;
             }
         }
@@ -115,14 +127,14 @@ pub fn serve_clock<'a, C: Clock, J: Basis + Links, T: Seated, K: Tallies<T>, R: 
         if let Some(ended) = end.cut_short() {
             return ended;
         }
-        match tick_once(rt, shared, timed) {
+        match tick_once::<(), C, J, T, K, Unobserved, R>(rt, &mut Unobserved, shared, timed) {
             Ok(true) => Pause::new().wait(rt),
             Ok(false) => {
                 end.tell(rt, Ended::Asked);
                 return Ended::Asked;
             }
-            Err(error) => {
-                let ended = Ended::from(error);
+            Err(halt) => {
+                let ended = Ended::from(halt);
                 end.tell(rt, ended);
                 return ended;
             }

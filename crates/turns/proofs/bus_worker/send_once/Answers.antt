@@ -1,4 +1,7 @@
-use Rattle.std.proofs.Common.{◌∙◌, subst, sym, true≢false}
+use Rattle.std.proofs.Common.{◌∙◌, ap, subst, sym, true≢false}
+use Rattle.gearcmd.specs.FrameLists.{FrameList}
+use Rattle.transact.specs.Attempts.{ReportParts}
+use Rattle.driving.proofs.Sent.{copied}
 use Rattle.receipts.specs.Receipts.{ShareParts, whole}
 use Rattle.plantlock.specs.Answers.{ShowsTransaction}
 use Rattle.turns.proofs.Rounds.{shows_handed}
@@ -8,9 +11,12 @@ pub unreachable-requires-in_default-done : goal.unreachable-requires-in_default-
 unreachable-requires-in_default-done g c =
     let handed = c.in_ok-handed.handed in
     let report = c.in-Ok.report in
-    let shows = shows_handed handed.number c.args.bus handed.origin handed.transaction report.transaction
-    c.args.served.now.share c.hand.new.share c.in_ok-handed.ensures.noted c.in-Ok.ensures.report.0 in
+    let noted = c.unwrap-noted.result in
+    let same = copied c.clone.result noted report c.unwrap-noted.ensures c.clone.ensures.cases in
+    let shows = shows_handed handed.number c.args.bus handed.origin handed.transaction noted.transaction
+    c.args.served.now.share c.hand.new.share c.in_ok-handed.ensures.noted
+    (ap (λ (r : ReportParts). r.transaction) same ∙ c.in-Ok.ensures.report.0) in
     true≢false (sym (c.in_default-done.ensures.open
-    (subst (λ (s : ShareParts). ShowsTransaction (whole s) handed.number report.transaction)
+    (subst (λ (s : ShareParts). ShowsTransaction (whole s) handed.number noted.transaction)
     (sym c.tries-tries.ensures.same) shows)
-    (c.in-Ok.ensures.tries ∙ c.tries-tries.ensures.value)))
+    (ap (λ (r : ReportParts). r.tries) same ∙ c.in-Ok.ensures.tries ∙ c.tries-tries.ensures.value)))

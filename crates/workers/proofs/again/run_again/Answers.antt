@@ -1,61 +1,88 @@
-use Rattle.std.proofs.Common.{◌≡◌, ◌+◌, ◌≤◌, ◌∙◌, arith, ap, length, map, subst, sym}
+use Rattle.std.proofs.Common.{◌≡◌, ◌+◌, ◌≤◌, ◌∙◌, List, arith, rules, ap, length, map, subst, sym}
 use Rattle.plant.specs.Shown.{Shown, kept}
-use Rattle.workers.proofs.GoneOn.{closed_again, ended_since, gone_on, in_step_from, quiet_since, room_before, still_open_none}
+use Rattle.driving.specs.Open.{HasNothingOpen}
+use Rattle.workers.specs.declared.closed.ClosedParts.{ClosedParts}
+use Rattle.workers.specs.Closings.{IsLeft}
+use Rattle.workers.specs.Runs.{HasGoneOn}
+use Rattle.workers.specs.Starts.{IsNextLimit}
+use Rattle.workers.proofs.GoneOn.{in_step_from, limit_back, room_before, still_open_none}
+use Rattle.workers.proofs.Whole.{has_gone_on, left_with}
 use Rattle.workers.proofs.again.run_again.Goals as goal
+
+pub run_named-run-requires-clause-idle : goal.run_named-run-requires-clause-idle
+run_named-run-requires-clause-idle g c κs within =
+    still_open_none c.into_plant-plant.result c.set_limit.new.self c.args.limit c.set_limit.ensures
+    (subst HasNothingOpen (sym c.into_plant-plant.ensures.plant) c.into_plant-plant.ensures.idle)
 
 pub run_named-run-requires-clause-links : goal.run_named-run-requires-clause-links
 run_named-run-requires-clause-links g c κs within =
-    let left = c.requires.left in
-    let same = ap (λ (p : Shown). p.history) c.set_limit.ensures ∙ ap (λ (p : Shown). p.history) c.into_plant-plant.ensures.plant in
-    in_step_from g.B.Bus.log g.C.Clock.log c.args.closed left.p left.logs left.first left.closed c.set_limit.new.self same
+    let old = c.into_parts-plant.result in
+    let left = subst (IsLeft g.B.Bus.log g.C.Clock.log) (sym c.into_parts-plant.ensures.value)
+    c.into_parts-plant.ensures.left in
+    let same =
+    ap (λ (p : Shown). p.history) c.set_limit.ensures ∙ ap (λ (p : Shown). p.history) c.into_plant-plant.ensures.plant in
+    in_step_from g.B.Bus.log g.C.Clock.log old left.p left.logs left.first left.closed c.set_limit.new.self same
 
-pub returns-in-Ok-run-clause-gone_on : goal.returns-in-Ok-run-clause-gone_on
-returns-in-Ok-run-clause-gone_on g c =
-    let left = c.requires.left in
-    let same = ap (λ (p : Shown). p.history) c.set_limit.ensures ∙ ap (λ (p : Shown). p.history) c.into_plant-plant.ensures.plant in
-    let counted = c.in-Ok-run.ensures.count in
-    let long = c.args.closed.buses.ok.0 in
-    gone_on g.B.Bus.log g.C.Clock.log c.args.closed left.p left.logs left.first left.closed c.set_limit.new.self
-    c.in-Ok-run.left same c.in-Ok-run.ensures.closed c.in-Ok-run.ensures.front (omega (arith, counted, long))
+pub returns-in-Ok-run : goal.returns-in-Ok-run
+returns-in-Ok-run g c =
+    let old = c.into_parts-plant.result in
+    let same = c.into_parts-plant.ensures.value in
+    let left = subst (IsLeft g.B.Bus.log g.C.Clock.log) (sym same) c.into_parts-plant.ensures.left in
+    let is =
+    c.set_limit.ensures
+    ∙ ap (λ (p : Shown). record p { limit = c.args.limit }) c.into_plant-plant.ensures.plant in
+    let run = c.in-Ok-run.ensures in
+    let counted = run.count in
+    let long = old.buses.ok.0 in
+    let next : IsNextLimit c.args.closed.plant.limit c.args.limit = search rules in
+    record {
+      gone_on =
+          subst (λ (was : ClosedParts g.row.B.Denot g.row.C.Denot). HasGoneOn c.args.limit g.B.Bus.log g.C.Clock.log was
+          c.in-Ok-run.left) same
+          (has_gone_on g.B.Bus.log g.C.Clock.log c.set_limit.new.self c.in-Ok-run.left run.full run.limit c.args.limit old
+          left is run.closed run.ended run.front (omega (arith, counted, long))
+          (subst (λ (was : ClosedParts g.row.B.Denot g.row.C.Denot). IsNextLimit was.plant.limit c.args.limit) (sym same)
+          next));
+    }
 
-pub returns-in-Ok-run-clause-closed : goal.returns-in-Ok-run-clause-closed
-returns-in-Ok-run-clause-closed g c =
-    λ p logs first closed.
-    let same = ap (λ (q : Shown). q.history) c.set_limit.ensures ∙ ap (λ (q : Shown). q.history) c.into_plant-plant.ensures.plant in
-    let plant = ap (λ (q : Shown). q.plant) c.set_limit.ensures ∙ ap (λ (q : Shown). q.plant) c.into_plant-plant.ensures.plant in
-    let counted = c.in-Ok-run.ensures.count in
-    let long = c.args.closed.buses.ok.0 in
-    closed_again g.B.Bus.log g.C.Clock.log c.args.closed p logs first closed c.set_limit.new.self c.in-Ok-run.left same
-    c.in-Ok-run.ensures.closed c.in-Ok-run.ensures.front (omega (arith, counted, long)) plant
-
-pub returns-in-Ok-run-clause-left : goal.returns-in-Ok-run-clause-left
-returns-in-Ok-run-clause-left g c =
-    λ asked.
-    quiet_since c.in-Ok-run.left.plant c.set_limit.new.self.history (map g.B.Bus.log c.args.closed.buses.items)
-    (map g.B.Bus.log c.in-Ok-run.left.buses.items) (c.in-Ok-run.ensures.left asked)
-
-pub returns-in-Ok-run-clause-asked : goal.returns-in-Ok-run-clause-asked
-returns-in-Ok-run-clause-asked g c =
-    λ asked.
-    ended_since c.set_limit.new.self.history (g.C.Clock.log c.args.closed.clock) (g.C.Clock.log c.in-Ok-run.left.clock)
-    (c.in-Ok-run.ensures.asked asked)
-
-pub as_before-requires-clause-idle : goal.as_before-requires-clause-idle
-as_before-requires-clause-idle g c =
-    still_open_none c.args.closed.plant c.in-Err.refused.plant c.args.limit
+pub as_before-parts-requires-clause-idle : goal.as_before-parts-requires-clause-idle
+as_before-parts-requires-clause-idle g c =
+    still_open_none c.into_parts-plant.result.plant c.in-Err.refused.plant c.args.limit
     (c.in-Err.ensures.err.0
     ∙ (c.set_limit.ensures ∙ ap (λ (p : Shown). record p { limit = c.args.limit }) c.into_plant-plant.ensures.plant))
     c.into_plant-plant.ensures.idle
 
-pub as_before-requires-clause-room : goal.as_before-requires-clause-room
-as_before-requires-clause-room g c =
+pub as_before-parts-requires-clause-room : goal.as_before-parts-requires-clause-room
+as_before-parts-requires-clause-room g c =
     let before = c.into_plant-plant.result in
     let after = c.in-Err.refused.plant in
+    let plant : before ≡ c.args.closed.plant =
+    c.into_plant-plant.ensures.plant
+    ∙ ap (λ (was : ClosedParts g.row.B.Denot g.row.C.Denot). was.plant) c.into_parts-plant.ensures.value in
     let within =
-    subst (λ (p : Shown). length p.history + kept p ≤ p.limit) (c.as_plant-2.ensures.plant ∙ sym c.into_plant-plant.ensures.plant)
+    subst (λ (p : Shown). length p.history + kept p ≤ p.limit) (c.plant-2.ensures.value ∙ sym plant)
     c.len-events.ensures.within in
     let same : c.limit-before.result ≡ before.limit =
-    c.limit-before.ensures.value
-    ∙ ap (λ (p : Shown). p.limit) (c.as_plant.ensures.plant ∙ sym c.into_plant-plant.ensures.plant) in
+    c.limit-before.ensures.value ∙ ap (λ (p : Shown). p.limit) (c.plant.ensures.value ∙ sym plant) in
     subst (λ n. length after.history + kept after ≤ n) (sym same)
     (room_before before after c.args.limit (c.in-Err.ensures.err.0 ∙ c.set_limit.ensures) within)
+
+pub invariant_of-closed : goal.invariant_of-closed
+invariant_of-closed g c =
+    let old = c.into_parts-plant.result in
+    let before = c.into_plant-plant.result in
+    let left = subst (IsLeft g.B.Bus.log g.C.Clock.log) (sym c.into_parts-plant.ensures.value)
+    c.into_parts-plant.ensures.left in
+    let plant : before ≡ c.args.closed.plant =
+    c.into_plant-plant.ensures.plant
+    ∙ ap (λ (was : ClosedParts g.row.B.Denot g.row.C.Denot). was.plant) c.into_parts-plant.ensures.value in
+    let same : c.limit-before.result ≡ before.limit =
+    c.limit-before.ensures.value ∙ ap (λ (p : Shown). p.limit) (c.plant.ensures.value ∙ sym plant) in
+    let links = c.as_before-parts.ensures.links in
+    left_with g.B.Bus.log g.B.Bus.log g.C.Clock.log old c.as_before-parts.result
+    (limit_back before c.in-Err.refused.plant c.as_before-parts.result.plant c.args.limit c.limit-before.result
+    (c.in-Err.ensures.err.0 ∙ c.set_limit.ensures) same c.as_before-parts.ensures.plant
+    ∙ c.into_plant-plant.ensures.plant)
+    (links.1 ∙ c.in-Err.ensures.err.2)
+    (ap (λ (buses : List g.row.B.Denot). map g.B.Bus.log buses) (search rules))
+    left

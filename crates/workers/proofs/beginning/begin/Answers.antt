@@ -35,7 +35,7 @@ returns-clause-begun g c =
         workers = fresh_workers start c.in-Ok-new.made.1.workers.items c.requires.idle shows.worker fresh.workers;
         timed =
             fresh_timed start share g.J.Links.clock log (shows.clock start.history) (shows_links.given start.history)
-            c.requires.links.given c.requires.links.asks fresh.clock;
+            c.requires.links.given c.requires.links.moments c.requires.links.asks fresh.clock;
       };
       workers = fresh.workers.0;
       buses = omega (arith, served_count, lines_long, lines_count);

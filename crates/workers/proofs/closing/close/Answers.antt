@@ -2,8 +2,8 @@ use Rattle.std.proofs.Common.{◌∙◌, map, subst, sym}
 use Rattle.plantevents.specs.Legal.{AreLegal}
 use Rattle.receipts.specs.Each.{Each}
 use Rattle.receipts.specs.Receipts.{HasPart, HaveParts}
-use Rattle.turns.specs.Finishing.{IsLinked}
-use Rattle.turns.specs.Logs.{IsNoLess, log_of}
+use Rattle.driving.specs.Links.{IsLinked}
+use Rattle.driving.specs.Links.{IsNoLess, log_of}
 use Rattle.workers.proofs.Told.{all_linked, all_no_less, nothing_open, timed}
 use Rattle.workers.proofs.closing.close.Goals as goal
 
@@ -38,6 +38,7 @@ returns-clause-closed g c =
       clock =
           timed g.J.Links.clock (g.C.Clock.log c.args.team.timed.clock) c.args.team.timed.share h c.requires.team.timed
           (subst (λ s. HasPart s h) c.close-plant.ensures.clock parts.clock) (shows_links.given h);
+      moments = c.requires.team.timed.moments;
     }
 
 pub invariant_of-result : goal.invariant_of-result

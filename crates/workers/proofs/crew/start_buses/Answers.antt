@@ -1,7 +1,8 @@
 use Rattle.std.proofs.Common.{◌≡◌, ◌+◌, ◌<◌, ◌∙◌, length, arith, subst, sym}
 use Rattle.receipts.proofs.Eaching.{each_first, each_rest, each_push}
 use Rattle.workers.specs.Crews.{AreStartedBuses}
-use Rattle.turns.specs.Logs.{IsServed, log_of}
+use Rattle.driving.specs.Links.{log_of}
+use Rattle.turns.specs.Logs.{IsServed}
 use Rattle.workers.specs.Started.{IsStartedBus}
 use Rattle.workers.specs.Teams.{AreServed}
 use Rattle.workers.proofs.crew.start_buses.Goals as goal

@@ -3,7 +3,8 @@ use Rattle.plantevents.specs.declared.role.Role.TheVariants.{Bus}
 use Rattle.receipts.specs.Each.{Each}
 use Rattle.receipts.specs.Receipts.{ShareParts, IsFresh}
 use Rattle.receipts.proofs.Eaching.{each_first, each_rest, each_push, each_none}
-use Rattle.turns.specs.Logs.{IsServed, log_of}
+use Rattle.driving.specs.Links.{log_of}
+use Rattle.turns.specs.Logs.{IsServed}
 use Rattle.workers.specs.Teams.{AreServed}
 use Rattle.workers.proofs.pairing.put_together.Goals as goal
 

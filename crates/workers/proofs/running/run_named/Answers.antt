@@ -1,42 +1,49 @@
-use Rattle.std.proofs.Common.{◌≡◌, ◌≤◌, ℕ, Option, None, Some, sym, subst, ◌∙◌, length, vec_len, arith}
+use Rattle.std.proofs.Common.{arith, ◌≡◌, Option, None, Some, sym, subst, ◌∙◌}
 use Rattle.std.specs.Prelude.{IfSome}
 use Rattle.std.specs.Option.{unwrap_or}
 use Rattle.turns.specs.Logs.{HasEnded}
 use Rattle.workers.specs.declared.ended.Ended.{Ended}
 use Rattle.workers.specs.declared.ended.Ended.TheVariants.{Asked}
-use Rattle.workers.specs.Crews.{HasRooms}
+use Rattle.workers.proofs.Ends.{full_as_told, was_asked}
 use Rattle.workers.proofs.GoneOn.{front_of_front}
 use Rattle.workers.proofs.running.run_named.Goals as goal
 
--- the rooms are for as many buses and scan workers as the team has
 pub work-team-requires-clause-crew : goal.work-team-requires-clause-crew
 work-team-requires-clause-crew g c κs within =
-    let plant = g.J.Basis.start.plant in
-    let begun = c.in_ok-begun.ensures.begun in
-    let team = c.in_ok-begun.begun.team in
-    let rooms = c.in_ok-begun.begun.rooms in
-    let lines = team.buses.ok.0 in
-    let counted = begun.buses in
-    let buses : vec_len team.buses ≡ plant.plan.buses = omega (arith, lines, counted) in
-    let seats = team.workers.ok.0 in
-    let numbered = begun.workers in
-    let workers : vec_len team.workers ≡ plant.workers = omega (arith, seats, numbered) in
-    let given = c.requires.buses.0 in
-    let most = c.requires.buses.1 in
+    let begun = c.in_ok-begun.ensures.begun in let lines = c.requires.buses.0 in let few = c.requires.buses.1 in
+    let buses = begun.buses in let workers = begun.workers in
+    let buses_long = c.in_ok-begun.begun.team.buses.ok.0 in
+    let workers_long = c.in_ok-begun.begun.team.workers.ok.0 in
+    let for_buses = begun.rooms.for_buses in let for_workers = begun.rooms.for_workers in
     record {
       team = begun.team;
-      few = omega (arith, buses, given, most);
-      rooms = subst (λ (n : ℕ). HasRooms n (vec_len team.workers) rooms) (sym buses)
-          (subst (λ (n : ℕ). HasRooms plant.plan.buses n rooms) (sym workers) begun.rooms);
+      few = omega (arith, lines, few, buses, buses_long);
+      rooms = record {
+        no_bus = begun.rooms.no_bus;
+        for_buses = omega (arith, for_buses, buses, buses_long);
+        no_worker = begun.rooms.no_worker;
+        for_workers = omega (arith, for_workers, workers, workers_long);
+      };
     }
+
+pub invariant_of-result : goal.invariant_of-result
+invariant_of-result g c = record {
+  p = g.J.Basis.start.plant;
+  logs = g.J.Links.buses;
+  first = g.J.Links.clock;
+  closed =
+      c.leave-parts.ensures.closed g.J.Basis.start.plant g.J.Links.buses g.J.Links.clock c.close-closed.ensures.closed;
+  workers = c.requires.workers;
+  count =
+      let left = c.leave-parts.ensures.count in let long = c.close-closed.result.buses.ok.0 in
+      let closed = c.close-closed.ensures.count in let worked = c.work-team.ensures.same.buses in
+      let begun = c.in_ok-begun.ensures.begun.buses in
+      omega (arith, left, long, closed, worked, begun);
+}
 
 pub returns-clause-closed : goal.returns-clause-closed
 returns-clause-closed g c =
-    c.leave.ensures.closed g.J.Basis.start.plant g.J.Links.buses g.J.Links.clock c.close-closed.ensures.closed
-
-pub returns-clause-left : goal.returns-clause-left
-returns-clause-left g c =
-    c.leave.ensures.left g.J.Basis.start.plant g.J.Links.buses g.J.Links.clock c.close-closed.ensures.closed
+    c.leave-parts.ensures.closed g.J.Basis.start.plant g.J.Links.buses g.J.Links.clock c.close-closed.ensures.closed
 
 -- the clock's end was not cut short
 not_cut_short : (told : Option Ended) (ended : Ended) → IfSome told (λ other. ¬ (other ≡ Asked))
@@ -44,17 +51,24 @@ not_cut_short : (told : Option Ended) (ended : Ended) → IfSome told (λ other.
 not_cut_short None ended other is = is
 not_cut_short (Some told) ended other is = absurd (other is)
 
-pub returns-clause-asked : goal.returns-clause-asked
-returns-clause-asked g c = λ asked.
+pub returns-clause-ended : goal.returns-clause-ended
+returns-clause-ended g c = λ asked.
     let worked = c.work-team.result in
-    let told = c.close-closed.ensures.asked (c.leave.ensures.asked asked) in
-    subst (λ clock. HasEnded g.J.Links.clock (g.C.Clock.log clock))
-    (sym (c.leave.ensures.clock ∙ c.close-closed.ensures.clock))
-    (c.work-team.ensures.asked
-    (not_cut_short c.cut_short.result worked.ended c.cut_short.ensures (sym c.unwrap_or-ended.ensures ∙ told)))
+    let told = was_asked _ _ (sym c.close-closed.ensures.ended ∙ c.leave-parts.ensures.asked asked) in
+    record {
+      clock =
+          subst (λ clock. HasEnded g.J.Links.clock (g.C.Clock.log clock))
+          (sym (c.leave-parts.ensures.clock ∙ c.close-closed.ensures.clock))
+          (c.work-team.ensures.asked
+          (not_cut_short c.cut_short.result worked.ended c.cut_short.ensures (sym c.unwrap_or-ended.ensures ∙ told)));
+      quiet =
+          c.leave-parts.ensures.left g.J.Basis.start.plant g.J.Links.buses g.J.Links.clock
+          c.close-closed.ensures.closed asked;
+    }
 
 pub returns-clause-full : goal.returns-clause-full
-returns-clause-full g c = c.leave.ensures.full c.close-closed.ensures.full
+returns-clause-full g c =
+    c.leave-parts.ensures.full (λ limit. full_as_told _ _ (sym c.close-closed.ensures.ended ∙ limit))
 
 pub returns-clause-front : goal.returns-clause-front
-returns-clause-front g c = front_of_front c.close-closed.ensures.front c.leave.ensures.front
+returns-clause-front g c = front_of_front c.close-closed.ensures.front c.leave-parts.ensures.front

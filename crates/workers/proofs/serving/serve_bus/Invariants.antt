@@ -1,4 +1,5 @@
-use Rattle.turns.specs.Logs.{IsServed, log_of}
+use Rattle.driving.specs.Links.{log_of}
+use Rattle.turns.specs.Logs.{IsServed}
 use Rattle.workers.proofs.serving.serve_bus.Given as goal
 
 abbrev pub invariant-loop : goal.invariant-loop
