@@ -21,9 +21,8 @@ use Rattle.ilcompile.specs.Meant.{IsMeant}
 use Rattle.ilverify.specs.Verdicts.{Accepted}
 use Rattle.ilmachine.specs.Scans.{IsScan}
 use Rattle.ilcompile.specs.Loaded.{AreCodes, IsCodeOf, Loaded}
-use Rattle.plantload.specs.Loading.{IsPlanOfText, IsSetup}
+use Rattle.plantload.specs.Loading.{AreMeant, IsPlanOfText, IsSetup}
 use Rattle.ilcompile.proofs.CodeLemmas.{all_last, code_at}
-use Rattle.plantload.proofs.MeantCodes.{codes_meant}
 use Rattle.answers.specs.Taking.{Taking}
 use Rattle.answers.specs.Answered.{IsFirstCalled, IsStepped, ScansMean}
 use Rattle.answers.specs.Stepping.{ScansTo, AreScansOf, HasTask, lasting_at_first, run_of}
@@ -133,7 +132,8 @@ code_is : (o : Option PlannedTask) (t : PlannedTask) (plan : Planned) (code : Ac
     → IfSome o (λ t. IsCodeOf plan t code) → IsCodeOf plan t code
 code_is o t plan code is h = rw is at h
 
-module _ (wiring : Wiring) (bytes : List ℕ) (setup : Loaded) (is : IsSetup wiring bytes setup) (number scans every : ℕ)
+module _ (wiring : Wiring) (bytes : List ℕ) (setup : Loaded) (is : IsSetup wiring bytes setup)
+    (all_meant : AreMeant is.plan.tree wiring.buses setup.codes) (number scans every : ℕ)
     (each : List Taking) (to : Lasting)
     (typed : IfSome (slice_get setup.plan.tasks number) (λ t. AreOf (first_values t) (types_of t)))
     (r : AreScansOf setup number scans every each to) where
@@ -161,7 +161,7 @@ module _ (wiring : Wiring) (bytes : List ℕ) (setup : Loaded) (is : IsSetup wir
   lasting = all_last setup.plan r.task r.code coded
 
   meant : IsMeant (source_scan tree wiring.buses task) r.code.code
-  meant = codes_meant wiring bytes setup is number task r.code of_tree.is r.coded
+  meant = all_meant number task r.code of_tree.is r.coded
 
   done : IsLeft tree wiring.buses task r.code every scans (lasting_at_first r.task) each to
   done =

@@ -21,7 +21,7 @@ use crate::stop::{AskedName, Stop};
 use ilcompile::Setup;
 use ilplan::Plan;
 use invocations::Inquiry;
-use plantload::{load, plan_of, setup_of};
+use plantload::{load, plan_of, runs_are_as_meant, setup_of};
 use std::alloc::{AllocError, Global};
 use wordlines::Binding;
 
@@ -145,6 +145,7 @@ pub fn step(
         → IsStep binding.now text.now task.now scans every b → a ≡ b }
 {
     let (setup, number) = find_task(alloc, binding, text, task)?;
+    runs_are_as_meant();
     let made = run(alloc, &setup, number, scans, every)?;
     Ok(Stepped::new(setup, number, made))
 }

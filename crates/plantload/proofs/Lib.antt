@@ -1,3 +1,4 @@
 pub mod CodeLemmas
-pub mod MeantCodes
+mod MeantCodes
+mod MeantScans
 pub mod OneAnswer

@@ -1,4 +1,5 @@
 pub mod Loading
+pub mod MeantScans
 pub mod Printed
 pub mod PrintedFaults
 pub mod RefusedTasks

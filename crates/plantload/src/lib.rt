@@ -7,13 +7,18 @@
 //! What a text's setup is, and which fault stands against it, is `IsLoaded` (specs/Loading.antt),
 //! the definition to read first: a text has at most one such answer.
 //!
+//! Two laws say what a setup does, by its source program: [`runs_are_as_meant`] of the runs of its
+//! codes, and [`scans_are_as_meant`] of the scans of every plant of it.
+//!
 //! ```text
 //! let setup = load(alloc, text, &binding)?;
 //! ```
 #![tactic(auto)]
 
 mod fault;
+mod laws;
 mod loading;
 
 pub use fault::{LoadFault, RefusedTask};
+pub use laws::{runs_are_as_meant, scans_are_as_meant};
 pub use loading::{load, plan_of, setup_of};

@@ -14,17 +14,20 @@ pub returns-clause-one : goal.returns-clause-one
 returns-clause-one c =
     one_step c.args.binding.now c.args.text.now c.args.task.now c.args.scans c.args.every
 
+-- the runs of the text's codes are the scans of its source program
 pub new-requires : goal.new-requires
 new-requires c =
+    let wiring = c.args.binding.now in let bytes = c.args.text.now in let setup = c.in_ok-setup.setup in
     let found = c.in_ok-setup.ensures.found in
     let made = c.in_ok-made.ensures in
-    has_task c.args.binding.now c.args.text.now c.in_ok-setup.setup found.loaded c.in_ok-setup.number c.args.scans
-    c.args.every _ _ made.typed made.made
+    has_task wiring bytes setup found.loaded (c.runs_are_as_meant.ensures wiring bytes setup found.loaded)
+    c.in_ok-setup.number c.args.scans c.args.every _ _ made.typed made.made
 
 pub returns-clause-made : goal.returns-clause-made
 returns-clause-made c =
+    let wiring = c.args.binding.now in let bytes = c.args.text.now in let setup = c.in_ok-setup.setup in
     let found = c.in_ok-setup.ensures.found in
     let made = c.in_ok-made.ensures in
     rw c.new.ensures
-    (stepped c.args.binding.now c.args.text.now c.in_ok-setup.setup found.loaded c.in_ok-setup.number c.args.scans
-    c.args.every _ _ made.typed made.made c.args.task.now found.called)
+    (stepped wiring bytes setup found.loaded (c.runs_are_as_meant.ensures wiring bytes setup found.loaded)
+    c.in_ok-setup.number c.args.scans c.args.every _ _ made.typed made.made c.args.task.now found.called)

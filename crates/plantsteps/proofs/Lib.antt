@@ -1,0 +1,6 @@
+mod Accepting
+pub mod Desks
+mod Empty
+mod Histories
+mod Runs
+mod Serving

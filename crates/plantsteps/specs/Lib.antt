@@ -1,0 +1,3 @@
+pub mod DeskSteps
+pub mod Runs
+pub mod Texts
