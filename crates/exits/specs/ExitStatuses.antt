@@ -1,10 +1,10 @@
 -- How the program ends, and the exit status of each end (profile).
-use Rattle.std.specs.Prelude.{ℕ, Bool, false}
+use Rattle.std.specs.Prelude.{ℕ, Bool, false, if◌then◌else◌}
 use Rattle.clap.specs.declared.error.ErrorKind.{ErrorKind}
 use Rattle.clap.specs.declared.error.ErrorKind.TheVariants as kinds
 use Rattle.wordlines.specs.declared.fault.LineFault.TheVariants as scenario_faults
-use Rattle.plantplay.specs.declared.playing.Ending.{Ending}
-use Rattle.plantplay.specs.declared.playing.Ending.TheVariants as endings
+use Rattle.plantplay.specs.declared.ending.Ending.{Ending}
+use Rattle.plantplay.specs.declared.ending.Ending.TheVariants as endings
 use Rattle.workers.specs.declared.ended.Ended.{Ended}
 use Rattle.workers.specs.declared.ended.Ended.TheVariants.{Asked}
 use Rattle.answers.specs.declared.code_answer.CodeAnswer.{CodeAnswer}
@@ -30,11 +30,12 @@ status_of_words kinds.DisplayVersion = Accepted
 status_of_words kinds.OutOfMemory = Failed
 status_of_words _ = Misused
 
--- of a play: no bus went down; or one did, or the allocator was out of memory
-abbrev pub status_of_ending : Ending → ExitStatus
-status_of_ending endings.Up = Accepted
-status_of_ending endings.Down = Failed
-status_of_ending endings.NoMemory = Failed
+-- of a play: all that the scenario says happened, or all up to a full history, and no bus went down; or a bus did, or
+-- the allocator was out of memory
+abbrev pub status_of_play : Ending → Bool → ExitStatus
+status_of_play endings.NoMemory is_down = Failed
+status_of_play endings.Whole is_down = if is_down then Failed else Accepted
+status_of_play endings.Limit is_down = if is_down then Failed else Accepted
 
 -- of a run: it came to the scenario's end, and no bus went down; or anything else
 abbrev pub status_of_run : Ended → Bool → ExitStatus

@@ -21,7 +21,7 @@ pub enum ExitStatus {
 impl ExitStatus {
     ghost use Rattle.std.specs.Prelude.{◌≡◌};
     ghost use Rattle.exits.specs.ExitStatuses.{number_of_status, status_of_code_answer};
-    ghost use Rattle.exits.specs.ExitStatuses.{status_of_ending, status_of_run, status_of_stop};
+    ghost use Rattle.exits.specs.ExitStatuses.{status_of_play, status_of_run, status_of_stop};
     ghost use Rattle.exits.specs.ExitStatuses.{status_of_words};
 
     /// The number that the program exits with.
@@ -47,13 +47,13 @@ impl ExitStatus {
         }
     }
 
-    /// Of how a play ended.
-    pub fn of_ending(ending: Ending) -> ExitStatus
-        ensures { result ≡ status_of_ending ending }
+    /// Of how a play ended, and whether a bus went down.
+    pub fn of_play(ending: Ending, is_down: bool) -> ExitStatus
+        ensures { result ≡ status_of_play ending is_down }
     {
-        match ending {
-            Ending::Up => ExitStatus::Accepted,
-            Ending::Down | Ending::NoMemory => ExitStatus::Failed,
+        match (ending, is_down) {
+            (Ending::Whole | Ending::Limit, false) => ExitStatus::Accepted,
+            _ => ExitStatus::Failed,
         }
     }
 

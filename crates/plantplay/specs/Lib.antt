@@ -1,7 +1,4 @@
-pub mod DeskSteps
+pub mod ByScenario
 pub mod Installations
 pub mod PlaySteps
-pub mod Playing
-pub mod Runs
-pub mod Sending
-pub mod Texts
+pub mod Stage

@@ -1,4 +1,4 @@
-//! What is left at the end of a play.
+//! How a play ends, and what is left then.
 
 ghost use Rattle.std.specs.Prelude.{◌<◌};
 
@@ -6,6 +6,17 @@ use busqueue::Class;
 use plant::Plant;
 use std::io;
 use std::io::Write;
+
+/// How a play ended.
+#[derive(Clone, Copy, PartialEq, Eq, Debug)]
+pub enum Ending {
+    /// All that the scenario says happened, and nothing is left to do.
+    Whole,
+    /// The history was full before.
+    Limit,
+    /// The allocator was out of memory before.
+    NoMemory,
+}
 
 /// The classes of requests, by their numbers.
 const CLASSES: [Class; 4] = [
@@ -15,14 +26,10 @@ const CLASSES: [Class; 4] = [
     Class::Query,
 ];
 
-/// Writes the values of all global variables, then how many requests were dropped at each bus, and
-/// how many events were given up for each task, where there were any.
+/// Writes the values of all global variables, then what was given up.
 pub(crate) fn write_end<W: Write>(out: &mut W, plant: &Plant) -> io::Result<()> {
     write_globals(out, plant)?;
-    for bus in 0..plant.setup().plan().buses() {
-        write_dropped(out, plant, bus)?;
-    }
-    write_lost(out, plant)
+    write_counts(out, plant)
 }
 
 /// Writes a line for each global variable, with its value.
@@ -38,6 +45,19 @@ pub fn write_globals<W: Write>(out: &mut W, plant: &Plant) -> io::Result<()> {
         writeln!(out, "{name} = {value}")?;
     }
     Ok(())
+}
+
+/// Writes how many requests were dropped at each bus, and how many events were given up for each
+/// task, where there were any.
+///
+/// # Errors
+///
+/// The writer's.
+pub fn write_counts<W: Write>(out: &mut W, plant: &Plant) -> io::Result<()> {
+    for bus in 0..plant.setup().plan().buses() {
+        write_dropped(out, plant, bus)?;
+    }
+    write_lost(out, plant)
 }
 
 /// A line for each class of which requests were dropped at a bus, with their number.

@@ -1,18 +1,21 @@
-//! What is so of every plant of a text.
+//! What is so of every play of a scenario.
 
-ghost use Rattle.std.specs.Prelude.{◌≡◌, ℕ, List};
-ghost use Rattle.wordlines.specs.Wirings.{Wiring};
+ghost use Rattle.std.specs.Prelude.{ℕ, List};
+ghost use Rattle.wordlines.specs.declared.statements.Statement.{Statement};
+ghost use Rattle.wordlines.specs.Happenings.{happenings};
+ghost use Rattle.simbus.specs.Simulated.{Simulated};
 ghost use Rattle.ilcompile.specs.Loaded.{Loaded};
-ghost use Rattle.plantevents.specs.declared.event.Event.{Event};
-ghost use Rattle.plantevents.specs.Plants.{Plant};
-ghost use Rattle.plantevents.specs.Legal.{AreLegal};
-ghost use Rattle.plantload.specs.Loading.{IsSetup};
-ghost use Rattle.plantplay.specs.Texts.{AreAsMeant};
+ghost use Rattle.plantplay.specs.declared.ending.Ending.{Ending as Ended};
+ghost use Rattle.plantplay.specs.declared.installation.Installation.{Installation as Installed};
+ghost use Rattle.plantplay.specs.ByScenario.{IsByScenario};
+ghost use Rattle.plantplay.specs.Installations.{IsInstallation, stage_of};
+ghost use Rattle.plantplay.specs.Stage.{IsPlayedTo, Stage};
 
-/// In a legal history of a plant that was opened with the plan of a text, each scan came to what
-/// the source program means of the snapshot that it took.
-pub fn scans_are_as_meant()
-    ensures { (wiring : Wiring) (bytes : List ℕ) (setup : Loaded) (loaded : IsSetup wiring bytes setup)
-        (p : Plant) (h : List Event) → p.plan ≡ setup.plan → AreLegal p h
-        → AreAsMeant loaded.plan.tree wiring.buses h }
+/// What a play of a scenario leaves is by the scenario's words, where it began with an installation
+/// to which nothing had happened.
+pub fn plays_are_by_scenario()
+    ensures { (setup : Loaded) (scenario : List Statement) (limit : ℕ) (start : Installed Simulated)
+        (left : Stage) (ending : Ended) → IsInstallation setup scenario limit start
+        → IsPlayedTo ending (happenings scenario) (stage_of start) left
+        → IsByScenario setup scenario ending left }
 {}

@@ -1,14 +1,103 @@
-//! The lines that are written of transactions.
+//! The lines that are written of what happens.
 
-use std::fmt;
-use transact::{Outcome, Transaction};
+use daliframe::Frame24;
+use driving::Observer;
+use ilplan::Plan;
+use plantevents::Origin;
+use std::alloc::{AllocError, Global};
+use std::io::Write;
+use std::{fmt, io};
+use transact::{Outcome, Report, Transaction};
+
+/// An observer that writes a line for each event.
+#[derive(Drop)]
+pub(crate) struct Lines<'a, W> {
+    out: &'a mut W,
+    /// The names of the tasks, by their numbers.
+    tasks: Vec<String>,
+}
+
+impl<'a, W: Write> Lines<'a, W> {
+    /// Lines of a plant of this plan.
+    ///
+    /// # Errors
+    ///
+    /// The allocator is out of memory.
+    pub(crate) fn new(alloc: Global, out: &'a mut W, plan: &Plan) -> Result<Self, AllocError> {
+        let tasks = task_names(alloc, plan)?;
+        Ok(Lines { out, tasks })
+    }
+}
+
+/// The names of the tasks, by their numbers.
+fn task_names(alloc: Global, plan: &Plan) -> Result<Vec<String>, AllocError> {
+    let mut names = Vec::new(alloc);
+    for task in 0..plan.tasks() {
+        names.push(String::from_str(alloc, plan.task_name(task))?)?;
+    }
+    Ok(names)
+}
+
+/// The name of a task.
+fn name_of(tasks: &[String], task: usize) -> &str {
+    match tasks.get(task) {
+        Some(name) => name.as_str(),
+        None => "",
+    }
+}
+
+impl<B, W: Write> Observer<B> for Lines<'_, W> {
+    fn ticked(&mut self, _place: u64, moment: u64) -> io::Result<()> {
+        writeln!(self.out, "tick {moment}")
+    }
+
+    fn heard(&mut self, _place: u64, bus: u8, frame: Frame24) -> io::Result<()> {
+        writeln!(self.out, "heard {bus} {frame}")
+    }
+
+    fn took(&mut self, _place: u64, _worker: usize, task: usize) -> io::Result<()> {
+        let name = name_of(&self.tasks, task);
+        writeln!(self.out, "take {name}")
+    }
+
+    fn committed(
+        &mut self,
+        _place: u64,
+        _worker: usize,
+        task: usize,
+        steps: u32,
+    ) -> io::Result<()> {
+        let name = name_of(&self.tasks, task);
+        writeln!(self.out, "commit {name} steps {steps}")
+    }
+
+    fn handed(
+        &mut self,
+        _place: u64,
+        bus: u8,
+        _origin: Origin,
+        transaction: &Transaction,
+    ) -> io::Result<()> {
+        let handed = TransactionLine { bus, transaction };
+        writeln!(self.out, "hand {handed}")
+    }
+
+    fn reported(&mut self, _place: u64, bus: u8, report: &Report, _line: &B) -> io::Result<()> {
+        let outcome = report.outcome();
+        writeln!(self.out, "done {}", OutcomeLine { bus, outcome })
+    }
+
+    fn went_down(&mut self, _place: u64, bus: u8) -> io::Result<()> {
+        writeln!(self.out, "down {bus}")
+    }
+}
 
 /// A transaction that was handed out: its bus, its class, and its frames in upper hexadecimal
 /// digits, with one blank between.
 #[derive(Clone, Copy)]
-pub(crate) struct TransactionLine<'a> {
-    pub bus: u8,
-    pub transaction: &'a Transaction,
+struct TransactionLine<'a> {
+    bus: u8,
+    transaction: &'a Transaction,
 }
 
 impl fmt::Display for TransactionLine<'_> {
@@ -23,9 +112,9 @@ impl fmt::Display for TransactionLine<'_> {
 
 /// What became of a transaction: its bus, and how it ended.
 #[derive(Clone, Copy)]
-pub(crate) struct OutcomeLine {
-    pub bus: u8,
-    pub outcome: Outcome,
+struct OutcomeLine {
+    bus: u8,
+    outcome: Outcome,
 }
 
 impl fmt::Display for OutcomeLine {

@@ -2,13 +2,11 @@
 
 ghost use Rattle.std.specs.Prelude.{◌≡◌, ◌≤◌, IfErr, IfOk};
 ghost use Rattle.limits.specs.Limits.{most_buses};
-ghost use Rattle.plantplay.specs.Installations.{IsInstallation, IsStartFault};
-ghost use Rattle.plantplay.specs.Installations.{bus_of, connection_of, connections_of, sim_log};
-ghost use Rattle.plantplay.specs.Playing.{IsAtRest, lines_of};
+ghost use Rattle.plantplay.specs.Installations.{IsInstallation, IsStartFault, bus_of, buses_of};
 
-use crate::Installation;
-use crate::connection::Connection;
+use crate::installation::Installation;
 use daliframe::BusNumber;
+use driving::IdlePlant;
 use ilcompile::Setup;
 use plant::{OpenFault, Plant};
 use simbus::{BusSetup, Scenario, SimBus};
@@ -63,44 +61,30 @@ pub fn open(
     limit: u64,
 ) -> Result<Installation<SimBus>, StartFault>
     ensures installation { IfOk result (IsInstallation setup scenario.now limit) }
-    ensures rest { IfOk result (λ made. IsAtRest made.plant
-        (lines_of sim_log made.connections.items)) }
     ensures fault { IfErr result (IsStartFault setup.plan.buses 1 limit) }
 {
-    let connections = connections_of(alloc, setup.plan().buses(), scenario)?;
+    let lines = buses_of(alloc, setup.plan().buses(), scenario)?;
     match Plant::open(alloc, setup, WORKERS, limit) {
-        Ok(plant) => Ok(Installation { plant, connections }),
+        Ok(plant) => Ok(Installation {
+            plant: IdlePlant::new(plant),
+            lines,
+        }),
         Err(fault) => Err(StartFault::Plant(fault)),
     }
 }
 
 /// The first simulated buses of a scenario, so many.
-fn connections_of(
-    alloc: Global,
-    buses: u8,
-    scenario: &Scenario,
-) -> Result<Vec<Connection<SimBus>>, AllocError>
+fn buses_of(alloc: Global, buses: u8, scenario: &Scenario) -> Result<Vec<SimBus>, AllocError>
     requires { buses ≤ most_buses }
-    ensures { IfOk result (λ made. made.items ≡ connections_of scenario.now buses) }
+    ensures { IfOk result (λ made. made.items ≡ buses_of scenario.now buses) }
 {
-    let mut connections = Vec::new(alloc);
+    let mut made = Vec::new(alloc);
     for bus in 0..buses {
         if let Some(number) = BusNumber::new(bus) {
-            connections.push(connection_of(alloc, scenario, number)?)?;
+            made.push(bus_of(alloc, scenario, number)?)?;
         }
     }
-    Ok(connections)
-}
-
-/// The simulated bus of a scenario with this number, on which nothing happened, and its number.
-fn connection_of(
-    alloc: Global,
-    scenario: &Scenario,
-    bus: BusNumber,
-) -> Result<Connection<SimBus>, AllocError>
-    ensures { IfOk result (λ made. made ≡ connection_of scenario.now bus) }
-{
-    Ok(Connection::new(bus.number(), bus_of(alloc, scenario, bus)?))
+    Ok(made)
 }
 
 /// The simulated bus of a scenario with this number, on which nothing happened.

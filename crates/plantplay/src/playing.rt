@@ -1,33 +1,24 @@
 //! Playing a scenario.
 
-ghost use Rattle.std.specs.Prelude.{◌≡◌, ◌∷◌, ◌++◌, [], IfOk, OnOk};
+ghost use Rattle.std.specs.Prelude.{◌≡◌, [], IfErr, MatchResult, OnOk, map, nat_lt};
 ghost use Rattle.wordlines.specs.Happenings.{happenings};
 ghost use Rattle.plantevents.specs.Legal.{AreLegal};
-ghost use Rattle.plantevents.specs.Histories.{given_in};
-ghost use Rattle.plantplay.specs.Playing.{IsAtRest, IsEnding, IsPlay, lines_of};
-ghost use Rattle.plantplay.specs.PlaySteps.{IsQuietOrSame, Stops, given_after, ticks_to_come};
-ghost use Rattle.plantplay.specs.Installations.{sim_log};
+ghost use Rattle.driving.specs.Driven.{CannotGoOn, IsDriven};
+ghost use Rattle.plantplay.specs.Installations.{sim_log, stage_of};
+ghost use Rattle.plantplay.specs.Stage.{Happens, HasSettled, IsPlayedAsFar, IsPlayedSomeFar};
+ghost use Rattle.plantplay.specs.Stage.{IsPlayedTo, arriving};
+ghost use Rattle.plantplay.specs.PlaySteps.{IsHalted, IsHaltedAt};
 
-use crate::Installation;
-use crate::ending::write_end;
-use crate::halt::Halt;
+use crate::ending::{Ending, write_end};
+use crate::installation::Installation;
+use crate::lines::Lines;
 use daliframe::BusNumber;
+use driving::{Halt, Observer};
 use simbus::{Scenario, SimBus};
 use std::alloc::Global;
 use std::io;
 use std::io::Write;
 use wordlines::Happening;
-
-/// How a play ended.
-#[derive(Clone, Copy, PartialEq, Eq)]
-pub enum Ending {
-    /// No bus went down.
-    Up,
-    /// A bus went down.
-    Down,
-    /// The allocator was out of memory.
-    NoMemory,
-}
 
 /// Plays a scenario: its ticks and events in order, each with what follows from it, and writes a
 /// line for each event of the history, then `limit` where the history was full before the
@@ -43,55 +34,98 @@ pub fn play<W: Write>(
     installation: &mut Installation<SimBus>,
     scenario: &Scenario,
 ) -> io::Result<Ending>
-    ensures play { IsPlay installation.old.plant
-        (lines_of sim_log installation.old.connections.items) installation.new.plant
-        (lines_of sim_log installation.new.connections.items) }
+    ensures played { MatchResult result
+        (λ ending. IsPlayedTo ending (happenings scenario.now) (stage_of installation.old)
+        (stage_of installation.new))
+        (λ error. IsPlayedSomeFar (happenings scenario.now) (stage_of installation.old)
+        (stage_of installation.new)) }
     ensures legal { AreLegal installation.new.plant.plant installation.new.plant.history }
-    ensures ending { IfOk result (IsEnding scenario.now installation.old.plant
-        (lines_of sim_log installation.old.connections.items) installation.new.plant
-        (lines_of sim_log installation.new.connections.items)) }
 {
-    let played = installation.follow(alloc, out, scenario);
-    let _legal = installation.plant.len();
-    match played {
-        Ok(()) => {}
-        Err(halt) => match halt {
-            Halt::Limit => writeln!(out, "limit")?,
-            Halt::Memory => {
-                writeln!(out, "no memory")?;
-                return Ok(Ending::NoMemory);
-            }
-            Halt::Unwritten(error) => return Err(error),
-        },
+    let played = play_lines(alloc, out, installation, scenario);
+    let _legal = installation.plant().len();
+    let ending = played?;
+    write_ending(out, ending, installation)?;
+    Ok(ending)
+}
+
+/// Plays a scenario, and writes a line for each event of the history.
+fn play_lines<W: Write>(
+    alloc: Global,
+    out: &mut W,
+    installation: &mut Installation<SimBus>,
+    scenario: &Scenario,
+) -> io::Result<Ending>
+    ensures { MatchResult result
+        (λ ending. IsPlayedTo ending (happenings scenario.now) (stage_of installation.old)
+        (stage_of installation.new))
+        (λ error. IsPlayedSomeFar (happenings scenario.now) (stage_of installation.old)
+        (stage_of installation.new)) }
+{
+    match Lines::new(alloc, out, installation.plant().setup().plan()) {
+        Ok(mut lines) => play_on(alloc, installation, scenario, &mut lines),
+        Err(_) => Ok(Ending::NoMemory),
     }
-    write_end(out, &installation.plant)?;
-    if installation.has_down() {
-        Ok(Ending::Down)
-    } else {
-        Ok(Ending::Up)
+}
+
+/// Writes how a play ended, and what is left then.
+fn write_ending<W: Write>(
+    out: &mut W,
+    ending: Ending,
+    installation: &Installation<SimBus>,
+) -> io::Result<()> {
+    match ending {
+        Ending::Whole => {}
+        Ending::Limit => writeln!(out, "limit")?,
+        Ending::NoMemory => return writeln!(out, "no memory"),
+    }
+    write_end(out, installation.plant())
+}
+
+/// Plays a scenario: its ticks and events in order, each with what follows from it. An observer is
+/// told each event of the history.
+///
+/// # Errors
+///
+/// The observer's.
+pub fn play_on<O: Observer<SimBus>>(
+    alloc: Global,
+    installation: &mut Installation<SimBus>,
+    scenario: &Scenario,
+    observer: &mut O,
+) -> io::Result<Ending>
+    ensures played { MatchResult result
+        (λ ending. IsPlayedTo ending (happenings scenario.now) (stage_of installation.old)
+        (stage_of installation.new))
+        (λ error. IsPlayedSomeFar (happenings scenario.now) (stage_of installation.old)
+        (stage_of installation.new)) }
+    ensures legal { AreLegal installation.new.plant.plant installation.new.plant.history }
+{
+    let played = installation.follow(alloc, scenario, observer);
+    let _legal = installation.plant().len();
+    match played {
+        Ok(()) => Ok(Ending::Whole),
+        Err(Halt::Refused(_)) => Ok(Ending::Limit),
+        Err(Halt::Memory) => Ok(Ending::NoMemory),
+        Err(Halt::Unwritten(error)) => Err(error),
     }
 }
 
 impl Installation<SimBus> {
     /// Plays what happens by a scenario, in the order of its lines.
-    fn follow<W: Write>(
+    fn follow<O: Observer<SimBus>>(
         &mut self,
         alloc: Global,
-        out: &mut W,
         scenario: &Scenario,
+        observer: &mut O,
     ) -> Result<(), Halt>
-        ensures play { IsPlay self.old.plant (lines_of sim_log self.old.connections.items)
-            self.new.plant (lines_of sim_log self.new.connections.items) }
-        ensures given { OnOk result (given_in self.new.plant.history
-            ≡ given_in self.old.plant.history ++ ticks_to_come (happenings scenario.now)) }
-        ensures quiet { IsAtRest self.old.plant (lines_of sim_log self.old.connections.items)
-            → OnOk result (IsQuietOrSame self.old.plant self.new.plant) }
-        ensures stops { Stops self.new.plant result }
+        ensures { MatchResult result
+            (λ done. IsPlayedAsFar (happenings scenario.now) [] (stage_of self.old) (stage_of self.new))
+            (IsHalted (happenings scenario.now) (stage_of self.old) (stage_of self.new)) }
     {
         let mut happenings = scenario.happenings();
         for _ in scenario.lines() {
             match happenings.next() {
-                Some(happening) => self.happen(alloc, out, happening)?,
+                Some(happening) => self.happen(alloc, happening, observer)?,
                 None => return Ok(()),
             }
         }
@@ -100,30 +134,27 @@ impl Installation<SimBus> {
 
     /// Plays what happens by one line, with all that follows from it. A line of a bus that isn't
     /// there does nothing; a fault of hearing is met by the next call that hears.
-    fn happen<W: Write>(
+    fn happen<O: Observer<SimBus>>(
         &mut self,
         alloc: Global,
-        out: &mut W,
         happening: Happening,
+        observer: &mut O,
     ) -> Result<(), Halt>
-        ensures play { IsPlay self.old.plant (lines_of sim_log self.old.connections.items)
-            self.new.plant (lines_of sim_log self.new.connections.items) }
-        ensures given { OnOk result (given_in self.new.plant.history
-            ≡ given_after happening (given_in self.old.plant.history)) }
-        ensures quiet { IsAtRest self.old.plant (lines_of sim_log self.old.connections.items)
-            → OnOk result (IsQuietOrSame self.old.plant self.new.plant) }
-        ensures stops { Stops self.new.plant result }
+        ensures { MatchResult result
+            (λ done. Happens happening (stage_of self.old) (stage_of self.new))
+            (IsHaltedAt happening (stage_of self.old) (stage_of self.new)) }
     {
         match happening {
             Happening::Tick { moment } => {
-                self.tick(out, moment)?;
-                self.settle(alloc, out)
+                self.plant.tick(moment, observer)?;
+                self.settle(alloc, observer)
             }
             Happening::Event { bus, .. } => {
                 if self.arrive(bus) {
-                    self.settle(alloc, out)?;
+                    self.settle(alloc, observer)
+                } else {
+                    Ok(())
                 }
-                Ok(())
             }
             Happening::HearFault { bus } => {
                 let _ = self.arrive(bus);
@@ -132,32 +163,27 @@ impl Installation<SimBus> {
         }
     }
 
-    /// The clock comes to a moment.
-    fn tick<W: Write>(&mut self, out: &mut W, moment: u64) -> Result<(), Halt>
-        ensures play { IsPlay self.old.plant (lines_of sim_log self.old.connections.items)
-            self.new.plant (lines_of sim_log self.new.connections.items) }
-        ensures given { OnOk result (given_in self.new.plant.history
-            ≡ given_in self.old.plant.history ++ moment ∷ []) }
-        ensures stops { Stops self.new.plant result }
+    /// Hears, scans and sends until nothing is left to do.
+    fn settle<O: Observer<SimBus>>(&mut self, alloc: Global, observer: &mut O) -> Result<(), Halt>
+        ensures driven { IsDriven self.old.plant self.new.plant (map sim_log self.old.lines.items)
+            (map sim_log self.new.lines.items) }
+        ensures settled { OnOk result (HasSettled (stage_of self.old) (stage_of self.new)) }
+        ensures stops { IfErr result (CannotGoOn self.new.plant) }
     {
-        match self.plant.tick(moment) {
-            Ok(()) => Ok(writeln!(out, "tick {moment}")?),
-            Err(_) => Err(Halt::Limit),
-        }
+        self.plant.settle(alloc, &mut self.lines, observer)
     }
 
     /// What comes next on a bus comes now. Whether there is such a bus.
     fn arrive(&mut self, bus: BusNumber) -> bool
-        ensures play { IsPlay self.old.plant (lines_of sim_log self.old.connections.items)
-            self.new.plant (lines_of sim_log self.new.connections.items) }
-        ensures plant { self.new.plant ≡ self.old.plant }
+        ensures after { stage_of self.new ≡ arriving bus (stage_of self.old) }
+        ensures there { result ≡ nat_lt bus self.old.plant.plant.plan.buses }
     {
-        let place = usize::from(bus.number());
-        if place < self.connections.len() {
-            let _ = self.connections[place].interface.arrive();
-            true
-        } else {
-            false
+        match self.lines.get_mut(usize::from(bus.number())) {
+            Some(line) => {
+                let _ = line.arrive();
+                true
+            }
+            None => false,
         }
     }
 }

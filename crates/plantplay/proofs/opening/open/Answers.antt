@@ -1,23 +1,19 @@
-use Rattle.std.proofs.Common.{◌≡◌, ap, ◌∙◌}
+use Rattle.std.proofs.Common.{◌≡◌, ◌<◌, ◌∙◌, List, length, ap, sym, subst, arith}
+use Rattle.std.specs.Prelude.{vec_len}
 use Rattle.ilplan.specs.Plans.{Planned}
-use Rattle.plantplay.specs.Installations.{connections_of}
-use Rattle.plantplay.proofs.Opened.{opened_at_rest}
+use Rattle.simbus.specs.Simulated.{Simulated}
+use Rattle.plant.specs.Shown.{Shown, opened}
+use Rattle.plantplay.proofs.Buses.{count_of}
 use Rattle.plantplay.proofs.opening.open.Goals as goal
 
-pub returns-in-Ok-clause-installation : goal.returns-in-Ok-clause-installation
-returns-in-Ok-clause-installation c =
-    let setup = c.args.setup in let scenario = c.args.scenario.now in
+pub invariant_of-result : goal.invariant_of-result
+invariant_of-result c =
+    let setup = c.args.setup in let made = c.in_ok-lines in
+    let is : c.new.result ≡ opened setup 1 c.args.limit = c.new.ensures ∙ c.in-Ok.ensures.opened in
     let buses : c.buses.result ≡ setup.plan.buses =
     c.buses.ensures.value ∙ ap (λ (p : Planned). p.buses) c.plan.ensures.value in
     record {
-      limited = c.in-Ok.ensures.limit;
-      roomy = c.in-Ok.ensures.roomy;
-      plant = c.in-Ok.ensures.opened;
-      buses = c.in_ok-connections.ensures ∙ ap (connections_of scenario) buses;
+      workers = subst (λ (p : Shown). 0 < p.plant.workers) (sym is) (omega arith);
+      count = subst (λ (p : Shown). vec_len made.lines ≡ p.plant.plan.buses) (sym is)
+          (made.lines.ok.0 ∙ (ap (λ (bs : List Simulated). length bs) made.ensures ∙ (count_of c.args.scenario.now c.buses.result ∙ buses)));
     }
-
-pub returns-in-Ok-clause-rest : goal.returns-in-Ok-clause-rest
-returns-in-Ok-clause-rest c =
-    opened_at_rest c.args.setup c.args.scenario.now c.args.limit
-    (record { plant = c.in-Ok.plant; connections = c.in_ok-connections.connections })
-    (returns-in-Ok-clause-installation c)

@@ -1,15 +1,16 @@
-use Rattle.std.proofs.Common.{◌<◌, length, arith}
-use Rattle.plantplay.specs.Installations.{sim_log}
-use Rattle.plantplay.proofs.Connected.{play_of_same, stands}
-use Rattle.plantplay.proofs.Arriving.{arrived}
+use Rattle.std.proofs.Common.{◌∙◌, ℕ, List, ap, refl}
+use Rattle.std.proofs.lemmas.Option.{slice_get_read}
+use Rattle.buslink.specs.BusLog.{BusLog}
+use Rattle.plantplay.specs.Installations.{stage_of}
+use Rattle.plantplay.specs.Stage.{arriving}
+use Rattle.plantplay.proofs.Buses.{log_arrives}
 use Rattle.plantplay.proofs.playing.Installation+SimBus.arrive.Goals as goal
 
-pub returns-then-place-len-clause-play : goal.returns-then-place-len-clause-play
-returns-then-place-len-clause-play c =
-    let cs = c.args.self.now.connections.items in let connection = c.index_mut.result.now in
-    let inside : c.from-place.result < length cs =
-    let e = c.len.ensures in let b = c.if-place-len.true in omega arith in
-    let there = stands cs c.from-place.result connection inside c.index_mut.ensures.value in
-    play_of_same sim_log c.args.self.now.plant cs c.from-place.result connection
-    (record connection { interface = c.arrive.new.self }) there
-    (arrived connection.bus connection.is_down connection.interface c.arrive.new.self c.arrive.ensures.after)
+pub returns-in-Some-clause-after : goal.returns-in-Some-clause-after
+returns-in-Some-clause-after c =
+    let lines = c.args.self.now.lines in let place = c.from.result in let line = c.in-Some.line.now in
+    let there =
+    slice_get_read lines.items lines.len place line lines.ok.0 (c.in-Some.ensures.variant.0 refl) c.in-Some.ensures.value in
+    ap (λ (logs : List BusLog). record { plant = c.args.self.now.plant; logs = logs })
+    (log_arrives lines.items place line c.arrive.new.self there c.arrive.ensures.log)
+    ∙ ap (λ (b : ℕ). arriving b (stage_of c.args.self.now)) (c.from.ensures ∙ c.number.ensures.value)

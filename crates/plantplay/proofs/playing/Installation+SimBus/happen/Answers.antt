@@ -1,22 +1,48 @@
-use Rattle.plantplay.specs.Installations.{sim_log}
-use Rattle.plantplay.specs.Playing.{lines_of}
-use Rattle.plantplay.proofs.Resting.{play_then}
+use Rattle.std.proofs.Common.{refl, sym, ap, ◌∙◌}
+use Rattle.std.proofs.lemmas.Result.{err_from_is_err_and}
+use Rattle.wordlines.specs.declared.happenings.Happening.TheVariants.{Tick, Event}
+use Rattle.plantplay.specs.Installations.{stage_of}
+use Rattle.plantplay.specs.Stage.{Stage}
+use Rattle.plantplay.proofs.Happened.{settle_ends, settles_nowhere, settles_there, tick_halts}
 use Rattle.plantplay.proofs.playing.Installation+SimBus.happen.Goals as goal
 
-pub returns-in_err-settle-in-Event-clause-play : goal.returns-in_err-settle-in-Event-clause-play
-returns-in_err-settle-in-Event-clause-play g c =
-    play_then c.args.self.now.plant c.arrive.new.self.plant c.settle-then-arrive.new.self.plant
-    (lines_of sim_log c.args.self.now.connections.items) (lines_of sim_log c.arrive.new.self.connections.items)
-    (lines_of sim_log c.settle-then-arrive.new.self.connections.items) c.arrive.ensures.play c.settle-then-arrive.ensures.play
+pub returns-in_err-tick-in-Tick : goal.returns-in_err-tick-in-Tick
+returns-in_err-tick-in-Tick g c =
+    let p = err_from_is_err_and c.from_residual.result c.from_residual.ensures.1 in
+    let s = stage_of c.args.self.now in
+    rw (p.1, p.2, c.in-Tick.is)
+    (tick_halts c.in-Tick.moment s (record { plant = c.tick.new.self; logs = s.logs }) c.in_err-tick-in-Tick.field-0.0
+    c.in_err-tick-in-Tick.ensures refl)
 
-pub returns-in_ok-settle-in-Event-clause-play : goal.returns-in_ok-settle-in-Event-clause-play
-returns-in_ok-settle-in-Event-clause-play g c =
-    play_then c.args.self.now.plant c.arrive.new.self.plant c.settle-then-arrive.new.self.plant
-    (lines_of sim_log c.args.self.now.connections.items) (lines_of sim_log c.arrive.new.self.connections.items)
-    (lines_of sim_log c.settle-then-arrive.new.self.connections.items) c.arrive.ensures.play c.settle-then-arrive.ensures.play
+pub returns-in_ok-tick-in-Tick : goal.returns-in_ok-tick-in-Tick
+returns-in_ok-tick-in-Tick g c =
+    let s = stage_of c.args.self.now in let came = record s { plant = c.tick.new.self } in
+    let t = stage_of c.settle.new.self in
+    rw c.in-Tick.is
+    (settle_ends (Tick c.in-Tick.moment) s came t c.settle.result
+    (record { plant = c.in_ok-tick-in-Tick.ensures; logs = refl }) (λ settled. settled) c.settle.ensures.driven
+    c.settle.ensures.settled c.settle.ensures.stops)
 
-pub returns-in_ok-tick-in-Tick-clause-play : goal.returns-in_ok-tick-in-Tick-clause-play
-returns-in_ok-tick-in-Tick-clause-play g c =
-    play_then c.args.self.now.plant c.tick.new.self.plant c.settle.new.self.plant
-    (lines_of sim_log c.args.self.now.connections.items) (lines_of sim_log c.tick.new.self.connections.items)
-    (lines_of sim_log c.settle.new.self.connections.items) c.tick.ensures.play c.settle.ensures.play
+pub returns-then-arrive : goal.returns-then-arrive
+returns-then-arrive g c =
+    let s = stage_of c.args.self.now in let came = stage_of c.arrive.new.self in
+    let t = stage_of c.settle-then-arrive.new.self in let b = c.in-Event.bus in
+    rw c.in-Event.is
+    (settle_ends (Event b c.in-Event.frame) s came t c.settle-then-arrive.result c.arrive.ensures.after
+    (settles_there b s.plant.plant.plan.buses came t (sym c.if-arrive.true ∙ c.arrive.ensures.there)
+    (ap (λ (x : Stage). x.plant.plant.plan.buses) c.arrive.ensures.after)) c.settle-then-arrive.ensures.driven
+    c.settle-then-arrive.ensures.settled c.settle-then-arrive.ensures.stops)
+
+pub returns-else-arrive : goal.returns-else-arrive
+returns-else-arrive g c =
+    let s = stage_of c.args.self.now in let came = stage_of c.arrive.new.self in
+    rw c.in-Event.is (
+      came,
+      c.arrive.ensures.after,
+      settles_nowhere c.in-Event.bus s.plant.plant.plan.buses came came (sym c.if-arrive.false ∙ c.arrive.ensures.there)
+          (ap (λ (x : Stage). x.plant.plant.plan.buses) c.arrive.ensures.after) refl,
+    )
+
+pub returns-in-HearFault : goal.returns-in-HearFault
+returns-in-HearFault g c =
+    rw c.in-HearFault.is (stage_of c.arrive-in-HearFault.new.self, c.arrive-in-HearFault.ensures.after, refl)

@@ -1,8 +1,0 @@
-use Rattle.std.proofs.Common.{◌∙◌}
-use Rattle.ilsyms.proofs.SameMeaning.{means_the_same}
-use Rattle.plantplay.proofs.Meaning.{scans_meant}
-use Rattle.plantplay.proofs.laws.scans_are_as_meant.Goals as goal
-
-pub returns : goal.returns
-returns c = λ wiring bytes setup loaded p h same legal.
-    scans_meant p loaded.plan.tree wiring means_the_same (same ∙ loaded.plan.resolved) h legal
