@@ -1,2 +1,5 @@
 mod Buses
-mod Downs
+mod Lefts
+mod OffStage
+mod Scenes
+mod Unstaged

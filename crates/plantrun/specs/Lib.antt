@@ -1,2 +1,2 @@
-pub mod Downs
 pub mod Runs
+pub mod Scenes

@@ -1,39 +1,40 @@
 -- What a run on simulated buses leaves, and which buses those are (profile).
-use Rattle.std.specs.Prelude.{◌≡◌, ℕ, zero, suc, List, [], ◌∷◌, ◌++◌, length, map, true}
+use Rattle.std.specs.Prelude.{◌≡◌, ℕ, zero, suc, List, [], ◌∷◌, ◌++◌}
 use Rattle.buslink.specs.ClockLog.{ClockLog}
+use Rattle.buslink.specs.Each.{Each}
 use Rattle.wordlines.specs.declared.statements.Statement.{Statement}
-use Rattle.simbus.specs.ScriptedTicks.{ScriptedTicks}
-use Rattle.simbus.specs.Simulated.{Simulated, after_all_arrivals}
+use Rattle.wordlines.specs.Happenings.{ticks}
+use Rattle.simbus.specs.ScriptedTicks.{IsByScript, ScriptedTicks, new_clock}
+use Rattle.simbus.specs.Simulated.{Simulated, all_arrived}
 use Rattle.ilcompile.specs.Loaded.{Loaded}
-use Rattle.turns.specs.Finishing.{IsQuiet}
-use Rattle.plant.specs.Shown.{IsLimit, IsRoomy, IsWorkerCount, is_full, plant_of}
 use Rattle.plantplay.specs.Installations.{bus_of, sim_log}
-use Rattle.workers.specs.declared.closed.Closed.{Closed}
-use Rattle.workers.specs.declared.ended.Ended.TheVariants.{Asked, Limit}
-use Rattle.workers.specs.Closings.{IsClosed}
-use Rattle.turns.specs.Logs.{HasEnded, no_moment}
+use Rattle.workers.specs.declared.closed.ClosedParts.{ClosedParts}
+use Rattle.workers.specs.declared.ended.Ended.TheVariants.{Asked}
+use Rattle.workers.specs.Runs.{HasRun}
+use Rattle.plantrun.specs.Scenes.{HasWholeScenario, IsBusOf, FollowsScenario}
 
 -- what became of a scenario's clock
 abbrev pub tick_log : ScriptedTicks → ClockLog
 tick_log clock = clock.log
 
--- The plant of this setup was run by so many scan workers, and each bus of its plan is left. The history is legal and
--- nothing is open; each bus sent the attempts of its reports, one after another, and the history heard just what came
--- on it; and the clock gave just the moments of its ticks. Nothing had gone over a bus before, and the clock had not
--- been asked. Where it ended since the clock gave no moment more, nothing is left to do; where it ended since the
--- history is full, it is.
-pub record IsRun (setup : Loaded) (workers limit : ℕ) (left : Closed Simulated ScriptedTicks) : Type 0 where
-  pub counted : IsWorkerCount workers
-  pub limited : IsLimit limit
-  pub roomy : IsRoomy setup.plan.buses limit
-  pub count : length left.buses.items ≡ setup.plan.buses
-  pub closed : IsClosed (plant_of setup workers) [] no_moment sim_log tick_log left
-  pub kept : left.plant.limit ≡ limit
-  pub quiet : left.ended ≡ Asked → IsQuiet left.plant [] (map sim_log left.buses.items)
-  pub asked : left.ended ≡ Asked → HasEnded no_moment (tick_log left.clock)
-  pub full : left.ended ≡ Limit → is_full left.plant ≡ true
-
 -- the first buses of a scenario, so many, in the order of their numbers; all that comes to be heard has come
 abbrev pub buses_of : List Statement → ℕ → List Simulated
 buses_of scenario zero = []
-buses_of scenario (suc buses) = buses_of scenario buses ++ after_all_arrivals (bus_of scenario buses) ∷ []
+buses_of scenario (suc buses) = buses_of scenario buses ++ all_arrived (bus_of scenario buses) ∷ []
+
+-- the clock of a scenario, which was never asked
+abbrev pub clock_of : List Statement → ScriptedTicks
+clock_of scenario = new_clock (ticks scenario)
+
+-- The plant of this setup was run by so many scan workers on the buses and the clock of this scenario, under this limit.
+pub record IsRun (setup : Loaded) (scenario : List Statement) (workers limit : ℕ)
+    (left : ClosedParts Simulated ScriptedTicks) : Type 0 where
+  -- Its history is legal, nothing is open, and buses and clock gave and took what it says.
+  pub run : HasRun setup workers limit (buses_of scenario setup.plan.buses) (clock_of scenario) sim_log tick_log left
+  -- The history follows the scenario.
+  pub scene : FollowsScenario scenario setup.plan.buses left.plant.history
+  -- Where it ended since the clock gave no moment more, the history has the whole scenario.
+  pub whole : left.ended ≡ Asked → HasWholeScenario scenario setup.plan.buses left.plant.history
+  -- The buses are still those of the scenario, by their numbers, and the clock is still its clock.
+  pub buses : Each (IsBusOf scenario) 0 left.buses.items
+  pub clock : IsByScript left.clock

@@ -1,26 +1,10 @@
 //! What a run came to.
 
-ghost use Rattle.std.specs.Prelude.{◌≡◌};
-ghost use Rattle.plantrun.specs.Downs.{has_down};
-
 use plant::Plant;
 use plantplay::write_globals;
 use std::io;
 use std::io::Write;
 use workers::Ended;
-
-/// Whether a bus of a plant went down.
-pub fn has_down(plant: &Plant) -> bool
-    ensures { result ≡ has_down plant.now.plant.plan.buses plant.now.history }
-{
-    let mut any = false;
-    for bus in 0..plant.setup().plan().buses() {
-        if plant.is_down(bus) {
-            any = true;
-        }
-    }
-    any
-}
 
 /// Writes why a run ended and how many events there were, then what each bus sent and heard and how
 /// often each task was scanned, and the values of all global variables.
