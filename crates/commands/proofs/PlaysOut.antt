@@ -1,20 +1,20 @@
 -- What a play leaves, from what it started with.
-use Rattle.std.proofs.Common.{◌≡◌, ℕ, List, ap, ◌∙◌}
+use Rattle.std.proofs.Common.{◌≡◌, ℕ, List, ap}
 use Rattle.wordlines.specs.Wirings.{Wiring}
 use Rattle.wordlines.specs.declared.statements.Statement.{Statement}
+use Rattle.wordlines.specs.Happenings.{happenings}
 use Rattle.simbus.specs.Simulated.{Simulated}
 use Rattle.ilcompile.specs.Loaded.{Loaded}
 use Rattle.plantevents.specs.declared.event.Event.{Event}
 use Rattle.plantevents.specs.Plants.{Plant}
 use Rattle.plantevents.specs.Legal.{AreLegal}
-use Rattle.plant.specs.Shown.{Shown}
 use Rattle.plantload.specs.Loading.{IsSetup}
-use Rattle.plantplay.specs.Texts.{AreAsMeant}
-use Rattle.plantplay.specs.Installations.{sim_log}
-use Rattle.plantplay.specs.Playing.{IsEnding, IsPlay, lines_of}
+use Rattle.plantload.specs.MeantScans.{AreAsMeant}
+use Rattle.plantplay.specs.ByScenario.{IsByScenario}
+use Rattle.plantplay.specs.Installations.{IsInstallation, stage_of}
+use Rattle.plantplay.specs.Stage.{Stage, IsPlayedTo}
 use Rattle.plantplay.specs.declared.installation.Installation.{Installation}
-use Rattle.plantplay.specs.declared.playing.Ending.{Ending}
-use Rattle.plantplay.proofs.Opened.{opened_at_rest}
+use Rattle.plantplay.specs.declared.ending.Ending.{Ending}
 use Rattle.commands.specs.Plays.{PlayBytes, IsStarted, IsPlayedOut}
 
 -- the law of the scans of a text
@@ -23,22 +23,27 @@ ScansAreAsMeant =
     (wiring : Wiring) (bytes : List ℕ) (setup : Loaded) (loaded : IsSetup wiring bytes setup) (p : Plant)
     (h : List Event) → p.plan ≡ setup.plan → AreLegal p h → AreAsMeant loaded.plan.tree wiring.buses h
 
+-- the law of the plays of a scenario
+abbrev pub PlaysAreByScenario : Type 0
+PlaysAreByScenario =
+    (setup : Loaded) (scenario : List Statement) (limit : ℕ) (start : Installation Simulated) (left : Stage)
+    (ending : Ending) → IsInstallation setup scenario limit start
+    → IsPlayedTo ending (happenings scenario) (stage_of start) left → IsByScenario setup scenario ending left
+
 pub played_out : (bytes : PlayBytes) (limit : ℕ) (start left : Installation Simulated) (statements : List Statement)
-    (ending : Ending) → ScansAreAsMeant → IsStarted bytes limit start statements
-    → IsPlay start.plant (lines_of sim_log start.connections.items) left.plant
-    (lines_of sim_log left.connections.items)
-    → AreLegal left.plant.plant left.plant.history
-    → IsEnding statements start.plant (lines_of sim_log start.connections.items) left.plant
-    (lines_of sim_log left.connections.items) ending → IsPlayedOut bytes limit ending
-played_out bytes limit start left statements ending law started play legal ended = record {
-  start = start;
-  statements = statements;
-  started = started;
-  left = left;
-  legal = legal;
-  meant =
-      law started.loaded.0 bytes.text started.setup started.loaded.2 left.plant.plant left.plant.history
-      (ap (λ (m : Plant). m.plan) play.later.plant ∙ ap (λ (p : Shown). p.plant.plan) started.opened.plant) legal;
-  rest = play.rest (opened_at_rest started.setup statements limit start started.opened);
-  ended = ended;
-}
+    (ending : Ending) → ScansAreAsMeant → PlaysAreByScenario → IsStarted bytes limit start statements
+    → IsPlayedTo ending (happenings statements) (stage_of start) (stage_of left)
+    → AreLegal left.plant.plant left.plant.history → IsPlayedOut bytes limit ending left
+played_out bytes limit start left statements ending scans plays started played legal =
+    let told = plays started.setup statements limit start (stage_of left) ending started.opened played in
+    record {
+      start = start;
+      statements = statements;
+      started = started;
+      legal = legal;
+      meant =
+          scans started.loaded.0 bytes.text started.setup started.loaded.2 left.plant.plant left.plant.history
+          (ap (λ (m : Plant). m.plan) told.plant) legal;
+      played = played;
+      told = told;
+    }

@@ -1,24 +1,28 @@
 -- What a run leaves, from what it started with.
-use Rattle.std.proofs.Common.{◌≡◌, ℕ, refl, subst}
+use Rattle.std.proofs.Common.{◌≡◌, ℕ, List, refl, subst}
 use Rattle.ilcompile.specs.Loaded.{Loaded}
+use Rattle.wordlines.specs.declared.statements.Statement.{Statement}
+use Rattle.wordlines.specs.Scenarios.{IsScenario}
 use Rattle.simbus.specs.ScriptedTicks.{ScriptedTicks}
 use Rattle.simbus.specs.Simulated.{Simulated}
 use Rattle.plant.specs.Shown.{plant_of}
 use Rattle.plantrun.specs.Runs.{IsRun}
-use Rattle.workers.specs.declared.closed.Closed.{Closed}
+use Rattle.workers.specs.declared.closed.ClosedParts.{ClosedParts}
 use Rattle.invocations.specs.declared.invocations.RunSize.{RunSize}
-use Rattle.commands.specs.Plays.{PlayBytes, HasScenario, IsSetupOf}
+use Rattle.commands.specs.Plays.{PlayBytes, IsSetupOf}
 use Rattle.commands.specs.Runs.{IsRunOut}
 use Rattle.commands.proofs.PlaysOut.{ScansAreAsMeant}
 
-pub run_out : (bytes : PlayBytes) (size : RunSize) (setup : Loaded) (limit : ℕ) (left : Closed Simulated ScriptedTicks)
-    → ScansAreAsMeant → IsSetupOf bytes setup → HasScenario bytes → limit ≡ size.limit
-    → IsRun setup size.workers limit left → IsRunOut bytes size left
-run_out bytes size setup limit left law loaded scenario same run = record {
+pub run_out : (bytes : PlayBytes) (size : RunSize) (setup : Loaded) (statements : List Statement) (limit : ℕ)
+    (left : ClosedParts Simulated ScriptedTicks) → ScansAreAsMeant → IsSetupOf bytes setup
+    → IsScenario bytes.scenario statements → limit ≡ size.limit → IsRun setup statements size.workers limit left
+    → IsRunOut bytes size left
+run_out bytes size setup statements limit left law loaded scenario same run = record {
   setup = setup;
   loaded = loaded;
+  statements = statements;
   scenario = scenario;
-  run = subst (λ (most : ℕ). IsRun setup size.workers most left) same run;
+  run = subst (λ (most : ℕ). IsRun setup statements size.workers most left) same run;
   meant =
-      law loaded.0 bytes.text setup loaded.2 (plant_of setup size.workers) left.plant.history refl run.closed.legal;
+      law loaded.0 bytes.text setup loaded.2 (plant_of setup size.workers) left.plant.history refl run.run.closed.legal;
 }

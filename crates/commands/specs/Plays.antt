@@ -5,14 +5,17 @@ use Rattle.wordlines.specs.Wirings.{Wiring}
 use Rattle.ilcompile.specs.Loaded.{Loaded}
 use Rattle.plantload.specs.Loading.{IsSetup}
 use Rattle.wordlines.specs.declared.statements.Statement.{Statement}
+use Rattle.wordlines.specs.Happenings.{happenings}
 use Rattle.wordlines.specs.Scenarios.{IsScenario, IsJudged}
 use Rattle.simbus.specs.Simulated.{Simulated}
 use Rattle.plantevents.specs.Legal.{AreLegal}
-use Rattle.plantplay.specs.Texts.{AreAsMeant}
-use Rattle.plantplay.specs.Installations.{IsInstallation, IsStartFault, sim_log}
-use Rattle.plantplay.specs.Playing.{IsAtRest, IsEnding, lines_of}
+use Rattle.plantload.specs.MeantScans.{AreAsMeant}
+use Rattle.driving.specs.Downs.{has_down}
+use Rattle.plantplay.specs.ByScenario.{IsByScenario}
+use Rattle.plantplay.specs.Installations.{IsInstallation, IsStartFault, stage_of}
+use Rattle.plantplay.specs.Stage.{IsPlayedTo}
 use Rattle.plantplay.specs.declared.installation.Installation.{Installation}
-use Rattle.plantplay.specs.declared.playing.Ending.{Ending}
+use Rattle.plantplay.specs.declared.ending.Ending.{Ending}
 use Rattle.exits.specs.declared.exit_status.ExitStatus.{ExitStatus}
 use Rattle.invocations.specs.declared.files.PlayFiles.{PlayFiles}
 use Rattle.exits.specs.declared.play_stop.PlayStop.{PlayStop}
@@ -23,7 +26,7 @@ use Rattle.commands.specs.declared.serving.Unserved.{Unserved}
 use Rattle.commands.specs.declared.serving.Unserved.TheVariants.{NotRead, NotWritten, NotPrinted}
 use Rattle.answers.specs.Answered.{IsCheckStop, IsStopOrMemory}
 use Rattle.answers.specs.Connected.{IsConnected, IsBindingStop}
-use Rattle.exits.specs.ExitStatuses.{status_of_ending, status_of_play_stop}
+use Rattle.exits.specs.ExitStatuses.{status_of_play, status_of_play_stop}
 
 -- the bytes of the three files
 pub record PlayBytes : Type 0 where
@@ -70,27 +73,30 @@ IsPlayStop bytes workers limit (Start fault) =
 
 -- ---- what a play leaves
 
--- The installation of the text on the buses of the scenario, to which nothing had happened, was played. What it leaves:
--- the history is legal; each scan came to what the source program means of the snapshot that it took; each bus sent the
--- attempts of its reports, one after another, and the history heard what came on it; and the play ended so.
-pub record IsPlayedOut (bytes : PlayBytes) (limit : ℕ) (ending : Ending) : Type 0 where
+-- The installation of the text on the buses of the scenario, to which nothing had happened, was played, and ended so. What
+-- it leaves: a legal history, in which each scan came to what the source program means of the snapshot that it took; all
+-- that the scenario says happened, or as much as it could; so ticks, frames and reports are by the scenario.
+pub record IsPlayedOut (bytes : PlayBytes) (limit : ℕ) (ending : Ending) (left : Installation Simulated) : Type 0 where
   pub start : Installation Simulated
   pub statements : List Statement
   pub started : IsStarted bytes limit start statements
-  pub left : Installation Simulated
   pub legal : AreLegal left.plant.plant left.plant.history
   pub meant : AreAsMeant started.loaded.2.plan.tree started.loaded.0.buses left.plant.history
-  pub rest : IsAtRest left.plant (lines_of sim_log left.connections.items)
-  pub ended : IsEnding statements start.plant (lines_of sim_log start.connections.items) left.plant
-      (lines_of sim_log left.connections.items) ending
+  pub played : IsPlayedTo ending (happenings statements) (stage_of start) (stage_of left)
+  pub told : IsByScenario started.setup statements ending (stage_of left)
 
 -- ---- how the program ends
+
+-- the exit status of a play that ended so and left this
+abbrev pub status_of_played : Ending → Installation Simulated → ExitStatus
+status_of_played ending left = status_of_play ending (has_down left.plant.plant.plan.buses left.plant.history)
 
 -- by what stands against it, or by how the play ended
 abbrev pub IsPlayEnd : PlayBytes → ℕ → ExitStatus → Type 0
 IsPlayEnd bytes limit status =
     ((stop : PlayStop) × IsPlayStop bytes 1 limit stop × (status ≡ status_of_play_stop stop))
-    ⊎ ((ending : Ending) × IsPlayedOut bytes limit ending × (status ≡ status_of_ending ending))
+    ⊎ ((ending : Ending) × (left : Installation Simulated) × IsPlayedOut bytes limit ending left
+    × (status ≡ status_of_played ending left))
 
 -- the disk gave these bytes for the three files
 pub record AreGiven (gives : List ℕ → List ℕ → Type 0) (files : PlayFiles) (bytes : PlayBytes) : Type 0 where

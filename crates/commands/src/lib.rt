@@ -6,7 +6,7 @@
 //! they name, has `answers` answer what they hold, and prints it (specs/Reports.antt);
 //! [`serve_play`] plays, [`serve_run`] runs, and [`serve_look`] plays and draws; [`serve_code`]
 //! writes a code file, and [`serve_check_code`] judges one. The outermost definitions are `IsServed`
-//! (specs/Served.antt), `IsPlayed` (specs/Plays.antt), `HasRun` (specs/Runs.antt), and `IsCodeServed`
+//! (specs/Served.antt), `IsPlayed` (specs/Plays.antt), `IsRunServed` (specs/Runs.antt), and `IsCodeServed`
 //! and `IsCodeJudged` (specs/CodeFiles.antt). No contract can say which bytes the machine's disk
 //! gives, or what becomes of those that its disk and its terminal take. `run` does all of it over a
 //! runtime.
@@ -32,7 +32,7 @@ pub use exits::ExitStatus;
 pub use looking::serve_look;
 pub use playing::serve_play;
 pub use reading::{Disk, DiskFault, HostDisk};
-pub use running::serve_run;
+pub use running::{RunEnd, serve_run, status_of_run};
 pub use serving::{Unserved, serve};
 pub use shell::run;
 pub use telling::serve_question;

@@ -7,8 +7,9 @@ use crate::serving::Unserved;
 use commandline::PlayFiles;
 use exits::ExitStatus;
 use picture::{write_svg, write_text};
-use plantplay::{Installation, play};
-use replay::picture_of;
+use plant::Plant;
+use plantplay::{Ending, Installation, play_on, write_counts};
+use replay::Drawing;
 use simbus::{Scenario, SimBus};
 use std::alloc::Global;
 use std::io;
@@ -73,14 +74,25 @@ fn draw<W: Write>(
     scenario: &Scenario,
     is_text: bool,
 ) -> io::Result<ExitStatus> {
-    let mut lines = Vec::new(alloc);
-    let ending = play(alloc, &mut lines, installation, scenario)?;
-    let plan = installation.plant().setup().plan();
-    let picture = picture_of(alloc, plan, scenario, &lines)?;
+    let mut drawing = Drawing::new(alloc, installation.plant().setup().plan(), scenario)?;
+    let ending = play_on(alloc, installation, scenario, &mut drawing)?;
+    let mut notes = Vec::new(alloc);
+    write_notes(&mut notes, ending, installation.plant())?;
+    let picture = drawing.into_picture(&notes)?;
     if is_text {
         write_text(out, &picture)?;
     } else {
         write_svg(out, &picture)?;
     }
-    Ok(ExitStatus::of_ending(ending))
+    Ok(ExitStatus::of_play(ending, installation.has_down()))
+}
+
+/// Writes why the play ended before its scenario, and what was given up.
+fn write_notes<W: Write>(out: &mut W, ending: Ending, plant: &Plant) -> io::Result<()> {
+    match ending {
+        Ending::Whole => {}
+        Ending::Limit => writeln!(out, "limit")?,
+        Ending::NoMemory => return writeln!(out, "no memory"),
+    }
+    write_counts(out, plant)
 }

@@ -8,7 +8,8 @@ use crate::reading::Disk;
 use crate::serving::Unserved;
 use commandline::PlayFiles;
 use exits::{ExitStatus, PlayStop};
-use plantplay::{Installation, open, play, scans_are_as_meant};
+use plantload::scans_are_as_meant;
+use plantplay::{Installation, open, play, plays_are_by_scenario};
 use simbus::{Scenario, SimBus};
 use std::alloc::Global;
 use std::io;
@@ -57,8 +58,9 @@ fn report<W: Write>(alloc: Global, out: &mut W, pages: &Pages, limit: u32) -> io
     match start(alloc, pages, limit) {
         Ok((mut installation, scenario)) => {
             scans_are_as_meant();
+            plays_are_by_scenario();
             let ending = play(alloc, out, &mut installation, &scenario)?;
-            Ok(ExitStatus::of_ending(ending))
+            Ok(ExitStatus::of_play(ending, installation.has_down()))
         }
         Err(stop) => {
             writeln!(out, "{stop}")?;

@@ -1,16 +1,17 @@
 //! Running a scenario in threads: its files are read, and what it came to is printed.
 
-ghost use Rattle.std.specs.Prelude.{IfErr, IfOk};
+ghost use Rattle.std.specs.Prelude.{◌≡◌, IfErr, IfOk};
 ghost use Rattle.commands.specs.Plays.{IsPlayStop, IsUnplayed};
-ghost use Rattle.commands.specs.Runs.{HasRun, IsRunEnd, IsRunOut};
+ghost use Rattle.commands.specs.Runs.{IsRunServed, IsRunEnd, IsRunOut, status_of_run_end};
 
 use crate::pages::{Pages, read_pages, scenario_of, setup_in};
 use crate::reading::Disk;
 use crate::serving::Unserved;
 use commandline::{PlayFiles, RunSize};
+use driving::has_down;
 use exits::{ExitStatus, PlayStop};
-use plantplay::scans_are_as_meant;
-use plantrun::{has_down, run, write_run};
+use plantload::scans_are_as_meant;
+use plantrun::{run, write_run};
 use simbus::{ScriptedClock, SimBus};
 use std::alloc::Global;
 use std::io;
@@ -20,9 +21,12 @@ use std::thread::Threads;
 use std::time::Clock as Timer;
 use workers::Closed;
 
+/// What a run came to: what it left, or what stands against it. Only a run leaves a `Closed`.
+pub type RunEnd = Result<Closed<SimBus, ScriptedClock>, PlayStop>;
+
 /// Reads the files that are named, the binding before the text and that before the scenario, runs
 /// the scenario in threads and prints what it came to; the writer, which then has every line, and
-/// how the program ends.
+/// what it came to.
 ///
 /// # Errors
 ///
@@ -34,49 +38,45 @@ pub fn serve_run<'a, D: Disk, W: Write + Drop, R: Threads + Wait + Timer + Sync>
     to: W,
     files: PlayFiles<'a>,
     size: RunSize,
-) -> Result<(W, ExitStatus), Unserved<'a>>
-    ensures run { IfOk result (λ done. HasRun (D.gives disk.now) files.entry size done.1) }
+) -> Result<(W, RunEnd), Unserved<'a>>
+    ensures run { IfOk result (λ done. IsRunServed (D.gives disk.now) files.entry size done.1) }
     ensures unread { IfErr result (IsUnplayed (D.gives disk.now) (D.fails disk.now) files.entry) }
 {
     let pages = read_pages(alloc, disk, files)?;
     Ok(print(rt, alloc, to, &pages, size)?)
 }
 
-/// Prints what the run came to through a buffer, of which nothing is left behind.
+/// How the program ends by what a run came to.
+pub fn status_of_run(end: &RunEnd) -> ExitStatus
+    ensures { result ≡ status_of_run_end end.now }
+{
+    match end {
+        Ok(left) => ExitStatus::of_run(left.ended(), has_down(left.plant())),
+        Err(stop) => stop.status(),
+    }
+}
+
+/// Runs the scenario, and prints what it came to through a buffer, of which nothing is left behind.
 fn print<W: Write + Drop, R: Threads + Wait + Timer + Sync>(
     rt: &R,
     alloc: Global,
     to: W,
     pages: &Pages,
     size: RunSize,
-) -> io::Result<(W, ExitStatus)>
+) -> io::Result<(W, RunEnd)>
     ensures { IfOk result (λ done. IsRunEnd pages.now size done.1) }
 {
     let mut out = BufWriter::new(alloc, to)?;
-    let status = report(rt, alloc, &mut out, pages, size)?;
-    Ok((out.into_inner()?, status))
+    let end = run_pages(rt, alloc, pages, size);
+    report(&mut out, &end)?;
+    Ok((out.into_inner()?, end))
 }
 
-/// Writes what the run came to, or what stands against it; how the program ends.
-fn report<W: Write, R: Threads + Wait + Timer + Sync>(
-    rt: &R,
-    alloc: Global,
-    out: &mut W,
-    pages: &Pages,
-    size: RunSize,
-) -> io::Result<ExitStatus>
-    ensures { IfOk result (IsRunEnd pages.now size) }
-{
-    match run_pages(rt, alloc, pages, size) {
-        Ok(left) => {
-            let plant = left.plant.as_plant();
-            write_run(out, left.ended, plant)?;
-            Ok(ExitStatus::of_run(left.ended, has_down(plant)))
-        }
-        Err(stop) => {
-            writeln!(out, "{stop}")?;
-            Ok(stop.status())
-        }
+/// Writes what the run came to, or what stands against it.
+fn report<W: Write>(out: &mut W, end: &RunEnd) -> io::Result<()> {
+    match end {
+        Ok(left) => write_run(out, left.ended(), left.plant()),
+        Err(stop) => writeln!(out, "{stop}"),
     }
 }
 
@@ -91,7 +91,7 @@ fn run_pages<R: Threads + Wait + Timer + Sync>(
     alloc: Global,
     pages: &Pages,
     size: RunSize,
-) -> Result<Closed<SimBus, ScriptedClock>, PlayStop>
+) -> RunEnd
     ensures run { IfOk result (IsRunOut pages.now size) }
     ensures stop { IfErr result (IsPlayStop pages.now size.workers size.limit) }
 {

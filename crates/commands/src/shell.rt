@@ -4,7 +4,7 @@ use crate::code_files::{serve_check_code, serve_code};
 use crate::looking::serve_look;
 use crate::playing::serve_play;
 use crate::reading::{DiskFault, HostDisk};
-use crate::running::serve_run;
+use crate::running::{serve_run, status_of_run};
 use crate::serving::{Unserved, serve};
 use crate::telling::serve_question;
 use commandline::Invocation;
@@ -71,7 +71,12 @@ fn run_invocation<R: Files + Print + Eprint + AllocGlobal, T: Threads + Wait + T
     let served = match invocation {
         Invocation::Ask(inquiry) => serve(alloc, &disk, out, inquiry),
         Invocation::Play { files, limit } => serve_play(alloc, &disk, out, files, limit),
-        Invocation::Run { files, size } => serve_run(threads, alloc, &disk, out, files, size),
+        Invocation::Run { files, size } => {
+            match serve_run(threads, alloc, &disk, out, files, size) {
+                Ok((out, end)) => Ok((out, status_of_run(&end))),
+                Err(unserved) => Err(unserved),
+            }
+        }
         Invocation::Look { files, is_text } => serve_look(alloc, &disk, out, files, is_text),
         Invocation::Tell { files, question } => serve_question(alloc, &disk, out, files, question),
         Invocation::Code { files, task, to } => serve_code(alloc, &disk, out, files, task, to),

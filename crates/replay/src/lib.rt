@@ -1,20 +1,20 @@
-//! From the lines that a play printed to a picture of it.
+//! A play, drawn while it goes on.
 //!
-//! What crosses the boundary: a plan, a scenario and the lines of its play; out comes a
-//! [`Picture`](picture::Picture). The frames of the lines are sent once more on the simulated
-//! buses of the scenario, which shows the level of each lamp after each of them. What is drawn is
-//! fixed by worked rows (crates/rows); of the code it is proved that it is safe and ends.
+//! What crosses the boundary: a [`Drawing`] is made of a plan and a scenario, is told what happens
+//! while the scenario is played, as an [`Observer`](driving::Observer), and then gives its
+//! [`Picture`](picture::Picture). After each transaction it asks the simulated gear for its levels.
+//! What is drawn is fixed by worked rows (crates/rows); of the code it is proved that it is safe and
+//! ends.
 //!
 //! ```text
-//! let picture = picture_of(alloc, setup.plan(), &scenario, &lines)?;
+//! let mut drawing = Drawing::new(alloc, setup.plan(), &scenario)?;
+//! let ending = play_on(alloc, &mut installation, &scenario, &mut drawing)?;
+//! let picture = drawing.into_picture(&notes)?;
 //! ```
 #![tactic(auto)]
 
-mod following;
+mod drawing;
 mod lamps;
-mod lines;
-mod sending;
 mod sources;
-mod stage;
 
-pub use following::picture_of;
+pub use drawing::Drawing;

@@ -6,30 +6,35 @@ use picture::{Row, Sign};
 use std::alloc::{AllocError, Global};
 use wordlines::BoundSource;
 
-/// A row for each source of the binding.
-pub(crate) fn source_rows(
+/// Adds a row for each source of the binding. The sources.
+pub(crate) fn add_sources(
     alloc: Global,
     plan: &Plan,
     rows: &mut Vec<Row>,
-) -> Result<(), AllocError> {
+) -> Result<Vec<BoundSource>, AllocError> {
+    let mut sources = Vec::new(alloc);
     for bound in plan.sources() {
         let name = name_of(alloc, plan, bound)?;
         let place = format!(in alloc; "source {}, bus {}", bound.number, bound.bus)?;
         rows.push(Row::new(alloc, name, place, None))?;
+        sources.push(*bound)?;
     }
-    Ok(())
+    Ok(sources)
 }
 
 /// What the text calls a source: the name of its trigger, else that of another of its variables.
 fn name_of(alloc: Global, plan: &Plan, bound: &BoundSource) -> Result<String, AllocError> {
     let mut found = None;
     for number in 0..plan.globals() {
-        let location = plan.global(number).location;
-        if is_trigger_of(location, bound) {
-            return plan.global_name(number).to_string(alloc);
-        }
-        if is_of(location, bound) && found.is_none() {
-            found = Some(plan.global_name(number));
+        match plan.global(number).location {
+            Some(Location::Trigger { bus, source }) if is_at(bound, bus, source) => {
+                return plan.global_name(number).to_string(alloc);
+            }
+            Some(Location::Information { bus, source } | Location::Count { bus, source })
+                if is_at(bound, bus, source) && found.is_none() => {
+                found = Some(plan.global_name(number));
+            }
+            _ => {}
         }
     }
     match found {
@@ -38,51 +43,40 @@ fn name_of(alloc: Global, plan: &Plan, bound: &BoundSource) -> Result<String, Al
     }
 }
 
-/// Whether a variable is the trigger of a source.
-fn is_trigger_of(location: Option<Location>, bound: &BoundSource) -> bool {
-    match location {
-        Some(Location::Trigger { bus, source }) => bus == bound.bus && source == bound.number,
-        _ => false,
-    }
+/// Whether a source is bound at this place.
+fn is_at(bound: &BoundSource, bus: u8, number: u8) -> bool {
+    bound.bus == bus && bound.number == number
 }
 
-/// Whether a variable is the information of a source, or its count.
-fn is_of(location: Option<Location>, bound: &BoundSource) -> bool {
-    match location {
-        Some(Location::Information { bus, source } | Location::Count { bus, source }) => {
-            bus == bound.bus && source == bound.number
-        }
-        _ => false,
-    }
-}
-
-/// Marks the sources of which a frame is an event.
+/// Marks the sources of which a frame is an event, or else the bus on which it was heard.
 pub(crate) fn mark_sources(
+    alloc: Global,
     sources: &[BoundSource],
-    rows: &mut [Row],
+    rows: &mut Vec<Row>,
     bus: u8,
     frame: Frame24,
     column: usize,
-) -> Result<bool, AllocError> {
+) -> Result<(), AllocError> {
     let mut is_found = false;
-    for place in 0..sources.len() {
-        let bound = sources[place];
-        if bound.bus == bus {
-            if let (Some(information), Some(row)) = (
-                bound.source.information(frame),
-                rows.get_mut(place),
-            ) {
+    for (bound, row) in sources.iter().zip(rows.iter_mut()) {
+        match bound.source.information(frame) {
+            Some(information) if bound.bus == bus => {
                 row.add(column, Sign::Event(information))?;
                 is_found = true;
             }
+            _ => {}
         }
     }
-    Ok(is_found)
+    if is_found {
+        Ok(())
+    } else {
+        mark_stray(alloc, rows, sources.len(), bus, column)
+    }
 }
 
 /// Marks that a frame was heard of which nobody waits: in the row of its bus, which is the first
 /// one of this place behind those of the sources, and is made where it isn't there.
-pub(crate) fn mark_stray(
+fn mark_stray(
     alloc: Global,
     rows: &mut Vec<Row>,
     sources: usize,
@@ -90,11 +84,9 @@ pub(crate) fn mark_stray(
     column: usize,
 ) -> Result<(), AllocError> {
     let place = format!(in alloc; "bus {bus}")?;
-    for number in sources..rows.len() {
-        if let Some(row) = rows.get_mut(number) {
-            if row.place.as_str() == place.as_str() {
-                return row.add(column, Sign::Stray);
-            }
+    for row in rows.iter_mut().skip(sources) {
+        if row.place == place {
+            return row.add(column, Sign::Stray);
         }
     }
     let name = String::from_str(alloc, "no source")?;
