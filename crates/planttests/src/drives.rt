@@ -4,7 +4,7 @@
 
 use daliframe::Frame24;
 use plant::CallRefusal;
-use plantplay::{Driven, Step, StepReply, drive_text};
+use plantsteps::{Driven, Step, StepReply, drive_text};
 use std::alloc::{AllocError, Global};
 use std::test::Fail;
 use transact::Mark;

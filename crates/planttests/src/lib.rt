@@ -2,7 +2,7 @@
 //!
 //! Nothing crosses the boundary. The tests stand on public items of the crates alone: steps of a
 //! text's plant with several workers (`drives`), calls near their limits (`near_limits`), and each
-//! allocation failing (`memory`). `rt test` runs them.
+//! request for memory refused (`memory`). `rt test` runs them.
 #![tactic(auto)]
 
 #[cfg(test)]

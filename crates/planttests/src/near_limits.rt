@@ -8,10 +8,12 @@ use plant::{CallRefusal, Plant};
 use plantevents::Event;
 use plantload::{LoadFault, load};
 use plantplay::{open, play};
+use plantrun::write_run;
 use simbus::{Scenario, parse};
 use std::alloc::{AllocError, Global};
 use std::test::Fail;
 use wordlines::Binding;
+use workers::Ended;
 
 /// A lamp that a push button lights, and a question to gear 5 in the first scan of a second task.
 pub(crate) const HALL: &str = "PROGRAM see\n\
@@ -29,18 +31,21 @@ pub(crate) const HALL: &str = "PROGRAM see\n\
     PROGRAM one WITH press : see;\nPROGRAM two WITH each_second : ask;\n\
     END_CONFIGURATION\n";
 
-/// Keeps the least information of the events that start it.
+/// Keeps the least information of the events that start it, as the second of two tasks.
 const LEAST: &str = "PROGRAM one\n\
     VAR_EXTERNAL news : UINT; least : UINT; END_VAR\nLD news\nMIN least\nST least\n\
     END_PROGRAM\n\
+    PROGRAM two\nVAR b : BOOL; END_VAR\nLDN b\nST b\nEND_PROGRAM\n\
     CONFIGURATION c\n\
     VAR_GLOBAL\npressed AT %IX0.3 : BOOL;\nnews AT %IW0.131 : UINT;\ncount AT %IW0.195 : UINT;\n\
     least : UINT := 999;\nEND_VAR\n\
-    TASK push (SINGLE := pressed, PRIORITY := 0);\nPROGRAM x WITH push : one;\n\
+    TASK clock (INTERVAL := T#1s, PRIORITY := 1);\n\
+    TASK push (SINGLE := pressed, PRIORITY := 0);\n\
+    PROGRAM w WITH clock : two;\nPROGRAM x WITH push : one;\n\
     END_CONFIGURATION\n";
 
 /// The push button is instance 2 of the device with short address 5.
-const WIRES: &str = "buses 1\nsource 0.3 device-instance 5 2\n";
+pub(crate) const WIRES: &str = "buses 1\nsource 0.3 device-instance 5 2\n";
 
 /// The setup of a text on one bus with the push button.
 pub(crate) fn setup_of(alloc: Global, text: &str) -> Result<Setup, LoadFault> {
@@ -166,7 +171,8 @@ fn scenario_of(alloc: Global, lines: &str) -> Result<Scenario, Fail> {
     }
 }
 
-/// What is printed where a text stands on the buses of one scenario, and another is played.
+/// What is printed where a text stands on the buses of one scenario, and another is played; and
+/// then what a run would print of that plant.
 fn played(
     alloc: Global,
     text: &str,
@@ -177,11 +183,16 @@ fn played(
         return Err("it starts".into());
     };
     let mut out = Vec::new(alloc);
-    match play(alloc, &mut out, &mut installation, scenario) {
-        Ok(_) => Ok(out),
-        Err(_) => Err("it is played".into()),
+    if play(alloc, &mut out, &mut installation, scenario).is_err()
+        || write_run(&mut out, Ended::Asked, installation.plant()).is_err()
+    {
+        return Err("it is printed".into());
     }
+    Ok(out)
 }
+
+/// What is left then.
+const LEFT: &str = "pressed = FALSE\nnews = 9\ncount = 34\nleast = 9\n";
 
 /// The events of one scenario come one by one; with the faults of hearing of another all come
 /// before anything is heard.
@@ -193,14 +204,19 @@ fn crowd(alloc: Global) -> Result<Vec<u8>, Fail> {
     played(alloc, LEAST, &buses, &at_once)
 }
 
-/// What 34 events before a scan come to: the first two are given up, and 32 scans follow.
+/// What 34 events before a scan come to: the first two are given up, and 32 scans follow, and that
+/// of the other task.
 fn crowd_printed(alloc: Global) -> Result<String, AllocError> {
     let mut lines = String::new(alloc);
     lines.push_str("tick 0\n")?;
     add(&mut lines, 2, "heard 0 0A8801\n")?;
     add(&mut lines, 32, "heard 0 0A8809\n")?;
     add(&mut lines, 32, "take push\ncommit push steps 3\n")?;
-    lines.push_str("pressed = FALSE\nnews = 9\ncount = 34\nleast = 9\nlost push 2\n")?;
+    lines.push_str("take clock\ncommit clock steps 2\n")?;
+    lines.push_str(LEFT)?;
+    lines.push_str("lost push 2\nended asked\nevents 101\nbus 0 sent 0 heard 34\n")?;
+    lines.push_str("task clock scans 1 lost 0\ntask push scans 32 lost 2\n")?;
+    lines.push_str(LEFT)?;
     Ok(lines)
 }
 

@@ -301,9 +301,9 @@ fn is_left<'w, 'r, R: Timer>(
     ended: Ended,
     scans: u64,
 ) -> bool {
-    left.ended == ended
-        && left.clock.gave_none() == (ended == Ended::Asked)
-        && has_counted(left.plant.as_plant(), watch, scans)
+    left.ended() == ended
+        && left.clock().gave_none() == (ended == Ended::Asked)
+        && has_counted(left.plant(), watch, scans)
 }
 
 /// Whether a row holds.

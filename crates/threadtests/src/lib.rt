@@ -3,7 +3,8 @@
 //!
 //! Nothing crosses the boundary. The tests (`at_once`) stand on public items of the crates alone,
 //! over texts that `house` writes. The buses and the clock are in `links`; what holds scans, frames
-//! and the clock back, and how long at most, is in `watch`. `rt test` runs them.
+//! and the clock back, and how long at most, is in `watch`. Runs that go on once there is memory are
+//! in `memory`. `rt test` runs them.
 #![tactic(auto)]
 
 #[cfg(test)]
@@ -12,5 +13,7 @@ mod at_once;
 mod house;
 #[cfg(test)]
 mod links;
+#[cfg(test)]
+mod memory;
 #[cfg(test)]
 mod watch;

@@ -1,5 +1,5 @@
 //! Buses that count and wait at a gate, and a clock that does so and comes to its end twice.
-ghost use Rattle.std.specs.Prelude.{◌≤◌};
+ghost use Rattle.std.specs.Prelude.{◌≤◌, None};
 ghost use Rattle.buslink.specs.BusLog.{with_spare};
 
 use crate::watch::{Until, Watch};
@@ -106,6 +106,7 @@ impl PausedClock {
 
 impl Clock for PausedClock {
     ghost log = { λ c. record {
+      moments = None;
       given = c.clock.log.given;
       asks = c.asks;
       gave_none = c.gave_none;
@@ -153,6 +154,7 @@ impl<'w, 'r, R: Timer> WaitingClock<'w, 'r, R> {
 
 impl<'w, 'r, R: Timer> Clock for WaitingClock<'w, 'r, R> {
     ghost log = { λ c. record {
+      moments = None;
       given = c.clock.clock.log.given;
       asks = c.clock.asks;
       gave_none = c.clock.gave_none;
