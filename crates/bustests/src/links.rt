@@ -1,7 +1,7 @@
 //! Transactions on a bus of another kind than the simulated one, in a box and without room, and the
 //! moments of a clock in a box. What is sent is printed nowhere with its priority, so it is
 //! compared here.
-ghost use Rattle.std.specs.Prelude.{◌≡◌, ◌+◌, ◌≤◌, []};
+ghost use Rattle.std.specs.Prelude.{◌≡◌, ◌+◌, ◌≤◌, [], None};
 ghost use Rattle.arrayvec.specs.ArrayVec.{array_vec_len};
 
 use arrayvec::ArrayVec;
@@ -65,6 +65,8 @@ impl ScriptedBus {
 
 impl Bus for ScriptedBus {
     ghost log = { λ b. record {
+      number = 0;
+      arrivals = None;
       sent = b.sent.items;
       heard = [];
       spare = b.spare;

@@ -1,0 +1,43 @@
+-- What is said on the line of a bus interface, version 1 (profile): a request, and then one line that answers it. Each
+-- line ends with a line feed. Numbers are decimal. A 16-bit frame has four hexadecimal digits, a 24-bit frame six.
+use Rattle.std.specs.Prelude.{◌≡◌, ℕ, List, [], ◌∷◌, ◌++◌, Option, Some, None, codes}
+use Rattle.std.specs.Fmt.{decimal}
+use Rattle.daliframe.specs.declared.forward.Frame.{Frame}
+use Rattle.daliframe.specs.Printed.{printed}
+use Rattle.transact.specs.declared.marks.Reply.{Reply}
+use Rattle.transact.specs.declared.marks.Reply.TheVariants.{Quiet, Answer, Damaged, Lost}
+use Rattle.wordlines.specs.WordLines.{hex_number, number_upto}
+
+-- a line feed (10)
+abbrev pub line_end : List ℕ
+line_end = 10 ∷ []
+
+-- ---- what is asked
+
+-- both ends say it once, at the start
+abbrev pub greeting : List ℕ
+greeting = codes "gushewa 1"
+
+-- send this frame with this priority: `send 2 0A80`
+abbrev pub send_line : Frame → ℕ → List ℕ
+send_line frame priority = codes "send " ++ decimal priority ++ codes " " ++ printed frame
+
+-- say what has come
+abbrev pub hear_line : List ℕ
+hear_line = codes "hear"
+
+-- ---- what is answered
+
+-- the line says that this became of the frame: `quiet`, `answer 128`, `damaged` or `lost`
+abbrev pub IsReply : Reply → List ℕ → Type 0
+IsReply Quiet line = line ≡ codes "quiet"
+IsReply (Answer byte) line =
+    (digits : List ℕ) × (line ≡ codes "answer " ++ digits) × (number_upto 255 digits ≡ Some byte)
+IsReply Damaged line = line ≡ codes "damaged"
+IsReply Lost line = line ≡ codes "lost"
+
+-- the line says that nothing has come, `none`, or this 24-bit frame, `event 0A8809`
+abbrev pub IsMessage : Option ℕ → List ℕ → Type 0
+IsMessage None line = line ≡ codes "none"
+IsMessage (Some frame) line =
+    (digits : List ℕ) × (line ≡ codes "event " ++ digits) × (hex_number digits ≡ Some frame)

@@ -1,0 +1,123 @@
+//! Clocks of a building.
+
+ghost use Rattle.std.specs.Prelude.{◌≡◌, ◌≤◌, IfSome, IfOk};
+ghost use Rattle.buslink.specs.ClockLog.{IsNotBefore, TellsEnd, after_now};
+ghost use Rattle.liveclock.specs.ClockStates.{fresh_clock, with_moment};
+
+use crate::moments::{millis_since, next_period, sleep_until};
+use crate::stops::Stop;
+use buslink::Clock;
+use memo::Trace;
+use std::io;
+use std::marker::Model;
+use std::num::NonZeroU64;
+use std::time::{Clock as Timer, Instant};
+
+/// A clock of milliseconds since it was made. What it gave has no bytes.
+#[derive(Drop)]
+pub struct LiveClock<T: Timer, S: Stop> {
+    timer: T,
+    stop: S,
+    start: Instant,
+    /// The milliseconds from one moment to the next.
+    period: NonZeroU64,
+    /// The last moment that may be given.
+    until: u64,
+    /// The latest moment that was given, 0 before the first.
+    latest: u64,
+    given: Trace<u64>,
+    asks: u64,
+    gave_none: bool,
+}
+
+impl<T: Timer, S: Stop> Model for LiveClock<T, S> {
+    ghost use Rattle.std.specs.Prelude.{◌≤◌, All, None, reverse};
+    ghost use Rattle.liveclock.specs.ClockStates.{ClockState};
+
+    ghost Value = { ClockState };
+
+    ghost view = { λ c. record {
+      log = record {
+        moments = None;
+        given = reverse c.given.items;
+        asks = c.asks;
+        gave_none = c.gave_none;
+      };
+      until = c.until;
+    } };
+
+    ghost invariant = { λ c. All (λ earlier. earlier ≤ c.latest) (reverse c.given.items) };
+}
+
+impl<T: Timer + Drop, S: Stop> LiveClock<T, S> {
+    /// A clock that gives a moment in each period, the first at once, and none after `until`.
+    ///
+    /// # Errors
+    ///
+    /// The timer could not be read.
+    pub fn new(timer: T, period: NonZeroU64, until: u64, stop: S) -> io::Result<LiveClock<T, S>>
+        ensures { IfOk result (λ c. c ≡ fresh_clock until) }
+    {
+        let start = Instant::now(&timer)?;
+        Ok(LiveClock {
+            timer,
+            stop,
+            start,
+            period,
+            until,
+            latest: 0,
+            given: Trace::new(),
+            asks: 0,
+            gave_none: false,
+        })
+    }
+
+    /// Notes a moment that is given.
+    fn note(&mut self, moment: u64)
+        requires { IsNotBefore moment self.old.log }
+        ensures { self.new ≡ with_moment moment self.old }
+    {
+        self.latest = moment;
+        self.given.push(&moment);
+    }
+
+    /// Sleeps until the next moment, but not before the first, and gives it. There is none once the
+    /// end has come. Periods that passed meanwhile have no moment.
+    fn wait(&self) -> Option<u64>
+        ensures { IfSome result
+            (λ moment. IsNotBefore moment self.now.log × (moment ≤ self.now.until)) }
+    {
+        let before = millis_since(&self.timer, self.start)?;
+        if self.asks > 1 {
+            sleep_until(&self.timer, before, next_period(self.latest, self.period));
+        }
+        if self.stop.is_wanted() {
+            return None;
+        }
+        let now = millis_since(&self.timer, self.start)?;
+        let moment = now.max(self.latest);
+        if moment > self.until {
+            return None;
+        }
+        Some(moment)
+    }
+}
+
+impl<T: Timer + Drop, S: Stop> Clock for LiveClock<T, S> {
+    ghost log = { λ c. c.log };
+
+    fn now(&mut self) -> Option<u64>
+        ensures logged { self.new.log ≡ after_now result self.old.log }
+        ensures never_falls { IfSome result (λ moment. IsNotBefore moment self.old.log) }
+        ensures ends { TellsEnd result self.old.log }
+        ensures within { IfSome result (λ moment. moment ≤ self.old.until) }
+        ensures until { self.new.until ≡ self.old.until }
+    {
+        self.asks = self.asks.saturating_add(1);
+        let moment = self.wait();
+        self.gave_none = moment.is_none();
+        let moment = moment?;
+        self.note(moment);
+        Some(moment)
+    }
+}
