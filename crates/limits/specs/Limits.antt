@@ -96,3 +96,7 @@ least_events_of_many = 500
 
 abbrev pub most_events : ℕ
 most_events = 1000000
+
+-- what a history comes to at most over all the runs of a plant: 2^59
+abbrev pub most_total : ℕ
+most_total = 576460752303423488

@@ -88,8 +88,12 @@ pub const LEAST_EVENTS: u64 = 100;
 /// limited to.
 pub const LEAST_EVENTS_OF_MANY: u64 = 500;
 
-/// The greatest number of events that the history of a plant may be limited to.
+/// The greatest number of events that the history of a plant may be limited to in one run.
 pub const MOST_EVENTS: u64 = 1_000_000;
+
+/// The greatest number of events that the history of a plant comes to over all its runs, 2^59: at
+/// 180 events a second, 100 million years.
+pub const MOST_TOTAL: u64 = 576_460_752_303_423_488;
 
 /// Whether a file has more bytes than the limit.
 pub fn is_too_long(bytes: &[u8]) -> bool

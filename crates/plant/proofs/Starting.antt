@@ -64,7 +64,7 @@ pub opened_says : (setup : Loaded) (workers limit : ℕ) (tasks : TaskSet) (scan
 opened_says setup workers limit tasks scans buses inputs outputs owed some within few follows idle fresh heard located
     owes =
     record {
-      most = within.1;
+      most = let m = within.1 in omega arith;
       legal = tt;
       each_task = follows;
       each_variable = record { laid = refl; values = λ v. refl; instances = λ t. refl };

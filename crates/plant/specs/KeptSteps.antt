@@ -1,7 +1,7 @@
 -- What private fields say of a history.
 use Rattle.std.specs.Prelude.{◌≡◌, ℕ, ◌+◌, ◌<◌, ◌≤◌, List, length, slice_index_or}
 use Rattle.std.specs.Prelude.{Option}
-use Rattle.limits.specs.Limits.{most_events}
+use Rattle.limits.specs.Limits.{most_total}
 use Rattle.wordlines.specs.declared.sources.BoundSource.{BoundSource}
 use Rattle.daliframe.specs.declared.schemes.EventScheme.TheVariants.{Instance}
 use Rattle.ilimage.specs.Images.{ProcessImage}
@@ -55,7 +55,7 @@ pub record KeptPlant : Type 0 where
 
 -- It is what the history says; the history is legal, and leaves the places that are kept.
 pub record Says (p : Shown) (k : KeptPlant) : Type 0 where
-  pub most : p.limit ≤ most_events
+  pub most : p.limit ≤ most_total
   pub legal : AreLegal p.plant p.history
   pub each_task : Follows p.plant p.history k.tasks
   pub each_variable : ImageFollows p.plant p.history k.image

@@ -121,6 +121,10 @@ kept p =
     + count_below (λ b. not (is_down b p.history)) p.plant.plan.buses
     + (count_true p.reserved.buses + (if p.reserved.clock then 1 else 0))
 
+-- how many places of the history are used: by its events, and by what is kept for events to come
+abbrev pub used : Shown → ℕ
+used p = length p.history + kept p
+
 -- no place is left for an event and the one that it keeps
 abbrev pub is_full : Shown → Bool
 is_full p = nat_lt p.limit (length p.history + kept p + 2)

@@ -2,7 +2,7 @@
 
 ghost use Rattle.std.specs.Prelude.{◌≡◌, ◌+◌, ◌≤◌, ◌<◌, true, false, if◌then◌else◌, length};
 ghost use Rattle.std.specs.Prelude.{slice_set, slice_index_or};
-ghost use Rattle.limits.specs.Limits.{most_events};
+ghost use Rattle.limits.specs.Limits.{most_total};
 
 /// Uses a place where one is kept back, which is then one of `kept` less.
 pub(crate) fn use_place(place: &mut bool, kept: &mut u64)
@@ -18,7 +18,7 @@ pub(crate) fn use_place(place: &mut bool, kept: &mut u64)
 
 /// Keeps a place back where none is, which is then one more of `kept`.
 pub(crate) fn keep_place(place: &mut bool, kept: &mut u64)
-    requires small { kept.old ≤ most_events }
+    requires small { kept.old ≤ most_total }
     ensures kept { place.new ≡ true }
     ensures more { kept.new ≡ kept.old + (if place.old then 0 else 1) }
 {
@@ -42,7 +42,7 @@ pub(crate) fn use_place_of(places: &mut Vec<bool>, bus: u8, kept: &mut u64)
 /// Keeps a place back for a bus, if none is.
 pub(crate) fn keep_place_of(places: &mut Vec<bool>, bus: u8, kept: &mut u64)
     requires known { bus < length places.old.items }
-    requires small { kept.old ≤ most_events }
+    requires small { kept.old ≤ most_total }
     ensures kept { places.new.items ≡ slice_set places.old.items bus true }
     ensures more { kept.new
         ≡ kept.old + (if slice_index_or places.old.items bus false then 0 else 1) }

@@ -7,7 +7,7 @@ ghost use Rattle.plantevents.specs.declared.role.Role.TheVariants as roles;
 ghost use Rattle.plantevents.specs.Histories.{moment as last_moment, is_down};
 ghost use Rattle.plantevents.specs.Legal.{AreLegal, IsUp};
 ghost use Rattle.plant.specs.Shown.{Shown, grown, kept, reserving, is_reserved, is_full, opened};
-ghost use Rattle.limits.specs.Limits.{most_events};
+ghost use Rattle.limits.specs.Limits.{most_total};
 ghost use Rattle.plant.specs.Shown.{IsWorkerCount, IsLimit, IsRoomy, IsOpenFault};
 ghost use Rattle.plant.specs.Refusals.{GivesFirst, tick_cases, may_tick_cases, heard_cases};
 ghost use Rattle.plant.specs.Refusals.{down_cases, is_full_for};
@@ -204,19 +204,11 @@ impl Plant {
     }
 
     /// Sets the limit, which leaves room for what happened and for what is kept for events to come.
+    /// It is 2^59 at most.
     pub fn set_limit(&mut self, limit: u64)
         requires room { length self.old.history + kept self.old ≤ limit }
-        requires most { limit ≤ most_events }
+        requires most { limit ≤ most_total }
         ensures { self.new ≡ record self.old { limit = limit } }
-    {
-        self.limit = limit;
-    }
-
-    /// Raises the limit. It is not below what it was, and 1,000,000 at most.
-    pub fn raise(&mut self, limit: u64)
-        requires above { self.old.limit ≤ limit }
-        requires most { limit ≤ most_events }
-        ensures raised { self.new ≡ record self.old { limit = limit } }
     {
         self.limit = limit;
     }

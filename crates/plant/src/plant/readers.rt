@@ -1,7 +1,7 @@
 //! What is read of a plant.
 
 ghost use Rattle.std.specs.Prelude.{◌≡◌, ◌+◌, ◌≤◌, ◌<◌, length, option_map, Some};
-ghost use Rattle.limits.specs.Limits.{AreTries, most_events};
+ghost use Rattle.limits.specs.Limits.{AreTries, most_total};
 ghost use Rattle.ilimage.specs.Images.{Global as GlobalVariable};
 ghost use Rattle.busqueue.specs.Queues.{class_number};
 ghost use Rattle.plantevents.specs.Plants.{activator, tries_of};
@@ -10,7 +10,7 @@ ghost use Rattle.plantevents.specs.Readiness.{lost};
 ghost use Rattle.plantevents.specs.Variables.{value};
 ghost use Rattle.plantevents.specs.Waiting.{dropped};
 ghost use Rattle.plantevents.specs.Legal.{AreLegal};
-ghost use Rattle.plant.specs.Shown.{is_full, is_reserved, kept};
+ghost use Rattle.plant.specs.Shown.{is_full, is_reserved, kept, used};
 
 use super::Plant;
 use busqueue::Class;
@@ -47,7 +47,7 @@ impl Plant {
     /// The most events and places that are kept for events to come.
     pub fn limit(&self) -> u64
         ensures value { result ≡ self.now.limit }
-        ensures most { self.now.limit ≤ most_events }
+        ensures most { self.now.limit ≤ most_total }
     {
         self.limit
     }
@@ -64,6 +64,13 @@ impl Plant {
         ensures places { length self.now.reserved.buses ≡ self.now.plant.plan.buses }
     {
         self.length
+    }
+
+    /// How many places of the history are used: by its events, and by what is kept for events to come.
+    pub fn used(&self) -> u64
+        ensures value { result ≡ used self.now }
+    {
+        self.length + self.kept
     }
 
     /// Whether no place of the history is left for an event and the one that it keeps.
