@@ -20,25 +20,29 @@ use Rattle.receipts.proofs.Roles.{index_below, index_apart, seat_apart}
 use Rattle.plantlock.specs.Tied.{IsTied, AreTied, HasPlace}
 use Rattle.plantlock.proofs.Places.{reserved_mine, reserved_other, reserved_now, reserved_then}
 
-pub said_at : (cells : List Named) (n m r : ℕ) (t u : Option (OnceToken NotedPart)) (x y : Bool) (rs : List Placed)
-    → n ≡ m → t ≡ u → x ≡ y → Says cells n t r x rs → Says cells m u r y rs
-said_at cells n m r t u x y rs a b c says = record {
+pub said_at : (base : ℕ) (cells : List Named) (n m r : ℕ) (t u : Option (OnceToken NotedPart)) (x y : Bool)
+    (rs : List Placed) → n ≡ m → t ≡ u → x ≡ y → Says base cells n t r x rs → Says base cells m u r y rs
+said_at base cells n m r t u x y rs a b c says = record {
   numbered = sym a ∙ says.numbered ∙ ap (λ (z : Bool). 2 * r + one_if z) c;
-  held = subst (λ (v : Option (OnceToken NotedPart)). Held cells r v rs) b says.held;
+  held = subst (λ (v : Option (OnceToken NotedPart)). Held base cells r v rs) b says.held;
 }
 
 module _
     (cells : List Named) (start p : Shown) (numbers after : ℕ × ℕ → ℕ) (tokens : List (Option (OnceToken NotedPart)))
-    (t : Option (OnceToken NotedPart)) (e : Event) (rs : List Placed) (n : ℕ) where
+    (t : Option (OnceToken NotedPart)) (e : Event) (rs : List Placed) where
   abbrev mine : Role
   mine = role_of e
 
-  pub files : AreTied cells start p numbers tokens → length p.history ≡ n → IsRole start.plant mine
-      → rs ++ part mine start.history ≡ part mine p.history → Held cells (n + 1) t (placed n e ∷ rs)
+  abbrev n : ℕ
+  n = length p.history
+
+  pub files : AreTied cells start p numbers tokens → IsRole start.plant mine
+      → rs ++ part mine start.history ≡ part mine p.history
+      → Held (length start.history) cells (n + 1) t (placed n e ∷ rs)
       → after (seat_of mine) ≡ 2 * (n + 1) + one_if (reserved_after e (is_reserved mine p))
       → ((k : ℕ × ℕ) → k ≢ seat_of mine → after k ≡ numbers k)
       → AreTied cells start (grown p e) after (set tokens (index_of mine) t)
-  files tied len known since held here others = record {
+  files tied known since held here others = record {
     same_plant = tied.same_plant;
     same_limit = tied.same_limit;
     front = record { later = e ∷ tied.front.later; is = ap (λ h. e ∷ h) tied.front.is };
@@ -59,11 +63,12 @@ module _
             receipts = placed n e ∷ rs;
             says = record {
               numbered = here ∙ ap (λ (x : Bool). 2 * (n + 1) + one_if x) (sym (reserved_mine p e));
-              held = subst (λ (v : Option (OnceToken NotedPart)). Held cells (n + 1) v (placed n e ∷ rs))
+              held = subst
+                  (λ (v : Option (OnceToken NotedPart)).
+                  Held (length start.history) cells (n + 1) v (placed n e ∷ rs))
                   (sym (get_or-set_same tokens (index_of mine) t None room)) held;
             };
-            since = ap (λ (x : List Placed). placed n e ∷ x) since
-                ∙ ap (λ (k : ℕ). placed k e ∷ part mine p.history) (sym len) ∙ sym (part_mine e p.history);
+            since = ap (λ (x : List Placed). placed n e ∷ x) since ∙ sym (part_mine e p.history);
             below = omega arith;
           })
 
@@ -75,7 +80,7 @@ module _
           record {
             reach = was.reach;
             receipts = was.receipts;
-            says = said_at cells _ _ was.reach _ _ _ _ was.receipts
+            says = said_at (length start.history) cells _ _ was.reach _ _ _ _ was.receipts
                 (sym (others (seat_of q) (seat_apart start.plant mine q known low is.1)))
                 (sym (get_or-set_other tokens (index_of mine) (index_of q) t None away))
                 (sym (reserved_other p q e is.1)) was.says;
@@ -91,18 +96,14 @@ get_or_any (x ∷ xs) (suc i) d e h = get_or_any xs i d e (omega arith)
 -- the same under the role's own name
 pub filed : (cells : List Named) (start p : Shown) (numbers after : ℕ × ℕ → ℕ)
     (tokens : List (Option (OnceToken NotedPart))) (t : Option (OnceToken NotedPart)) (e : Event) (rs : List Placed)
-    (n : ℕ) (r : Role) → role_of e ≡ r → AreTied cells start p numbers tokens → length p.history ≡ n
-    → IsRole start.plant r → rs ++ part r start.history ≡ part r p.history → Held cells (n + 1) t (placed n e ∷ rs)
-    → after (seat_of r) ≡ 2 * (n + 1) + one_if (reserved_after e (is_reserved r p))
+    (r : Role) → role_of e ≡ r → AreTied cells start p numbers tokens → IsRole start.plant r
+    → rs ++ part r start.history ≡ part r p.history
+    → Held (length start.history) cells (length p.history + 1) t (placed (length p.history) e ∷ rs)
+    → after (seat_of r) ≡ 2 * (length p.history + 1) + one_if (reserved_after e (is_reserved r p))
     → ((k : ℕ × ℕ) → k ≢ seat_of r → after k ≡ numbers k)
     → AreTied cells start (grown p e) after (set tokens (index_of r) t)
-filed cells start p numbers after tokens t e rs n r is tied len =
-    subst (λ (q : Role). IsRole start.plant q → rs ++ part q start.history ≡ part q p.history
-    → Held cells (n + 1) t (placed n e ∷ rs)
-    → after (seat_of q) ≡ 2 * (n + 1) + one_if (reserved_after e (is_reserved q p))
-    → ((k : ℕ × ℕ) → k ≢ seat_of q → after k ≡ numbers k)
-    → AreTied cells start (grown p e) after (set tokens (index_of q) t)) is
-    (files cells start p numbers after tokens t e rs n tied len)
+filed cells start p numbers after tokens t e rs r is tied =
+    rw (← is) (files cells start p numbers after tokens t e rs tied)
 
 -- a place is kept back for one role
 pub keeps : (cells : List Named) (start p : Shown) (numbers after : ℕ × ℕ → ℕ)
@@ -143,7 +144,7 @@ keeps cells start p numbers after tokens r tied known has here others = record {
         record {
           reach = was.reach;
           receipts = was.receipts;
-          says = said_at cells _ _ was.reach _ _ _ _ was.receipts
+          says = said_at (length start.history) cells _ _ was.reach _ _ _ _ was.receipts
               (sym (others (seat_of q) (seat_apart start.plant r q known low is.1))) refl
               (sym (reserved_then r q p is.1)) was.says;
           since = was.since;
@@ -152,7 +153,7 @@ keeps cells start p numbers after tokens r tied known has here others = record {
 
 -- what lies under the lock at the start
 pub starts : (cells : List Named) (start : Shown) (numbers : ℕ × ℕ → ℕ) (tokens : List (Option (OnceToken NotedPart)))
-    → start.limit ≤ length cells → length tokens ≡ most_seats
+    → start.limit ≤ length start.history + length cells → length tokens ≡ most_seats
     → ((k : ℕ) → k < most_seats → slice_index_or tokens k None ≡ None)
     → AreCounted start numbers most_seats
     → AreTied cells start start numbers tokens
@@ -167,7 +168,7 @@ starts cells start numbers tokens enough slots none numbered = record {
     receipts = [];
     says = record {
       numbered = let e = numbered r known (index_below start.plant r known) in omega (arith, e);
-      held = subst (λ (v : Option (OnceToken NotedPart)). Held cells 0 v [])
+      held = subst (λ (v : Option (OnceToken NotedPart)). Held (length start.history) cells 0 v [])
           (sym (none (index_of r) (index_below start.plant r known))) (refl, refl);
     };
     since = refl;

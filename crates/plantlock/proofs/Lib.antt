@@ -2,7 +2,6 @@ pub mod Answered
 pub mod Ending
 pub mod Filing
 pub mod Fitting
-pub mod Noted
 pub mod Places
 pub mod Refusing
 pub mod Since

@@ -9,21 +9,13 @@ use Rattle.plantevents.specs.declared.role.Role.TheVariants.{Bus, Clock}
 use Rattle.plantevents.specs.Histories.{moment, is_down}
 use Rattle.plantevents.specs.Parts.{part, shown_moment, shown_down}
 use Rattle.plant.specs.declared.refusal.CallError.{CallError}
-use Rattle.plant.specs.declared.refusal.CallError.TheVariants.{Memory, Refused}
 use Rattle.plant.specs.declared.refusal.CallRefusal.{CallRefusal}
 use Rattle.plant.specs.declared.refusal.CallRefusal.TheVariants.{ClockBack, Stranger, BusDown, Full}
 use Rattle.plant.specs.Refusals.{Case, GivesFirstOrMemory, first_refusal, tick_cases, heard_cases, hand_cases}
-use Rattle.plant.specs.Refusals.{take_cases, may_tick_cases, down_cases, has_no_bus, is_full_for}
+use Rattle.plant.specs.Refusals.{take_cases, down_cases, has_no_bus}
 use Rattle.plant.specs.Shown.{Shown, is_reserved, is_full}
 use Rattle.receipts.specs.Receipts.{ShareParts, IsRole, whole}
-use Rattle.plantlock.specs.Answers.{IsRefusedBy, IsUnheard}
-
-pub refused_as : {A : Type 0} → (result : Result A CallError) (refusal : CallRefusal)
-    → IsErrAnd result (λ e. e ≡ Refused refusal) → result ≡ Err (Refused refusal)
-refused_as result refusal is = let e = err_from_is_err_and result is in e.1 ∙ ap Err e.2
-
-pub memory_as : {A : Type 0} → (result : Result A CallError) → IsErrAnd result (λ e. e ≡ Memory) → result ≡ Err Memory
-memory_as result is = let e = err_from_is_err_and result is in e.1 ∙ ap Err e.2
+use Rattle.plantlock.specs.Answers.{IsUnheard}
 
 pub error_as : {A E : Type 0} → (result : Result A E) (error : E) → IsErrAnd result (λ e. e ≡ error)
     → result ≡ Err error
@@ -38,21 +30,6 @@ tick_free true reserved full refusal is late place = true≢false late
 tick_free false true full refusal is late place = cc
 tick_free false false full refusal is late place = true≢false (sym place)
 
-full_of : (reserved full : Bool) → reserved ≡ false → full ≡ true
-    → first_refusal ((not reserved && full, Full) ∷ []) ≡ Some Full
-full_of true full none is = absurd (true≢false none)
-full_of false true none is = refl
-full_of false false none is = absurd (true≢false (sym is))
-
-kept_first : (reserved full : Bool) → reserved ≡ true → first_refusal ((not reserved && full, Full) ∷ []) ≡ None
-kept_first true full is = refl
-kept_first false full is = absurd (true≢false (sym is))
-
-fits_first : (reserved full : Bool) → full ≡ false → first_refusal ((not reserved && full, Full) ∷ []) ≡ None
-fits_first true full is = refl
-fits_first false true is = absurd (true≢false is)
-fits_first false false is = refl
-
 pub tick_accepted : (p : Shown) (s : ShareParts) (m : ℕ) (refusal : CallRefusal) → s.role ≡ Clock
     → (whole s ≡ part s.role p.history) × (s.reserved ≡ is_reserved s.role p)
     → moment p.history ≡ shown_moment (part Clock p.history) → first_refusal (tick_cases p m) ≡ Some refusal
@@ -64,19 +41,6 @@ tick_accepted p s m refusal role agree shown is reserved low =
     tick_free (nat_lt m (moment p.history)) (is_reserved Clock p) (is_full p) refusal is
     (le-ltb m (moment p.history) late)
     (ap (λ (r : Role). is_reserved r p) (sym role) ∙ (sym agree.1 ∙ reserved))
-
-pub full_first : (p : Shown) (s : ShareParts) → s.role ≡ Clock → s.reserved ≡ is_reserved s.role p
-    → s.reserved ≡ false → is_full p ≡ true → first_refusal (may_tick_cases p) ≡ Some Full
-full_first p s role agree none full =
-    full_of (is_reserved Clock p) (is_full p) (ap (λ (r : Role). is_reserved r p) (sym role) ∙ (sym agree ∙ none)) full
-
-pub tick_kept : (p : Shown) (s : ShareParts) → s.role ≡ Clock → s.reserved ≡ is_reserved s.role p
-    → s.reserved ≡ true → first_refusal (may_tick_cases p) ≡ None
-tick_kept p s role agree place =
-    kept_first (is_reserved Clock p) (is_full p) (ap (λ (r : Role). is_reserved r p) (sym role) ∙ (sym agree ∙ place))
-
-pub tick_fits : (p : Shown) → is_full p ≡ false → first_refusal (may_tick_cases p) ≡ None
-tick_fits p room = fits_first (is_reserved Clock p) (is_full p) room
 
 -- ---- a bus
 
@@ -110,37 +74,24 @@ frame_accepted p s b refusal role agree shown known is reserved up =
 
 frame_refused : (nobody down reserved full : Bool) (refusal : CallRefusal) (s : ShareParts)
     → first_refusal ((nobody, Stranger) ∷ (down, BusDown) ∷ (not reserved && full, Full) ∷ []) ≡ Some refusal
-    → nobody ≡ false → down ≡ shown_down (whole s) → IsUnheard (whole s) (Refused refusal)
+    → nobody ≡ false → down ≡ shown_down (whole s) → IsUnheard (whole s) refusal
 frame_refused true down reserved full refusal s is known shown = absurd (true≢false known)
 frame_refused false true reserved full refusal s is known shown =
     let why : BusDown ≡ refusal = cc in
-    subst (λ (r : CallRefusal). IsUnheard (whole s) (Refused r)) why (sym shown)
+    subst (λ (r : CallRefusal). IsUnheard (whole s) r) why (sym shown)
 frame_refused false false true full refusal s is known shown = absurd (cc)
 frame_refused false false false true refusal s is known shown =
     let why : Full ≡ refusal = cc in
-    subst (λ (r : CallRefusal). IsUnheard (whole s) (Refused r)) why refl
+    subst (λ (r : CallRefusal). IsUnheard (whole s) r) why refl
 frame_refused false false false false refusal s is known shown = absurd (cc)
 
 pub unheard : (p : Shown) (s : ShareParts) (b : ℕ) (refusal : CallRefusal) → s.role ≡ Bus b
     → whole s ≡ part s.role p.history → is_down b p.history ≡ shown_down (part (Bus b) p.history)
     → b < p.plant.plan.buses → first_refusal (heard_cases p b) ≡ Some refusal
-    → IsUnheard (whole s) (Refused refusal)
+    → IsUnheard (whole s) refusal
 unheard p s b refusal role agree shown known is =
     frame_refused (has_no_bus p b) (is_down b p.history) (is_reserved (Bus b) p) (is_full p) refusal s is
     (ap not (lt-ltb b p.plant.plan.buses known)) (down_shown p s b role agree shown)
-
-frame_up : (nobody down full : Bool) → first_refusal ((nobody, Stranger) ∷ (down, BusDown) ∷ (full, Full) ∷ []) ≡ None
-    → down ≡ false
-frame_up true down full is = absurd (cc)
-frame_up false true full is = absurd (cc)
-frame_up false false full is = refl
-
-pub heard_up : (p : Shown) (s : ShareParts) (b : ℕ) → s.role ≡ Bus b → whole s ≡ part s.role p.history
-    → is_down b p.history ≡ shown_down (part (Bus b) p.history) → first_refusal (heard_cases p b) ≡ None
-    → shown_down (whole s) ≡ false
-heard_up p s b role agree shown is =
-    sym (down_shown p s b role agree shown)
-    ∙ frame_up (has_no_bus p b) (is_down b p.history) (is_full_for (Bus b) p) is
 
 down_free : (nobody down : Bool) (refusal : CallRefusal)
     → first_refusal ((nobody, Stranger) ∷ (down, BusDown) ∷ []) ≡ Some refusal → nobody ≡ false → down ≡ false → ⊥
@@ -155,35 +106,33 @@ down_accepted p s b refusal role agree shown known is up =
     down_free (has_no_bus p b) (is_down b p.history) refusal is (ap not (lt-ltb b p.plant.plan.buses known))
     (down_shown p s b role agree shown ∙ up)
 
-bus_up : (nobody down : Bool) → first_refusal ((nobody, Stranger) ∷ (down, BusDown) ∷ []) ≡ None → down ≡ false
-bus_up true down is = absurd (cc)
-bus_up false true is = absurd (cc)
-bus_up false false is = refl
+abbrev second_holds : List Case → Bool
+second_holds (c ∷ d ∷ more) = d.0
+second_holds (c ∷ []) = false
+second_holds [] = false
 
-pub down_up : (p : Shown) (s : ShareParts) (b : ℕ) → s.role ≡ Bus b → whole s ≡ part s.role p.history
-    → is_down b p.history ≡ shown_down (part (Bus b) p.history) → first_refusal (down_cases p b) ≡ None
+second_fails : (cases : List Case) → first_refusal cases ≡ None → second_holds cases ≡ false
+second_fails [] is = refl
+second_fails (c ∷ []) is = refl
+second_fails ((true, r) ∷ d ∷ more) is = absurd (cc)
+second_fails ((false, r) ∷ (true, s) ∷ more) is = absurd (cc)
+second_fails ((false, r) ∷ (false, s) ∷ more) is = refl
+
+-- of a bus for which a frame may be heard, or to which something is handed
+pub heard_up : (p : Shown) (s : ShareParts) (b : ℕ) → s.role ≡ Bus b → whole s ≡ part s.role p.history
+    → is_down b p.history ≡ shown_down (part (Bus b) p.history) → first_refusal (heard_cases p b) ≡ None
     → shown_down (whole s) ≡ false
-down_up p s b role agree shown is =
-    sym (down_shown p s b role agree shown) ∙ bus_up (has_no_bus p b) (is_down b p.history) is
+heard_up p s b role agree shown is =
+    sym (down_shown p s b role agree shown) ∙ second_fails (heard_cases p b) is
+
+pub hand_up : (p : Shown) (s : ShareParts) (b : ℕ) → s.role ≡ Bus b → whole s ≡ part s.role p.history
+    → is_down b p.history ≡ shown_down (part (Bus b) p.history) → first_refusal (hand_cases p b) ≡ None
+    → shown_down (whole s) ≡ false
+hand_up p s b role agree shown is =
+    sym (down_shown p s b role agree shown) ∙ second_fails (hand_cases p b) is
 
 -- ---- a scan worker
 
 pub take_gives : {A : Type 0} → (p q : Shown) (w : ℕ) (result : Result A CallError) → p ≡ q
     → GivesFirstOrMemory (take_cases p w) result → GivesFirstOrMemory (take_cases q w) result
 take_gives p q w result is = subst (λ (x : Shown). GivesFirstOrMemory (take_cases x w) result) is
-
--- ---- what is handed out
-
-pub hand_gives : {A : Type 0} → (p q : Shown) (b : ℕ) (result : Result A CallError) → p ≡ q
-    → GivesFirstOrMemory (hand_cases p b) result → GivesFirstOrMemory (hand_cases q b) result
-hand_gives p q b result is = subst (λ (x : Shown). GivesFirstOrMemory (hand_cases x b) result) is
-
-gives_error : (A : Type 0) (cases : List Case) (error : CallError) → IsRefusedBy cases error
-    → GivesFirstOrMemory {A = A} cases (Err error)
-gives_error A cases Memory is = is
-gives_error A cases (Refused refusal) is = is
-
-pub hand_refused : (A : Type 0) (p q : Shown) (b : ℕ) (error : CallError) → p ≡ q
-    → IsRefusedBy (hand_cases p b) error → GivesFirstOrMemory {A = A} (hand_cases q b) (Err error)
-hand_refused A p q b error is refused =
-    hand_gives {A = A} p q b (Err error) is (gives_error A (hand_cases p b) error refused)

@@ -1,14 +1,13 @@
 -- What a call under the lock answers; what a Share shows open: a commit or a report of that is never refused.
-use Rattle.std.specs.Prelude.{◌≡◌, ℕ, List, Some, None, true, ⊤, Result, Ok, Err, MatchResult}
+use Rattle.std.specs.Prelude.{◌≡◌, ℕ, List, Some, true, Result, Ok, Err, MatchResult}
 use Rattle.gearcmd.specs.FrameLists.{FrameList}
 use Rattle.ilmachine.specs.Scans.{Scan}
 use Rattle.plantevents.specs.Histories.{OpenScan, OpenHand}
 use Rattle.plantevents.specs.Legal.{AreLegal}
 use Rattle.plantevents.specs.Parts.{Placed, part, shown_scan, shown_hand, shown_down}
-use Rattle.plant.specs.declared.refusal.CallError.{CallError}
-use Rattle.plant.specs.declared.refusal.CallError.TheVariants.{Memory, Refused}
+use Rattle.plant.specs.declared.refusal.CallRefusal.{CallRefusal}
 use Rattle.plant.specs.declared.refusal.CallRefusal.TheVariants.{BusDown, Full}
-use Rattle.plant.specs.Refusals.{Case, GivesFirstOrMemory, first_refusal, hand_cases}
+use Rattle.plant.specs.Refusals.{GivesFirst, hand_cases}
 use Rattle.plant.specs.Shown.{Shown, is_reserved}
 use Rattle.receipts.specs.Receipts.{ShareParts, whole}
 use Rattle.plantlock.specs.Tied.{IsFront}
@@ -44,8 +43,8 @@ unfoldable pub IsAnswered : {A E : Type 0} → Shown → ShareParts → SharePar
 IsAnswered start s t wants becomes result = Answer start s t wants becomes result
 
 -- a bus is handed what is next, or refused, as the cases of a Hand say
-pub record GivesHand {A : Type 0} (bus : ℕ) (p : Shown) (result : Result A CallError) : Type 0 where
-  pub refused : GivesFirstOrMemory (hand_cases p bus) result
+pub record GivesHand {A : Type 0} (bus : ℕ) (p : Shown) (result : Result A CallRefusal) : Type 0 where
+  pub refused : GivesFirst (hand_cases p bus) result
 
 -- accepted where this is so, and refused where it is not
 abbrev pub Decides : {A E : Type 0} → Type 0 → Result A E → Type 0
@@ -54,16 +53,10 @@ Decides P (Err e) = ¬ P
 
 -- ---- refusals
 
--- why a call is refused: the first case that holds, or where none does that the allocator is out of memory
-abbrev pub IsRefusedBy : List Case → CallError → Type 0
-IsRefusedBy cases Memory = first_refusal cases ≡ None
-IsRefusedBy cases (Refused refusal) = first_refusal cases ≡ Some refusal
-
--- why no frame may be heard on a bus: it is down, as the part shows; or the history is full, or memory is out
-abbrev pub IsUnheard : List Placed → CallError → Type 0
-IsUnheard part Memory = ⊤
-IsUnheard part (Refused BusDown) = shown_down part ≡ true
-IsUnheard part (Refused refusal) = refusal ≡ Full
+-- why no frame may be heard on a bus: it is down, as the part shows; or the history is full
+abbrev pub IsUnheard : List Placed → CallRefusal → Type 0
+IsUnheard part BusDown = shown_down part ≡ true
+IsUnheard part refusal = refusal ≡ Full
 
 -- ---- what a Share shows open
 

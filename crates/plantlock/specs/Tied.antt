@@ -1,5 +1,5 @@
 -- What the lock knows of each role: the Share of the role knows the same.
-use Rattle.std.specs.Prelude.{◌≡◌, ℕ, ◌<◌, ◌≤◌, ⊤, List, ◌++◌, length, Option, None, slice_index_or}
+use Rattle.std.specs.Prelude.{◌≡◌, ℕ, ◌+◌, ◌<◌, ◌≤◌, ⊤, List, ◌++◌, length, Option, None, slice_index_or}
 use Rattle.limits.specs.Limits.{most_seats}
 use Rattle.std.specs.Sync.OnceLock.{Named}
 use Rattle.std.specs.declared.sync.OnceToken.{OnceToken}
@@ -18,8 +18,8 @@ pub record IsTied (cells : List Named) (start p : Shown) (number : ℕ × ℕ �
     (tokens : List (Option (OnceToken NotedPart))) (role : Role) : Type 0 where
   pub reach : ℕ
   pub receipts : List Placed
-  pub says : Says cells (number (seat_of role)) (slice_index_or tokens (index_of role) None) reach
-      (is_reserved role p) receipts
+  pub says : Says (length start.history) cells (number (seat_of role)) (slice_index_or tokens (index_of role) None)
+      reach (is_reserved role p) receipts
   pub since : receipts ++ part role start.history ≡ part role p.history
   pub below : reach ≤ length p.history
 
@@ -28,13 +28,13 @@ pub record IsFront (start h : List Event) : Type 0 where
   pub later : List Event
   pub is : h ≡ later ++ start
 
--- what the lock keeps beside the plant
+-- what the lock keeps beside the plant; for each event after those at the start, up to the limit, there is a cell
 pub record AreTied (cells : List Named) (start p : Shown) (number : ℕ × ℕ → ℕ)
     (tokens : List (Option (OnceToken NotedPart))) : Type 0 where
   pub same_plant : p.plant ≡ start.plant
   pub same_limit : p.limit ≡ start.limit
   pub front : IsFront start.history p.history
-  pub enough : p.limit ≤ length cells
+  pub enough : p.limit ≤ length start.history + length cells
   pub slots : length tokens ≡ most_seats
   pub each : (role : Role) → IsRole start.plant role → IsTied cells start p number tokens role
 

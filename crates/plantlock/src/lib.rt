@@ -2,8 +2,8 @@
 //!
 //! What crosses the boundary: [`Shared`] is the plant under its lock, and a [`Share`] is the part
 //! of one scan worker, of one bus, or of the clock. Each call of the plant has its form here, takes
-//! the Share of its role, and leaves a [`Receipt`] there for an event. A commit and a report of
-//! what a Share shows open are never refused. [`Shared::close`] opens the lock for good: the
+//! the Share of its role, and leaves a receipt there for an event. A commit and a report of what a
+//! Share shows open are never refused. [`Shared::close`] opens the lock for good: the
 //! receipts of each Share are then exactly its part of what happened. The definitions to read first
 //! are `IsUnderLock` and `Answer` (specs/Answers.antt), what a call answers of the plant under the
 //! lock, and `IsNoted` (specs/Receipts.antt of `receipts`). `AreTied` (specs/Tied.antt) says how
@@ -19,5 +19,5 @@ mod shared;
 mod tied;
 mod ties;
 
-pub use receipts::{Basis, NotedPart, Receipt, Share, Shares};
+pub use receipts::{Basis, NotedPart, Share, Shares};
 pub use shared::{Final, Shared};

@@ -1,6 +1,6 @@
 //! The plant under its one lock.
 
-ghost use Rattle.std.specs.Prelude.{◌≡◌, ℕ, ◌<◌, ◌≤◌, None, true, false, OnOk, OnErr, IfOk, IfErr};
+ghost use Rattle.std.specs.Prelude.{◌≡◌, ℕ, ◌+◌, ◌<◌, ◌≤◌, None, true, false, OnOk, OnErr, IfOk, IfErr};
 ghost use Rattle.std.specs.Prelude.{IsOk, Some, length, slice_get, slice_index_or};
 ghost use Rattle.plantevents.specs.declared.event.Event.TheVariants as event;
 ghost use Rattle.plantevents.specs.declared.role.Role.TheVariants as roles;
@@ -10,8 +10,7 @@ ghost use Rattle.plantevents.specs.Plants.{tries_of};
 ghost use Rattle.limits.specs.Limits.{AreTries, most_buses, most_seats, most_workers};
 ghost use Rattle.receipts.specs.Each.{Each};
 ghost use Rattle.receipts.specs.Opened.{AreFreshShares, HaveAllParts, HaveReceipts};
-ghost use Rattle.receipts.specs.Receipts.{ShareParts, IsNoted, IsReserved};
-ghost use Rattle.receipts.specs.Receipts.{IsSame, whole};
+ghost use Rattle.receipts.specs.Receipts.{ShareParts, IsNoted, IsReserved, whole};
 ghost use Rattle.receipts.specs.Seats.{AreUnused};
 ghost use Rattle.plant.specs.Matches.{IsOpenScan, IsReportOf};
 ghost use Rattle.plant.specs.Refusals.{GivesFirst, GivesFirstOrMemory, down_cases};
@@ -93,10 +92,10 @@ fn meet_all<'a, J: Basis, T: Seated, K: Tallies<T>>(
 }
 
 impl<'a, J: Basis, T: Seated, K: Tallies<T>> Shared<'a, J, T, K> {
-    /// The plant under a lock, and the Share of each role. The cells are as many as the plant's
-    /// limit at least; whoever lends them makes them new, since a call waits without end where its
-    /// cell was written before. The books and the ties are those of all seats, none with an
-    /// amount.
+    /// The plant under a lock, and the Share of each role. There is a cell for each event from now
+    /// on, up to the plant's limit at least; whoever lends the cells makes them new, since a call
+    /// waits without end where its cell was written before. The books and the ties are those of all
+    /// seats, none with an amount.
     ///
     /// # Errors
     ///
@@ -110,7 +109,7 @@ impl<'a, J: Basis, T: Seated, K: Tallies<T>> Shared<'a, J, T, K> {
     ) -> Result<(Shared<'a, J, T, K>, Shares<'a, J, T>), Plant>
         requires start { plant ≡ J.start }
         requires cells { cells.now ≡ J.cells }
-        requires enough { J.start.limit ≤ length J.cells }
+        requires enough { J.start.limit ≤ length J.start.history + length J.cells }
         requires workers { J.start.plant.workers ≤ most_workers }
         requires buses { J.start.plant.plan.buses ≤ most_buses }
         requires unused { AreUnused T.seat T.amount 0 ties.items }
@@ -134,13 +133,13 @@ impl<'a, J: Basis, T: Seated, K: Tallies<T>> Shared<'a, J, T, K> {
     }
 
     /// Keeps a place of the history back for a tick, until it is used.
-    pub fn may_tick<R: Wait>(&self, rt: &R, share: &mut Share<'a, J, T>) -> Result<(), CallError>
+    pub fn may_tick<R: Wait>(&self, rt: &R, share: &mut Share<'a, J, T>) -> Result<(), CallRefusal>
         requires role { share.old.role ≡ roles.Clock }
         ensures answered { IsAnswered J.start share.old share.new
-            (λ p. GivesFirstOrMemory (may_tick_cases p))
+            (λ p. GivesFirst (may_tick_cases p))
             (λ _. reserving roles.Clock) result }
         ensures reserved { OnOk result (IsReserved share.old share.new) }
-        ensures err { OnErr result (IsSame share.old share.new) }
+        ensures err { OnErr result (share.new ≡ share.old) }
     {
         let mut tied = self.tied.lock(rt);
         tied.meet(share);
@@ -155,15 +154,15 @@ impl<'a, J: Basis, T: Seated, K: Tallies<T>> Shared<'a, J, T, K> {
         rt: &R,
         share: &mut Share<'a, J, T>,
         bus: u8,
-    ) -> Result<(), CallError>
+    ) -> Result<(), CallRefusal>
         requires role { share.old.role ≡ roles.Bus bus }
         ensures answered { IsAnswered J.start share.old share.new
-            (λ p. GivesFirstOrMemory (heard_cases p bus))
+            (λ p. GivesFirst (heard_cases p bus))
             (λ _. reserving (roles.Bus bus)) result }
         ensures reserved { OnOk result (IsReserved share.old share.new) }
         ensures up { OnOk result (shown_down (whole share.old) ≡ false) }
         ensures why { IfErr result (IsUnheard (whole share.old)) }
-        ensures err { OnErr result (IsSame share.old share.new) }
+        ensures err { OnErr result (share.new ≡ share.old) }
     {
         let mut tied = self.tied.lock(rt);
         tied.meet(share);
@@ -178,14 +177,14 @@ impl<'a, J: Basis, T: Seated, K: Tallies<T>> Shared<'a, J, T, K> {
         rt: &R,
         share: &mut Share<'a, J, T>,
         moment: u64,
-    ) -> Result<(), CallError>
+    ) -> Result<(), CallRefusal>
         requires role { share.old.role ≡ roles.Clock }
         ensures answered { IsAnswered J.start share.old share.new
-            (λ p. GivesFirstOrMemory (tick_cases p moment))
+            (λ p. GivesFirst (tick_cases p moment))
             (λ _ p. grown p (event.Tick moment)) result }
         ensures noted { OnOk result
             ((n : ℕ) × IsNoted n (event.Tick moment) share.old share.new) }
-        ensures err { OnErr result (IsSame share.old share.new) }
+        ensures err { OnErr result (share.new ≡ share.old) }
         ensures kept { share.old.reserved ≡ true → shown_moment (whole share.old) ≤ moment
             → IsOk result }
     {
@@ -203,14 +202,14 @@ impl<'a, J: Basis, T: Seated, K: Tallies<T>> Shared<'a, J, T, K> {
         share: &mut Share<'a, J, T>,
         bus: u8,
         frame: Frame24,
-    ) -> Result<(), CallError>
+    ) -> Result<(), CallRefusal>
         requires role { share.old.role ≡ roles.Bus bus }
         ensures answered { IsAnswered J.start share.old share.new
-            (λ p. GivesFirstOrMemory (heard_cases p bus))
+            (λ p. GivesFirst (heard_cases p bus))
             (λ _ p. grown p (event.Heard bus frame)) result }
         ensures noted { OnOk result
             ((n : ℕ) × IsNoted n (event.Heard bus frame) share.old share.new) }
-        ensures err { OnErr result (IsSame share.old share.new) }
+        ensures err { OnErr result (share.new ≡ share.old) }
         ensures kept { share.old.reserved ≡ true → shown_down (whole share.old) ≡ false
             → IsOk result }
     {
@@ -236,7 +235,7 @@ impl<'a, J: Basis, T: Seated, K: Tallies<T>> Shared<'a, J, T, K> {
         ensures noted { IfOk result (λ order. IsNoted order.number
             (event.Take worker order.task order.work.snapshot) share.old share.new) }
         ensures number { IfOk result (λ order. order.work.number ≡ order.number) }
-        ensures err { OnErr result (IsSame share.old share.new) }
+        ensures err { OnErr result (share.new ≡ share.old) }
     {
         let mut tied = self.tied.lock(rt);
         tied.meet(share);
@@ -276,7 +275,7 @@ impl<'a, J: Basis, T: Seated, K: Tallies<T>> Shared<'a, J, T, K> {
         rt: &R,
         share: &mut Share<'a, J, T>,
         bus: u8,
-    ) -> Result<Handed, CallError>
+    ) -> Result<Handed, CallRefusal>
         requires role { share.old.role ≡ roles.Bus bus }
         ensures answered { IsAnswered J.start share.old share.new
             (GivesHand bus)
@@ -284,7 +283,7 @@ impl<'a, J: Basis, T: Seated, K: Tallies<T>> Shared<'a, J, T, K> {
         ensures noted { IfOk result (λ handed. IsNoted handed.number
             (event.Hand bus handed.origin handed.transaction) share.old share.new) }
         ensures up { OnOk result (shown_down (whole share.old) ≡ false) }
-        ensures err { OnErr result (IsSame share.old share.new) }
+        ensures err { OnErr result (share.new ≡ share.old) }
     {
         let mut tied = self.tied.lock(rt);
         tied.meet(share);

@@ -1,15 +1,15 @@
 //! The plant with what ties the Shares to it: what lies under the lock.
 
-ghost use Rattle.std.specs.Prelude.{◌≡◌, ℕ, ◌<◌, ◌≤◌, None, true, false, OnOk, OnErr, IfErr, IsOk};
+ghost use Rattle.std.specs.Prelude.{◌≡◌, ℕ, ◌+◌, ◌<◌, ◌≤◌, None, true, false, OnOk, OnErr, IfErr, IsOk};
 ghost use Rattle.std.specs.Prelude.{length, slice_index_or};
 ghost use Rattle.limits.specs.Limits.{most_seats};
 ghost use Rattle.plantevents.specs.declared.event.Event.TheVariants as event;
 ghost use Rattle.plantevents.specs.declared.role.Role.TheVariants as roles;
 ghost use Rattle.plantevents.specs.Legal.{AreLegal};
 ghost use Rattle.plantevents.specs.Parts.{part, shown_moment, shown_down};
-ghost use Rattle.plant.specs.Refusals.{GivesFirstOrMemory, tick_cases, may_tick_cases, heard_cases};
+ghost use Rattle.plant.specs.Refusals.{GivesFirst, tick_cases, may_tick_cases, heard_cases};
 ghost use Rattle.plant.specs.Shown.{grown, reserving};
-ghost use Rattle.receipts.specs.Receipts.{IsNoted, IsReserved, IsSame, whole};
+ghost use Rattle.receipts.specs.Receipts.{IsNoted, IsReserved, whole};
 ghost use Rattle.receipts.specs.Seats.{AreCounted};
 ghost use Rattle.plantlock.specs.Answers.{IsUnderLock, IsUnheard};
 ghost use Rattle.plantlock.specs.Tied.{IsFront};
@@ -19,9 +19,9 @@ mod sending;
 
 use crate::ties::Ties;
 use daliframe::Frame24;
-use plant::{CallError, CallRefusal, Plant};
+use plant::{CallRefusal, Plant};
 use plantevents::{Event, what_a_part_shows};
-use receipts::{Basis, MOST_ROOM, NotedPart, Share};
+use receipts::{Basis, NotedPart, Share};
 use seats::{Seated, Tallies};
 use std::marker::{Model, PhantomData};
 use std::sync::{OnceLock, OnceToken, Wait};
@@ -60,7 +60,7 @@ impl<'a, J: Basis, T: Seated, K: Tallies<T>> TiedPlant<'a, J, T, K> {
     ) -> TiedPlant<'a, J, T, K>
         requires start { plant ≡ J.start }
         requires cells { cells.now ≡ J.cells }
-        requires enough { J.start.limit ≤ length J.cells }
+        requires enough { J.start.limit ≤ length J.start.history + length J.cells }
         requires numbers { AreCounted J.start (K.number numbers) most_seats }
         requires newest { (length newest.items ≡ most_seats)
             × ((k : ℕ) → k < most_seats → slice_index_or newest.items k None ≡ None) }
@@ -108,62 +108,49 @@ impl<'a, J: Basis, T: Seated, K: Tallies<T>> TiedPlant<'a, J, T, K> {
         rt: &R,
         share: &mut Share<'a, J, T>,
         moment: u64,
-    ) -> Result<(), CallError>
+    ) -> Result<(), CallRefusal>
         requires role { share.old.role ≡ roles.Clock }
         ensures event { OnOk result (self.new ≡ grown self.old (event.Tick moment)) }
         ensures noted { OnOk result
             (IsNoted (length self.old.history) (event.Tick moment) share.old share.new) }
-        ensures refused { GivesFirstOrMemory (tick_cases self.old moment) result }
-        ensures err { OnErr result ((self.new ≡ self.old) × IsSame share.old share.new) }
+        ensures refused { GivesFirst (tick_cases self.old moment) result }
+        ensures err { OnErr result ((self.new ≡ self.old) × (share.new ≡ share.old)) }
         ensures kept { share.old.reserved ≡ true → shown_moment (whole share.old) ≤ moment
             → IsOk result }
     {
         what_a_part_shows();
         self.ties.meet(share);
-        self.plant.allows_tick(moment)?;
-        if !share.is_reserved() {
-            share.make_room(MOST_ROOM)?;
-        }
-        let index = self.plant.len();
-        let _most = self.plant.limit();
         self.plant.tick(moment)?;
-        let _within = self.plant.len();
-        self.ties.file(rt, share, index, Event::Tick { moment });
+        self.ties
+            .file(rt, share, &self.plant, Event::Tick { moment });
         Ok(())
     }
 
     /// Keeps a place of the history back for a tick, until it is used.
-    pub fn may_tick(&mut self, share: &mut Share<'a, J, T>) -> Result<(), CallError>
+    pub fn may_tick(&mut self, share: &mut Share<'a, J, T>) -> Result<(), CallRefusal>
         requires role { share.old.role ≡ roles.Clock }
         ensures place { OnOk result (self.new ≡ reserving roles.Clock self.old) }
         ensures reserved { OnOk result (IsReserved share.old share.new) }
-        ensures refused { GivesFirstOrMemory (may_tick_cases self.old) result }
-        ensures err { OnErr result ((self.new ≡ self.old) × IsSame share.old share.new) }
+        ensures refused { GivesFirst (may_tick_cases self.old) result }
+        ensures err { OnErr result ((self.new ≡ self.old) × (share.new ≡ share.old)) }
     {
-        self.ties.meet(share);
-        if !share.is_reserved() && self.plant.is_full() {
-            return Err(CallError::Refused(CallRefusal::Full));
-        }
-        share.make_place()?;
         self.plant.may_tick()?;
         self.ties.keep(share);
         Ok(())
     }
 
     /// Keeps a place of the history back for a frame of a bus, until it is used.
-    pub fn may_hear(&mut self, share: &mut Share<'a, J, T>, bus: u8) -> Result<(), CallError>
+    pub fn may_hear(&mut self, share: &mut Share<'a, J, T>, bus: u8) -> Result<(), CallRefusal>
         requires role { share.old.role ≡ roles.Bus bus }
         ensures place { OnOk result (self.new ≡ reserving (roles.Bus bus) self.old) }
         ensures reserved { OnOk result (IsReserved share.old share.new) }
         ensures up { OnOk result (shown_down (whole share.old) ≡ false) }
-        ensures refused { GivesFirstOrMemory (heard_cases self.old bus) result }
+        ensures refused { GivesFirst (heard_cases self.old bus) result }
         ensures why { IfErr result (IsUnheard (whole share.old)) }
-        ensures err { OnErr result ((self.new ≡ self.old) × IsSame share.old share.new) }
+        ensures err { OnErr result ((self.new ≡ self.old) × (share.new ≡ share.old)) }
     {
         what_a_part_shows();
         self.ties.meet(share);
-        self.plant.allows_frame(bus)?;
-        share.make_place()?;
         let _places = self.plant.len();
         self.plant.may_hear(bus)?;
         self.ties.keep(share);
@@ -178,28 +165,21 @@ impl<'a, J: Basis, T: Seated, K: Tallies<T>> TiedPlant<'a, J, T, K> {
         share: &mut Share<'a, J, T>,
         bus: u8,
         frame: Frame24,
-    ) -> Result<(), CallError>
+    ) -> Result<(), CallRefusal>
         requires role { share.old.role ≡ roles.Bus bus }
         ensures event { OnOk result (self.new ≡ grown self.old (event.Heard bus frame)) }
         ensures noted { OnOk result
             (IsNoted (length self.old.history) (event.Heard bus frame) share.old share.new) }
-        ensures refused { GivesFirstOrMemory (heard_cases self.old bus) result }
-        ensures err { OnErr result ((self.new ≡ self.old) × IsSame share.old share.new) }
+        ensures refused { GivesFirst (heard_cases self.old bus) result }
+        ensures err { OnErr result ((self.new ≡ self.old) × (share.new ≡ share.old)) }
         ensures kept { share.old.reserved ≡ true → shown_down (whole share.old) ≡ false
             → IsOk result }
     {
         what_a_part_shows();
         self.ties.meet(share);
-        self.plant.allows_frame(bus)?;
-        if !share.is_reserved() {
-            share.make_room(MOST_ROOM)?;
-        }
-        let index = self.plant.len();
-        let _most = self.plant.limit();
         self.plant.heard(bus, frame)?;
-        let _within = self.plant.len();
         self.ties
-            .file(rt, share, index, Event::Heard { bus, frame });
+            .file(rt, share, &self.plant, Event::Heard { bus, frame });
         Ok(())
     }
 }

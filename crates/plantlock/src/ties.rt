@@ -1,16 +1,16 @@
 //! What the lock keeps beside the plant.
 
-ghost use Rattle.std.specs.Prelude.{◌≡◌, ℕ, ◌+◌, ◌<◌, ◌≤◌, ◌^◌, ◌∷◌, true, length};
+ghost use Rattle.std.specs.Prelude.{◌≡◌, ◌<◌, length};
 ghost use Rattle.plantevents.specs.Plants.{Plant as Made};
-ghost use Rattle.plantevents.specs.Parts.{part, placed, role_of};
+ghost use Rattle.plantevents.specs.Parts.{part, role_of};
 ghost use Rattle.plantevents.specs.declared.role.Role.{Role as RoleOf};
 ghost use Rattle.plant.specs.Shown.{Shown, grown, reserving, is_reserved};
 ghost use Rattle.limits.specs.Limits.{most_seats};
-ghost use Rattle.receipts.specs.Receipts.{IsNoted, IsReserved, IsRole, index_of};
-ghost use Rattle.receipts.specs.Receipts.{needs, whole, reserved_after};
+ghost use Rattle.receipts.specs.Receipts.{IsNoted, IsReserved, IsRole, index_of, whole};
 ghost use Rattle.plantlock.specs.Tied.{AreTied, HasPlace};
 
 use limits::{MOST_SEATS, MOST_WORKERS};
+use plant::Plant;
 use plantevents::{Event, Role};
 use receipts::{Basis, NotedPart, Share};
 use seats::{Seated, Tallies};
@@ -51,12 +51,7 @@ impl<'a, J: Basis, T: Seated, K: Tallies<T>> Ties<'a, J, T, K> {
             × (share.old.reserved ≡ is_reserved share.old.role p) }
         ensures known { IsRole J.start.plant share.old.role }
         ensures before { share.old.before ≡ part share.old.role J.start.history }
-        ensures enough { needs share.old.role (whole share.old) share.old.reserved
-            ≤ share.old.room }
-        ensures same { share.new ≡ share.old }
-        ensures numbers { self.new.numbers ≡ self.old.numbers }
-        ensures newest { self.new.newest.items ≡ self.old.newest.items }
-        ensures cells { self.new.cells.now ≡ self.old.cells.now }
+        ensures same { (self.new ≡ self.old) × (share.new ≡ share.old) }
     {
         let index = index_of(share.role());
         share.meet(&mut self.numbers, &self.newest[index]);
@@ -66,7 +61,6 @@ impl<'a, J: Basis, T: Seated, K: Tallies<T>> Ties<'a, J, T, K> {
     pub(crate) fn keep(&mut self, share: &mut Share<'a, J, T>)
         requires tied { (p : Shown)
             × AreTied J.cells J.start p (K.number self.old.numbers) self.old.newest.items }
-        requires room { needs share.old.role (whole share.old) true ≤ share.old.room }
         ensures tied { (p : Shown) (role : RoleOf) → share.old.role ≡ role → HasPlace role p
             → AreTied J.cells J.start p (K.number self.old.numbers) self.old.newest.items
             → AreTied J.cells J.start (reserving role p) (K.number self.new.numbers)
@@ -78,28 +72,26 @@ impl<'a, J: Basis, T: Seated, K: Tallies<T>> Ties<'a, J, T, K> {
         share.keep(&mut self.numbers);
     }
 
-    /// Files an event that the plant took.
+    /// Files an event, with which the plant has become this one.
     pub(crate) fn file<R: Wait>(
         &mut self,
         rt: &R,
         share: &mut Share<'a, J, T>,
-        index: u64,
+        plant: &Plant,
         event: Event,
     )
-        requires cells { (self.old.cells.now ≡ J.cells) × (index < length J.cells) }
-        requires small { index < 2 ^ 32 }
-        requires tied { (p : Shown) × (length p.history ≡ index)
+        requires cells { self.old.cells.now ≡ J.cells }
+        requires tied { (p : Shown) × (plant.now ≡ grown p event)
             × AreTied J.cells J.start p (K.number self.old.numbers) self.old.newest.items }
         requires role { role_of event ≡ share.old.role }
-        requires room { needs share.old.role (placed index event ∷ whole share.old)
-            (reserved_after event share.old.reserved) + 1 ≤ share.old.room }
-        ensures tied { (p : Shown) → length p.history ≡ index
-            → AreTied J.cells J.start p (K.number self.old.numbers) self.old.newest.items
-            → AreTied J.cells J.start (grown p event) (K.number self.new.numbers)
+        ensures tied { AreTied J.cells J.start plant.now (K.number self.new.numbers)
             self.new.newest.items }
         ensures cells { self.new.cells.now ≡ self.old.cells.now }
-        ensures noted { IsNoted index event share.old share.new }
+        ensures noted { (p : Shown) → plant.now ≡ grown p event
+            → IsNoted (length p.history) event share.old share.new }
     {
+        let index = plant.len() - 1;
+        let _most = plant.limit();
         let slot = index_of(share.role());
         share.meet(&mut self.numbers, &self.newest[slot]);
         let token = share.note(rt, self.cells, &mut self.numbers, index, event);

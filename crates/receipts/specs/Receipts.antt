@@ -1,13 +1,13 @@
 -- What contracts see of a Share: its receipts are the events of its role since the start of the lock (profile).
 use Rattle.std.specs.Prelude.{◌≡◌, ℕ, ◌+◌, ◌<◌, ◌/◌, ◌%◌, Bool, true, false, if◌then◌else◌, List, [], ◌++◌, ◌∷◌}
-use Rattle.std.specs.Prelude.{is_some, length, map, ⊤}
+use Rattle.std.specs.Prelude.{length, map, ⊤}
 use Rattle.limits.specs.Limits.{most_buses, most_workers}
 use Rattle.plantevents.specs.declared.role.Role.{Role}
 use Rattle.plantevents.specs.declared.role.Role.TheVariants.{Worker, Bus, Clock}
 use Rattle.plantevents.specs.declared.event.Event.{Event}
 use Rattle.plantevents.specs.declared.event.Event.TheVariants.{Tick, Heard}
 use Rattle.plantevents.specs.Plants.{Plant}
-use Rattle.plantevents.specs.Parts.{Placed, placed, part, shown_scan, shown_hand, shown_down}
+use Rattle.plantevents.specs.Parts.{Placed, placed, part}
 use Rattle.plant.specs.Shown.{Shown, is_reserved}
 use Rattle.buslink.specs.Each.{Each}
 
@@ -35,14 +35,13 @@ seat_of role = seat_at (index_of role)
 
 -- ---- Shares
 
--- what a contract sees of a Share: its receipts and what was in its role's part before them, the newest first; whether
--- a place is kept back for it; and how many receipts more it has room for
+-- what a contract sees of a Share: its receipts and what was in its role's part before them, the newest first; and
+-- whether a place is kept back for it
 pub record ShareParts : Type 0 where
   pub role : Role
   pub receipts : List Placed
   pub before : List Placed
   pub reserved : Bool
-  pub room : ℕ
 
 -- the whole part
 abbrev pub whole : ShareParts → List Placed
@@ -56,14 +55,6 @@ uses_place e = false
 
 abbrev pub reserved_after : Event → Bool → Bool
 reserved_after e reserved = if uses_place e then false else reserved
-
--- how many receipts are to come of calls that are never full: the Commit of a scan that is open, the Done of a
--- transaction, the Down of a bus, and what a place is kept back for
-abbrev pub needs : Role → List Placed → Bool → ℕ
-needs (Worker w) part reserved = if is_some (shown_scan part) then 1 else 0
-needs (Bus b) part reserved =
-    (if is_some (shown_hand part) then 1 else 0) + (if shown_down part then 0 else 1) + (if reserved then 1 else 0)
-needs Clock part reserved = if reserved then 1 else 0
 
 -- the receipts of a Share, with its part of the history at the start, are its part of this history
 pub record HasPart (s : ShareParts) (h : List Event) : Type 0 where
@@ -107,13 +98,6 @@ abbrev pub IsLastPlace : ℕ → List Placed → Type 0
 IsLastPlace n receipts = reach_of receipts ≡ n + 1
 
 -- ---- what a call does to a Share
-
--- the same Share but for its room
-pub record IsSame (s t : ShareParts) : Type 0 where
-  pub role : t.role ≡ s.role
-  pub receipts : t.receipts ≡ s.receipts
-  pub before : t.before ≡ s.before
-  pub reserved : t.reserved ≡ s.reserved
 
 -- the Share with the receipt of one event more
 pub record IsNoted (n : ℕ) (e : Event) (s t : ShareParts) : Type 0 where

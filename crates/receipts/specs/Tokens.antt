@@ -16,13 +16,14 @@ no_lock = record { id = 0 }
 abbrev pub id_at : List Named → ℕ → ℕ
 id_at cells k = (slice_index_or cells k no_lock).id
 
--- n is one more than the place of the newest receipt, and the token is that of its cell; or there is none
-abbrev pub Held : List Named → ℕ → Option (OnceToken NotedPart) → List Placed → Type 0
-Held cells n (Some t) receipts = (0 < n) × (t.of ≡ id_at cells (n - 1)) × (t.value ≡ receipts)
-Held cells n None receipts = (n ≡ 0) × (receipts ≡ [])
+-- n is one more than the place of the newest receipt, and the token is that of its cell, the first of which is that of
+-- the place `base`; or there is none
+abbrev pub Held : ℕ → List Named → ℕ → Option (OnceToken NotedPart) → List Placed → Type 0
+Held base cells n (Some t) receipts = (base < n) × (t.of ≡ id_at cells (n - 1 - base)) × (t.value ≡ receipts)
+Held base cells n None receipts = (n ≡ 0) × (receipts ≡ [])
 
 -- a ledger's number, with the token, says how far the receipts reach, whether a place is kept back, and the receipts
-pub record Says (cells : List Named) (number : ℕ) (token : Option (OnceToken NotedPart)) (reach : ℕ) (reserved : Bool)
-    (receipts : List Placed) : Type 0 where
+pub record Says (base : ℕ) (cells : List Named) (number : ℕ) (token : Option (OnceToken NotedPart)) (reach : ℕ)
+    (reserved : Bool) (receipts : List Placed) : Type 0 where
   pub numbered : number ≡ 2 * reach + one_if reserved
-  pub held : Held cells reach token receipts
+  pub held : Held base cells reach token receipts

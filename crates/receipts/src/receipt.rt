@@ -1,15 +1,15 @@
 //! Receipts.
 
-ghost use Rattle.std.specs.Prelude.{◌≡◌, reverse};
+ghost use Rattle.std.specs.Prelude.{◌≡◌};
 ghost use Rattle.plantevents.specs.Parts.{placed};
 
-use memo::Memo;
+use memo::{Memo, Trace};
 use plantevents::Event;
 use std::marker::Model;
 
-/// An event and its place in the history.
+/// An event and its place in the history, for contracts alone.
 #[derive(Drop)]
-pub struct Receipt {
+pub(crate) struct Receipt {
     index: u64,
     event: Event,
 }
@@ -30,26 +30,12 @@ impl Receipt {
     {
         Receipt { index, event }
     }
-
-    /// The place of the event.
-    pub fn index(&self) -> u64
-        ensures value { result ≡ self.now.place }
-    {
-        self.index
-    }
-
-    /// The event.
-    pub fn event(&self) -> &Event
-        ensures value { result.now ≡ self.now.event }
-    {
-        &self.event
-    }
 }
 
 /// What a cell holds, for contracts alone: the receipts of a role up to the event of this cell, the
 /// newest first.
 pub struct NotedPart {
-    receipts: Memo<Vec<Receipt>>,
+    receipts: Memo<Trace<Receipt>>,
 }
 
 /// Written out, so that it is proved here alone.
@@ -60,18 +46,18 @@ impl Drop for NotedPart {
 }
 
 impl Model for NotedPart {
-    ghost use Rattle.std.specs.Prelude.{List, reverse};
+    ghost use Rattle.std.specs.Prelude.{List};
     ghost use Rattle.plantevents.specs.Parts.{Placed};
 
     ghost Value = { List Placed };
 
-    ghost view = { λ n. reverse n.receipts.value.items };
+    ghost view = { λ n. n.receipts.value.items };
 }
 
 impl NotedPart {
     /// The receipts, noted.
-    pub(crate) fn of(receipts: &Vec<Receipt>) -> NotedPart
-        ensures { result ≡ reverse receipts.now.items }
+    pub(crate) fn of(receipts: &Trace<Receipt>) -> NotedPart
+        ensures { result ≡ receipts.now.items }
     {
         NotedPart {
             receipts: Memo::of(receipts),

@@ -49,24 +49,23 @@ fn skip_ties<T: Seated>(ties: &mut Vec<T>, seats: usize)
 
 /// The Share of the role whose seat is the next.
 fn next_share<'a, J: Basis, T: Seated, K: Tallies<T>>(
-    alloc: Global,
     plant: &Plant,
     role: Role,
     books: &mut K,
     ties: &mut Vec<T>,
-) -> Result<Share<'a, J, T>, AllocError>
+) -> Share<'a, J, T>
     requires start { plant.now ≡ J.start }
     requires known { IsRole J.start.plant role }
     requires unused { AreUnused T.seat T.amount (index_of role) ties.old.items }
-    ensures fresh { IfOk result (IsFresh J.start role) }
-    ensures unused { OnOk result (AreUnused T.seat T.amount (index_of role + 1) ties.new.items) }
-    ensures counted { OnOk result (AreCounted J.start (K.number books.old) (index_of role)
-        → AreCounted J.start (K.number books.new) (index_of role + 1)) }
+    ensures fresh { IsFresh J.start role result }
+    ensures unused { AreUnused T.seat T.amount (index_of role + 1) ties.new.items }
+    ensures counted { AreCounted J.start (K.number books.old) (index_of role)
+        → AreCounted J.start (K.number books.new) (index_of role + 1) }
 {
     let mut tie = next_tie(ties);
     let reserved = plant.keeps(role);
     count_place(books, &mut tie, reserved);
-    Share::new(alloc, role, reserved, tie)
+    Share::new(plant.len(), role, reserved, tie)
 }
 
 /// Counts a place that is kept back before the first event.
@@ -103,7 +102,7 @@ fn worker_shares<'a, J: Basis, T: Seated, K: Tallies<T>>(
     let mut shares = Vec::new(alloc);
     let workers = plant.workers();
     for worker in 0..workers {
-        let share = next_share(alloc, plant, Role::Worker(worker), books, ties)?;
+        let share = next_share(plant, Role::Worker(worker), books, ties);
         shares.push(share)?;
     }
     skip_ties(ties, MOST_WORKERS - workers);
@@ -131,7 +130,7 @@ fn bus_shares<'a, J: Basis, T: Seated, K: Tallies<T>>(
     let mut shares = Vec::new(alloc);
     let buses = plant.setup().plan().buses();
     for bus in 0..buses {
-        let share = next_share(alloc, plant, Role::Bus(bus), books, ties)?;
+        let share = next_share(plant, Role::Bus(bus), books, ties);
         shares.push(share)?;
     }
     skip_ties(ties, usize::from(MOST_BUSES - buses));
@@ -161,7 +160,7 @@ impl<'a, J: Basis, T: Seated> Shares<'a, J, T> {
         let mut ties = ties;
         let workers = worker_shares(alloc, plant, books, &mut ties)?;
         let buses = bus_shares(alloc, plant, books, &mut ties)?;
-        let clock = next_share(alloc, plant, Role::Clock, books, &mut ties)?;
+        let clock = next_share(plant, Role::Clock, books, &mut ties);
         Ok(Shares {
             workers,
             buses,

@@ -23,8 +23,7 @@ pub struct Timed<'a, C: Clock, J: Basis, T: Seated> {
 ///
 /// # Errors
 ///
-/// The allocator is out of memory, or the history is full: the clock wasn't asked. Or an observer
-/// failed, once the moment was noted.
+/// The history is full: the clock wasn't asked. Or an observer failed, once the moment was noted.
 #[tactic(auto, using(driving::proofs::Counts::grown_by_one))]
 pub fn tick_once<
     'a,

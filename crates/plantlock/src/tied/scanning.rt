@@ -6,14 +6,14 @@ ghost use Rattle.plantevents.specs.declared.role.Role.TheVariants as roles;
 ghost use Rattle.plant.specs.Matches.{IsOpenScan};
 ghost use Rattle.plant.specs.Refusals.{GivesFirstOrMemory, take_cases};
 ghost use Rattle.plant.specs.Shown.{grown};
-ghost use Rattle.receipts.specs.Receipts.{IsNoted, IsSame, whole};
+ghost use Rattle.receipts.specs.Receipts.{IsNoted, whole};
 ghost use Rattle.plantlock.specs.Answers.{Decides, IsOwn, ShowsScan};
 
 use super::TiedPlant;
 use ilmachine::ScanResult;
 use plant::{CallError, Order};
 use plantevents::{Event, NotedResult, NotedSnapshot, what_a_part_shows};
-use receipts::{Basis, MOST_ROOM, Share};
+use receipts::{Basis, Share};
 use seats::{Seated, Tallies};
 use std::alloc::Global;
 use std::sync::Wait;
@@ -35,22 +35,15 @@ impl<'a, J: Basis, T: Seated, K: Tallies<T>> TiedPlant<'a, J, T, K> {
         ensures number { IfOk result (λ order. (order.number ≡ length self.old.history)
             × (order.work.number ≡ order.number)) }
         ensures refused { GivesFirstOrMemory (take_cases self.old worker) result }
-        ensures err { OnErr result ((self.new ≡ self.old) × IsSame share.old share.new) }
+        ensures err { OnErr result ((self.new ≡ self.old) × (share.new ≡ share.old)) }
     {
-        if share.make_room(MOST_ROOM).is_err() {
-            self.plant.allows_take(worker)?;
-            return Err(CallError::Memory);
-        }
-        let index = self.plant.len();
-        let _most = self.plant.limit();
         let order = self.plant.take(alloc, worker)?;
-        let _within = self.plant.len();
         let event = Event::Take {
             worker,
             task: order.task,
             snapshot: NotedSnapshot::of(order.work.snapshot()),
         };
-        self.ties.file(rt, share, index, event);
+        self.ties.file(rt, share, &self.plant, event);
         Ok(order)
     }
 
@@ -75,21 +68,18 @@ impl<'a, J: Basis, T: Seated, K: Tallies<T>> TiedPlant<'a, J, T, K> {
     {
         what_a_part_shows();
         self.ties.meet(share);
-        let index = self.plant.len();
-        let _most = self.plant.limit();
         let number = scan.number();
         let noted = NotedResult::of(&scan);
         match self.plant.commit(worker, scan) {
             Ok(()) => {}
             Err(back) => return Err(back),
         }
-        let _within = self.plant.len();
         let event = Event::Commit {
             worker,
             number,
             result: noted,
         };
-        self.ties.file(rt, share, index, event);
+        self.ties.file(rt, share, &self.plant, event);
         Ok(())
     }
 }

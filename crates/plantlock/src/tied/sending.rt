@@ -3,20 +3,19 @@
 ghost use Rattle.std.specs.Prelude.{◌≡◌, false, OnOk, OnErr, IfOk, IfErr, IsOk, length};
 ghost use Rattle.plantevents.specs.declared.event.Event.TheVariants as event;
 ghost use Rattle.plantevents.specs.declared.role.Role.TheVariants as roles;
-ghost use Rattle.plantevents.specs.Histories.{is_down};
 ghost use Rattle.plantevents.specs.Parts.{shown_down};
 ghost use Rattle.plantevents.specs.Plants.{tries_of};
 ghost use Rattle.limits.specs.Limits.{AreTries};
 ghost use Rattle.plant.specs.Matches.{IsReportOf};
-ghost use Rattle.plant.specs.Refusals.{GivesFirst, GivesFirstOrMemory, hand_cases, down_cases};
+ghost use Rattle.plant.specs.Refusals.{GivesFirst, down_cases, hand_cases};
 ghost use Rattle.plant.specs.Shown.{grown};
-ghost use Rattle.receipts.specs.Receipts.{IsNoted, IsSame, whole};
-ghost use Rattle.plantlock.specs.Answers.{Decides, IsRefusedBy, ShowsTransaction};
+ghost use Rattle.receipts.specs.Receipts.{IsNoted, whole};
+ghost use Rattle.plantlock.specs.Answers.{Decides, ShowsTransaction};
 
 use super::TiedPlant;
-use plant::{CallError, CallRefusal, Handed, Plant};
+use plant::{CallRefusal, Handed};
 use plantevents::{Event, what_a_part_shows};
-use receipts::{Basis, MOST_ROOM, Share};
+use receipts::{Basis, Share};
 use seats::{Seated, Tallies};
 use std::sync::Wait;
 use transact::{Report, Transaction};
@@ -28,31 +27,6 @@ fn copy_of(transaction: &Transaction) -> Transaction
     transaction.clone().unwrap()
 }
 
-/// The plant's Hand. Of what may be handed out its clauses do not speak.
-fn hand_out(plant: &mut Plant, bus: u8) -> Result<Handed, CallError>
-    ensures grown { IfOk result (λ handed. plant.new
-        ≡ grown plant.old (event.Hand bus handed.origin handed.transaction)) }
-    ensures number { IfOk result (λ handed. handed.number ≡ length plant.old.history) }
-    ensures up { OnOk result (is_down bus plant.old.history ≡ false) }
-    ensures refused { GivesFirstOrMemory (hand_cases plant.old bus) result }
-    ensures err { OnErr result (plant.new ≡ plant.old) }
-{
-    match plant.hand(bus) {
-        Ok(handed) => Ok(handed),
-        Err(refusal) => Err(CallError::Refused(refusal)),
-    }
-}
-
-/// Why nothing is handed out where a Share has no room: what the plant refuses goes first.
-fn without_room(plant: &Plant, bus: u8) -> CallError
-    ensures { IsRefusedBy (hand_cases plant.now bus) result }
-{
-    match plant.allows_hand(bus) {
-        Ok(()) => CallError::Memory,
-        Err(refusal) => CallError::Refused(refusal),
-    }
-}
-
 impl<'a, J: Basis, T: Seated, K: Tallies<T>> TiedPlant<'a, J, T, K> {
     /// Hands a bus what is to be sent next.
     pub fn hand<R: Wait>(
@@ -60,7 +34,7 @@ impl<'a, J: Basis, T: Seated, K: Tallies<T>> TiedPlant<'a, J, T, K> {
         rt: &R,
         share: &mut Share<'a, J, T>,
         bus: u8,
-    ) -> Result<Handed, CallError>
+    ) -> Result<Handed, CallRefusal>
         requires role { share.old.role ≡ roles.Bus bus }
         ensures event { IfOk result (λ handed. self.new
             ≡ grown self.old (event.Hand bus handed.origin handed.transaction)) }
@@ -68,27 +42,18 @@ impl<'a, J: Basis, T: Seated, K: Tallies<T>> TiedPlant<'a, J, T, K> {
             (event.Hand bus handed.origin handed.transaction) share.old share.new) }
         ensures number { IfOk result (λ handed. handed.number ≡ length self.old.history) }
         ensures up { OnOk result (shown_down (whole share.old) ≡ false) }
-        ensures refused { GivesFirstOrMemory (hand_cases self.old bus) result }
-        ensures err { OnErr result ((self.new ≡ self.old) × IsSame share.old share.new) }
+        ensures refused { GivesFirst (hand_cases self.old bus) result }
+        ensures err { OnErr result ((self.new ≡ self.old) × (share.new ≡ share.old)) }
     {
         what_a_part_shows();
         self.ties.meet(share);
-        if share.make_room(MOST_ROOM).is_err() {
-            return Err(without_room(&self.plant, bus));
-        }
-        let index = self.plant.len();
-        let _most = self.plant.limit();
-        let handed = match hand_out(&mut self.plant, bus) {
-            Ok(handed) => handed,
-            Err(error) => return Err(error),
-        };
-        let _within = self.plant.len();
+        let handed = self.plant.hand(bus)?;
         let event = Event::Hand {
             bus,
             origin: handed.origin,
             transaction: copy_of(&handed.transaction),
         };
-        self.ties.file(rt, share, index, event);
+        self.ties.file(rt, share, &self.plant, event);
         Ok(handed)
     }
 
@@ -125,20 +90,17 @@ impl<'a, J: Basis, T: Seated, K: Tallies<T>> TiedPlant<'a, J, T, K> {
     {
         what_a_part_shows();
         self.ties.meet(share);
-        let index = self.plant.len();
-        let _most = self.plant.limit();
         let noted = report.clone().unwrap();
         match self.plant.done(bus, number, report) {
             Ok(()) => {}
             Err(back) => return Err(back),
         }
-        let _within = self.plant.len();
         let event = Event::Done {
             bus,
             number,
             report: noted,
         };
-        self.ties.file(rt, share, index, event);
+        self.ties.file(rt, share, &self.plant, event);
         Ok(())
     }
 
@@ -159,11 +121,8 @@ impl<'a, J: Basis, T: Seated, K: Tallies<T>> TiedPlant<'a, J, T, K> {
     {
         what_a_part_shows();
         self.ties.meet(share);
-        let index = self.plant.len();
-        let _most = self.plant.limit();
         self.plant.down(bus)?;
-        let _within = self.plant.len();
-        self.ties.file(rt, share, index, Event::Down { bus });
+        self.ties.file(rt, share, &self.plant, Event::Down { bus });
         Ok(())
     }
 }

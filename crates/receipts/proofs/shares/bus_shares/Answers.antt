@@ -15,50 +15,41 @@ loop-bus-init g c = (
   c.requires.counted,
 )
 
-pub next_share-requires-clause-start : goal.next_share-requires-clause-start
-next_share-requires-clause-start g c = c.requires.start
+pub next_share-share-requires-clause-start : goal.next_share-share-requires-clause-start
+next_share-share-requires-clause-start g c = c.requires.start
 
-pub next_share-requires-clause-known : goal.next_share-requires-clause-known
-next_share-requires-clause-known g c =
+pub next_share-share-requires-clause-known : goal.next_share-share-requires-clause-known
+next_share-share-requires-clause-known g c =
     one_of c.loop-bus.bus c.buses-buses.result g.J.Basis.start.plant.plan.buses most_buses
     (buses_known c.args.plant.now g.J.Basis.start c.setup.result.now.plan c.plan.result.now c.buses-buses.result
     c.requires.start c.setup.ensures.plan c.plan.ensures.value c.buses-buses.ensures.value)
     c.requires.seated c.loop-bus-test.true
 
-pub next_share-requires-clause-unused : goal.next_share-requires-clause-unused
-next_share-requires-clause-unused g c = let inv = c.loop-bus.invariant in inv.1
-
-pub returns-in_err-share-clause-shares : goal.returns-in_err-share-clause-shares
-returns-in_err-share-clause-shares g c = IfOk-from_err c.from_residual.result _ c.from_residual.ensures.0
-
-pub returns-in_err-share-clause-unused : goal.returns-in_err-share-clause-unused
-returns-in_err-share-clause-unused g c = on_ok-from_err c.from_residual.result _ c.from_residual.ensures.0
-
-pub returns-in_err-share-clause-counted : goal.returns-in_err-share-clause-counted
-returns-in_err-share-clause-counted g c = on_ok-from_err c.from_residual.result _ c.from_residual.ensures.0
+pub next_share-share-requires-clause-unused : goal.next_share-share-requires-clause-unused
+next_share-share-requires-clause-unused g c = let inv = c.loop-bus.invariant in inv.1
 
 pub returns-in_err-push-clause-shares : goal.returns-in_err-push-clause-shares
 returns-in_err-push-clause-shares g c =
-    IfOk-from_err c.from_residual-in_err-push.result _ c.from_residual-in_err-push.ensures.0
+    IfOk-from_err c.from_residual.result _ c.from_residual.ensures.0
 
 pub returns-in_err-push-clause-unused : goal.returns-in_err-push-clause-unused
 returns-in_err-push-clause-unused g c =
-    on_ok-from_err c.from_residual-in_err-push.result _ c.from_residual-in_err-push.ensures.0
+    on_ok-from_err c.from_residual.result _ c.from_residual.ensures.0
 
 pub returns-in_err-push-clause-counted : goal.returns-in_err-push-clause-counted
 returns-in_err-push-clause-counted g c =
-    on_ok-from_err c.from_residual-in_err-push.result _ c.from_residual-in_err-push.ensures.0
+    on_ok-from_err c.from_residual.result _ c.from_residual.ensures.0
 
 pub loop-bus-preserved : goal.loop-bus-preserved
 loop-bus-preserved g c =
     let inv = c.loop-bus.invariant in
-    let made = c.in_ok-share.ensures in
+    let made = c.next_share-share.ensures in
     let n = c.loop-bus.bus in
     let same : most_workers + n + 1 ≡ most_workers + (n + 1) = omega arith in (
-      fresh_pushed g.J.Basis.start Bus n c.loop-bus.shares.items c.push.new.self.items c.in_ok-share.share inv.0
+      fresh_pushed g.J.Basis.start Bus n c.loop-bus.shares.items c.push.new.self.items c.next_share-share.result inv.0
           made.fresh c.in_ok-push.ensures.items,
-      subst (λ m. AreUnused g.T.Seated.seat g.T.Seated.amount m c.next_share.new.ties.items) same made.unused,
-      subst (λ m. AreCounted g.J.Basis.start (g.K.Tallies.number c.next_share.new.books) m) same (made.counted inv.2),
+      subst (λ m. AreUnused g.T.Seated.seat g.T.Seated.amount m c.next_share-share.new.ties.items) same made.unused,
+      subst (λ m. AreCounted g.J.Basis.start (g.K.Tallies.number c.next_share-share.new.books) m) same (made.counted inv.2),
     )
 
 pub overflow_sub-buses : goal.overflow_sub-buses

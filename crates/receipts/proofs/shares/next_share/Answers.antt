@@ -1,7 +1,6 @@
-use Rattle.std.proofs.Common.{◌∙◌, ap}
+use Rattle.std.proofs.Common.{length, ◌∙◌, ap}
 use Rattle.plant.specs.Shown.{Shown, is_reserved}
 use Rattle.receipts.specs.Receipts.{index_of}
-use Rattle.receipts.proofs.Outcomes.{on_ok-always}
 use Rattle.receipts.proofs.Roles.{index_below}
 use Rattle.receipts.proofs.Seating.{counted_next}
 use Rattle.receipts.proofs.shares.next_share.Goals as goal
@@ -14,6 +13,9 @@ pub count_place-requires : goal.count_place-requires
 count_place-requires g c =
     (c.next_tie-tie.ensures (index_of c.args.role) (index_below g.J.Basis.start.plant c.args.role c.requires.known)
     c.requires.unused).unused
+
+pub new-requires-clause-base : goal.new-requires-clause-base
+new-requires-clause-base g c = c.len.ensures.value ∙ ap (λ (p : Shown). length p.history) c.requires.start
 
 pub new-requires-clause-known : goal.new-requires-clause-known
 new-requires-clause-known g c = c.requires.known
@@ -35,16 +37,14 @@ returns-clause-fresh g c = c.new.ensures.fresh
 
 pub returns-clause-unused : goal.returns-clause-unused
 returns-clause-unused g c =
-    on_ok-always c.new.result _
-    (c.next_tie-tie.ensures (index_of c.args.role)
-    (index_below g.J.Basis.start.plant c.args.role c.requires.known) c.requires.unused).rest
+    (c.next_tie-tie.ensures (index_of c.args.role) (index_below g.J.Basis.start.plant c.args.role c.requires.known)
+    c.requires.unused).rest
 
 pub returns-clause-counted : goal.returns-clause-counted
 returns-clause-counted g c =
-    on_ok-always c.new.result _
-    (counted_next g.J.Basis.start (g.K.Tallies.number c.args.books.now) (g.K.Tallies.number c.count_place.new.books)
+    counted_next g.J.Basis.start (g.K.Tallies.number c.args.books.now) (g.K.Tallies.number c.count_place.new.books)
     c.args.role (g.T.Seated.seat c.next_tie-tie.result) c.keeps-reserved.result c.requires.known
-    (c.next_tie-tie.ensures (index_of c.args.role)
-    (index_below g.J.Basis.start.plant c.args.role c.requires.known) c.requires.unused).seated
+    (c.next_tie-tie.ensures (index_of c.args.role) (index_below g.J.Basis.start.plant c.args.role c.requires.known)
+    c.requires.unused).seated
     (c.keeps-reserved.ensures.value ∙ ap (λ (p : Shown). is_reserved c.args.role p) c.requires.start)
-    c.count_place.ensures.mine c.count_place.ensures.others)
+    c.count_place.ensures.mine c.count_place.ensures.others

@@ -17,45 +17,36 @@ loop-worker-init g c = (
   counted_none g.J.Basis.start (g.K.Tallies.number c.args.books.now),
 )
 
-pub next_share-requires-clause-start : goal.next_share-requires-clause-start
-next_share-requires-clause-start g c = c.requires.start
+pub next_share-share-requires-clause-start : goal.next_share-share-requires-clause-start
+next_share-share-requires-clause-start g c = c.requires.start
 
-pub next_share-requires-clause-known : goal.next_share-requires-clause-known
-next_share-requires-clause-known g c =
+pub next_share-share-requires-clause-known : goal.next_share-share-requires-clause-known
+next_share-share-requires-clause-known g c =
     one_of c.loop-worker.worker c.workers-workers.result g.J.Basis.start.plant.workers most_workers
     (c.workers-workers.ensures.value ∙ ap (λ (p : Shown). p.plant.workers) c.requires.start) c.requires.seated
     c.loop-worker-test.true
 
-pub next_share-requires-clause-unused : goal.next_share-requires-clause-unused
-next_share-requires-clause-unused g c = let inv = c.loop-worker.invariant in inv.1
-
-pub returns-in_err-share-clause-shares : goal.returns-in_err-share-clause-shares
-returns-in_err-share-clause-shares g c = IfOk-from_err c.from_residual.result _ c.from_residual.ensures.0
-
-pub returns-in_err-share-clause-unused : goal.returns-in_err-share-clause-unused
-returns-in_err-share-clause-unused g c = on_ok-from_err c.from_residual.result _ c.from_residual.ensures.0
-
-pub returns-in_err-share-clause-counted : goal.returns-in_err-share-clause-counted
-returns-in_err-share-clause-counted g c = on_ok-from_err c.from_residual.result _ c.from_residual.ensures.0
+pub next_share-share-requires-clause-unused : goal.next_share-share-requires-clause-unused
+next_share-share-requires-clause-unused g c = let inv = c.loop-worker.invariant in inv.1
 
 pub returns-in_err-push-clause-shares : goal.returns-in_err-push-clause-shares
 returns-in_err-push-clause-shares g c =
-    IfOk-from_err c.from_residual-in_err-push.result _ c.from_residual-in_err-push.ensures.0
+    IfOk-from_err c.from_residual.result _ c.from_residual.ensures.0
 
 pub returns-in_err-push-clause-unused : goal.returns-in_err-push-clause-unused
 returns-in_err-push-clause-unused g c =
-    on_ok-from_err c.from_residual-in_err-push.result _ c.from_residual-in_err-push.ensures.0
+    on_ok-from_err c.from_residual.result _ c.from_residual.ensures.0
 
 pub returns-in_err-push-clause-counted : goal.returns-in_err-push-clause-counted
 returns-in_err-push-clause-counted g c =
-    on_ok-from_err c.from_residual-in_err-push.result _ c.from_residual-in_err-push.ensures.0
+    on_ok-from_err c.from_residual.result _ c.from_residual.ensures.0
 
 pub loop-worker-preserved : goal.loop-worker-preserved
 loop-worker-preserved g c =
     let inv = c.loop-worker.invariant in
-    let made = c.in_ok-share.ensures in (
+    let made = c.next_share-share.ensures in (
       fresh_pushed g.J.Basis.start Worker c.loop-worker.worker c.loop-worker.shares.items
-          c.push.new.self.items c.in_ok-share.share inv.0 made.fresh c.in_ok-push.ensures.items,
+          c.push.new.self.items c.next_share-share.result inv.0 made.fresh c.in_ok-push.ensures.items,
       made.unused,
       made.counted inv.2,
     )

@@ -1,5 +1,4 @@
 use Rattle.std.proofs.Common.{◌∙◌, ap, subst, sym, true≢false}
-use Rattle.gearcmd.specs.FrameLists.{FrameList}
 use Rattle.transact.specs.Attempts.{ReportParts}
 use Rattle.driving.proofs.Sent.{copied}
 use Rattle.receipts.specs.Receipts.{ShareParts, whole}

@@ -1,86 +1,22 @@
-use Rattle.std.proofs.Common.{◌≡◌, ◌∙◌, ℕ, ◌+◌, ◌≤◌, ◌∷◌, false, None, Some, length, true≢false, refl, ap, sym}
-use Rattle.std.proofs.Common.{subst}
-use Rattle.plantevents.specs.declared.event.Event.TheVariants.{Heard}
-use Rattle.plantevents.specs.Parts.{placed}
-use Rattle.plant.specs.Refusals.{first_refusal, heard_cases}
-use Rattle.plant.specs.Shown.{Shown, grown}
-use Rattle.receipts.specs.Receipts.{ShareParts, IsNoted, IsSame, needs, whole}
-use Rattle.plantlock.proofs.Fitting.{tied_still, same_when, same_after, place_below}
-use Rattle.plantlock.proofs.Fitting.{place_small, room_made, room_of_frame}
-use Rattle.plantlock.proofs.Noted.{noted_after}
-use Rattle.plantlock.proofs.Refusing.{refused_as, memory_as, bus_known, frame_accepted}
-use Rattle.plantlock.proofs.tied.TiedPlant.heard.Goals.{then-not-is_reserved+in_ok-make_room, else-not-is_reserved}
+use Rattle.std.proofs.Common.{refl, sym}
+use Rattle.plantlock.proofs.Refusing.{error_as, bus_known, frame_accepted}
 use Rattle.plantlock.proofs.tied.TiedPlant.heard.Goals as goal
 
 pub meet-requires : goal.meet-requires
 meet-requires g c = record { tied = (c.self.inside.plant, c.self.invariant.1) }
 
 pub invariant_of-self : goal.invariant_of-self
-invariant_of-self g c = (
-  c.meet.ensures.cells ∙ c.self.invariant.0,
-  tied_still g.J.Basis.cells g.J.Basis.start c.self.inside.plant c.self.inside.plant _ _ _ _ refl
-      (ap g.K.Tallies.number c.meet.ensures.numbers) c.meet.ensures.newest c.self.invariant.1,
-)
-
-pub returns-in_err-allows_frame : goal.returns-in_err-allows_frame
-returns-in_err-allows_frame g c =
-    let p = c.self.inside.plant in
-    let refusal = c.in_err-allows_frame.field-0.0 in
-    rw (refused_as c.from_residual.result refusal c.from_residual.ensures.1) (record {
-      event = tt;
-      noted = tt;
-      refused = subst (λ (q : Shown). first_refusal (heard_cases q c.args.bus) ≡ Some refusal) c.self.view_is
-          c.in_err-allows_frame.ensures.refused;
-      err = (c.self.view_is, same_when _ _ c.meet.ensures.same);
-      kept = λ place fits. absurd (frame_accepted p c.args.share.now c.args.bus refusal c.requires.role
-          (c.meet.ensures.agree p c.self.invariant.1) (c.what_a_part_shows.ensures.down c.args.bus p.history)
-          (bus_known g.J.Basis.start p _ c.args.bus c.requires.role c.meet.ensures.known c.self.invariant.1.same_plant)
-          c.in_err-allows_frame.ensures.refused place fits);
-    })
-
-pub invariant_of-self-in_err-make_room : goal.invariant_of-self-in_err-make_room
-invariant_of-self-in_err-make_room g c = (
-  c.meet.ensures.cells ∙ c.self.invariant.0,
-  tied_still g.J.Basis.cells g.J.Basis.start c.self.inside.plant c.self.inside.plant _ _ _ _ refl
-      (ap g.K.Tallies.number c.meet.ensures.numbers) c.meet.ensures.newest c.self.invariant.1,
-)
-
-pub returns-in_err-make_room : goal.returns-in_err-make_room
-returns-in_err-make_room g c =
-    rw (memory_as c.from_residual-in_err-make_room.result c.from_residual-in_err-make_room.ensures.1) (record {
-      event = tt;
-      noted = tt;
-      refused = subst (λ (q : Shown). first_refusal (heard_cases q c.args.bus) ≡ None) c.self.view_is
-          c.in_ok-allows_frame.ensures.refused;
-      err = (c.self.view_is, same_after _ _ _ c.meet.ensures.same c.make_room.ensures.same);
-      kept = λ place fits. absurd (true≢false (sym place
-          ∙ (ap (λ (s : ShareParts). s.reserved) (sym c.meet.ensures.same)
-          ∙ (sym c.is_reserved.ensures.value ∙ c.if-not-is_reserved.true))));
-    })
-
-pub invariant_of-self-in_err-heard : goal.invariant_of-self-in_err-heard
-invariant_of-self-in_err-heard g c = (
-  c.meet.ensures.cells ∙ c.self.invariant.0,
-  tied_still g.J.Basis.cells g.J.Basis.start c.self.inside.plant c.heard.new.self _ _ _ _ c.in_err-heard.ensures.err
-      (ap g.K.Tallies.number c.meet.ensures.numbers) c.meet.ensures.newest c.self.invariant.1,
-)
+invariant_of-self g c = rw (c.in_err-heard.ensures.err, c.meet.ensures.same.0) c.self.invariant
 
 pub returns-in_err-heard : goal.returns-in_err-heard
 returns-in_err-heard g c =
     let p = c.self.inside.plant in
-    let share = c.args.share.now in
     let refusal = c.in_err-heard.field-0.0 in
-    let same : IsSame share c.if-not-is_reserved.share = elim c.if-not-is_reserved.branch [
-      | then-not-is_reserved+in_ok-make_room w ↦ subst (λ (s : ShareParts). IsSame share s) (sym w.share-is)
-          (same_after _ _ _ c.meet.ensures.same w.make_room.ensures.same)
-      | else-not-is_reserved w ↦ same_when _ _ (w.share-is ∙ c.meet.ensures.same)
-    ] in
-    rw (refused_as c.from_residual-in_err-heard.result refusal c.from_residual-in_err-heard.ensures.1) (record {
+    rw (error_as c.from_residual.result refusal c.from_residual.ensures.1, ← c.self.view_is) (record {
       event = tt;
       noted = tt;
-      refused = subst (λ (q : Shown). first_refusal (heard_cases q c.args.bus) ≡ Some refusal) c.self.view_is
-          c.in_err-heard.ensures.refused;
-      err = (c.in_err-heard.ensures.err ∙ c.self.view_is, same);
+      refused = c.in_err-heard.ensures.refused;
+      err = (c.in_err-heard.ensures.err, c.meet.ensures.same.1);
       kept = λ place fits. absurd (frame_accepted p c.args.share.now c.args.bus refusal c.requires.role
           (c.meet.ensures.agree p c.self.invariant.1) (c.what_a_part_shows.ensures.down c.args.bus p.history)
           (bus_known g.J.Basis.start p _ c.args.bus c.requires.role c.meet.ensures.known c.self.invariant.1.same_plant)
@@ -88,76 +24,20 @@ returns-in_err-heard g c =
     })
 
 pub file-requires : goal.file-requires
-file-requires g c =
-    let p = c.self.inside.plant in
-    let share = c.args.share.now in
-    let event = Heard c.args.bus c.args.frame in
-    let index = c.len-index.result in
-    let same : IsSame share c.if-not-is_reserved.share = elim c.if-not-is_reserved.branch [
-      | then-not-is_reserved+in_ok-make_room w ↦ subst (λ (s : ShareParts). IsSame share s) (sym w.share-is)
-          (same_after _ _ _ c.meet.ensures.same w.make_room.ensures.same)
-      | else-not-is_reserved w ↦ same_when _ _ (w.share-is ∙ c.meet.ensures.same)
-    ] in
-    let fits : needs c.if-not-is_reserved.share.role (placed index event ∷ whole c.if-not-is_reserved.share) false + 1
-    ≤ c.if-not-is_reserved.share.room = elim c.if-not-is_reserved.branch [
-      | then-not-is_reserved+in_ok-make_room w ↦
-          subst (λ (s : ShareParts). needs s.role (placed index event ∷ whole s) false + 1 ≤ s.room) (sym w.share-is)
-          (room_made _ _ _ _ w.in_ok-make_room.ensures.ok)
-      | else-not-is_reserved w ↦
-          subst (λ (s : ShareParts). needs s.role (placed index event ∷ whole s) false + 1 ≤ s.room)
-          (sym (w.share-is ∙ c.meet.ensures.same))
-          (room_of_frame share.role (whole share) share.reserved share.room index c.args.bus c.args.frame c.args.bus
-          c.requires.role
-          (ap (λ (s : ShareParts). s.reserved) (sym c.meet.ensures.same)
-          ∙ (sym c.is_reserved.ensures.value ∙ w.if-not-is_reserved.false))
-          c.meet.ensures.enough)
-    ] in
-    record {
-      cells = (
-        c.meet.ensures.cells ∙ c.self.invariant.0,
-        place_below _ p c.heard.new.self event index _ c.in_ok-heard.ensures.ok c.len-index.ensures.value
-            c.self.invariant.1.enough c.len-within.ensures.within,
-      );
-      small = place_small p c.heard.new.self event index _ c.in_ok-heard.ensures.ok c.len-index.ensures.value
-          c.limit-most.ensures.most c.len-within.ensures.within;
-      tied = (
-        p,
-        sym c.len-index.ensures.value,
-        tied_still g.J.Basis.cells g.J.Basis.start p p _ _ _ _ refl (ap g.K.Tallies.number c.meet.ensures.numbers)
-            c.meet.ensures.newest c.self.invariant.1,
-      );
-      role = sym (same.role ∙ c.requires.role);
-      room = fits;
-    }
+file-requires g c = record {
+  cells = rw c.meet.ensures.same.0 c.self.invariant.0;
+  tied = (c.self.inside.plant, c.in_ok-heard.ensures.ok, rw c.meet.ensures.same.0 c.self.invariant.1);
+  role = rw c.meet.ensures.same.1 (sym c.requires.role);
+}
 
 pub invariant_of-self-2 : goal.invariant_of-self-2
-invariant_of-self-2 g c =
-    let p = c.self.inside.plant in (
-      c.file.ensures.cells ∙ c.meet.ensures.cells ∙ c.self.invariant.0,
-      tied_still g.J.Basis.cells g.J.Basis.start (grown p (Heard c.args.bus c.args.frame)) c.heard.new.self _ _ _ _
-          c.in_ok-heard.ensures.ok refl refl
-          (c.file.ensures.tied p (sym c.len-index.ensures.value)
-          (tied_still g.J.Basis.cells g.J.Basis.start p p _ _ _ _ refl
-          (ap g.K.Tallies.number c.meet.ensures.numbers) c.meet.ensures.newest c.self.invariant.1)),
-    )
+invariant_of-self-2 g c = (rw (c.file.ensures.cells, c.meet.ensures.same.0) c.self.invariant.0, c.file.ensures.tied)
 
 pub returns : goal.returns
-returns g c =
-    let share = c.args.share.now in
-    let event = Heard c.args.bus c.args.frame in
-    let same : IsSame share c.if-not-is_reserved.share = elim c.if-not-is_reserved.branch [
-      | then-not-is_reserved+in_ok-make_room w ↦ subst (λ (s : ShareParts). IsSame share s) (sym w.share-is)
-          (same_after _ _ _ c.meet.ensures.same w.make_room.ensures.same)
-      | else-not-is_reserved w ↦ same_when _ _ (w.share-is ∙ c.meet.ensures.same)
-    ] in
-    record {
-      event = c.in_ok-heard.ensures.ok ∙ ap (λ (q : Shown). grown q event) c.self.view_is;
-      noted = subst (λ (n : ℕ). IsNoted n event share c.file.new.share)
-          (c.len-index.ensures.value ∙ ap (λ (q : Shown). length q.history) c.self.view_is)
-          (noted_after c.len-index.result event share c.if-not-is_reserved.share c.file.new.share same
-          c.file.ensures.noted);
-      refused = subst (λ (q : Shown). first_refusal (heard_cases q c.args.bus) ≡ None) c.self.view_is
-          c.in_ok-heard.ensures.refused;
-      err = tt;
-      kept = λ _ _. refl;
-    }
+returns g c = rw (← c.self.view_is) (record {
+  event = c.in_ok-heard.ensures.ok;
+  noted = rw c.meet.ensures.same.1 at (c.file.ensures.noted c.self.inside.plant c.in_ok-heard.ensures.ok);
+  refused = c.in_ok-heard.ensures.refused;
+  err = tt;
+  kept = λ _ _. refl;
+})

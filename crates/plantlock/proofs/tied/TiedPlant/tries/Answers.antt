@@ -1,6 +1,5 @@
-use Rattle.std.proofs.Common.{◌∙◌, refl, ap}
+use Rattle.std.proofs.Common.{◌∙◌, ap}
 use Rattle.plantevents.specs.Plants.{Plant, tries_of}
-use Rattle.plantlock.proofs.Fitting.{tied_still}
 use Rattle.plantlock.proofs.Refusing.{bus_known}
 use Rattle.plantlock.proofs.tied.TiedPlant.tries.Goals as goal
 
@@ -13,12 +12,7 @@ tries-requires g c =
     c.self.invariant.1.same_plant
 
 pub invariant_of-self : goal.invariant_of-self
-invariant_of-self g c =
-    let p = c.self.inside.plant in (
-      c.meet.ensures.cells ∙ c.self.invariant.0,
-      tied_still g.J.Basis.cells g.J.Basis.start p p _ _ _ _ refl (ap g.K.Tallies.number c.meet.ensures.numbers)
-          c.meet.ensures.newest c.self.invariant.1,
-    )
+invariant_of-self g c = rw c.meet.ensures.same.0 c.self.invariant
 
 pub returns-clause-value : goal.returns-clause-value
 returns-clause-value g c =

@@ -1,16 +1,15 @@
-use Rattle.std.proofs.Common.{◌≡◌, ◌+◌, ◌*◌, Bool, ◌∙◌, ap, refl, sym, subst}
-use Rattle.plantevents.specs.Parts.{placed, part}
+use Rattle.std.proofs.Common.{◌≡◌, ◌+◌, ◌*◌, Bool, length, ◌∙◌, ap, refl, sym, subst}
+use Rattle.plantevents.specs.Parts.{placed}
 use Rattle.receipts.specs.Receipts.{ShareParts, reach_of, seat_of, reserved_after}
 use Rattle.receipts.specs.Tokens.{one_if}
-use Rattle.receipts.proofs.Noting.{not_later, twice_fits, was_fits, next_fits, next_twice_fits, is_fits, offset_fits}
-use Rattle.receipts.proofs.Noting.{grows, grown, others_stay, has_room, one_more, room_inside, room_left}
-use Rattle.receipts.proofs.Noting.{is_noted, noted_held}
+use Rattle.receipts.proofs.Noting.{not_later, twice_fits, was_fits, next_fits, next_twice_fits, is_fits}
+use Rattle.receipts.proofs.Noting.{grows, grown, others_stay, one_more, is_noted, noted_held}
 use Rattle.receipts.proofs.share.Share.note.Goals as goal
 
 pub overflow_mul-was : goal.overflow_mul-was
 overflow_mul-was g c =
     twice_fits c.args.index c.self.inside.reach (one_if c.self.inside.reserved) c.requires.small
-    (not_later (g.K.Tallies.number c.args.numbers.now) g.J.Basis.cells (g.T.Seated.seat c.self.inside.tie)
+    (not_later (g.K.Tallies.number c.args.numbers.now) (length g.J.Basis.start.history) g.J.Basis.cells (g.T.Seated.seat c.self.inside.tie)
     (g.T.Seated.amount c.self.inside.tie) c.args.index c.self.inside.reach (one_if c.self.inside.reserved)
     c.self.inside.newest _ c.args.self.now c.self.view_is c.audit.ensures.same c.self.invariant.seated
     c.self.invariant.says refl c.requires.order)
@@ -18,7 +17,7 @@ overflow_mul-was g c =
 pub overflow_add-was : goal.overflow_add-was
 overflow_add-was g c =
     was_fits c.args.index c.self.inside.reach c.one_if.result c.requires.small
-    (not_later (g.K.Tallies.number c.args.numbers.now) g.J.Basis.cells (g.T.Seated.seat c.self.inside.tie)
+    (not_later (g.K.Tallies.number c.args.numbers.now) (length g.J.Basis.start.history) g.J.Basis.cells (g.T.Seated.seat c.self.inside.tie)
     (g.T.Seated.amount c.self.inside.tie) c.args.index c.self.inside.reach c.one_if.result c.self.inside.newest _
     c.args.self.now c.self.view_is c.audit.ensures.same c.self.invariant.seated c.self.invariant.says c.one_if.ensures
     c.requires.order)
@@ -36,24 +35,21 @@ overflow_add-is g c =
 pub overflow_sub-is : goal.overflow_sub-is
 overflow_sub-is g c =
     grows (2 * c.self.inside.reach + c.one_if.result) c.args.index c.one_if-2.result
-    (not_later (g.K.Tallies.number c.args.numbers.now) g.J.Basis.cells (g.T.Seated.seat c.self.inside.tie)
+    (not_later (g.K.Tallies.number c.args.numbers.now) (length g.J.Basis.start.history) g.J.Basis.cells (g.T.Seated.seat c.self.inside.tie)
     (g.T.Seated.amount c.self.inside.tie) c.args.index c.self.inside.reach c.one_if.result c.self.inside.newest _
     c.args.self.now c.self.view_is c.audit.ensures.same c.self.invariant.seated c.self.invariant.says c.one_if.ensures
     c.requires.order)
 
-pub push_reserved-requires : goal.push_reserved-requires
-push_reserved-requires g c =
-    has_room _ _ _ _ (ap (λ (s : ShareParts). s.room) c.self.view_is) c.requires.room
+pub cell_of-cell-requires-clause-from : goal.cell_of-cell-requires-clause-from
+cell_of-cell-requires-clause-from g c = rw c.self.invariant.based c.requires.from
 
-pub offset_bounds-cells-index : goal.offset_bounds-cells-index
-offset_bounds-cells-index g c = offset_fits c.args.index c.requires.small
-
-pub bounds-cells-index : goal.bounds-cells-index
-bounds-cells-index g c = c.requires.index
+pub cell_of-cell-requires-clause-index : goal.cell_of-cell-requires-clause-index
+cell_of-cell-requires-clause-index g c = rw c.self.invariant.based c.requires.index
 
 pub invariant_of-self : goal.invariant_of-self
 invariant_of-self g c = record {
   known = c.self.invariant.known;
+  based = c.self.invariant.based;
   seated = c.add.ensures.seat ∙ ap g.T.Seated.seat c.audit.ensures.tie ∙ c.self.invariant.seated;
   says = record {
     numbered =
@@ -62,41 +58,35 @@ invariant_of-self g c = record {
         c.reserved_after-self-inside.result (ap g.T.Seated.amount c.audit.ensures.tie)
         c.self.invariant.says.numbered c.one_if.ensures c.one_if-2.ensures
         (grows (2 * c.self.inside.reach + c.one_if.result) c.args.index c.one_if-2.result
-        (not_later (g.K.Tallies.number c.args.numbers.now) g.J.Basis.cells (g.T.Seated.seat c.self.inside.tie)
+        (not_later (g.K.Tallies.number c.args.numbers.now) (length g.J.Basis.start.history) g.J.Basis.cells (g.T.Seated.seat c.self.inside.tie)
         (g.T.Seated.amount c.self.inside.tie) c.args.index c.self.inside.reach c.one_if.result c.self.inside.newest _
         c.args.self.now c.self.view_is c.audit.ensures.same c.self.invariant.seated c.self.invariant.says
         c.one_if.ensures c.requires.order))
         c.add.ensures.amount;
     held =
-        noted_held c.args.cells.now g.J.Basis.cells c.args.index c.index-cells-index.result c.again.result _
-        c.requires.cells c.requires.index c.index-cells-index.is (c.again.ensures.0 ∙ c.write-token.ensures.of)
+        noted_held c.args.cells.now g.J.Basis.cells c.args.index c.self.inside.base (length g.J.Basis.start.history)
+        c.cell_of-cell.result.now c.again.result _ c.requires.cells c.self.invariant.based c.requires.from
+        c.cell_of-cell.ensures (c.again.ensures.0 ∙ c.write-token.ensures.of)
         (c.again.ensures.1 ∙ c.write-token.ensures.value ∙ c.of-2.ensures);
   };
   last =
       ap reach_of
-      (sym (one_more c.self.inside.receipts.items c.push_reserved.new.self.items c.of.result
-      (placed c.args.index c.args.event) c.push_reserved.ensures.items c.of.ensures));
-  enough =
-      room_left c.self.inside.role (part c.self.inside.role g.J.Basis.start.history) c.self.inside.receipts.items
-      c.push_reserved.new.self.items (placed c.args.index c.args.event) c.reserved_after-self-inside.result _ _ _ _
-      (one_more c.self.inside.receipts.items c.push_reserved.new.self.items c.of.result
-      (placed c.args.index c.args.event) c.push_reserved.ensures.items c.of.ensures)
-      (room_inside c.args.event (placed c.args.index c.args.event) c.reserved_after-self-inside.result _
-      c.args.self.now c.self.view_is c.reserved_after-self-inside.ensures c.requires.room)
-      c.push_reserved.ensures.len c.push_reserved.ensures.capacity;
+      (sym (one_more c.self.inside.receipts.items c.push-2.new.self.items c.of.result (placed c.args.index c.args.event)
+      c.push-2.ensures c.of.ensures));
 }
 
 pub returns-clause-noted : goal.returns-clause-noted
 returns-clause-noted g c =
     is_noted c.args.index c.args.event _ c.args.self.now _ c.self.view_is refl
-    (one_more c.self.inside.receipts.items c.push_reserved.new.self.items c.of.result
-    (placed c.args.index c.args.event) c.push_reserved.ensures.items c.of.ensures)
+    (one_more c.self.inside.receipts.items c.push-2.new.self.items c.of.result (placed c.args.index c.args.event)
+    c.push-2.ensures c.of.ensures)
     refl c.reserved_after-self-inside.ensures
 
 pub returns-clause-held : goal.returns-clause-held
 returns-clause-held g c =
-    noted_held c.args.cells.now g.J.Basis.cells c.args.index c.index-cells-index.result c.write-token.result _
-    c.requires.cells c.requires.index c.index-cells-index.is c.write-token.ensures.of
+    noted_held c.args.cells.now g.J.Basis.cells c.args.index c.self.inside.base (length g.J.Basis.start.history)
+    c.cell_of-cell.result.now c.write-token.result _ c.requires.cells c.self.invariant.based c.requires.from
+    c.cell_of-cell.ensures c.write-token.ensures.of
     (c.write-token.ensures.value ∙ c.of-2.ensures)
 
 pub returns-clause-mine : goal.returns-clause-mine
@@ -112,7 +102,7 @@ returns-clause-mine g c =
     c.reserved_after-self-inside.result (ap g.T.Seated.amount c.audit.ensures.tie) c.self.invariant.says.numbered
     c.one_if.ensures c.one_if-2.ensures
     (grows (2 * c.self.inside.reach + c.one_if.result) c.args.index c.one_if-2.result
-    (not_later (g.K.Tallies.number c.args.numbers.now) g.J.Basis.cells (g.T.Seated.seat c.self.inside.tie)
+    (not_later (g.K.Tallies.number c.args.numbers.now) (length g.J.Basis.start.history) g.J.Basis.cells (g.T.Seated.seat c.self.inside.tie)
     (g.T.Seated.amount c.self.inside.tie) c.args.index c.self.inside.reach c.one_if.result c.self.inside.newest _
     c.args.self.now c.self.view_is c.audit.ensures.same c.self.invariant.seated c.self.invariant.says
     c.one_if.ensures c.requires.order))

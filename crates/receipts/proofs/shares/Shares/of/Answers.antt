@@ -37,30 +37,22 @@ pub returns-in_err-buses-clause-counted : goal.returns-in_err-buses-clause-count
 returns-in_err-buses-clause-counted g c =
     on_ok-from_err c.from_residual-in_err-buses.result _ c.from_residual-in_err-buses.ensures.0
 
-pub next_share-requires-clause-start : goal.next_share-requires-clause-start
-next_share-requires-clause-start g c = c.requires.start
+pub next_share-clock-requires-clause-start : goal.next_share-clock-requires-clause-start
+next_share-clock-requires-clause-start g c = c.requires.start
 
-pub next_share-requires-clause-known : goal.next_share-requires-clause-known
-next_share-requires-clause-known g c = tt
+pub next_share-clock-requires-clause-known : goal.next_share-clock-requires-clause-known
+next_share-clock-requires-clause-known g c = tt
 
-pub next_share-requires-clause-unused : goal.next_share-requires-clause-unused
-next_share-requires-clause-unused g c = c.in_ok-buses.ensures.unused
-
-pub returns-in_err-clock-clause-fresh : goal.returns-in_err-clock-clause-fresh
-returns-in_err-clock-clause-fresh g c =
-    IfOk-from_err c.from_residual-in_err-clock.result _ c.from_residual-in_err-clock.ensures.0
-
-pub returns-in_err-clock-clause-counted : goal.returns-in_err-clock-clause-counted
-returns-in_err-clock-clause-counted g c =
-    on_ok-from_err c.from_residual-in_err-clock.result _ c.from_residual-in_err-clock.ensures.0
+pub next_share-clock-requires-clause-unused : goal.next_share-clock-requires-clause-unused
+next_share-clock-requires-clause-unused g c = c.in_ok-buses.ensures.unused
 
 pub returns-clause-fresh : goal.returns-clause-fresh
 returns-clause-fresh g c =
     record {
       workers = c.in_ok-workers.ensures.shares;
       buses = c.in_ok-buses.ensures.shares;
-      clock = c.in_ok-clock.ensures.fresh;
+      clock = c.next_share-clock.ensures.fresh;
     }
 
 pub returns-clause-counted : goal.returns-clause-counted
-returns-clause-counted g c = c.in_ok-clock.ensures.counted c.in_ok-buses.ensures.counted
+returns-clause-counted g c = c.next_share-clock.ensures.counted c.in_ok-buses.ensures.counted
