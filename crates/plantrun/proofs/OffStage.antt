@@ -41,6 +41,7 @@ module _ (staged left : ClosedParts Simulated ScriptedTicks) (plant : left.plant
         subst (λ (x : Shown). (tick_log left.clock).given ≡ first.given ++ given_in x.history) (sym plant)
         (ap (λ (x : ScriptedTicks). x.log.given) clock ∙ closed.clock);
     moments = ap (λ (x : ScriptedTicks). x.log.moments) clock ∙ closed.moments;
+    asks = subst (λ (x : ScriptedTicks). IsNoLess first.asks x.log.asks) (sym clock) closed.asks;
   }
 
   quiet_off_stage : (logs : List BusLog) (first : ClockLog) → HasEndedQuietly logs first sim_log tick_log staged

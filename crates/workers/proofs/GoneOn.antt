@@ -220,4 +220,5 @@ module _ {B C : Type 0} (bus_log : B → BusLog) (clock_log : C → ClockLog) (o
               ∙ (ap (λ (given : List ℕ). first.given ++ given) (sym (given_on front.later old.plant.history))
               ∙ ap (λ (h : List Event). first.given ++ given_in h) (sym grew))));
           moments = goes.moments ∙ closed.moments;
+          asks = no_less_twice first.asks (clock_log old.clock).asks (clock_log new.clock).asks closed.asks goes.asks;
         }

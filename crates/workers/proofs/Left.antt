@@ -120,6 +120,7 @@ module _ {B C : Type 0} (p : Plant) (logs : List BusLog) (first : ClockLog) (bus
             ap (λ c. (clock_log c).given) clock
             ∙ (closed.clock ∙ ap (λ given. first.given ++ given) (sym finish.given));
         moments = ap (λ c. (clock_log c).moments) clock ∙ closed.moments;
+        asks = subst (λ c. IsNoLess first.asks (clock_log c).asks) (sym clock) closed.asks;
       }
 
 -- what is quiet since the lock was opened for good is quiet since the run's start

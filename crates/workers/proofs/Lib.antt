@@ -1,6 +1,7 @@
 mod Earlier
 mod Ends
 mod Following
+pub mod FromFirst
 mod GoneOn
 mod Left
 pub mod Lists

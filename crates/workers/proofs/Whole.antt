@@ -12,8 +12,8 @@ use Rattle.plantlock.specs.Tied.{IsFront}
 use Rattle.workers.specs.declared.closed.ClosedParts.{ClosedParts}
 use Rattle.workers.specs.declared.ended.Ended.TheVariants.{Asked, Limit}
 use Rattle.workers.specs.Closings.{IsClosed, IsLeft}
-use Rattle.workers.specs.Runs.{HasEndedQuietly, HasGoneOn, HasRun}
-use Rattle.workers.specs.Starts.{AreCounts, IsNextLimit}
+use Rattle.workers.specs.Runs.{GoesOn, HasEndedQuietly, HasRun}
+use Rattle.workers.specs.Starts.{AreCounts}
 use Rattle.workers.proofs.Earlier.{buses_before, clock_before}
 use Rattle.receipts.specs.Each.{Each}
 use Rattle.driving.specs.Links.{IsLinked, IsNoLess, log_of}
@@ -43,16 +43,15 @@ module _ {B C : Type 0} (bus_log : B → BusLog) (clock_log : C → ClockLog) (s
   }
 
   -- it began with the plant of what was left, under another limit
-  pub has_gone_on : (limit : ℕ) (old : ClosedParts B C) → IsLeft bus_log clock_log old
+  pub goes_on : (limit : ℕ) (old : ClosedParts B C) → IsLeft bus_log clock_log old
       → start ≡ record old.plant { limit = limit }
       → IsClosed start.plant (buses_before 0 start.history (map bus_log old.buses.items))
       (clock_before start.history (clock_log old.clock)) bus_log clock_log left
       → (left.ended ≡ Asked → HasEndedQuietly (buses_before 0 start.history (map bus_log old.buses.items))
       (clock_before start.history (clock_log old.clock)) bus_log clock_log left)
       → IsFront start.history left.plant.history → length left.buses.items ≡ length old.buses.items
-      → IsNextLimit old.plant.limit limit
-      → HasGoneOn limit bus_log clock_log old left
-  has_gone_on limit old was is closed ended front count limited =
+      → GoesOn limit bus_log clock_log old left
+  goes_on limit old was is closed ended front count =
       let same = ap (λ (p : Shown). p.history) is in
       let plant = ap (λ (p : Shown). p.plant) is in
       record {
@@ -71,7 +70,6 @@ module _ {B C : Type 0} (bus_log : B → BusLog) (clock_log : C → ClockLog) (s
         moments =
             moments_now bus_log clock_log old was.p was.logs was.first was.closed start left same closed front count;
         kept = kept ∙ ap (λ (p : Shown). p.limit) is;
-        limited = limited;
         count = count;
       }
 
@@ -114,6 +112,7 @@ left_with bus_log other_log clock_log old new plant clock same was =
             ap (λ c. (clock_log c).given) clock
             ∙ (closed.clock ∙ ap (λ (p : Shown). was.first.given ++ given_in p.history) (sym plant));
         moments = ap (λ c. (clock_log c).moments) clock ∙ closed.moments;
+        asks = subst (λ c. IsNoLess was.first.asks (clock_log c).asks) (sym clock) closed.asks;
       };
       workers = was.workers;
       count = same_count bus_log other_log old.buses.items new.buses.items same ∙ was.count;

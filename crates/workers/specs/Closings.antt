@@ -12,7 +12,7 @@ use Rattle.driving.specs.Open.{HasNothingOpen}
 use Rattle.workers.specs.declared.closed.ClosedParts.{ClosedParts}
 
 -- A legal history of this plant in which nothing is open, and since the first logs each bus and the clock gave and took
--- what it says. No call that heard is forgotten. They are the same buses and the same clock.
+-- what it says. No call that heard or asked is forgotten. They are the same buses and the same clock.
 pub record IsClosed {B C : Type 0} (p : Plant) (logs : List BusLog) (first : ClockLog) (bus_log : B → BusLog)
     (clock_log : C → ClockLog) (closed : ClosedParts B C) : Type 0 where
   pub plant : closed.plant.plant ≡ p
@@ -22,6 +22,7 @@ pub record IsClosed {B C : Type 0} (p : Plant) (logs : List BusLog) (first : Clo
   pub hears : Each (λ b line. IsNoLess (log_of logs b).hears (bus_log line).hears) 0 closed.buses.items
   pub clock : (clock_log closed.clock).given ≡ first.given ++ given_in closed.plant.history
   pub moments : (clock_log closed.clock).moments ≡ first.moments
+  pub asks : IsNoLess first.asks (clock_log closed.clock).asks
 
 -- So it is of what a run left, since some logs: another one may go on from it.
 pub record IsLeft {B C : Type 0} (bus_log : B → BusLog) (clock_log : C → ClockLog) (left : ClosedParts B C) : Type 0

@@ -1,12 +1,12 @@
 -- What a run does, and one that goes on from what another one left (profile).
-use Rattle.std.specs.Prelude.{◌≡◌, ℕ, List, ◌++◌, length, map, true}
+use Rattle.std.specs.Prelude.{◌≡◌, ℕ, ◌+◌, List, ◌++◌, length, map, true}
 use Rattle.ilcompile.specs.Loaded.{Loaded}
 use Rattle.buslink.specs.BusLog.{BusLog}
 use Rattle.buslink.specs.ClockLog.{ClockLog}
 use Rattle.plantevents.specs.declared.event.Event.{Event}
 use Rattle.plantevents.specs.Histories.{given_in}
 use Rattle.plantevents.specs.Plants.{Plant}
-use Rattle.plant.specs.Shown.{IsLimit, IsRoomy, is_full, plant_of}
+use Rattle.plant.specs.Shown.{IsLimit, IsRoomy, is_full, plant_of, used}
 use Rattle.receipts.specs.Each.{Each}
 use Rattle.driving.specs.Links.{IsLinked, log_of}
 use Rattle.driving.specs.Quiet.{IsQuiet}
@@ -16,7 +16,7 @@ use Rattle.workers.specs.declared.closed.NotGoneOn.{NotGoneOn}
 use Rattle.workers.specs.declared.closed.NotStarted.{NotStarted}
 use Rattle.workers.specs.declared.ended.Ended.TheVariants.{Asked, Limit}
 use Rattle.workers.specs.Closings.{IsClosed}
-use Rattle.workers.specs.Starts.{AreCounts, IsAgainFault, IsNextLimit, IsStartFault}
+use Rattle.workers.specs.Starts.{AreCounts, IsAgainFault, IsMore, IsMoreFault, IsNextLimit, IsStartFault}
 
 -- Since these logs the clock came to its end, and nothing is left to do.
 pub record HasEndedQuietly {B C : Type 0} (logs : List BusLog) (first : ClockLog) (bus_log : B → BusLog)
@@ -56,8 +56,8 @@ pub record IsNotStarted {B C : Type 0} (setup : Loaded) (workers limit : ℕ) (b
 -- ---- a run that goes on
 
 -- What was left went on under this limit.
-pub record HasGoneOn {B C : Type 0} (limit : ℕ) (bus_log : B → BusLog) (clock_log : C → ClockLog)
-    (old new : ClosedParts B C) : Type 0 where
+pub record GoesOn {B C : Type 0} (limit : ℕ) (bus_log : B → BusLog) (clock_log : C → ClockLog) (old new : ClosedParts B C)
+    : Type 0 where
   -- What was so of the plant, buses and clock since any earlier logs is so still: legal, nothing open, and all agree.
   pub since : (p : Plant) (logs : List BusLog) (first : ClockLog) → IsClosed p logs first bus_log clock_log old
       → IsClosed p logs first bus_log clock_log new
@@ -74,14 +74,31 @@ pub record HasGoneOn {B C : Type 0} (limit : ℕ) (bus_log : B → BusLog) (cloc
   -- So did the clock, which is the same.
   pub clock : (clock_log new.clock).given ≡ (clock_log old.clock).given ++ given_in later
   pub moments : (clock_log new.clock).moments ≡ (clock_log old.clock).moments
-  -- The history has the limit that was given.
+  -- The history has this limit.
   pub kept : new.plant.limit ≡ limit
-  -- It is no less than the one before, and one that a history may have.
-  pub limited : IsNextLimit old.plant.limit limit
   -- There are as many buses as before.
   pub count : length new.buses.items ≡ length old.buses.items
+
+-- What was left went on under the limit that was given.
+pub record HasGoneOn {B C : Type 0} (limit : ℕ) (bus_log : B → BusLog) (clock_log : C → ClockLog)
+    (old new : ClosedParts B C) : Type 0 where
+  pub went : GoesOn limit bus_log clock_log old new
+  -- It is no less than the one before, and one that a history may have.
+  pub limited : IsNextLimit old.plant.limit limit
 
 -- It did not go on, for this reason, and what was left is as it was.
 pub record IsNotGoneOn {B C : Type 0} (limit : ℕ) (old : ClosedParts B C) (refused : NotGoneOn B C) : Type 0 where
   pub fault : IsAgainFault old.plant.limit limit refused.fault
+  pub closed : refused.closed ≡ old
+
+-- What was left went on by so many events and places more than its history used.
+pub record HasGoneOnBy {B C : Type 0} (more : ℕ) (bus_log : B → BusLog) (clock_log : C → ClockLog)
+    (old new : ClosedParts B C) : Type 0 where
+  pub went : GoesOn (used old.plant + more) bus_log clock_log old new
+  -- A run may go on with so many.
+  pub limited : IsMore (used old.plant) more
+
+-- It did not go on by so many, for this reason, and what was left is as it was.
+pub record IsNotGoneOnBy {B C : Type 0} (more : ℕ) (old : ClosedParts B C) (refused : NotGoneOn B C) : Type 0 where
+  pub fault : IsMoreFault (used old.plant) more refused.fault
   pub closed : refused.closed ≡ old

@@ -1,6 +1,6 @@
 -- When a run starts.
-use Rattle.std.specs.Prelude.{◌≡◌, ℕ, ◌≤◌}
-use Rattle.limits.specs.Limits.{most_events}
+use Rattle.std.specs.Prelude.{◌≡◌, ℕ, ◌+◌, ◌≤◌}
+use Rattle.limits.specs.Limits.{least_events, most_events, most_total}
 use Rattle.ilcompile.specs.Loaded.{Loaded}
 use Rattle.plant.specs.declared.open_fault.OpenFault.{OpenFault}
 use Rattle.plant.specs.declared.open_fault.OpenFault.TheVariants.{Memory, BadCount, Limit}
@@ -25,3 +25,14 @@ abbrev pub IsAgainFault : ℕ → ℕ → OpenFault → Type 0
 IsAgainFault before limit BadCount = ⊥
 IsAgainFault before limit Limit = ¬ IsNextLimit before limit
 IsAgainFault before limit Memory = IsNextLimit before limit
+
+-- so many events more with which a run may go on, where so many places of the history are used: 100 to 1,000,000, and
+-- with those that are used no more than a history comes to at most
+abbrev pub IsMore : ℕ → ℕ → Type 0
+IsMore past more = (least_events ≤ more) × (more ≤ most_events) × (past + more ≤ most_total)
+
+-- why it doesn't go on so: the events more; else the allocator may be out of memory
+abbrev pub IsMoreFault : ℕ → ℕ → OpenFault → Type 0
+IsMoreFault past more BadCount = ⊥
+IsMoreFault past more Limit = ¬ IsMore past more
+IsMoreFault past more Memory = IsMore past more

@@ -1,52 +1,19 @@
 //! A run that goes on from what another one left.
 
-ghost use Rattle.std.specs.Prelude.{◌≡◌, ◌+◌, ◌≤◌, length, MatchResult};
-ghost use Rattle.limits.specs.Limits.{most_events};
-ghost use Rattle.plant.specs.Shown.{kept};
-ghost use Rattle.driving.specs.Open.{HasNothingOpen};
-ghost use Rattle.workers.specs.Runs.{HasGoneOn, IsNotGoneOn};
+ghost use Rattle.std.specs.Prelude.{◌≡◌, ◌+◌, MatchOption, MatchResult};
+ghost use Rattle.workers.specs.Runs.{HasGoneOn, HasGoneOnBy, IsNotGoneOn, IsNotGoneOnBy};
+ghost use Rattle.workers.specs.Starts.{IsMore};
 
-use crate::beginning::NotBegun;
-use crate::closed::{Closed, ClosedParts, NotGoneOn};
-use crate::closed_plant::ClosedPlant;
-use crate::ended::Ended;
-use crate::running::{new_cells, run_named};
+use crate::closed::{Closed, NotGoneOn};
+use crate::going_on::run_under;
 use buslink::{Bus, Clock};
-use plant::{MOST_LIMIT, OpenFault};
-use seats::Blanks;
+use limits::MOST_TOTAL;
+use plant::{LEAST_LIMIT, MOST_LIMIT, OpenFault};
 use std::alloc::Global;
-use std::marker::Brand;
 use std::sync::Wait;
 use std::thread::Threads;
 use std::time::Clock as Timer;
 use turns::Gate;
-
-/// What was to go on, as it was before, with this limit.
-fn as_before<B: Bus, C: Clock>(
-    refused: NotBegun<B, C>,
-    limit: u64,
-    ended: Ended,
-) -> ClosedParts<B, C>
-    requires idle { HasNothingOpen refused.plant }
-    requires room { length refused.plant.history + kept refused.plant ≤ limit }
-    requires most { limit ≤ most_events }
-    ensures plant { result.plant ≡ record refused.plant { limit = limit } }
-    ensures links { (result.buses ≡ refused.lines) × (result.clock ≡ refused.clock) }
-    ensures ended { result.ended ≡ ended }
-{
-    let NotBegun {
-        mut plant,
-        lines,
-        clock,
-    } = refused;
-    plant.set_limit(limit);
-    ClosedParts {
-        plant: ClosedPlant { plant },
-        buses: lines,
-        clock,
-        ended,
-    }
-}
 
 /// Goes on from what a run left, with the same plant, buses and clock and as many scan workers, until
 /// the clock gives no moment more, the history is full, or memory or threads are wanting. The old
@@ -66,42 +33,47 @@ pub fn run_again<B: Bus + Send, C: Clock + Send, G: Gate, R: Threads + Wait + Ti
     ensures gone_on { MatchResult result (HasGoneOn limit B.log C.log closed)
         (IsNotGoneOn limit closed) }
 {
-    let before = closed.plant().limit();
     let _events = closed.plant().len();
-    let _buses = closed.plant().setup().plan().buses();
-    if limit < before || limit > MOST_LIMIT {
+    if limit < closed.plant().limit() || limit > MOST_LIMIT {
         let fault = OpenFault::Limit;
         return Err(NotGoneOn { fault, closed });
     }
-    let Ok(cells) = new_cells(alloc, limit) else {
-        let fault = OpenFault::Memory;
+    run_under(rt, alloc, closed, limit, gate)
+}
+
+/// The limit of a history for so many events more, where so many of its places are used.
+fn limit_for(past: u64, more: u64) -> Option<u64>
+    ensures { MatchOption result (¬ IsMore past more)
+        (λ limit. (limit ≡ past + more) × IsMore past more) }
+{
+    if more < LEAST_LIMIT || more > MOST_LIMIT {
+        return None;
+    }
+    let limit = past.checked_add(more)?;
+    (limit <= MOST_TOTAL).then_some(limit)
+}
+
+/// Goes on from what a run left as `run_again` does, by so many events more: its limit is as much
+/// above the places of the history that are used. Its cells are those of the new events alone, so
+/// that a plant may go on for as long as a building wants it.
+///
+/// # Errors
+///
+/// The events are not 100 to 1,000,000, or with the places that are used more than 2^59; else the
+/// allocator is out of memory. What was left comes back unchanged.
+pub fn go_on<B: Bus + Send, C: Clock + Send, G: Gate, R: Threads + Wait + Timer + Sync>(
+    rt: &R,
+    alloc: Global,
+    closed: Closed<B, C>,
+    more: u64,
+    gate: &G,
+) -> Result<Closed<B, C>, NotGoneOn<B, C>>
+    ensures gone_on { MatchResult result (HasGoneOnBy more B.log C.log closed)
+        (IsNotGoneOnBy more closed) }
+{
+    let Some(limit) = limit_for(closed.plant().used(), more) else {
+        let fault = OpenFault::Limit;
         return Err(NotGoneOn { fault, closed });
     };
-    let ClosedParts {
-        plant,
-        buses,
-        clock,
-        ended,
-    } = closed.into_parts();
-    let mut plant = plant.into_plant();
-    plant.set_limit(limit);
-    let run = run_named::<B, C, Brand, Brand, G, R>(
-        rt,
-        alloc,
-        plant,
-        cells.as_slice(),
-        Blanks::new(),
-        buses,
-        clock,
-        gate,
-    );
-    match run {
-        Ok(left) => Ok(left),
-        Err(refused) => {
-            let fault = OpenFault::Memory;
-            let parts = as_before(refused, before, ended);
-            let closed = Closed { parts };
-            Err(NotGoneOn { fault, closed })
-        }
-    }
+    run_under(rt, alloc, closed, limit, gate)
 }

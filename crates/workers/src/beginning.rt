@@ -1,6 +1,6 @@
 //! The lock, the links with their Shares, and the rooms, before the first thread begins.
 
-ghost use Rattle.std.specs.Prelude.{◌≡◌, ◌≤◌, [], length, map, vec_len, vec_capacity, IfOk, IfErr};
+ghost use Rattle.std.specs.Prelude.{◌≡◌, ◌+◌, ◌≤◌, [], length, map, vec_len, vec_capacity, IfOk, IfErr};
 ghost use Rattle.driving.specs.Open.{HasNothingOpen};
 ghost use Rattle.plant.specs.Shown.{IsWorkerCount};
 ghost use Rattle.std.specs.List.{range_with_len};
@@ -99,7 +99,8 @@ pub(crate) fn begin<'a, B: Bus, C: Clock, J: Basis + Links, N: Names>(
 ) -> Result<Begun<'a, B, C, J, N>, NotBegun<B, C>>
     requires start { plant ≡ J.start }
     requires idle { HasNothingOpen J.start }
-    requires cells { (cells.now ≡ J.cells) × (J.start.limit ≤ length J.cells) }
+    requires cells { (cells.now ≡ J.cells)
+        × (J.start.limit ≤ length J.start.history + length J.cells) }
     requires names { blanks ≡ N.names }
     requires links { IsInStep J.start J.buses J.clock B.log C.log lines.items clock }
     requires workers { IsWorkerCount J.start.plant.workers }

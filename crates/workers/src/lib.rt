@@ -3,12 +3,13 @@
 //! What crosses the boundary: [`run`] opens a plant on buses and a clock, lets a thread work for each
 //! scan worker and each bus until the end is told, and opens the lock for good. A [`Closed`] is what
 //! it leaves: the plant with its history, in which nothing is open, the buses, the clock, and why the
-//! run ended. [`run_again`] goes on from it. The definitions to read first are `HasRun` and
-//! `HasGoneOn` (specs/Runs.antt), and `IsClosed` (specs/Closings.antt).
+//! run ended. [`run_again`] goes on from it, and [`go_on`] by so many events more, as often as a
+//! building wants it. The definitions to read first are `HasRun` and `GoesOn` (specs/Runs.antt), and
+//! `IsClosed` (specs/Closings.antt).
 //!
 //! ```text
 //! let left = run(rt, alloc, Opening { setup, limit }, buses, clock, 2, &OpenGate)?;
-//! let more = run_again(rt, alloc, left, limit, &OpenGate)?; // its history goes on
+//! let more = go_on(rt, alloc, left, events, &OpenGate)?; // its history goes on
 //! ```
 #![tactic(auto)]
 
@@ -20,6 +21,7 @@ mod closed_plant;
 mod closing;
 mod crew;
 mod ended;
+mod going_on;
 mod leaving;
 mod pairing;
 mod pause;
@@ -30,7 +32,7 @@ mod serving;
 mod team;
 mod working;
 
-pub use again::run_again;
+pub use again::{go_on, run_again};
 pub use closed::{Closed, ClosedParts, NotGoneOn, NotStarted};
 pub use closed_plant::ClosedPlant;
 pub use ended::Ended;

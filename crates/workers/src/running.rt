@@ -1,6 +1,6 @@
 //! A run, from the plant's opening to its close.
 
-ghost use Rattle.std.specs.Prelude.{◌≡◌, ◌≤◌, true, length, vec_len, IfOk, IfErr, MatchResult};
+ghost use Rattle.std.specs.Prelude.{◌≡◌, ◌+◌, ◌≤◌, true, length, vec_len, IfOk, IfErr, MatchResult};
 ghost use Rattle.limits.specs.Limits.{most_buses};
 ghost use Rattle.plant.specs.declared.open_fault.OpenFault.TheVariants.{Memory};
 ghost use Rattle.plant.specs.Shown.{IsWorkerCount, is_full};
@@ -70,7 +70,8 @@ pub(crate) fn run_named<
 ) -> Result<Closed<B, C>, NotBegun<B, C>>
     requires start { plant ≡ J.start }
     requires idle { HasNothingOpen J.start }
-    requires cells { (cells.now ≡ J.cells) × (J.start.limit ≤ length J.cells) }
+    requires cells { (cells.now ≡ J.cells)
+        × (J.start.limit ≤ length J.start.history + length J.cells) }
     requires names { blanks ≡ N.names }
     requires links { IsInStep J.start J.buses J.clock B.log C.log lines.items clock }
     requires workers { IsWorkerCount J.start.plant.workers }

@@ -39,6 +39,7 @@ returns-clause-closed g c =
           timed g.J.Links.clock (g.C.Clock.log c.args.team.timed.clock) c.args.team.timed.share h c.requires.team.timed
           (subst (λ s. HasPart s h) c.close-plant.ensures.clock parts.clock) (shows_links.given h);
       moments = c.requires.team.timed.moments;
+      asks = c.requires.team.timed.asks;
     }
 
 pub invariant_of-result : goal.invariant_of-result

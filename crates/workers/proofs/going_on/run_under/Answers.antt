@@ -3,11 +3,10 @@ use Rattle.plant.specs.Shown.{Shown, kept}
 use Rattle.driving.specs.Open.{HasNothingOpen}
 use Rattle.workers.specs.declared.closed.ClosedParts.{ClosedParts}
 use Rattle.workers.specs.Closings.{IsLeft}
-use Rattle.workers.specs.Runs.{HasGoneOn}
-use Rattle.workers.specs.Starts.{IsNextLimit}
+use Rattle.workers.specs.Runs.{GoesOn}
 use Rattle.workers.proofs.GoneOn.{in_step_from, limit_back, room_before, still_open_none}
-use Rattle.workers.proofs.Whole.{has_gone_on, left_with}
-use Rattle.workers.proofs.again.run_again.Goals as goal
+use Rattle.workers.proofs.Whole.{goes_on, left_with}
+use Rattle.workers.proofs.going_on.run_under.Goals as goal
 
 pub run_named-run-requires-clause-idle : goal.run_named-run-requires-clause-idle
 run_named-run-requires-clause-idle g c κs within =
@@ -23,8 +22,8 @@ run_named-run-requires-clause-links g c κs within =
     ap (λ (p : Shown). p.history) c.set_limit.ensures ∙ ap (λ (p : Shown). p.history) c.into_plant-plant.ensures.plant in
     in_step_from g.B.Bus.log g.C.Clock.log old left.p left.logs left.first left.closed c.set_limit.new.self same
 
-pub returns-in-Ok-run : goal.returns-in-Ok-run
-returns-in-Ok-run g c =
+pub returns-in-Ok-run-clause-ok : goal.returns-in-Ok-run-clause-ok
+returns-in-Ok-run-clause-ok g c =
     let old = c.into_parts-plant.result in
     let same = c.into_parts-plant.ensures.value in
     let left = subst (IsLeft g.B.Bus.log g.C.Clock.log) (sym same) c.into_parts-plant.ensures.left in
@@ -34,16 +33,10 @@ returns-in-Ok-run g c =
     let run = c.in-Ok-run.ensures in
     let counted = run.count in
     let long = old.buses.ok.0 in
-    let next : IsNextLimit c.args.closed.plant.limit c.args.limit = search rules in
-    record {
-      gone_on =
-          subst (λ (was : ClosedParts g.row.B.Denot g.row.C.Denot). HasGoneOn c.args.limit g.B.Bus.log g.C.Clock.log was
-          c.in-Ok-run.left) same
-          (has_gone_on g.B.Bus.log g.C.Clock.log c.set_limit.new.self c.in-Ok-run.left run.full run.limit c.args.limit old
-          left is run.closed run.ended run.front (omega (arith, counted, long))
-          (subst (λ (was : ClosedParts g.row.B.Denot g.row.C.Denot). IsNextLimit was.plant.limit c.args.limit) (sym same)
-          next));
-    }
+    subst (λ (was : ClosedParts g.row.B.Denot g.row.C.Denot). GoesOn c.args.limit g.B.Bus.log g.C.Clock.log was
+    c.in-Ok-run.left) same
+    (goes_on g.B.Bus.log g.C.Clock.log c.set_limit.new.self c.in-Ok-run.left run.full run.limit c.args.limit old
+    left is run.closed run.ended run.front (omega (arith, counted, long)))
 
 pub as_before-parts-requires-clause-idle : goal.as_before-parts-requires-clause-idle
 as_before-parts-requires-clause-idle g c =

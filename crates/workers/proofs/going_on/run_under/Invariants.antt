@@ -1,6 +1,6 @@
 use Rattle.std.proofs.Common.{map}
 use Rattle.workers.proofs.Earlier.{buses_before, clock_before}
-use Rattle.workers.proofs.again.run_again.Given as goal
+use Rattle.workers.proofs.going_on.run_under.Given as goal
 
 abbrev pub ghosts-run_named-J-Basis : goal.ghosts-run_named-J-Basis
 ghosts-run_named-J-Basis g a = record { start = a.plant; cells = a.cells.now }
