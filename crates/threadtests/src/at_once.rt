@@ -1,12 +1,14 @@
 //! Buses send at once, and send again after they were idle; tasks are scanned at once; frames are
 //! heard and sent and scans are made while the clock still gives moments; an end is seen while it
-//! does; what is left at the clock's end is done; and a run goes on where the clock does.
+//! does; what is left at the clock's end is done; a run goes on where the clock does; and runs follow
+//! one another.
 
 use crate::house::House;
 use crate::links::{PausedClock, WaitingClock, WatchedBus};
 use crate::watch::{NOW, Rules, Until, Watch};
 use daliframe::BusNumber;
 use plant::Plant;
+use plantlive::live;
 use plantplay::bus_of;
 use simbus::{Scenario, ScriptedClock};
 use std::alloc::Global;
@@ -202,6 +204,19 @@ const ROWS: [Row; 9] = [
     },
 ];
 
+/// Ten times as many moments as the events of a run.
+const LONG: Row = Row {
+    name: "runs follow one another",
+    house: House {
+        buses: 1,
+        moments: 900,
+        ..LAMPS
+    },
+    limit: 100,
+    pause: 900,
+    ..PLAIN
+};
+
 /// A clock that comes to its end after three moments, and goes on with a fourth.
 const FOURTH: Row = Row {
     name: "a run goes on with the clock",
@@ -346,6 +361,31 @@ fn goes_on<R: Threads + Wait + Timer + Sync>(
         return Err(Fail::new("the run doesn't go on"));
     };
     Ok(is_left(&more, &watch, row.ended, row.scans.saturating_add(1)))
+}
+
+/// Whether a plant is run to its clock's end, one run after another, and its history is that of all.
+fn lives<R: Threads + Wait + Timer + Sync>(rt: &R, alloc: Global, row: &Row) -> Result<bool, Fail> {
+    let watch = Watch::new(rt, alloc, row.rules())?;
+    let Linked {
+        opening,
+        buses,
+        clock,
+    } = link(alloc, &watch, row)?;
+    let Ok(lived) = live(rt, alloc, opening, buses, clock, row.workers, &watch) else {
+        return Err(Fail::new("the run doesn't start"));
+    };
+    Ok(
+        lived.ended == row.ended
+            && lived.left.plant().len() >= u64::from(row.house.moments)
+            && is_left(&lived.left, &watch, row.ended, row.scans),
+    )
+}
+
+#[test]
+fn runs_follow_one_another(rt: HostRuntime) -> Result<(), Fail> {
+    let is_so = lives(&rt, rt.alloc(), &LONG)?;
+    assert!(rt; is_so, "{}", LONG.name);
+    Ok(())
 }
 
 #[test]

@@ -1,0 +1,2 @@
+mod Intervals
+mod Since

@@ -1,0 +1,3 @@
+pub mod Lives
+pub mod LivesSteps
+pub mod Periods
