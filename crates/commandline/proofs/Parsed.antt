@@ -1,17 +1,17 @@
 -- What `clap` finds in the words of the command line.
 use Rattle.std.proofs.Common.{◌≡◌, ◌∙◌, ap, ap₂, subst, List, [], ◌∷◌, Option, Some, None, true, Result, Ok, Err, refl}
 use Rattle.std.proofs.Common.{sym, inl, inr}
-use Rattle.std.specs.Prelude.{option_map, unwrap_or, IfErr, IfOk}
+use Rattle.std.specs.Prelude.{◌⊎◌, option_map, unwrap_or, IfErr, IfOk}
 use Rattle.clap.specs.Words.{App, HasKind, HasMatchesOf, Row, Text, fault_of, is_simple, subcommand_name_of}
 use Rattle.clap.specs.Words.{subcommand_of, subcommand_rows_of}
 use Rattle.clap.specs.Faults.{is_simple_and_free}
 use Rattle.clap.specs.declared.error.Error.{Error}
 use Rattle.clap.specs.declared.parser.matches.ArgMatches.{ArgMatches}
 use Rattle.clap.specs.declared.parser.matches.ArgMatches.TheViews.{out-ArgMatches}
-use Rattle.clap.specs.declared.error.kind.ErrorKind.TheVariants.{ArgumentConflict}
+use Rattle.clap.specs.declared.error.kind.ErrorKind.TheVariants.{ArgumentConflict, ValueValidation}
 use Rattle.invocations.specs.Invocations.{IsOfCommand}
 use Rattle.invocations.specs.declared.invocations.Invocation.{Invocation}
-use Rattle.commandline.specs.CommandLine.{AreTaken, IsInvocation, NamesBoth, SpellBoth, command_line}
+use Rattle.commandline.specs.CommandLine.{AreTaken, IsInvocation, NamesBoth, NamesNoLines, Spell, command_line}
 
 is_free : is_simple_and_free command_line ≡ true
 is_free = refl
@@ -59,22 +59,37 @@ module _ (words : List Text) (app : App) (is : app ≡ command_line) where
 
 module _ (words : List Text) (name : Text) (found : List Row)
     (is : subcommand_of command_line words ≡ Some (name, found)) where
+  -- what the words spell holds of what was found
+  of_found : (Holds : Text → List Row → Type 0) → Spell Holds words → Holds name found
+  of_found Holds spell =
+      let pairs = ap (λ (o : Option (Text × List Row)). unwrap_or o (name, found)) (sym spell.2 ∙ is) in
+      subst (λ (p : Text × List Row). Holds p.0 p.1) pairs spell.3
+
   -- where `clap` finds nothing at fault
   pub answered : (T : Type 0) (read : Result T Error) → fault_of command_line words ≡ []
-      → IfOk read (λ _. ¬ NamesBoth name found)
-      → IfErr read (λ error. NamesBoth name found × HasKind (ArgumentConflict ∷ []) error)
+      → IfOk read (λ _. ¬ NamesBoth name found × ¬ NamesNoLines name found)
+      → IfErr read (λ error. (NamesBoth name found × HasKind (ArgumentConflict ∷ []) error)
+      ⊎ (NamesNoLines name found × HasKind (ValueValidation ∷ []) error))
       → AreTaken {T = T} words read
-  answered T (Ok done) free alone conflict = (free, λ both. alone (names both))
-    where
-      names : SpellBoth words → NamesBoth name found
-      names both =
-          let pairs = ap (λ (o : Option (Text × List Row)). unwrap_or o (name, found)) (sym both.2 ∙ is) in
-          subst (λ (p : Text × List Row). NamesBoth p.0 p.1) pairs both.3
-  answered T (Err error) free alone conflict =
-      elim conflict.1 as (λ _. AreTaken {T = T} words (Err error)) [
-        | inl memory ↦ inl (inl memory)
-        | inr (inl kind) ↦ inr (free, (name, found, is, conflict.0), kind)
-        | inr (inr none) ↦ absurd none
+  answered T (Ok done) free neither refused = (
+    free,
+    λ both. neither.0 (of_found NamesBoth both),
+    λ none. neither.1 (of_found NamesNoLines none),
+  )
+  answered T (Err error) free neither refused =
+      elim refused as (λ _. AreTaken {T = T} words (Err error)) [
+        | inl both ↦
+            elim both.1 as (λ _. AreTaken {T = T} words (Err error)) [
+              | inl memory ↦ inl (inl memory)
+              | inr (inl kind) ↦ inr (inl (free, (name, found, is, both.0), kind))
+              | inr (inr none) ↦ absurd none
+            ]
+        | inr lines ↦
+            elim lines.1 as (λ _. AreTaken {T = T} words (Err error)) [
+              | inl memory ↦ inl (inl memory)
+              | inr (inl kind) ↦ inr (inr (free, (name, found, is, lines.0), kind))
+              | inr (inr none) ↦ absurd none
+            ]
       ]
 
   pub spelled : (read : Result Invocation Error) → IfOk read (IsOfCommand name found) → IfOk read (IsInvocation words)

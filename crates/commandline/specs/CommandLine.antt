@@ -1,5 +1,6 @@
 -- The command line (profile): `check FILE [--bind FILE]`, `check --code FILE`, `step FILE TASK [--bind FILE] [--scans N]
 -- [--every MS]`, `play TEXT BIND SCENARIO [--limit N]`, `run TEXT BIND SCENARIO [--limit N] [--workers W]`,
+-- `live TEXT BIND --line B=PATH.. [--period MS] [--for SECONDS] [--stop PATH] [--limit N] [--workers W] [--stay]`,
 -- `look FILE SCENARIO --bind FILE [--text]`, `notes FILE [--bind FILE]`, `list FILE [TASK] [--bind FILE]`,
 -- `explain FILE [SCENARIO] [--bind FILE]` and `code FILE TASK OUT [--bind FILE]`, with the reading of words that `clap`
 -- has.
@@ -7,12 +8,14 @@ use Rattle.std.specs.Prelude.{◌≡◌, ℕ, ◌⊎◌, List, [], Some, true, p
 use Rattle.clap.specs.Words.{App, HasKind, Row, Rule, Text, fault_of, first_of, kind_of, new_app, new_rule, one_of}
 use Rattle.clap.specs.Words.{subcommand_of, with_rule, with_subcommand}
 use Rattle.clap.specs.Simple.{on_top}
-use Rattle.clap.specs.declared.builder.action.ArgAction.TheVariants.{Set, SetTrue}
+use Rattle.clap.specs.declared.builder.action.ArgAction.TheVariants.{Append, Set, SetTrue}
 use Rattle.clap.specs.declared.builder.value_parser.ValueParser.TheVariants as parsers
 use Rattle.clap.specs.declared.error.Error.{Error}
-use Rattle.clap.specs.declared.error.kind.ErrorKind.TheVariants.{ArgumentConflict}
-use Rattle.invocations.specs.Invocations.{IsOfCommand}
+use Rattle.clap.specs.declared.error.kind.ErrorKind.TheVariants.{ArgumentConflict, ValueValidation}
+use Rattle.invocations.specs.Invocations.{IsOfCommand, line_words}
+use Rattle.invocations.specs.LineWords.{AreLines}
 use Rattle.invocations.specs.declared.invocations.Invocation.{Invocation}
+use Rattle.invocations.specs.declared.line_words.LineWord.{LineWord}
 
 -- ---- the words that are taken
 
@@ -31,6 +34,10 @@ option id = record (new_rule id) { long = Some id; value_names = 1; action = Som
 -- an option with one value that must be given
 abbrev pub wanted_option : Text → Rule
 wanted_option id = record (option id) { required = true }
+
+-- an option with one value that must be given, once or several times
+abbrev pub repeated_option : Text → Rule
+repeated_option id = record (wanted_option id) { action = Some Append }
 
 -- an option with no value
 abbrev pub flag : Text → Rule
@@ -69,6 +76,22 @@ abbrev pub run_command : App
 run_command =
     with_rule (with_rule (scenario_files (codes "run")) (number_option (codes "limit") 100 1000000))
     (number_option (codes "workers") 1 16)
+
+abbrev pub live_files : App
+live_files = with_rule (with_rule (new_app (codes "live")) (wanted (codes "TEXT"))) (wanted (codes "BIND"))
+
+abbrev pub live_time : App
+live_time =
+    with_rule (with_rule (with_rule (with_rule live_files (repeated_option (codes "line")))
+    (number_option (codes "period") 1 60000))
+    (number_option (codes "for") 1 4294967))
+    (option (codes "stop"))
+
+abbrev pub live_command : App
+live_command =
+    with_rule (with_rule (with_rule live_time (number_option (codes "limit") 100 1000000))
+    (number_option (codes "workers") 1 16))
+    (flag (codes "stay"))
 
 abbrev pub look_files : App
 look_files =
@@ -111,8 +134,11 @@ played_line = with_subcommand inquiry_line play_command.top
 abbrev pub run_line : App
 run_line = with_subcommand played_line run_command.top
 
+abbrev pub live_line : App
+live_line = with_subcommand run_line live_command.top
+
 abbrev pub look_line : App
-look_line = with_subcommand run_line look_command.top
+look_line = with_subcommand live_line look_command.top
 
 abbrev pub note_line : App
 note_line = with_subcommand look_line notes_command.top
@@ -128,11 +154,14 @@ command_line = with_subcommand explain_line code_command.top
 
 -- ---- what they say
 
+-- the words spell a command, and this holds of its name and of what was found
+abbrev pub Spell : (Text → List Row → Type 0) → List Text → Type 0
+Spell Holds words =
+    (name : Text) × (found : List Row) × (subcommand_of command_line words ≡ Some (name, found)) × Holds name found
+
 -- the words spell the invocation
 abbrev pub IsInvocation : List Text → Invocation → Type 0
-IsInvocation words invocation =
-    (name : Text) × (found : List Row) × (subcommand_of command_line words ≡ Some (name, found))
-    × IsOfCommand name found invocation
+IsInvocation words invocation = Spell (λ name found. IsOfCommand name found invocation) words
 
 -- ---- how they are taken
 
@@ -142,13 +171,16 @@ NamesBoth name found =
     (name ≡ codes "check") × (one_of (codes "code") found ≡ Some (codes "true"))
     × IsSome (first_of (codes "bind") found)
 
-abbrev pub SpellBoth : List Text → Type 0
-SpellBoth words =
-    (name : Text) × (found : List Row) × (subcommand_of command_line words ≡ Some (name, found)) × NamesBoth name found
+-- what was found under `live` names no lines: a word is none, or names a bus that another one names
+abbrev pub NamesNoLines : Text → List Row → Type 0
+NamesNoLines name found = (name ≡ codes "live") × ((lines : List LineWord) → ¬ AreLines (line_words found) lines)
 
--- what `clap` finds at fault comes first, then a binding beside a code file; and the allocator may be out of memory
+-- what `clap` finds at fault comes first, then a binding beside a code file and words that name no lines; and the
+-- allocator may be out of memory
 abbrev pub AreTaken : {T : Type 0} → List Text → Result T Error → Type 0
-AreTaken words (Ok taken) = (fault_of command_line words ≡ []) × ¬ SpellBoth words
+AreTaken words (Ok taken) =
+    (fault_of command_line words ≡ []) × ¬ Spell NamesBoth words × ¬ Spell NamesNoLines words
 AreTaken words (Err error) =
     HasKind (fault_of command_line words) error
-    ⊎ ((fault_of command_line words ≡ []) × SpellBoth words × (kind_of error ≡ ArgumentConflict))
+    ⊎ ((fault_of command_line words ≡ []) × Spell NamesBoth words × (kind_of error ≡ ArgumentConflict))
+    ⊎ ((fault_of command_line words ≡ []) × Spell NamesNoLines words × (kind_of error ≡ ValueValidation))

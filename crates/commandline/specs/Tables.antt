@@ -2,7 +2,7 @@
 use Rattle.std.specs.Prelude.{List, [], ◌∷◌, Some, pos}
 use Rattle.std.specs.Int.{int_max, int_min}
 use Rattle.clap.specs.Words.{App, Rule, new_app, signed_between, with_rule, with_subcommand}
-use Rattle.commandline.specs.CommandLine.{flag, option, optional, wanted, wanted_option}
+use Rattle.commandline.specs.CommandLine.{flag, option, optional, repeated_option, wanted, wanted_option}
 use Rattle.commandline.specs.declared.tables.Subcommand.{Subcommand}
 use Rattle.commandline.specs.declared.words.Word.{Word}
 use Rattle.commandline.specs.declared.words.Word.TheVariants as words
@@ -12,6 +12,7 @@ rule_of_word (words.Wanted id help) = wanted id.now
 rule_of_word (words.Optional id help) = optional id.now
 rule_of_word (words.Valued id value help) = option id.now
 rule_of_word (words.WantedValued id value help) = wanted_option id.now
+rule_of_word (words.Repeated id value help) = repeated_option id.now
 rule_of_word (words.Number id value least most help) =
     record (option id.now) { parser = Some (signed_between (int_max (pos 0) least) (int_min (pos 4294967295) most)) }
 rule_of_word (words.Flag id help) = flag id.now

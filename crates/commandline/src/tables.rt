@@ -30,6 +30,14 @@ const LIMIT: Word = Word::Number(
     "The most events of the history, 100 to 1000000 [default: 100000]",
 );
 
+const EVENTS: Word = Word::Number(
+    "limit",
+    "N",
+    100,
+    1_000_000,
+    "The most events of one run, after which it goes on, 100 to 1000000 [default: 100000]",
+);
+
 const SCANS: Word = Word::Number(
     "scans",
     "N",
@@ -52,6 +60,28 @@ const WORKERS: Word = Word::Number(
     1,
     16,
     "How many scan workers, 1 to 16 [default: 2]",
+);
+
+const LINE: Word = Word::Repeated(
+    "line",
+    "B=PATH",
+    "The line of bus B, given for each bus: one path, or FROM,TO to read and to write",
+);
+
+const PERIOD: Word = Word::Number(
+    "period",
+    "MS",
+    1,
+    60_000,
+    "Milliseconds from tick to tick, 1 to 60000 [default: the text's least INTERVAL]",
+);
+
+const SECONDS: Word = Word::Number(
+    "for",
+    "SECONDS",
+    1,
+    4_294_967,
+    "Ends after so many seconds, 1 to 4294967 [default: never]",
 );
 
 pub(crate) const CHECK: Subcommand = Subcommand {
@@ -80,6 +110,22 @@ const RUN: Subcommand = Subcommand {
     name: "run",
     about: "Runs a scenario on simulated buses in threads and prints what it came to",
     words: &[TEXT, BIND, SCENARIO, LIMIT, WORKERS],
+};
+
+pub(crate) const LIVE: Subcommand = Subcommand {
+    name: "live",
+    about: "Runs a building over the lines of its buses and prints what it came to",
+    words: &[
+        TEXT,
+        BIND,
+        LINE,
+        PERIOD,
+        SECONDS,
+        Word::Valued("stop", "PATH", "Ends once there is a file at this path"),
+        EVENTS,
+        WORKERS,
+        Word::Flag("stay", "Goes on where a bus has gone down"),
+    ],
 };
 
 const LOOK: Subcommand = Subcommand {
@@ -134,6 +180,6 @@ const CODE: Subcommand = Subcommand {
 };
 
 /// The commands, in the order of the help.
-pub(crate) const COMMANDS: [Subcommand; 9] = [
-    CHECK, STEP, PLAY, RUN, LOOK, NOTES, LIST, EXPLAIN, CODE,
+pub(crate) const COMMANDS: [Subcommand; 10] = [
+    CHECK, STEP, PLAY, RUN, LIVE, LOOK, NOTES, LIST, EXPLAIN, CODE,
 ];

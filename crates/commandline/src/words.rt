@@ -20,6 +20,8 @@ pub(crate) enum Word {
     Valued(&'static str, &'static str, &'static str),
     /// An option with one value that must be given.
     WantedValued(&'static str, &'static str, &'static str),
+    /// An option with one value that must be given, once or several times.
+    Repeated(&'static str, &'static str, &'static str),
     /// An option with a whole number, from the one to the other.
     Number(&'static str, &'static str, i64, i64, &'static str),
     /// An option with no value.
@@ -36,6 +38,9 @@ pub(crate) fn argument<'a>(alloc: Global, word: Word) -> Arg<'a>
         Word::Optional(id, help) => optional(alloc, id, help),
         Word::Valued(id, value, help) => option(alloc, id, value, help),
         Word::WantedValued(id, value, help) => option(alloc, id, value, help).required(true),
+        Word::Repeated(id, value, help) => option(alloc, id, value, help)
+            .required(true)
+            .action(ArgAction::Append),
         Word::Number(id, value, least, most, help) => {
             let parser = clap::value_parser!(u32).range(least..=most);
             option(alloc, id, value, help).value_parser(parser)

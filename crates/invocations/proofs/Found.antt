@@ -1,13 +1,13 @@
 -- What the getters of `clap` give, by the rows of what was found.
-use Rattle.std.proofs.Common.{◌≡◌, ◌∙◌, ap, subst, true, false, codes, ℕ, Bool, List, Option, Some, None, Result}
+use Rattle.std.proofs.Common.{◌≡◌, ◌∙◌, ap, subst, true, false, codes, ℕ, Bool, List, Option, Some, None, Result, [], map}
 use Rattle.std.proofs.Common.{Ok, Err, refl}
 use Rattle.std.specs.Prelude.{option_map, unwrap_or}
 use Rattle.std.specs.Borrow.{Bor}
 use Rattle.std.specs.Str.Parse.{ParsesUnsigned}
-use Rattle.clap.specs.Words.{ReadsOne, Text, first_of, first_value, one_of, one_text, rows_of}
+use Rattle.clap.specs.Words.{ReadsOne, Text, first_of, first_value, matched_of, one_of, one_text, raw_values, rows_of}
 use Rattle.clap.specs.declared.parser.matches.Found.{Found}
-use Rattle.clap.proofs.WalkLemmas.{first_value-rows, one_text-rows}
-use Rattle.invocations.specs.Invocations.{IsFlag, IsNumber, given}
+use Rattle.clap.proofs.WalkLemmas.{first_value-rows, one_text-rows, raw_values-rows}
+use Rattle.invocations.specs.Invocations.{IsFlag, IsGivenNumber, IsNumber, given, line_words}
 
 -- the text of an id
 pub text_found : (f : Found) (id : Text) (text : Option (Bor Text)) → option_map (λ s. s.now) text ≡ first_value f id
@@ -17,6 +17,13 @@ text_found f id text is = is ∙ first_value-rows f id
 pub text_given : (f : Found) (id : Text) (text : Option (Bor Text)) → option_map (λ s. s.now) text ≡ first_value f id
     → given (option_map (λ s. s.now) text) ≡ given (first_of id (rows_of f))
 text_given f id text is = ap given (text_found f id text is)
+
+-- the words for the lines of buses
+pub words_given : (f : Found) (words : Option (Bor (List (Bor Text))))
+    → option_map (λ all. map (λ word. word.now) all.now) words ≡ option_map raw_values (matched_of f (codes "line"))
+    → unwrap_or (option_map (λ all. map (λ word. word.now) all.now) words) [] ≡ line_words (rows_of f)
+words_given f words is =
+    ap (λ (all : Option (List Text)). unwrap_or all []) (is ∙ raw_values-rows f (codes "line"))
 
 -- whether the flag of an id was given
 pub flag_given : (f : Found) (id : Text) (is : Bool) → (one_text f id ≡ None → is ≡ false)
@@ -31,22 +38,37 @@ flag_given f id is none on off =
         (λ same. on (found ∙ ap (λ (t : Text). Some t) same), λ same. off (found ∙ ap (λ (t : Text). Some t) same))
 
 module _ {E : Type 0} (Gives : List ℕ → Result ℕ E → Type 0)
-    (parses : (text : List ℕ) (read : Result ℕ E) → Gives text read → ParsesUnsigned 32 10 text read)
-    (default : ℕ) where
+    (parses : (text : List ℕ) (read : Result ℕ E) → Gives text read → ParsesUnsigned 32 10 text read) where
   -- the number that was read of a text
-  number_read : (text : Text) (read : Option ℕ) → ReadsOne Gives text read
+  number_read : (default : ℕ) (text : Text) (read : Option ℕ) → ReadsOne Gives text read
       → IsNumber default (Some text) (unwrap_or read default)
-  number_read text (Some n) reads = λ numeral small. (parses text (Ok n) reads).1
-  number_read text None reads = λ numeral small. absurd (parses text (Err reads.0) reads.1 (numeral, small))
+  number_read default text (Some n) reads = λ numeral small. (parses text (Ok n) reads).1
+  number_read default text None reads = λ numeral small. absurd (parses text (Err reads.0) reads.1 (numeral, small))
+
+  -- the number that was read of a text, where one was
+  text_read : (text : Text) (read : Option ℕ) → ReadsOne Gives text read → IsGivenNumber (Some text) read
+  text_read text (Some n) reads =
+      λ numeral small. ap (λ (number : ℕ). Some number) (parses text (Ok n) reads).1
+  text_read text None reads = λ numeral small. absurd (parses text (Err reads.0) reads.1 (numeral, small))
+
+  pub number_if_given : (f : Found) (id : Text) (read : Option ℕ) → (one_text f id ≡ None → read ≡ None)
+      → ((text : Text) → one_text f id ≡ Some text → ReadsOne Gives text read)
+      → IsGivenNumber (one_of id (rows_of f)) read
+  number_if_given f id read none value =
+      subst (λ (text : Option Text). IsGivenNumber text read) (one_text-rows f id) (go (one_text f id) refl)
+    where
+      go : (text : Option Text) → one_text f id ≡ text → IsGivenNumber text read
+      go None is = none is
+      go (Some text) is = text_read text read (value text is)
 
   -- the number of an id
-  pub number_given : (f : Found) (id : Text) (read : Option ℕ) → (one_text f id ≡ None → read ≡ None)
+  pub number_given : (default : ℕ) (f : Found) (id : Text) (read : Option ℕ) → (one_text f id ≡ None → read ≡ None)
       → ((text : Text) → one_text f id ≡ Some text → ReadsOne Gives text read)
       → IsNumber default (one_of id (rows_of f)) (unwrap_or read default)
-  number_given f id read none value =
+  number_given default f id read none value =
       subst (λ (text : Option Text). IsNumber default text (unwrap_or read default)) (one_text-rows f id)
       (go (one_text f id) refl)
     where
       go : (text : Option Text) → one_text f id ≡ text → IsNumber default text (unwrap_or read default)
       go None is = ap (λ (o : Option ℕ). unwrap_or o default) (none is)
-      go (Some text) is = number_read text read (value text is)
+      go (Some text) is = number_read default text read (value text is)

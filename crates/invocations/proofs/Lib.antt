@@ -1,1 +1,4 @@
 mod Found
+pub mod LineFaults
+mod LineLists
+mod LineParts

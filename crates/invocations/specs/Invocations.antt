@@ -3,15 +3,19 @@ use Rattle.std.specs.Prelude.{◌≡◌, ℕ, ◌^◌, ◌<◌, List, [], Bool, 
 use Rattle.std.specs.Prelude.{option_map, unwrap_or}
 use Rattle.std.specs.Borrow.{Bor}
 use Rattle.std.specs.Str.Parse.{IsNumeral, digits_value, without_leading_plus}
-use Rattle.clap.specs.Words.{Row, Text, first_of, one_of}
+use Rattle.clap.specs.Words.{Row, Text, all_of, first_of, one_of}
+use Rattle.invocations.specs.LineWords.{AreLines, IsFirstFault}
 use Rattle.invocations.specs.declared.files.Files.{Files}
+use Rattle.invocations.specs.declared.files.LiveFiles.{LiveFiles}
 use Rattle.invocations.specs.declared.files.PlayFiles.{PlayFiles}
 use Rattle.invocations.specs.declared.inquiries.Inquiry.{Inquiry}
 use Rattle.invocations.specs.declared.inquiries.Inquiry.TheVariants.{Check, Step}
 use Rattle.invocations.specs.declared.invocations.Invocation.{Invocation}
-use Rattle.invocations.specs.declared.invocations.Invocation.TheVariants.{Ask, CheckCode, Code, Look, Play}
-use Rattle.invocations.specs.declared.invocations.Invocation.TheVariants.{Run, Tell}
+use Rattle.invocations.specs.declared.invocations.Invocation.TheVariants.{Ask, CheckCode, Code, Live, Look}
+use Rattle.invocations.specs.declared.invocations.Invocation.TheVariants.{Play, Run, Tell}
+use Rattle.invocations.specs.declared.invocations.LiveOptions.{LiveOptions}
 use Rattle.invocations.specs.declared.invocations.RunSize.{RunSize}
+use Rattle.invocations.specs.declared.line_words.LineWordFault.{LineWordFault}
 use Rattle.invocations.specs.declared.questions.Question.{Question}
 use Rattle.invocations.specs.declared.questions.Question.TheVariants.{Faults, Notes, Words}
 
@@ -27,6 +31,13 @@ IsWritten digits number = IsNumeral 10 digits → digits_value 10 digits < 2 ^ 3
 abbrev pub IsNumber : ℕ → Option Text → ℕ → Type 0
 IsNumber default None number = number ≡ default
 IsNumber default (Some text) number = IsWritten (without_leading_plus text) number
+
+-- the number that was given, where one was
+abbrev pub IsGivenNumber : Option Text → Option ℕ → Type 0
+IsGivenNumber None number = number ≡ None
+IsGivenNumber (Some text) number =
+    let digits = without_leading_plus text in
+    IsNumeral 10 digits → digits_value 10 digits < 2 ^ 32 → number ≡ Some (digits_value 10 digits)
 
 -- whether the flag was given; the row of a flag has one of these two texts
 abbrev pub IsFlag : Option Text → Bool → Type 0
@@ -80,16 +91,38 @@ pub record IsRunSize (found : List Row) (size : RunSize) : Type 0 where
   pub limit : IsNumber 100000 (one_of (codes "limit") found) size.limit
   pub workers : IsNumber 2 (one_of (codes "workers") found) size.workers
 
+-- the files that are named for a building
+pub record AreLiveFiles (found : List Row) (files : LiveFiles) : Type 0 where
+  pub text : files.text.now ≡ given (first_of (codes "TEXT") found)
+  pub binding : files.binding.now ≡ given (first_of (codes "BIND") found)
+
+-- how a building is run: the period, the seconds and the path of the file that ends it, where they are given; how large
+-- a run may become; and whether it goes on where a bus has gone down
+pub record AreLiveOptions (found : List Row) (options : LiveOptions) : Type 0 where
+  pub period : IsGivenNumber (one_of (codes "period") found) options.period
+  pub seconds : IsGivenNumber (one_of (codes "for") found) options.seconds
+  pub stop : option_map (λ path. path.now) options.stop ≡ first_of (codes "stop") found
+  pub size : IsRunSize found options.size
+  pub stay : IsFlag (one_of (codes "stay") found) options.stay
+
+-- the words for the lines of buses
+abbrev pub line_words : List Row → List Text
+line_words found = unwrap_or (all_of (codes "line") found) []
+
 -- the task whose code is asked for, and the path to which its code file goes
 pub record AreCodeWords (found : List Row) (task to : Bor Text) : Type 0 where
   pub of_task : task.now ≡ given (first_of (codes "TASK") found)
   pub out : to.now ≡ given (first_of (codes "OUT") found)
 
--- no scenario, no code and no question is asked for under this name
+-- no scenario, no building and no code is asked for under this name
+abbrev pub IsTextName : Text → Type 0
+IsTextName name =
+    ¬ (name ≡ codes "live") × ¬ (name ≡ codes "play") × ¬ (name ≡ codes "run") × ¬ (name ≡ codes "look")
+    × ¬ (name ≡ codes "code")
+
+-- and no question
 abbrev pub IsInquiryName : Text → Type 0
-IsInquiryName name =
-    ¬ (name ≡ codes "play") × ¬ (name ≡ codes "run") × ¬ (name ≡ codes "look") × ¬ (name ≡ codes "code")
-    × IsNoQuestion name
+IsInquiryName name = IsTextName name × IsNoQuestion name
 
 -- what was found under a command's name is the invocation; a played history has 100,000 events at most where nothing
 -- else is said
@@ -97,6 +130,9 @@ abbrev pub IsOfCommand : Text → List Row → Invocation → Type 0
 IsOfCommand name found (Play files limit) =
     (name ≡ codes "play") × ArePlayFiles found files × IsNumber 100000 (one_of (codes "limit") found) limit
 IsOfCommand name found (Run files size) = (name ≡ codes "run") × ArePlayFiles found files × IsRunSize found size
+IsOfCommand name found (Live files lines options) =
+    (name ≡ codes "live") × AreLiveFiles found files × AreLines (line_words found) lines.items
+    × AreLiveOptions found options
 IsOfCommand name found (Look files is_text) =
     (name ≡ codes "look") × AreLookFiles found files × IsFlag (one_of (codes "text") found) is_text
 IsOfCommand name found (Code files task to) =
@@ -106,5 +142,9 @@ IsOfCommand name found (CheckCode path) =
     × (path.now ≡ given (first_of (codes "FILE") found))
 IsOfCommand name found (Ask inquiry) = IsInquiryName name × IsOfInquiry name found inquiry
 IsOfCommand name found (Tell files question) =
-    ¬ (name ≡ codes "play") × ¬ (name ≡ codes "run") × ¬ (name ≡ codes "look") × ¬ (name ≡ codes "code")
-    × AreFiles found files × IsQuestion name found question
+    IsTextName name × AreFiles found files × IsQuestion name found question
+
+-- what was found under a command's name has a word at fault among those for the lines of buses, of which this is the
+-- first
+abbrev pub IsOfFault : Text → List Row → LineWordFault → Type 0
+IsOfFault name found fault = (name ≡ codes "live") × IsFirstFault (line_words found) fault

@@ -1,2 +1,3 @@
 pub mod Inquiries
 pub mod Invocations
+pub mod LineWords

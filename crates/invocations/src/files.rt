@@ -19,3 +19,12 @@ pub struct PlayFiles<'a> {
     /// The path of the scenario.
     pub scenario: &'a str,
 }
+
+/// The files that a building is run from.
+#[derive(Clone, Copy)]
+pub struct LiveFiles<'a> {
+    /// The path of the text.
+    pub text: &'a str,
+    /// The path of the binding.
+    pub binding: &'a str,
+}

@@ -1,19 +1,42 @@
 //! The readers of what `clap` found.
 
-ghost use Rattle.std.specs.Prelude.{◌≡◌, codes};
+ghost use Rattle.std.specs.Prelude.{◌≡◌, MatchResult, codes};
 ghost use Rattle.clap.specs.Words.{first_of, found_of, one_of, rows_of};
-ghost use Rattle.invocations.specs.Invocations.{AreFiles, AreLookFiles, ArePlayFiles, IsFlag};
-ghost use Rattle.invocations.specs.Invocations.{IsInquiryName, IsNumber, IsOfCommand, IsRunSize};
-ghost use Rattle.invocations.specs.Invocations.{given};
+ghost use Rattle.invocations.specs.Invocations.{AreFiles, AreLiveFiles, AreLiveOptions, AreLookFiles};
+ghost use Rattle.invocations.specs.Invocations.{ArePlayFiles, IsFlag, IsGivenNumber, IsInquiryName};
+ghost use Rattle.invocations.specs.Invocations.{IsNumber, IsOfCommand, IsOfFault, IsRunSize, given};
+ghost use Rattle.invocations.specs.Invocations.{line_words};
+ghost use Rattle.invocations.specs.LineWords.{AreLines, IsFirstFault};
 
-use crate::files::{Files, PlayFiles};
+use crate::files::{Files, LiveFiles, PlayFiles};
 use crate::inquiries::Inquiry;
-use crate::invocations::{Invocation, RunSize};
-use crate::questions::question_of;
+use crate::invocations::{Invocation, LiveOptions, RunSize};
+use crate::line_words::{LineWordFault, LineWords, lines_of};
+use crate::questions::{question_of, word_in};
+use arrayvec::ArrayVec;
 use clap::ArgMatches;
 
 /// The invocation of what was found under a command's name.
-pub fn invocation_of<'a>(name: &str, found: &ArgMatches<'a>) -> Invocation<'a>
+///
+/// # Errors
+///
+/// A word for the line of a bus names none, or a bus that a word before it names.
+pub fn invocation_of<'a>(
+    name: &str,
+    found: &ArgMatches<'a>,
+) -> Result<Invocation<'a>, LineWordFault<'a>>
+    ensures { MatchResult result (IsOfCommand name.now (rows_of (found_of found.now)))
+        (IsOfFault name.now (rows_of (found_of found.now))) }
+{
+    if name == "live" {
+        return live_in(found);
+    }
+    Ok(without_lines(name, found))
+}
+
+/// The invocation of what was found under the name of a command that takes no lines of buses.
+fn without_lines<'a>(name: &str, found: &ArgMatches<'a>) -> Invocation<'a>
+    requires { ¬ (name.now ≡ codes "live") }
     ensures { IsOfCommand name.now (rows_of (found_of found.now)) result }
 {
     if name == "play" {
@@ -78,6 +101,54 @@ fn check_in<'a>(found: &ArgMatches<'a>) -> Invocation<'a>
     Invocation::Ask(Inquiry::Check {
         files: files_in(found),
     })
+}
+
+/// What is asked by what was found under `live`.
+fn live_in<'a>(found: &ArgMatches<'a>) -> Result<Invocation<'a>, LineWordFault<'a>>
+    ensures { MatchResult result (IsOfCommand (codes "live") (rows_of (found_of found.now)))
+        (IsOfFault (codes "live") (rows_of (found_of found.now))) }
+{
+    let lines = lines_in(found)?;
+    Ok(Invocation::Live {
+        files: live_files_in(found),
+        lines,
+        options: live_options_in(found),
+    })
+}
+
+/// The lines of buses that are named.
+fn lines_in<'a>(found: &ArgMatches<'a>) -> Result<LineWords<'a>, LineWordFault<'a>>
+    ensures { MatchResult result
+        (λ lines. AreLines (line_words (rows_of (found_of found.now))) lines.items)
+        (IsFirstFault (line_words (rows_of (found_of found.now)))) }
+{
+    match found.get_strs("line") {
+        Some(words) => lines_of(words),
+        None => Ok(ArrayVec::new()),
+    }
+}
+
+/// The files that are named for a building.
+fn live_files_in<'a>(found: &ArgMatches<'a>) -> LiveFiles<'a>
+    ensures { AreLiveFiles (rows_of (found_of found.now)) result }
+{
+    LiveFiles {
+        text: text_in(found, "TEXT"),
+        binding: text_in(found, "BIND"),
+    }
+}
+
+/// How a building is run.
+fn live_options_in<'a>(found: &ArgMatches<'a>) -> LiveOptions<'a>
+    ensures { AreLiveOptions (rows_of (found_of found.now)) result }
+{
+    LiveOptions {
+        period: given_number_in(found, "period"),
+        seconds: given_number_in(found, "for"),
+        stop: word_in(found, "stop"),
+        size: run_size_in(found),
+        stay: flag_in(found, "stay"),
+    }
 }
 
 /// The files that are named.
@@ -147,4 +218,11 @@ fn number_in(found: &ArgMatches, id: &str, default: u32) -> u32
         Some(number) => number,
         None => default,
     }
+}
+
+/// The number that was given, where one was.
+fn given_number_in(found: &ArgMatches, id: &str) -> Option<u32>
+    ensures { IsGivenNumber (one_of id.now (rows_of (found_of found.now))) result }
+{
+    found.get_one::<u32>(id)
 }

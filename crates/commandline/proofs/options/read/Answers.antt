@@ -15,7 +15,7 @@ returns-clause-taken c =
     let spells =
     named words app c.in_ok-command.ensures matches.matches name found matches.ensures.matches is.name is.rows in
     let made = c.invocation in
-    answered words name found spells _ made.result free made.ensures.taken made.ensures.conflict
+    answered words name found spells _ made.result free made.ensures.taken made.ensures.refused
 
 pub returns-in_err-matches-clause-taken : goal.returns-in_err-matches-clause-taken
 returns-in_err-matches-clause-taken c =

@@ -1,0 +1,55 @@
+use Rattle.std.proofs.Common.{◌≡◌, ◌+◌, ◌++◌, ◌∷◌, [], ℕ, List, Bor, arith, length-append, map, refl}
+use Rattle.std.proofs.Common.{subst, sym, take, false, true}
+use Rattle.std.specs.List.{Any}
+use Rattle.clap.specs.Words.{Text}
+use Rattle.invocations.proofs.LineLists.{first_fault, one_more, room}
+use Rattle.invocations.specs.LineWords.{AreLines}
+use Rattle.invocations.specs.declared.line_words.LineWord.{LineWord}
+use Rattle.invocations.proofs.line_words.lines_of.Goals as goal
+
+same_list : (ones others : List LineWord) (bus : ℕ) → others ≡ ones → Any (λ other. other.bus ≡ bus) others
+    → Any (λ other. other.bus ≡ bus) ones
+same_list ones others bus same any =
+    subst (λ (lines : List LineWord). Any (λ other. other.bus ≡ bus) lines) same any
+
+apart : ¬ (false ≡ true)
+apart is = cc
+
+-- what stands past the end
+abbrev no_text : Bor Text
+no_text = record { ref_ptr = (0, 0); now = [] }
+
+pub returns-in_default : goal.returns-in_default
+returns-in_default c =
+    first_fault c.args.words.now c.loop-word.word-index no_text c.loop-word.lines.items _ c.loop-word-test.true
+    c.loop-word.invariant refl c.in_default.ensures
+
+pub returns-then-has_line : goal.returns-then-has_line
+returns-then-has_line c =
+    let line = c.in-Some.line in
+    let again = same_list c.loop-word.lines.items _ line.bus c.as_slice.ensures.value (c.if-has_line.ensures.0 refl) in
+    first_fault c.args.words.now c.loop-word.word-index no_text c.loop-word.lines.items _ c.loop-word-test.true
+    c.loop-word.invariant refl (line, c.in-Some.ensures, again)
+
+pub push-requires : goal.push-requires
+push-requires c =
+    let line = c.in-Some.line in
+    let lines = c.loop-word.lines.items in
+    let words = c.args.words.now in
+    let i = c.loop-word.word-index in
+    let none : ¬ Any (λ other. other.bus ≡ line.bus) lines =
+    λ again. absurd (apart (c.if-has_line.ensures.1 (same_list _ lines line.bus (sym c.as_slice.ensures.value) again))) in
+    let more = one_more words i no_text lines line c.loop-word-test.true c.loop-word.invariant c.in-Some.ensures none in
+    let few = room (map (λ word. word.now) (take (i + 1) words)) (lines ++ line ∷ []) more in
+    (omega arith, omega (arith, few, length-append lines (line ∷ [])))
+
+pub loop-word-preserved : goal.loop-word-preserved
+loop-word-preserved c =
+    let line = c.in-Some.line in
+    let lines = c.loop-word.lines.items in
+    let words = c.args.words.now in
+    let i = c.loop-word.word-index in
+    let none : ¬ Any (λ other. other.bus ≡ line.bus) lines =
+    λ again. absurd (apart (c.if-has_line.ensures.1 (same_list _ lines line.bus (sym c.as_slice.ensures.value) again))) in
+    let more = one_more words i no_text lines line c.loop-word-test.true c.loop-word.invariant c.in-Some.ensures none in
+    subst (λ (all : List LineWord). AreLines (map (λ word. word.now) (take (i + 1) words)) all) (sym c.push.ensures.items) more

@@ -1,0 +1,115 @@
+//! The lines of a building's buses, as words of the command line name them.
+
+ghost use Rattle.std.specs.Prelude.{◌≡◌, ◌↔◌, ◌<◌, ℕ, Option, IsTrue, MatchOption, MatchResult, map};
+ghost use Rattle.std.specs.Prelude.{option_map};
+ghost use Rattle.std.specs.List.{Any};
+ghost use Rattle.clap.specs.Words.{Text};
+ghost use Rattle.invocations.specs.LineWords.{ArePaths, AreLines, IsFirstFault, IsLineWord, IsPath};
+ghost use Rattle.invocations.specs.declared.line_words.LineWord.{LineWord};
+
+use arrayvec::ArrayVec;
+use limits::MOST_BUSES;
+use wordlines::number_of;
+
+/// The line of a bus, as a word names it: `B=PATH`, or `B=FROM,TO`.
+#[derive(Clone, Copy)]
+pub struct LineWord<'a> {
+    /// The bus's number, below 64.
+    pub bus: u8,
+    /// The path that is read, and also written where there is no other one.
+    pub from: &'a str,
+    /// The path that is written, where it is another one.
+    pub to: Option<&'a str>,
+}
+
+/// No path of bus 0, which fills the unused places of a collection of fixed capacity.
+impl Default for LineWord<'_> {
+    fn default() -> Self {
+        LineWord {
+            bus: 0,
+            from: "",
+            to: None,
+        }
+    }
+}
+
+/// The most lines: one of each bus.
+const MOST_LINES: usize = MOST_BUSES as usize;
+
+/// The lines of buses, in the order of their words.
+pub type LineWords<'a> = ArrayVec<LineWord<'a>, MOST_LINES>;
+
+/// The first word that is not taken as the line of a bus.
+#[derive(Clone, Copy)]
+pub enum LineWordFault<'a> {
+    /// This word is neither `B=PATH` nor `B=FROM,TO` with a bus below 64.
+    NoLine(&'a str),
+    /// This word names a bus that a word before it names.
+    Again(&'a str),
+}
+
+/// The lines that the words name.
+///
+/// # Errors
+///
+/// A word names none, or a bus that a word before it names.
+pub(crate) fn lines_of<'a>(words: &[&'a str]) -> Result<LineWords<'a>, LineWordFault<'a>>
+    ensures { MatchResult result
+        (λ lines. AreLines (map (λ word. word.now) words.now) lines.items)
+        (IsFirstFault (map (λ word. word.now) words.now)) }
+{
+    let mut lines = ArrayVec::new();
+    for word in words {
+        let Some(line) = line_of(word) else {
+            return Err(LineWordFault::NoLine(word));
+        };
+        if has_line(lines.as_slice(), line.bus) {
+            return Err(LineWordFault::Again(word));
+        }
+        lines.push(line);
+    }
+    Ok(lines)
+}
+
+/// Whether one of the lines is of this bus.
+fn has_line(lines: &[LineWord], bus: u8) -> bool
+    ensures { IsTrue result ↔ Any (λ line. line.bus ≡ bus) lines.now }
+{
+    lines.iter().any(|line| line.bus == bus)
+}
+
+/// The line that a word names, where it names one.
+fn line_of<'a>(word: &'a str) -> Option<LineWord<'a>>
+    ensures { MatchOption result ((line : LineWord) → ¬ IsLineWord word.now line)
+        (IsLineWord word.now) }
+{
+    let (digits, paths) = word.split_once('=')?;
+    let bus = number_of(digits.as_bytes(), u64::from(MOST_BUSES - 1))?;
+    let (from, to) = paths_in(paths)?;
+    Some(LineWord {
+        bus: bus as u8,
+        from,
+        to,
+    })
+}
+
+/// The path that is read and, where it is another one, the path that is written: `PATH` or
+/// `FROM,TO`.
+fn paths_in<'a>(text: &'a str) -> Option<(&'a str, Option<&'a str>)>
+    ensures { MatchOption result
+        ((from : Text) (to : Option Text) → ¬ ArePaths text.now from to)
+        (λ paths. ArePaths text.now paths.0.now (option_map (λ path. path.now) paths.1)) }
+{
+    match text.split_once(',') {
+        Some((from, to)) if is_path(from) && is_path(to) => Some((from, Some(to))),
+        None if is_path(text) => Some((text, None)),
+        _ => None,
+    }
+}
+
+/// Whether a text can be a path.
+fn is_path(text: &str) -> bool
+    ensures { IsTrue result ↔ IsPath text.now }
+{
+    !text.is_empty() && !text.contains(',')
+}
