@@ -1,4 +1,5 @@
 mod FileFronts
+mod LivesOut
 mod PlaysOut
 mod ReportedLines
 mod RunsOut

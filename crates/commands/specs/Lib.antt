@@ -1,3 +1,4 @@
+pub mod Buildings
 pub mod CodeFiles
 pub mod Plays
 pub mod Reports

@@ -37,8 +37,11 @@ pub record PlayBytes : Type 0 where
 -- ---- what is played
 
 -- the text under the binding has this setup
+abbrev pub IsSetupUnder : List ℕ → List ℕ → Loaded → Type 0
+IsSetupUnder binding text setup = (wiring : Wiring) × IsConnected (Some binding) wiring × IsSetup wiring text setup
+
 abbrev pub IsSetupOf : PlayBytes → Loaded → Type 0
-IsSetupOf bytes setup = (wiring : Wiring) × IsConnected (Some bytes.binding) wiring × IsSetup wiring bytes.text setup
+IsSetupOf bytes setup = IsSetupUnder bytes.binding bytes.text setup
 
 -- the installation of the text's setup on the buses of the scenario, to which nothing has happened
 pub record IsStarted (bytes : PlayBytes) (limit : ℕ) (installation : Installation Simulated)
@@ -51,11 +54,13 @@ pub record IsStarted (bytes : PlayBytes) (limit : ℕ) (installation : Installat
 -- ---- what stands against it
 
 -- the binding's fault; or, under the binding, what stands against the text
+abbrev pub IsStopUnder : List ℕ → List ℕ → Stop → Type 0
+IsStopUnder binding text stop =
+    IsBindingStop (Some binding) stop
+    ⊎ ((wiring : Wiring) × IsConnected (Some binding) wiring × IsStopOrMemory (IsCheckStop wiring text) stop)
+
 abbrev pub IsTextStop : PlayBytes → Stop → Type 0
-IsTextStop bytes stop =
-    IsBindingStop (Some bytes.binding) stop
-    ⊎ ((wiring : Wiring) × IsConnected (Some bytes.binding) wiring
-    × IsStopOrMemory (IsCheckStop wiring bytes.text) stop)
+IsTextStop bytes stop = IsStopUnder bytes.binding bytes.text stop
 
 abbrev pub HasSetup : PlayBytes → Type 0
 HasSetup bytes = (setup : Loaded) × IsSetupOf bytes setup

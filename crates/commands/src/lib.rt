@@ -1,22 +1,24 @@
 //! The command line: checks Instruction List texts, runs scans of their tasks, plays scenarios on
-//! simulated buses, or runs them there in threads, and writes and judges code files.
+//! simulated buses, or runs them there in threads, runs a building, and writes and judges code
+//! files.
 //!
 //! What crosses the boundary: the words of a command line, the bytes of files on a [`Disk`], lines
 //! on a writer, and an [`ExitStatus`]. `commandline` reads the words; [`serve`] reads the files that
 //! they name, has `answers` answer what they hold, and prints it (specs/Reports.antt);
-//! [`serve_play`] plays, [`serve_run`] runs, and [`serve_look`] plays and draws; [`serve_code`]
-//! writes a code file, and [`serve_check_code`] judges one. The outermost definitions are `IsServed`
-//! (specs/Served.antt), `IsPlayed` (specs/Plays.antt), `IsRunServed` (specs/Runs.antt), and `IsCodeServed`
-//! and `IsCodeJudged` (specs/CodeFiles.antt). No contract can say which bytes the machine's disk
+//! [`serve_play`] plays, [`serve_run`] runs, and [`serve_look`] plays and draws; [`serve_live`] runs a
+//! building; [`serve_code`] writes a code file, and [`serve_check_code`] judges one. The outermost definitions are `IsServed`
+//! (specs/Served.antt), `IsPlayed` (specs/Plays.antt), `IsRunServed` (specs/Runs.antt),
+//! `IsLiveServed` (specs/Buildings.antt), and `IsCodeServed` and `IsCodeJudged` (specs/CodeFiles.antt). No contract can say which bytes the machine's disk
 //! gives, or what becomes of those that its disk and its terminal take. `run` does all of it over a
 //! runtime.
 //!
 //! ```text
-//! let status = commands::run(&rt, &rt); // of a runtime's words, files and terminal, and threads
+//! let status = commands::run(&rt, &rt, &site); // of a runtime's words, files and terminal, and threads
 //! ```
 #![tactic(auto)]
 
 mod code_files;
+mod living;
 mod looking;
 mod pages;
 mod playing;
@@ -29,6 +31,7 @@ mod telling;
 
 pub use code_files::{serve_check_code, serve_code};
 pub use exits::ExitStatus;
+pub use living::{Grounds, Halted, LiveEnd, Notice, serve_live, status_of_live};
 pub use looking::serve_look;
 pub use playing::serve_play;
 pub use reading::{Disk, DiskFault, HostDisk};

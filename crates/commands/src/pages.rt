@@ -2,7 +2,8 @@
 
 ghost use Rattle.std.specs.Prelude.{IfErr, IfOk};
 ghost use Rattle.wordlines.specs.Scenarios.{IsJudged};
-ghost use Rattle.commands.specs.Plays.{AreGiven, IsSetupOf, IsTextStop, IsUnplayed};
+ghost use Rattle.commands.specs.Plays.{AreGiven, IsSetupOf, IsSetupUnder, IsStopUnder};
+ghost use Rattle.commands.specs.Plays.{IsTextStop, IsUnplayed};
 
 use crate::reading::Disk;
 use crate::serving::{Unserved, bytes_at};
@@ -53,6 +54,19 @@ pub(crate) fn read_pages<'a, D: Disk>(
     })
 }
 
+/// The setup of a text under a binding.
+///
+/// # Errors
+///
+/// The binding's fault, else what stands against the text.
+pub(crate) fn setup_of(alloc: Global, binding: &[u8], text: &[u8]) -> Result<Setup, Stop>
+    ensures setup { IfOk result (IsSetupUnder binding.now text.now) }
+    ensures stop { IfErr result (IsStopUnder binding.now text.now) }
+{
+    let binding = binding_of(alloc, Some(binding))?;
+    check(alloc, &binding, text)
+}
+
 /// The setup of the text under the binding.
 ///
 /// # Errors
@@ -62,8 +76,7 @@ pub(crate) fn setup_in(alloc: Global, pages: &Pages) -> Result<Setup, Stop>
     ensures setup { IfOk result (IsSetupOf pages.now) }
     ensures stop { IfErr result (IsTextStop pages.now) }
 {
-    let binding = binding_of(alloc, Some(&pages.binding))?;
-    check(alloc, &binding, &pages.text)
+    setup_of(alloc, &pages.binding, &pages.text)
 }
 
 /// The scenario that bytes spell.

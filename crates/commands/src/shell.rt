@@ -1,13 +1,16 @@
 //! The program over a runtime: its words, its files, its terminal and its threads.
 
 use crate::code_files::{serve_check_code, serve_code};
+use crate::living::{Grounds, Notice, serve_live, status_of_live};
 use crate::looking::serve_look;
 use crate::playing::serve_play;
 use crate::reading::{DiskFault, HostDisk};
 use crate::running::{serve_run, status_of_run};
 use crate::serving::{Unserved, serve};
 use crate::telling::serve_question;
-use commandline::Invocation;
+use building::{Departure, LiveStop, Site};
+use buslink::{Bus, Clock};
+use commandline::{Invocation, LineWord, LiveFiles, LiveOptions};
 use exits::ExitStatus;
 use std::rt::{Env, Files};
 use std::sync::Wait;
@@ -16,13 +19,16 @@ use std::time::Clock as Timer;
 use std::{env, io};
 
 /// Reads the command line and does what it asks for. `threads` is the runtime whose threads the
-/// command `run` takes, and whose locks and clock; no other command asks for them.
-pub fn run<R: Files + Env + Print + Eprint + AllocGlobal, T: Threads + Wait + Timer + Sync>(
-    rt: &R,
-    threads: &T,
-) -> ExitStatus {
+/// commands `run` and `live` take, and whose locks and clock; `site` is where the lines of `live` are
+/// opened. No other command asks for them.
+pub fn run<R, T, S>(rt: &R, threads: &T, site: &S) -> ExitStatus
+where
+    R: Files + Env + Print + Eprint + AllocGlobal,
+    T: Threads + Wait + Timer + Sync,
+    S: Site,
+{
     match words(rt) {
-        Ok(words) => run_words(rt, threads, words.as_slice()),
+        Ok(words) => run_words(rt, threads, site, words.as_slice()),
         Err(error) => match error.kind() {
             io::ErrorKind::OutOfMemory => no_memory(rt),
             io::ErrorKind::InvalidData => not_text(rt),
@@ -45,13 +51,14 @@ fn words<R: Env + AllocGlobal>(rt: &R) -> io::Result<Vec<String>> {
 }
 
 /// Does what these words ask for.
-fn run_words<R: Files + Print + Eprint + AllocGlobal, T: Threads + Wait + Timer + Sync>(
-    rt: &R,
-    threads: &T,
-    words: &[String],
-) -> ExitStatus {
+fn run_words<R, T, S>(rt: &R, threads: &T, site: &S, words: &[String]) -> ExitStatus
+where
+    R: Files + Print + Eprint + AllocGlobal,
+    T: Threads + Wait + Timer + Sync,
+    S: Site,
+{
     match commandline::read(rt.alloc(), words) {
-        Ok(invocation) => run_invocation(rt, threads, invocation),
+        Ok(invocation) => run_invocation(rt, threads, site, invocation),
         Err(error) => match ExitStatus::of_words(error.kind()) {
             ExitStatus::Failed => no_memory(rt),
             status => printed(rt, error.print(rt), status),
@@ -59,12 +66,13 @@ fn run_words<R: Files + Print + Eprint + AllocGlobal, T: Threads + Wait + Timer 
     }
 }
 
-/// Serves an invocation from the machine's files.
-fn run_invocation<R: Files + Print + Eprint + AllocGlobal, T: Threads + Wait + Timer + Sync>(
-    rt: &R,
-    threads: &T,
-    invocation: Invocation,
-) -> ExitStatus {
+/// Serves an invocation from the machine's files, or a building from its devices.
+fn run_invocation<R, T, S>(rt: &R, threads: &T, site: &S, invocation: Invocation) -> ExitStatus
+where
+    R: Files + Print + Eprint + AllocGlobal,
+    T: Threads + Wait + Timer + Sync,
+    S: Site,
+{
     let alloc = rt.alloc();
     let disk = HostDisk { rt };
     let out = io::writer(rt);
@@ -81,12 +89,76 @@ fn run_invocation<R: Files + Print + Eprint + AllocGlobal, T: Threads + Wait + T
         Invocation::Tell { files, question } => serve_question(alloc, &disk, out, files, question),
         Invocation::Code { files, task, to } => serve_code(alloc, &disk, out, files, task, to),
         Invocation::CheckCode { path } => serve_check_code(alloc, &disk, out, path),
+        Invocation::Live {
+            files,
+            lines,
+            options,
+        } => return run_building(rt, threads, site, files, &lines, &options),
     };
     match served {
         Ok((_, status)) => status,
-        Err(Unserved::NotRead { path, why }) => not_read(rt, path, why),
-        Err(Unserved::NotWritten { path, why }) => not_written(rt, path, why),
-        Err(Unserved::NotPrinted(error)) => printed(rt, Err(error), ExitStatus::Failed),
+        Err(unserved) => not_served(rt, unserved),
+    }
+}
+
+/// Runs a building over the lines of a site.
+fn run_building<R, T, S>(
+    rt: &R,
+    threads: &T,
+    site: &S,
+    files: LiveFiles,
+    lines: &[LineWord],
+    options: &LiveOptions,
+) -> ExitStatus
+where
+    R: Files + Print + Eprint + AllocGlobal,
+    T: Threads + Wait + Timer + Sync,
+    S: Site,
+{
+    let notice = HostNotice { rt };
+    let grounds = Grounds {
+        site,
+        notice: &notice,
+    };
+    let disk = HostDisk { rt };
+    let out = io::writer(rt);
+    match serve_live(
+        threads,
+        rt.alloc(),
+        &disk,
+        &grounds,
+        out,
+        files,
+        lines,
+        options,
+    ) {
+        Ok((_, end)) => status_of_live(&end),
+        Err(unserved) => not_served(rt, unserved),
+    }
+}
+
+/// The machine's standard error, which is told what is about to run, and why a building doesn't run.
+#[derive(Clone, Copy)]
+struct HostNotice<'a, R> {
+    rt: &'a R,
+}
+
+impl<R: Eprint> Notice for HostNotice<'_, R> {
+    fn departs<B: Bus, C: Clock>(&self, departure: &Departure<B, C>) -> io::Result<()> {
+        eprint!(self.rt; "{departure}")
+    }
+
+    fn halts(&self, stop: &LiveStop) -> io::Result<()> {
+        eprintln!(self.rt; "{stop}")
+    }
+}
+
+/// Reports why a command isn't served.
+fn not_served<R: Print + Eprint>(rt: &R, unserved: Unserved) -> ExitStatus {
+    match unserved {
+        Unserved::NotRead { path, why } => not_read(rt, path, why),
+        Unserved::NotWritten { path, why } => not_written(rt, path, why),
+        Unserved::NotPrinted(error) => printed(rt, Err(error), ExitStatus::Failed),
     }
 }
 

@@ -11,6 +11,7 @@
 mod running;
 mod wrong;
 
+use building::{HostSite, Site};
 use running::judge_lines;
 use std::process::ExitCode;
 use std::rt::{Env, Files};
@@ -22,7 +23,7 @@ use workedrows::{Judge, Stop};
 use wrong::refuse_rows;
 
 fn main(rt: HostRuntime) -> io::Result<ExitCode> {
-    match judge_files(&rt) {
+    match judge_files(&rt, &HostSite { rt: &rt }) {
         Ok((rows, wrong)) => {
             println!(rt; "{rows} rows hold, and {wrong} wrong rows don't")?;
             Ok(ExitCode::SUCCESS)
@@ -40,17 +41,18 @@ fn main(rt: HostRuntime) -> io::Result<ExitCode> {
 /// # Errors
 ///
 /// A file that isn't read, or the first row that doesn't hold, or that holds though it is wrong.
-fn judge_files<R: Files + Env + AllocGlobal + Threads + Wait + Timer + Sync>(
+fn judge_files<R: Files + Env + AllocGlobal + Threads + Wait + Timer + Sync, S: Site>(
     rt: &R,
+    site: &S,
 ) -> Result<(u32, u32), Stop> {
     let mut judge = Judge::new(rt.alloc());
     let mut wrong: u32 = 0;
     for path in env::args(rt)?.skip(1) {
         let text = fs::read_to_string(rt, path.as_str())?;
         if path.as_str().starts_with("wrong") {
-            wrong = wrong.saturating_add(refuse_rows(rt.alloc(), rt, &text)?);
+            wrong = wrong.saturating_add(refuse_rows(rt.alloc(), rt, site, &text)?);
         } else {
-            judge_lines(&mut judge, rt, &text)?;
+            judge_lines(&mut judge, rt, site, &text)?;
         }
     }
     Ok((judge.rows(), wrong))

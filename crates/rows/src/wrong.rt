@@ -4,6 +4,7 @@
 //! the line that shows it, as `status at status 1`.
 
 use crate::running::judge_lines;
+use building::Site;
 use std::alloc::Global;
 use std::sync::Wait;
 use std::thread::Threads;
@@ -15,30 +16,32 @@ use workedrows::{Judge, Stop};
 /// # Errors
 ///
 /// The first row that holds, or that is refused for something else.
-pub fn refuse_rows<T: Threads + Wait + Timer + Sync>(
+pub fn refuse_rows<T: Threads + Wait + Timer + Sync, S: Site>(
     alloc: Global,
     threads: &T,
+    site: &S,
     text: &str,
 ) -> Result<u32, Stop> {
     let mut rows: u32 = 0;
     for row in text.split("\n== ").skip(1) {
-        refuse_row(alloc, threads, row)?;
+        refuse_row(alloc, threads, site, row)?;
         rows = rows.saturating_add(1);
     }
     Ok(rows)
 }
 
 /// Has a row judged by itself, by the lines from its name on.
-fn refuse_row<T: Threads + Wait + Timer + Sync>(
+fn refuse_row<T: Threads + Wait + Timer + Sync, S: Site>(
     alloc: Global,
     threads: &T,
+    site: &S,
     row: &str,
 ) -> Result<(), Stop> {
     let (name, lines) = match row.split_once('\n') {
         Some(parts) => parts,
         None => (row, ""),
     };
-    let stop = match judge_row(alloc, threads, name, lines) {
+    let stop = match judge_row(alloc, threads, site, name, lines) {
         Ok(()) => return Err(Stop::Held(String::from_str(alloc, name)?)),
         Err(stop) => stop,
     };
@@ -50,15 +53,16 @@ fn refuse_row<T: Threads + Wait + Timer + Sync>(
 }
 
 /// Judges one row by itself, by its name and the lines after it.
-fn judge_row<T: Threads + Wait + Timer + Sync>(
+fn judge_row<T: Threads + Wait + Timer + Sync, S: Site>(
     alloc: Global,
     threads: &T,
+    site: &S,
     name: &str,
     lines: &str,
 ) -> Result<(), Stop> {
     let mut judge = Judge::new(alloc);
     judge.begin_row(name)?;
-    judge_lines(&mut judge, threads, lines)
+    judge_lines(&mut judge, threads, site, lines)
 }
 
 /// Whether a row is named for why it was refused.

@@ -1,0 +1,5 @@
+use Rattle.building.specs.Sites.{AreNewBuses}
+use Rattle.building.proofs.buildings.open_lines.Given as goal
+
+abbrev pub invariant-loop-bus : goal.invariant-loop-bus
+invariant-loop-bus g l = AreNewBuses g.S.Line.Bus.log l.bus l.opened.items

@@ -1,0 +1,3 @@
+pub mod Buildings
+pub mod Lineups
+pub mod Sites
