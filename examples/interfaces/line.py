@@ -109,14 +109,31 @@ class FifoEnd(End):
 
     def __init__(self, source, sink):
         super().__init__()
+        self.source, self.sink = source, sink
         for path in (source, sink):
             if not os.path.exists(path):
                 os.mkfifo(path)
-        self.out = open(source, 'wb', buffering=0)     # the controller opens its source first, and then its sink
-        self.into = open(sink, 'rb', buffering=0)
+        self.open()
+
+    def open(self):
+        """Waits for a controller, which opens its source first, and then its sink."""
+        left_over = os.open(self.source, os.O_RDONLY | os.O_NONBLOCK)
+        while os.read(left_over, 256):                 # for a controller that has ended, and may not be gone yet
+            pass
+        os.close(left_over)
+        self.out = open(self.source, 'wb', buffering=0)
+        self.into = open(self.sink, 'rb', buffering=0)
+        self.left = b''
 
     def read(self):
-        return self.into.read(256)
+        while not (more := self.into.read(256)):       # the controller has ended: the next one may come
+            self.out.close()
+            self.into.close()
+            self.open()
+        return more
 
     def write(self, line):
-        self.out.write(line)
+        try:
+            self.out.write(line)
+        except BrokenPipeError:
+            pass                                       # the controller has ended; `read` meets its end too

@@ -160,8 +160,8 @@ def main():
     try:
         serve(FailingBus(bus, args.fault_at, args.end_at),
               PtyEnd(args.pty) if args.pty else FifoEnd(*args.fifo), note)
-    except OSError:
-        pass                                                    # the other end of a FIFO is gone
+    except (KeyboardInterrupt, BrokenPipeError):
+        pass                                                    # ended by hand, or nobody reads the log
 
 
 if __name__ == '__main__':
