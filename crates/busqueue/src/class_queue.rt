@@ -48,6 +48,13 @@ impl ClassQueue {
         self.requests.is_empty()
     }
 
+    /// How many wait.
+    pub(crate) fn waiting(&self) -> usize
+        ensures value { result ≡ length self.now.waiting }
+    {
+        self.requests.len()
+    }
+
     /// How many were dropped.
     pub(crate) fn dropped(&self) -> u64
         ensures value { result ≡ self.now.dropped }

@@ -124,6 +124,18 @@ impl Queues {
         }
     }
 
+    /// How many requests of a class wait, at most 64.
+    pub fn waiting(&self, class: Class) -> usize
+        ensures value { result ≡ length (queue_of self.now class).waiting }
+    {
+        match class {
+            Class::UserAction => self.user_action.waiting(),
+            Class::Configuration => self.configuration.waiting(),
+            Class::AutomaticAction => self.automatic_action.waiting(),
+            Class::Query => self.query.waiting(),
+        }
+    }
+
     /// How many requests of a class were dropped.
     pub fn dropped(&self, class: Class) -> u64
         ensures value { result ≡ (queue_of self.now class).dropped }

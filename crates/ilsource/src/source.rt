@@ -44,7 +44,7 @@ impl Model for Source {
 }
 
 impl Source {
-    ghost use Rattle.std.specs.Prelude.{◌≡◌, ◌≤◌, length, option_map};
+    ghost use Rattle.std.specs.Prelude.{◌≡◌, ◌≤◌, length, option_map, Some};
     ghost use Rattle.limits.specs.Limits.{most_bytes};
     ghost use Rattle.ilsource.specs.SourceTrees.{Tree};
 
@@ -65,6 +65,16 @@ impl Source {
             elements,
             configuration,
         }
+    }
+
+    /// The source program with this configuration in place of its own, as where variables begin with
+    /// other values than the text gives them.
+    pub fn with_configuration(self, configuration: Configuration) -> Source
+        ensures { result ≡ record self { configuration = Some configuration } }
+    {
+        let mut source = self;
+        source.configuration = Some(configuration);
+        source
     }
 
     /// The bytes of the text.

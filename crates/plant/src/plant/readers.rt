@@ -8,7 +8,7 @@ ghost use Rattle.plantevents.specs.Plants.{activator, tries_of};
 ghost use Rattle.plantevents.specs.Histories.{frames, hand, heards, is_down, scan, scans};
 ghost use Rattle.plantevents.specs.Readiness.{lost};
 ghost use Rattle.plantevents.specs.Variables.{value};
-ghost use Rattle.plantevents.specs.Waiting.{dropped};
+ghost use Rattle.plantevents.specs.Waiting.{dropped, waiting};
 ghost use Rattle.plantevents.specs.Legal.{AreLegal};
 ghost use Rattle.plant.specs.Shown.{is_full, is_reserved, kept, used};
 
@@ -134,6 +134,15 @@ impl Plant {
     {
         let _values = self.image.values();
         self.image.value(global)
+    }
+
+    /// How many requests of a class wait for a bus, at most 64.
+    pub fn waiting(&self, bus: u8, class: Class) -> usize
+        requires { bus < self.now.plant.plan.buses }
+        ensures value { result
+            ≡ length (waiting self.now.plant bus (class_number class) self.now.history) }
+    {
+        self.buses[usize::from(bus)].queues().waiting(class)
     }
 
     /// How many requests of a class were dropped at a bus.
