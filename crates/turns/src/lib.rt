@@ -19,6 +19,7 @@
 mod bus_worker;
 mod clock_worker;
 mod gate;
+mod happened;
 mod links;
 mod scan_worker;
 mod turn;
@@ -26,6 +27,7 @@ mod turn;
 pub use bus_worker::{Served, hear_turn, send_turn};
 pub use clock_worker::{Timed, tick_once};
 pub use gate::{Gate, OpenGate, Passing};
+pub use happened::Happened;
 pub use links::Links;
 pub use scan_worker::scan_turn;
 pub use turn::Turn;

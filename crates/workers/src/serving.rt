@@ -8,7 +8,7 @@ ghost use Rattle.workers.specs.declared.ended.Ended.TheVariants.{Asked};
 use crate::ended::{End, Ended};
 use crate::pause::Pause;
 use buslink::{Bus, Clock};
-use driving::{Halt, Observer, Unobserved};
+use driving::{Halt, Observer};
 use plantlock::{Basis, Share, Shared};
 use seats::{Seated, Tallies};
 use std::alloc::Global;
@@ -112,9 +112,18 @@ pub fn serve_tasks<'a, J: Basis, T: Seated, K: Tallies<T>, G: Gate, R: Wait + Ti
 /// Asks the clock until it gives no moment more, tells the end and answers why. Where another worker
 /// told an end, that is why. Where it answers `Asked`, the clock was asked here and came to its end.
 /// It is never idle, since each answer is a moment or the end: it sleeps the shortest time after
-/// each moment.
-pub fn serve_clock<'a, C: Clock, J: Basis + Links, T: Seated, K: Tallies<T>, R: Wait + Timer>(
+/// each moment. The gate is told of each moment.
+pub fn serve_clock<
+    'a,
+    C: Clock,
+    J: Basis + Links,
+    T: Seated,
+    K: Tallies<T>,
+    G: Gate,
+    R: Wait + Timer,
+>(
     rt: &R,
+    gate: &G,
     shared: &Shared<'a, J, T, K>,
     end: &End,
     timed: &mut Timed<'a, C, J, T>,
@@ -123,11 +132,12 @@ pub fn serve_clock<'a, C: Clock, J: Basis + Links, T: Seated, K: Tallies<T>, R: 
     ensures timed { IsTimed J.clock timed.new.share (C.log timed.new.clock) }
     ensures asked { result ≡ Asked → HasEnded J.clock (C.log timed.new.clock) }
 {
+    let mut passing = Passing { gate };
     for _ in rt.forever() {
         if let Some(ended) = end.cut_short() {
             return ended;
         }
-        match tick_once::<(), C, J, T, K, Unobserved, R>(rt, &mut Unobserved, shared, timed) {
+        match tick_once::<(), C, J, T, K, Passing<'_, G>, R>(rt, &mut passing, shared, timed) {
             Ok(true) => Pause::new().wait(rt),
             Ok(false) => {
                 end.tell(rt, Ended::Asked);

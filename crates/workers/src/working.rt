@@ -112,7 +112,7 @@ where
     } = crew;
     start_workers(rt, scope, &floor, &mut team.workers, &mut rooms.workers);
     start_buses(rt, scope, &floor, &mut team.buses, &mut rooms.buses);
-    let ended = serve_clock(rt, floor.shared, floor.end, &mut team.timed);
+    let ended = serve_clock(rt, floor.gate, floor.shared, floor.end, &mut team.timed);
     finish_workers(rt, &mut rooms.workers, &mut team.workers);
     finish_buses(rt, &mut rooms.buses, &mut team.buses);
     Worked { team, ended }
