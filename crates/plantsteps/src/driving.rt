@@ -5,8 +5,8 @@ ghost use Rattle.plantevents.specs.Legal.{AreLegal};
 ghost use Rattle.plant.specs.Shown.{opened, IsOpenFault};
 ghost use Rattle.plantsteps.specs.Runs.{IsHistoryOf, Run};
 
-use crate::desk::Desk;
 use crate::step::{Step, StepReply};
+use crate::stepped_plant::SteppedPlant;
 use ilcompile::Setup;
 use plant::{OpenFault, Plant};
 use std::alloc::Global;
@@ -39,14 +39,14 @@ pub fn drive(
     ensures legal { IfOk result (λ driven. AreLegal driven.plant.plant driven.plant.history) }
     ensures fault { IfErr result (IsOpenFault setup.plan.buses workers limit) }
 {
-    let mut desk = Desk::open(alloc, setup, workers, limit)?;
+    let mut stepped = SteppedPlant::open(alloc, setup, workers, limit)?;
     let Ok(mut replies) = Vec::with_capacity(alloc, steps.len()) else {
         return Err(OpenFault::Memory);
     };
     for step in steps {
-        replies.push_reserved(desk.serve(alloc, step));
+        replies.push_reserved(stepped.serve(alloc, step));
     }
-    let plant = desk.into_plant();
+    let plant = stepped.into_plant();
     let _ = plant.len();
     Ok(Driven { replies, plant })
 }

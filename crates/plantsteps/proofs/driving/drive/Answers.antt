@@ -10,7 +10,7 @@ pub loop-step-preserved : goal.loop-step-preserved
 loop-step-preserved c =
     let kept = c.loop-step.invariant in let steps = c.args.steps.now in let i = c.loop-step.step-index in
     let lt : i < length steps = omega arith in (
-      run_step _ (take i steps) _ c.loop-step.replies.items _ c.loop-step.desk _ _ _ kept.0 c.serve.ensures
+      run_step _ (take i steps) _ c.loop-step.replies.items _ c.loop-step.stepped _ _ _ kept.0 c.serve.ensures
           (take_more steps i c.step-item.result lt ∙ ap (λ (s : Step). take i steps ++ s ∷ []) (sym c.step-item.is)) c.push_reserved.ensures.items,
       (let was = kept.1 in let more = c.push_reserved.ensures.len in omega arith),
       c.push_reserved.ensures.capacity ∙ kept.2,
@@ -19,7 +19,7 @@ loop-step-preserved c =
 pub returns-clause-run : goal.returns-clause-run
 returns-clause-run c =
     run_end (opened c.args.setup c.args.workers c.args.limit) c.args.steps.now c.loop-step.step-index
-    c.loop-step.replies.items c.loop-step.desk c.into_plant-plant.result c.loop-step-test.false c.loop-step.invariant.0
+    c.loop-step.replies.items c.loop-step.stepped c.into_plant-plant.result c.loop-step-test.false c.loop-step.invariant.0
     c.into_plant-plant.ensures
 
 pub returns-clause-history : goal.returns-clause-history

@@ -5,5 +5,5 @@ use Rattle.plantsteps.proofs.driving.drive.Given as goal
 
 abbrev pub invariant-loop-step : goal.invariant-loop-step
 invariant-loop-step l =
-    Run (opened l.fn.setup l.fn.workers l.fn.limit) (take l.step-index l.steps) l.replies.items l.desk
+    Run (opened l.fn.setup l.fn.workers l.fn.limit) (take l.step-index l.steps) l.replies.items l.stepped
     × (vec_len l.replies ≡ l.step-index) × (vec_capacity l.replies ≡ length l.steps)

@@ -9,7 +9,7 @@ use Rattle.plantsteps.specs.DeskSteps.{SendingsFollow}
 use Rattle.plantsteps.proofs.Accepting.{none_answered}
 use Rattle.plantsteps.proofs.Desks.{Keeps, copied}
 use Rattle.plantsteps.proofs.Serving.{accepted_at, refused_at}
-use Rattle.plantsteps.proofs.desk.Desk.hand.Goals as goal
+use Rattle.plantsteps.proofs.stepped_plant.SteppedPlant.hand.Goals as goal
 
 pub note_sending-requires : goal.note_sending-requires
 note_sending-requires c =

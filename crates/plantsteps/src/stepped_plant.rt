@@ -1,6 +1,7 @@
-//! A plant with what its callers have open.
+//! A plant that takes steps, with what its callers have open.
 
 ghost use Rattle.std.specs.Prelude.{◌≡◌, IfOk, IfErr, OnOk, MatchOption};
+ghost use Rattle.limits.specs.Limits.{most_total};
 ghost use Rattle.transact.specs.Attempts.{Spells};
 ghost use Rattle.plant.specs.Matches.{IsReportOf};
 ghost use Rattle.plant.specs.Shown.{opened, IsOpenFault, IsWorkerCount, IsLimit, IsRoomy};
@@ -14,20 +15,22 @@ use crate::step::{Step, StepReply};
 use daliframe::Frame24;
 use ilcompile::Setup;
 use ilmachine::{Work, scan_into};
+use limits::MOST_TOTAL;
 use plant::{CallRefusal, OpenFault, Plant};
 use std::alloc::Global;
 use std::marker::Model;
 use transact::{Mark, Report};
 
-/// A plant with the scan that each worker has open and the transaction that each bus has.
+/// A plant that takes steps, with the scan that each worker has open and the transaction that each
+/// bus has.
 #[derive(Drop)]
-pub(crate) struct Desk {
+pub struct SteppedPlant {
     plant: Plant,
     orders: Vec<Option<Work>>,
     sendings: Vec<Option<Unreported>>,
 }
 
-impl Model for Desk {
+impl Model for SteppedPlant {
     ghost use Rattle.std.specs.Coded.{codes};
     ghost use Rattle.ilplan.specs.contracts.plan.Plan as inner;
     ghost use Rattle.plant.specs.Shown.{Shown};
@@ -43,18 +46,18 @@ impl Model for Desk {
         × SendingsFollow d.plant.plant d.plant.history d.sendings.items };
 }
 
-impl Desk {
+impl SteppedPlant {
     /// A plant to which nothing has happened.
     ///
     /// # Errors
     ///
     /// Those of `Plant::open`.
-    pub(crate) fn open(
+    pub fn open(
         alloc: Global,
         setup: Setup,
         workers: usize,
         limit: u64,
-    ) -> Result<Desk, OpenFault>
+    ) -> Result<SteppedPlant, OpenFault>
         ensures opened { IfOk result (λ desk. desk ≡ opened setup workers limit) }
         ensures workers { OnOk result (IsWorkerCount workers) }
         ensures limit { OnOk result (IsLimit limit) }
@@ -65,22 +68,38 @@ impl Desk {
         let buses = usize::from(plant.setup().plan().buses());
         let orders = empty_places(alloc, workers).map_err(|_| OpenFault::Memory)?;
         let sendings = empty_places(alloc, buses).map_err(|_| OpenFault::Memory)?;
-        Ok(Desk {
+        Ok(SteppedPlant {
             plant,
             orders,
             sendings,
         })
     }
 
+    /// The plant, as it is now.
+    pub fn plant(&self) -> &Plant
+        ensures { result.now ≡ self.now }
+    {
+        &self.plant
+    }
+
+    /// Lets as many events come as a plant may ever have, 2^59 with those that came.
+    pub fn lift_limit(&mut self)
+        ensures { self.new ≡ record self.old { limit = most_total } }
+    {
+        let _within = self.plant.len();
+        let _most = self.plant.limit();
+        self.plant.set_limit(MOST_TOTAL);
+    }
+
     /// The plant.
-    pub(crate) fn into_plant(self) -> Plant
+    pub fn into_plant(self) -> Plant
         ensures { result ≡ self }
     {
         self.plant
     }
 
     /// Takes a step.
-    pub(crate) fn serve(&mut self, alloc: Global, step: &Step) -> StepReply
+    pub fn serve(&mut self, alloc: Global, step: &Step) -> StepReply
         ensures { Answered self.old step.now result self.new }
     {
         match step {

@@ -7,7 +7,7 @@ use Rattle.plantsteps.specs.declared.step.Step.TheVariants as steps
 use Rattle.plantsteps.specs.declared.step.StepReply.TheVariants.{Noted}
 use Rattle.plantsteps.proofs.Desks.{Keeps, has_scan, no_order, scan_refused}
 use Rattle.plantsteps.proofs.Serving.{accepted_at, refused_at}
-use Rattle.plantsteps.proofs.desk.Desk.commit.Goals as goal
+use Rattle.plantsteps.proofs.stepped_plant.SteppedPlant.commit.Goals as goal
 
 pub returns-in-None : goal.returns-in-None
 returns-in-None c =

@@ -1,22 +1,22 @@
 use Rattle.std.proofs.Common.{refl, sym, subst}
 use Rattle.plantevents.specs.declared.event.Event.TheVariants as events
-use Rattle.plant.specs.Refusals.{tick_cases}
+use Rattle.plant.specs.Refusals.{heard_cases}
 use Rattle.plant.specs.Shown.{Shown}
 use Rattle.plantsteps.specs.declared.step.Step.TheVariants as steps
 use Rattle.plantsteps.specs.declared.step.StepReply.TheVariants.{Noted}
 use Rattle.plantsteps.proofs.Accepting.{none_answered}
 use Rattle.plantsteps.proofs.Desks.{Keeps}
 use Rattle.plantsteps.proofs.Serving.{accepted_at, refused_at}
-use Rattle.plantsteps.proofs.desk.Desk.tick.Goals as goal
+use Rattle.plantsteps.proofs.stepped_plant.SteppedPlant.heard.Goals as goal
 
 pub returns : goal.returns
 returns c =
-    accepted_at c.self.inside.plant _ c.tick.new.self (steps.Tick c.args.moment) Noted (events.Tick c.args.moment) c.self.view_is
-    (none_answered (tick_cases c.self.inside.plant c.args.moment) c.in-Ok.ensures.refused) refl c.in-Ok.ensures.ok c.len-legal.ensures.legal
+    accepted_at c.self.inside.plant _ c.heard.new.self (steps.Heard c.args.bus c.args.frame) Noted (events.Heard c.args.bus c.args.frame) c.self.view_is
+    (none_answered (heard_cases c.self.inside.plant c.args.bus) c.in-Ok.ensures.refused) refl c.in-Ok.ensures.ok c.len-legal.ensures.legal
 
 pub returns-in-Err : goal.returns-in-Err
 returns-in-Err c =
-    refused_at c.self.inside.plant _ c.tick.new.self (steps.Tick c.args.moment) c.in-Err.refusal c.self.view_is
+    refused_at c.self.inside.plant _ c.heard.new.self (steps.Heard c.args.bus c.args.frame) c.in-Err.refusal c.self.view_is
     c.in-Err.ensures.refused c.in-Err.ensures.err
 
 pub invariant_of-self-2 : goal.invariant_of-self-2

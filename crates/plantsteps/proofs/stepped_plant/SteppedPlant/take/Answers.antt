@@ -8,7 +8,7 @@ use Rattle.plantsteps.specs.declared.step.StepReply.TheVariants.{Taken}
 use Rattle.plantsteps.proofs.Accepting.{none_answered}
 use Rattle.plantsteps.proofs.Desks.{Keeps}
 use Rattle.plantsteps.proofs.Serving.{accepted_at, not_taken_at}
-use Rattle.plantsteps.proofs.desk.Desk.take.Goals as goal
+use Rattle.plantsteps.proofs.stepped_plant.SteppedPlant.take.Goals as goal
 
 pub note_order-requires : goal.note_order-requires
 note_order-requires c =

@@ -1,28 +1,30 @@
 use Rattle.std.proofs.Common.{refl, sym, subst}
 use Rattle.plantevents.specs.declared.event.Event.TheVariants as events
-use Rattle.plant.specs.Refusals.{heard_cases}
+use Rattle.plant.specs.Refusals.{down_cases}
 use Rattle.plant.specs.Shown.{Shown}
 use Rattle.plantsteps.specs.declared.step.Step.TheVariants as steps
 use Rattle.plantsteps.specs.declared.step.StepReply.TheVariants.{Noted}
 use Rattle.plantsteps.proofs.Accepting.{none_answered}
 use Rattle.plantsteps.proofs.Desks.{Keeps}
 use Rattle.plantsteps.proofs.Serving.{accepted_at, refused_at}
-use Rattle.plantsteps.proofs.desk.Desk.heard.Goals as goal
+use Rattle.plantsteps.proofs.stepped_plant.SteppedPlant.down.Goals as goal
 
 pub returns : goal.returns
 returns c =
-    accepted_at c.self.inside.plant _ c.heard.new.self (steps.Heard c.args.bus c.args.frame) Noted (events.Heard c.args.bus c.args.frame) c.self.view_is
-    (none_answered (heard_cases c.self.inside.plant c.args.bus) c.in-Ok.ensures.refused) refl c.in-Ok.ensures.ok c.len-legal.ensures.legal
+    accepted_at c.self.inside.plant _ c.down.new.self (steps.Down c.args.bus) Noted (events.Down c.args.bus) c.self.view_is
+    (none_answered (down_cases c.self.inside.plant c.args.bus) c.in-Ok.ensures.refused) refl c.in-Ok.ensures.ok c.len-legal.ensures.legal
 
 pub returns-in-Err : goal.returns-in-Err
 returns-in-Err c =
-    refused_at c.self.inside.plant _ c.heard.new.self (steps.Heard c.args.bus c.args.frame) c.in-Err.refusal c.self.view_is
+    refused_at c.self.inside.plant _ c.down.new.self (steps.Down c.args.bus) c.in-Err.refusal c.self.view_is
     c.in-Err.ensures.refused c.in-Err.ensures.err
 
 pub invariant_of-self-2 : goal.invariant_of-self-2
 invariant_of-self-2 c =
-    subst (λ (x : Shown). Keeps x c.self.inside.orders.items c.self.inside.sendings.items)
-    (sym c.in-Ok.ensures.ok) c.self.invariant
+    let p = c.self.inside.plant in
+    subst (λ (x : Shown). Keeps x c.self.inside.orders.items c.note_sent.new.sendings.items)
+    (sym c.in-Ok.ensures.ok)
+    (c.self.invariant.0, c.note_sent.ensures.down p.plant p.history c.self.invariant.1)
 
 pub invariant_of-self : goal.invariant_of-self
 invariant_of-self c =

@@ -9,7 +9,7 @@ use Rattle.plantsteps.specs.declared.step.StepReply.TheVariants.{Noted}
 use Rattle.plantsteps.specs.Runs.{HasNoReport}
 use Rattle.plantsteps.proofs.Desks.{Keeps, report_refused}
 use Rattle.plantsteps.proofs.Serving.{accepted_at}
-use Rattle.plantsteps.proofs.desk.Desk.done.Goals as goal
+use Rattle.plantsteps.proofs.stepped_plant.SteppedPlant.done.Goals as goal
 
 pub same-self : goal.same-self
 same-self c = refl
