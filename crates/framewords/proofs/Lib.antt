@@ -1,0 +1,2 @@
+pub mod NamedBlocks
+pub mod WrittenCommands

@@ -1,0 +1,10 @@
+use Rattle.framewords.proofs.WrittenCommands.{written, one_command}
+use Rattle.framewords.proofs.reading.request_of.Goals as goal
+
+pub returns-clause-command : goal.returns-clause-command
+returns-clause-command c =
+    written c.args.block.now c.args.address c.args.first c.args.second c.in_ok-named.field-0 c.in_ok-named.ensures c.command_of.result
+    c.command_of.ensures
+
+pub returns-clause-one : goal.returns-clause-one
+returns-clause-one c = one_command c.args.block.now c.args.address c.args.first c.args.second

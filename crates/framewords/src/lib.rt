@@ -1,0 +1,29 @@
+//! Frames, event messages, requests, outcomes and status bytes in words, for a person to read. A
+//! value of ../daliframe, ../gearcmd or ../transact goes in, and comes out as a type that is
+//! printed. What an installer writes on a command line, a block's name and the numbers of its
+//! ports, goes in too, and the command that they ask for comes out: `IsWritten` in
+//! `specs/Written.antt` says which.
+//!
+//! ```text
+//! println!(rt; "{}", FrameWords(frame))?; // `short 5 level 200`
+//! ```
+#![tactic(auto)]
+
+mod addresses;
+mod blocks;
+mod frames;
+mod heard;
+mod names;
+mod outcomes;
+mod reading;
+mod requests;
+mod statuses;
+
+pub use addresses::AddressWords;
+pub use blocks::Block;
+pub use frames::FrameWords;
+pub use heard::{HeardWords, SchemeWords};
+pub use outcomes::OutcomeWords;
+pub use reading::request_of;
+pub use requests::RequestWords;
+pub use statuses::StatusWords;
