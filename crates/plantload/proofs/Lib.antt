@@ -1,4 +1,6 @@
 pub mod CodeLemmas
+mod KeptSetups
 mod MeantCodes
 mod MeantScans
 pub mod OneAnswer
+mod OneKeptAnswer

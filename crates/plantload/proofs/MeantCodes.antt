@@ -11,9 +11,12 @@ use Rattle.ilsyms.specs.Tasks.{tasks_of}
 use Rattle.ilsyms.proofs.SameMeaning.{means_the_same}
 use Rattle.ilcode.specs.Listings.{Listing}
 use Rattle.ilverify.specs.Verdicts.{Accepted}
-use Rattle.ilcompile.specs.Loaded.{IsCodeOf, Loaded, scan_of}
+use Rattle.ilcompile.specs.Loaded.{AreCodes, IsCodeOf, Loaded, scan_of}
 use Rattle.ilcompile.specs.Meant.{IsMeant}
 use Rattle.ilcompile.proofs.CodeLemmas.{code_at}
+use Rattle.ilsource.specs.SourceTrees.{Tree}
+use Rattle.keeping.specs.KeptFiles.{KeptEntry}
+use Rattle.plantload.specs.KeptLoading.{IsKeptSetup}
 use Rattle.plantload.specs.Loading.{AreMeant, IsSetup}
 use Rattle.plantload.specs.declared.fault.LoadFault.{LoadFault}
 
@@ -30,19 +33,29 @@ code_is : (o : Option PlannedTask) (t : PlannedTask) (plan : Planned) (code : Ac
     → IfSome o (λ t. IsCodeOf plan t code) → IsCodeOf plan t code
 code_is o t plan code is h = rw is at h
 
-pub codes_meant : (wiring : Wiring) (bytes : List ℕ) (setup : Loaded) (is : IsSetup wiring bytes setup)
-    → AreMeant is.plan.tree wiring.buses setup.codes
-codes_meant wiring bytes setup is number task code is_task is_code =
-    let tree = is.plan.tree in
+-- the runs of the codes of a source program's plan are its scans
+codes_of_tree_meant : (wiring : Wiring) (tree : Tree) (setup : Loaded) → setup.plan ≡ plan_of_tree tree wiring
+    → AreCodes setup.plan setup.codes → AreMeant tree wiring.buses setup.codes
+codes_of_tree_meant wiring tree setup resolved codes number task code is_task is_code =
     let planned = planned_task tree task in
     let there : slice_get setup.plan.tasks number ≡ Some planned =
-    ap (λ (p : Planned). slice_get p.tasks number) is.plan.resolved
+    ap (λ (p : Planned). slice_get p.tasks number) resolved
     ∙ (slice_get-map (planned_task tree) (tasks_of tree) number ∙ ap (option_map (planned_task tree)) is_task) in
     let coded = code_is (slice_get setup.plan.tasks number) planned setup.plan code there
-    (code_at setup.plan setup.codes number code is.codes is_code) in
-    let meant = subst (λ (p : Planned). IsMeant (scan_of p planned) code.code) is.plan.resolved coded.meant in
+    (code_at setup.plan setup.codes number code codes is_code) in
+    let meant = subst (λ (p : Planned). IsMeant (scan_of p planned) code.code) resolved coded.meant in
     meant_as (scan_of (plan_of_tree tree wiring) planned) (source_scan tree wiring.buses task) code.code
     (λ s. means_the_same tree wiring.buses task s) meant
+
+pub codes_meant : (wiring : Wiring) (bytes : List ℕ) (setup : Loaded) (is : IsSetup wiring bytes setup)
+    → AreMeant is.plan.tree wiring.buses setup.codes
+codes_meant wiring bytes setup is = codes_of_tree_meant wiring is.plan.tree setup is.plan.resolved is.codes
+
+-- the same where global variables begin with kept values
+pub kept_codes_meant : (wiring : Wiring) (bytes : List ℕ) (kept : List KeptEntry) (setup : Loaded)
+    (is : IsKeptSetup wiring bytes kept setup) → AreMeant is.plan.tree wiring.buses setup.codes
+kept_codes_meant wiring bytes kept setup is =
+    codes_of_tree_meant wiring is.plan.tree setup is.plan.resolved is.codes
 
 -- whatever was loaded
 pub all_meant : (wiring : Wiring) (bytes : List ℕ) (r : Result Loaded LoadFault)

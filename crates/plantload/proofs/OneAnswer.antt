@@ -48,11 +48,11 @@ codes_same plan (t ∷ tasks) (x ∷ a) (y ∷ b) h g =
     let others = codes_same plan tasks a b h.1 g.1 in
     ap₂ (λ (c : Accepted) (cs : List Accepted). c ∷ cs) first others
 
-same_codes : (plan : Planned) (a b : List Accepted) → AreCodes plan a → AreCodes plan b → a ≡ b
+pub same_codes : (plan : Planned) (a b : List Accepted) → AreCodes plan a → AreCodes plan b → a ≡ b
 same_codes plan a b h g = codes_same plan plan.tasks a b h g
 
 -- where all tasks have codes, none is refused
-none_refused : (plan : Planned) (codes : List Accepted) (k : ℕ) (refusal : Refusal) → AreCodes plan codes
+pub none_refused : (plan : Planned) (codes : List Accepted) (k : ℕ) (refusal : Refusal) → AreCodes plan codes
     → IsFirstRefused plan k refusal → ⊥
 none_refused plan codes k refusal h f =
     accepted_apart (listing_for plan f.task) (certified_at plan codes k f.task h f.is) refusal f.refused
@@ -76,7 +76,7 @@ same_reason plan k r q f g =
     let its_refusal = subst (λ (t : PlannedTask). IsRefusal (listing_for plan t) q) task g.refused in
     same_refusal (listing_for plan f.task) r q f.refused its_refusal
 
-same_refused : (plan : Planned) (j k : ℕ) (r q : Refusal) → IsFirstRefused plan j r → IsFirstRefused plan k q
+pub same_refused : (plan : Planned) (j k : ℕ) (r q : Refusal) → IsFirstRefused plan j r → IsFirstRefused plan k q
     → (j ≡ k) × (r ≡ q)
 same_refused plan j k r q f g =
     let number = same_number plan j k r q f g in

@@ -1,3 +1,4 @@
+pub mod KeptLoading
 pub mod Loading
 pub mod MeantScans
 pub mod Printed

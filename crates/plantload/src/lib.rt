@@ -10,15 +10,23 @@
 //! Two laws say what a setup does, by its source program: [`runs_are_as_meant`] of the runs of its
 //! codes, and [`scans_are_as_meant`] of the scans of every plant of it.
 //!
+//! [`load_kept`] loads a text whose global variables begin with values that were kept
+//! (`IsKeptSetup`, specs/KeptLoading.antt); its laws are [`kept_runs_are_as_meant`] and
+//! [`kept_scans_are_as_meant`].
+//!
 //! ```text
 //! let setup = load(alloc, text, &binding)?;
 //! ```
 #![tactic(auto)]
 
 mod fault;
+mod kept;
 mod laws;
 mod loading;
 
 pub use fault::{LoadFault, RefusedTask};
-pub use laws::{runs_are_as_meant, scans_are_as_meant};
+pub use kept::{load_kept, plan_of_kept};
+pub use laws::{
+    kept_runs_are_as_meant, kept_scans_are_as_meant, runs_are_as_meant, scans_are_as_meant,
+};
 pub use loading::{load, plan_of, setup_of};

@@ -1,0 +1,3 @@
+mod BegunGlobals
+mod BegunLists
+mod ReadFiles

@@ -1,0 +1,111 @@
+//! The lines of a file of kept values.
+
+ghost use Rattle.std.specs.Prelude.{◌≡◌};
+ghost use Rattle.wordlines.specs.WordLines.{words};
+ghost use Rattle.keeping.specs.KeptFiles.{entry_in, head_in, pair_in, said, value_of, whole_number};
+ghost use Rattle.keeping.specs.KeptLines.{view};
+
+use iltypes::Value;
+use wordlines::{Words, number_of};
+
+/// What a line of a file of kept values says.
+#[derive(Clone, Copy)]
+pub(crate) enum KeptLine<'a> {
+    /// `kept by dalictl live`
+    Head,
+    /// `text 1A2B3C4D`: the digest of the text that the values are of.
+    Text(&'a [u8]),
+    /// `lamp = 200`
+    Entry { name: &'a [u8], value: Value },
+    /// `end 1`: how many values there are.
+    End(u64),
+}
+
+/// The greatest number of a value, without its sign.
+const MOST_NUMBER: u64 = 9_223_372_036_854_775_807;
+
+/// What a line says that isn't skipped.
+pub(crate) fn line_of(line: &[u8]) -> Option<KeptLine<'_>>
+    ensures { view result ≡ said (words line.now) }
+{
+    let mut words = Words::of(line);
+    let first = words.next()?;
+    let second = words.next()?;
+    let Some(third) = words.next() else {
+        return pair_in(first, second);
+    };
+    let Some(fourth) = words.next() else {
+        return entry_in(first, second, third);
+    };
+    if words.is_empty() {
+        head_in(first, second, third, fourth)
+    } else {
+        None
+    }
+}
+
+/// `kept by dalictl live`
+fn head_in<'a>(kept: &[u8], by: &[u8], program: &[u8], command: &[u8]) -> Option<KeptLine<'a>>
+    ensures { view result ≡ head_in kept.now by.now program.now command.now }
+{
+    let is_kept = kept == b"kept".as_slice() && by == b"by".as_slice();
+    let is_live = program == b"dalictl".as_slice() && command == b"live".as_slice();
+    if is_kept && is_live {
+        Some(KeptLine::Head)
+    } else {
+        None
+    }
+}
+
+/// `text 1A2B3C4D`, `end 1`
+fn pair_in<'a>(keyword: &[u8], word: &'a [u8]) -> Option<KeptLine<'a>>
+    ensures { view result ≡ pair_in keyword.now word.now }
+{
+    if keyword == b"text".as_slice() {
+        Some(KeptLine::Text(word))
+    } else if keyword == b"end".as_slice() {
+        Some(KeptLine::End(number_of(word, MOST_NUMBER)?))
+    } else {
+        None
+    }
+}
+
+/// `lamp = 200`
+fn entry_in<'a>(name: &'a [u8], sign: &[u8], word: &[u8]) -> Option<KeptLine<'a>>
+    ensures { view result ≡ entry_in name.now sign.now word.now }
+{
+    if sign != b"=".as_slice() {
+        return None;
+    }
+    let value = value_of(word)?;
+    Some(KeptLine::Entry { name, value })
+}
+
+/// A value, as it is printed.
+fn value_of(word: &[u8]) -> Option<Value>
+    ensures { result ≡ value_of word.now }
+{
+    if word == b"TRUE".as_slice() {
+        Some(Value::Bool(true))
+    } else if word == b"FALSE".as_slice() {
+        Some(Value::Bool(false))
+    } else {
+        Some(Value::Int(whole_number(word)?))
+    }
+}
+
+/// A whole number: digits, with `-` before them below 0.
+fn whole_number(word: &[u8]) -> Option<i64>
+    ensures { result ≡ whole_number word.now }
+{
+    match word {
+        [b'-', digits @ ..] => {
+            let number = number_of(digits, MOST_NUMBER)? as i64;
+            Some(-number)
+        }
+        _ => {
+            let number = number_of(word, MOST_NUMBER)? as i64;
+            Some(number)
+        }
+    }
+}
