@@ -1,0 +1,3 @@
+mod Surveying
+mod Flashing
+mod Hearing

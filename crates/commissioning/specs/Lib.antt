@@ -1,0 +1,4 @@
+pub mod Asking
+pub mod Blinking
+pub mod Listening
+pub mod Surveys

@@ -1,0 +1,31 @@
+//! What an installer does at one bus before a building runs, or beside it: to see what is there, to
+//! hear what comes, to let one lamp blink, and to ask one command.
+//!
+//! What crosses the boundary: a [`Bus`](buslink::Bus) and writers go in. What is sent are
+//! transactions, legal by their type: [`ask`] sends one, and all else asks by it. [`probe`] gives a
+//! [`Survey`], which is printed as a table, and [`write_differences`] compares it with the plan of a
+//! text. [`listen`] only hears. Each command has a function `serve_..` that writes what is to be
+//! read and tells how it was [`Served`]. The definition to read first is `IsAsked`
+//! (specs/Asking.antt), and then `IsSurvey` (specs/Surveys.antt), which questions a survey has.
+//!
+//! ```text
+//! let report = ask(&mut bus, command)?; // what became of it, attempt by attempt
+//! serve_probe(alloc, &mut bus, &mut out, &mut io::sink(), None)?;
+//! ```
+#![tactic(auto)]
+
+mod asking;
+mod blinking;
+mod comparing;
+mod listening;
+mod places;
+mod serving;
+mod surveys;
+mod tables;
+
+pub use asking::{AskFault, Asked, ask};
+pub use blinking::{Blinked, blink};
+pub use comparing::{Declared, write_differences};
+pub use listening::{ListenEnd, Silenced, listen};
+pub use serving::{Served, serve_ask, serve_blink, serve_listen, serve_probe};
+pub use surveys::{Survey, probe};

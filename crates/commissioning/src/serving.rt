@@ -1,0 +1,215 @@
+//! The commands at one line: what they do, and what they print.
+
+ghost use Rattle.commissioning.specs.Asking.{AreSomeAsked, IsAskedAtMost};
+ghost use Rattle.commissioning.specs.Listening.{SendsNothing};
+
+use crate::asking::{AskFault, ask};
+use crate::blinking::{Blinked, blink};
+use crate::comparing::{Declared, write_differences};
+use crate::listening::{ListenEnd, Silenced, listen};
+use crate::surveys::{Survey, probe};
+use bitflags::Flags;
+use buslink::Bus;
+use daliframe::{BusNumber, Frame, ShortAddress};
+use framewords::{FrameWords, OutcomeWords, RequestWords, StatusWords};
+use gearcmd::{Command, Request, Status};
+use liveclock::Stop;
+use std::alloc::Global;
+use std::io;
+use std::io::Write;
+use std::time::Clock as Timer;
+use transact::{Outcome, Reply, Report};
+use wordlines::Binding;
+
+/// How a command at one line was served.
+#[derive(Clone, Copy, PartialEq, Eq, Debug)]
+pub enum Served {
+    /// It was done.
+    Done,
+    /// The allocator is out of memory.
+    NoMemory,
+    /// The interface failed, or the clock can't be read.
+    Failed,
+}
+
+impl Served {
+    /// How a command was served that met this fault.
+    fn of_fault(fault: AskFault) -> Served {
+        match fault {
+            AskFault::Memory => Served::NoMemory,
+            AskFault::Failed => Served::Failed,
+        }
+    }
+}
+
+/// Probes a bus, and writes which gear and which instances are there, as a table; and where a text
+/// is given, how they differ from what it declares.
+///
+/// # Errors
+///
+/// The writer failed.
+pub fn serve_probe<B: Bus, W: Write, P: Write>(
+    alloc: Global,
+    bus: &mut B,
+    to: &mut W,
+    progress: &mut P,
+    declared: Option<Declared>,
+) -> io::Result<Served>
+    ensures { AreSomeAsked (B.log bus.old) (B.log bus.new) }
+{
+    let surveyed = probe(alloc, bus, progress);
+    write_survey(to, &surveyed, declared)
+}
+
+/// Writes a survey, and how it differs from what a text declares.
+fn write_survey<W: Write>(
+    to: &mut W,
+    surveyed: &Result<Survey, AskFault>,
+    declared: Option<Declared>,
+) -> io::Result<Served> {
+    match surveyed {
+        Ok(survey) => {
+            write!(to, "{survey}")?;
+            if let Some(declared) = declared {
+                write_differences(to, survey, declared)?;
+            }
+            Ok(Served::Done)
+        }
+        Err(fault) => write_fault(to, *fault),
+    }
+}
+
+/// Writes why a command wasn't done.
+fn write_fault<W: Write>(to: &mut W, fault: AskFault) -> io::Result<Served> {
+    writeln!(to, "{fault}")?;
+    Ok(Served::of_fault(fault))
+}
+
+/// Listens to a bus, and writes what comes on it.
+///
+/// # Errors
+///
+/// One of the writers failed.
+pub fn serve_listen<B: Bus, W: Write, P: Write, R: Timer, S: Stop>(
+    bus: &mut B,
+    number: u8,
+    binding: Option<&Binding>,
+    to: &mut W,
+    record: &mut P,
+    timer: &R,
+    end: &ListenEnd<S>,
+) -> io::Result<Served>
+    ensures { SendsNothing (B.log bus.old) (B.log bus.new) }
+{
+    let silenced = listen(bus, number, binding, to, record, timer, end)?;
+    write_silenced(to, silenced)
+}
+
+/// Writes why listening ended before its end.
+fn write_silenced<W: Write>(to: &mut W, silenced: Silenced) -> io::Result<Served> {
+    match silenced {
+        Silenced::Ended => Ok(Served::Done),
+        Silenced::Fault(fault) => write_fault(to, fault),
+        Silenced::NoClock => {
+            writeln!(to, "cannot read the clock")?;
+            Ok(Served::Failed)
+        }
+    }
+}
+
+/// Lets gear blink, and writes what became of it.
+///
+/// # Errors
+///
+/// The writer failed.
+pub fn serve_blink<B: Bus, W: Write, R: Timer>(
+    bus: &mut B,
+    address: ShortAddress,
+    to: &mut W,
+    timer: &R,
+) -> io::Result<Served>
+    ensures { AreSomeAsked (B.log bus.old) (B.log bus.new) }
+{
+    let blinked = blink(bus, address, timer);
+    write_blinked(to, address, blinked)
+}
+
+/// Writes what became of gear that was to blink.
+fn write_blinked<W: Write>(
+    to: &mut W,
+    address: ShortAddress,
+    blinked: Result<Blinked, AskFault>,
+) -> io::Result<Served> {
+    let gear = address.number();
+    match blinked {
+        Ok(Blinked::Back(level, Outcome::GaveUp)) => {
+            writeln!(to, "gear {gear} blinked, and its level {level} was lost")?;
+            Ok(Served::Done)
+        }
+        Ok(Blinked::Back(level, _)) => {
+            writeln!(
+                to,
+                "gear {gear} blinked, and was sent back to level {level}"
+            )?;
+            Ok(Served::Done)
+        }
+        Ok(Blinked::NoLevel(outcome)) => {
+            writeln!(to, "gear {gear} gives no level: {outcome}")?;
+            Ok(Served::Done)
+        }
+        Err(fault) => write_fault(to, fault),
+    }
+}
+
+/// Asks a command on a bus, and writes its frames and what was answered, in words.
+///
+/// # Errors
+///
+/// The writer failed.
+pub fn serve_ask<B: Bus, W: Write>(bus: &mut B, command: Command, to: &mut W) -> io::Result<Served>
+    ensures { IsAskedAtMost command (B.log bus.old) (B.log bus.new) }
+{
+    let asked = ask(bus, command);
+    write_asked(to, &command, &asked)
+}
+
+/// Writes a command, its frames and what was answered.
+fn write_asked<W: Write>(
+    to: &mut W,
+    command: &Command,
+    asked: &Result<Report, AskFault>,
+) -> io::Result<Served> {
+    let request = Request {
+        bus: BusNumber::default(),
+        command: *command,
+    };
+    writeln!(to, "{}", RequestWords(request))?;
+    match asked {
+        Ok(report) => {
+            write_frames(to, report.transaction().frames())?;
+            writeln!(to, "{}", OutcomeWords(report))?;
+            write_status(to, command, report.outcome())?;
+            Ok(Served::Done)
+        }
+        Err(fault) => write_fault(to, *fault),
+    }
+}
+
+/// Writes frames, a line each.
+fn write_frames<W: Write>(to: &mut W, frames: &[Frame]) -> io::Result<()> {
+    for frame in frames {
+        writeln!(to, "{} ({frame})", FrameWords(*frame))?;
+    }
+    Ok(())
+}
+
+/// Writes what a status byte says that was answered.
+fn write_status<W: Write>(to: &mut W, command: &Command, outcome: Outcome) -> io::Result<()> {
+    match (command, outcome) {
+        (Command::GearAsk { command, .. }, Outcome::Done(Reply::Answer(byte)))
+            if command.number() == 0 => {
+            writeln!(to, "{}", StatusWords(Status::from_bits_retain(byte)))
+        }
+        _ => Ok(()),
+    }
+}

@@ -1,0 +1,254 @@
+//! A survey of one bus: which gear and which instances of devices are there, and what they are.
+
+ghost use Rattle.std.specs.Prelude.{◌≡◌, ◌<◌, ◌↔◌, ⊤, true, IsTrue, IfErr, IfOk, OnErr, OnOk, MatchOption, All};
+ghost use Rattle.std.specs.Prelude.{Contains};
+ghost use Rattle.gearcmd.specs.declared.requests.Command.TheVariants.{GearAsk, DevAsk};
+ghost use Rattle.commissioning.specs.Asking.{AreSomeAsked, AreAsked};
+ghost use Rattle.commissioning.specs.Surveys.{AreParts, AsksMore, IsQueryPart, IsGearPart};
+ghost use Rattle.commissioning.specs.Surveys.{IsInstancePart, IsDevicePart, IsQuestion, IsSurvey};
+ghost use Rattle.commissioning.specs.Surveys.{is_answer, is_surveyed};
+
+use crate::asking::{AskFault, Asked, ask};
+use buslink::Bus;
+use daliframe::{InstanceNumber, ShortAddress};
+use gearcmd::{Command, DevAskCommand, GearAskCommand};
+use std::alloc::Global;
+use std::io::Write;
+use std::marker::Model;
+use transact::{Outcome, Reply};
+
+/// What was asked on a bus, in order, and how each question ended.
+#[derive(Drop)]
+pub struct Survey {
+    asked: Vec<Asked>,
+}
+
+impl Model for Survey {
+    ghost use Rattle.std.specs.Prelude.{List};
+    ghost use Rattle.commissioning.specs.declared.asking.Asked.{Asked};
+
+    ghost Value = { List Asked };
+
+    ghost view = { λ s. s.asked.items };
+}
+
+impl Survey {
+    /// How a command ended that was asked: the first of its kind.
+    pub fn outcome(&self, command: Command) -> Option<Outcome>
+        ensures { MatchOption result (All (λ a. ¬ (a.command ≡ command)) self.now)
+            (λ outcome. Contains self.now (record { command = command; outcome = outcome })) }
+    {
+        let found = asked_of(&self.asked, command)?;
+        Some(found.outcome)
+    }
+}
+
+/// The first of these that asked this command.
+fn asked_of(asked: &[Asked], command: Command) -> Option<&Asked>
+    ensures { MatchOption result (All (λ a. ¬ (a.command ≡ command)) asked.now)
+        (λ found. Contains asked.now found.now × (found.now.command ≡ command)) }
+{
+    asked.iter().find(|one| one.is_of(&command))
+}
+
+/// Asks each short address of a bus whether gear is there, and gear that is there for its status,
+/// its levels, its groups and its scenes; and then each device for the type and the scheme of its
+/// instances, from 0 on until one is silent. How far it is goes to `progress`.
+///
+/// # Errors
+///
+/// The allocator is out of memory, or the interface failed. Nothing but questions was sent.
+pub fn probe<B: Bus, P: Write>(
+    alloc: Global,
+    bus: &mut B,
+    progress: &mut P,
+) -> Result<Survey, AskFault>
+    ensures survey { IfOk result (λ survey. IsSurvey survey
+        × AreAsked survey (B.log bus.old) (B.log bus.new)) }
+    ensures fault { OnErr result (AreSomeAsked (B.log bus.old) (B.log bus.new)) }
+{
+    let mut asked = Vec::new(alloc);
+    ask_all_gear(bus, &mut asked, progress)?;
+    ask_all_devices(bus, &mut asked, progress)?;
+    Ok(Survey { asked })
+}
+
+/// Asks the gear of each short address.
+fn ask_all_gear<B: Bus, P: Write>(
+    bus: &mut B,
+    asked: &mut Vec<Asked>,
+    progress: &mut P,
+) -> Result<(), AskFault>
+    ensures more { OnOk result (AsksMore (AreParts IsGearPart 64) asked.old.items asked.new.items
+        (B.log bus.old) (B.log bus.new)) }
+    ensures fault { OnErr result (AreSomeAsked (B.log bus.old) (B.log bus.new)) }
+{
+    for number in 0..64 {
+        let Some(address) = ShortAddress::new(number) else {
+            unreachable!()
+        };
+        tell_progress(progress, "gear", number);
+        ask_gear(bus, address, asked)?;
+    }
+    Ok(())
+}
+
+/// Asks the device of each short address.
+fn ask_all_devices<B: Bus, P: Write>(
+    bus: &mut B,
+    asked: &mut Vec<Asked>,
+    progress: &mut P,
+) -> Result<(), AskFault>
+    ensures more { OnOk result (AsksMore (AreParts IsDevicePart 64) asked.old.items asked.new.items
+        (B.log bus.old) (B.log bus.new)) }
+    ensures fault { OnErr result (AreSomeAsked (B.log bus.old) (B.log bus.new)) }
+{
+    for number in 0..64 {
+        let Some(address) = ShortAddress::new(number) else {
+            unreachable!()
+        };
+        tell_progress(progress, "device", number);
+        ask_device(bus, address, asked)?;
+    }
+    Ok(())
+}
+
+/// Tells, at each eighth address, how far it is. Whether it can be told changes nothing.
+fn tell_progress<P: Write>(progress: &mut P, what: &str, number: u8) {
+    if number.is_multiple_of(8) {
+        let last = number.saturating_add(7);
+        let _told = writeln!(progress, "asking {what} {number} to {last}");
+    }
+}
+
+/// Asks whether gear is at an address, and gear that is there what it is.
+fn ask_gear<B: Bus>(
+    bus: &mut B,
+    address: ShortAddress,
+    asked: &mut Vec<Asked>,
+) -> Result<(), AskFault>
+    ensures more { OnOk result (AsksMore (IsGearPart address) asked.old.items asked.new.items
+        (B.log bus.old) (B.log bus.new)) }
+    ensures fault { OnErr result (AreSomeAsked (B.log bus.old) (B.log bus.new)) }
+{
+    let outcome = ask_one(bus, query(address, 1), asked)?;
+    if is_answer(outcome) {
+        ask_queries(bus, address, asked)?;
+    }
+    Ok(())
+}
+
+/// Asks gear for its status, its levels, its scenes and its groups.
+fn ask_queries<B: Bus>(
+    bus: &mut B,
+    address: ShortAddress,
+    asked: &mut Vec<Asked>,
+) -> Result<(), AskFault>
+    ensures more { OnOk result (AsksMore (AreParts (IsQueryPart address) 43)
+        asked.old.items asked.new.items (B.log bus.old) (B.log bus.new)) }
+    ensures fault { OnErr result (AreSomeAsked (B.log bus.old) (B.log bus.new)) }
+{
+    for number in 0..43 {
+        if is_surveyed(number) {
+            ask_one(bus, query(address, number), asked)?;
+        }
+    }
+    Ok(())
+}
+
+/// Asks the instances of a device, from 0 on until one is silent.
+fn ask_device<B: Bus>(
+    bus: &mut B,
+    address: ShortAddress,
+    asked: &mut Vec<Asked>,
+) -> Result<(), AskFault>
+    ensures more { OnOk result (AsksMore (IsDevicePart address) asked.old.items asked.new.items
+        (B.log bus.old) (B.log bus.new)) }
+    ensures fault { OnErr result (AreSomeAsked (B.log bus.old) (B.log bus.new)) }
+{
+    for number in 0..32 {
+        let Some(instance) = InstanceNumber::new(number) else {
+            unreachable!()
+        };
+        if !ask_instance(bus, address, instance, asked)? {
+            return Ok(());
+        }
+    }
+    Ok(())
+}
+
+/// Asks an instance for its type, and where it is there for its scheme; whether it is there.
+fn ask_instance<B: Bus>(
+    bus: &mut B,
+    address: ShortAddress,
+    instance: InstanceNumber,
+    asked: &mut Vec<Asked>,
+) -> Result<bool, AskFault>
+    ensures more { IfOk result (λ there. AsksMore (IsInstancePart address there instance)
+        asked.old.items asked.new.items (B.log bus.old) (B.log bus.new)) }
+    ensures fault { OnErr result (AreSomeAsked (B.log bus.old) (B.log bus.new)) }
+{
+    let outcome = ask_one(bus, instance_query(address, instance, 0), asked)?;
+    let is_there = is_answer(outcome);
+    if is_there {
+        ask_one(bus, instance_query(address, instance, 1), asked)?;
+    }
+    Ok(is_there)
+}
+
+/// Asks a command, and notes how it ended.
+fn ask_one<B: Bus>(
+    bus: &mut B,
+    command: Command,
+    asked: &mut Vec<Asked>,
+) -> Result<Outcome, AskFault>
+    ensures more { IfOk result (λ outcome. AsksMore (IsQuestion command outcome)
+        asked.old.items asked.new.items (B.log bus.old) (B.log bus.new)) }
+    ensures fault { OnErr result (AreSomeAsked (B.log bus.old) (B.log bus.new)) }
+{
+    let outcome = ask(bus, command)?.outcome();
+    match asked.push(Asked { command, outcome }) {
+        Ok(()) => Ok(outcome),
+        Err(_) => Err(AskFault::Memory),
+    }
+}
+
+/// Whether something answered: two at once are damage.
+pub(crate) fn is_answer(outcome: Outcome) -> bool
+    ensures { result ≡ is_answer outcome }
+{
+    matches!(outcome, Outcome::Done(Reply::Answer(_) | Reply::Damaged))
+}
+
+/// Whether gear is asked this query: for its status, its levels, its scenes and its groups.
+fn is_surveyed(number: u8) -> bool
+    ensures { result ≡ is_surveyed number }
+{
+    matches!(number, 0 | 16..=18 | 25..=42)
+}
+
+/// A query to gear, 0 to 42 as GEAR_ASK has them.
+pub(crate) fn query(address: ShortAddress, number: u8) -> Command
+    requires { number < 43 }
+    ensures { result ≡ GearAsk address number }
+{
+    match GearAskCommand::new(number) {
+        Some(command) => Command::GearAsk { address, command },
+        None => unreachable!(),
+    }
+}
+
+/// A query to an instance of a device, 0 to 2 as DEV_ASK has them.
+pub(crate) fn instance_query(address: ShortAddress, instance: InstanceNumber, number: u8) -> Command
+    requires { number < 3 }
+    ensures { result ≡ DevAsk address instance number }
+{
+    match DevAskCommand::new(number) {
+        Some(command) => Command::DevAsk {
+            address,
+            instance,
+            command,
+        },
+        None => unreachable!(),
+    }
+}
