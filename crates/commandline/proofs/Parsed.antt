@@ -1,17 +1,18 @@
 -- What `clap` finds in the words of the command line.
-use Rattle.std.proofs.Common.{◌≡◌, ◌∙◌, ap, ap₂, subst, List, [], ◌∷◌, Option, Some, None, true, Result, Ok, Err, refl}
+use Rattle.std.proofs.Common.{◌≡◌, ◌∙◌, ap, ap₂, subst, List, [], Option, Some, None, true, Result, Ok, Err, refl}
 use Rattle.std.proofs.Common.{sym, inl, inr}
 use Rattle.std.specs.Prelude.{◌⊎◌, option_map, unwrap_or, IfErr, IfOk}
-use Rattle.clap.specs.Words.{App, HasKind, HasMatchesOf, Row, Text, fault_of, is_simple, subcommand_name_of}
+use Rattle.clap.specs.Words.{App, HasKind, HasMatchesOf, Row, Text, fault_of, is_simple, kind_of, subcommand_name_of}
 use Rattle.clap.specs.Words.{subcommand_of, subcommand_rows_of}
 use Rattle.clap.specs.Faults.{is_simple_and_free}
 use Rattle.clap.specs.declared.error.Error.{Error}
 use Rattle.clap.specs.declared.parser.matches.ArgMatches.{ArgMatches}
 use Rattle.clap.specs.declared.parser.matches.ArgMatches.TheViews.{out-ArgMatches}
-use Rattle.clap.specs.declared.error.kind.ErrorKind.TheVariants.{ArgumentConflict, ValueValidation}
+use Rattle.clap.specs.declared.error.kind.ErrorKind.TheVariants.{OutOfMemory}
 use Rattle.invocations.specs.Invocations.{IsOfCommand}
 use Rattle.invocations.specs.declared.invocations.Invocation.{Invocation}
-use Rattle.commandline.specs.CommandLine.{AreTaken, IsInvocation, NamesBoth, NamesNoLines, Spell, command_line}
+use Rattle.commandline.specs.CommandLine.{AreTaken, IsAtFault, IsInvocation, NamesBoth, NamesNoBinding}
+use Rattle.commandline.specs.CommandLine.{NamesNoLines, Spell, command_line}
 
 is_free : is_simple_and_free command_line ≡ true
 is_free = refl
@@ -67,29 +68,19 @@ module _ (words : List Text) (name : Text) (found : List Row)
 
   -- where `clap` finds nothing at fault
   pub answered : (T : Type 0) (read : Result T Error) → fault_of command_line words ≡ []
-      → IfOk read (λ _. ¬ NamesBoth name found × ¬ NamesNoLines name found)
-      → IfErr read (λ error. (NamesBoth name found × HasKind (ArgumentConflict ∷ []) error)
-      ⊎ (NamesNoLines name found × HasKind (ValueValidation ∷ []) error))
+      → IfOk read (λ _. ¬ NamesBoth name found × ¬ NamesNoBinding name found × ¬ NamesNoLines name found)
+      → IfErr read (λ error. (kind_of error ≡ OutOfMemory) ⊎ IsAtFault (kind_of error) name found)
       → AreTaken {T = T} words read
   answered T (Ok done) free neither refused = (
     free,
     λ both. neither.0 (of_found NamesBoth both),
-    λ none. neither.1 (of_found NamesNoLines none),
+    λ half. neither.1 (of_found NamesNoBinding half),
+    λ none. neither.2 (of_found NamesNoLines none),
   )
   answered T (Err error) free neither refused =
       elim refused as (λ _. AreTaken {T = T} words (Err error)) [
-        | inl both ↦
-            elim both.1 as (λ _. AreTaken {T = T} words (Err error)) [
-              | inl memory ↦ inl (inl memory)
-              | inr (inl kind) ↦ inr (inl (free, (name, found, is, both.0), kind))
-              | inr (inr none) ↦ absurd none
-            ]
-        | inr lines ↦
-            elim lines.1 as (λ _. AreTaken {T = T} words (Err error)) [
-              | inl memory ↦ inl (inl memory)
-              | inr (inl kind) ↦ inr (inr (free, (name, found, is, lines.0), kind))
-              | inr (inr none) ↦ absurd none
-            ]
+        | inl memory ↦ inl (inl memory)
+        | inr fault ↦ inr (free, (name, found, is, fault))
       ]
 
   pub spelled : (read : Result Invocation Error) → IfOk read (IsOfCommand name found) → IfOk read (IsInvocation words)

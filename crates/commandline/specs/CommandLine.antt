@@ -1,19 +1,24 @@
 -- The command line (profile): `check FILE [--bind FILE]`, `check --code FILE`, `step FILE TASK [--bind FILE] [--scans N]
 -- [--every MS]`, `play TEXT BIND SCENARIO [--limit N]`, `run TEXT BIND SCENARIO [--limit N] [--workers W]`,
--- `live TEXT BIND --line B=PATH.. [--period MS] [--for SECONDS] [--stop PATH] [--limit N] [--workers W] [--stay]`,
--- `look FILE SCENARIO --bind FILE [--text]`, `notes FILE [--bind FILE]`, `list FILE [TASK] [--bind FILE]`,
--- `explain FILE [SCENARIO] [--bind FILE]` and `code FILE TASK OUT [--bind FILE]`, with the reading of words that `clap`
--- has.
-use Rattle.std.specs.Prelude.{◌≡◌, ℕ, ◌⊎◌, List, [], Some, true, pos, codes, IsSome, Result, Ok, Err}
+-- `live TEXT BIND --line B=PATH.. [--period MS] [--for SECONDS] [--stop PATH] [--limit N] [--workers W] [--stay]
+-- [--log FILE] [--log-size BYTES] [--record FILE] [--status FILE] [--json] [--keep FILE]`,
+-- `probe --line PATH [TEXT BIND] [--bus B]`,
+-- `listen --line PATH [--bind FILE] [--bus B] [--record FILE] [--for SECONDS] [--stop PATH]`, `blink --line PATH ADR`,
+-- `ask --line PATH REQUEST ADR [VALUE] [VALUE2]`, `look FILE SCENARIO --bind FILE [--text]`,
+-- `notes FILE [--bind FILE]`, `list FILE [TASK] [--bind FILE]`, `explain FILE [SCENARIO] [--bind FILE]` and
+-- `code FILE TASK OUT [--bind FILE]`, with the reading of words that `clap` has.
+use Rattle.std.specs.Prelude.{◌≡◌, ℕ, ◌⊎◌, List, [], Option, Some, true, pos, codes, IsSome, Result, Ok, Err}
 use Rattle.clap.specs.Words.{App, HasKind, Row, Rule, Text, fault_of, first_of, kind_of, new_app, new_rule, one_of}
 use Rattle.clap.specs.Words.{subcommand_of, with_rule, with_subcommand}
 use Rattle.clap.specs.Simple.{on_top}
 use Rattle.clap.specs.declared.builder.action.ArgAction.TheVariants.{Append, Set, SetTrue}
 use Rattle.clap.specs.declared.builder.value_parser.ValueParser.TheVariants as parsers
 use Rattle.clap.specs.declared.error.Error.{Error}
-use Rattle.clap.specs.declared.error.kind.ErrorKind.TheVariants.{ArgumentConflict, ValueValidation}
-use Rattle.invocations.specs.Invocations.{IsOfCommand, line_words}
-use Rattle.invocations.specs.LineWords.{AreLines}
+use Rattle.clap.specs.declared.error.kind.ErrorKind.{ErrorKind}
+use Rattle.clap.specs.declared.error.kind.ErrorKind.TheVariants.{ArgumentConflict, MissingRequiredArgument}
+use Rattle.clap.specs.declared.error.kind.ErrorKind.TheVariants.{ValueValidation}
+use Rattle.invocations.specs.Invocations.{IsLineName, IsOfCommand, line_word, line_words}
+use Rattle.invocations.specs.LineWords.{AreLines, ArePaths}
 use Rattle.invocations.specs.declared.invocations.Invocation.{Invocation}
 use Rattle.invocations.specs.declared.line_words.LineWord.{LineWord}
 
@@ -43,9 +48,13 @@ repeated_option id = record (wanted_option id) { action = Some Append }
 abbrev pub flag : Text → Rule
 flag id = record (new_rule id) { long = Some id; action = Some SetTrue }
 
+-- a word or an option whose value is a whole number in this range
+abbrev pub in_range : ℕ → ℕ → Rule → Rule
+in_range least most rule = record rule { parser = Some (parsers.Signed (pos least) (pos most)) }
+
 -- an option with a whole number in this range
 abbrev pub number_option : Text → ℕ → ℕ → Rule
-number_option id least most = record (option id) { parser = Some (parsers.Signed (pos least) (pos most)) }
+number_option id least most = in_range least most (option id)
 
 abbrev pub check_files : App
 check_files = with_rule (with_rule (new_app (codes "check")) (wanted (codes "FILE"))) (option (codes "bind"))
@@ -87,11 +96,50 @@ live_time =
     (number_option (codes "for") 1 4294967))
     (option (codes "stop"))
 
-abbrev pub live_command : App
-live_command =
+abbrev pub live_size : App
+live_size =
     with_rule (with_rule (with_rule live_time (number_option (codes "limit") 100 1000000))
     (number_option (codes "workers") 1 16))
     (flag (codes "stay"))
+
+abbrev pub live_log : App
+live_log =
+    with_rule (with_rule live_size (option (codes "log"))) (number_option (codes "log-size") 10000 4000000000)
+
+abbrev pub live_command : App
+live_command =
+    with_rule (with_rule (with_rule (with_rule live_log (option (codes "record"))) (option (codes "status")))
+    (flag (codes "json")))
+    (option (codes "keep"))
+
+-- a command of this name at one line
+abbrev pub at_line : Text → App
+at_line name = with_rule (new_app name) (wanted_option (codes "line"))
+
+abbrev pub probe_command : App
+probe_command =
+    with_rule (with_rule (with_rule (at_line (codes "probe")) (optional (codes "TEXT"))) (optional (codes "BIND")))
+    (number_option (codes "bus") 0 63)
+
+abbrev pub listen_files : App
+listen_files =
+    with_rule (with_rule (with_rule (at_line (codes "listen")) (option (codes "bind")))
+    (number_option (codes "bus") 0 63))
+    (option (codes "record"))
+
+abbrev pub listen_command : App
+listen_command =
+    with_rule (with_rule listen_files (number_option (codes "for") 1 4294967)) (option (codes "stop"))
+
+abbrev pub blink_command : App
+blink_command = with_rule (at_line (codes "blink")) (in_range 0 63 (wanted (codes "ADR")))
+
+abbrev pub ask_command : App
+ask_command =
+    with_rule (with_rule (with_rule (with_rule (at_line (codes "ask")) (wanted (codes "REQUEST")))
+    (in_range 0 80 (wanted (codes "ADR"))))
+    (in_range 0 255 (optional (codes "VALUE"))))
+    (in_range 0 255 (optional (codes "VALUE2")))
 
 abbrev pub look_files : App
 look_files =
@@ -137,8 +185,20 @@ run_line = with_subcommand played_line run_command.top
 abbrev pub live_line : App
 live_line = with_subcommand run_line live_command.top
 
+abbrev pub probe_line : App
+probe_line = with_subcommand live_line probe_command.top
+
+abbrev pub listen_line : App
+listen_line = with_subcommand probe_line listen_command.top
+
+abbrev pub blink_line : App
+blink_line = with_subcommand listen_line blink_command.top
+
+abbrev pub ask_line : App
+ask_line = with_subcommand blink_line ask_command.top
+
 abbrev pub look_line : App
-look_line = with_subcommand live_line look_command.top
+look_line = with_subcommand ask_line look_command.top
 
 abbrev pub note_line : App
 note_line = with_subcommand look_line notes_command.top
@@ -171,16 +231,31 @@ NamesBoth name found =
     (name ≡ codes "check") × (one_of (codes "code") found ≡ Some (codes "true"))
     × IsSome (first_of (codes "bind") found)
 
--- what was found under `live` names no lines: a word is none, or names a bus that another one names
-abbrev pub NamesNoLines : Text → List Row → Type 0
-NamesNoLines name found = (name ≡ codes "live") × ((lines : List LineWord) → ¬ AreLines (line_words found) lines)
+-- what was found under `probe` names a text without its binding
+abbrev pub NamesNoBinding : Text → List Row → Type 0
+NamesNoBinding name found =
+    (name ≡ codes "probe") × IsSome (first_of (codes "TEXT") found) × ¬ IsSome (first_of (codes "BIND") found)
 
--- what `clap` finds at fault comes first, then a binding beside a code file and words that name no lines; and the
--- allocator may be out of memory
+-- what was found names no lines: under `live` a word is none, or names a bus that another one names; at one line the
+-- word is neither a path nor two
+abbrev pub NamesNoLines : Text → List Row → Type 0
+NamesNoLines name found =
+    ((name ≡ codes "live") × ((lines : List LineWord) → ¬ AreLines (line_words found) lines))
+    ⊎ (IsLineName name × ((from : Text) (to : Option Text) → ¬ ArePaths (line_word found) from to))
+
+-- what was found is at fault, and the first fault is of this kind: a binding beside a code file, then a text without
+-- its binding, then words that name no lines
+abbrev pub IsAtFault : ErrorKind → Text → List Row → Type 0
+IsAtFault kind name found =
+    (NamesBoth name found × (kind ≡ ArgumentConflict))
+    ⊎ (NamesNoBinding name found × (kind ≡ MissingRequiredArgument))
+    ⊎ (NamesNoLines name found × ¬ NamesNoBinding name found × (kind ≡ ValueValidation))
+
+-- what `clap` finds at fault comes first; and the allocator may be out of memory
 abbrev pub AreTaken : {T : Type 0} → List Text → Result T Error → Type 0
 AreTaken words (Ok taken) =
-    (fault_of command_line words ≡ []) × ¬ Spell NamesBoth words × ¬ Spell NamesNoLines words
+    (fault_of command_line words ≡ []) × ¬ Spell NamesBoth words × ¬ Spell NamesNoBinding words
+    × ¬ Spell NamesNoLines words
 AreTaken words (Err error) =
     HasKind (fault_of command_line words) error
-    ⊎ ((fault_of command_line words ≡ []) × Spell NamesBoth words × (kind_of error ≡ ArgumentConflict))
-    ⊎ ((fault_of command_line words ≡ []) × Spell NamesNoLines words × (kind_of error ≡ ValueValidation))
+    ⊎ ((fault_of command_line words ≡ []) × Spell (IsAtFault (kind_of error)) words)

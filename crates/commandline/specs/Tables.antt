@@ -1,5 +1,5 @@
 -- What the tables of words and of commands come to (profile).
-use Rattle.std.specs.Prelude.{List, [], ◌∷◌, Some, pos}
+use Rattle.std.specs.Prelude.{ℤ, List, [], ◌∷◌, Some, pos}
 use Rattle.std.specs.Int.{int_max, int_min}
 use Rattle.clap.specs.Words.{App, Rule, new_app, signed_between, with_rule, with_subcommand}
 use Rattle.commandline.specs.CommandLine.{flag, option, optional, repeated_option, wanted, wanted_option}
@@ -7,14 +7,20 @@ use Rattle.commandline.specs.declared.tables.Subcommand.{Subcommand}
 use Rattle.commandline.specs.declared.words.Word.{Word}
 use Rattle.commandline.specs.declared.words.Word.TheVariants as words
 
+-- the argument, of which each value is a whole number in this range and of at most 32 bits
+abbrev pub with_numbers : ℤ → ℤ → Rule → Rule
+with_numbers least most rule =
+    record rule { parser = Some (signed_between (int_max (pos 0) least) (int_min (pos 4294967295) most)) }
+
 abbrev pub rule_of_word : Word → Rule
 rule_of_word (words.Wanted id help) = wanted id.now
 rule_of_word (words.Optional id help) = optional id.now
+rule_of_word (words.WantedNumber id least most help) = with_numbers least most (wanted id.now)
+rule_of_word (words.OptionalNumber id least most help) = with_numbers least most (optional id.now)
 rule_of_word (words.Valued id value help) = option id.now
 rule_of_word (words.WantedValued id value help) = wanted_option id.now
 rule_of_word (words.Repeated id value help) = repeated_option id.now
-rule_of_word (words.Number id value least most help) =
-    record (option id.now) { parser = Some (signed_between (int_max (pos 0) least) (int_min (pos 4294967295) most)) }
+rule_of_word (words.Number id value least most help) = with_numbers least most (option id.now)
 rule_of_word (words.Flag id help) = flag id.now
 
 -- the command with these words more

@@ -3,8 +3,8 @@
 //! What crosses the boundary: [`read`] takes the words that follow the program's name, and gives
 //! the [`Invocation`] that they spell, whose types and meaning are those of `invocations`: an
 //! [`Inquiry`] or a [`Question`] of a text, files that are played, run or looked at, a building
-//! with the lines of its buses, or a code file that is written or judged. The definitions to read
-//! first are `command_line` and `IsInvocation` (specs/CommandLine.antt).
+//! with the lines of its buses, what is done at one line, or a code file that is written or judged.
+//! The definitions to read first are `command_line` and `IsInvocation` (specs/CommandLine.antt).
 //!
 //! ```text
 //! match commandline::read(alloc, words)? {
@@ -19,7 +19,7 @@ mod tables;
 mod words;
 
 pub use invocations::{
-    Files, Inquiry, Invocation, LineWord, LineWords, LiveFiles, LiveOptions, PlayFiles, Question,
-    RunSize,
+    Beside, Files, Inquiry, Invocation, LineWord, LineWords, ListenEnd, LiveFiles, LiveOptions,
+    PlayFiles, Question, RequestWords, RunSize,
 };
 pub use options::read;

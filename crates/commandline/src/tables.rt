@@ -68,6 +68,20 @@ const LINE: Word = Word::Repeated(
     "The line of bus B, given for each bus: one path, or FROM,TO to read and to write",
 );
 
+const PATH: Word = Word::WantedValued(
+    "line",
+    "PATH",
+    "The line of the bus: one path, or FROM,TO to read and to write",
+);
+
+const BUS: Word = Word::Number(
+    "bus",
+    "B",
+    0,
+    63,
+    "The number of the line's bus, 0 to 63 [default: 0]",
+);
+
 const PERIOD: Word = Word::Number(
     "period",
     "MS",
@@ -82,6 +96,16 @@ const SECONDS: Word = Word::Number(
     1,
     4_294_967,
     "Ends after so many seconds, 1 to 4294967 [default: never]",
+);
+
+const STOP: Word = Word::Valued("stop", "PATH", "Ends once there is a file at this path");
+
+const LOG_SIZE: Word = Word::Number(
+    "log-size",
+    "BYTES",
+    10_000,
+    4_000_000_000,
+    "The bytes of one file of the log, 10000 to 4000000000 [default: 16000000]",
 );
 
 pub(crate) const CHECK: Subcommand = Subcommand {
@@ -121,10 +145,91 @@ pub(crate) const LIVE: Subcommand = Subcommand {
         LINE,
         PERIOD,
         SECONDS,
-        Word::Valued("stop", "PATH", "Ends once there is a file at this path"),
+        STOP,
         EVENTS,
         WORKERS,
         Word::Flag("stay", "Goes on where a bus has gone down"),
+        Word::Valued(
+            "log",
+            "FILE",
+            "Writes what happens on the buses to this file, or with - to standard error",
+        ),
+        LOG_SIZE,
+        Word::Valued(
+            "record",
+            "FILE",
+            "Writes a scenario of what happened to this file",
+        ),
+        Word::Valued(
+            "status",
+            "FILE",
+            "Writes each second to this file how the building stands",
+        ),
+        Word::Flag("json", "Writes as JSON how the building stands"),
+        Word::Valued(
+            "keep",
+            "FILE",
+            "Begins with the values that this file keeps, and keeps them",
+        ),
+    ],
+};
+
+pub(crate) const PROBE: Subcommand = Subcommand {
+    name: "probe",
+    about: "Asks each address of one line and prints what is there",
+    words: &[
+        PATH,
+        Word::Optional(
+            "TEXT",
+            "The text of the programs, which the line is compared with",
+        ),
+        Word::Optional("BIND", "The binding of buses, which TEXT must have"),
+        BUS,
+    ],
+};
+
+pub(crate) const LISTEN: Subcommand = Subcommand {
+    name: "listen",
+    about: "Prints the events of one line as they come",
+    words: &[
+        PATH,
+        Word::Valued(
+            "bind",
+            "FILE",
+            "The binding of buses, by which sources are named",
+        ),
+        BUS,
+        Word::Valued(
+            "record",
+            "FILE",
+            "Writes a scenario of the events to this file",
+        ),
+        SECONDS,
+        STOP,
+    ],
+};
+
+pub(crate) const BLINK: Subcommand = Subcommand {
+    name: "blink",
+    about: "Blinks one control gear of one line",
+    words: &[
+        PATH,
+        Word::WantedNumber("ADR", 0, 63, "The short address, 0 to 63"),
+    ],
+};
+
+pub(crate) const ASK: Subcommand = Subcommand {
+    name: "ask",
+    about: "Makes one request to one line and prints the answer",
+    words: &[
+        PATH,
+        Word::Wanted(
+            "REQUEST",
+            "The function block that makes it, such as GEAR_ASK",
+        ),
+        Word::WantedNumber("ADR", 0, 80, "Its port ADR, 0 to 80"),
+        Word::OptionalNumber("VALUE", 0, 255, "Its port after ADR, 0 to 255"),
+        Word::OptionalNumber("VALUE2", 0, 255, "Its port after that one, 0 to 255"),
     ],
 };
 
@@ -180,6 +285,6 @@ const CODE: Subcommand = Subcommand {
 };
 
 /// The commands, in the order of the help.
-pub(crate) const COMMANDS: [Subcommand; 10] = [
-    CHECK, STEP, PLAY, RUN, LIVE, LOOK, NOTES, LIST, EXPLAIN, CODE,
+pub(crate) const COMMANDS: [Subcommand; 14] = [
+    CHECK, STEP, PLAY, RUN, LIVE, PROBE, LISTEN, BLINK, ASK, LOOK, NOTES, LIST, EXPLAIN, CODE,
 ];

@@ -3,7 +3,7 @@
 ghost use Rattle.std.specs.Prelude.{◌≡◌, false};
 ghost use Rattle.clap.specs.Words.{rule_of};
 ghost use Rattle.commandline.specs.CommandLine.{flag, option, optional};
-ghost use Rattle.commandline.specs.Tables.{rule_of_word};
+ghost use Rattle.commandline.specs.Tables.{rule_of_word, with_numbers};
 
 use clap::{Arg, ArgAction};
 use std::alloc::Global;
@@ -16,6 +16,10 @@ pub(crate) enum Word {
     Wanted(&'static str, &'static str),
     /// A word that may be given.
     Optional(&'static str, &'static str),
+    /// A whole number that must be given, from the one to the other.
+    WantedNumber(&'static str, i64, i64, &'static str),
+    /// A whole number that may be given, from the one to the other.
+    OptionalNumber(&'static str, i64, i64, &'static str),
     /// An option with one value.
     Valued(&'static str, &'static str, &'static str),
     /// An option with one value that must be given.
@@ -36,17 +40,31 @@ pub(crate) fn argument<'a>(alloc: Global, word: Word) -> Arg<'a>
     match word {
         Word::Wanted(id, help) => optional(alloc, id, help).required(true),
         Word::Optional(id, help) => optional(alloc, id, help),
+        Word::WantedNumber(id, least, most, help) => {
+            numbered(optional(alloc, id, help).required(true), least, most)
+        }
+        Word::OptionalNumber(id, least, most, help) => {
+            numbered(optional(alloc, id, help), least, most)
+        }
         Word::Valued(id, value, help) => option(alloc, id, value, help),
         Word::WantedValued(id, value, help) => option(alloc, id, value, help).required(true),
         Word::Repeated(id, value, help) => option(alloc, id, value, help)
             .required(true)
             .action(ArgAction::Append),
         Word::Number(id, value, least, most, help) => {
-            let parser = clap::value_parser!(u32).range(least..=most);
-            option(alloc, id, value, help).value_parser(parser)
+            numbered(option(alloc, id, value, help), least, most)
         }
         Word::Flag(id, help) => flag(alloc, id, help),
     }
+}
+
+/// The argument, whose value is a whole number from the one to the other.
+fn numbered(argument: Arg, least: i64, most: i64) -> Arg
+    requires local { argument.global ≡ false }
+    ensures rule { rule_of result ≡ with_numbers least most (rule_of argument.entry) }
+    ensures local { result.global ≡ false }
+{
+    argument.value_parser(clap::value_parser!(u32).range(least..=most))
 }
 
 /// A word that may be given.

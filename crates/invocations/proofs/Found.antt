@@ -7,7 +7,7 @@ use Rattle.std.specs.Str.Parse.{ParsesUnsigned}
 use Rattle.clap.specs.Words.{ReadsOne, Text, first_of, first_value, matched_of, one_of, one_text, raw_values, rows_of}
 use Rattle.clap.specs.declared.parser.matches.Found.{Found}
 use Rattle.clap.proofs.WalkLemmas.{first_value-rows, one_text-rows, raw_values-rows}
-use Rattle.invocations.specs.Invocations.{IsFlag, IsGivenNumber, IsNumber, given, line_words}
+use Rattle.invocations.specs.Invocations.{IsByte, IsFlag, IsGivenNumber, IsNumber, given, line_words}
 
 -- the text of an id
 pub text_found : (f : Found) (id : Text) (text : Option (Bor Text)) → option_map (λ s. s.now) text ≡ first_value f id
@@ -72,3 +72,21 @@ module _ {E : Type 0} (Gives : List ℕ → Result ℕ E → Type 0)
       go : (text : Option Text) → one_text f id ≡ text → IsNumber default text (unwrap_or read default)
       go None is = ap (λ (o : Option ℕ). unwrap_or o default) (none is)
       go (Some text) is = number_read default text read (value text is)
+
+module _ {E : Type 0} (Gives : List ℕ → Result ℕ E → Type 0)
+    (parses : (text : List ℕ) (read : Result ℕ E) → Gives text read → ParsesUnsigned 8 10 text read) where
+  -- the byte that was read of a text
+  byte_read : (text : Text) (read : Option ℕ) → ReadsOne Gives text read → IsByte (Some text) (unwrap_or read 0)
+  byte_read text (Some n) reads = λ numeral small. (parses text (Ok n) reads).1
+  byte_read text None reads = λ numeral small. absurd (parses text (Err reads.0) reads.1 (numeral, small))
+
+  -- the byte of an id
+  pub byte_given : (f : Found) (id : Text) (read : Option ℕ) → (one_text f id ≡ None → read ≡ None)
+      → ((text : Text) → one_text f id ≡ Some text → ReadsOne Gives text read)
+      → IsByte (one_of id (rows_of f)) (unwrap_or read 0)
+  byte_given f id read none value =
+      subst (λ (text : Option Text). IsByte text (unwrap_or read 0)) (one_text-rows f id) (go (one_text f id) refl)
+    where
+      go : (text : Option Text) → one_text f id ≡ text → IsByte text (unwrap_or read 0)
+      go None is = ap (λ (o : Option ℕ). unwrap_or o 0) (none is)
+      go (Some text) is = byte_read text read (value text is)

@@ -1,20 +1,24 @@
 -- What the user asks for, by the name of a command and by what was found under it (profile).
-use Rattle.std.specs.Prelude.{◌≡◌, ℕ, ◌^◌, ◌<◌, List, [], Bool, Option, Some, None, true, false, codes}
+use Rattle.std.specs.Prelude.{◌≡◌, ℕ, ◌^◌, ◌<◌, ◌⊎◌, List, [], Bool, Option, Some, None, IsSome, true, false, codes}
 use Rattle.std.specs.Prelude.{option_map, unwrap_or}
 use Rattle.std.specs.Borrow.{Bor}
 use Rattle.std.specs.Str.Parse.{IsNumeral, digits_value, without_leading_plus}
 use Rattle.clap.specs.Words.{Row, Text, all_of, first_of, one_of}
-use Rattle.invocations.specs.LineWords.{AreLines, IsFirstFault}
+use Rattle.invocations.specs.LineWords.{AreLines, ArePaths, IsFirstFault, IsNoPath}
 use Rattle.invocations.specs.declared.files.Files.{Files}
 use Rattle.invocations.specs.declared.files.LiveFiles.{LiveFiles}
 use Rattle.invocations.specs.declared.files.PlayFiles.{PlayFiles}
 use Rattle.invocations.specs.declared.inquiries.Inquiry.{Inquiry}
 use Rattle.invocations.specs.declared.inquiries.Inquiry.TheVariants.{Check, Step}
+use Rattle.invocations.specs.declared.invocations.Beside.{Beside}
 use Rattle.invocations.specs.declared.invocations.Invocation.{Invocation}
-use Rattle.invocations.specs.declared.invocations.Invocation.TheVariants.{Ask, CheckCode, Code, Live, Look}
-use Rattle.invocations.specs.declared.invocations.Invocation.TheVariants.{Play, Run, Tell}
+use Rattle.invocations.specs.declared.invocations.Invocation.TheVariants.{Ask, Blink, CheckCode, Code, Listen, Live}
+use Rattle.invocations.specs.declared.invocations.Invocation.TheVariants.{Look, Play, Probe, Request, Run, Tell}
+use Rattle.invocations.specs.declared.invocations.ListenEnd.{ListenEnd}
 use Rattle.invocations.specs.declared.invocations.LiveOptions.{LiveOptions}
+use Rattle.invocations.specs.declared.invocations.RequestWords.{RequestWords}
 use Rattle.invocations.specs.declared.invocations.RunSize.{RunSize}
+use Rattle.invocations.specs.declared.line_words.LineWord.{LineWord}
 use Rattle.invocations.specs.declared.line_words.LineWordFault.{LineWordFault}
 use Rattle.invocations.specs.declared.questions.Question.{Question}
 use Rattle.invocations.specs.declared.questions.Question.TheVariants.{Faults, Notes, Words}
@@ -23,14 +27,24 @@ use Rattle.invocations.specs.declared.questions.Question.TheVariants.{Faults, No
 abbrev pub given : Option Text → Text
 given text = unwrap_or text []
 
--- digits, or a plus and digits, write the number, where it has at most 32 bits
-abbrev pub IsWritten : List ℕ → ℕ → Type 0
-IsWritten digits number = IsNumeral 10 digits → digits_value 10 digits < 2 ^ 32 → number ≡ digits_value 10 digits
+-- the path that was given, where one was
+abbrev pub IsGivenPath : Option Text → Option (Bor Text) → Type 0
+IsGivenPath text path = option_map (λ p. p.now) path ≡ text
+
+-- digits, or a plus and digits, write the number, where it has at most so many bits
+abbrev pub IsWritten : ℕ → List ℕ → ℕ → Type 0
+IsWritten bits digits number =
+    IsNumeral 10 digits → digits_value 10 digits < 2 ^ bits → number ≡ digits_value 10 digits
 
 -- the number that was given, or without one the default
 abbrev pub IsNumber : ℕ → Option Text → ℕ → Type 0
 IsNumber default None number = number ≡ default
-IsNumber default (Some text) number = IsWritten (without_leading_plus text) number
+IsNumber default (Some text) number = IsWritten 32 (without_leading_plus text) number
+
+-- the byte that was given, or without one 0
+abbrev pub IsByte : Option Text → ℕ → Type 0
+IsByte None number = number ≡ 0
+IsByte (Some text) number = IsWritten 8 (without_leading_plus text) number
 
 -- the number that was given, where one was
 abbrev pub IsGivenNumber : Option Text → Option ℕ → Type 0
@@ -96,29 +110,78 @@ pub record AreLiveFiles (found : List Row) (files : LiveFiles) : Type 0 where
   pub text : files.text.now ≡ given (first_of (codes "TEXT") found)
   pub binding : files.binding.now ≡ given (first_of (codes "BIND") found)
 
+-- what is written beside a building: the paths that are given, a log of which a file is full after 16,000,000 bytes
+-- where nothing else is said, and whether how it stands is written as JSON
+pub record IsBeside (found : List Row) (beside : Beside) : Type 0 where
+  pub log : IsGivenPath (first_of (codes "log") found) beside.log
+  pub log_size : IsNumber 16000000 (one_of (codes "log-size") found) beside.log_size
+  pub scenario : IsGivenPath (first_of (codes "record") found) beside.«record»
+  pub status : IsGivenPath (first_of (codes "status") found) beside.status
+  pub is_json : IsFlag (one_of (codes "json") found) beside.is_json
+  pub keep : IsGivenPath (first_of (codes "keep") found) beside.keep
+
 -- how a building is run: the period, the seconds and the path of the file that ends it, where they are given; how large
--- a run may become; and whether it goes on where a bus has gone down
+-- a run may become; whether it goes on where a bus has gone down; and what is written beside it
 pub record AreLiveOptions (found : List Row) (options : LiveOptions) : Type 0 where
   pub period : IsGivenNumber (one_of (codes "period") found) options.period
   pub seconds : IsGivenNumber (one_of (codes "for") found) options.seconds
-  pub stop : option_map (λ path. path.now) options.stop ≡ first_of (codes "stop") found
+  pub stop : IsGivenPath (first_of (codes "stop") found) options.stop
   pub size : IsRunSize found options.size
   pub stay : IsFlag (one_of (codes "stay") found) options.stay
+  pub beside : IsBeside found options.beside
 
 -- the words for the lines of buses
 abbrev pub line_words : List Row → List Text
 line_words found = unwrap_or (all_of (codes "line") found) []
+
+-- a command at one line has this name
+abbrev pub IsLineName : Text → Type 0
+IsLineName name =
+    (name ≡ codes "probe") ⊎ (name ≡ codes "listen") ⊎ (name ≡ codes "blink") ⊎ (name ≡ codes "ask")
+
+-- the word for the line of a command at one line
+abbrev pub line_word : List Row → Text
+line_word found = given (first_of (codes "line") found)
+
+-- the line that is named, of bus 0 where nothing else is said
+pub record IsLine (found : List Row) (line : LineWord) : Type 0 where
+  pub bus : IsByte (one_of (codes "bus") found) line.bus
+  pub paths : ArePaths (line_word found) line.from.now (option_map (λ path. path.now) line.to)
+
+-- the files that a line is compared with: a text and a binding, where both are given
+abbrev pub AreAgainst : List Row → Option LiveFiles → Type 0
+AreAgainst found None = ¬ (IsSome (first_of (codes "TEXT") found) × IsSome (first_of (codes "BIND") found))
+AreAgainst found (Some files) =
+    (first_of (codes "TEXT") found ≡ Some files.text.now) × (first_of (codes "BIND") found ≡ Some files.binding.now)
+
+-- when listening ends: the seconds and the path of the file that ends it, where they are given
+pub record IsListenEnd (found : List Row) (end : ListenEnd) : Type 0 where
+  pub seconds : IsGivenNumber (one_of (codes "for") found) end.seconds
+  pub stop : IsGivenPath (first_of (codes "stop") found) end.stop
+
+-- how a line is listened to: the path of the binding and that of the scenario, where they are given, and the end
+pub record IsListening (found : List Row) (binding scenario : Option (Bor Text)) (end : ListenEnd) : Type 0 where
+  pub bound : IsGivenPath (first_of (codes "bind") found) binding
+  pub recorded : IsGivenPath (first_of (codes "record") found) scenario
+  pub ends : IsListenEnd found end
+
+-- the request that is asked for: its name, an address, and the values that are given
+pub record AreRequestWords (found : List Row) (words : RequestWords) : Type 0 where
+  pub request : words.request.now ≡ given (first_of (codes "REQUEST") found)
+  pub address : IsByte (one_of (codes "ADR") found) words.address
+  pub value : IsGivenNumber (one_of (codes "VALUE") found) words.value
+  pub second : IsGivenNumber (one_of (codes "VALUE2") found) words.second_value
 
 -- the task whose code is asked for, and the path to which its code file goes
 pub record AreCodeWords (found : List Row) (task to : Bor Text) : Type 0 where
   pub of_task : task.now ≡ given (first_of (codes "TASK") found)
   pub out : to.now ≡ given (first_of (codes "OUT") found)
 
--- no scenario, no building and no code is asked for under this name
+-- no building, no line, no scenario and no code is asked for under this name
 abbrev pub IsTextName : Text → Type 0
 IsTextName name =
-    ¬ (name ≡ codes "live") × ¬ (name ≡ codes "play") × ¬ (name ≡ codes "run") × ¬ (name ≡ codes "look")
-    × ¬ (name ≡ codes "code")
+    ¬ (name ≡ codes "live") × ¬ IsLineName name × ¬ (name ≡ codes "play") × ¬ (name ≡ codes "run")
+    × ¬ (name ≡ codes "look") × ¬ (name ≡ codes "code")
 
 -- and no question
 abbrev pub IsInquiryName : Text → Type 0
@@ -133,6 +196,12 @@ IsOfCommand name found (Run files size) = (name ≡ codes "run") × ArePlayFiles
 IsOfCommand name found (Live files lines options) =
     (name ≡ codes "live") × AreLiveFiles found files × AreLines (line_words found) lines.items
     × AreLiveOptions found options
+IsOfCommand name found (Probe line against) = (name ≡ codes "probe") × IsLine found line × AreAgainst found against
+IsOfCommand name found (Listen line binding scenario end) =
+    (name ≡ codes "listen") × IsLine found line × IsListening found binding scenario end
+IsOfCommand name found (Blink line address) =
+    (name ≡ codes "blink") × IsLine found line × IsByte (one_of (codes "ADR") found) address
+IsOfCommand name found (Request line words) = (name ≡ codes "ask") × IsLine found line × AreRequestWords found words
 IsOfCommand name found (Look files is_text) =
     (name ≡ codes "look") × AreLookFiles found files × IsFlag (one_of (codes "text") found) is_text
 IsOfCommand name found (Code files task to) =
@@ -144,7 +213,9 @@ IsOfCommand name found (Ask inquiry) = IsInquiryName name × IsOfInquiry name fo
 IsOfCommand name found (Tell files question) =
     IsTextName name × AreFiles found files × IsQuestion name found question
 
--- what was found under a command's name has a word at fault among those for the lines of buses, of which this is the
--- first
+-- what was found under a command's name has a word at fault: under `live` the first among those for the lines of buses,
+-- at one line that for it
 abbrev pub IsOfFault : Text → List Row → LineWordFault → Type 0
-IsOfFault name found fault = (name ≡ codes "live") × IsFirstFault (line_words found) fault
+IsOfFault name found fault =
+    ((name ≡ codes "live") × IsFirstFault (line_words found) fault)
+    ⊎ (IsLineName name × IsNoPath (line_word found) fault)

@@ -1,4 +1,5 @@
--- The words that name the lines of a building's buses: `B=PATH`, or `B=FROM,TO` (profile).
+-- The words that name the lines of a building's buses, `B=PATH` or `B=FROM,TO`, and one line, `PATH` or `FROM,TO`
+-- (profile).
 use Rattle.std.specs.Prelude.{◌≡◌, ℕ, ◌<◌, ◌-◌, List, ◌∷◌, ◌++◌, Option, Some, None, IfSome, length, option_map}
 use Rattle.std.specs.List.{AllPairs, AllZip, Any, Contains}
 use Rattle.clap.specs.Words.{Text}
@@ -62,3 +63,8 @@ pub record IsFirstFault (words : List Text) (fault : LineWordFault) : Type 0 whe
   pub place : words ≡ before ++ word_of fault ∷ after
   pub taken : AreLines before lines
   pub is_fault : IsFaultAfter lines fault
+
+-- the fault of a word that is neither a path nor two
+abbrev pub IsNoPath : Text → LineWordFault → Type 0
+IsNoPath text (NoLine word) = (word.now ≡ text) × ((from : Text) (to : Option Text) → ¬ ArePaths text from to)
+IsNoPath text (Again word) = ⊥

@@ -1,4 +1,4 @@
-//! The lines of a building's buses, as words of the command line name them.
+//! The lines of buses, as words of the command line name them.
 
 ghost use Rattle.std.specs.Prelude.{◌≡◌, ◌↔◌, ◌<◌, ℕ, Option, IsTrue, MatchOption, MatchResult, map};
 ghost use Rattle.std.specs.Prelude.{option_map};
@@ -11,7 +11,8 @@ use arrayvec::ArrayVec;
 use limits::MOST_BUSES;
 use wordlines::number_of;
 
-/// The line of a bus, as a word names it: `B=PATH`, or `B=FROM,TO`.
+/// The line of a bus, as words name it: `B=PATH` or `B=FROM,TO`, and at one line `PATH` or
+/// `FROM,TO` beside the number of the bus.
 #[derive(Clone, Copy)]
 pub struct LineWord<'a> {
     /// The bus's number, below 64.
@@ -39,10 +40,11 @@ const MOST_LINES: usize = MOST_BUSES as usize;
 /// The lines of buses, in the order of their words.
 pub type LineWords<'a> = ArrayVec<LineWord<'a>, MOST_LINES>;
 
-/// The first word that is not taken as the line of a bus.
+/// The first word that is not taken as a line.
 #[derive(Clone, Copy)]
 pub enum LineWordFault<'a> {
-    /// This word is neither `B=PATH` nor `B=FROM,TO` with a bus below 64.
+    /// This word is neither `B=PATH` nor `B=FROM,TO` with a bus below 64; and at one line, neither
+    /// `PATH` nor `FROM,TO`.
     NoLine(&'a str),
     /// This word names a bus that a word before it names.
     Again(&'a str),
@@ -95,7 +97,7 @@ fn line_of<'a>(word: &'a str) -> Option<LineWord<'a>>
 
 /// The path that is read and, where it is another one, the path that is written: `PATH` or
 /// `FROM,TO`.
-fn paths_in<'a>(text: &'a str) -> Option<(&'a str, Option<&'a str>)>
+pub(crate) fn paths_in<'a>(text: &'a str) -> Option<(&'a str, Option<&'a str>)>
     ensures { MatchOption result
         ((from : Text) (to : Option Text) → ¬ ArePaths text.now from to)
         (λ paths. ArePaths text.now paths.0.now (option_map (λ path. path.now) paths.1)) }

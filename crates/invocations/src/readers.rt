@@ -3,14 +3,15 @@
 ghost use Rattle.std.specs.Prelude.{◌≡◌, MatchResult, codes};
 ghost use Rattle.clap.specs.Words.{first_of, found_of, one_of, rows_of};
 ghost use Rattle.invocations.specs.Invocations.{AreFiles, AreLiveFiles, AreLiveOptions, AreLookFiles};
-ghost use Rattle.invocations.specs.Invocations.{ArePlayFiles, IsFlag, IsGivenNumber, IsInquiryName};
-ghost use Rattle.invocations.specs.Invocations.{IsNumber, IsOfCommand, IsOfFault, IsRunSize, given};
-ghost use Rattle.invocations.specs.Invocations.{line_words};
+ghost use Rattle.invocations.specs.Invocations.{ArePlayFiles, IsBeside, IsFlag, IsGivenNumber};
+ghost use Rattle.invocations.specs.Invocations.{IsInquiryName, IsLineName, IsNumber, IsOfCommand};
+ghost use Rattle.invocations.specs.Invocations.{IsOfFault, IsRunSize, given, line_words};
 ghost use Rattle.invocations.specs.LineWords.{AreLines, IsFirstFault};
 
+use crate::at_line::at_line;
 use crate::files::{Files, LiveFiles, PlayFiles};
 use crate::inquiries::Inquiry;
-use crate::invocations::{Invocation, LiveOptions, RunSize};
+use crate::invocations::{Beside, Invocation, LiveOptions, RunSize};
 use crate::line_words::{LineWordFault, LineWords, lines_of};
 use crate::questions::{question_of, word_in};
 use arrayvec::ArrayVec;
@@ -20,7 +21,7 @@ use clap::ArgMatches;
 ///
 /// # Errors
 ///
-/// A word for the line of a bus names none, or a bus that a word before it names.
+/// A word for a line names none, or a bus that a word before it names.
 pub fn invocation_of<'a>(
     name: &str,
     found: &ArgMatches<'a>,
@@ -31,12 +32,16 @@ pub fn invocation_of<'a>(
     if name == "live" {
         return live_in(found);
     }
-    Ok(without_lines(name, found))
+    match at_line(name, found) {
+        Some(made) => made,
+        None => Ok(without_lines(name, found)),
+    }
 }
 
 /// The invocation of what was found under the name of a command that takes no lines of buses.
 fn without_lines<'a>(name: &str, found: &ArgMatches<'a>) -> Invocation<'a>
-    requires { ¬ (name.now ≡ codes "live") }
+    requires building { ¬ (name.now ≡ codes "live") }
+    requires line { ¬ IsLineName name.now }
     ensures { IsOfCommand name.now (rows_of (found_of found.now)) result }
 {
     if name == "play" {
@@ -148,6 +153,21 @@ fn live_options_in<'a>(found: &ArgMatches<'a>) -> LiveOptions<'a>
         stop: word_in(found, "stop"),
         size: run_size_in(found),
         stay: flag_in(found, "stay"),
+        beside: beside_in(found),
+    }
+}
+
+/// What is written beside a building.
+fn beside_in<'a>(found: &ArgMatches<'a>) -> Beside<'a>
+    ensures { IsBeside (rows_of (found_of found.now)) result }
+{
+    Beside {
+        log: word_in(found, "log"),
+        log_size: number_in(found, "log-size", 16_000_000),
+        record: word_in(found, "record"),
+        status: word_in(found, "status"),
+        is_json: flag_in(found, "json"),
+        keep: word_in(found, "keep"),
     }
 }
 
@@ -201,7 +221,7 @@ fn run_size_in(found: &ArgMatches) -> RunSize
 }
 
 /// The text that was given, or none.
-fn text_in<'a>(found: &ArgMatches<'a>, id: &str) -> &'a str
+pub(crate) fn text_in<'a>(found: &ArgMatches<'a>, id: &str) -> &'a str
     ensures { result.now ≡ given (first_of id.now (rows_of (found_of found.now))) }
 {
     match found.get_str(id) {
@@ -221,7 +241,7 @@ fn number_in(found: &ArgMatches, id: &str, default: u32) -> u32
 }
 
 /// The number that was given, where one was.
-fn given_number_in(found: &ArgMatches, id: &str) -> Option<u32>
+pub(crate) fn given_number_in(found: &ArgMatches, id: &str) -> Option<u32>
     ensures { IsGivenNumber (one_of id.now (rows_of (found_of found.now))) result }
 {
     found.get_one::<u32>(id)

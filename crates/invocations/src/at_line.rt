@@ -1,0 +1,144 @@
+//! The readers of what `clap` found under a command at one line.
+
+ghost use Rattle.std.specs.Prelude.{◌≡◌, MatchOption, MatchResult, codes};
+ghost use Rattle.clap.specs.Words.{found_of, one_of, rows_of};
+ghost use Rattle.invocations.specs.Invocations.{AreAgainst, AreRequestWords, IsByte, IsLine};
+ghost use Rattle.invocations.specs.Invocations.{IsLineName, IsListenEnd, IsOfCommand, IsOfFault};
+ghost use Rattle.invocations.specs.Invocations.{line_word};
+ghost use Rattle.invocations.specs.LineWords.{IsNoPath};
+
+use crate::files::LiveFiles;
+use crate::invocations::{Invocation, ListenEnd, RequestWords};
+use crate::line_words::{LineWord, LineWordFault, paths_in};
+use crate::questions::word_in;
+use crate::readers::{given_number_in, text_in};
+use clap::ArgMatches;
+
+/// The invocation of what was found under a command's name, where it is that of a command at one
+/// line, or the fault of its word for the line.
+pub(crate) fn at_line<'a>(
+    name: &str,
+    found: &ArgMatches<'a>,
+) -> Option<Result<Invocation<'a>, LineWordFault<'a>>>
+    ensures { MatchOption result (¬ IsLineName name.now)
+        (λ made. MatchResult made (IsOfCommand name.now (rows_of (found_of found.now)))
+        (IsOfFault name.now (rows_of (found_of found.now)))) }
+{
+    if name == "probe" {
+        return Some(probe_in(found));
+    }
+    if name == "listen" {
+        return Some(listen_in(found));
+    }
+    if name == "blink" {
+        return Some(blink_in(found));
+    }
+    if name == "ask" {
+        return Some(request_in(found));
+    }
+    None
+}
+
+/// What is asked by what was found under `probe`.
+fn probe_in<'a>(found: &ArgMatches<'a>) -> Result<Invocation<'a>, LineWordFault<'a>>
+    ensures { MatchResult result (IsOfCommand (codes "probe") (rows_of (found_of found.now)))
+        (IsOfFault (codes "probe") (rows_of (found_of found.now))) }
+{
+    let line = line_in(found)?;
+    Ok(Invocation::Probe {
+        line,
+        against: against_in(found),
+    })
+}
+
+/// What is asked by what was found under `listen`.
+fn listen_in<'a>(found: &ArgMatches<'a>) -> Result<Invocation<'a>, LineWordFault<'a>>
+    ensures { MatchResult result (IsOfCommand (codes "listen") (rows_of (found_of found.now)))
+        (IsOfFault (codes "listen") (rows_of (found_of found.now))) }
+{
+    let line = line_in(found)?;
+    Ok(Invocation::Listen {
+        line,
+        binding: word_in(found, "bind"),
+        record: word_in(found, "record"),
+        end: listen_end_in(found),
+    })
+}
+
+/// What is asked by what was found under `blink`.
+fn blink_in<'a>(found: &ArgMatches<'a>) -> Result<Invocation<'a>, LineWordFault<'a>>
+    ensures { MatchResult result (IsOfCommand (codes "blink") (rows_of (found_of found.now)))
+        (IsOfFault (codes "blink") (rows_of (found_of found.now))) }
+{
+    let line = line_in(found)?;
+    Ok(Invocation::Blink {
+        line,
+        address: byte_in(found, "ADR"),
+    })
+}
+
+/// What is asked by what was found under `ask`.
+fn request_in<'a>(found: &ArgMatches<'a>) -> Result<Invocation<'a>, LineWordFault<'a>>
+    ensures { MatchResult result (IsOfCommand (codes "ask") (rows_of (found_of found.now)))
+        (IsOfFault (codes "ask") (rows_of (found_of found.now))) }
+{
+    let line = line_in(found)?;
+    Ok(Invocation::Request {
+        line,
+        words: request_words_in(found),
+    })
+}
+
+/// The line that is named.
+fn line_in<'a>(found: &ArgMatches<'a>) -> Result<LineWord<'a>, LineWordFault<'a>>
+    ensures { MatchResult result (IsLine (rows_of (found_of found.now)))
+        (IsNoPath (line_word (rows_of (found_of found.now)))) }
+{
+    let word = text_in(found, "line");
+    let Some((from, to)) = paths_in(word) else {
+        return Err(LineWordFault::NoLine(word));
+    };
+    Ok(LineWord {
+        bus: byte_in(found, "bus"),
+        from,
+        to,
+    })
+}
+
+/// The files that the line is compared with, where both are given.
+fn against_in<'a>(found: &ArgMatches<'a>) -> Option<LiveFiles<'a>>
+    ensures { AreAgainst (rows_of (found_of found.now)) result }
+{
+    let text = word_in(found, "TEXT")?;
+    let binding = word_in(found, "BIND")?;
+    Some(LiveFiles { text, binding })
+}
+
+/// When listening ends.
+fn listen_end_in<'a>(found: &ArgMatches<'a>) -> ListenEnd<'a>
+    ensures { IsListenEnd (rows_of (found_of found.now)) result }
+{
+    ListenEnd {
+        seconds: given_number_in(found, "for"),
+        stop: word_in(found, "stop"),
+    }
+}
+
+/// The request that is asked for.
+fn request_words_in<'a>(found: &ArgMatches<'a>) -> RequestWords<'a>
+    ensures { AreRequestWords (rows_of (found_of found.now)) result }
+{
+    RequestWords {
+        request: text_in(found, "REQUEST"),
+        address: byte_in(found, "ADR"),
+        value: given_number_in(found, "VALUE"),
+        second_value: given_number_in(found, "VALUE2"),
+    }
+}
+
+/// The byte that was given, or without one 0.
+fn byte_in(found: &ArgMatches, id: &str) -> u8
+    ensures { IsByte (one_of id.now (rows_of (found_of found.now))) result }
+{
+    found.get_one::<u8>(id).unwrap_or(0)
+}
