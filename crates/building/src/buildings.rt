@@ -13,7 +13,7 @@ ghost use Rattle.plantlive.specs.Lives.{HasLived};
 use crate::lineup::{check_lines, line_for};
 use crate::site::{Site, SiteFault};
 use crate::stops::LiveStop;
-use crate::watch::{End, Watch};
+use crate::watch::{End, Watch, Watched};
 use buslink::{Bus, Clock};
 use daliframe::BusNumber;
 use ilcompile::Setup;
@@ -27,6 +27,7 @@ use std::num::NonZeroU64;
 use std::sync::{Arc, Wait};
 use std::thread::Threads;
 use std::time::Clock as Timer;
+use turns::Gate;
 use workers::Opening;
 
 /// A building whose lines are open and greeted. Nothing was sent yet.
@@ -170,15 +171,16 @@ fn open_line<'a, S: Site>(
 impl<B: Bus + Send, C: Clock + Send> Building<B, C> {
     /// Runs the plant on the building's lines until the clock comes to its end, memory or a thread is
     /// refused, or 2^59 events are used up. Where the history of one run is full the next begins, with
-    /// the same plant, buses and clock.
+    /// the same plant, buses and clock. The gate is told of each event, in all runs.
     ///
     /// # Errors
     ///
     /// The plant doesn't start. Nothing was sent.
-    pub fn go<R: Threads + Wait + Timer + Sync>(
+    pub fn go<G: Gate, R: Threads + Wait + Timer + Sync>(
         self,
         rt: &R,
         alloc: Global,
+        gate: &G,
     ) -> Result<Lived<B, C>, LiveStop<'static>>
         ensures lived { IfOk result (HasLived self.setup self.size.workers self.size.limit
             self.buses.items self.clock B.log C.log) }
@@ -197,7 +199,11 @@ impl<B: Bus + Send, C: Clock + Send> Building<B, C> {
             limit: u64::from(size.limit),
         };
         let workers = size.workers as usize;
-        match live(rt, alloc, opening, buses, clock, workers, &*watch) {
+        let watched = Watched {
+            watch: &*watch,
+            gate,
+        };
+        match live(rt, alloc, opening, buses, clock, workers, &watched) {
             Ok(lived) => Ok(lived),
             Err(refused) => Err(LiveStop::Start(StartFault::Plant(refused.fault))),
         }

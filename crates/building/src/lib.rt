@@ -18,6 +18,7 @@
 mod buildings;
 mod departure;
 mod host;
+mod host_storage;
 mod lineup;
 mod site;
 mod stops;
@@ -29,4 +30,4 @@ pub use host::HostSite;
 pub use lineup::LineupFault;
 pub use site::{Site, SiteFault};
 pub use stops::LiveStop;
-pub use watch::{End, StopAt, Watch};
+pub use watch::{End, StopAt, Watch, Watched};

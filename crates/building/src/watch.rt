@@ -5,9 +5,9 @@ use std::fs;
 use std::rt::Files;
 use std::sync::Arc;
 use std::sync::atomic::{AtomicBool, Ordering};
-use turns::Gate;
+use turns::{Gate, Happened};
 
-/// Whether a bus went down at which the building is to end. It holds no scan and no transaction back.
+/// Whether a bus went down at which the building is to end.
 #[derive(Drop)]
 pub struct Watch {
     /// Whether the building stays where a bus goes down.
@@ -24,21 +24,40 @@ impl Watch {
         }
     }
 
+    /// A bus went down.
+    pub fn note_down(&self) {
+        if !self.stays {
+            self.is_over.store(true, Ordering::Relaxed);
+        }
+    }
+
     /// Whether a bus went down at which the building is to end.
     pub fn is_over(&self) -> bool {
         self.is_over.load(Ordering::Relaxed)
     }
 }
 
-impl Gate for Watch {
-    fn before_scan(&self, _worker: usize, _task: usize) {}
+/// Whoever tells a watch of each bus that went down, and another gate of each event.
+#[derive(Drop)]
+pub struct Watched<'w, G: Gate> {
+    pub watch: &'w Watch,
+    pub gate: &'w G,
+}
 
-    fn before_transaction(&self, _bus: u8) {}
+impl<G: Gate> Gate for Watched<'_, G> {
+    fn before_scan(&self, worker: usize, task: usize) {
+        self.gate.before_scan(worker, task);
+    }
 
-    fn after_down(&self, _bus: u8) {
-        if !self.stays {
-            self.is_over.store(true, Ordering::Relaxed);
+    fn before_transaction(&self, bus: u8) {
+        self.gate.before_transaction(bus);
+    }
+
+    fn after(&self, place: u64, happened: Happened) {
+        if let Happened::WentDown { .. } = happened {
+            self.watch.note_down();
         }
+        self.gate.after(place, happened);
     }
 }
 

@@ -1,8 +1,15 @@
--- What a building leaves, from what it started with.
-use Rattle.std.proofs.Common.{ℕ, List, refl, subst}
+-- What a building leaves, from what it began with.
+use Rattle.std.proofs.Common.{◌≡◌, ℕ, List, Option, Some, None, refl, subst}
+use Rattle.wordlines.specs.Wirings.{Wiring}
 use Rattle.buslink.specs.BusLog.{BusLog}
 use Rattle.buslink.specs.ClockLog.{ClockLog}
 use Rattle.ilcompile.specs.Loaded.{Loaded}
+use Rattle.keeping.specs.KeptFiles.{KeptEntry}
+use Rattle.plantevents.specs.declared.event.Event.{Event}
+use Rattle.plantevents.specs.Plants.{Plant}
+use Rattle.plantevents.specs.Legal.{AreLegal}
+use Rattle.plantload.specs.KeptLoading.{IsKeptSetup}
+use Rattle.plantload.specs.MeantScans.{AreAsMeant}
 use Rattle.plant.specs.Shown.{plant_of}
 use Rattle.plantlive.specs.declared.living.Lived.{Lived}
 use Rattle.plantlive.specs.Lives.{HasLived}
@@ -10,31 +17,49 @@ use Rattle.invocations.specs.declared.invocations.RunSize.{RunSize}
 use Rattle.invocations.specs.declared.line_words.LineWord.{LineWord}
 use Rattle.building.specs.declared.buildings.Building.{Building}
 use Rattle.building.specs.Buildings.{IsOpened}
-use Rattle.commands.specs.Plays.{IsSetupUnder}
+use Rattle.commands.specs.declared.beginning.Beginning.{Beginning}
+use Rattle.commands.specs.Beginnings.{HasBegun, IsBegunWith, tree_of}
 use Rattle.commands.specs.Buildings.{IsLivedOut}
 use Rattle.commands.proofs.PlaysOut.{ScansAreAsMeant}
 
-pub lived_out : {B C : Type 0} (binding text : List ℕ) (bus_log : B → BusLog) (clock_log : C → ClockLog)
-    (words : List LineWord) (size : RunSize) (setup : Loaded) (building : Building B C) (left : Lived B C)
-    → ScansAreAsMeant → IsSetupUnder binding text setup → IsOpened bus_log clock_log setup words size building
+-- what the law of scans says of a setup that begins with kept values
+abbrev pub KeptScansAreAsMeant : Type 0
+KeptScansAreAsMeant =
+    (wiring : Wiring) (bytes : List ℕ) (kept : List KeptEntry) (setup : Loaded)
+    (loaded : IsKeptSetup wiring bytes kept setup) (p : Plant) (h : List Event) → p.plan ≡ setup.plan → AreLegal p h
+    → AreAsMeant loaded.plan.tree wiring.buses h
+
+meant_of : (wiring : Wiring) (text : List ℕ) (kept : Option (List KeptEntry)) (setup : Loaded)
+    (begun : IsBegunWith wiring text kept setup) (p : Plant) (h : List Event) → ScansAreAsMeant → KeptScansAreAsMeant
+    → p.plan ≡ setup.plan → AreLegal p h → AreAsMeant (tree_of wiring text kept setup begun) wiring.buses h
+meant_of wiring text None setup begun p h law kept_law plan legal = law wiring text setup begun p h plan legal
+meant_of wiring text (Some kept) setup begun p h law kept_law plan legal =
+    kept_law wiring text kept setup begun p h plan legal
+
+pub lived_out : {B C : Type 0} (binding text : List ℕ) (file : Option (List ℕ)) (bus_log : B → BusLog)
+    (clock_log : C → ClockLog) (words : List LineWord) (size : RunSize) (begun : Beginning) (building : Building B C)
+    (left : Lived B C) → ScansAreAsMeant → KeptScansAreAsMeant → HasBegun binding text file begun
+    → IsOpened bus_log clock_log begun.setup words size building
     → HasLived building.setup building.size.workers building.size.limit building.buses.items building.clock bus_log
     clock_log left
-    → IsLivedOut binding text bus_log clock_log words size left
-lived_out binding text bus_log clock_log words size setup building left law loaded opened lived =
-    let of_setup : HasLived setup building.size.workers building.size.limit building.buses.items building.clock bus_log
-    clock_log left =
+    → IsLivedOut binding text file bus_log clock_log words size left
+lived_out binding text file bus_log clock_log words size begun building left law kept_law has opened lived =
+    let of_setup : HasLived begun.setup building.size.workers building.size.limit building.buses.items building.clock
+    bus_log clock_log left =
     subst (λ (s : Loaded). HasLived s building.size.workers building.size.limit building.buses.items building.clock bus_log
     clock_log left) opened.setup lived in
-    let of_size : HasLived setup size.workers size.limit building.buses.items building.clock bus_log clock_log left =
-    subst (λ (s : RunSize). HasLived setup s.workers s.limit building.buses.items building.clock bus_log clock_log left)
-    opened.size of_setup in
+    let of_size : HasLived begun.setup size.workers size.limit building.buses.items building.clock bus_log clock_log left =
+    subst (λ (s : RunSize). HasLived begun.setup s.workers s.limit building.buses.items building.clock bus_log clock_log
+    left) opened.size of_setup in
     record {
-      setup = setup;
-      loaded = loaded;
+      setup = begun.setup;
+      kept = begun.kept;
+      used = has.used;
+      loaded = has.loaded;
       building = building;
       opened = opened;
       lived = of_size;
       meant =
-          law loaded.0 text setup loaded.2 (plant_of setup size.workers) left.left.plant.history refl
-          of_size.closed.legal;
+          meant_of has.loaded.0 text begun.kept begun.setup has.loaded.2 (plant_of begun.setup size.workers)
+          left.left.plant.history law kept_law refl of_size.closed.legal;
     }

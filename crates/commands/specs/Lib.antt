@@ -1,3 +1,4 @@
+pub mod Beginnings
 pub mod Buildings
 pub mod CodeFiles
 pub mod Plays

@@ -17,6 +17,7 @@
 //! ```
 #![tactic(auto)]
 
+mod beginning;
 mod code_files;
 mod living;
 mod looking;
@@ -27,8 +28,11 @@ mod report;
 mod running;
 mod serving;
 mod shell;
+mod shell_tools;
 mod telling;
+mod tools;
 
+pub use beginning::{Beginning, KeptNote};
 pub use code_files::{serve_check_code, serve_code};
 pub use exits::ExitStatus;
 pub use living::{Grounds, Halted, LiveEnd, Notice, serve_live, status_of_live};

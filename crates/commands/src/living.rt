@@ -1,10 +1,12 @@
 //! Running a building: its files are read, its lines opened, and what it came to is printed.
 
-ghost use Rattle.std.specs.Prelude.{◌≡◌, IfErr, IfOk};
+ghost use Rattle.std.specs.Prelude.{◌≡◌, ℕ, List, Option, IfErr, IfOk};
+ghost use Rattle.commands.specs.Plays.{IsStopUnder};
+ghost use Rattle.commands.specs.Beginnings.{HasBegun};
 ghost use Rattle.commands.specs.Buildings.{IsHalted, IsLiveEnd, IsLiveServed, IsLiveUnread, IsLivedOut};
-ghost use Rattle.commands.specs.Buildings.{status_of_live_end};
+ghost use Rattle.commands.specs.Buildings.{IsUnobserved, status_of_live_end};
 
-use crate::pages::setup_of;
+use crate::beginning::{Beginning, KeptNote, beginning_of, kept_at};
 use crate::reading::Disk;
 use crate::serving::{Unserved, bytes_at};
 use answers::Stop;
@@ -13,21 +15,26 @@ use buslink::{Bus, Clock};
 use commandline::{LineWord, LiveFiles, LiveOptions};
 use driving::has_down;
 use exits::ExitStatus;
+use observing::{NotOpened, Observer, Storage};
 use plantlive::Lived;
-use plantload::scans_are_as_meant;
+use plantload::{kept_scans_are_as_meant, scans_are_as_meant};
 use plantrun::write_run;
 use std::alloc::Global;
 use std::io;
 use std::io::{BufWriter, Write};
+use std::marker::Model;
 use std::sync::Wait;
 use std::thread::Threads;
 use std::time::Clock as Timer;
+use turns::{Gate, OpenGate};
 
 /// The first of what stands against running a building, in the order in which it is reported.
 #[derive(Drop)]
 pub enum Halted<'a> {
     /// Of the binding or the text.
     Text(Stop),
+    /// The file at this path, which is wanted beside the building, can't be written.
+    NotWritten(&'a str),
     /// Of the lines, the clock or the plant.
     Building(LiveStop<'a>),
 }
@@ -60,6 +67,13 @@ pub type LiveEnd<'a, B, C> = Result<Lived<B, C>, Halted<'a>>;
 /// Who is told what is about to run, and why a building doesn't run. Whether it can be told changes
 /// nothing.
 pub trait Notice {
+    /// This became of the file of kept values.
+    ///
+    /// # Errors
+    ///
+    /// It can't be told.
+    fn begins(&self, note: &KeptNote) -> io::Result<()>;
+
     /// This is about to run.
     ///
     /// # Errors
@@ -73,6 +87,13 @@ pub trait Notice {
     ///
     /// It can't be told.
     fn halts(&self, stop: &LiveStop) -> io::Result<()>;
+
+    /// The building doesn't run, since the file at this path can't be written.
+    ///
+    /// # Errors
+    ///
+    /// It can't be told.
+    fn refuses(&self, path: &str) -> io::Result<()>;
 }
 
 /// What a building runs on: its site, and who is told.
@@ -92,7 +113,7 @@ pub struct Grounds<'g, S: Site, N: Notice> {
 pub fn serve_live<
     'a,
     D: Disk,
-    S: Site,
+    S: Site + Storage + Sync,
     N: Notice,
     W: Write + Drop,
     R: Threads + Wait + Timer + Sync,
@@ -104,16 +125,17 @@ pub fn serve_live<
     to: W,
     files: LiveFiles<'a>,
     lines: &[LineWord<'a>],
-    options: &LiveOptions,
+    options: &LiveOptions<'a>,
 ) -> Result<(W, LiveEnd<'a, S::Line, S::Clock>), Unserved<'a>>
-    ensures live { IfOk result (λ done. IsLiveServed (D.gives disk.now)
-        (S.refuses grounds.now.site.now) S.Line.log S.Clock.log files.entry lines.now
-        options.now.size done.1) }
+    ensures live { IfOk result (λ done. IsLiveServed (D.gives disk.now) (D.fails disk.now)
+        (S.refuses grounds.now.site.now) S.Line.log S.Clock.log files.entry lines.now options.now
+        done.1) }
     ensures unread { IfErr result (IsLiveUnread (D.gives disk.now) (D.fails disk.now) files.entry) }
 {
     let pages = LivePages {
         binding: bytes_at(alloc, disk, files.binding)?,
         text: bytes_at(alloc, disk, files.text)?,
+        kept: kept_at(alloc, disk, options.beside.keep),
     };
     Ok(print(rt, alloc, grounds, to, &pages, lines, options)?)
 }
@@ -123,19 +145,40 @@ pub fn serve_live<
 struct LivePages {
     binding: Vec<u8>,
     text: Vec<u8>,
+    /// The file of kept values, where one is named and read.
+    kept: Option<Vec<u8>>,
+}
+
+impl Model for LivePages {
+    ghost use Rattle.std.specs.Prelude.{option_map};
+    ghost use Rattle.commands.specs.Beginnings.{LiveBytes};
+
+    ghost Value = { LiveBytes };
+
+    ghost view = { λ pages. record {
+      binding = pages.binding.items;
+      text = pages.text.items;
+      file = option_map (λ bytes. bytes.items) pages.kept;
+    } };
 }
 
 /// Runs the building, and prints what it came to through a buffer, of which nothing is left behind.
-fn print<'a, S: Site, N: Notice, W: Write + Drop, R: Threads + Wait + Timer + Sync>(
+fn print<
+    'a,
+    S: Site + Storage + Sync,
+    N: Notice,
+    W: Write + Drop,
+    R: Threads + Wait + Timer + Sync,
+>(
     rt: &R,
     alloc: Global,
     grounds: &Grounds<S, N>,
     to: W,
     pages: &LivePages,
     lines: &[LineWord<'a>],
-    options: &LiveOptions,
+    options: &LiveOptions<'a>,
 ) -> io::Result<(W, LiveEnd<'a, S::Line, S::Clock>)>
-    ensures { IfOk result (λ done. IsLiveEnd pages.now.binding.items pages.now.text.items
+    ensures { IfOk result (λ done. IsLiveEnd pages.now.binding pages.now.text pages.now.file
         (S.refuses grounds.now.site.now) S.Line.log S.Clock.log lines.now options.now.size
         done.1) }
 {
@@ -152,6 +195,7 @@ pub fn status_of_live<B: Bus, C: Clock>(end: &LiveEnd<B, C>) -> ExitStatus
     match end {
         Ok(lived) => ExitStatus::of_run(lived.ended, has_down(lived.left.plant())),
         Err(Halted::Text(stop)) => ExitStatus::of_stop(stop),
+        Err(Halted::NotWritten(_)) => ExitStatus::Failed,
         Err(Halted::Building(stop)) => stop.status(),
     }
 }
@@ -166,37 +210,135 @@ fn report<W: Write, N: Notice, B: Bus, C: Clock>(
     match end {
         Ok(lived) => write_run(out, lived.ended, lived.left.plant()),
         Err(Halted::Text(stop)) => writeln!(out, "{stop}"),
+        Err(Halted::NotWritten(path)) => notice.refuses(path),
         Err(Halted::Building(LiveStop::Start(fault))) => writeln!(out, "{fault}"),
         Err(Halted::Building(stop)) => notice.halts(stop),
     }
 }
 
-/// Runs the plant of the text over the lines of a building.
+/// Runs the plant of the text over the lines of a building, with what is written beside it.
 ///
 /// # Errors
 ///
-/// The binding's fault, else what stands against the text, else what stands against the lines, the
-/// clock or the plant.
-fn live_on<'a, S: Site, N: Notice, R: Threads + Wait + Timer + Sync>(
+/// The binding's fault, else what stands against the text, else a file that can't be written, else
+/// what stands against the lines, the clock or the plant.
+fn live_on<'a, S: Site + Storage + Sync, N: Notice, R: Threads + Wait + Timer + Sync>(
     rt: &R,
     alloc: Global,
     grounds: &Grounds<S, N>,
     pages: &LivePages,
     lines: &[LineWord<'a>],
-    options: &LiveOptions,
+    options: &LiveOptions<'a>,
 ) -> LiveEnd<'a, S::Line, S::Clock>
-    ensures lived { IfOk result (IsLivedOut pages.now.binding.items pages.now.text.items
+    ensures lived { IfOk result (IsLivedOut pages.now.binding pages.now.text pages.now.file
         S.Line.log S.Clock.log lines.now options.now.size) }
-    ensures halted { IfErr result (IsHalted pages.now.binding.items pages.now.text.items
+    ensures halted { IfErr result (IsHalted pages.now.binding pages.now.text pages.now.file
         (S.refuses grounds.now.site.now) lines.now options.now.size) }
 {
-    let setup = setup_of(alloc, &pages.binding, &pages.text)?;
+    let begun = begun_of(alloc, pages)?;
+    let _told = grounds.notice.begins(&begun.note);
+    if !options.beside.is_empty() {
+        let observer = observer_of(rt, alloc, grounds.site, pages, options)?;
+        let end = live_with(rt, alloc, grounds, &observer, begun, lines, options);
+        observer.finish();
+        return end;
+    }
+    live_with(rt, alloc, grounds, &OpenGate, begun, lines, options)
+}
+
+/// Runs a building that begins so. The gate is told of each event.
+///
+/// # Errors
+///
+/// What stands against the lines, the clock or the plant.
+fn live_with<'a, S: Site, N: Notice, G: Gate, R: Threads + Wait + Timer + Sync>(
+    rt: &R,
+    alloc: Global,
+    grounds: &Grounds<S, N>,
+    gate: &G,
+    begun: Beginning,
+    lines: &[LineWord<'a>],
+    options: &LiveOptions,
+) -> LiveEnd<'a, S::Line, S::Clock>
+    ensures lived { IfOk result (λ left. (binding text : List ℕ) (file : Option (List ℕ))
+        → HasBegun binding text file begun
+        → IsLivedOut binding text file S.Line.log S.Clock.log lines.now options.now.size left) }
+    ensures halted { IfErr result (λ halted. (binding text : List ℕ) (file : Option (List ℕ))
+        → HasBegun binding text file begun
+        → IsHalted binding text file (S.refuses grounds.now.site.now) lines.now options.now.size
+        halted) }
+{
+    let Beginning { setup, .. } = begun;
     let building = open(alloc, grounds.site, setup, lines, options)?;
     let _told = grounds.notice.departs(&Departure {
         building: &building,
         lines,
     });
     scans_are_as_meant();
-    let lived = building.go(rt, alloc)?;
+    kept_scans_are_as_meant();
+    let lived = building.go(rt, alloc, gate)?;
     Ok(lived)
+}
+
+/// The setup that a building begins with.
+///
+/// # Errors
+///
+/// The binding's fault, else what stands against the text.
+fn begun_of(alloc: Global, pages: &LivePages) -> Result<Beginning, Stop>
+    ensures begun { IfOk result (HasBegun pages.now.binding pages.now.text pages.now.file) }
+    ensures stop { IfErr result (IsStopUnder pages.now.binding pages.now.text) }
+{
+    beginning_of(alloc, &pages.binding, &pages.text, pages.kept.as_ref())
+}
+
+/// Who writes beside a building what its options ask for. A file of kept values that isn't used is
+/// put aside.
+///
+/// # Errors
+///
+/// A file can't be written, or the allocator is out of memory.
+fn observer_of<'o, 'a, S: Storage, R: Wait>(
+    rt: &'o R,
+    alloc: Global,
+    storage: &'o S,
+    pages: &'o LivePages,
+    options: &LiveOptions<'a>,
+) -> Result<Observer<'o, 'a, S, R>, Halted<'a>>
+    ensures { IfErr result (IsUnobserved pages.now.binding pages.now.text pages.now.file) }
+{
+    let begun = begun_of(alloc, pages)?;
+    if let Some(path) = aside(&begun.note, options.beside.keep) {
+        put_aside(alloc, storage, path);
+    }
+    let workers = options.size.workers as usize;
+    let text = &pages.text;
+    match Observer::open(
+        rt,
+        alloc,
+        storage,
+        &options.beside,
+        begun.setup,
+        workers,
+        text,
+    ) {
+        Ok(observer) => Ok(observer),
+        Err(NotOpened::Memory) => Err(Halted::Text(Stop::Memory)),
+        Err(NotOpened::Path(path)) => Err(Halted::NotWritten(path)),
+    }
+}
+
+/// The path of a file of kept values that isn't used.
+fn aside<'a>(note: &KeptNote, path: Option<&'a str>) -> Option<&'a str> {
+    match note {
+        KeptNote::Unused(_) | KeptNote::Refused => path,
+        KeptNote::NoFile | KeptNote::Used(_) => None,
+    }
+}
+
+/// Gives a file the name FILE.old, where it can be renamed.
+fn put_aside<S: Storage>(alloc: Global, storage: &S, path: &str) {
+    if let Ok(old) = format!(in alloc; "{path}.old") {
+        let _renamed = storage.rename(path, &old);
+    }
 }

@@ -1,5 +1,6 @@
 //! The program over a runtime: its words, its files, its terminal and its threads.
 
+use crate::beginning::KeptNote;
 use crate::code_files::{serve_check_code, serve_code};
 use crate::living::{Grounds, Notice, serve_live, status_of_live};
 use crate::looking::serve_look;
@@ -7,11 +8,13 @@ use crate::playing::serve_play;
 use crate::reading::{DiskFault, HostDisk};
 use crate::running::{serve_run, status_of_run};
 use crate::serving::{Unserved, serve};
+use crate::shell_tools::{run_ask, run_blink, run_listen, run_probe};
 use crate::telling::serve_question;
 use building::{Departure, LiveStop, Site};
 use buslink::{Bus, Clock};
 use commandline::{Invocation, LineWord, LiveFiles, LiveOptions};
 use exits::ExitStatus;
+use observing::Storage;
 use std::rt::{Env, Files};
 use std::sync::Wait;
 use std::thread::Threads;
@@ -25,7 +28,7 @@ pub fn run<R, T, S>(rt: &R, threads: &T, site: &S) -> ExitStatus
 where
     R: Files + Env + Print + Eprint + AllocGlobal,
     T: Threads + Wait + Timer + Sync,
-    S: Site,
+    S: Site + Storage + Sync,
 {
     match words(rt) {
         Ok(words) => run_words(rt, threads, site, words.as_slice()),
@@ -55,7 +58,7 @@ fn run_words<R, T, S>(rt: &R, threads: &T, site: &S, words: &[String]) -> ExitSt
 where
     R: Files + Print + Eprint + AllocGlobal,
     T: Threads + Wait + Timer + Sync,
-    S: Site,
+    S: Site + Storage + Sync,
 {
     match commandline::read(rt.alloc(), words) {
         Ok(invocation) => run_invocation(rt, threads, site, invocation),
@@ -71,7 +74,7 @@ fn run_invocation<R, T, S>(rt: &R, threads: &T, site: &S, invocation: Invocation
 where
     R: Files + Print + Eprint + AllocGlobal,
     T: Threads + Wait + Timer + Sync,
-    S: Site,
+    S: Site + Storage + Sync,
 {
     let alloc = rt.alloc();
     let disk = HostDisk { rt };
@@ -94,10 +97,32 @@ where
             lines,
             options,
         } => return run_building(rt, threads, site, files, &lines, &options),
+        other => return run_tool(rt, threads, site, other),
     };
     match served {
         Ok((_, status)) => status,
         Err(unserved) => not_served(rt, unserved),
+    }
+}
+
+/// Does what is asked for at one line.
+fn run_tool<R, T, S>(rt: &R, timer: &T, site: &S, invocation: Invocation) -> ExitStatus
+where
+    R: Files + Print + Eprint + AllocGlobal,
+    T: Timer,
+    S: Site + Storage + Sync,
+{
+    match invocation {
+        Invocation::Probe { line, against } => run_probe(rt, site, line, against),
+        Invocation::Listen {
+            line,
+            binding,
+            record,
+            end,
+        } => run_listen(rt, timer, site, line, binding, record, end),
+        Invocation::Blink { line, address } => run_blink(rt, timer, site, line, address),
+        Invocation::Request { line, words } => run_ask(rt, site, line, words),
+        _ => ExitStatus::Misused,
     }
 }
 
@@ -113,7 +138,7 @@ fn run_building<R, T, S>(
 where
     R: Files + Print + Eprint + AllocGlobal,
     T: Threads + Wait + Timer + Sync,
-    S: Site,
+    S: Site + Storage + Sync,
 {
     let notice = HostNotice { rt };
     let grounds = Grounds {
@@ -139,8 +164,8 @@ where
 
 /// The machine's standard error, which is told what is about to run, and why a building doesn't run.
 #[derive(Clone, Copy)]
-struct HostNotice<'a, R> {
-    rt: &'a R,
+pub(crate) struct HostNotice<'a, R> {
+    pub rt: &'a R,
 }
 
 impl<R: Eprint> Notice for HostNotice<'_, R> {
@@ -148,13 +173,21 @@ impl<R: Eprint> Notice for HostNotice<'_, R> {
         eprint!(self.rt; "{departure}")
     }
 
+    fn begins(&self, note: &KeptNote) -> io::Result<()> {
+        eprint!(self.rt; "{note}")
+    }
+
     fn halts(&self, stop: &LiveStop) -> io::Result<()> {
         eprintln!(self.rt; "{stop}")
+    }
+
+    fn refuses(&self, path: &str) -> io::Result<()> {
+        eprintln!(self.rt; "cannot write {path}")
     }
 }
 
 /// Reports why a command isn't served.
-fn not_served<R: Print + Eprint>(rt: &R, unserved: Unserved) -> ExitStatus {
+pub(crate) fn not_served<R: Print + Eprint>(rt: &R, unserved: Unserved) -> ExitStatus {
     match unserved {
         Unserved::NotRead { path, why } => not_read(rt, path, why),
         Unserved::NotWritten { path, why } => not_written(rt, path, why),

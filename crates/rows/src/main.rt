@@ -3,12 +3,15 @@
 //! What crosses the boundary: files of rows, whose names are the words of the command line, and one
 //! line: how many rows hold and how many wrong ones don't, or the first one that is otherwise.
 //! README.md has their format; `workedrows` reads a row and compares, `running` runs its command
-//! lines by `commands::run`, whose threads are those of the program's own runtime, and `wrong` has
-//! the rows that must not hold. Nothing is proved of the rows themselves, and a row more costs no
+//! lines by `commands::run`, whose threads are those of the program's own runtime, `simulated` and
+//! `disk` are where the lines of a row's buildings are and what is written beside them goes, and
+//! `wrong` has the rows that must not hold. Nothing is proved of the rows themselves, and a row more costs no
 //! proof: `rows texts.rows` is a call.
 #![tactic(auto)]
 
+mod disk;
 mod running;
+mod simulated;
 mod wrong;
 
 use building::{HostSite, Site};
@@ -41,7 +44,7 @@ fn main(rt: HostRuntime) -> io::Result<ExitCode> {
 /// # Errors
 ///
 /// A file that isn't read, or the first row that doesn't hold, or that holds though it is wrong.
-fn judge_files<R: Files + Env + AllocGlobal + Threads + Wait + Timer + Sync, S: Site>(
+fn judge_files<R: Files + Env + AllocGlobal + Threads + Wait + Timer + Sync, S: Site + Sync>(
     rt: &R,
     site: &S,
 ) -> Result<(u32, u32), Stop> {

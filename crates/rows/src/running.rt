@@ -1,5 +1,7 @@
 //! Running the command lines of rows.
 
+use crate::disk::RowsDisk;
+use crate::simulated::RowsSite;
 use building::Site;
 use commands::run;
 use std::sync::Wait;
@@ -13,7 +15,7 @@ use workedrows::{CommandLine, Judge, Stop};
 /// # Errors
 ///
 /// The first row that doesn't hold, or a line that is none of a row.
-pub fn judge_lines<T: Threads + Wait + Timer + Sync, S: Site>(
+pub fn judge_lines<T: Threads + Wait + Timer + Sync, S: Site + Sync>(
     judge: &mut Judge,
     threads: &T,
     site: &S,
@@ -21,21 +23,33 @@ pub fn judge_lines<T: Threads + Wait + Timer + Sync, S: Site>(
 ) -> Result<(), Stop> {
     for line in text.split('\n') {
         if let Some(command) = judge.take_line(line)? {
-            run_line(judge, threads, site, &command);
+            run_line(judge, threads, site, &command)?;
         }
     }
     judge.end_part()
 }
 
 /// Runs a command line over the files of the row.
-fn run_line<T: Threads + Wait + Timer + Sync, S: Site>(
+///
+/// # Errors
+///
+/// Memory was refused.
+fn run_line<T: Threads + Wait + Timer + Sync, S: Site + Sync>(
     judge: &mut Judge,
     threads: &T,
-    site: &S,
+    host: &S,
     line: &CommandLine,
-) {
+) -> Result<(), Stop> {
+    let disk = RowsDisk::new(judge.alloc(), judge.copied_files()?);
     let machine = judge.machine(line);
-    let status = run(&machine, threads, site).number();
-    let output = machine.into_output();
+    let site = RowsSite { host, disk: &disk };
+    let status = run(&machine, threads, &site).number();
+    let mut output = machine.into_output();
+    let left = disk.into_left();
+    output.complained.extend_from_slice(&left.told)?;
     judge.note_end(status, output);
+    if left.is_written {
+        judge.replace_files(left.files);
+    }
+    Ok(())
 }

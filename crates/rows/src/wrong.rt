@@ -16,7 +16,7 @@ use workedrows::{Judge, Stop};
 /// # Errors
 ///
 /// The first row that holds, or that is refused for something else.
-pub fn refuse_rows<T: Threads + Wait + Timer + Sync, S: Site>(
+pub fn refuse_rows<T: Threads + Wait + Timer + Sync, S: Site + Sync>(
     alloc: Global,
     threads: &T,
     site: &S,
@@ -31,7 +31,7 @@ pub fn refuse_rows<T: Threads + Wait + Timer + Sync, S: Site>(
 }
 
 /// Has a row judged by itself, by the lines from its name on.
-fn refuse_row<T: Threads + Wait + Timer + Sync, S: Site>(
+fn refuse_row<T: Threads + Wait + Timer + Sync, S: Site + Sync>(
     alloc: Global,
     threads: &T,
     site: &S,
@@ -53,7 +53,7 @@ fn refuse_row<T: Threads + Wait + Timer + Sync, S: Site>(
 }
 
 /// Judges one row by itself, by its name and the lines after it.
-fn judge_row<T: Threads + Wait + Timer + Sync, S: Site>(
+fn judge_row<T: Threads + Wait + Timer + Sync, S: Site + Sync>(
     alloc: Global,
     threads: &T,
     site: &S,

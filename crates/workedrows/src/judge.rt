@@ -119,6 +119,28 @@ impl Judge {
         Machine::new(self.alloc, line.words(), &self.files, self.terminal)
     }
 
+    /// The allocator.
+    pub fn alloc(&self) -> Global {
+        self.alloc
+    }
+
+    /// Copies of the row's files.
+    ///
+    /// # Errors
+    ///
+    /// Memory was refused.
+    pub fn copied_files(&self) -> Result<Vec<StoredFile>, AllocError> {
+        match self.files.try_borrow() {
+            Ok(files) => copies(self.alloc, &files),
+            Err(_) => Ok(Vec::new(self.alloc)),
+        }
+    }
+
+    /// Has these be the row's files from now on.
+    pub fn replace_files(&mut self, files: Vec<StoredFile>) {
+        self.files = RefCell::new(files);
+    }
+
     /// Notes how the command line ended: with this exit status, when this was printed.
     pub fn note_end(&mut self, status: u8, output: Output) {
         self.outcome = Some(Outcome { status, output });
@@ -351,6 +373,18 @@ impl Judge {
             why,
         })
     }
+}
+
+/// Copies of these files.
+fn copies(alloc: Global, files: &[StoredFile]) -> Result<Vec<StoredFile>, AllocError> {
+    let mut copies = Vec::new(alloc);
+    for file in files {
+        copies.push(StoredFile {
+            path: file.path.clone()?,
+            bytes: Vec::from_slice(alloc, &file.bytes)?,
+        })?;
+    }
+    Ok(copies)
 }
 
 /// The first word of a line, and what stands behind the blank after it.

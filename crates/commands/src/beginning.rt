@@ -1,0 +1,138 @@
+//! What a building begins with.
+
+ghost use Rattle.std.specs.Prelude.{ℕ, List, Option, IfErr, IfOk, option_map};
+ghost use Rattle.commands.specs.Plays.{IsSetupUnder, IsStopUnder};
+ghost use Rattle.commands.specs.Beginnings.{AreUsed, IsBegunUnder, IsFileOf, IsKeepRead};
+
+use crate::pages::setup_of;
+use crate::reading::Disk;
+use answers::{Stop, binding_of};
+use ilcompile::Setup;
+use keeping::{Kept, KeptFault, LeftOut};
+use plantload::{LoadFault, load_kept};
+use std::alloc::Global;
+use std::fmt;
+
+/// The setup that a building begins with.
+#[derive(Drop)]
+pub struct Beginning {
+    pub setup: Setup,
+    /// The values with which global variables begin, where a file of them is used.
+    pub kept: Option<Kept>,
+    pub note: KeptNote,
+}
+
+/// What became of a file of kept values.
+#[derive(Drop)]
+pub enum KeptNote {
+    /// None was asked for, or none was read.
+    NoFile,
+    /// It isn't used.
+    Unused(KeptFault),
+    /// What begins with its values is refused.
+    Refused,
+    /// It is used, but for these values.
+    Used(Vec<LeftOut>),
+}
+
+impl fmt::Display for KeptNote {
+    fn fmt<W: fmt::Write>(&self, f: &mut fmt::Formatter<W>) -> fmt::Result {
+        match self {
+            KeptNote::NoFile => Ok(()),
+            KeptNote::Unused(fault) => writeln!(f, "kept values not used: {fault}"),
+            KeptNote::Refused => writeln!(f, "kept values not used: refused"),
+            KeptNote::Used(left_out) => {
+                writeln!(f, "kept values used")?;
+                for left in left_out {
+                    writeln!(f, "{left}")?;
+                }
+                Ok(())
+            }
+        }
+    }
+}
+
+/// What the disk gives for the file of kept values, where one is named and read.
+pub(crate) fn kept_at<D: Disk>(alloc: Global, disk: &D, path: Option<&str>) -> Option<Vec<u8>>
+    ensures { IsKeepRead (D.gives disk.now) (D.fails disk.now) (option_map (λ path. path.now) path.entry)
+        (option_map (λ bytes. bytes.items) result) }
+{
+    match disk.read(alloc, path?) {
+        Ok(bytes) => Some(bytes),
+        Err(_) => None,
+    }
+}
+
+/// The setup of a text under a binding, whose global variables begin with the values of a file of
+/// kept ones, where there is one that fits.
+///
+/// # Errors
+///
+/// The binding's fault, else what stands against the text.
+pub(crate) fn beginning_of(
+    alloc: Global,
+    binding: &[u8],
+    text: &[u8],
+    file: Option<&Vec<u8>>,
+) -> Result<Beginning, Stop>
+    ensures begun { IfOk result (λ b. IsBegunUnder binding.now text.now b.kept b.setup) }
+    ensures used { IfOk result (λ b. AreUsed text.now
+        (option_map (λ bytes. bytes.now.items) file.entry) b.kept) }
+    ensures stop { IfErr result (IsStopUnder binding.now text.now) }
+{
+    let setup = setup_of(alloc, binding, text)?;
+    let Some(bytes) = file else {
+        return Ok(Beginning {
+            setup,
+            kept: None,
+            note: KeptNote::NoFile,
+        });
+    };
+    let kept = match Kept::parse(alloc, text, bytes) {
+        Ok(kept) => kept,
+        Err(KeptFault::Memory) => return Err(Stop::Memory),
+        Err(fault) => {
+            return Ok(Beginning {
+                setup,
+                kept: None,
+                note: KeptNote::Unused(fault),
+            });
+        }
+    };
+    let begun = begun_with(alloc, binding, text, setup, kept)?;
+    Ok(begun)
+}
+
+/// The setup whose global variables begin with kept values, or the text's own where that is refused.
+///
+/// # Errors
+///
+/// The allocator is out of memory.
+fn begun_with(
+    alloc: Global,
+    binding: &[u8],
+    text: &[u8],
+    setup: Setup,
+    kept: Kept,
+) -> Result<Beginning, Stop>
+    requires loaded { IsSetupUnder binding.now text.now setup }
+    ensures begun { IfOk result (λ b. IsBegunUnder binding.now text.now b.kept b.setup) }
+    ensures used { IfOk result (λ b. (file : Option (List ℕ)) → IsFileOf text.now file kept
+        → AreUsed text.now file b.kept) }
+    ensures stop { IfErr result (IsStopUnder binding.now text.now) }
+{
+    let binding = binding_of(alloc, Some(binding))?;
+    match load_kept(alloc, text, &binding, &kept) {
+        Ok((setup, left_out)) => Ok(Beginning {
+            setup,
+            kept: Some(kept),
+            note: KeptNote::Used(left_out),
+        }),
+        Err(LoadFault::Memory) => Err(Stop::Memory),
+        Err(_) => Ok(Beginning {
+            setup,
+            kept: None,
+            note: KeptNote::Refused,
+        }),
+    }
+}

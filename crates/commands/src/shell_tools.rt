@@ -1,0 +1,219 @@
+//! The commands at one line, over a runtime.
+
+use crate::living::{Halted, Notice};
+use crate::reading::HostDisk;
+use crate::serving::Unserved;
+use crate::shell::{HostNotice, not_served};
+use crate::tools::{ToolEnd, ask_once, blink, listen, probe, status_of_tool};
+use building::Site;
+use commandline::{LineWord, ListenEnd as EndWords, LiveFiles, RequestWords};
+use commissioning::ListenEnd;
+use daliframe::ShortAddress;
+use exits::ExitStatus;
+use framewords::request_of;
+use liveclock::Stop;
+use observing::Storage;
+use std::io::Write;
+use std::rt::Files;
+use std::time::Clock as Timer;
+use std::{fs, io};
+
+/// Standard error, as a writer.
+#[derive(Clone, Copy)]
+struct Complaints<'a, R> {
+    rt: &'a R,
+}
+
+impl<R: Eprint> Write for Complaints<'_, R> {
+    fn write(&mut self, bytes: &[u8]) -> io::Result<usize> {
+        let text = str::from_utf8(bytes).unwrap_or("");
+        eprint!(self.rt; "{text}")?;
+        Ok(bytes.len())
+    }
+
+    fn flush(&mut self) -> io::Result<()> {
+        Ok(())
+    }
+}
+
+/// A file that may be wanted, as a writer.
+#[derive(Clone, Copy)]
+struct MaybeFile<'f, S> {
+    storage: &'f S,
+    path: Option<&'f str>,
+}
+
+impl<S: Storage> Write for MaybeFile<'_, S> {
+    fn write(&mut self, bytes: &[u8]) -> io::Result<usize> {
+        if let Some(path) = self.path {
+            let _size = self.storage.append(path, bytes)?;
+        }
+        Ok(bytes.len())
+    }
+
+    fn flush(&mut self) -> io::Result<()> {
+        Ok(())
+    }
+}
+
+/// The end is wanted where there is a file at this path, if there is a path.
+#[derive(Clone, Copy)]
+struct StopPath<'a, R> {
+    rt: &'a R,
+    path: Option<&'a str>,
+}
+
+impl<R: Files> Stop for StopPath<'_, R> {
+    fn is_wanted(&self) -> bool {
+        match self.path {
+            Some(path) => fs::exists(self.rt, path).unwrap_or(false),
+            None => false,
+        }
+    }
+}
+
+/// `probe`
+pub(crate) fn run_probe<R, S>(
+    rt: &R,
+    site: &S,
+    line: LineWord,
+    against: Option<LiveFiles>,
+) -> ExitStatus
+where
+    R: Files + Print + Eprint + AllocGlobal,
+    S: Site,
+{
+    let mut out = io::writer(rt);
+    let mut progress = Complaints { rt };
+    let disk = HostDisk { rt };
+    let end = probe(
+        rt.alloc(),
+        &disk,
+        site,
+        &mut out,
+        &mut progress,
+        line,
+        against,
+    );
+    ended(rt, end)
+}
+
+/// `listen`
+pub(crate) fn run_listen<R, T, S>(
+    rt: &R,
+    timer: &T,
+    site: &S,
+    line: LineWord,
+    binding: Option<&str>,
+    record: Option<&str>,
+    words: EndWords,
+) -> ExitStatus
+where
+    R: Files + Print + Eprint + AllocGlobal,
+    T: Timer,
+    S: Site + Storage,
+{
+    if let Some(path) = record {
+        match site.replace(rt.alloc(), path, b"", false) {
+            Ok(()) => {}
+            Err(_) => return not_opened(rt, path),
+        }
+    }
+    let mut record = MaybeFile {
+        storage: site,
+        path: record,
+    };
+    let end = ListenEnd {
+        millis: match words.seconds {
+            Some(seconds) => Some(u64::from(seconds) * 1000),
+            None => None,
+        },
+        stop: StopPath {
+            rt,
+            path: words.stop,
+        },
+    };
+    let mut out = io::writer(rt);
+    let disk = HostDisk { rt };
+    let end = listen(
+        rt.alloc(),
+        &disk,
+        site,
+        &mut out,
+        &mut record,
+        line,
+        binding,
+        timer,
+        &end,
+    );
+    ended(rt, end)
+}
+
+/// `blink`
+pub(crate) fn run_blink<R, T, S>(
+    rt: &R,
+    timer: &T,
+    site: &S,
+    line: LineWord,
+    address: u8,
+) -> ExitStatus
+where
+    R: Files + Print + Eprint + AllocGlobal,
+    T: Timer,
+    S: Site,
+{
+    let Some(address) = ShortAddress::new(address) else {
+        return ExitStatus::Misused;
+    };
+    let mut out = io::writer(rt);
+    let end = blink(rt.alloc(), site, &mut out, line, address, timer);
+    ended(rt, end)
+}
+
+/// `ask`
+pub(crate) fn run_ask<R, S>(rt: &R, site: &S, line: LineWord, words: RequestWords) -> ExitStatus
+where
+    R: Files + Print + Eprint + AllocGlobal,
+    S: Site,
+{
+    let RequestWords {
+        request,
+        address,
+        value,
+        second_value,
+    } = words;
+    let Some(command) = request_of(request, address, value, second_value) else {
+        let _told = eprintln!(rt; "error: no block {request} takes these numbers");
+        return ExitStatus::Misused;
+    };
+    let mut out = io::writer(rt);
+    let end = ask_once(rt.alloc(), site, &mut out, line, command);
+    ended(rt, end)
+}
+
+/// Reports that a file can't be written.
+fn not_opened<R: Eprint>(rt: &R, path: &str) -> ExitStatus {
+    let _told = eprintln!(rt; "cannot write {path}");
+    ExitStatus::Failed
+}
+
+/// How the program ends by what a tool came to; what stands against it is reported.
+fn ended<R: Print + Eprint>(rt: &R, end: Result<ToolEnd, Unserved>) -> ExitStatus {
+    let end = match end {
+        Ok(end) => end,
+        Err(unserved) => return not_served(rt, unserved),
+    };
+    if let Err(halted) = &end {
+        let _told = told(rt, halted);
+    }
+    status_of_tool(&end)
+}
+
+/// Reports what stands against a tool: of a text on standard output, else on standard error.
+fn told<R: Print + Eprint>(rt: &R, halted: &Halted) -> io::Result<()> {
+    match halted {
+        Halted::Text(stop) => println!(rt; "{stop}"),
+        Halted::NotWritten(path) => eprintln!(rt; "cannot write {path}"),
+        Halted::Building(stop) => HostNotice { rt }.halts(stop),
+    }
+}
