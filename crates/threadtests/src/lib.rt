@@ -4,7 +4,7 @@
 //! Nothing crosses the boundary. The tests (`at_once`) stand on public items of the crates alone,
 //! over texts that `house` writes. The buses and the clock are in `links`; what holds scans, frames
 //! and the clock back, and how long at most, is in `watch`. Runs that go on once there is memory are
-//! in `memory`. `rt test` runs them.
+//! in `memory`, and what is written beside a run in `observed`. `rt test` runs them.
 #![tactic(auto)]
 
 #[cfg(test)]
@@ -15,5 +15,7 @@ mod house;
 mod links;
 #[cfg(test)]
 mod memory;
+#[cfg(test)]
+mod observed;
 #[cfg(test)]
 mod watch;

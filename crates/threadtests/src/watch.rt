@@ -4,7 +4,7 @@ use std::alloc::{AllocError, Global};
 use std::sync::atomic::{AtomicU64, Ordering};
 use std::thread;
 use std::time::{Clock as Timer, Duration};
-use workers::Gate;
+use turns::{Gate, Happened};
 
 /// The most turns that one waits, each a look and a sleep.
 const MOST_TURNS: u32 = 100_000;
@@ -228,4 +228,6 @@ impl<'r, R: Timer + Sync> Gate for Watch<'r, R> {
     fn before_transaction(&self, bus: u8) {
         self.handed.add(usize::from(bus));
     }
+
+    fn after(&self, _place: u64, _happened: Happened) {}
 }

@@ -1,0 +1,134 @@
+//! What is written beside a run in threads: a line of the log for each event, in the order of the
+//! history, in whatever order workers tell of them.
+
+use crate::house::House;
+use daliframe::BusNumber;
+use invocations::Beside;
+use observing::{Observer, Storage};
+use plantlive::live;
+use plantplay::bus_of;
+use simbus::{Scenario, ScriptedClock, SimBus};
+use std::alloc::Global;
+use std::io;
+use std::sync::{Mutex, Wait};
+use std::test::Fail;
+use std::thread::Threads;
+use std::time::Clock as Timer;
+use workers::Opening;
+
+/// A house in which each bus has an event, a task and a lamp, over several runs.
+const HOUSE: House = House {
+    buses: 6,
+    tasks: 6,
+    has_events: true,
+    level: 0,
+    moments: 300,
+};
+
+const LIMIT: u64 = 100;
+
+const WORKERS: usize = 3;
+
+/// The log alone is wanted, on standard error.
+const BESIDE: Beside = Beside {
+    log: Some("-"),
+    log_size: 10_000,
+    record: None,
+    status: None,
+    is_json: false,
+    keep: None,
+};
+
+/// A storage that holds what is told.
+#[derive(Drop)]
+struct Held<'r, R: Wait> {
+    rt: &'r R,
+    told: Mutex<Vec<u8>>,
+}
+
+impl<R: Wait> Storage for Held<'_, R> {
+    fn append(&self, _path: &str, _bytes: &[u8]) -> io::Result<u64> {
+        Ok(0)
+    }
+
+    fn replace(&self, _alloc: Global, _path: &str, _bytes: &[u8], _lasts: bool) -> io::Result<()> {
+        Ok(())
+    }
+
+    fn rename(&self, _from: &str, _to: &str) -> io::Result<()> {
+        Ok(())
+    }
+
+    fn tell(&self, text: &str) -> io::Result<()> {
+        let mut told = self.told.lock(self.rt);
+        told.extend_from_slice(text.as_bytes())?;
+        Ok(())
+    }
+
+    fn seconds(&self) -> u64 {
+        0
+    }
+
+    fn memory(&self) -> Option<u64> {
+        None
+    }
+}
+
+/// The buses of the house, to which all has come.
+fn buses_of(alloc: Global, scenario: &Scenario) -> Result<Vec<SimBus>, Fail> {
+    let mut buses = Vec::new(alloc);
+    for bus in 0..HOUSE.buses {
+        if let Some(number) = BusNumber::new(bus) {
+            let mut line = bus_of(alloc, scenario, number)?;
+            line.arrive_all();
+            buses.push(line)?;
+        }
+    }
+    Ok(buses)
+}
+
+/// How many lines there are, where each begins with its number, from 0.
+fn numbered(text: &str) -> Option<u64> {
+    let mut count: u64 = 0;
+    for line in text.lines() {
+        let place = line.split(' ').next()?.parse::<u64>().ok()?;
+        if place != count {
+            return None;
+        }
+        count = count.checked_add(1)?;
+    }
+    Some(count)
+}
+
+/// Whether the log of a run in threads has a line for each event, in order.
+fn is_logged<R: Threads + Wait + Timer + Sync>(rt: &R, alloc: Global) -> Result<bool, Fail> {
+    let scenario = HOUSE.scenario(alloc)?;
+    let held = Held {
+        rt,
+        told: Mutex::new(Vec::new(alloc)),
+    };
+    let Ok(observer) = Observer::open(rt, alloc, &held, &BESIDE, HOUSE.setup(alloc)?, WORKERS, b"")
+    else {
+        return Err(Fail::new("the log isn't opened"));
+    };
+    let opening = Opening {
+        setup: HOUSE.setup(alloc)?,
+        limit: LIMIT,
+    };
+    let clock = ScriptedClock::of(alloc, &scenario)?;
+    let buses = buses_of(alloc, &scenario)?;
+    let Ok(lived) = live(rt, alloc, opening, buses, clock, WORKERS, &observer) else {
+        return Err(Fail::new("the run doesn't start"));
+    };
+    observer.finish();
+    let told = held.told.lock(rt);
+    let text = str::from_utf8(&told).unwrap_or("");
+    Ok(numbered(text) == Some(lived.left.plant().len()))
+}
+
+#[test]
+fn each_event_is_logged_in_order(rt: HostRuntime) -> Result<(), Fail> {
+    let is_so = is_logged(&rt, rt.alloc())?;
+    assert!(rt; is_so, "a line for each event, in order");
+    Ok(())
+}
