@@ -1,5 +1,5 @@
 -- What a building leaves, from what it began with.
-use Rattle.std.proofs.Common.{◌≡◌, ℕ, List, Option, Some, None, refl, subst}
+use Rattle.std.proofs.Common.{◌≡◌, ℕ, List, Option, Some, None, Result, Ok, Err, IfOk, refl, subst}
 use Rattle.wordlines.specs.Wirings.{Wiring}
 use Rattle.buslink.specs.BusLog.{BusLog}
 use Rattle.buslink.specs.ClockLog.{ClockLog}
@@ -63,3 +63,9 @@ lived_out binding text file bus_log clock_log words size begun building left law
           meant_of has.loaded.0 text begun.kept begun.setup has.loaded.2 (plant_of begun.setup size.workers)
           left.left.plant.history law kept_law refl of_size.closed.legal;
     }
+
+-- what is so of what is left, where it follows from what is known of it
+pub if_left : {L E : Type 0} (Known Shown : L → Type 0) → ((left : L) → Known left → Shown left) → (end : Result L E)
+    → IfOk end Known → IfOk end Shown
+if_left Known Shown all (Ok left) known = all left known
+if_left Known Shown all (Err halted) known = tt
