@@ -12,27 +12,32 @@ pub struct HeardWords(pub Frame24);
 impl fmt::Display for HeardWords {
     fn fmt<W: fmt::Write>(&self, f: &mut fmt::Formatter<W>) -> fmt::Result {
         match decode(self.0) {
-            Heard::Event(message) => write_message(f, message),
+            Heard::Event(message) => write!(f, "{}", MessageWords(message)),
             Heard::Command => write!(f, "command"),
             Heard::Other => write!(f, "other frame"),
         }
     }
 }
 
-/// Writes an event message.
-fn write_message<W: fmt::Write>(f: &mut fmt::Formatter<W>, message: EventMessage) -> fmt::Result {
-    let EventMessage {
-        scheme,
-        a,
-        b,
-        information,
-    } = message;
-    let (first, second) = parts_of(scheme);
-    let scheme = SchemeWords(scheme);
-    write!(
-        f,
-        "{first} {a} {second} {b}, scheme {scheme}, information {information}"
-    )
+/// An event message, by its event scheme.
+#[derive(Clone, Copy)]
+pub(crate) struct MessageWords(pub EventMessage);
+
+impl fmt::Display for MessageWords {
+    fn fmt<W: fmt::Write>(&self, f: &mut fmt::Formatter<W>) -> fmt::Result {
+        let EventMessage {
+            scheme,
+            a,
+            b,
+            information,
+        } = self.0;
+        let (first, second) = parts_of(scheme);
+        let scheme = SchemeWords(scheme);
+        write!(
+            f,
+            "{first} {a} {second} {b}, scheme {scheme}, information {information}"
+        )
+    }
 }
 
 /// What the two parts of an event message's sender are.

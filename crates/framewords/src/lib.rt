@@ -11,17 +11,21 @@
 
 mod addresses;
 mod blocks;
+mod events;
 mod frames;
 mod heard;
 mod names;
 mod outcomes;
 mod reading;
 mod requests;
+mod specials;
 mod statuses;
+mod targets;
 
 pub use addresses::AddressWords;
 pub use blocks::Block;
-pub use frames::FrameWords;
+pub use events::frame_of_event;
+pub use frames::{FrameWords, FramesWords};
 pub use heard::{HeardWords, SchemeWords};
 pub use outcomes::OutcomeWords;
 pub use reading::request_of;
