@@ -1,15 +1,16 @@
-//! Notes on global variables and on sources of events.
+//! Notes on global variables.
 
 ghost use Rattle.std.specs.Prelude.{◌<◌, length};
 
-use crate::names::{At, shown};
-use crate::uses::{Use, uses_of};
+use crate::names::{At, LineStarts, shown};
+use crate::stars::count_at;
+use crate::uses::{Use, naming_tasks, uses_of};
 use ilcompile::Setup;
 use ilplan::{Activation, Location, Plan, SlotOwner};
+use iltypes::{IlType, Range};
 use std::alloc::Global;
 use std::io;
 use std::io::Write;
-use wordlines::BoundSource;
 
 /// Writes a note for each trigger that a task reads though another event starts it, or the clock.
 pub(crate) fn write_trigger_notes<W: Write>(
@@ -75,32 +76,70 @@ fn write_trigger<W: Write>(
     )
 }
 
-/// Writes a note for each global variable that is used to no end, and for each level that no task
-/// stores.
+/// Writes a note for each global variable that is used to no end, for each level that no task
+/// stores, and for each variable that is likely meant as a level.
 pub(crate) fn write_global_notes<W: Write>(
+    alloc: Global,
     out: &mut W,
     plan: &Plan,
+    lines: &LineStarts,
     uses: &[Use],
 ) -> io::Result<()> {
+    let naming = naming_tasks(alloc, plan)?;
     for number in 0..plan.globals() {
         if let Some(use_here) = uses.get(number) {
-            write_global_note(out, plan, number, *use_here)?;
+            if is_unlocated_level(plan, number, *use_here, count_at(&naming, number)) {
+                write_unlocated(out, plan, lines, number)?;
+            } else {
+                write_global_note(out, plan, lines, number, *use_here)?;
+            }
         }
     }
     Ok(())
+}
+
+/// The numbers that a level has.
+const LEVELS: IlType = IlType::Int(Range { lo: 0, hi: 254 });
+
+/// Whether a global variable is likely meant as a level: it has the numbers of one and no address,
+/// and a task stores it, while no other task names it.
+fn is_unlocated_level(plan: &Plan, number: usize, use_here: Use, tasks: u32) -> bool
+    requires { number < length plan.now.globals }
+{
+    let global = plan.global(number);
+    global.location.is_none() && global.value_type == LEVELS && use_here.stored && tasks == 1
+}
+
+/// Writes that a variable that is likely meant as a level has no address.
+fn write_unlocated<W: Write>(
+    out: &mut W,
+    plan: &Plan,
+    lines: &LineStarts,
+    number: usize,
+) -> io::Result<()>
+    requires { number < length plan.now.globals }
+{
+    let at = lines.at(plan.global(number).name);
+    let name = plan.global_name(number);
+    writeln!(
+        out,
+        "note at {at}: {name} has the numbers of a level and no address: it is sent to no gear; a \
+         level is declared as {name} AT %QB0.5"
+    )
 }
 
 /// Writes the note on a global variable that is used so, where there is one.
 fn write_global_note<W: Write>(
     out: &mut W,
     plan: &Plan,
+    lines: &LineStarts,
     number: usize,
     use_here: Use,
 ) -> io::Result<()>
     requires { number < length plan.now.globals }
 {
     let global = plan.global(number);
-    let at = At::of(plan.text(), global.name);
+    let at = lines.at(global.name);
     let name = shown(plan.text(), global.name);
     let first = global.initial;
     match (global.location, use_here.stored, use_here.read > 0) {
@@ -133,42 +172,5 @@ pub(crate) fn write_use<W: Write>(
             "note at {at}: {name} is read and never stored, and stays {first}"
         ),
         (false, false) => writeln!(out, "note at {at}: {name} is not used"),
-    }
-}
-
-/// Writes a note for each source of the binding that the text does not use.
-pub(crate) fn write_source_notes<W: Write>(out: &mut W, plan: &Plan) -> io::Result<()> {
-    for bound in plan.sources() {
-        if !is_used(plan, bound) {
-            let bus = bound.bus;
-            let number = bound.number;
-            writeln!(
-                out,
-                "note: the text does not use the source {bus}.{number} of the binding"
-            )?;
-        }
-    }
-    Ok(())
-}
-
-/// Whether a global variable has an address of a source.
-fn is_used(plan: &Plan, bound: &BoundSource) -> bool {
-    for number in 0..plan.globals() {
-        if is_of(plan.global(number).location, bound) {
-            return true;
-        }
-    }
-    false
-}
-
-/// Whether an address is one of a source.
-fn is_of(location: Option<Location>, bound: &BoundSource) -> bool {
-    match location {
-        Some(
-            Location::Trigger { bus, source }
-            | Location::Information { bus, source }
-            | Location::Count { bus, source },
-        ) => bus == bound.bus && source == bound.number,
-        _ => false,
     }
 }

@@ -12,21 +12,33 @@
 //!
 //! ```text
 //! write_task(alloc, &mut out, &setup, 0)?;
-//! let any = write_notes(alloc, &mut out, &setup, &source)?;
+//! write_notes(alloc, &mut out, &setup, &source)?;
 //! ```
 #![tactic(auto)]
 
+mod block_notes;
 mod bodies;
 mod chains;
+mod contents;
+mod current;
+mod facts;
 mod flow;
 mod globals;
 mod joining;
 mod knowing;
+mod level_notes;
+mod levels;
+mod load;
 mod names;
 mod noted;
 mod notes;
+mod number_notes;
+mod pace_notes;
 mod paths;
 mod programs;
+mod question_notes;
+mod scenario_notes;
+mod source_notes;
 mod spelling;
 mod stars;
 mod table;
@@ -38,7 +50,9 @@ mod words;
 pub use chains::{write_deepest_calls, write_longest_calls};
 pub use flow::{Flow, Judged};
 pub use knowing::KnownText;
-pub use notes::write_notes;
+pub use load::write_load;
+pub use notes::{write_notes, write_played_notes};
+pub use scenario_notes::Played;
 pub use table::write_task;
 pub use task_names::{TaskNames, functions_in};
 pub use words::WordText;

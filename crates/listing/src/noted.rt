@@ -3,7 +3,7 @@
 ghost use Rattle.std.specs.Prelude.{◌<◌, length};
 
 use crate::globals::write_use;
-use crate::names::{At, shown};
+use crate::names::{LineStarts, shown};
 use crate::stars::is_marked;
 use crate::task_names::name_in;
 use crate::uses::{Use, uses_of};
@@ -60,6 +60,7 @@ pub(crate) fn write_own_notes<W: Write>(
     alloc: Global,
     out: &mut W,
     setup: &Setup,
+    lines: &LineStarts,
     used: &[bool],
 ) -> io::Result<()> {
     let mut noted = IndexMap::new(alloc);
@@ -69,7 +70,7 @@ pub(crate) fn write_own_notes<W: Write>(
         note_task(&mut noted, setup.plan(), task, &uses)?;
     }
     for (_, variable) in &noted {
-        write_note(out, setup.plan().text(), variable)?;
+        write_note(out, setup.plan().text(), lines, variable)?;
     }
     Ok(())
 }
@@ -171,8 +172,13 @@ fn note_line(
 }
 
 /// Writes the note on a variable, where there is one.
-fn write_note<W: Write>(out: &mut W, text: &[u8], noted: &Noted) -> io::Result<()> {
-    let at = At::of(text, noted.name);
+fn write_note<W: Write>(
+    out: &mut W,
+    text: &[u8],
+    lines: &LineStarts,
+    noted: &Noted,
+) -> io::Result<()> {
+    let at = lines.at(noted.name);
     let name = shown(text, noted.name);
     match noted.kind {
         Kind::Input { function } => {

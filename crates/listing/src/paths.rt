@@ -7,11 +7,13 @@ use std::alloc::{AllocError, Global};
 
 /// What is counted on a path.
 #[derive(Clone, Copy)]
-pub(crate) enum Counted {
+pub(crate) enum Counted<'a> {
     /// Its words.
     Words,
     /// Its calls of request blocks.
     Requests,
+    /// What the words count at their places.
+    Weights(&'a [u32]),
 }
 
 /// The most that paths from a place hold, whatever the values, those that begin there within the
@@ -148,7 +150,7 @@ fn most_from(code: &Code, most: &[Most], counted: Counted, body: usize, place: u
         Word::Invoke(function) => most_in(code, most, usize::from(function)).and_then(next),
         _ => next,
     };
-    on.after(weight(code, counted, word))
+    on.after(weight(code, counted, place, word))
 }
 
 /// The most on paths from a place of a body on.
@@ -186,11 +188,15 @@ pub(crate) fn most_in(code: &Code, most: &[Most], function: usize) -> Most {
     most_at(code, most, body, start_of(code, body))
 }
 
-/// What a word counts.
-fn weight(code: &Code, counted: Counted, word: Word) -> u32 {
+/// What the word at a place counts.
+fn weight(code: &Code, counted: Counted, place: usize, word: Word) -> u32 {
     match counted {
         Counted::Words => 1,
         Counted::Requests => u32::from(may_request(code, word)),
+        Counted::Weights(weights) => match weights.get(place) {
+            Some(weight) => *weight,
+            None => 0,
+        },
     }
 }
 

@@ -130,7 +130,7 @@ fn no_stars(alloc: Global, code: &Code) -> Result<Stars, AllocError> {
 }
 
 /// So many, none of them marked.
-fn all_unmarked(alloc: Global, count: usize) -> Result<Vec<bool>, AllocError> {
+pub(crate) fn all_unmarked(alloc: Global, count: usize) -> Result<Vec<bool>, AllocError> {
     let mut marks = Vec::new(alloc);
     for _ in 0..count {
         marks.push(false)?;
@@ -139,7 +139,7 @@ fn all_unmarked(alloc: Global, count: usize) -> Result<Vec<bool>, AllocError> {
 }
 
 /// So many, none of them used.
-fn all_unused(alloc: Global, count: usize) -> Result<Vec<u32>, AllocError> {
+pub(crate) fn all_unused(alloc: Global, count: usize) -> Result<Vec<u32>, AllocError> {
     let mut counts = Vec::new(alloc);
     for _ in 0..count {
         counts.push(0)?;
@@ -156,7 +156,7 @@ pub(crate) fn count_at(counts: &[u32], place: usize) -> u32 {
 }
 
 /// Adds to the count at a place.
-fn add_at(counts: &mut Vec<u32>, place: usize, times: u32) {
+pub(crate) fn add_at(counts: &mut Vec<u32>, place: usize, times: u32) {
     if let Some(count) = counts.get_mut(place) {
         *count = count.saturating_add(times);
     }

@@ -2,6 +2,7 @@
 
 ghost use Rattle.std.specs.Prelude.{◌<◌, length};
 
+use crate::stars::{add_at, all_unused};
 use ilcode::{Code, Target, Word, WordOperand};
 use ilcompile::Setup;
 use ilplan::{Plan, SlotOwner};
@@ -113,6 +114,19 @@ pub(crate) fn global_uses(alloc: Global, setup: &Setup) -> Result<Vec<Use>, Allo
         add_globals(&mut all, plan, task, &uses);
     }
     Ok(all)
+}
+
+/// For each global variable how many tasks name it.
+pub(crate) fn naming_tasks(alloc: Global, plan: &Plan) -> Result<Vec<u32>, AllocError> {
+    let mut counts = all_unused(alloc, plan.globals())?;
+    for task in 0..plan.tasks() {
+        for slot in plan.task(task).slots() {
+            if let SlotOwner::Global(number) = slot.variable {
+                add_at(&mut counts, number, 1);
+            }
+        }
+    }
+    Ok(counts)
 }
 
 /// Adds how a task uses the global variables.

@@ -1,0 +1,276 @@
+//! What notes look at of each task: how its variables and its block instances are used, what is
+//! stored to them, and what is known of their ports at each call.
+
+use crate::contents::{Content, Stored, constant_of, port_place};
+use crate::current::Way;
+use crate::uses::{Use, line_at, uses_of};
+use ilblocks::BlockKind;
+use ilcode::{Code, Target, Word, WordOperand};
+use ilcompile::Setup;
+use std::alloc::{AllocError, Global};
+
+/// What notes look at of a task.
+#[derive(Drop)]
+pub(crate) struct TaskFacts {
+    /// How each slot is used.
+    pub uses: Vec<Use>,
+    pub stored: Stored,
+    /// How each block instance is used.
+    pub blocks: Vec<BlockUse>,
+    /// The calls of block instances, in the order of the words.
+    pub calls: Vec<BlockCall>,
+}
+
+/// How a block instance is used by the words of a code, reached or not.
+#[derive(Clone, Copy)]
+pub(crate) struct BlockUse {
+    pub is_called: bool,
+    /// Whether a word stores to one of its ports.
+    pub is_stored: bool,
+    /// Whether a word reads one of its ports.
+    pub is_read: bool,
+    /// Whether a call of it surely has FALSE at the first port.
+    pub is_called_false: bool,
+}
+
+/// A call of a block instance, with what is known of its ports there. A truth value counts as 0 or
+/// 1.
+#[derive(Clone, Copy)]
+pub(crate) struct BlockCall {
+    pub place: usize,
+    pub line: usize,
+    pub block: usize,
+    pub kind: BlockKind,
+    /// REQ of a block that sends; the ports that follow are those of such a block as well.
+    pub request: Option<i64>,
+    pub bus: Option<i64>,
+    pub address: Option<i64>,
+    pub third: Option<i64>,
+    pub fourth: Option<i64>,
+}
+
+impl BlockCall {
+    /// Whether the call may make a request.
+    pub fn may_request(&self) -> bool {
+        self.kind.makes_requests() && self.request != Some(0)
+    }
+}
+
+/// What notes look at, for each task.
+pub(crate) fn facts_of(alloc: Global, setup: &Setup) -> Result<Vec<TaskFacts>, AllocError> {
+    let mut all = Vec::new(alloc);
+    for task in 0..setup.plan().tasks() {
+        all.push(task_facts(alloc, setup.code(task).code())?)?;
+    }
+    Ok(all)
+}
+
+/// What notes look at of the task with this code.
+pub(crate) fn task_facts(alloc: Global, code: &Code) -> Result<TaskFacts, AllocError> {
+    let stored = Stored::by(alloc, code)?;
+    let calls = calls_in(alloc, code, &stored)?;
+    Ok(TaskFacts {
+        uses: uses_of(alloc, code)?,
+        blocks: block_uses(alloc, code, &calls)?,
+        stored,
+        calls,
+    })
+}
+
+/// How the block instances of a code are used.
+fn block_uses(
+    alloc: Global,
+    code: &Code,
+    calls: &[BlockCall],
+) -> Result<Vec<BlockUse>, AllocError> {
+    let mut uses = Vec::new(alloc);
+    for _ in code.kinds() {
+        uses.push(BlockUse {
+            is_called: false,
+            is_stored: false,
+            is_read: false,
+            is_called_false: false,
+        })?;
+    }
+    for place in 0..code.len() {
+        add_word(&mut uses, code.word(place));
+    }
+    for call in calls {
+        if let (Some(0), Some(kept)) = (call.request, uses.get_mut(call.block)) {
+            kept.is_called_false = true;
+        }
+    }
+    Ok(uses)
+}
+
+/// Adds how a word uses a block instance.
+fn add_word(uses: &mut Vec<BlockUse>, word: Word) {
+    match word {
+        Word::Call(block) => {
+            if let Some(kept) = uses.get_mut(usize::from(block)) {
+                kept.is_called = true;
+            }
+        }
+        Word::Store { variable, .. } => add_target(uses, variable),
+        Word::Set(variable) => add_target(uses, variable),
+        Word::Reset(variable) => add_target(uses, variable),
+        Word::Pass {
+            port,
+            block,
+            operand,
+        } => {
+            add_target(uses, Target::Port { port, block });
+            add_operand(uses, operand);
+        }
+        Word::Load { operand, .. } => add_operand(uses, operand),
+        Word::Apply(_, operand) => add_operand(uses, operand),
+        Word::Give { operand, .. } => add_operand(uses, operand),
+        _ => {}
+    }
+}
+
+/// Adds that something is stored to.
+fn add_target(uses: &mut Vec<BlockUse>, target: Target) {
+    if let Target::Port { block, .. } = target {
+        if let Some(kept) = uses.get_mut(usize::from(block)) {
+            kept.is_stored = true;
+        }
+    }
+}
+
+/// Adds that something is read.
+fn add_operand(uses: &mut Vec<BlockUse>, operand: WordOperand) {
+    if let WordOperand::Port { block, .. } = operand {
+        if let Some(kept) = uses.get_mut(usize::from(block)) {
+            kept.is_read = true;
+        }
+    }
+}
+
+/// What the words of one straight line stored to a port last.
+#[derive(Clone, Copy)]
+struct Held {
+    /// The number of the straight line.
+    stretch: usize,
+    value: Option<i64>,
+}
+
+/// The ports on the way along a code.
+#[derive(Drop)]
+struct Ports {
+    held: Vec<Held>,
+}
+
+/// The calls of block instances in a code, of which this is stored.
+fn calls_in(alloc: Global, code: &Code, stored: &Stored) -> Result<Vec<BlockCall>, AllocError> {
+    let mut calls = Vec::new(alloc);
+    let mut ports = Ports::unknown(alloc, code)?;
+    let mut way = Way::new(alloc, code)?;
+    for place in 0..code.len() {
+        let word = code.word(place);
+        way.arrive(place);
+        ports.store(code, &way, word);
+        if let Some(call) = ports.call(code, &way, stored, place, word) {
+            calls.push(call)?;
+        }
+        way.go_on(code, word);
+    }
+    Ok(calls)
+}
+
+impl Ports {
+    /// Nothing is stored so far.
+    fn unknown(alloc: Global, code: &Code) -> Result<Ports, AllocError> {
+        let mut held = Vec::new(alloc);
+        for _ in 0..port_place(code.kinds().len(), 0) {
+            held.push(Held {
+                stretch: 0,
+                value: None,
+            })?;
+        }
+        Ok(Ports { held })
+    }
+
+    /// Keeps what a word stores to a port.
+    fn store(&mut self, code: &Code, way: &Way, word: Word) {
+        let constant = way.result().constant;
+        match word {
+            Word::Store { negated, variable } => {
+                self.hold(way, variable, way.result().stored(negated));
+            }
+            Word::Set(variable) if constant != Some(0) => {
+                self.hold(way, variable, constant);
+            }
+            Word::Reset(variable) if constant != Some(0) => {
+                self.hold(way, variable, way.result().stored(true));
+            }
+            Word::Pass {
+                port,
+                block,
+                operand,
+            } => {
+                let port = Target::Port { port, block };
+                self.hold(way, port, constant_of(code, operand));
+            }
+            _ => {}
+        }
+    }
+
+    /// Keeps what is stored.
+    fn hold(&mut self, way: &Way, variable: Target, value: Option<i64>) {
+        if let Target::Port { port, block } = variable {
+            let place = port_place(usize::from(block), usize::from(port));
+            if let Some(kept) = self.held.get_mut(place) {
+                *kept = Held {
+                    stretch: way.stretch(),
+                    value,
+                };
+            }
+        }
+    }
+
+    /// What is known of a port: what the straight line stored to it, or else the one value that all
+    /// words of the code store to it.
+    fn known(&self, way: &Way, stored: &Stored, block: usize, port: usize) -> Option<i64> {
+        if let Some(held) = self.held.get(port_place(block, port)) {
+            if held.stretch == way.stretch() {
+                return held.value;
+            }
+        }
+        match stored.port(block, port) {
+            Content::Nothing => Some(0),
+            Content::Only(value) => Some(value),
+            Content::Several => None,
+        }
+    }
+
+    /// The call of a block instance, where the word is one.
+    fn call(
+        &self,
+        code: &Code,
+        way: &Way,
+        stored: &Stored,
+        place: usize,
+        word: Word,
+    ) -> Option<BlockCall> {
+        let block = match word {
+            Word::Call(block) => usize::from(block),
+            _ => return None,
+        };
+        let kind = match code.kinds().get(block) {
+            Some(kind) => *kind,
+            None => return None,
+        };
+        Some(BlockCall {
+            place,
+            line: line_at(code, place),
+            block,
+            kind,
+            request: self.known(way, stored, block, 0),
+            bus: self.known(way, stored, block, 1),
+            address: self.known(way, stored, block, 2),
+            third: self.known(way, stored, block, 3),
+            fourth: self.known(way, stored, block, 4),
+        })
+    }
+}

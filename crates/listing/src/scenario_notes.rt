@@ -1,0 +1,229 @@
+//! Notes on a scenario that is played with a text: what it says of buses that are not there, events
+//! that are of no source, and gear that it lacks.
+
+use crate::facts::TaskFacts;
+use crate::levels::{Driven, FIRST_GROUP, Levels};
+use crate::stars::{all_unmarked, is_marked, mark};
+use dalievent::EventSource;
+use daliframe::Frame24;
+use ilplan::Plan;
+use indexmap::IndexMap;
+use std::alloc::{AllocError, Global};
+use std::io;
+use std::io::Write;
+use wordlines::{Scenario, Statement, first_line, is_skipped};
+
+/// A scenario and the bytes that it was read from.
+#[derive(Clone, Copy)]
+pub struct Played<'a> {
+    pub bytes: &'a [u8],
+    pub scenario: &'a Scenario,
+}
+
+/// How many short addresses a bus has.
+const SHORT_ADDRESSES: usize = 64;
+
+/// How many information values an event message has.
+const INFORMATION_VALUES: u32 = 1024;
+
+/// What a scenario is compared with, and what was told.
+#[derive(Drop)]
+struct Comparison {
+    buses: u8,
+    /// The sources of each bus.
+    sources: Vec<Vec<EventSource>>,
+    /// The gear that the scenario has, for each bus and short address.
+    gear: Vec<bool>,
+    /// The buses that are not there and were told of.
+    told_buses: Vec<bool>,
+    /// The events of no source that were told of, whatever their information.
+    told_events: IndexMap<u64, bool>,
+}
+
+/// Writes the notes on a scenario.
+pub(crate) fn write_scenario_notes<W: Write>(
+    alloc: Global,
+    out: &mut W,
+    plan: &Plan,
+    facts: &[TaskFacts],
+    played: Played,
+) -> io::Result<()> {
+    let mut comparison = Comparison::with(alloc, plan)?;
+    let mut rest = played.bytes;
+    let mut number: usize = 0;
+    for statement in played.scenario.lines() {
+        let (line, after) = next_statement(rest);
+        number = number.saturating_add(line);
+        rest = after;
+        comparison.write_note(out, number, statement)?;
+    }
+    let levels = Levels::of(alloc, plan, facts)?;
+    comparison.write_lacking_gear(out, plan, &levels)
+}
+
+/// How many lines the next statement and what is skipped before it are, and what stands after it.
+fn next_statement(bytes: &[u8]) -> (usize, &[u8]) {
+    let mut rest = bytes;
+    let mut count: usize = 0;
+    for _ in 0..bytes.len() {
+        if rest.is_empty() {
+            break;
+        }
+        let (line, after) = first_line(rest);
+        rest = after;
+        count = count.saturating_add(1);
+        if !is_skipped(line) {
+            break;
+        }
+    }
+    (count, rest)
+}
+
+/// The place of a short address among those of all buses.
+fn gear_place(bus: u8, short: u8) -> usize {
+    usize::from(bus)
+        .saturating_mul(SHORT_ADDRESSES)
+        .saturating_add(usize::from(short))
+}
+
+impl Comparison {
+    /// With the buses and the sources of a plan.
+    fn with(alloc: Global, plan: &Plan) -> Result<Comparison, AllocError> {
+        let mut sources: Vec<Vec<EventSource>> = Vec::new(alloc);
+        for _ in 0..plan.buses() {
+            sources.push(Vec::new(alloc))?;
+        }
+        for bound in plan.sources() {
+            if let Some(of_bus) = sources.get_mut(usize::from(bound.bus)) {
+                of_bus.push(bound.source)?;
+            }
+        }
+        Ok(Comparison {
+            buses: plan.buses(),
+            sources,
+            gear: all_unmarked(alloc, gear_place(limits::MOST_BUSES, 0))?,
+            told_buses: all_unmarked(alloc, usize::from(limits::MOST_BUSES))?,
+            told_events: IndexMap::new(alloc),
+        })
+    }
+
+    /// Writes the note on the statement of a line, where there is one.
+    fn write_note<W: Write>(
+        &mut self,
+        out: &mut W,
+        line: usize,
+        statement: &Statement,
+    ) -> io::Result<()> {
+        let bus = match bus_of(statement) {
+            Some(bus) => bus,
+            None => return Ok(()),
+        };
+        if bus >= self.buses {
+            return self.write_missing_bus(out, line, bus);
+        }
+        match *statement {
+            Statement::Gear { short, .. } => {
+                mark(&mut self.gear, gear_place(bus, short.number()));
+                Ok(())
+            }
+            Statement::Event { frame, .. } => self.write_event(out, line, bus, frame),
+            _ => Ok(()),
+        }
+    }
+
+    /// Writes that a bus is not there, once for each.
+    fn write_missing_bus<W: Write>(&mut self, out: &mut W, line: usize, bus: u8) -> io::Result<()> {
+        if is_marked(&self.told_buses, usize::from(bus)) {
+            return Ok(());
+        }
+        mark(&mut self.told_buses, usize::from(bus));
+        writeln!(
+            out,
+            "note at {line} of the scenario: the binding has no bus {bus}; nothing comes of the line"
+        )
+    }
+
+    /// Writes that an event is of no source, once for each, whatever its information.
+    fn write_event<W: Write>(
+        &mut self,
+        out: &mut W,
+        line: usize,
+        bus: u8,
+        frame: Frame24,
+    ) -> io::Result<()> {
+        let number = frame.number();
+        let key = u64::from(bus)
+            .saturating_mul(65_536)
+            .saturating_add(u64::from(number / INFORMATION_VALUES));
+        if self.has_source(bus, frame) || self.told_events.get(&key).is_some() {
+            return Ok(());
+        }
+        self.told_events.insert(key, true)?;
+        writeln!(
+            out,
+            "note at {line} of the scenario: the event {number:06X} is of no source of the binding; \
+             nothing comes of it"
+        )
+    }
+
+    /// Whether a frame is an event of a source of a bus.
+    fn has_source(&self, bus: u8, frame: Frame24) -> bool {
+        match self.sources.get(usize::from(bus)) {
+            Some(sources) => sources
+                .iter()
+                .any(|source| source.information(frame).is_some()),
+            None => false,
+        }
+    }
+
+    /// Writes a note for each level of a gear that the scenario does not have.
+    fn write_lacking_gear<W: Write>(
+        &self,
+        out: &mut W,
+        plan: &Plan,
+        levels: &Levels,
+    ) -> io::Result<()> {
+        for bus in 0..self.buses {
+            for address in 0..FIRST_GROUP {
+                if !is_marked(&self.gear, gear_place(bus, address)) {
+                    write_lacking(out, plan, levels, Driven { bus, address })?;
+                }
+            }
+        }
+        Ok(())
+    }
+}
+
+/// The bus that a statement is of.
+fn bus_of(statement: &Statement) -> Option<u8> {
+    match *statement {
+        Statement::Gear { bus, .. }
+        | Statement::LampFailure { bus, .. }
+        | Statement::Memory { bus, .. }
+        | Statement::Device { bus, .. }
+        | Statement::InputInstance { bus, .. }
+        | Statement::Reply { bus, .. }
+        | Statement::HearFault { bus }
+        | Statement::Event { bus, .. } => Some(bus.number()),
+        Statement::Tick { .. } => None,
+    }
+}
+
+/// Writes the note on a gear that the scenario does not have, where a level drives it.
+fn write_lacking<W: Write>(
+    out: &mut W,
+    plan: &Plan,
+    levels: &Levels,
+    driven: Driven,
+) -> io::Result<()> {
+    match levels.get(driven) {
+        Some(level) if level.global < plan.globals() => {
+            let name = plan.global_name(level.global);
+            writeln!(
+                out,
+                "note: {name} is the level of {driven}, and the scenario has no such gear"
+            )
+        }
+        _ => Ok(()),
+    }
+}

@@ -1,0 +1,104 @@
+//! Notes on the sources of events that a binding has.
+
+use crate::stars::{all_unmarked, is_marked, mark};
+use ilplan::{Location, Plan};
+use indexmap::IndexMap;
+use std::alloc::{AllocError, Global};
+use std::io;
+use std::io::Write;
+use wordlines::BoundSource;
+
+/// The sources of one bus.
+const SOURCES: usize = limits::MOST_SOURCES as usize;
+
+/// Writes a note for each source of the binding that the text does not use, and for each that is
+/// bound at two places.
+pub(crate) fn write_source_notes<W: Write>(
+    alloc: Global,
+    out: &mut W,
+    plan: &Plan,
+) -> io::Result<()> {
+    write_unused(alloc, out, plan)?;
+    write_doubled(alloc, out, plan)
+}
+
+/// Writes a note for each source of the binding that the text does not use.
+fn write_unused<W: Write>(alloc: Global, out: &mut W, plan: &Plan) -> io::Result<()> {
+    let used = sources_of(alloc, plan)?;
+    for bound in plan.sources() {
+        let bus = bound.bus;
+        let number = bound.number;
+        if !is_marked(&used, number_of(bus, number)) {
+            writeln!(
+                out,
+                "note: the text does not use the source {bus}.{number} of the binding"
+            )?;
+        }
+    }
+    Ok(())
+}
+
+/// The number of a source among those of all buses.
+fn number_of(bus: u8, source: u8) -> usize {
+    usize::from(bus)
+        .saturating_mul(SOURCES)
+        .saturating_add(usize::from(source))
+}
+
+/// For each source of each bus whether a global variable has an address of it.
+fn sources_of(alloc: Global, plan: &Plan) -> Result<Vec<bool>, AllocError> {
+    let mut used = all_unmarked(alloc, number_of(limits::MOST_BUSES, 0))?;
+    for number in 0..plan.globals() {
+        match plan.global(number).location {
+            Some(
+                Location::Trigger { bus, source }
+                | Location::Information { bus, source }
+                | Location::Count { bus, source },
+            ) => mark(&mut used, number_of(bus, source)),
+            _ => {}
+        }
+    }
+    Ok(used)
+}
+
+/// Writes a note for each source that is bound at a place before as well.
+fn write_doubled<W: Write>(alloc: Global, out: &mut W, plan: &Plan) -> io::Result<()> {
+    let mut first_places = IndexMap::new(alloc);
+    for bound in plan.sources() {
+        let key = key_of(bound);
+        let number = bound.number;
+        let first: Option<u8> = match first_places.get(&key) {
+            Some(first) => Some(*first),
+            None => None,
+        };
+        match first {
+            Some(first) => {
+                let bus = bound.bus;
+                writeln!(
+                    out,
+                    "note: the sources {bus}.{first} and {bus}.{number} of the binding are one; each of \
+                     its events is one of both"
+                )?;
+            }
+            None => {
+                first_places.insert(key, number)?;
+            }
+        }
+    }
+    Ok(())
+}
+
+/// A number for where the events of a source come from.
+fn key_of(bound: &BoundSource) -> u64 {
+    let parts = [
+        bound.bus,
+        bound.source.scheme.number(),
+        bound.source.a,
+        bound.source.b,
+    ];
+    let mut key: u64 = 0;
+    for part in parts {
+        key = key.saturating_mul(256).saturating_add(u64::from(part));
+    }
+    key
+}
