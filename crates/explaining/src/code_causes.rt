@@ -1,14 +1,42 @@
 //! What is said of the causes of a code.
 
-use crate::advice::{Advice, write_advice};
-use crate::marking::write_bytes;
+use curing::Advice;
 use ilranges::Cause;
-use iltypes::Range;
-use std::io;
-use std::io::Write;
+
+/// A number that may not fit.
+pub(crate) const UNFIT: Advice = Advice {
+    what: "a number that may not fit",
+    cure: "limit the number before, or declare what it goes to wider",
+    line: "MIN 254\nMAX 0\nST level",
+};
+
+/// An operand of a call of a function that may not fit.
+pub(crate) const UNFIT_OPERAND: Advice = Advice {
+    what: "a number that may not fit",
+    cure: "limit the operand before, in a variable of its own, or declare the\n\
+        input wider",
+    line: "",
+};
+
+/// An input of a block that may not fit.
+pub(crate) const UNFIT_INPUT: Advice = Advice {
+    what: "a number that may not fit",
+    cure: "write a number that the block takes; one that is computed has to be limited\n\
+        before",
+    line: "",
+};
+
+/// A value of the wrong type that no comparison cures.
+pub(crate) const OTHER_TYPE: Advice = Advice {
+    what: "a value of the wrong type",
+    cure: "AND, OR, XOR, NOT, S, R, N, C and CN take truth values, arithmetic takes\n\
+        numbers, EQ and NE take two of one kind, and a variable takes its own: choose\n\
+        a number by a jump, and compare a number to make a truth value of it",
+    line: "LD button\nJMPC bright\nLD 50\nJMP set\nbright: LD 200\nset: ST level",
+};
 
 /// What is said of a cause.
-fn advice_of(cause: Cause) -> Advice {
+pub(crate) fn advice_of(cause: Cause) -> Advice {
     match cause {
         Cause::WrongType => Advice {
             what: "a value of the wrong type",
@@ -29,12 +57,12 @@ fn advice_of(cause: Cause) -> Advice {
         Cause::TooBig => Advice {
             what: "a number that may leave 64 bits",
             cure: "declare smaller ranges, or limit the number before",
-            line: "MIN 1000",
+            line: "MIN 1000000\nMAX -1000000",
         },
         Cause::TooManyRequests => Advice {
-            what: "too many requests",
+            what: "more than 16 requests in one scan",
             cure: "send from one scan to the next, or put calls on ways that exclude each\n\
-                other",
+                other: ways count whatever their jumps test",
             line: "JMPC later",
         },
         Cause::TooLong => Advice {
@@ -48,67 +76,11 @@ fn advice_of(cause: Cause) -> Advice {
             cure: "a function calls those before it alone, and at most 8 calls are open at once",
             line: "(nothing)",
         },
+        Cause::OutOfRange { .. } => UNFIT,
         _ => Advice {
             what: "a code that no text has",
             cure: "report it",
             line: "(nothing)",
         },
     }
-}
-
-/// Writes what is said of a cause at a line of a text: of a number that may not fit what was found,
-/// what is allowed, and the operators that keep it there. Where a call of a function gives an
-/// operand, that is the number, and not the current result.
-pub(crate) fn write_cause<W: Write>(
-    out: &mut W,
-    cause: Cause,
-    found_at: &[u8],
-    is_given: bool,
-) -> io::Result<()> {
-    let Cause::OutOfRange { found, allowed } = cause else {
-        return write_advice(out, advice_of(cause));
-    };
-    write_ranges(out, found, allowed)?;
-    writeln!(out, "a number that may not fit")?;
-    if is_given {
-        return write_given(out, found, allowed);
-    }
-    writeln!(
-        out,
-        "cure: limit the number before, or declare what it goes to wider"
-    )?;
-    writeln!(out, "as it could read:")?;
-    write_limits(out, found, allowed)?;
-    write!(out, "    ")?;
-    write_bytes(out, found_at)?;
-    writeln!(out)
-}
-
-/// Writes how an operand of a call of a function is kept within what is allowed.
-fn write_given<W: Write>(out: &mut W, found: Range, allowed: Range) -> io::Result<()> {
-    writeln!(
-        out,
-        "cure: limit the operand before, in a variable of its own, or declare the"
-    )?;
-    writeln!(out, "      input wider")?;
-    writeln!(out, "as it could read:")?;
-    write_limits(out, found, allowed)?;
-    writeln!(out, "    ST limited")
-}
-
-/// Writes what was found and what is allowed.
-fn write_ranges<W: Write>(out: &mut W, found: Range, allowed: Range) -> io::Result<()> {
-    writeln!(out, "found:   {}..{}", found.lo, found.hi)?;
-    writeln!(out, "allowed: {}..{}", allowed.lo, allowed.hi)
-}
-
-/// Writes the operators that keep a number within what is allowed.
-fn write_limits<W: Write>(out: &mut W, found: Range, allowed: Range) -> io::Result<()> {
-    if found.hi > allowed.hi {
-        writeln!(out, "    MIN {}", allowed.hi)?;
-    }
-    if found.lo < allowed.lo {
-        writeln!(out, "    MAX {}", allowed.lo)?;
-    }
-    Ok(())
 }

@@ -1,19 +1,23 @@
 //! Files with their faults.
 
-use crate::advice::{Advice, write_advice};
-use crate::marking::{line_of, place_of, write_found, write_line};
+use crate::code_answers::{Refused, answer_code};
+use crate::requests::write_requests;
 use crate::ways::write_way;
-use crate::{code_causes, function_causes, name_causes, text_causes};
-use ilcode::Word;
+use badlines::{BadLine, binding_fault, scenario_fault};
+use curing::{
+    Answer, Asked, first_column, place_of, write_answer, write_found, write_line, write_place,
+};
 use ilcompile::compile;
 use ilranges::Cause;
-use ilscope::{NameCause, NameFault};
-use iltext::{TextFault, parse};
+use ilscope::NameFault;
+use iltext::TextFault;
 use listing::{TaskNames, functions_in, write_deepest_calls, write_longest_calls};
+use namecauses::answer_name;
 use plantload::{LoadFault, RefusedTask};
 use std::alloc::Global;
 use std::io;
 use std::io::Write;
+use textcauses::answer_text;
 use wordlines::{BindFault, LineFault, ScenarioFault};
 
 /// Explains why a text isn't loaded.
@@ -24,26 +28,37 @@ use wordlines::{BindFault, LineFault, ScenarioFault};
 pub fn explain_load<W: Write>(
     alloc: Global,
     out: &mut W,
-    text: &[u8],
+    asked: &Asked,
     fault: &LoadFault,
 ) -> io::Result<()> {
-    writeln!(out, "{fault}")?;
     match fault {
-        LoadFault::Memory => Ok(()),
-        LoadFault::Text(fault) => explain_text(out, text, fault),
-        LoadFault::Name(fault) => explain_name(alloc, out, text, fault),
-        LoadFault::Code(refused) => explain_code(alloc, out, text, refused),
+        LoadFault::Memory => write_memory(out),
+        LoadFault::Text(fault) => explain_text(alloc, out, asked, fault),
+        LoadFault::Name(fault) => explain_name(alloc, out, asked, fault),
+        LoadFault::Code(refused) => explain_code(alloc, out, asked, refused),
     }
 }
 
+/// Writes that memory ran out.
+fn write_memory<W: Write>(out: &mut W) -> io::Result<()> {
+    writeln!(out, "no memory")
+}
+
 /// Explains a fault of a text.
-fn explain_text<W: Write>(out: &mut W, text: &[u8], fault: &TextFault) -> io::Result<()> {
+fn explain_text<W: Write>(
+    alloc: Global,
+    out: &mut W,
+    asked: &Asked,
+    fault: &TextFault,
+) -> io::Result<()> {
     match fault {
-        TextFault::Memory => Ok(()),
+        TextFault::Memory => write_memory(out),
         TextFault::At { line, col, cause } => {
-            write_line(out, text, *line, Some(*col))?;
-            write_found(out, text, *line, *col)?;
-            write_advice(out, text_causes::advice_of(*cause))
+            let at = place_of(asked.text, *line, *col);
+            let answer = answer_text(alloc, asked, at, *cause)?;
+            write_place(out, asked.path, *line, *col)?;
+            write!(out, "text fault {}: ", cause.number())?;
+            write_at(out, asked, *line, *col, &answer)
         }
     }
 }
@@ -52,48 +67,43 @@ fn explain_text<W: Write>(out: &mut W, text: &[u8], fault: &TextFault) -> io::Re
 fn explain_name<W: Write>(
     alloc: Global,
     out: &mut W,
-    text: &[u8],
+    asked: &Asked,
     fault: &NameFault,
 ) -> io::Result<()> {
     match fault {
-        NameFault::Memory => Ok(()),
+        NameFault::Memory => write_memory(out),
         NameFault::At { line, col, cause } => {
-            write_line(out, text, *line, Some(*col))?;
-            write_found(out, text, *line, *col)?;
-            write_advice(out, name_advice(alloc, text, *line, *col, *cause)?)
+            let at = place_of(asked.text, *line, *col);
+            let answer = answer_name(alloc, asked, at, *cause)?;
+            write_place(out, asked.path, *line, *col)?;
+            write!(out, "name fault {}: ", cause.number())?;
+            write_at(out, asked, *line, *col, &answer)
         }
     }
 }
 
-/// What is said of a cause of names at a place of a text.
-fn name_advice(
-    alloc: Global,
-    text: &[u8],
+/// Writes what is wrong at a place of a text, and what helps.
+fn write_at<W: Write>(
+    out: &mut W,
+    asked: &Asked,
     line: usize,
     col: usize,
-    cause: NameCause,
-) -> io::Result<Advice> {
-    let source = match parse(alloc, text) {
-        Ok(source) => source,
-        // The text was parsed before, so that memory alone is refused here.
-        Err(_) => return Err(io::Error::from(io::ErrorKind::OutOfMemory)),
-    };
-    let at = place_of(text, line, col);
-    match function_causes::advice_of(alloc, &source, at, cause)? {
-        Some(advice) => Ok(advice),
-        None => Ok(name_causes::advice_of(cause)),
-    }
+    answer: &Answer,
+) -> io::Result<()> {
+    writeln!(out, "{}", answer.what.as_str())?;
+    write_line(out, asked.text, line, Some(col))?;
+    write_found(out, asked.text, line, col)?;
+    write_answer(out, answer)
 }
 
 /// Explains a task whose code is refused: with a way to the word, and where what is wrong is the
-/// number of words or the depth of calls, with the calls that make it.
-fn explain_code<W: Write>(
+/// number of words or requests, or the depth of calls, with the calls that make it.
+fn explain_code<'q, W: Write>(
     alloc: Global,
     out: &mut W,
-    text: &[u8],
+    asked: &'q Asked<'q>,
     refused: &RefusedTask,
 ) -> io::Result<()> {
-    let refusal = refused.refusal();
     let code = compile(alloc, refused.plan(), refused.task())?;
     let functions = functions_in(alloc, refused.plan(), refused.task())?;
     let names = TaskNames {
@@ -102,19 +112,53 @@ fn explain_code<W: Write>(
         code: &code,
         functions: &functions,
     };
-    write_line(out, text, refusal.line, None)?;
-    let is_given = matches!(code.get(refusal.word), Some(Word::Give { .. }));
-    code_causes::write_cause(out, refusal.cause, line_of(text, refusal.line), is_given)?;
+    let answer = answer_code(alloc, &Refused::of(asked, &names, refused))?;
+    write_refused(out, asked, refused, &answer)?;
+    write_calls(alloc, out, asked, &names, refused)
+}
+
+/// Writes the first line of a refused task, the line of the text, and what helps.
+fn write_refused<W: Write>(
+    out: &mut W,
+    asked: &Asked,
+    refused: &RefusedTask,
+    answer: &Answer,
+) -> io::Result<()> {
+    let refusal = refused.refusal();
+    let col = first_column(asked.text, refusal.line);
+    write_place(out, asked.path, refusal.line, col)?;
+    let task = refused.task_name();
+    let cause = refusal.cause.number();
+    let word = refusal.word;
+    writeln!(
+        out,
+        "task {task} refused {cause} at word {word}: {}",
+        answer.what.as_str()
+    )?;
+    write_line(out, asked.text, refusal.line, None)?;
+    write_answer(out, answer)
+}
+
+/// Writes the calls or the way that lead to a refused word.
+fn write_calls<W: Write>(
+    alloc: Global,
+    out: &mut W,
+    asked: &Asked,
+    names: &TaskNames,
+    refused: &RefusedTask,
+) -> io::Result<()> {
+    let refusal = refused.refusal();
     match refusal.cause {
         Cause::TooLong => {
             writeln!(out, "the calls that make it:")?;
-            write_longest_calls(alloc, out, &names)
+            write_longest_calls(alloc, out, names)
         }
         Cause::BadCall => {
             writeln!(out, "the chain of calls:")?;
-            write_deepest_calls(alloc, out, &names, refusal.word)
+            write_deepest_calls(alloc, out, names, refusal.word)
         }
-        _ => write_way(alloc, out, &names, refusal.word),
+        Cause::TooManyRequests => write_requests(alloc, out, names, refusal.word),
+        _ => write_way(alloc, out, names, asked.text, refusal.word),
     }
 }
 
@@ -122,23 +166,19 @@ fn explain_code<W: Write>(
 ///
 /// # Errors
 ///
-/// The writer's.
-pub fn explain_binding<W: Write>(out: &mut W, bytes: &[u8], fault: &BindFault) -> io::Result<()> {
-    writeln!(out, "{fault}")?;
+/// The writer's, or that the allocator is out of memory.
+pub fn explain_binding<W: Write>(
+    alloc: Global,
+    out: &mut W,
+    path: &str,
+    bytes: &[u8],
+    fault: &BindFault,
+) -> io::Result<()> {
     match fault {
-        LineFault::Memory => Ok(()),
-        LineFault::At { line, .. } => {
-            write_line(out, bytes, line.number(), None)?;
-            write_advice(
-                out,
-                Advice {
-                    what: "the first bad line of the binding",
-                    cure: "begin with the number of buses, 1 to 64, give each source a line with a\n\
-                        place of its own, and each bus one line `tries` at most, of 1 to 5; write\n\
-                        single spaces and small letters",
-                    line: "source 0.0 device-instance 5 2",
-                },
-            )
+        LineFault::Memory => write_memory(out),
+        LineFault::At { line, cause } => {
+            let bad = binding_fault(alloc, bytes, line.number(), *cause)?;
+            write_bad_line(out, path, bytes, "bind", line.number(), &bad)
         }
     }
 }
@@ -147,26 +187,34 @@ pub fn explain_binding<W: Write>(out: &mut W, bytes: &[u8], fault: &BindFault) -
 ///
 /// # Errors
 ///
-/// The writer's.
+/// The writer's, or that the allocator is out of memory.
 pub fn explain_scenario<W: Write>(
+    alloc: Global,
     out: &mut W,
+    path: &str,
     bytes: &[u8],
     fault: &ScenarioFault,
 ) -> io::Result<()> {
-    writeln!(out, "{fault}")?;
     match fault {
-        LineFault::Memory => Ok(()),
-        LineFault::At { line, .. } => {
-            write_line(out, bytes, line.number(), None)?;
-            write_advice(
-                out,
-                Advice {
-                    what: "the first bad line of a scenario",
-                    cure: "say what is on the buses before the first tick or event, let moments not\n\
-                        fall, and write single spaces and small letters",
-                    line: "event 0 048402",
-                },
-            )
+        LineFault::Memory => write_memory(out),
+        LineFault::At { line, cause } => {
+            let bad = scenario_fault(alloc, bytes, line.number(), *cause)?;
+            write_bad_line(out, path, bytes, "scenario", line.number(), &bad)
         }
     }
+}
+
+/// Writes a bad line of a binding or a scenario, and what helps.
+fn write_bad_line<W: Write>(
+    out: &mut W,
+    path: &str,
+    bytes: &[u8],
+    kind: &str,
+    line: usize,
+    bad: &BadLine,
+) -> io::Result<()> {
+    write_place(out, path, line, bad.col)?;
+    writeln!(out, "{kind} fault: {}", bad.answer.what.as_str())?;
+    write_line(out, bytes, line, Some(bad.col))?;
+    write_answer(out, &bad.answer)
 }

@@ -1,23 +1,24 @@
-//! What stands against a file, explained: the line with the place marked, the cause in words, and
-//! the cure; of a refused word also what is known there, and a way that leads there.
+//! What stands against a file, explained: the line with the place marked, the cause in words, what
+//! could stand there, and the cure; of a refused word also what is known there, and a way that
+//! leads there.
 //!
-//! What crosses the boundary: the bytes of a file with its fault, and lines on a writer. What is
-//! printed is fixed by worked rows (crates/rows); of the code it is proved that it is safe and
-//! ends.
+//! What crosses the boundary: the bytes of a file with its fault ([`Asked`] for a text), and lines
+//! on a writer. Lines that are proposed as they could read were tried: with them the text is
+//! accepted, or its fault is gone. What is printed is fixed by worked rows (crates/rows); of the
+//! code it is proved that it is safe and ends.
 //!
 //! ```text
-//! explain_load(alloc, &mut out, &text, &fault)?;
+//! explain_load(alloc, &mut out, &asked, &fault)?;
 //! ```
 #![tactic(auto)]
 
-mod advice;
+mod block_commands;
+mod code_answers;
 mod code_causes;
 mod files;
-mod function_causes;
-mod function_places;
-mod marking;
-mod name_causes;
-mod text_causes;
+mod requests;
+mod taken;
 mod ways;
 
+pub use curing::Asked;
 pub use files::{explain_binding, explain_load, explain_scenario};

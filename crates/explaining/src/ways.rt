@@ -1,10 +1,10 @@
 //! A way that leads to a word, with what is known on it.
 
-ghost use Rattle.std.specs.Prelude.{◌<◌, length};
-
+use crate::taken::{Ways, jumps_to, place_before, ways_up_to};
+use curing::{Spot, part, place_of, shown};
 use ilcode::{Code, Word};
 use ilranges::Entry;
-use iltypes::Condition;
+use iltokens::{Keyword, Lexed, What, token};
 use listing::{Flow, Judged, KnownText, TaskNames, WordText};
 use std::alloc::{AllocError, Global};
 use std::io;
@@ -13,23 +13,24 @@ use std::io::Write;
 /// How many words of the way are shown at most.
 const MOST_SHOWN: usize = 16;
 
-/// Writes the last words of a way that leads to a word, each with its line and what is known before
-/// it.
+/// Writes the last words of a way that a value goes to a word, each with its line and what is known
+/// before it.
 pub(crate) fn write_way<W: Write>(
     alloc: Global,
     out: &mut W,
     names: &TaskNames,
+    text: &[u8],
     word: usize,
 ) -> io::Result<()> {
     let code = names.code;
-    let reached = reached_before(alloc, code, word)?;
-    let way = way_to(alloc, code, &reached, word)?;
+    let ways = ways_up_to(alloc, code, word)?;
+    let way = way_to(alloc, code, &ways, word)?;
     writeln!(out, "the way there, with what is known before each word:")?;
     let mut flow = Flow::new(alloc, code)?;
     for place in 0..word.saturating_add(1) {
         if way.contains(&place) {
-            write_step(alloc, out, names, &flow)?;
-            write_meeting(out, code, &reached, place)?;
+            write_step(alloc, out, names, text, &flow)?;
+            write_meeting(out, code, &ways, place)?;
         }
         if flow.advance(code)? != Judged::Accepted {
             return Ok(());
@@ -38,31 +39,18 @@ pub(crate) fn write_way<W: Write>(
     Ok(())
 }
 
-/// Which words up to one a scan may reach.
-fn reached_before(alloc: Global, code: &Code, word: usize) -> Result<Vec<bool>, AllocError> {
-    let mut reached = Vec::new(alloc);
-    let mut flow = Flow::new(alloc, code)?;
-    for _ in 0..word.saturating_add(1) {
-        reached.push(flow.entry().is_some())?;
-        if flow.advance(code)? != Judged::Accepted {
-            return Ok(reached);
-        }
-    }
-    Ok(reached)
-}
-
 /// The last places of a way that leads to a word, that of the word first.
 fn way_to(
     alloc: Global,
     code: &Code,
-    reached: &[bool],
+    ways: &[Ways],
     word: usize,
 ) -> Result<Vec<usize>, AllocError> {
     let mut way = Vec::new(alloc);
     let mut place = word;
     for _ in 0..MOST_SHOWN {
         way.push(place)?;
-        match place_before(code, reached, place) {
+        match place_before(code, ways, place) {
             Some(before) => place = before,
             None => return Ok(way),
         }
@@ -70,75 +58,82 @@ fn way_to(
     Ok(way)
 }
 
-/// A place from which control goes to this one: the one before it, or else the last jump there. A
-/// function begins at its first word, whatever calls it.
-fn place_before(code: &Code, reached: &[bool], place: usize) -> Option<usize> {
-    let before = place.checked_sub(1)?;
-    if is_reached(reached, before) && goes_on(code, before) {
-        return Some(before);
-    }
-    for back in 0..place {
-        let from = place - 1 - back;
-        if is_reached(reached, from) && jumps_to(code, from, place) {
-            return Some(from);
-        }
-    }
-    None
-}
-
-/// Whether a scan may reach a place.
-fn is_reached(reached: &[bool], place: usize) -> bool {
-    match reached.get(place) {
-        Some(is) => *is,
-        None => false,
-    }
-}
-
-/// Whether control may go from a place to the next one, of the same body.
-fn goes_on(code: &Code, place: usize) -> bool {
-    if !is_one_body(code, place, place.saturating_add(1)) {
-        return false;
-    }
-    match code.get(place) {
-        Some(Word::Jump { condition, .. }) => condition != Condition::Always,
-        Some(_) => true,
-        None => false,
-    }
-}
-
-/// Whether the word at a place jumps to another one, of the same body.
-fn jumps_to(code: &Code, from: usize, place: usize) -> bool {
-    match code.get(from) {
-        Some(Word::Jump { target, .. }) => {
-            target as usize == place && is_one_body(code, from, place)
-        }
-        _ => false,
-    }
-}
-
-/// Whether the words at two places are of the programs, or of one function.
-fn is_one_body(code: &Code, one: usize, other: usize) -> bool {
-    code.body_at(one) == code.body_at(other)
-}
-
 /// Writes the word to which a flow has come, with what is known before it.
 fn write_step<W: Write>(
     alloc: Global,
     out: &mut W,
     names: &TaskNames,
+    text: &[u8],
     flow: &Flow,
 ) -> io::Result<()> {
     let Some(word) = names.code.get(flow.place()) else {
         return Ok(());
     };
     let line = line_at(names.code, flow.place());
-    let text = WordText { names, word };
-    let text = format!(in alloc; "{text}")?;
-    write!(out, "{line:>6} | {text:<24}  ")?;
+    let spelled = spelled(alloc, names, text, word, line)?;
+    write!(out, "{line:>6} | {spelled:<24}  ")?;
     match flow.entry() {
         Some(entry) => write_known(out, names, word, entry),
         None => writeln!(out),
     }
+}
+
+/// A word as it is shown: a jump as it is written in the text, where it stands on this line.
+fn spelled(
+    alloc: Global,
+    names: &TaskNames,
+    text: &[u8],
+    word: Word,
+    line: usize,
+) -> Result<String, AllocError> {
+    if matches!(word, Word::Jump { .. }) {
+        if let Some(written) = jump_on(text, line) {
+            return shown(alloc, written);
+        }
+    }
+    let word = WordText { names, word };
+    format!(in alloc; "{word}")
+}
+
+/// The jump that is written on a line, with its label.
+fn jump_on(text: &[u8], line: usize) -> Option<&[u8]> {
+    let spot = Spot::of(text, place_of(text, line, 1));
+    let line = spot.line();
+    let mut from: Option<usize> = None;
+    let mut at: usize = 0;
+    for _ in 0..line.len() {
+        if at >= line.len() {
+            break;
+        }
+        let Lexed::Token {
+            what,
+            from: first,
+            to,
+        } = token(line, at)
+        else {
+            break;
+        };
+        at = to;
+        if from.is_none() && is_jump(what) {
+            from = Some(first);
+        }
+    }
+    Some(part(line, from?, at))
+}
+
+/// Whether a token is a jump.
+fn is_jump(what: What) -> bool {
+    matches!(
+        what,
+        What::Keyword(
+            Keyword::Jmp
+                | Keyword::Jmpc
+                | Keyword::Jmpcn
+                | Keyword::Ret
+                | Keyword::Retc
+                | Keyword::Retcn
+        )
+    )
 }
 
 /// Writes what is known before a word.
@@ -164,13 +159,12 @@ fn line_at(code: &Code, place: usize) -> usize {
 fn write_meeting<W: Write>(
     out: &mut W,
     code: &Code,
-    reached: &[bool],
+    ways: &[Ways],
     place: usize,
 ) -> io::Result<()> {
-    let before = place_before(code, reached, place);
+    let before = place_before(code, ways, place);
     for from in 0..place {
-        let is_jump = is_reached(reached, from) && jumps_to(code, from, place);
-        if is_jump && before != Some(from) {
+        if jumps_to(code, ways, from, place) && before != Some(from) {
             let line = line_at(code, from);
             writeln!(
                 out,

@@ -1,7 +1,7 @@
 //! What is said of the causes of names where a function or a call of one has them.
 
-use crate::advice::Advice;
 use crate::function_places::{Standing, standing_of};
+use curing::Advice;
 use ilscope::NameCause;
 use ilsource::Source;
 use std::alloc::{AllocError, Global};

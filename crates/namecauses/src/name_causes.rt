@@ -1,7 +1,49 @@
 //! What is said of the causes of names.
 
-use crate::advice::Advice;
+use curing::Advice;
 use ilscope::NameCause;
+use ilsource::{InstanceDeclaration, Source, TaskDeclaration};
+use limits::{MOST_INSTANCES, MOST_TASKS};
+
+/// What is said of an address that is given twice.
+pub(crate) const SHARED_ADDRESS: Advice = Advice {
+    what: "an address that is given twice",
+    cure: "use the variable that has the address; each address has one name",
+    line: "VAR_GLOBAL lamp AT %QB0.5 : USINT (0..254); END_VAR",
+};
+
+/// What is said of a task too many.
+const TASKS: Advice = Advice {
+    what: "the 17th task: there are at most 16",
+    cure: "give program instances of two tasks to one, and leave the other out",
+    line: "PROGRAM hall WITH clock : light;\nPROGRAM stairs WITH clock : light;",
+};
+
+/// What is said of an instance too many.
+const INSTANCES: Advice = Advice {
+    what: "the 65th program instance: there are at most 64",
+    cure: "let one program do for two rooms, with two sets of variables",
+    line: "PROGRAM hall WITH clock : two_rooms;",
+};
+
+/// What is said of too many tasks or instances, where one of them stands at a place.
+pub(crate) fn count_advice(source: &Source, at: usize) -> Option<Advice> {
+    let configuration = source.configuration()?;
+    let is_task = |task: &TaskDeclaration| task.name.from == at;
+    let is_instance = |instance: &InstanceDeclaration| instance.name.from == at;
+    if configuration.tasks().iter().skip(MOST_TASKS).any(is_task) {
+        Some(TASKS)
+    } else if configuration
+        .instances()
+        .iter()
+        .skip(MOST_INSTANCES)
+        .any(is_instance)
+    {
+        Some(INSTANCES)
+    } else {
+        None
+    }
+}
 
 /// What is said of a cause.
 pub(crate) fn advice_of(cause: NameCause) -> Advice {
@@ -13,7 +55,7 @@ pub(crate) fn advice_of(cause: NameCause) -> Advice {
             line: "VAR_EXTERNAL lamp : USINT (0..254); END_VAR",
         },
         NameCause::Twice => Advice {
-            what: "a name or an address that is given twice",
+            what: "a name that is given twice",
             cure: "give one of them another name; letter case does not tell names apart",
             line: "VAR lamp : BOOL; lamp2 : BOOL; END_VAR",
         },
@@ -58,9 +100,10 @@ pub(crate) fn advice_of(cause: NameCause) -> Advice {
             line: "PROGRAM i WITH t : p;",
         },
         NameCause::TooMany => Advice {
-            what: "too many of something",
-            cure: "leave some out, or divide them among tasks",
-            line: "(shorter)",
+            what: "too much for one task",
+            cure: "a task has at most 4096 variables, 256 block instances, 65,536 words and\n\
+                4096 constants: leave some out, or divide them among tasks",
+            line: "TASK stairs (INTERVAL := T#1s, PRIORITY := 2);",
         },
         NameCause::BadDeclaration => Advice {
             what: "a bad declaration",

@@ -1,0 +1,211 @@
+//! Why a line of a scenario is bad.
+
+use crate::bad_lines::{
+    BadLine, Reason, bad_words, last_line, line_at, line_before, line_with, with_line,
+    without_return, words_of,
+};
+use crate::forms::{SCENARIO, in_small_letters};
+use curing::{Answer, Example, shown};
+use std::alloc::{AllocError, Global};
+use wordlines::{LineCause, LineFault, ScenarioFault, Words, is_skipped, parse};
+
+/// What is said of a fault of a scenario.
+pub fn scenario_fault(
+    alloc: Global,
+    bytes: &[u8],
+    number: usize,
+    cause: LineCause,
+) -> Result<BadLine, AllocError> {
+    let line = line_at(bytes, number);
+    if cause == LineCause::TooLong {
+        let what = String::from_str(alloc, "a scenario of over 1,048,576 bytes")?;
+        return Reason::new(alloc, 1, what, "play it in two parts")?.answer(alloc, "tick 1000");
+    }
+    let reason = match bad_words(alloc, line, SCENARIO)? {
+        Some(reason) => reason,
+        None => bad_order(alloc, bytes, number, line)?,
+    };
+    with_meant(alloc, bytes, number, line, reason)
+}
+
+/// What is said of a reason: with the line as it is meant, where that helps.
+fn with_meant(
+    alloc: Global,
+    bytes: &[u8],
+    number: usize,
+    line: &[u8],
+    reason: Reason,
+) -> Result<BadLine, AllocError> {
+    let small = in_small_letters(alloc, line, &words_of(alloc, line)?)?;
+    let meant = match &reason.meant {
+        Some(meant) => Vec::from_slice(alloc, meant)?,
+        None => small,
+    };
+    if is_cure(alloc, bytes, number, &meant)? {
+        return Ok(BadLine {
+            col: reason.col,
+            answer: Answer {
+                what: reason.what,
+                facts: String::new(alloc),
+                cure: reason.cure,
+                example: Example::Tried(shown(alloc, &meant)?),
+            },
+        });
+    }
+    let example = example_of(line);
+    reason.answer(alloc, example)
+}
+
+/// Whether the scenario has no fault up to a line with another line in its place.
+fn is_cure(alloc: Global, bytes: &[u8], number: usize, meant: &[u8]) -> Result<bool, AllocError> {
+    let all = with_line(alloc, bytes, number, meant)?;
+    match parse(alloc, &all) {
+        Ok(_) => Ok(true),
+        Err(fault) => is_behind(&fault, last_line(number, meant)),
+    }
+}
+
+/// Whether the bad line is behind another one.
+fn is_behind(fault: &ScenarioFault, last: usize) -> Result<bool, AllocError> {
+    match fault {
+        LineFault::Memory => Err(AllocError),
+        LineFault::At { line, .. } => Ok(line.number() > last),
+    }
+}
+
+/// A line of the kind that a line is of.
+fn example_of(line: &[u8]) -> &'static str {
+    let mut words = Words::of(line);
+    let first = words.next();
+    let form = SCENARIO
+        .iter()
+        .find(|form| Some(form.word.as_bytes()) == first);
+    match form {
+        Some(form) => form.example,
+        None => "event 0 048402",
+    }
+}
+
+/// The first three numbers of a line.
+#[derive(Clone, Copy)]
+struct Numbers {
+    first: u64,
+    second: u64,
+    third: u64,
+}
+
+/// Why a line of good words is bad among the others.
+fn bad_order(
+    alloc: Global,
+    bytes: &[u8],
+    number: usize,
+    line: &[u8],
+) -> Result<Reason, AllocError> {
+    let mut words = Words::of(line);
+    let word = match words.next() {
+        Some(word) => word,
+        None => line,
+    };
+    let numbers = Numbers {
+        first: words.number(u64::MAX).unwrap_or(0),
+        second: words.number(u64::MAX).unwrap_or(0),
+        third: words.number(u64::MAX).unwrap_or(0),
+    };
+    if word == b"tick".as_slice() {
+        return falls(alloc, bytes, number, numbers.first);
+    }
+    if let Some(first) = first_happening(bytes, number) {
+        let word = shown(alloc, word)?;
+        let what = format!(in alloc; "{word} behind the first tick or event, in line {first}")?;
+        let cure = "say what is on the buses, and what becomes of frames, before that";
+        return Reason::new(alloc, 1, what, cure);
+    }
+    let mut reason = declared(alloc, bytes, number, word, numbers)?;
+    let kind = if word == b"instance".as_slice() {
+        "device"
+    } else {
+        "gear"
+    };
+    let bus = numbers.first;
+    let short = numbers.second;
+    let first = format!(in alloc; "{kind} {bus} {short}")?;
+    reason.meant = Some(line_before(alloc, first.as_bytes(), line)?);
+    Ok(reason)
+}
+
+/// A moment that falls.
+fn falls(alloc: Global, bytes: &[u8], number: usize, moment: u64) -> Result<Reason, AllocError> {
+    let (last, before) = last_moment(bytes, number);
+    let what = format!(in alloc; "moment {moment} comes behind moment {last}, in line {before}")?;
+    Reason::new(alloc, 6, what, "moments stay or rise, from tick to tick")
+}
+
+/// The last moment before a line, and the number of its line.
+fn last_moment(bytes: &[u8], number: usize) -> (u64, usize) {
+    let mut last = (0, 1);
+    for (index, line) in bytes.split(|byte| *byte == b'\n').enumerate() {
+        let found = index.saturating_add(1);
+        if found >= number {
+            return last;
+        }
+        let mut words = Words::of(without_return(line));
+        if words.next() == Some(b"tick".as_slice()) {
+            last = (words.number(u64::MAX).unwrap_or(0), found);
+        }
+    }
+    last
+}
+
+/// The number of the first line before this one that is a tick or an event.
+fn first_happening(bytes: &[u8], number: usize) -> Option<usize> {
+    for (index, line) in bytes.split(|byte| *byte == b'\n').enumerate() {
+        let found = index.saturating_add(1);
+        if found >= number {
+            return None;
+        }
+        let is_it = line.starts_with(b"tick ") || line.starts_with(b"event ");
+        if is_it && !is_skipped(line) {
+            return Some(found);
+        }
+    }
+    None
+}
+
+/// Something that is declared twice, or not before it is named.
+fn declared(
+    alloc: Global,
+    bytes: &[u8],
+    number: usize,
+    word: &[u8],
+    numbers: Numbers,
+) -> Result<Reason, AllocError> {
+    let Numbers {
+        first: bus,
+        second: short,
+        third: instance,
+    } = numbers;
+    let what = match word {
+        b"gear" | b"device" => {
+            let found = line_with(bytes, number, word, &[bus, short]).unwrap_or(number);
+            let kind = if word == b"gear".as_slice() {
+                "gear"
+            } else {
+                "device"
+            };
+            format!(in alloc; "{kind} {short} of bus {bus} is declared already, in line {found}")?
+        }
+        b"reply" => {
+            let found = line_with(bytes, number, word, &[bus, short]).unwrap_or(number);
+            format!(in alloc; "frame {short} of bus {bus} has a line already, line {found}")?
+        }
+        b"instance" => match line_with(bytes, number, word, &[bus, short, instance]) {
+            Some(found) => format!(in alloc;
+                "instance {instance} of device {short} of bus {bus} is declared already, in line {found}"
+            )?,
+            None => format!(in alloc; "there is no device {short} on bus {bus} up to here")?,
+        },
+        _ => format!(in alloc; "there is no gear {short} on bus {bus} up to here")?,
+    };
+    let cure = "declare gear, devices and instances once, and before a line that names them";
+    Reason::new(alloc, 1, what, cure)
+}

@@ -1,0 +1,340 @@
+//! The forms of lines of bindings and scenarios, word by word.
+
+use crate::bad_lines::{Placed, Reason, replaced};
+use curing::shown;
+use std::alloc::{AllocError, Global};
+use wordlines::{hex_of, number_of, parts_around_dot};
+
+/// A line by its first word.
+#[derive(Clone, Copy)]
+pub(crate) struct Form {
+    pub word: &'static str,
+    pub fields: &'static [Field],
+    /// A line as it could read.
+    pub example: &'static str,
+}
+
+/// A word of a line.
+#[derive(Clone, Copy)]
+pub(crate) enum Field {
+    /// What it is called, and its least and greatest number.
+    Number(&'static str, u64, u64),
+    /// `B.K`
+    Place,
+    /// One of these words; what they are called.
+    OneOf(&'static str, &'static [&'static str]),
+    /// The first and the second number of a source, by its scheme.
+    First,
+    Second,
+    /// Six hexadecimal digits.
+    Frame,
+}
+
+const BUS: Field = Field::Number("bus", 0, 63);
+
+const SHORT: Field = Field::Number("short address", 0, 63);
+
+const MOMENT: Field = Field::Number("moment", 0, u64::MAX);
+
+/// The words of event schemes.
+pub(crate) const SCHEMES: &[&str] = &[
+    "instance",
+    "device",
+    "device-instance",
+    "device-group",
+    "instance-group",
+];
+
+/// The lines of a binding.
+pub(crate) const BINDING: &[Form] = &[
+    Form {
+        word: "buses",
+        fields: &[Field::Number("number of buses", 1, 64)],
+        example: "buses 1",
+    },
+    Form {
+        word: "source",
+        fields: &[
+            Field::Place,
+            Field::OneOf("event scheme", SCHEMES),
+            Field::First,
+            Field::Second,
+        ],
+        example: "source 0.0 device-instance 5 2",
+    },
+    Form {
+        word: "tries",
+        fields: &[BUS, Field::Number("number of attempts", 1, 5)],
+        example: "tries 0 5",
+    },
+];
+
+/// The lines of a scenario.
+pub(crate) const SCENARIO: &[Form] = &[
+    Form {
+        word: "gear",
+        fields: &[BUS, SHORT],
+        example: "gear 0 5",
+    },
+    Form {
+        word: "lampfailure",
+        fields: &[BUS, SHORT],
+        example: "lampfailure 0 5",
+    },
+    Form {
+        word: "memory",
+        fields: &[
+            BUS,
+            SHORT,
+            Field::Number("bank", 0, 255),
+            Field::Number("offset", 0, 255),
+            Field::Number("value", 0, 255),
+        ],
+        example: "memory 0 5 0 3 17",
+    },
+    Form {
+        word: "device",
+        fields: &[BUS, SHORT],
+        example: "device 0 3",
+    },
+    Form {
+        word: "instance",
+        fields: &[
+            BUS,
+            SHORT,
+            Field::Number("instance number", 0, 31),
+            Field::Number("instance type", 0, 31),
+            Field::Number("event scheme", 0, 4),
+            Field::Number("input value", 0, 255),
+        ],
+        example: "instance 0 3 2 1 2 0",
+    },
+    Form {
+        word: "reply",
+        fields: &[
+            BUS,
+            Field::Number("number of the frame", 1, u64::MAX),
+            Field::OneOf("fate of the frame", &["lost", "damaged", "fault"]),
+        ],
+        example: "reply 0 3 lost",
+    },
+    Form {
+        word: "hearfault",
+        fields: &[BUS],
+        example: "hearfault 0",
+    },
+    Form {
+        word: "tick",
+        fields: &[MOMENT],
+        example: "tick 1000",
+    },
+    Form {
+        word: "event",
+        fields: &[BUS, Field::Frame],
+        example: "event 0 048402",
+    },
+];
+
+impl Field {
+    /// What the word is called, of a line of this scheme.
+    fn name(self, scheme: &[u8]) -> &'static str {
+        match self {
+            Field::Number(name, ..) => name,
+            Field::Place => "place",
+            Field::OneOf(name, _) => name,
+            Field::First => first_name(scheme),
+            Field::Second => second_name(scheme),
+            Field::Frame => "frame",
+        }
+    }
+
+    /// What the number may be, of a line of this scheme.
+    fn range(self, scheme: &[u8]) -> Option<(u64, u64)> {
+        match self {
+            Field::Number(_, least, most) => Some((least, most)),
+            Field::First if first_name(scheme) == "short address" => Some((0, 63)),
+            Field::First | Field::Second => Some((0, 31)),
+            _ => None,
+        }
+    }
+
+    /// What helps where the word lacks, or is bad.
+    fn cure(self, alloc: Global, scheme: &[u8]) -> Result<String, AllocError> {
+        let name = self.name(scheme);
+        match (self, self.range(scheme)) {
+            (_, Some((least, most))) if most == u64::MAX => {
+                format!(in alloc; "the {name} is a number of decimal digits alone, {least} or more")
+            }
+            (_, Some((least, most))) => {
+                format!(in alloc; "the {name} is {least} to {most}, in decimal digits alone")
+            }
+            (Field::Place, None) => String::from_str(
+                alloc,
+                "a place is the number of a bus, a dot and a number of 0 to 63, in one word",
+            ),
+            (Field::OneOf(_, words), None) => one_of(alloc, name, words),
+            _ => String::from_str(alloc, "a frame is six hexadecimal digits, such as 048402"),
+        }
+    }
+
+    /// Whether a word is one of these, on a line of this scheme.
+    fn is_met(self, word: &[u8], scheme: &[u8]) -> bool {
+        match (self, self.range(scheme)) {
+            (_, Some((least, most))) => match number_of(word, most) {
+                Some(number) => number >= least,
+                None => false,
+            },
+            (Field::Place, None) => place_in(word).is_some(),
+            (Field::OneOf(_, words), None) => words.iter().any(|one| one.as_bytes() == word),
+            _ => hex_of(word).is_some(),
+        }
+    }
+
+    /// The word as it is meant, where it is of another letter case.
+    fn meant(self, word: &[u8]) -> Option<&'static str> {
+        match self {
+            Field::OneOf(_, words) => words
+                .iter()
+                .find(|one| one.as_bytes().eq_ignore_ascii_case(word))
+                .copied(),
+            _ => None,
+        }
+    }
+}
+
+/// What the first number of a source of a scheme is.
+fn first_name(scheme: &[u8]) -> &'static str {
+    match scheme {
+        b"device" | b"device-instance" => "short address",
+        b"device-group" | b"instance-group" => "group",
+        _ => "instance type",
+    }
+}
+
+/// What the second number of a source of a scheme is.
+fn second_name(scheme: &[u8]) -> &'static str {
+    match scheme {
+        b"instance" | b"device-instance" => "instance number",
+        _ => "instance type",
+    }
+}
+
+/// What a word is, which is one of some.
+fn one_of(alloc: Global, name: &str, words: &[&str]) -> Result<String, AllocError> {
+    let mut text = format!(in alloc; "the {name} is ")?;
+    for (index, word) in words.iter().enumerate() {
+        let before = match index {
+            0 => "",
+            3 => ",\n",
+            _ => ", ",
+        };
+        text.push_str(before)?;
+        text.push_str(word)?;
+    }
+    Ok(text)
+}
+
+/// The numbers of a place `B.K`.
+pub(crate) fn place_in(word: &[u8]) -> Option<(u64, u64)> {
+    let (front, back) = parts_around_dot(word)?;
+    let bus = number_of(front, 63)?;
+    let number = number_of(back, 63)?;
+    Some((bus, number))
+}
+
+/// Why the words behind the first are bad: one lacks, is not what it has to be, or is too much.
+pub(crate) fn check_words(
+    alloc: Global,
+    form: &Form,
+    words: &[Placed<'_>],
+    len: usize,
+) -> Result<Option<Reason>, AllocError> {
+    let scheme = match words.get(2) {
+        Some(found) => found.word,
+        None => form.word.as_bytes(),
+    };
+    for (index, field) in form.fields.iter().enumerate() {
+        let Some(found) = words.get(index.saturating_add(1)) else {
+            return Ok(Some(missing(alloc, *field, scheme, len)?));
+        };
+        if !field.is_met(found.word, scheme) {
+            return Ok(Some(unmet(alloc, *field, *found, scheme)?));
+        }
+    }
+    match words.get(form.fields.len().saturating_add(1)) {
+        Some(more) => Ok(Some(too_many(alloc, *more)?)),
+        None => Ok(None),
+    }
+}
+
+/// A word that lacks.
+fn missing(alloc: Global, field: Field, scheme: &[u8], len: usize) -> Result<Reason, AllocError> {
+    let name = field.name(scheme);
+    let what = format!(in alloc; "the {name} is missing")?;
+    let mut reason = Reason::new(alloc, len.saturating_add(1), what, "")?;
+    reason.cure = field.cure(alloc, scheme)?;
+    Ok(reason)
+}
+
+/// A word that is not what it has to be.
+fn unmet(
+    alloc: Global,
+    field: Field,
+    found: Placed<'_>,
+    scheme: &[u8],
+) -> Result<Reason, AllocError> {
+    let word = shown(alloc, found.word)?;
+    let name = field.name(scheme);
+    let what = match field.range(scheme) {
+        Some((least, most)) if most == u64::MAX && is_number(found.word) => {
+            format!(in alloc; "the {name} is {word}, and not {least} or more")?
+        }
+        Some((least, most)) if is_number(found.word) => {
+            format!(in alloc; "the {name} is {word}, and not {least} to {most}")?
+        }
+        Some(_) => format!(in alloc; "{word} is no number")?,
+        None if field.meant(found.word).is_some() => {
+            format!(in alloc; "{word} is not in small letters")?
+        }
+        None => format!(in alloc; "{word} is no {name}")?,
+    };
+    let mut reason = Reason::new(alloc, found.at.saturating_add(1), what, "")?;
+    reason.cure = field.cure(alloc, scheme)?;
+    Ok(reason)
+}
+
+/// Whether a word is a number.
+fn is_number(word: &[u8]) -> bool {
+    number_of(word, u64::MAX).is_some()
+}
+
+/// A word too many.
+fn too_many(alloc: Global, more: Placed<'_>) -> Result<Reason, AllocError> {
+    let word = shown(alloc, more.word)?;
+    let cure = if more.word.starts_with(b"#") {
+        "give a comment a line of its own"
+    } else {
+        "leave out what stands here, or give it a line of its own"
+    };
+    let what = format!(in alloc; "{word} is a word too many")?;
+    Reason::new(alloc, more.at.saturating_add(1), what, cure)
+}
+
+/// The line with a word in small letters, where that is all that is wrong with it.
+pub(crate) fn in_small_letters(
+    alloc: Global,
+    line: &[u8],
+    words: &[Placed<'_>],
+) -> Result<Vec<u8>, AllocError> {
+    let mut all = Vec::from_slice(alloc, line)?;
+    for word in words {
+        if word.word.iter().any(|byte| byte.is_ascii_uppercase()) {
+            let mut small = Vec::new(alloc);
+            for byte in word.word {
+                small.push(byte.to_ascii_lowercase())?;
+            }
+            all = replaced(alloc, &all, *word, &small)?;
+        }
+    }
+    Ok(all)
+}

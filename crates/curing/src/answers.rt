@@ -1,0 +1,98 @@
+//! What is said of a fault.
+
+use crate::advice::Advice;
+use crate::edits::Edit;
+use std::alloc::{AllocError, Global};
+use std::io;
+use std::io::Write;
+
+/// What is said of a fault.
+#[derive(Drop)]
+pub struct Answer {
+    /// What is wrong.
+    pub what: String,
+    /// What is known of it, in lines; none where it is empty.
+    pub facts: String,
+    /// What helps, in lines of some 72 characters.
+    pub cure: String,
+    pub example: Example,
+}
+
+/// Lines that show what helps.
+#[derive(Drop)]
+pub enum Example {
+    /// Lines in place of those at fault: with them the text is accepted, or the fault is gone.
+    Tried(String),
+    /// Lines of another text.
+    Other(String),
+}
+
+impl Answer {
+    /// What advice says, of which the line is one of another text.
+    pub fn of(alloc: Global, advice: Advice) -> Result<Answer, AllocError> {
+        Ok(Answer {
+            what: String::from_str(alloc, advice.what)?,
+            facts: String::new(alloc),
+            cure: String::from_str(alloc, advice.cure)?,
+            example: Example::Other(String::from_str(alloc, advice.line)?),
+        })
+    }
+
+    /// The same, with lines that were tried.
+    pub fn with_tried(self, alloc: Global, text: &[u8], edit: &Edit) -> Result<Answer, AllocError> {
+        Ok(Answer {
+            what: self.what,
+            facts: self.facts,
+            cure: self.cure,
+            example: Example::Tried(edit.lines(alloc, text)?),
+        })
+    }
+
+    /// The same, with more that is known.
+    pub fn with_facts(self, facts: String) -> Answer {
+        Answer {
+            what: self.what,
+            facts,
+            cure: self.cure,
+            example: self.example,
+        }
+    }
+}
+
+/// Writes what is known, what helps, and the lines.
+pub fn write_answer<W: Write>(out: &mut W, answer: &Answer) -> io::Result<()> {
+    write!(out, "{}", answer.facts.as_str())?;
+    write_cure(out, answer.cure.as_str())?;
+    match &answer.example {
+        Example::Tried(lines) => {
+            writeln!(out, "as it could read:")?;
+            write_lines(out, lines.as_str())
+        }
+        Example::Other(lines) => {
+            writeln!(out, "for example:")?;
+            write_lines(out, lines.as_str())
+        }
+    }
+}
+
+/// Writes lines of a text, set in.
+fn write_lines<W: Write>(out: &mut W, lines: &str) -> io::Result<()> {
+    for line in lines.split('\n') {
+        writeln!(out, "    {line}")?;
+    }
+    Ok(())
+}
+
+/// Writes what helps, line by line.
+fn write_cure<W: Write>(out: &mut W, cure: &str) -> io::Result<()> {
+    let mut is_first = true;
+    for line in cure.split('\n') {
+        if is_first {
+            writeln!(out, "cure: {line}")?;
+        } else {
+            writeln!(out, "      {line}")?;
+        }
+        is_first = false;
+    }
+    Ok(())
+}

@@ -1,0 +1,116 @@
+//! Changes of a text that may cure it, and trying them.
+
+use crate::asked::Asked;
+use crate::marking::shown;
+use crate::spots::{Spot, part, place_of};
+use ilscope::NameFault;
+use iltext::{TextFault, parse};
+use plantload::{LoadFault, load};
+use std::alloc::{AllocError, Global};
+
+/// A change of a text: other bytes in place of those of `from..to`.
+#[derive(Drop)]
+pub struct Edit {
+    pub from: usize,
+    pub to: usize,
+    pub with: Vec<u8>,
+}
+
+impl Edit {
+    /// These bytes in place of others.
+    pub fn new(alloc: Global, from: usize, to: usize, with: &[u8]) -> Result<Edit, AllocError> {
+        Ok(Edit {
+            from,
+            to,
+            with: Vec::from_slice(alloc, with)?,
+        })
+    }
+
+    /// The bytes from one place on, with the change, up to another.
+    fn apply(
+        &self,
+        alloc: Global,
+        text: &[u8],
+        from: usize,
+        to: usize,
+    ) -> Result<Vec<u8>, AllocError> {
+        let mut bytes = Vec::from_slice(alloc, part(text, from, self.from))?;
+        bytes.extend_from_slice(&self.with)?;
+        bytes.extend_from_slice(part(text, self.to, to))?;
+        Ok(bytes)
+    }
+
+    /// The lines that the change touches, as they could read.
+    pub fn lines(&self, alloc: Global, text: &[u8]) -> Result<String, AllocError> {
+        let first = Spot::of(text, self.from);
+        let last = Spot::of(text, self.to);
+        let bytes = self.apply(alloc, text, first.line_from, last.line_to)?;
+        shown(alloc, &bytes)
+    }
+
+    /// Whether the text reads with the change up to the end of its last line, and of that of a place,
+    /// and where `with_next` the line behind it too; all that stands before `start` may be left out.
+    pub fn is_read(
+        &self,
+        alloc: Global,
+        spot: &Spot,
+        start: usize,
+        with_next: bool,
+    ) -> Result<bool, AllocError> {
+        let last = Spot::of(spot.text, self.to.max(spot.at));
+        let to = if with_next {
+            last.next_line_to()
+        } else {
+            last.line_to
+        };
+        let mut bytes = self.apply(alloc, spot.text, start, to)?;
+        bytes.push(b'\n')?;
+        match parse(alloc, &bytes) {
+            Ok(_) => Ok(true),
+            Err(TextFault::Memory) => Err(AllocError),
+            Err(TextFault::At { line, col, .. }) => Ok(place_of(&bytes, line, col) >= bytes.len()),
+        }
+    }
+
+    /// What stands against the whole text with the change.
+    pub fn outcome(&self, alloc: Global, asked: &Asked) -> Result<Outcome, AllocError> {
+        let bytes = self.apply(alloc, asked.text, 0, asked.text.len())?;
+        let first = Spot::of(&bytes, self.from);
+        let last = Spot::of(&bytes, self.from.saturating_add(self.with.len()));
+        match load(alloc, &bytes, asked.binding) {
+            Ok(_) => Ok(Outcome::Accepted),
+            Err(LoadFault::Memory) => Err(AllocError),
+            Err(LoadFault::Text(_)) => Ok(Outcome::Text),
+            Err(LoadFault::Name(fault)) => {
+                let at = place_in(&bytes, &fault);
+                Ok(Outcome::Name {
+                    is_there: at >= first.line_from && at <= last.line_to,
+                    is_later: at > last.line_to,
+                })
+            }
+            Err(LoadFault::Code(refused)) => Ok(Outcome::Code {
+                task: refused.task(),
+                word: refused.refusal().word,
+            }),
+        }
+    }
+}
+
+/// What stands against a text with a change.
+#[derive(Clone, Copy, PartialEq, Eq)]
+pub enum Outcome {
+    Accepted,
+    Text,
+    /// A fault of names: on the lines of the change, or behind them.
+    Name { is_there: bool, is_later: bool },
+    /// A refused word of a task.
+    Code { task: usize, word: usize },
+}
+
+/// Where a fault of names stands; at the end of the text where memory ran out.
+fn place_in(text: &[u8], fault: &NameFault) -> usize {
+    match fault {
+        NameFault::Memory => text.len(),
+        NameFault::At { line, col, .. } => place_of(text, *line, *col),
+    }
+}

@@ -1,0 +1,260 @@
+//! What is said of bad declarations.
+
+use crate::name_answers::is_cure;
+use curing::{Advice, Answer, Asked, Edit, Spot, line_number, line_of, part, shown};
+use ilsource::{
+    Configuration, Constant, Declaration, Declared, Element, GlobalDeclaration, Name, Source,
+    Specification, TaskDeclaration,
+};
+use iltokens::{Delimiter, Lexed, What, token};
+use std::alloc::{AllocError, Global};
+
+const DIFFERENT: Advice = Advice {
+    what: "a type that is not that of VAR_GLOBAL",
+    cure: "write the same type in both",
+    line: "VAR_EXTERNAL lamp : USINT (0..254); END_VAR",
+};
+
+const NEITHER: Advice = Advice {
+    what: "a task that nothing starts",
+    cure: "write SINGLE with a trigger, or INTERVAL with a time, before PRIORITY",
+    line: "TASK clock (INTERVAL := T#100ms, PRIORITY := 1);",
+};
+
+const BOTH: Advice = Advice {
+    what: "a task with SINGLE and INTERVAL",
+    cure: "write one of the two: SINGLE for a task that events start, INTERVAL for one\n\
+        that runs again and again",
+    line: "TASK push (SINGLE := pressed, PRIORITY := 1);",
+};
+
+const NO_INTERVAL: Advice = Advice {
+    what: "an interval of 0",
+    cure: "an interval is 1 ms or more",
+    line: "TASK clock (INTERVAL := T#100ms, PRIORITY := 1);",
+};
+
+const PRIORITIES: Advice = Advice {
+    what: "a priority that is none",
+    cure: "priorities are 0 to 65535, and 0 is the first",
+    line: "TASK clock (INTERVAL := T#100ms, PRIORITY := 1);",
+};
+
+const EXCHANGED: Advice = Advice {
+    what: "a range whose lower limit is above the upper one",
+    cure: "write the lower limit first",
+    line: "level : INT (0..254);",
+};
+
+const OUTSIDE: Advice = Advice {
+    what: "a range or a first value outside its type",
+    cure: "SINT is -128..127, INT -32768..32767, DINT -2147483648..2147483647, USINT\n\
+        0..255, UINT 0..65535 and UDINT 0..4294967295; a first value lies in the range",
+    line: "level : USINT (0..254) := 100;",
+};
+
+const NO_TRUTH: Advice = Advice {
+    what: "a first value that is no truth value",
+    cure: "write TRUE, FALSE, 1 or 0",
+    line: "is_on : BOOL := TRUE;",
+};
+
+const NO_NUMBER: Advice = Advice {
+    what: "a first value that is no number",
+    cure: "write a number, or a time",
+    line: "level : USINT (0..254) := 100;",
+};
+
+const LOCATED: Advice = Advice {
+    what: "a type that does not fit the address",
+    cure: "a level %QB is USINT or a range of 0 to 255, an answer, an information and a\n\
+        count %IW are numbers, a trigger %IX is BOOL",
+    line: "lamp AT %QB0.5 : USINT (0..254);",
+};
+
+/// What is said of a bad declaration at a place, where it is known.
+pub(crate) fn answer_declaration(
+    alloc: Global,
+    asked: &Asked,
+    source: &Source,
+    spot: &Spot,
+) -> Result<Option<Answer>, AllocError> {
+    if let Some(configuration) = source.configuration() {
+        if let Some(task) = task_at(configuration, spot.at) {
+            return Ok(Some(Answer::of(alloc, of_task(task))?));
+        }
+        if let Some(global) = global_at(configuration, spot.at) {
+            return of_advice(alloc, of_global(global));
+        }
+    }
+    for element in source.elements() {
+        if let Element::Program(program) = element {
+            if let Some(found) = declaration_at(program.declarations(), spot.at) {
+                return of_declaration(alloc, asked, source, spot, found);
+            }
+        }
+    }
+    Ok(None)
+}
+
+/// What advice says, where there is one.
+fn of_advice(alloc: Global, advice: Option<Advice>) -> Result<Option<Answer>, AllocError> {
+    match advice {
+        Some(advice) => Ok(Some(Answer::of(alloc, advice)?)),
+        None => Ok(None),
+    }
+}
+
+/// What is said of a declaration of a program.
+fn of_declaration(
+    alloc: Global,
+    asked: &Asked,
+    source: &Source,
+    spot: &Spot,
+    declaration: &Declaration,
+) -> Result<Option<Answer>, AllocError> {
+    match declaration.declared() {
+        Declared::External(_) => different(alloc, asked, source, spot),
+        Declared::Variables {
+            specification,
+            initial,
+        } => of_advice(alloc, of_variable(specification, initial)),
+        Declared::Blocks(_) => Ok(None),
+    }
+}
+
+/// The task whose name stands at a place.
+fn task_at(configuration: &Configuration, at: usize) -> Option<&TaskDeclaration> {
+    configuration
+        .tasks()
+        .iter()
+        .find(|task| task.name.from == at)
+}
+
+/// The global variables of which one's name stands at a place.
+fn global_at(configuration: &Configuration, at: usize) -> Option<&GlobalDeclaration> {
+    configuration
+        .globals()
+        .iter()
+        .find(|global| has_name(global.names(), at))
+}
+
+/// The declaration of which a name stands at a place.
+fn declaration_at(declarations: &[Declaration], at: usize) -> Option<&Declaration> {
+    declarations.iter().find(|one| has_name(one.names(), at))
+}
+
+/// Whether one of the names stands at a place.
+fn has_name(names: &[Name], at: usize) -> bool {
+    names.iter().any(|name| name.from == at)
+}
+
+/// What is said of a task.
+fn of_task(task: &TaskDeclaration) -> Advice {
+    match (task.single, task.interval) {
+        (None, None) => NEITHER,
+        (Some(_), Some(_)) => BOTH,
+        (None, Some(0)) => NO_INTERVAL,
+        _ => PRIORITIES,
+    }
+}
+
+/// What is said of a variable of this type that begins so.
+fn of_variable(specification: Specification, initial: Option<Constant>) -> Option<Advice> {
+    match (specification, initial) {
+        (Specification::Subrange { low, high, .. }, _) if low > high => Some(EXCHANGED),
+        (Specification::Bool, Some(_)) => Some(NO_TRUTH),
+        (Specification::Bool, None) | (Specification::Named(_), None) => None,
+        (_, Some(Constant::Bool(_))) => Some(NO_NUMBER),
+        (Specification::Subrange { .. }, _) | (_, Some(_)) => Some(OUTSIDE),
+        _ => None,
+    }
+}
+
+/// What is said of global variables.
+fn of_global(global: &GlobalDeclaration) -> Option<Advice> {
+    match (global.address(), global.specification()) {
+        (Some(_), Specification::Subrange { low, high, .. }) if low > high => Some(EXCHANGED),
+        (Some(_), _) => Some(LOCATED),
+        (None, specification) => of_variable(specification, global.initial()),
+    }
+}
+
+/// What is said of a variable of VAR_EXTERNAL that has another type than in VAR_GLOBAL: both lines,
+/// and the type that it could have.
+fn different(
+    alloc: Global,
+    asked: &Asked,
+    source: &Source,
+    spot: &Spot,
+) -> Result<Option<Answer>, AllocError> {
+    let Some(name) = global_named(source, spot) else {
+        return Ok(None);
+    };
+    let line = line_number(asked.text, name.from);
+    let found = shown(alloc, line_of(asked.text, line))?;
+    let answer = Answer::of(alloc, DIFFERENT)?.with_facts(format!(in alloc;
+        "in VAR_GLOBAL:\n{line:>6} | {found}\n"
+    )?);
+    let (from, to) = type_behind(asked.text, spot.at);
+    let (first, last) = type_behind(asked.text, name.from);
+    let edit = Edit::new(alloc, from, to, part(asked.text, first, last))?;
+    if is_cure(alloc, asked, &edit)? {
+        Ok(Some(answer.with_tried(alloc, asked.text, &edit)?))
+    } else {
+        Ok(Some(answer))
+    }
+}
+
+/// The global variable that has the name at a place.
+fn global_named(source: &Source, spot: &Spot) -> Option<Name> {
+    let configuration = source.configuration()?;
+    for global in configuration.globals() {
+        for name in global.names() {
+            if name.text(spot.text).eq_ignore_ascii_case(spot.found()) {
+                return Some(*name);
+            }
+        }
+    }
+    None
+}
+
+/// Where the type stands that is declared behind a place: between the colon and what ends it.
+pub(crate) fn type_behind(text: &[u8], place: usize) -> (usize, usize) {
+    let mut from: Option<usize> = None;
+    let mut last = place;
+    let mut at = place;
+    for _ in 0..text.len() {
+        if at >= text.len() {
+            return (last, last);
+        }
+        let Lexed::Token {
+            what,
+            from: first,
+            to,
+        } = token(text, at)
+        else {
+            return (last, last);
+        };
+        at = to;
+        match (what, from) {
+            (What::Delimiter(Delimiter::Semicolon | Delimiter::Assign), Some(from)) => {
+                return (from, last);
+            }
+            (What::Delimiter(Delimiter::Colon), None) => from = Some(next_from(text, to)),
+            _ => last = last.max(to).max(first),
+        }
+    }
+    (last, last)
+}
+
+/// Where the next token begins.
+fn next_from(text: &[u8], at: usize) -> usize {
+    if at > text.len() {
+        return at;
+    }
+    match token(text, at) {
+        Lexed::Token { from, .. } => from,
+        _ => at,
+    }
+}

@@ -1,0 +1,23 @@
+//! What is said of the faults of names: names that are near, and where else a name stands.
+//!
+//! What crosses the boundary: [`answer_name`], of a cause at a place. Names that other languages have
+//! stand in a row each (src/name_habits.rt). What is printed is fixed by worked rows (crates/rows);
+//! of the code it is proved that it is safe and ends.
+//!
+//! ```text
+//! let answer = answer_name(alloc, &asked, at, NameCause::Unknown)?;
+//! ```
+#![tactic(auto)]
+
+mod addresses;
+mod declarations;
+mod function_causes;
+mod function_places;
+mod name_answers;
+mod name_causes;
+mod name_habits;
+mod near_names;
+mod occurrences;
+mod scopes;
+
+pub use name_answers::answer_name;

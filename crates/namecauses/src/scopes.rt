@@ -1,0 +1,262 @@
+//! Names that are not declared, by where they stand: ports, blocks, global variables, types.
+
+use crate::declarations::type_behind;
+use curing::{Advice, Answer, Example, Spot, Surroundings, part, shown};
+use ilblocks::BlockKind;
+use ilsource::{Declaration, Declared, Element, Name, Source};
+use iltokens::{Delimiter, Keyword, Lexed, What, token};
+use std::alloc::{AllocError, Global};
+
+const NO_TYPE: Advice = Advice {
+    what: "a type that is not declared",
+    cure: "correct the name, or declare the type above its use, in TYPE",
+    line: "TYPE Level : USINT (0..254); END_TYPE",
+};
+
+const IN_CONFIGURATION: Advice = Advice {
+    what: "a name that is not declared",
+    cure: "SINGLE names a variable of VAR_GLOBAL, WITH a task of the configuration, and\n\
+        behind the colon stands a program of the text",
+    line: "TASK clock (INTERVAL := T#100ms, PRIORITY := 1);\nPROGRAM hall WITH clock : light;",
+};
+
+const NO_VARIABLE: Advice = Advice {
+    what: "a block instance where a variable is asked for",
+    cure: "name one of its ports, behind a dot",
+    line: "LD rest.Q",
+};
+
+const NO_CALL: Advice = Advice {
+    what: "a block instance where an instruction is asked for",
+    cure: "a line begins with an instruction: CAL calls the instance",
+    line: "CAL rest(PT := T#3m)",
+};
+
+const NO_BLOCK: Advice = Advice {
+    what: "a variable where a block instance is asked for",
+    cure: "CAL names an instance of a function block, which VAR declares",
+    line: "VAR rest : TON; END_VAR",
+};
+
+const NO_INSTRUCTION: Advice = Advice {
+    what: "a variable where an instruction is asked for",
+    cure: "a line begins with an instruction: LD loads the variable, ST stores to it",
+    line: "LD light",
+};
+
+/// What is said of a name, by where it stands.
+#[derive(Drop)]
+pub(crate) struct Scoped {
+    pub answer: Answer,
+    /// What to write before it, where that may help.
+    pub before: &'static str,
+    /// Whether something else has the name.
+    pub is_declared: bool,
+}
+
+impl Scoped {
+    /// What advice says of a name that nothing has.
+    fn unknown(alloc: Global, advice: Advice) -> Result<Option<Scoped>, AllocError> {
+        Ok(Some(Scoped {
+            answer: Answer::of(alloc, advice)?,
+            before: "",
+            is_declared: false,
+        }))
+    }
+
+    /// What is said of a name that something else has.
+    fn declared(answer: Answer, before: &'static str) -> Option<Scoped> {
+        Some(Scoped {
+            answer,
+            before,
+            is_declared: true,
+        })
+    }
+}
+
+/// What is said of a name that is not declared, by where it stands.
+pub(crate) fn answer_scope(
+    alloc: Global,
+    source: &Source,
+    spot: &Spot,
+) -> Result<Option<Scoped>, AllocError> {
+    let around = Surroundings::of(spot.text, spot.at);
+    let next = token_at(spot.text, spot.found_to());
+    if around.is_in_configuration() && around.block.is_none() {
+        return Scoped::unknown(alloc, IN_CONFIGURATION);
+    }
+    if around.block.is_some() && is_type(spot, &around) {
+        return Scoped::unknown(alloc, NO_TYPE);
+    }
+    let declarations = declarations_at(source, spot.at);
+    if next == Some(What::Delimiter(Delimiter::Dot)) {
+        if let Some(kind) = block_named(declarations, spot, spot.found()) {
+            return Ok(Scoped::declared(no_port(alloc, kind)?, ""));
+        }
+    }
+    if next == Some(What::Delimiter(Delimiter::Assign)) && around.open > 0 {
+        let called = part(spot.text, around.from, spot.at);
+        if let Some(kind) = called_block(declarations, spot, called) {
+            return Ok(Scoped::declared(no_port(alloc, kind)?, ""));
+        }
+    }
+    of_variable(alloc, source, spot, declarations)
+}
+
+/// What is said of a name that is one of something else, or of the configuration.
+fn of_variable(
+    alloc: Global,
+    source: &Source,
+    spot: &Spot,
+    declarations: &[Declaration],
+) -> Result<Option<Scoped>, AllocError> {
+    if block_named(declarations, spot, spot.found()).is_some() {
+        let is_first = spot.first_word() == spot.found();
+        let (advice, before) = if is_first {
+            (NO_CALL, "CAL ")
+        } else {
+            (NO_VARIABLE, "")
+        };
+        return Ok(Scoped::declared(Answer::of(alloc, advice)?, before));
+    }
+    if is_named(declarations, spot) {
+        let is_first = spot.first_word() == spot.found();
+        let (advice, before) = if is_first {
+            (NO_INSTRUCTION, "LD ")
+        } else {
+            (NO_BLOCK, "")
+        };
+        return Ok(Scoped::declared(Answer::of(alloc, advice)?, before));
+    }
+    match global_named(source, spot) {
+        Some(name) => Ok(Scoped::declared(no_external(alloc, spot, name)?, "")),
+        None => Ok(None),
+    }
+}
+
+/// Whether a type stands at a place in a block of variables: behind a colon.
+fn is_type(spot: &Spot, around: &Surroundings) -> bool {
+    let (from, to) = around.before;
+    spot.part(from, to) == b":".as_slice()
+}
+
+/// The declarations of the program in which a place stands; none in a function.
+fn declarations_at(source: &Source, at: usize) -> &[Declaration] {
+    let mut found: &[Declaration] = &[];
+    for element in source.elements() {
+        match element {
+            Element::Program(program) if program.name().from <= at => {
+                found = program.declarations();
+            }
+            Element::Function(function) if function.name().from <= at => found = &[],
+            _ => {}
+        }
+    }
+    found
+}
+
+/// The kind of the block instance of a name.
+fn block_named(declarations: &[Declaration], spot: &Spot, name: &[u8]) -> Option<BlockKind> {
+    for declaration in declarations {
+        if let Declared::Blocks(kind) = declaration.declared() {
+            if has_name(declaration.names(), spot, name) {
+                return Some(kind);
+            }
+        }
+    }
+    None
+}
+
+/// Whether a declaration has the name that was found.
+fn is_named(declarations: &[Declaration], spot: &Spot) -> bool {
+    declarations
+        .iter()
+        .any(|one| has_name(one.names(), spot, spot.found()))
+}
+
+/// Whether one of the names is spelled so.
+fn has_name(names: &[Name], spot: &Spot, name: &[u8]) -> bool {
+    names
+        .iter()
+        .any(|one| one.text(spot.text).eq_ignore_ascii_case(name))
+}
+
+/// The global variable that has the name that was found.
+fn global_named(source: &Source, spot: &Spot) -> Option<Name> {
+    let configuration = source.configuration()?;
+    for global in configuration.globals() {
+        for name in global.names() {
+            if name.text(spot.text).eq_ignore_ascii_case(spot.found()) {
+                return Some(*name);
+            }
+        }
+    }
+    None
+}
+
+/// The kind of the block instance that is called last in a text.
+fn called_block(declarations: &[Declaration], spot: &Spot, text: &[u8]) -> Option<BlockKind> {
+    let mut kind = None;
+    let mut is_call = false;
+    let mut at: usize = 0;
+    for _ in 0..text.len() {
+        if at >= text.len() {
+            return kind;
+        }
+        let Lexed::Token { what, from, to } = token(text, at) else {
+            return kind;
+        };
+        at = to;
+        if is_call {
+            kind = block_named(declarations, spot, part(text, from, to));
+        }
+        is_call = matches!(
+            what,
+            What::Keyword(Keyword::Cal | Keyword::Calc | Keyword::Calcn)
+        );
+    }
+    kind
+}
+
+/// The token at a place.
+fn token_at(text: &[u8], at: usize) -> Option<What> {
+    if at > text.len() {
+        return None;
+    }
+    match token(text, at) {
+        Lexed::Token { what, .. } => Some(what),
+        _ => None,
+    }
+}
+
+/// What is said of a port that a block does not have.
+fn no_port(alloc: Global, kind: BlockKind) -> Result<Answer, AllocError> {
+    let mut facts = String::from_str(alloc, "its ports: ")?;
+    for (index, port) in kind.ports().iter().enumerate() {
+        facts.push_str(if index == 0 { "" } else { ", " })?;
+        facts.push_str(shown(alloc, port.name.spelling())?.as_str())?;
+    }
+    facts.push_str("\n")?;
+    Ok(Answer {
+        what: String::from_str(alloc, "a port that the block does not have")?,
+        facts,
+        cure: String::from_str(alloc, "write one of its ports")?,
+        example: Example::Other(String::from_str(alloc, "LD rest.Q")?),
+    })
+}
+
+/// What is said of a global variable that the program does not name in VAR_EXTERNAL.
+fn no_external(alloc: Global, spot: &Spot, name: Name) -> Result<Answer, AllocError> {
+    let (from, to) = type_behind(spot.text, name.from);
+    let declared = shown(alloc, spot.part(from, to))?;
+    let found = shown(alloc, name.text(spot.text))?;
+    Ok(Answer {
+        what: String::from_str(alloc, "a global variable that the program does not name")?,
+        facts: String::new(alloc),
+        cure: String::from_str(
+            alloc,
+            "name it in VAR_EXTERNAL of this program, with its type",
+        )?,
+        example: Example::Other(format!(in alloc; "VAR_EXTERNAL {found} : {declared}; END_VAR")?),
+    })
+}

@@ -1,0 +1,141 @@
+//! Lines as they read where nothing is wrong, by where they stand.
+
+use curing::{Advice, Spot, Surroundings};
+use iltokens::Keyword;
+
+const BODY: Advice = Advice {
+    what: "",
+    cure: "an instruction stands on a line of its own, with its operand behind it",
+    line: "LD lamp",
+};
+
+const JUMP: Advice = Advice {
+    what: "",
+    cure: "a jump names a label, which stands further on with a colon behind it",
+    line: "JMPC below\nLD 5\nbelow: ST level",
+};
+
+const CALL: Advice = Advice {
+    what: "",
+    cure: "the inputs stand in parentheses, each with := and its value",
+    line: "CAL rest(IN := pressed, PT := T#3m)",
+};
+
+const TASK: Advice = Advice {
+    what: "",
+    cure: "a task has SINGLE with a trigger or INTERVAL with a time, and then PRIORITY",
+    line: "TASK clock (INTERVAL := T#100ms, PRIORITY := 1);",
+};
+
+const INSTANCE: Advice = Advice {
+    what: "",
+    cure: "an instance has a name, a task behind WITH, and the name of its program",
+    line: "PROGRAM hall WITH clock : light;",
+};
+
+const CONFIGURATION: Advice = Advice {
+    what: "",
+    cure: "a configuration has VAR_GLOBAL first, then its tasks, then its programs",
+    line: "TASK clock (INTERVAL := T#100ms, PRIORITY := 1);\nPROGRAM hall WITH clock : light;",
+};
+
+const VARIABLE: Advice = Advice {
+    what: "",
+    cure: "a declaration has names, a colon, a type, a first value if need be, and a\n\
+        semicolon",
+    line: "lamp, lamp2 : USINT (0..254) := 100;",
+};
+
+const GLOBAL: Advice = Advice {
+    what: "",
+    cure: "a declaration has a name, an address behind AT if need be, a colon, a type\n\
+        and a semicolon",
+    line: "lamp AT %QB0.5 : USINT (0..254);",
+};
+
+const EXTERNAL: Advice = Advice {
+    what: "",
+    cure: "a declaration has one name, a colon, the type of VAR_GLOBAL and a semicolon,\n\
+        and no value",
+    line: "lamp : USINT (0..254);",
+};
+
+const INPUT: Advice = Advice {
+    what: "",
+    cure: "a declaration has names, a colon, a type and a semicolon, and no value",
+    line: "level, most : USINT (0..254);",
+};
+
+const NEW_TYPE: Advice = Advice {
+    what: "",
+    cure: "a declaration has a name, a colon, a type and a semicolon",
+    line: "Level : USINT (0..254);",
+};
+
+const UNIT: Advice = Advice {
+    what: "",
+    cure: "a text has types, functions and programs, and then at most one\n\
+        configuration, which is its end",
+    line: "PROGRAM stairs",
+};
+
+const HEAD: Advice = Advice {
+    what: "",
+    cure: "a function has a name, a colon and the type of its result, and then\n\
+        VAR_INPUT",
+    line: "FUNCTION half : INT (0..127)\nVAR_INPUT v : INT (0..254); END_VAR",
+};
+
+/// What stands at a place where nothing is wrong.
+pub(crate) fn example_of(spot: &Spot, around: &Surroundings) -> Advice {
+    if let Some(block) = around.block {
+        return of_block(block.word);
+    }
+    let Some(unit) = around.unit else {
+        return UNIT;
+    };
+    match unit.word {
+        Keyword::Type => NEW_TYPE,
+        Keyword::Configuration => in_configuration(spot),
+        Keyword::Function if !around.is_in_body() => HEAD,
+        _ if is_jump(spot) => JUMP,
+        _ if is_call(spot) => CALL,
+        _ => BODY,
+    }
+}
+
+/// What stands in a block of variables.
+fn of_block(word: Keyword) -> Advice {
+    match word {
+        Keyword::VarGlobal => GLOBAL,
+        Keyword::VarExternal => EXTERNAL,
+        Keyword::VarInput => INPUT,
+        _ => VARIABLE,
+    }
+}
+
+/// What stands in a configuration, outside its variables.
+fn in_configuration(spot: &Spot) -> Advice {
+    if is_word(spot, b"TASK") {
+        TASK
+    } else if is_word(spot, b"PROGRAM") {
+        INSTANCE
+    } else {
+        CONFIGURATION
+    }
+}
+
+/// Whether the line begins with a jump.
+fn is_jump(spot: &Spot) -> bool {
+    is_word(spot, b"JMP") || is_word(spot, b"JMPC") || is_word(spot, b"JMPCN")
+}
+
+/// Whether the line begins with a call of a block.
+fn is_call(spot: &Spot) -> bool {
+    is_word(spot, b"CAL") || is_word(spot, b"CALC") || is_word(spot, b"CALCN")
+}
+
+/// Whether the line begins with a word.
+fn is_word(spot: &Spot, word: &[u8]) -> bool {
+    spot.first_word().eq_ignore_ascii_case(word)
+}

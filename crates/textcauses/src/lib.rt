@@ -1,0 +1,21 @@
+//! What is said of the faults of a text: what could stand there, and a line that was tried.
+//!
+//! What crosses the boundary: [`answer_text`], of a cause at a place. What people write who come from
+//! other languages has a row each (src/habit_rows.rt). What is printed is fixed by worked rows
+//! (crates/rows); of the code it is proved that it is safe and ends.
+//!
+//! ```text
+//! let answer = answer_text(alloc, &asked, at, TextCause::Unexpected)?;
+//! ```
+#![tactic(auto)]
+
+mod examples;
+mod fixes;
+mod habit_rows;
+mod habits;
+mod proposals;
+mod text_answers;
+mod text_causes;
+mod unexpected;
+
+pub use text_answers::answer_text;

@@ -1,0 +1,387 @@
+//! Changes of a line that are tried where something cannot stand.
+
+use crate::fixes::left_out;
+use crate::unexpected::Standing;
+use curing::{
+    Edit, Group, Opened, Possible, SIGNS, Spot, line_number, near_word, shown, sign_name,
+};
+use iltokens::{Keyword, reserved};
+use std::alloc::{AllocError, Global};
+
+/// A change with what is wrong without it, and what helps.
+#[derive(Drop)]
+pub(crate) struct Proposal {
+    pub what: String,
+    pub cure: String,
+    pub edit: Edit,
+}
+
+/// A kind of change.
+#[derive(Clone, Copy)]
+pub(crate) enum Kind {
+    /// The end of what is open.
+    End,
+    /// The parenthesis that closes an open one.
+    Close,
+    /// The one word that could stand there.
+    Only,
+    /// A name that is not reserved.
+    Renamed,
+    /// A reserved word that is near to what was found.
+    Near,
+    /// A reserved word that is near to what stands before.
+    NearBefore,
+    /// A time in place of a number.
+    Timed,
+    /// A sign more, by its number.
+    With(usize),
+    /// An end of the line more.
+    Broken,
+    /// Without what was found.
+    Without,
+    /// A sign in place of what was found, by its number.
+    Instead(usize),
+}
+
+impl Kind {
+    /// Whether the change may take away what the next line needs.
+    pub(crate) fn is_bold(self) -> bool {
+        matches!(self, Kind::Without | Kind::Instead(_) | Kind::With(_))
+    }
+}
+
+/// What is tried, one after another.
+pub(crate) const PROPOSALS: &[Kind] = &[
+    Kind::End,
+    Kind::Close,
+    Kind::Near,
+    Kind::NearBefore,
+    Kind::Timed,
+    Kind::Only,
+    Kind::Renamed,
+    Kind::With(2),
+    Kind::With(1),
+    Kind::With(0),
+    Kind::With(3),
+    Kind::With(5),
+    Kind::With(6),
+    Kind::With(7),
+    Kind::Broken,
+    Kind::Without,
+    Kind::Instead(1),
+    Kind::Instead(2),
+    Kind::Instead(0),
+    Kind::Instead(3),
+    Kind::Instead(5),
+];
+
+/// A change of this kind at a place, where there is one.
+pub(crate) fn propose(
+    alloc: Global,
+    kind: Kind,
+    standing: &Standing,
+    possible: &Possible,
+) -> Result<Option<Proposal>, AllocError> {
+    let spot = &standing.spot;
+    match kind {
+        Kind::End => end(alloc, standing, possible),
+        Kind::Close => close(alloc, standing),
+        Kind::Renamed => renamed(alloc, spot, possible),
+        Kind::Near => near(alloc, spot, spot.at, spot.found_to()),
+        Kind::NearBefore => {
+            let (from, to) = standing.around.before;
+            near(alloc, spot, from, to)
+        }
+        Kind::Timed => timed(alloc, spot, possible),
+        Kind::Only => only(alloc, spot, possible),
+        Kind::With(number) => with_sign(alloc, standing, possible, number),
+        Kind::Broken => broken(alloc, standing, possible),
+        Kind::Without => without(alloc, spot, possible),
+        Kind::Instead(number) => instead(alloc, spot, possible, number),
+    }
+}
+
+/// The end of what is open, before a word that begins or ends something else, or at the text's end.
+fn end(
+    alloc: Global,
+    standing: &Standing,
+    possible: &Possible,
+) -> Result<Option<Proposal>, AllocError> {
+    let spot = &standing.spot;
+    let Some(opened) = standing.around.innermost() else {
+        return Ok(None);
+    };
+    let (_, word) = opened.words();
+    let is_end = spot.at >= spot.text.len();
+    if !possible.has_word(word) || !is_end && reserved(spot.found()).is_none() {
+        return Ok(None);
+    }
+    let title = title_of(alloc, spot, opened)?;
+    let edit = before_line(alloc, spot, word)?;
+    Ok(Some(Proposal {
+        what: format!(in alloc; "{word} of {title} is missing")?,
+        cure: format!(in alloc; "write {word} before what follows")?,
+        edit,
+    }))
+}
+
+/// How something that is open is called.
+fn title_of(alloc: Global, spot: &Spot, opened: Opened) -> Result<String, AllocError> {
+    let line = line_number(spot.text, opened.at);
+    match opened.name {
+        Some((from, to)) => {
+            let name = shown(alloc, spot.part(from, to))?;
+            format!(in alloc; "{name} (line {line})")
+        }
+        None => {
+            let (word, _) = opened.words();
+            format!(in alloc; "the {word} in line {line}")
+        }
+    }
+}
+
+/// A line of its own with this word before what was found.
+fn before_line(alloc: Global, spot: &Spot, word: &str) -> Result<Edit, AllocError> {
+    let mut with = Vec::new(alloc);
+    if spot.at >= spot.text.len() && !spot.front().is_empty() {
+        with.push(b'\n')?;
+    }
+    let from = if spot.is_first() {
+        spot.line_from
+    } else {
+        spot.at
+    };
+    with.extend_from_slice(word.as_bytes())?;
+    if spot.at < spot.text.len() {
+        with.push(b'\n')?;
+    }
+    Edit::new(alloc, from, from, &with)
+}
+
+/// The parenthesis that closes what an operator opened, before a word that stands only outside.
+fn close(alloc: Global, standing: &Standing) -> Result<Option<Proposal>, AllocError> {
+    let around = &standing.around;
+    let spot = &standing.spot;
+    let Some(opened) = around.parenthesis else {
+        return Ok(None);
+    };
+    if !around.is_in_body() || !spot.is_first() {
+        return Ok(None);
+    }
+    let line = line_number(spot.text, opened);
+    let mut with = Vec::new(alloc);
+    for _ in 0..around.open {
+        with.extend_from_slice(b")\n")?;
+    }
+    Ok(Some(Proposal {
+        what: format!(in alloc; "the ( of line {line} is not closed")?,
+        cure: String::from_str(
+            alloc,
+            "close it before this line, with ) on a line of its own",
+        )?,
+        edit: Edit::new(alloc, spot.line_from, spot.line_from, &with)?,
+    }))
+}
+
+/// Another name in place of a reserved word.
+fn renamed(
+    alloc: Global,
+    spot: &Spot,
+    possible: &Possible,
+) -> Result<Option<Proposal>, AllocError> {
+    let is_reserved = reserved(spot.found()).is_some() && !is_bracket(spot.found());
+    if !is_reserved || !possible.has(Group::Name) {
+        return Ok(None);
+    }
+    let found = shown(alloc, spot.found())?;
+    let mut with = Vec::from_slice(alloc, spot.found())?;
+    with.extend_from_slice(b"_1")?;
+    Ok(Some(Proposal {
+        what: format!(in alloc; "{found} is a word of the language, and no name")?,
+        cure: String::from_str(alloc, "choose another name, here and wherever it is meant")?,
+        edit: Edit::new(alloc, spot.at, spot.found_to(), &with)?,
+    }))
+}
+
+/// A reserved word in place of one that is near to it.
+fn near(
+    alloc: Global,
+    spot: &Spot,
+    from: usize,
+    to: usize,
+) -> Result<Option<Proposal>, AllocError> {
+    let found = spot.part(from, to);
+    let Some(word) = near_word(found) else {
+        return Ok(None);
+    };
+    let found = shown(alloc, found)?;
+    Ok(Some(Proposal {
+        what: format!(in alloc; "{found} is no word of the language")?,
+        cure: format!(in alloc; "the word that is near to it is {word}")?,
+        edit: Edit::new(alloc, from, to, word.as_bytes())?,
+    }))
+}
+
+/// A time in place of a number.
+fn timed(alloc: Global, spot: &Spot, possible: &Possible) -> Result<Option<Proposal>, AllocError> {
+    let is_number = spot.found().iter().all(|byte| byte.is_ascii_digit());
+    let is_time = possible.has(Group::Time) && !possible.has(Group::Number);
+    if !is_number || !is_time || spot.found().is_empty() {
+        return Ok(None);
+    }
+    let number = shown(alloc, spot.found())?;
+    let with = format!(in alloc; "T#{number}ms")?;
+    Ok(Some(Proposal {
+        what: String::from_str(alloc, "a number where a time is asked for")?,
+        cure: String::from_str(
+            alloc,
+            "write T# before it, and its unit behind it: d, h, m, s or ms",
+        )?,
+        edit: Edit::new(alloc, spot.at, spot.found_to(), with.as_bytes())?,
+    }))
+}
+
+/// The one word that could stand there in place of another one.
+fn only(alloc: Global, spot: &Spot, possible: &Possible) -> Result<Option<Proposal>, AllocError> {
+    let (Some(word), Some(_)) = (possible.only_word(), reserved(spot.found())) else {
+        return Ok(None);
+    };
+    let found = shown(alloc, spot.found())?;
+    Ok(Some(Proposal {
+        what: format!(in alloc; "{found} where {word} is asked for")?,
+        cure: format!(in alloc; "write {word}")?,
+        edit: Edit::new(alloc, spot.at, spot.found_to(), word.as_bytes())?,
+    }))
+}
+
+/// One sign more, behind what stands before the place.
+fn with_sign(
+    alloc: Global,
+    standing: &Standing,
+    possible: &Possible,
+    number: usize,
+) -> Result<Option<Proposal>, AllocError> {
+    let Some(sign) = SIGNS.get(number) else {
+        return Ok(None);
+    };
+    if !possible.has_word(sign) {
+        return Ok(None);
+    }
+    let spot = &standing.spot;
+    let (_, from) = standing.around.before;
+    let mut with = Vec::new(alloc);
+    if sign.as_bytes().starts_with(b":") && !standing.around.is_in_body() {
+        with.push(b' ')?;
+    }
+    with.extend_from_slice(sign.as_bytes())?;
+    let mut to = spot.at;
+    if sign.as_bytes() == b"(".as_slice() {
+        with.extend_from_slice(spot.rest())?;
+        with.push(b')')?;
+        to = spot.line_to;
+    } else {
+        with.extend_from_slice(spot.part(from, spot.at))?;
+    }
+    let name = sign_name(sign);
+    Ok(Some(Proposal {
+        what: format!(in alloc; "{name} is missing")?,
+        cure: String::from_str(alloc, "write it before what was found")?,
+        edit: Edit::new(alloc, from, to, &with)?,
+    }))
+}
+
+/// How long the line is up to the last byte before the place that is no blank.
+fn front_len(spot: &Spot) -> usize {
+    let mut len: usize = 0;
+    for (index, byte) in spot.front().iter().enumerate() {
+        if *byte != b' ' && *byte != b'\t' {
+            len = index.saturating_add(1);
+        }
+    }
+    len
+}
+
+/// The end of the line before what was found.
+fn broken(
+    alloc: Global,
+    standing: &Standing,
+    possible: &Possible,
+) -> Result<Option<Proposal>, AllocError> {
+    let spot = &standing.spot;
+    if !possible.is_line_end || !standing.around.is_in_body() || spot.is_first() {
+        return Ok(None);
+    }
+    if reserved(spot.found()).is_none() {
+        return Ok(None);
+    }
+    let from = spot.line_from.saturating_add(front_len(spot));
+    Ok(Some(Proposal {
+        what: String::from_str(alloc, "two instructions on one line")?,
+        cure: String::from_str(alloc, "write each on a line of its own")?,
+        edit: Edit::new(alloc, from, spot.at, b"\n")?,
+    }))
+}
+
+/// The line without what was found.
+fn without(
+    alloc: Global,
+    spot: &Spot,
+    possible: &Possible,
+) -> Result<Option<Proposal>, AllocError> {
+    let is_needed = possible.has(Group::Outer) || is_end_word(spot.found());
+    if spot.found().is_empty() || is_needed {
+        return Ok(None);
+    }
+    let found = shown(alloc, spot.found())?;
+    Ok(Some(Proposal {
+        what: format!(in alloc; "{found} is too much here")?,
+        cure: String::from_str(alloc, "leave it out, or end the line before it")?,
+        edit: left_out(alloc, spot)?,
+    }))
+}
+
+/// Whether a word ends something, or begins a block of variables.
+fn is_bracket(found: &[u8]) -> bool {
+    is_end_word(found)
+        || matches!(
+            reserved(found),
+            Some(Keyword::Var | Keyword::VarInput | Keyword::VarExternal | Keyword::VarGlobal)
+        )
+}
+
+/// Whether a word ends something.
+fn is_end_word(found: &[u8]) -> bool {
+    matches!(
+        reserved(found),
+        Some(
+            Keyword::EndType
+                | Keyword::EndFunction
+                | Keyword::EndProgram
+                | Keyword::EndVar
+                | Keyword::EndResource
+                | Keyword::EndConfiguration
+        )
+    )
+}
+
+/// A sign in place of what was found.
+fn instead(
+    alloc: Global,
+    spot: &Spot,
+    possible: &Possible,
+    number: usize,
+) -> Result<Option<Proposal>, AllocError> {
+    let Some(sign) = SIGNS.get(number) else {
+        return Ok(None);
+    };
+    if !possible.has_word(sign) || spot.found().is_empty() {
+        return Ok(None);
+    }
+    let found = shown(alloc, spot.found())?;
+    let name = sign_name(sign);
+    Ok(Some(Proposal {
+        what: format!(in alloc; "{found} where {name} is asked for")?,
+        cure: format!(in alloc; "write {name} in its place")?,
+        edit: Edit::new(alloc, spot.at, spot.found_to(), sign.as_bytes())?,
+    }))
+}

@@ -1,0 +1,114 @@
+//! What is said of a fault of a text.
+
+use crate::fixes::{edit_of, left_out};
+use crate::habits::habit_at;
+use crate::text_causes::{BYTE_ORDER_MARK, EQUALS, advice_of, number_advice};
+use crate::unexpected::{Standing, answer_unexpected, is_cure};
+use curing::{Answer, Asked, Edit, Example, Outcome, Spot, Surroundings, shown};
+use iltext::TextCause;
+use std::alloc::{AllocError, Global};
+
+/// What is said of a cause at a place of a text.
+pub fn answer_text(
+    alloc: Global,
+    asked: &Asked,
+    at: usize,
+    cause: TextCause,
+) -> Result<Answer, AllocError> {
+    let standing = Standing {
+        asked,
+        spot: Spot::of(asked.text, at),
+        around: Surroundings::of(asked.text, at),
+    };
+    match cause {
+        TextCause::Unexpected | TextCause::NotNested => habitual(alloc, &standing, cause),
+        TextCause::BadToken => match assigned(alloc, &standing)? {
+            Some(answer) => Ok(answer),
+            None => habitual(alloc, &standing, cause),
+        },
+        TextCause::NotAscii => not_ascii(alloc, &standing),
+        TextCause::BadNumber => Answer::of(alloc, number_advice(standing.spot.found())),
+        TextCause::CommentOpen => comment(alloc, &standing),
+        TextCause::TooDeep | TextCause::TooLong => Answer::of(alloc, advice_of(cause)),
+    }
+}
+
+/// What is said of what people write, or else of what cannot stand there.
+fn habitual(alloc: Global, standing: &Standing, cause: TextCause) -> Result<Answer, AllocError> {
+    let Some(habit) = habit_at(&standing.spot, &standing.around) else {
+        return match cause {
+            TextCause::BadToken => bad_token(alloc, standing),
+            _ => answer_unexpected(alloc, standing),
+        };
+    };
+    let (_, _, fix, advice) = *habit;
+    let answer = Answer::of(alloc, advice)?;
+    match edit_of(alloc, fix, &standing.spot, &standing.around)? {
+        Some(edit) if is_cure(alloc, standing, &edit)? => {
+            answer.with_tried(alloc, standing.asked.text, &edit)
+        }
+        _ => Ok(answer),
+    }
+}
+
+/// What is said of `=` where `:=` may stand.
+fn assigned(alloc: Global, standing: &Standing) -> Result<Option<Answer>, AllocError> {
+    let spot = &standing.spot;
+    if spot.found() != b"=".as_slice() {
+        return Ok(None);
+    }
+    let edit = Edit::new(alloc, spot.at, spot.found_to(), b":=")?;
+    if !is_cure(alloc, standing, &edit)? {
+        return Ok(None);
+    }
+    let answer = Answer::of(alloc, EQUALS)?;
+    Ok(Some(answer.with_tried(alloc, standing.asked.text, &edit)?))
+}
+
+/// What is said of a character that begins nothing.
+fn bad_token(alloc: Global, standing: &Standing) -> Result<Answer, AllocError> {
+    let advice = advice_of(TextCause::BadToken);
+    let found = shown(alloc, standing.spot.found())?;
+    let answer = Answer {
+        what: format!(in alloc; "the sign {found} begins nothing")?,
+        facts: String::new(alloc),
+        cure: String::from_str(alloc, advice.cure)?,
+        example: Example::Other(String::from_str(alloc, advice.line)?),
+    };
+    with_edit(alloc, standing, answer, &left_out(alloc, &standing.spot)?)
+}
+
+/// What is said of a byte that is not ASCII.
+fn not_ascii(alloc: Global, standing: &Standing) -> Result<Answer, AllocError> {
+    let text = standing.asked.text;
+    if standing.spot.at == 0 && text.starts_with(b"\xef\xbb\xbf") {
+        let answer = Answer::of(alloc, BYTE_ORDER_MARK)?;
+        return with_edit(alloc, standing, answer, &Edit::new(alloc, 0, 3, b"")?);
+    }
+    Answer::of(alloc, advice_of(TextCause::NotAscii))
+}
+
+/// An answer with a change, where that is a cure.
+fn with_edit(
+    alloc: Global,
+    standing: &Standing,
+    answer: Answer,
+    edit: &Edit,
+) -> Result<Answer, AllocError> {
+    if is_cure(alloc, standing, edit)? {
+        answer.with_tried(alloc, standing.asked.text, edit)
+    } else {
+        Ok(answer)
+    }
+}
+
+/// What is said of a comment without end: it could end with its line.
+fn comment(alloc: Global, standing: &Standing) -> Result<Answer, AllocError> {
+    let answer = Answer::of(alloc, advice_of(TextCause::CommentOpen))?;
+    let to = standing.spot.line_to;
+    let edit = Edit::new(alloc, to, to, b" *)")?;
+    match edit.outcome(alloc, standing.asked)? {
+        Outcome::Text => Ok(answer),
+        _ => answer.with_tried(alloc, standing.asked.text, &edit),
+    }
+}

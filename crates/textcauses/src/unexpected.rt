@@ -1,0 +1,118 @@
+//! What is said where something cannot stand: what could, and a change of the line that is tried.
+
+use crate::examples::example_of;
+use crate::proposals::{PROPOSALS, Proposal, propose};
+use curing::{Answer, Asked, Edit, Example, Outcome, Possible, Spot, Surroundings, listed, shown};
+use std::alloc::{AllocError, Global};
+
+/// A place that is asked about, with all that is known of it.
+#[derive(Clone, Copy)]
+pub(crate) struct Standing<'a> {
+    pub asked: &'a Asked<'a>,
+    pub spot: Spot<'a>,
+    pub around: Surroundings,
+}
+
+/// What is said where something cannot stand.
+pub(crate) fn answer_unexpected(alloc: Global, standing: &Standing) -> Result<Answer, AllocError> {
+    let spot = standing.spot;
+    let from = standing.around.from;
+    let Some(possible) = Possible::at(alloc, spot.text, from, spot.at)? else {
+        return plain(alloc, standing);
+    };
+    let facts = facts_of(alloc, standing, &possible)?;
+    for kind in PROPOSALS {
+        if let Some(proposal) = propose(alloc, *kind, standing, &possible)? {
+            if is_cure_up_to(alloc, standing, &proposal.edit, kind.is_bold())? {
+                return Ok(tried(alloc, standing, proposal)?.with_facts(facts));
+            }
+        }
+    }
+    let mut answer = plain(alloc, standing)?.with_facts(facts);
+    if let Some(what) = asked_for(alloc, standing, &possible)? {
+        answer.what = what;
+    }
+    Ok(answer)
+}
+
+/// What is wrong, where one thing alone could stand there.
+fn asked_for(
+    alloc: Global,
+    standing: &Standing,
+    possible: &Possible,
+) -> Result<Option<String>, AllocError> {
+    let told = possible.told(alloc, standing.around.is_in_body())?;
+    let [only] = told.as_slice() else {
+        return Ok(None);
+    };
+    if standing.spot.found().is_empty() {
+        return Ok(None);
+    }
+    let found = shown(alloc, standing.spot.found())?;
+    Ok(Some(format!(in alloc; "{found} where {only} is asked for")?))
+}
+
+/// What could stand at the place, as a line.
+fn facts_of(alloc: Global, standing: &Standing, possible: &Possible) -> Result<String, AllocError> {
+    let with_end = standing.around.is_in_body() && !standing.spot.is_first();
+    let told = possible.told(alloc, with_end)?;
+    if told.is_empty() {
+        return Ok(String::new(alloc));
+    }
+    let list = listed(alloc, &told)?;
+    format!(in alloc; "could stand here: {list}\n")
+}
+
+/// Whether the text reads with a change, and nothing stands against its names on these lines.
+pub(crate) fn is_cure(alloc: Global, standing: &Standing, edit: &Edit) -> Result<bool, AllocError> {
+    is_cure_up_to(alloc, standing, edit, false)
+}
+
+/// The same, where a bold change has to read with the next line too: outside instructions and in
+/// parentheses, where a line does not end what it says.
+fn is_cure_up_to(
+    alloc: Global,
+    standing: &Standing,
+    edit: &Edit,
+    is_bold: bool,
+) -> Result<bool, AllocError> {
+    let around = &standing.around;
+    let is_open = !around.is_in_body() || around.open > 0 || edit.with.contains(&b'(');
+    if !edit.is_read(alloc, &standing.spot, around.from, is_bold && is_open)? {
+        return Ok(false);
+    }
+    Ok(match edit.outcome(alloc, standing.asked)? {
+        Outcome::Name { is_there, .. } => !is_there,
+        _ => true,
+    })
+}
+
+/// What is said with a change that was tried.
+fn tried(alloc: Global, standing: &Standing, proposal: Proposal) -> Result<Answer, AllocError> {
+    Ok(Answer {
+        what: proposal.what,
+        facts: String::new(alloc),
+        cure: proposal.cure,
+        example: Example::Tried(proposal.edit.lines(alloc, standing.spot.text)?),
+    })
+}
+
+/// What is said where no change helps.
+fn plain(alloc: Global, standing: &Standing) -> Result<Answer, AllocError> {
+    let found = standing.spot.found();
+    let what = if standing.spot.at >= standing.spot.text.len() {
+        String::from_str(alloc, "the text ends too early")?
+    } else if found.is_empty() {
+        String::from_str(alloc, "the line ends too early")?
+    } else {
+        let found = shown(alloc, found)?;
+        format!(in alloc; "{found} cannot stand here")?
+    };
+    let advice = example_of(&standing.spot, &standing.around);
+    Ok(Answer {
+        what,
+        facts: String::new(alloc),
+        cure: String::from_str(alloc, advice.cure)?,
+        example: Example::Other(String::from_str(alloc, advice.line)?),
+    })
+}
