@@ -7,13 +7,19 @@
 //!
 //! ```text
 //! picture.buses[0].add(alloc, column, Sign::Answered(200))?;
-//! write_svg(&mut out, &picture)?;
+//! write_svg(alloc, &mut out, picture)?;
 //! ```
 #![tactic(auto)]
 
+mod axis;
+mod gathering;
+mod kinds;
+mod labels;
 mod moment;
 mod parts;
+mod selecting;
 mod sheet;
+mod spans;
 mod svg;
 mod svg_elements;
 mod svg_marks;

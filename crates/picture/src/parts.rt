@@ -6,6 +6,8 @@ use std::alloc::{AllocError, Global};
 /// What a scenario did. Of rows of each kind there may be any number.
 #[derive(Drop)]
 pub struct Picture {
+    /// What it is of: the files of the scenario.
+    pub name: String,
     /// The steps of time, from left to right.
     pub columns: Vec<Column>,
     /// The levels of lamps, of groups, and of all lamps of a bus.
@@ -25,6 +27,8 @@ pub struct Picture {
 pub struct Column {
     /// The moment that begins here, where one does.
     pub moment: Option<Moment>,
+    /// The bus on which it happened, where it happened on one.
+    pub bus: Option<u8>,
     /// What happened, in words.
     pub title: String,
 }
@@ -32,10 +36,12 @@ pub struct Column {
 /// A thing that a picture follows through time.
 #[derive(Drop)]
 pub struct Row {
-    /// What people call it.
+    /// What people call it; `-` where it has no name.
     pub name: String,
     /// Where it is.
     pub place: String,
+    /// The bus that it belongs to, where it belongs to one.
+    pub bus: Option<u8>,
     /// Its level before its first mark, where it has one.
     pub level: Option<u8>,
     /// What happened to it, by rising columns.
@@ -79,6 +85,7 @@ impl Picture {
     /// A picture of nothing.
     pub fn new(alloc: Global) -> Self {
         Picture {
+            name: String::new(alloc),
             columns: Vec::new(alloc),
             lamps: Vec::new(alloc),
             sources: Vec::new(alloc),
@@ -91,11 +98,12 @@ impl Picture {
 
 impl Row {
     /// A row to which nothing happened.
-    pub fn new(alloc: Global, name: String, place: String, level: Option<u8>) -> Self {
+    pub fn new(alloc: Global, name: String, place: String, bus: Option<u8>) -> Self {
         Row {
             name,
             place,
-            level,
+            bus,
+            level: None,
             marks: Vec::new(alloc),
         }
     }
@@ -120,6 +128,15 @@ impl Row {
         match self.marks.last() {
             Some(mark) => level_of(mark.sign),
             None => self.level,
+        }
+    }
+
+    /// What it is called below a picture: by its place where it has no name.
+    pub(crate) fn called(&self) -> &str {
+        if self.name.as_str() == "-" {
+            &self.place
+        } else {
+            &self.name
         }
     }
 

@@ -1,109 +1,74 @@
 //! The rows of a picture in SVG, kind by kind, with their headings and names.
 
-use crate::sheet::{EDGE, HEADING, LAMP, LINE, Sheet, TASK};
+use crate::Row;
+use crate::kinds::{Block, Kind};
+use crate::sheet::{EDGE, HEADING, NOTE, Sheet, TOP};
 use crate::svg_elements::{Plain, write_words};
 use crate::svg_marks::write_marks;
-use crate::{Picture, Row};
 use std::io;
 use std::io::Write;
 
-/// A kind of rows.
-#[derive(Clone, Copy)]
-pub(crate) enum Kind {
-    Levels,
-    Sources,
-    Tasks,
-    Buses,
-}
-
-/// How the rows of a kind stand below each other.
-#[derive(Clone, Copy)]
-struct Look {
-    heading: &'static str,
-    /// The height of a row.
-    height: usize,
-    /// From the top of a row down to where its marks stand.
-    marks: usize,
-    /// From there down to the line of its name.
-    name: usize,
-}
-
-impl Kind {
-    /// How the rows of this kind stand.
-    fn look(self) -> Look {
-        match self {
-            Kind::Levels => Look {
-                heading: "LEVELS",
-                height: LAMP,
-                marks: LAMP - 6,
-                name: 0,
-            },
-            Kind::Sources => Look {
-                heading: "BUTTONS AND SENSORS",
-                height: LINE,
-                marks: LINE / 2,
-                name: 4,
-            },
-            Kind::Tasks => Look {
-                heading: "TASKS",
-                height: TASK,
-                marks: TASK / 2,
-                name: 4,
-            },
-            Kind::Buses => Look {
-                heading: "FRAMES",
-                height: LINE,
-                marks: LINE - 6,
-                name: 0,
-            },
-        }
-    }
-}
-
 /// Draws all rows, kind by kind.
-pub(crate) fn write_rows<W: Write>(
-    out: &mut W,
-    picture: &Picture,
-    sheet: &Sheet,
-) -> io::Result<()> {
-    let top = write_kind(out, Kind::Levels, &picture.lamps, sheet, EDGE)?;
-    let top = write_kind(out, Kind::Sources, &picture.sources, sheet, top)?;
-    let top = write_kind(out, Kind::Tasks, &picture.tasks, sheet, top)?;
-    write_kind(out, Kind::Buses, &picture.buses, sheet, top)?;
+pub(crate) fn write_rows<W: Write>(out: &mut W, blocks: &[Block], sheet: &Sheet) -> io::Result<()> {
+    let mut top = TOP;
+    for block in blocks {
+        top = write_block(out, block, sheet, top)?;
+    }
     Ok(())
 }
 
 /// Draws the rows of a kind from a height down; where they end.
-fn write_kind<W: Write>(
+fn write_block<W: Write>(
     out: &mut W,
-    kind: Kind,
-    rows: &[Row],
+    block: &Block,
     sheet: &Sheet,
     top: usize,
 ) -> io::Result<usize> {
-    let look = kind.look();
-    let mut top = write_heading(out, look.heading, rows, top)?;
-    for row in rows {
-        let y = top.saturating_add(look.marks);
-        write_label(out, row, sheet, y.saturating_add(look.name))?;
-        write_marks(out, kind, row, sheet, y)?;
-        top = top.saturating_add(look.height);
+    if block.rows.is_empty() {
+        return Ok(top);
+    }
+    let heading = block.kind.heading();
+    write_words(out, "h", EDGE, top.saturating_add(HEADING - 8), heading)?;
+    let below = write_block_rows(out, block, sheet, top.saturating_add(HEADING))?;
+    write_folded(out, &block.folded, below)
+}
+
+/// Draws the rows of a kind that are drawn; where they end.
+fn write_block_rows<W: Write>(
+    out: &mut W,
+    block: &Block,
+    sheet: &Sheet,
+    top: usize,
+) -> io::Result<usize> {
+    let kind = block.kind;
+    let mut top = top;
+    for row in block.rows {
+        if block.shows(row) {
+            let y = top.saturating_add(sheet.sizes.marks(kind));
+            write_label(out, row, sheet, y.saturating_add(name_below(kind)))?;
+            write_marks(out, kind, row, sheet, y)?;
+            top = top.saturating_add(sheet.sizes.height(kind));
+        }
     }
     Ok(top)
 }
 
-/// Writes the heading of these rows at a height, where there are any; where the first row begins.
-fn write_heading<W: Write>(
-    out: &mut W,
-    heading: &str,
-    rows: &[Row],
-    top: usize,
-) -> io::Result<usize> {
-    if rows.is_empty() {
-        return Ok(top);
+/// From where the marks of a row stand down to the line of its name.
+fn name_below(kind: Kind) -> usize {
+    match kind {
+        Kind::Levels | Kind::Buses => 0,
+        Kind::Sources | Kind::Tasks => 4,
     }
-    write_words(out, "h", EDGE, top.saturating_add(HEADING - 8), heading)?;
-    Ok(top.saturating_add(HEADING))
+}
+
+/// Writes what is said of the rows that aren't drawn; where that ends.
+fn write_folded<W: Write>(out: &mut W, folded: &[String], top: usize) -> io::Result<usize> {
+    let mut top = top;
+    for line in folded {
+        write_words(out, "p", EDGE, top.saturating_add(NOTE - 6), line)?;
+        top = top.saturating_add(NOTE);
+    }
+    Ok(top)
 }
 
 /// Writes the name and the place of a row on a line of text.

@@ -1,7 +1,9 @@
 //! A picture as lines for a terminal.
 
+use crate::kinds::{Block, Kind, blocks_of};
 use crate::text_cells::{CELL, write_levels, write_moments, write_signs};
 use crate::{Picture, Row};
+use std::alloc::Global;
 use std::io;
 use std::io::Write;
 
@@ -33,9 +35,10 @@ impl Band {
 ///
 /// # Errors
 ///
-/// The writer's.
-pub fn write_text<W: Write>(out: &mut W, picture: &Picture) -> io::Result<()> {
-    let whole = whole_band(picture);
+/// The writer's, or that the allocator is out of memory.
+pub fn write_text<W: Write>(alloc: Global, out: &mut W, picture: &Picture) -> io::Result<()> {
+    let blocks = blocks_of(alloc, picture, WIDTH)?;
+    let whole = whole_band(picture.columns.len(), &blocks);
     let cells = (WIDTH.saturating_sub(whole.left()) / CELL).max(1);
     for number in 0..(whole.end / cells).saturating_add(1) {
         let first = number.saturating_mul(cells);
@@ -44,11 +47,19 @@ pub fn write_text<W: Write>(out: &mut W, picture: &Picture) -> io::Result<()> {
             end: first.saturating_add(cells).min(whole.end),
             ..whole
         };
-        write_band(out, picture, &band)?;
+        write_band(out, picture, &blocks, &band)?;
+    }
+    for block in &blocks {
+        write_lines(out, &block.folded)?;
     }
     write_line(out, SIGNS)?;
-    for note in picture.notes.iter() {
-        write_line(out, note)?;
+    write_lines(out, &picture.notes)
+}
+
+/// Writes lines.
+fn write_lines<W: Write>(out: &mut W, lines: &[String]) -> io::Result<()> {
+    for line in lines {
+        write_line(out, line)?;
     }
     Ok(())
 }
@@ -59,24 +70,24 @@ fn write_line<W: Write>(out: &mut W, line: &str) -> io::Result<()> {
 }
 
 /// All columns beside each other.
-fn whole_band(picture: &Picture) -> Band {
-    let band = Band {
+fn whole_band(columns: usize, blocks: &[Block]) -> Band {
+    let mut band = Band {
         first: 0,
-        end: picture.columns.len(),
+        end: columns,
         names: 0,
         places: 0,
     };
-    let band = widened(band, &picture.lamps);
-    let band = widened(band, &picture.sources);
-    let band = widened(band, &picture.tasks);
-    widened(band, &picture.buses)
+    for block in blocks {
+        band = widened(band, block);
+    }
+    band
 }
 
 /// A band in which the names and places of these rows have room too.
-fn widened(band: Band, rows: &[Row]) -> Band {
+fn widened(band: Band, block: &Block) -> Band {
     let mut names = band.names;
     let mut places = band.places;
-    for row in rows {
+    for row in block.rows.iter().filter(|row| block.shows(row)) {
         names = names.max(row.name.len());
         places = places.max(row.place.len());
     }
@@ -88,32 +99,30 @@ fn widened(band: Band, rows: &[Row]) -> Band {
 }
 
 /// Draws the columns of a band, where there are any.
-fn write_band<W: Write>(out: &mut W, picture: &Picture, band: &Band) -> io::Result<()> {
+fn write_band<W: Write>(
+    out: &mut W,
+    picture: &Picture,
+    blocks: &[Block],
+    band: &Band,
+) -> io::Result<()> {
     if band.first >= band.end {
         return Ok(());
     }
-    write_level_rows(out, &picture.lamps, band)?;
-    write_sign_rows(out, &picture.sources, band)?;
-    write_sign_rows(out, &picture.tasks, band)?;
-    write_sign_rows(out, &picture.buses, band)?;
+    for block in blocks {
+        write_block(out, block, band)?;
+    }
     write_moments(out, picture, band)?;
     writeln!(out)
 }
 
-/// Draws rows of levels.
-fn write_level_rows<W: Write>(out: &mut W, rows: &[Row], band: &Band) -> io::Result<()> {
-    for row in rows {
+/// Draws the rows of a kind.
+fn write_block<W: Write>(out: &mut W, block: &Block, band: &Band) -> io::Result<()> {
+    for row in block.rows.iter().filter(|row| block.shows(row)) {
         write_name(out, row, band)?;
-        write_levels(out, row, band)?;
-    }
-    Ok(())
-}
-
-/// Draws rows of other marks.
-fn write_sign_rows<W: Write>(out: &mut W, rows: &[Row], band: &Band) -> io::Result<()> {
-    for row in rows {
-        write_name(out, row, band)?;
-        write_signs(out, row, band)?;
+        match block.kind {
+            Kind::Levels => write_levels(out, row, band),
+            Kind::Sources | Kind::Tasks | Kind::Buses => write_signs(out, row, band),
+        }?;
     }
     Ok(())
 }

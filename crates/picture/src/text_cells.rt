@@ -1,6 +1,7 @@
 //! The cells of a picture for a terminal: one for each column of a row.
 
 use crate::parts::level_of;
+use crate::svg_marks::digits;
 use crate::text::{Band, write_spaces};
 use crate::{Moment, Picture, Row, Sign};
 use std::io;
@@ -61,16 +62,6 @@ fn block_of(level: u8) -> &'static str {
     match BLOCKS.get(place) {
         Some(block) => block,
         None => "█",
-    }
-}
-
-/// How many digits a number has that is below 10,000.
-fn digits(number: u16) -> usize {
-    match number {
-        0..=9 => 1,
-        10..=99 => 2,
-        100..=999 => 3,
-        _ => 4,
     }
 }
 

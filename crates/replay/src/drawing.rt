@@ -2,9 +2,10 @@
 
 use crate::lamps::{Lamp, add_lamps, mark_lamps};
 use crate::sources::{add_sources, mark_sources};
-use daliframe::Frame24;
+use daliframe::{Frame, Frame24};
 use driving::Observer;
-use ilplan::Plan;
+use framewords::{FrameWords, FramesWords};
+use ilplan::{Activation, Location, Plan};
 use picture::{Column, Moment, Picture, Row, Sign};
 use plantevents::Origin;
 use simbus::{Scenario, SimBus};
@@ -36,11 +37,12 @@ impl Drawing {
         let sources = add_sources(alloc, plan, &mut picture.sources)?;
         for task in 0..plan.tasks() {
             let name = String::from_str(alloc, plan.task_name(task))?;
-            picture.tasks.push(row_called(alloc, name))?;
+            let bus = bus_of_task(plan, task);
+            picture.tasks.push(row_called(alloc, name, bus))?;
         }
         for bus in 0..plan.buses() {
             let name = format!(in alloc; "bus {bus}")?;
-            picture.buses.push(row_called(alloc, name))?;
+            picture.buses.push(row_called(alloc, name, Some(bus)))?;
         }
         Ok(Drawing {
             alloc,
@@ -69,9 +71,23 @@ impl Drawing {
         Ok(picture)
     }
 
-    /// Begins a column with a line.
-    fn begin(&mut self, moment: Option<Moment>, title: String) -> Result<(), AllocError> {
-        self.picture.columns.push(Column { moment, title })?;
+    /// Begins the column of a moment with a line.
+    fn begin_moment(&mut self, moment: Moment, title: String) -> Result<(), AllocError> {
+        self.picture.columns.push(Column {
+            moment: Some(moment),
+            bus: None,
+            title,
+        })?;
+        Ok(())
+    }
+
+    /// Begins a column with a line of what happened on a bus.
+    fn begin(&mut self, bus: u8, title: String) -> Result<(), AllocError> {
+        self.picture.columns.push(Column {
+            moment: None,
+            bus: Some(bus),
+            title,
+        })?;
         Ok(())
     }
 
@@ -113,13 +129,14 @@ impl Observer<SimBus> for Drawing {
     fn ticked(&mut self, _place: u64, moment: u64) -> io::Result<()> {
         let title = format!(in self.alloc; "tick {moment}")?;
         let milliseconds = moment;
-        self.begin(Some(Moment { milliseconds }), title)?;
+        self.begin_moment(Moment { milliseconds }, title)?;
         Ok(())
     }
 
     fn heard(&mut self, _place: u64, bus: u8, frame: Frame24) -> io::Result<()> {
-        let title = format!(in self.alloc; "heard {bus} {frame}")?;
-        self.begin(None, title)?;
+        let words = FrameWords(Frame::Forward24(frame));
+        let title = format!(in self.alloc; "heard {bus} {frame}  {words}")?;
+        self.begin(bus, title)?;
         let column = self.column();
         let rows = &mut self.picture.sources;
         mark_sources(self.alloc, &self.sources, rows, bus, frame, column)?;
@@ -155,11 +172,8 @@ impl Observer<SimBus> for Drawing {
         _origin: Origin,
         transaction: &Transaction,
     ) -> io::Result<()> {
-        let mut title = format!(in self.alloc; "hand {bus} {}", transaction.first_priority())?;
-        for frame in transaction.frames() {
-            title.push_str(&format!(in self.alloc; " {frame}")?)?;
-        }
-        self.begin(None, title)?;
+        let title = handed_line(self.alloc, bus, transaction)?;
+        self.begin(bus, title)?;
         Ok(())
     }
 
@@ -176,15 +190,47 @@ impl Observer<SimBus> for Drawing {
 
     fn went_down(&mut self, _place: u64, bus: u8) -> io::Result<()> {
         let title = format!(in self.alloc; "down {bus}")?;
-        self.begin(None, title)?;
+        self.begin(bus, title)?;
         self.mark_bus(bus, Sign::Down)?;
         Ok(())
     }
 }
 
+/// A transaction that a bus was handed, with its class and its frames, and behind two blanks these
+/// in words.
+fn handed_line(alloc: Global, bus: u8, transaction: &Transaction) -> Result<String, AllocError> {
+    let mut line = format!(in alloc; "hand {bus} {}", transaction.first_priority())?;
+    for frame in transaction.frames() {
+        line.push_str(&format!(in alloc; " {frame}")?)?;
+    }
+    line.push_str(&format!(in alloc; "  {}", FramesWords(transaction.frames()))?)?;
+    Ok(line)
+}
+
+/// The bus on which a task's trigger is, where an event starts it.
+fn bus_of_task(plan: &Plan, task: usize) -> Option<u8> {
+    if task >= plan.tasks() {
+        return None;
+    }
+    match plan.task(task).activation() {
+        Activation::Event { trigger } if trigger < plan.globals() => {
+            bus_of_trigger(plan.global(trigger).location)
+        }
+        _ => None,
+    }
+}
+
+/// The bus of a trigger.
+fn bus_of_trigger(location: Option<Location>) -> Option<u8> {
+    match location {
+        Some(Location::Trigger { bus, .. }) => Some(bus),
+        _ => None,
+    }
+}
+
 /// A row of this name, of a task or a bus.
-fn row_called(alloc: Global, name: String) -> Row {
-    Row::new(alloc, name, String::new(alloc), None)
+fn row_called(alloc: Global, name: String, bus: Option<u8>) -> Row {
+    Row::new(alloc, name, String::new(alloc), bus)
 }
 
 /// The mark of a transaction that ended so.

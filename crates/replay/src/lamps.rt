@@ -70,7 +70,9 @@ fn row_of(alloc: Global, lamp: Lamp, scenario: &Scenario, name: String) -> Resul
         group @ 64..=79 => format!(in alloc; "group {}, bus {bus}", group - 64)?,
         address => format!(in alloc; "no gear {address}, bus {bus}")?,
     };
-    Ok(Row::new(alloc, name, place, level))
+    let mut row = Row::new(alloc, name, place, Some(bus));
+    row.level = level;
+    Ok(row)
 }
 
 /// Marks the levels that are new after a transaction on a bus with this interface, each in the row

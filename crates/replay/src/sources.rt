@@ -16,7 +16,7 @@ pub(crate) fn add_sources(
     for bound in plan.sources() {
         let name = name_of(alloc, plan, bound)?;
         let place = format!(in alloc; "source {}, bus {}", bound.number, bound.bus)?;
-        rows.push(Row::new(alloc, name, place, None))?;
+        rows.push(Row::new(alloc, name, place, Some(bound.bus)))?;
         sources.push(*bound)?;
     }
     Ok(sources)
@@ -90,7 +90,7 @@ fn mark_stray(
         }
     }
     let name = String::from_str(alloc, "no source")?;
-    let mut row = Row::new(alloc, name, place, None);
+    let mut row = Row::new(alloc, name, place, Some(bus));
     row.add(column, Sign::Stray)?;
     rows.push(row)?;
     Ok(())
