@@ -1,22 +1,27 @@
--- A word that is at fault names no line.
+-- A word that is at fault is a wrong value.
 use Rattle.std.proofs.Common.{List, Option, inl, inr}
 use Rattle.clap.specs.Words.{Row, Text}
+use Rattle.invocations.proofs.ExpectedLists.{not_expected}
 use Rattle.invocations.proofs.LineFaults.{no_lines}
-use Rattle.invocations.specs.Invocations.{IsOfFault, line_word, line_words}
+use Rattle.invocations.specs.Invocations.{IsOfFault, expected_words, line_word, line_words}
 use Rattle.invocations.specs.LineWords.{ArePaths, IsNoPath}
 use Rattle.invocations.specs.declared.line_words.LineWordFault.{LineWordFault}
 use Rattle.invocations.specs.declared.line_words.LineWordFault.TheVariants.{Again, NoLine}
-use Rattle.commandline.specs.CommandLine.{NamesNoLines}
+use Rattle.invocations.specs.declared.word_fault.WordFault.{WordFault}
+use Rattle.invocations.specs.declared.word_fault.WordFault.TheVariants.{Expected, Line}
+use Rattle.commandline.specs.CommandLine.{HasWrongValue}
 
 no_path : (text : Text) (fault : LineWordFault) → IsNoPath text fault → (from : Text) (to : Option Text)
     → ¬ ArePaths text from to
 no_path text (NoLine word) is = is.1
 no_path text (Again word) is = absurd is
 
-pub fault_names_no_lines : (name : Text) (found : List Row) (fault : LineWordFault) → IsOfFault name found fault
-    → NamesNoLines name found
-fault_names_no_lines name found fault of =
-    elim of as (λ _. NamesNoLines name found) [
-      | inl live ↦ inl (live.0, no_lines (line_words found) fault live.1)
-      | inr line ↦ inr (line.0, no_path (line_word found) fault line.1)
+pub fault_is_wrong : (name : Text) (found : List Row) (fault : WordFault) → IsOfFault name found fault
+    → HasWrongValue name found
+fault_is_wrong name found (Line fault) of =
+    elim of as (λ _. HasWrongValue name found) [
+      | inl live ↦ inr (inl (inl (live.0, no_lines (line_words found) fault live.1)))
+      | inr line ↦ inr (inl (inr (line.0, no_path (line_word found) fault line.1)))
     ]
+fault_is_wrong name found (Expected fault) of =
+    inr (inr (of.0, not_expected (expected_words found) fault of.1))

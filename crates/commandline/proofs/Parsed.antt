@@ -11,8 +11,8 @@ use Rattle.clap.specs.declared.parser.matches.ArgMatches.TheViews.{out-ArgMatche
 use Rattle.clap.specs.declared.error.kind.ErrorKind.TheVariants.{OutOfMemory}
 use Rattle.invocations.specs.Invocations.{IsOfCommand}
 use Rattle.invocations.specs.declared.invocations.Invocation.{Invocation}
-use Rattle.commandline.specs.CommandLine.{AreTaken, IsAtFault, IsInvocation, NamesBoth, NamesNoBinding}
-use Rattle.commandline.specs.CommandLine.{NamesNoLines, Spell, command_line}
+use Rattle.commandline.specs.CommandLine.{AreTaken, HasWrongValue, IsAtFault, IsConflicting, IsInvocation, IsLacking}
+use Rattle.commandline.specs.CommandLine.{Spell, command_line}
 
 is_free : is_simple_and_free command_line ≡ true
 is_free = refl
@@ -68,14 +68,14 @@ module _ (words : List Text) (name : Text) (found : List Row)
 
   -- where `clap` finds nothing at fault
   pub answered : (T : Type 0) (read : Result T Error) → fault_of command_line words ≡ []
-      → IfOk read (λ _. ¬ NamesBoth name found × ¬ NamesNoBinding name found × ¬ NamesNoLines name found)
+      → IfOk read (λ _. ¬ IsConflicting name found × ¬ IsLacking name found × ¬ HasWrongValue name found)
       → IfErr read (λ error. (kind_of error ≡ OutOfMemory) ⊎ IsAtFault (kind_of error) name found)
       → AreTaken {T = T} words read
   answered T (Ok done) free neither refused = (
     free,
-    λ both. neither.0 (of_found NamesBoth both),
-    λ half. neither.1 (of_found NamesNoBinding half),
-    λ none. neither.2 (of_found NamesNoLines none),
+    λ two. neither.0 (of_found IsConflicting two),
+    λ half. neither.1 (of_found IsLacking half),
+    λ wrong. neither.2 (of_found HasWrongValue wrong),
   )
   answered T (Err error) free neither refused =
       elim refused as (λ _. AreTaken {T = T} words (Err error)) [

@@ -1,12 +1,15 @@
 -- The command line (profile): `check FILE [--bind FILE]`, `check --code FILE`, `step FILE TASK [--bind FILE] [--scans N]
--- [--every MS]`, `play TEXT BIND SCENARIO [--limit N]`, `run TEXT BIND SCENARIO [--limit N] [--workers W]`,
+-- [--every MS]`, `play TEXT BIND SCENARIO [--limit N] [--names] [--expect NAME=VALUE]..`,
+-- `run TEXT BIND SCENARIO [--limit N] [--workers W]`,
 -- `live TEXT BIND --line B=PATH.. [--period MS] [--for SECONDS] [--stop PATH] [--limit N] [--workers W] [--stay]
 -- [--log FILE] [--log-size BYTES] [--record FILE] [--status FILE] [--json] [--keep FILE]`,
 -- `probe --line PATH [TEXT BIND] [--bus B]`,
 -- `listen --line PATH [--bind FILE] [--bus B] [--record FILE] [--for SECONDS] [--stop PATH]`, `blink --line PATH ADR`,
--- `ask --line PATH REQUEST ADR [VALUE] [VALUE2]`, `look FILE SCENARIO --bind FILE [--text]`,
--- `notes FILE [--bind FILE]`, `list FILE [TASK] [--bind FILE]`, `explain FILE [SCENARIO] [--bind FILE]` and
--- `code FILE TASK OUT [--bind FILE]`, with the reading of words that `clap` has.
+-- `ask --line PATH REQUEST ADR [VALUE] [VALUE2]`,
+-- `look TEXT BIND SCENARIO [--text] [--out FILE] [--bus B] [--from MS] [--to MS]`, `look TEXT SCENARIO --bind FILE ..`,
+-- `notes FILE [--bind FILE]`, `list FILE [TASK] [--bind FILE]`, `explain FILE [SCENARIO] [--bind FILE]`,
+-- `code FILE TASK OUT [--bind FILE]`, `frame HEX [HEX2] [HEX3] [HEX4]` and `event BIND B.K INFORMATION`, with the reading
+-- of words that `clap` has.
 use Rattle.std.specs.Prelude.{◌≡◌, ℕ, ◌⊎◌, List, [], Option, Some, true, pos, codes, IsSome, Result, Ok, Err}
 use Rattle.clap.specs.Words.{App, HasKind, Row, Rule, Text, fault_of, first_of, kind_of, new_app, new_rule, one_of}
 use Rattle.clap.specs.Words.{subcommand_of, with_rule, with_subcommand}
@@ -17,8 +20,10 @@ use Rattle.clap.specs.declared.error.Error.{Error}
 use Rattle.clap.specs.declared.error.kind.ErrorKind.{ErrorKind}
 use Rattle.clap.specs.declared.error.kind.ErrorKind.TheVariants.{ArgumentConflict, MissingRequiredArgument}
 use Rattle.clap.specs.declared.error.kind.ErrorKind.TheVariants.{ValueValidation}
-use Rattle.invocations.specs.Invocations.{IsLineName, IsOfCommand, line_word, line_words}
+use Rattle.invocations.specs.ExpectedWords.{AreExpected}
+use Rattle.invocations.specs.Invocations.{IsLineName, IsOfCommand, expected_words, line_word, line_words}
 use Rattle.invocations.specs.LineWords.{AreLines, ArePaths}
+use Rattle.invocations.specs.declared.expected_words.ExpectedWord.{ExpectedWord}
 use Rattle.invocations.specs.declared.invocations.Invocation.{Invocation}
 use Rattle.invocations.specs.declared.line_words.LineWord.{LineWord}
 
@@ -39,6 +44,10 @@ option id = record (new_rule id) { long = Some id; value_names = 1; action = Som
 -- an option with one value that must be given
 abbrev pub wanted_option : Text → Rule
 wanted_option id = record (option id) { required = true }
+
+-- an option with one value that may be given several times
+abbrev pub listed_option : Text → Rule
+listed_option id = record (option id) { action = Some Append }
 
 -- an option with one value that must be given, once or several times
 abbrev pub repeated_option : Text → Rule
@@ -79,7 +88,10 @@ scenario_files name =
     (wanted (codes "SCENARIO"))
 
 abbrev pub play_command : App
-play_command = with_rule (scenario_files (codes "play")) (number_option (codes "limit") 100 1000000)
+play_command =
+    with_rule (with_rule (with_rule (scenario_files (codes "play")) (number_option (codes "limit") 100 1000000))
+    (flag (codes "names")))
+    (listed_option (codes "expect"))
 
 abbrev pub run_command : App
 run_command =
@@ -143,11 +155,19 @@ ask_command =
 
 abbrev pub look_files : App
 look_files =
-    with_rule (with_rule (with_rule (new_app (codes "look")) (wanted (codes "FILE"))) (wanted (codes "SCENARIO")))
-    (wanted_option (codes "bind"))
+    with_rule (with_rule (with_rule (with_rule (new_app (codes "look")) (wanted (codes "TEXT")))
+    (optional (codes "BIND")))
+    (optional (codes "SCENARIO")))
+    (option (codes "bind"))
+
+abbrev pub look_picture : App
+look_picture = with_rule (with_rule look_files (flag (codes "text"))) (option (codes "out"))
 
 abbrev pub look_command : App
-look_command = with_rule look_files (flag (codes "text"))
+look_command =
+    with_rule (with_rule (with_rule look_picture (number_option (codes "bus") 0 63))
+    (number_option (codes "from") 0 4294967295))
+    (number_option (codes "to") 0 4294967295)
 
 abbrev pub notes_command : App
 notes_command = with_rule (with_rule (new_app (codes "notes")) (wanted (codes "FILE"))) (option (codes "bind"))
@@ -170,8 +190,22 @@ code_files =
 abbrev pub code_command : App
 code_command = with_rule code_files (option (codes "bind"))
 
+abbrev pub frame_command : App
+frame_command =
+    with_rule (with_rule (with_rule (with_rule (new_app (codes "frame")) (wanted (codes "HEX")))
+    (optional (codes "HEX2")))
+    (optional (codes "HEX3")))
+    (optional (codes "HEX4"))
+
+abbrev pub event_command : App
+event_command =
+    with_rule (with_rule (with_rule (new_app (codes "event")) (wanted (codes "BIND"))) (wanted (codes "B.K")))
+    (in_range 0 1023 (wanted (codes "INFORMATION")))
+
+-- the program has a version, and of its commands one must be given
 abbrev pub program : App
-program = on_top (λ top. record top { subcommand_required = true }) (new_app (codes "dalictl"))
+program =
+    on_top (λ top. record top { has_version = true; subcommand_required = true }) (new_app (codes "dalictl"))
 
 abbrev pub inquiry_line : App
 inquiry_line = with_subcommand (with_subcommand program check_command.top) step_command.top
@@ -209,8 +243,14 @@ list_line = with_subcommand note_line list_command.top
 abbrev pub explain_line : App
 explain_line = with_subcommand list_line explain_command.top
 
+abbrev pub code_line : App
+code_line = with_subcommand explain_line code_command.top
+
+abbrev pub frame_line : App
+frame_line = with_subcommand code_line frame_command.top
+
 abbrev pub command_line : App
-command_line = with_subcommand explain_line code_command.top
+command_line = with_subcommand frame_line event_command.top
 
 -- ---- what they say
 
@@ -231,10 +271,40 @@ NamesBoth name found =
     (name ≡ codes "check") × (one_of (codes "code") found ≡ Some (codes "true"))
     × IsSome (first_of (codes "bind") found)
 
+-- what was found under `look` names the binding by `--bind`, and has three words beside it
+abbrev pub NamesBindingTwice : Text → List Row → Type 0
+NamesBindingTwice name found =
+    (name ≡ codes "look") × IsSome (first_of (codes "bind") found) × IsSome (first_of (codes "SCENARIO") found)
+
+-- of what was found one thing can't be used beside another one
+abbrev pub IsConflicting : Text → List Row → Type 0
+IsConflicting name found = NamesBoth name found ⊎ NamesBindingTwice name found
+
 -- what was found under `probe` names a text without its binding
 abbrev pub NamesNoBinding : Text → List Row → Type 0
 NamesNoBinding name found =
     (name ≡ codes "probe") × IsSome (first_of (codes "TEXT") found) × ¬ IsSome (first_of (codes "BIND") found)
+
+-- what was found has a word behind the text, and the binding by `--bind` or one word more
+abbrev pub HasLookFiles : List Row → Type 0
+HasLookFiles found =
+    IsSome (first_of (codes "BIND") found)
+    × (IsSome (first_of (codes "bind") found) ⊎ IsSome (first_of (codes "SCENARIO") found))
+
+-- what was found under `look` names no scenario, or no binding
+abbrev pub NamesNoScenario : Text → List Row → Type 0
+NamesNoScenario name found = (name ≡ codes "look") × ¬ HasLookFiles found
+
+-- what was found lacks a file
+abbrev pub IsLacking : Text → List Row → Type 0
+IsLacking name found = NamesNoBinding name found ⊎ NamesNoScenario name found
+
+-- what was found under `code` names the text or the binding as the code file that is written
+abbrev pub WritesOverInput : Text → List Row → Type 0
+WritesOverInput name found =
+    (name ≡ codes "code")
+    × ((out : Text) × (first_of (codes "OUT") found ≡ Some out)
+    × ((first_of (codes "FILE") found ≡ Some out) ⊎ (first_of (codes "bind") found ≡ Some out)))
 
 -- what was found names no lines: under `live` a word is none, or names a bus that another one names; at one line the
 -- word is neither a path nor two
@@ -243,19 +313,28 @@ NamesNoLines name found =
     ((name ≡ codes "live") × ((lines : List LineWord) → ¬ AreLines (line_words found) lines))
     ⊎ (IsLineName name × ((from : Text) (to : Option Text) → ¬ ArePaths (line_word found) from to))
 
--- what was found is at fault, and the first fault is of this kind: a binding beside a code file, then a text without
--- its binding, then words that name no lines
+-- what was found under `play` has a word that says nothing that is expected, or more than 16
+abbrev pub IsUnexpected : Text → List Row → Type 0
+IsUnexpected name found =
+    (name ≡ codes "play") × ((expected : List ExpectedWord) → ¬ AreExpected (expected_words found) expected)
+
+-- what was found has a value that isn't taken
+abbrev pub HasWrongValue : Text → List Row → Type 0
+HasWrongValue name found = WritesOverInput name found ⊎ NamesNoLines name found ⊎ IsUnexpected name found
+
+-- what was found is at fault, and the first fault is of this kind: a thing beside another one, then a file that lacks,
+-- then a value
 abbrev pub IsAtFault : ErrorKind → Text → List Row → Type 0
 IsAtFault kind name found =
-    (NamesBoth name found × (kind ≡ ArgumentConflict))
-    ⊎ (NamesNoBinding name found × (kind ≡ MissingRequiredArgument))
-    ⊎ (NamesNoLines name found × ¬ NamesNoBinding name found × (kind ≡ ValueValidation))
+    (IsConflicting name found × (kind ≡ ArgumentConflict))
+    ⊎ (IsLacking name found × ¬ IsConflicting name found × (kind ≡ MissingRequiredArgument))
+    ⊎ (HasWrongValue name found × ¬ IsConflicting name found × ¬ IsLacking name found × (kind ≡ ValueValidation))
 
 -- what `clap` finds at fault comes first; and the allocator may be out of memory
 abbrev pub AreTaken : {T : Type 0} → List Text → Result T Error → Type 0
 AreTaken words (Ok taken) =
-    (fault_of command_line words ≡ []) × ¬ Spell NamesBoth words × ¬ Spell NamesNoBinding words
-    × ¬ Spell NamesNoLines words
+    (fault_of command_line words ≡ []) × ¬ Spell IsConflicting words × ¬ Spell IsLacking words
+    × ¬ Spell HasWrongValue words
 AreTaken words (Err error) =
     HasKind (fault_of command_line words) error
     ⊎ ((fault_of command_line words ≡ []) × Spell (IsAtFault (kind_of error)) words)

@@ -2,7 +2,8 @@
 use Rattle.std.specs.Prelude.{ℤ, List, [], ◌∷◌, Some, pos}
 use Rattle.std.specs.Int.{int_max, int_min}
 use Rattle.clap.specs.Words.{App, Rule, new_app, signed_between, with_rule, with_subcommand}
-use Rattle.commandline.specs.CommandLine.{flag, option, optional, repeated_option, wanted, wanted_option}
+use Rattle.commandline.specs.CommandLine.{flag, listed_option, option, optional, repeated_option, wanted}
+use Rattle.commandline.specs.CommandLine.{wanted_option}
 use Rattle.commandline.specs.declared.tables.Subcommand.{Subcommand}
 use Rattle.commandline.specs.declared.words.Word.{Word}
 use Rattle.commandline.specs.declared.words.Word.TheVariants as words
@@ -20,6 +21,7 @@ rule_of_word (words.OptionalNumber id least most help) = with_numbers least most
 rule_of_word (words.Valued id value help) = option id.now
 rule_of_word (words.WantedValued id value help) = wanted_option id.now
 rule_of_word (words.Repeated id value help) = repeated_option id.now
+rule_of_word (words.Listed id value help) = listed_option id.now
 rule_of_word (words.Number id value least most help) = with_numbers least most (option id.now)
 rule_of_word (words.Flag id help) = flag id.now
 

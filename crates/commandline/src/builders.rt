@@ -6,7 +6,7 @@ ghost use Rattle.clap.specs.declared.builder.command.Command.TheViews.{out-Comma
 ghost use Rattle.commandline.specs.CommandLine.{program};
 ghost use Rattle.commandline.specs.Tables.{app_of_command, rule_of_word, with_commands};
 
-use crate::tables::Subcommand;
+use crate::tables::{Subcommand, VERSION};
 use crate::words::{Word, argument};
 use clap::Command;
 use std::alloc::{AllocError, Global};
@@ -31,7 +31,9 @@ fn program<'a>(alloc: Global) -> Command<'a>
     ensures local { (out-Command result).has_globals ≡ false }
 {
     let about = "Checks and runs Instruction List programs for DALI-2 lighting buses";
-    named(alloc, "dalictl", about).subcommand_required(true)
+    named(alloc, "dalictl", about)
+        .version(VERSION)
+        .subcommand_required(true)
 }
 
 /// The command with its words.

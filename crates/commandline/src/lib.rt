@@ -3,7 +3,8 @@
 //! What crosses the boundary: [`read`] takes the words that follow the program's name, and gives
 //! the [`Invocation`] that they spell, whose types and meaning are those of `invocations`: an
 //! [`Inquiry`] or a [`Question`] of a text, files that are played, run or looked at, a building
-//! with the lines of its buses, what is done at one line, or a code file that is written or judged.
+//! with the lines of its buses, a [`Tool`] at one line, a code file that is written or judged, or
+//! frames and events in words.
 //! The definitions to read first are `command_line` and `IsInvocation` (specs/CommandLine.antt).
 //!
 //! ```text
@@ -14,12 +15,15 @@
 #![tactic(auto)]
 
 mod builders;
+mod checks;
+mod messages;
 mod options;
 mod tables;
 mod words;
 
 pub use invocations::{
-    Beside, Files, Inquiry, Invocation, LineWord, LineWords, ListenEnd, LiveFiles, LiveOptions,
-    PlayFiles, Question, RequestWords, RunSize,
+    Beside, ExpectedWord, ExpectedWords, Files, FrameWords, Inquiry, Invocation, LineWord,
+    LineWords, ListenEnd, LiveFiles, LiveOptions, LookOptions, PlayFiles, PlayShows, Question,
+    RequestWords, RunSize, Tool,
 };
 pub use options::read;

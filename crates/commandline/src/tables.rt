@@ -2,6 +2,9 @@
 
 use crate::words::Word;
 
+/// The program's version.
+pub(crate) const VERSION: &str = "0.14.0";
+
 /// A command: its name, what the help says of it, and its words.
 #[derive(Clone, Copy)]
 pub(crate) struct Subcommand {
@@ -124,10 +127,21 @@ const STEP: Subcommand = Subcommand {
     words: &[FILE, TASK, BINDING, SCANS, EVERY],
 };
 
-const PLAY: Subcommand = Subcommand {
+pub(crate) const PLAY: Subcommand = Subcommand {
     name: "play",
     about: "Plays a scenario on simulated buses and prints what happens",
-    words: &[TEXT, BIND, SCENARIO, LIMIT],
+    words: &[
+        TEXT,
+        BIND,
+        SCENARIO,
+        LIMIT,
+        Word::Flag("names", "Prints behind each frame what it says in words"),
+        Word::Listed(
+            "expect",
+            "NAME=VALUE",
+            "What a value must be at the end, at most 16 times; where it isn't, the status is 1",
+        ),
+    ],
 };
 
 const RUN: Subcommand = Subcommand {
@@ -233,14 +247,37 @@ pub(crate) const ASK: Subcommand = Subcommand {
     ],
 };
 
-const LOOK: Subcommand = Subcommand {
+pub(crate) const LOOK: Subcommand = Subcommand {
     name: "look",
     about: "Plays a scenario on simulated buses and prints a picture of it",
     words: &[
-        FILE,
-        SCENARIO,
-        Word::WantedValued("bind", "FILE", "The binding of buses"),
+        TEXT,
+        Word::Optional("BIND", "The binding of buses, or with --bind the scenario"),
+        Word::Optional("SCENARIO", "What is on the buses and what happens there"),
+        Word::Valued("bind", "FILE", "The binding of buses, in place of BIND"),
         Word::Flag("text", "Prints lines for a terminal in place of an SVG"),
+        Word::Valued("out", "FILE", "Writes the picture to this file"),
+        Word::Number(
+            "bus",
+            "B",
+            0,
+            63,
+            "Shows this bus alone, 0 to 63 [default: all buses]",
+        ),
+        Word::Number(
+            "from",
+            "MS",
+            0,
+            4_294_967_295,
+            "Begins at this millisecond, 0 to 4294967295 [default: the first]",
+        ),
+        Word::Number(
+            "to",
+            "MS",
+            0,
+            4_294_967_295,
+            "Ends at this millisecond, 0 to 4294967295 [default: the last]",
+        ),
     ],
 };
 
@@ -273,7 +310,7 @@ const EXPLAIN: Subcommand = Subcommand {
     ],
 };
 
-const CODE: Subcommand = Subcommand {
+pub(crate) const CODE: Subcommand = Subcommand {
     name: "code",
     about: "Writes the code of one task to a code file",
     words: &[
@@ -284,7 +321,29 @@ const CODE: Subcommand = Subcommand {
     ],
 };
 
+const FRAME: Subcommand = Subcommand {
+    name: "frame",
+    about: "Prints in words what frames say",
+    words: &[
+        Word::Wanted("HEX", "A frame in 4 or 6 hex digits, such as FF05"),
+        Word::Optional("HEX2", "The frame after it"),
+        Word::Optional("HEX3", "The frame after that one"),
+        Word::Optional("HEX4", "The last frame"),
+    ],
+};
+
+const EVENT: Subcommand = Subcommand {
+    name: "event",
+    about: "Prints the line of a scenario by which a source of the binding sends an event",
+    words: &[
+        BIND,
+        Word::Wanted("B.K", "The bus and the source's number there, such as 0.3"),
+        Word::WantedNumber("INFORMATION", 0, 1023, "The event's information, 0 to 1023"),
+    ],
+};
+
 /// The commands, in the order of the help.
-pub(crate) const COMMANDS: [Subcommand; 14] = [
+pub(crate) const COMMANDS: [Subcommand; 16] = [
     CHECK, STEP, PLAY, RUN, LIVE, PROBE, LISTEN, BLINK, ASK, LOOK, NOTES, LIST, EXPLAIN, CODE,
+    FRAME, EVENT,
 ];

@@ -26,6 +26,8 @@ pub(crate) enum Word {
     WantedValued(&'static str, &'static str, &'static str),
     /// An option with one value that must be given, once or several times.
     Repeated(&'static str, &'static str, &'static str),
+    /// An option with one value that may be given several times.
+    Listed(&'static str, &'static str, &'static str),
     /// An option with a whole number, from the one to the other.
     Number(&'static str, &'static str, i64, i64, &'static str),
     /// An option with no value.
@@ -51,6 +53,9 @@ pub(crate) fn argument<'a>(alloc: Global, word: Word) -> Arg<'a>
         Word::Repeated(id, value, help) => option(alloc, id, value, help)
             .required(true)
             .action(ArgAction::Append),
+        Word::Listed(id, value, help) => {
+            option(alloc, id, value, help).action(ArgAction::Append)
+        }
         Word::Number(id, value, least, most, help) => {
             numbered(option(alloc, id, value, help), least, most)
         }

@@ -10,7 +10,7 @@ use workers::Ended;
 pub enum ExitStatus {
     /// What was asked for was done.
     Accepted,
-    /// A file, a task's name or a code is refused.
+    /// A file, a task's name or a code is refused, or what was expected of a play doesn't hold.
     Refused,
     /// The words aren't a command line.
     Misused,

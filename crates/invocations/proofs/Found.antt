@@ -4,10 +4,11 @@ use Rattle.std.proofs.Common.{Ok, Err, refl}
 use Rattle.std.specs.Prelude.{option_map, unwrap_or}
 use Rattle.std.specs.Borrow.{Bor}
 use Rattle.std.specs.Str.Parse.{ParsesUnsigned}
-use Rattle.clap.specs.Words.{ReadsOne, Text, first_of, first_value, matched_of, one_of, one_text, raw_values, rows_of}
+use Rattle.clap.specs.Words.{ReadsOne, Text, all_of, first_of, first_value, matched_of, one_of, one_text}
+use Rattle.clap.specs.Words.{raw_values, rows_of}
 use Rattle.clap.specs.declared.parser.matches.Found.{Found}
 use Rattle.clap.proofs.WalkLemmas.{first_value-rows, one_text-rows, raw_values-rows}
-use Rattle.invocations.specs.Invocations.{IsByte, IsFlag, IsGivenNumber, IsNumber, given, line_words}
+use Rattle.invocations.specs.Invocations.{IsByte, IsFlag, IsGivenNumber, IsNumber, given}
 
 -- the text of an id
 pub text_found : (f : Found) (id : Text) (text : Option (Bor Text)) → option_map (λ s. s.now) text ≡ first_value f id
@@ -18,12 +19,12 @@ pub text_given : (f : Found) (id : Text) (text : Option (Bor Text)) → option_m
     → given (option_map (λ s. s.now) text) ≡ given (first_of id (rows_of f))
 text_given f id text is = ap given (text_found f id text is)
 
--- the words for the lines of buses
-pub words_given : (f : Found) (words : Option (Bor (List (Bor Text))))
-    → option_map (λ all. map (λ word. word.now) all.now) words ≡ option_map raw_values (matched_of f (codes "line"))
-    → unwrap_or (option_map (λ all. map (λ word. word.now) all.now) words) [] ≡ line_words (rows_of f)
-words_given f words is =
-    ap (λ (all : Option (List Text)). unwrap_or all []) (is ∙ raw_values-rows f (codes "line"))
+-- the words of an id
+pub words_given : (f : Found) (id : Text) (words : Option (Bor (List (Bor Text))))
+    → option_map (λ all. map (λ word. word.now) all.now) words ≡ option_map raw_values (matched_of f id)
+    → unwrap_or (option_map (λ all. map (λ word. word.now) all.now) words) [] ≡ unwrap_or (all_of id (rows_of f)) []
+words_given f id words is =
+    ap (λ (all : Option (List Text)). unwrap_or all []) (is ∙ raw_values-rows f id)
 
 -- whether the flag of an id was given
 pub flag_given : (f : Found) (id : Text) (is : Bool) → (one_text f id ≡ None → is ≡ false)

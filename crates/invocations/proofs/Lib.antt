@@ -1,3 +1,5 @@
+pub mod ExpectedLists
+mod ExpectedParts
 mod Found
 pub mod LineFaults
 mod LineLists

@@ -22,7 +22,7 @@ use Rattle.invocations.specs.declared.line_words.LineWord.{LineWord}
 abbrev pub StandsNowhere : ℕ → Text → Type 0
 StandsNowhere byte text = (i : ℕ) → i < length text → get_or text i 0 ≢ byte
 
-nowhere : (byte : ℕ) (text : Text) → ¬ Contains text byte → StandsNowhere byte text
+pub nowhere : (byte : ℕ) (text : Text) → ¬ Contains text byte → StandsNowhere byte text
 nowhere byte text none i within is = none (i, within, get_or_default text i byte 0 within ∙ is)
 
 between : (byte : ℕ) (front back : Text) → Contains (front ++ byte ∷ back) byte

@@ -1,9 +1,10 @@
 -- What the user asks for, by the name of a command and by what was found under it (profile).
-use Rattle.std.specs.Prelude.{◌≡◌, ℕ, ◌^◌, ◌<◌, ◌⊎◌, List, [], Bool, Option, Some, None, IsSome, true, false, codes}
-use Rattle.std.specs.Prelude.{option_map, unwrap_or}
+use Rattle.std.specs.Prelude.{◌≡◌, ℕ, ◌^◌, ◌<◌, ◌⊎◌, List, [], ◌∷◌, Bool, Option, Some, None, IsSome, true, false}
+use Rattle.std.specs.Prelude.{codes, map, option_map, unwrap_or}
 use Rattle.std.specs.Borrow.{Bor}
 use Rattle.std.specs.Str.Parse.{IsNumeral, digits_value, without_leading_plus}
 use Rattle.clap.specs.Words.{Row, Text, all_of, first_of, one_of}
+use Rattle.invocations.specs.ExpectedWords.{AreExpected, IsFirstUnexpected}
 use Rattle.invocations.specs.LineWords.{AreLines, ArePaths, IsFirstFault, IsNoPath}
 use Rattle.invocations.specs.declared.files.Files.{Files}
 use Rattle.invocations.specs.declared.files.LiveFiles.{LiveFiles}
@@ -11,17 +12,25 @@ use Rattle.invocations.specs.declared.files.PlayFiles.{PlayFiles}
 use Rattle.invocations.specs.declared.inquiries.Inquiry.{Inquiry}
 use Rattle.invocations.specs.declared.inquiries.Inquiry.TheVariants.{Check, Step}
 use Rattle.invocations.specs.declared.invocations.Beside.{Beside}
+use Rattle.invocations.specs.declared.invocations.FrameWords.{FrameWords}
 use Rattle.invocations.specs.declared.invocations.Invocation.{Invocation}
-use Rattle.invocations.specs.declared.invocations.Invocation.TheVariants.{Ask, Blink, CheckCode, Code, Listen, Live}
-use Rattle.invocations.specs.declared.invocations.Invocation.TheVariants.{Look, Play, Probe, Request, Run, Tell}
-use Rattle.invocations.specs.declared.invocations.ListenEnd.{ListenEnd}
+use Rattle.invocations.specs.declared.invocations.Invocation.TheVariants as invocations
+use Rattle.invocations.specs.declared.invocations.Invocation.TheVariants.{Ask, CheckCode, Code, EventLine, Frame, Live}
+use Rattle.invocations.specs.declared.invocations.Invocation.TheVariants.{Look, Play, Run, Tell}
 use Rattle.invocations.specs.declared.invocations.LiveOptions.{LiveOptions}
-use Rattle.invocations.specs.declared.invocations.RequestWords.{RequestWords}
+use Rattle.invocations.specs.declared.invocations.LookOptions.{LookOptions}
+use Rattle.invocations.specs.declared.invocations.PlayShows.{PlayShows}
 use Rattle.invocations.specs.declared.invocations.RunSize.{RunSize}
 use Rattle.invocations.specs.declared.line_words.LineWord.{LineWord}
 use Rattle.invocations.specs.declared.line_words.LineWordFault.{LineWordFault}
 use Rattle.invocations.specs.declared.questions.Question.{Question}
 use Rattle.invocations.specs.declared.questions.Question.TheVariants.{Faults, Notes, Words}
+use Rattle.invocations.specs.declared.tools.ListenEnd.{ListenEnd}
+use Rattle.invocations.specs.declared.tools.RequestWords.{RequestWords}
+use Rattle.invocations.specs.declared.tools.Tool.{Tool}
+use Rattle.invocations.specs.declared.tools.Tool.TheVariants.{Blink, Listen, Probe, Request}
+use Rattle.invocations.specs.declared.word_fault.WordFault.{WordFault}
+use Rattle.invocations.specs.declared.word_fault.WordFault.TheVariants.{Expected, Line}
 
 -- the text that was given, or none
 abbrev pub given : Option Text → Text
@@ -94,11 +103,37 @@ pub record ArePlayFiles (found : List Row) (files : PlayFiles) : Type 0 where
   pub binding : files.binding.now ≡ given (first_of (codes "BIND") found)
   pub scenario : files.scenario.now ≡ given (first_of (codes "SCENARIO") found)
 
+-- the words for what is expected at a play's end
+abbrev pub expected_words : List Row → List Text
+expected_words found = unwrap_or (all_of (codes "expect") found) []
+
+-- what a play shows beside what happens: whether frames are in words too, and what is expected at its end
+pub record AreShows (found : List Row) (shows : PlayShows) : Type 0 where
+  pub names : IsFlag (one_of (codes "names") found) shows.names
+  pub expects : AreExpected (expected_words found) shows.expects.items
+
+-- the binding and the scenario of a scenario that is looked at: where `--bind` names the binding, the second word is the
+-- scenario; else the second word is the binding, and the third the scenario
+abbrev pub AreLookedAt : Option Text → List Row → PlayFiles → Type 0
+AreLookedAt (Some binding) found files =
+    (files.binding.now ≡ binding) × (files.scenario.now ≡ given (first_of (codes "BIND") found))
+AreLookedAt None found files =
+    (files.binding.now ≡ given (first_of (codes "BIND") found))
+    × (files.scenario.now ≡ given (first_of (codes "SCENARIO") found))
+
 -- the files that are named for a scenario that is looked at
 pub record AreLookFiles (found : List Row) (files : PlayFiles) : Type 0 where
-  pub text : files.text.now ≡ given (first_of (codes "FILE") found)
-  pub binding : files.binding.now ≡ given (first_of (codes "bind") found)
-  pub scenario : files.scenario.now ≡ given (first_of (codes "SCENARIO") found)
+  pub text : files.text.now ≡ given (first_of (codes "TEXT") found)
+  pub others : AreLookedAt (first_of (codes "bind") found) found files
+
+-- what of a scenario a picture shows, and where it goes: whether it is lines for a terminal, the path that it goes to,
+-- its bus, and the milliseconds at which it begins and ends, where they are given
+pub record AreLookOptions (found : List Row) (options : LookOptions) : Type 0 where
+  pub is_text : IsFlag (one_of (codes "text") found) options.is_text
+  pub to : IsGivenPath (first_of (codes "out") found) options.to
+  pub bus : IsGivenNumber (one_of (codes "bus") found) options.bus
+  pub begins : IsGivenNumber (one_of (codes "from") found) options.from
+  pub ends : IsGivenNumber (one_of (codes "to") found) options.until
 
 -- how large a run may become: 100,000 events at most, and two scan workers, where nothing else is said
 pub record IsRunSize (found : List Row) (size : RunSize) : Type 0 where
@@ -177,45 +212,70 @@ pub record AreCodeWords (found : List Row) (task to : Bor Text) : Type 0 where
   pub of_task : task.now ≡ given (first_of (codes "TASK") found)
   pub out : to.now ≡ given (first_of (codes "OUT") found)
 
--- no building, no line, no scenario and no code is asked for under this name
+-- the words for frames, one that is always given and up to three more
+pub record AreFrameWords (found : List Row) (words : FrameWords) : Type 0 where
+  pub first : words.first.now ≡ given (first_of (codes "HEX") found)
+  pub others : map (option_map (λ word. word.now)) words.others
+      ≡ first_of (codes "HEX2") found ∷ first_of (codes "HEX3") found ∷ first_of (codes "HEX4") found ∷ []
+
+-- the event whose line is asked for: its source under the binding, and its information
+pub record IsEventWords (found : List Row) (binding source : Bor Text) (information : ℕ) : Type 0 where
+  pub bound : binding.now ≡ given (first_of (codes "BIND") found)
+  pub of_source : source.now ≡ given (first_of (codes "B.K") found)
+  pub informs : IsNumber 0 (one_of (codes "INFORMATION") found) information
+
+-- no building, no line, no scenario, no code, no frame and no event is asked for under this name
 abbrev pub IsTextName : Text → Type 0
 IsTextName name =
     ¬ (name ≡ codes "live") × ¬ IsLineName name × ¬ (name ≡ codes "play") × ¬ (name ≡ codes "run")
-    × ¬ (name ≡ codes "look") × ¬ (name ≡ codes "code")
+    × ¬ (name ≡ codes "look") × ¬ (name ≡ codes "code") × ¬ (name ≡ codes "frame") × ¬ (name ≡ codes "event")
 
 -- and no question
 abbrev pub IsInquiryName : Text → Type 0
 IsInquiryName name = IsTextName name × IsNoQuestion name
 
+-- what was found under a command's name is what is done at one line
+abbrev pub IsOfTool : Text → List Row → Tool → Type 0
+IsOfTool name found (Probe line against) = (name ≡ codes "probe") × IsLine found line × AreAgainst found against
+IsOfTool name found (Listen line binding scenario end) =
+    (name ≡ codes "listen") × IsLine found line × IsListening found binding scenario end
+IsOfTool name found (Blink line address) =
+    (name ≡ codes "blink") × IsLine found line × IsByte (one_of (codes "ADR") found) address
+IsOfTool name found (Request line words) = (name ≡ codes "ask") × IsLine found line × AreRequestWords found words
+
 -- what was found under a command's name is the invocation; a played history has 100,000 events at most where nothing
 -- else is said
 abbrev pub IsOfCommand : Text → List Row → Invocation → Type 0
-IsOfCommand name found (Play files limit) =
+IsOfCommand name found (Play files limit shows) =
     (name ≡ codes "play") × ArePlayFiles found files × IsNumber 100000 (one_of (codes "limit") found) limit
+    × AreShows found shows
 IsOfCommand name found (Run files size) = (name ≡ codes "run") × ArePlayFiles found files × IsRunSize found size
 IsOfCommand name found (Live files lines options) =
     (name ≡ codes "live") × AreLiveFiles found files × AreLines (line_words found) lines.items
     × AreLiveOptions found options
-IsOfCommand name found (Probe line against) = (name ≡ codes "probe") × IsLine found line × AreAgainst found against
-IsOfCommand name found (Listen line binding scenario end) =
-    (name ≡ codes "listen") × IsLine found line × IsListening found binding scenario end
-IsOfCommand name found (Blink line address) =
-    (name ≡ codes "blink") × IsLine found line × IsByte (one_of (codes "ADR") found) address
-IsOfCommand name found (Request line words) = (name ≡ codes "ask") × IsLine found line × AreRequestWords found words
-IsOfCommand name found (Look files is_text) =
-    (name ≡ codes "look") × AreLookFiles found files × IsFlag (one_of (codes "text") found) is_text
+IsOfCommand name found (invocations.Tool tool) = IsOfTool name found tool
+IsOfCommand name found (Look files options) =
+    (name ≡ codes "look") × AreLookFiles found files × AreLookOptions found options
 IsOfCommand name found (Code files task to) =
     (name ≡ codes "code") × AreFiles found files × AreCodeWords found task to
 IsOfCommand name found (CheckCode path) =
     (name ≡ codes "check") × IsFlag (one_of (codes "code") found) true
     × (path.now ≡ given (first_of (codes "FILE") found))
+IsOfCommand name found (Frame words) = (name ≡ codes "frame") × AreFrameWords found words
+IsOfCommand name found (EventLine binding source information) =
+    (name ≡ codes "event") × IsEventWords found binding source information
 IsOfCommand name found (Ask inquiry) = IsInquiryName name × IsOfInquiry name found inquiry
 IsOfCommand name found (Tell files question) =
     IsTextName name × AreFiles found files × IsQuestion name found question
 
+-- what was found under the name of a command at one line has a word for the line that is at fault
+abbrev pub IsOfLineFault : Text → List Row → LineWordFault → Type 0
+IsOfLineFault name found fault = IsLineName name × IsNoPath (line_word found) fault
+
 -- what was found under a command's name has a word at fault: under `live` the first among those for the lines of buses,
--- at one line that for it
-abbrev pub IsOfFault : Text → List Row → LineWordFault → Type 0
-IsOfFault name found fault =
-    ((name ≡ codes "live") × IsFirstFault (line_words found) fault)
-    ⊎ (IsLineName name × IsNoPath (line_word found) fault)
+-- at one line that for it, and under `play` the first among those for what is expected
+abbrev pub IsOfFault : Text → List Row → WordFault → Type 0
+IsOfFault name found (Line fault) =
+    ((name ≡ codes "live") × IsFirstFault (line_words found) fault) ⊎ IsOfLineFault name found fault
+IsOfFault name found (Expected fault) =
+    (name ≡ codes "play") × IsFirstUnexpected (expected_words found) fault

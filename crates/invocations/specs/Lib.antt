@@ -1,3 +1,4 @@
+pub mod ExpectedWords
 pub mod Inquiries
 pub mod Invocations
 pub mod LineWords

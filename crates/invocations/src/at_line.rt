@@ -3,26 +3,26 @@
 ghost use Rattle.std.specs.Prelude.{◌≡◌, MatchOption, MatchResult, codes};
 ghost use Rattle.clap.specs.Words.{found_of, one_of, rows_of};
 ghost use Rattle.invocations.specs.Invocations.{AreAgainst, AreRequestWords, IsByte, IsLine};
-ghost use Rattle.invocations.specs.Invocations.{IsLineName, IsListenEnd, IsOfCommand, IsOfFault};
+ghost use Rattle.invocations.specs.Invocations.{IsLineName, IsListenEnd, IsOfLineFault, IsOfTool};
 ghost use Rattle.invocations.specs.Invocations.{line_word};
 ghost use Rattle.invocations.specs.LineWords.{IsNoPath};
 
 use crate::files::LiveFiles;
-use crate::invocations::{Invocation, ListenEnd, RequestWords};
 use crate::line_words::{LineWord, LineWordFault, paths_in};
 use crate::questions::word_in;
 use crate::readers::{given_number_in, text_in};
+use crate::tools::{ListenEnd, RequestWords, Tool};
 use clap::ArgMatches;
 
-/// The invocation of what was found under a command's name, where it is that of a command at one
-/// line, or the fault of its word for the line.
+/// What is done at one line by what was found under a command's name, where it is that of a command
+/// at one line, or the fault of its word for the line.
 pub(crate) fn at_line<'a>(
     name: &str,
     found: &ArgMatches<'a>,
-) -> Option<Result<Invocation<'a>, LineWordFault<'a>>>
+) -> Option<Result<Tool<'a>, LineWordFault<'a>>>
     ensures { MatchOption result (¬ IsLineName name.now)
-        (λ made. MatchResult made (IsOfCommand name.now (rows_of (found_of found.now)))
-        (IsOfFault name.now (rows_of (found_of found.now)))) }
+        (λ made. MatchResult made (IsOfTool name.now (rows_of (found_of found.now)))
+        (IsOfLineFault name.now (rows_of (found_of found.now)))) }
 {
     if name == "probe" {
         return Some(probe_in(found));
@@ -40,24 +40,24 @@ pub(crate) fn at_line<'a>(
 }
 
 /// What is asked by what was found under `probe`.
-fn probe_in<'a>(found: &ArgMatches<'a>) -> Result<Invocation<'a>, LineWordFault<'a>>
-    ensures { MatchResult result (IsOfCommand (codes "probe") (rows_of (found_of found.now)))
-        (IsOfFault (codes "probe") (rows_of (found_of found.now))) }
+fn probe_in<'a>(found: &ArgMatches<'a>) -> Result<Tool<'a>, LineWordFault<'a>>
+    ensures { MatchResult result (IsOfTool (codes "probe") (rows_of (found_of found.now)))
+        (IsOfLineFault (codes "probe") (rows_of (found_of found.now))) }
 {
     let line = line_in(found)?;
-    Ok(Invocation::Probe {
+    Ok(Tool::Probe {
         line,
         against: against_in(found),
     })
 }
 
 /// What is asked by what was found under `listen`.
-fn listen_in<'a>(found: &ArgMatches<'a>) -> Result<Invocation<'a>, LineWordFault<'a>>
-    ensures { MatchResult result (IsOfCommand (codes "listen") (rows_of (found_of found.now)))
-        (IsOfFault (codes "listen") (rows_of (found_of found.now))) }
+fn listen_in<'a>(found: &ArgMatches<'a>) -> Result<Tool<'a>, LineWordFault<'a>>
+    ensures { MatchResult result (IsOfTool (codes "listen") (rows_of (found_of found.now)))
+        (IsOfLineFault (codes "listen") (rows_of (found_of found.now))) }
 {
     let line = line_in(found)?;
-    Ok(Invocation::Listen {
+    Ok(Tool::Listen {
         line,
         binding: word_in(found, "bind"),
         record: word_in(found, "record"),
@@ -66,24 +66,24 @@ fn listen_in<'a>(found: &ArgMatches<'a>) -> Result<Invocation<'a>, LineWordFault
 }
 
 /// What is asked by what was found under `blink`.
-fn blink_in<'a>(found: &ArgMatches<'a>) -> Result<Invocation<'a>, LineWordFault<'a>>
-    ensures { MatchResult result (IsOfCommand (codes "blink") (rows_of (found_of found.now)))
-        (IsOfFault (codes "blink") (rows_of (found_of found.now))) }
+fn blink_in<'a>(found: &ArgMatches<'a>) -> Result<Tool<'a>, LineWordFault<'a>>
+    ensures { MatchResult result (IsOfTool (codes "blink") (rows_of (found_of found.now)))
+        (IsOfLineFault (codes "blink") (rows_of (found_of found.now))) }
 {
     let line = line_in(found)?;
-    Ok(Invocation::Blink {
+    Ok(Tool::Blink {
         line,
         address: byte_in(found, "ADR"),
     })
 }
 
 /// What is asked by what was found under `ask`.
-fn request_in<'a>(found: &ArgMatches<'a>) -> Result<Invocation<'a>, LineWordFault<'a>>
-    ensures { MatchResult result (IsOfCommand (codes "ask") (rows_of (found_of found.now)))
-        (IsOfFault (codes "ask") (rows_of (found_of found.now))) }
+fn request_in<'a>(found: &ArgMatches<'a>) -> Result<Tool<'a>, LineWordFault<'a>>
+    ensures { MatchResult result (IsOfTool (codes "ask") (rows_of (found_of found.now)))
+        (IsOfLineFault (codes "ask") (rows_of (found_of found.now))) }
 {
     let line = line_in(found)?;
-    Ok(Invocation::Request {
+    Ok(Tool::Request {
         line,
         words: request_words_in(found),
     })

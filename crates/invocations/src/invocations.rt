@@ -1,19 +1,22 @@
 //! What the user asks for.
 
+use crate::expected_words::ExpectedWords;
 use crate::files::{Files, LiveFiles, PlayFiles};
 use crate::inquiries::Inquiry;
-use crate::line_words::{LineWord, LineWords};
+use crate::line_words::LineWords;
 use crate::questions::Question;
+use crate::tools::Tool;
 
 /// What the user asks for.
 #[derive(Drop)]
 pub enum Invocation<'a> {
     /// An answer to a text.
     Ask(Inquiry<'a>),
-    /// `play TEXT BIND SCENARIO [--limit N]`
+    /// `play TEXT BIND SCENARIO [--limit N] [--names] [--expect NAME=VALUE]..`
     Play {
         files: PlayFiles<'a>,
         limit: u32,
+        shows: PlayShows<'a>,
     },
     /// `run TEXT BIND SCENARIO [--limit N] [--workers W]`
     Run {
@@ -28,35 +31,13 @@ pub enum Invocation<'a> {
         lines: LineWords<'a>,
         options: LiveOptions<'a>,
     },
-    /// `probe --line PATH [TEXT BIND] [--bus B]`
-    Probe {
-        line: LineWord<'a>,
-        /// What is compared with the line, where it is given.
-        against: Option<LiveFiles<'a>>,
-    },
-    /// `listen --line PATH [--bind FILE] [--bus B] [--record FILE] [--for SECONDS] [--stop PATH]`
-    Listen {
-        line: LineWord<'a>,
-        /// The path of the binding by which sources are named, where one is given.
-        binding: Option<&'a str>,
-        /// The path to which a scenario of what was heard goes, where one is given.
-        record: Option<&'a str>,
-        end: ListenEnd<'a>,
-    },
-    /// `blink --line PATH ADR`: the short address, 0 to 63.
-    Blink {
-        line: LineWord<'a>,
-        address: u8,
-    },
-    /// `ask --line PATH REQUEST ADR [VALUE] [VALUE2]`
-    Request {
-        line: LineWord<'a>,
-        words: RequestWords<'a>,
-    },
-    /// `look FILE SCENARIO --bind FILE [--text]`
+    /// What is done at one line.
+    Tool(Tool<'a>),
+    /// `look TEXT BIND SCENARIO [--text] [--out FILE] [--bus B] [--from MS] [--to MS]`, or
+    /// `look TEXT SCENARIO --bind FILE ..`
     Look {
         files: PlayFiles<'a>,
-        is_text: bool,
+        options: LookOptions<'a>,
     },
     /// A question about a text.
     Tell {
@@ -72,6 +53,19 @@ pub enum Invocation<'a> {
     /// `check --code FILE`: whether the code of the code file at this path is accepted.
     CheckCode {
         path: &'a str,
+    },
+    /// `frame HEX [HEX2] [HEX3] [HEX4]`: what frames say.
+    Frame {
+        words: FrameWords<'a>,
+    },
+    /// `event BIND B.K INFORMATION`: the scenario's line of an event.
+    EventLine {
+        /// The path of the binding.
+        binding: &'a str,
+        /// The bus and the source's number there, as they were given.
+        source: &'a str,
+        /// The event's information, 0 to 1023.
+        information: u32,
     },
 }
 
@@ -125,25 +119,35 @@ impl Beside<'_> {
     }
 }
 
-/// When the listening at a line ends.
-#[derive(Clone, Copy)]
-pub struct ListenEnd<'a> {
-    /// The seconds after which it ends, where they are given.
-    pub seconds: Option<u32>,
-    /// The path of the file by which it is ended, where one is given.
-    pub stop: Option<&'a str>,
+/// What a play shows beside what happens.
+#[derive(Drop)]
+pub struct PlayShows<'a> {
+    /// Whether frames are in words too.
+    pub names: bool,
+    /// What is expected at the end.
+    pub expects: ExpectedWords<'a>,
 }
 
-/// A request to what is on a bus, in words: the name of a function block, and the numbers of its
-/// ports after `REQ` and `BUS`.
+/// What of a scenario a picture shows, and where the picture goes.
 #[derive(Clone, Copy)]
-pub struct RequestWords<'a> {
-    /// The block's name.
-    pub request: &'a str,
-    /// The number of its port `ADR`, 0 to 80.
-    pub address: u8,
-    /// The number of the port after `ADR`, 0 to 255, where it is given.
-    pub value: Option<u32>,
-    /// The number of the port after that one, 0 to 255, where it is given.
-    pub second_value: Option<u32>,
+pub struct LookOptions<'a> {
+    /// Whether it is lines for a terminal in place of an SVG.
+    pub is_text: bool,
+    /// The path of the file to which it goes, where one is given; else it is printed.
+    pub to: Option<&'a str>,
+    /// The bus that alone is shown, 0 to 63, where one is given.
+    pub bus: Option<u32>,
+    /// The milliseconds at which it begins, where they are given.
+    pub from: Option<u32>,
+    /// The milliseconds at which it ends, where they are given.
+    pub until: Option<u32>,
+}
+
+/// The words for frames, one to four.
+#[derive(Clone, Copy)]
+pub struct FrameWords<'a> {
+    /// The first, which is always given.
+    pub first: &'a str,
+    /// The others, of which those that are given come first.
+    pub others: [Option<&'a str>; 3],
 }

@@ -2,10 +2,12 @@
 //!
 //! What crosses the boundary: [`invocation_of`] takes the name of a command and what was found
 //! under it, and gives the [`Invocation`]: an [`Inquiry`] or a [`Question`] of a text, files that
-//! are played, run or looked at, a building with the lines of its buses, what is done at one line,
-//! or a code file that is written or judged. Or it gives the first word that names no line, or a
-//! second one of a bus. The definitions to read first are `IsOfCommand` (specs/Invocations.antt)
-//! and `IsLineWord` (specs/LineWords.antt). Which words are taken stands above, in `commandline`.
+//! are played, run or looked at, a building with the lines of its buses, a [`Tool`] at one line, a
+//! code file that is written or judged, or frames and events in words. Or it gives the
+//! [`WordFault`]: the first word that names no line, or a second one of a bus, or that says nothing
+//! that is expected. The definitions to read first are `IsOfCommand` (specs/Invocations.antt),
+//! `IsLineWord` (specs/LineWords.antt) and `IsExpectedWord` (specs/ExpectedWords.antt). Which words
+//! are taken stands above, in `commandline`.
 //!
 //! ```text
 //! match invocations::invocation_of("check", &found)? {
@@ -15,16 +17,25 @@
 #![tactic(auto)]
 
 mod at_line;
+mod expected_words;
 mod files;
 mod inquiries;
 mod invocations;
 mod line_words;
 mod questions;
 mod readers;
+mod shows;
+mod tools;
+mod word_fault;
 
+pub use expected_words::{ExpectedFault, ExpectedWord, ExpectedWords, MOST_EXPECTED};
 pub use files::{Files, LiveFiles, PlayFiles};
 pub use inquiries::Inquiry;
-pub use invocations::{Beside, Invocation, ListenEnd, LiveOptions, RequestWords, RunSize};
+pub use invocations::{
+    Beside, FrameWords, Invocation, LiveOptions, LookOptions, PlayShows, RunSize,
+};
 pub use line_words::{LineWord, LineWordFault, LineWords};
-pub use questions::Question;
+pub use questions::{Question, word_in};
 pub use readers::invocation_of;
+pub use tools::{ListenEnd, RequestWords, Tool};
+pub use word_fault::WordFault;

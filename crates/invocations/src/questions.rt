@@ -40,7 +40,7 @@ pub(crate) fn question_of<'a>(name: &str, found: &ArgMatches<'a>) -> Option<Ques
 }
 
 /// The word that was given, where one was.
-pub(crate) fn word_in<'a>(found: &ArgMatches<'a>, id: &str) -> Option<&'a str>
+pub fn word_in<'a>(found: &ArgMatches<'a>, id: &str) -> Option<&'a str>
     ensures { option_map (λ word. word.now) result
         ≡ first_of id.now (rows_of (found_of found.now)) }
 {

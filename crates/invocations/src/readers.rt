@@ -2,7 +2,7 @@
 
 ghost use Rattle.std.specs.Prelude.{◌≡◌, MatchResult, codes};
 ghost use Rattle.clap.specs.Words.{first_of, found_of, one_of, rows_of};
-ghost use Rattle.invocations.specs.Invocations.{AreFiles, AreLiveFiles, AreLiveOptions, AreLookFiles};
+ghost use Rattle.invocations.specs.Invocations.{AreFiles, AreLiveFiles, AreLiveOptions};
 ghost use Rattle.invocations.specs.Invocations.{ArePlayFiles, IsBeside, IsFlag, IsGivenNumber};
 ghost use Rattle.invocations.specs.Invocations.{IsInquiryName, IsLineName, IsNumber, IsOfCommand};
 ghost use Rattle.invocations.specs.Invocations.{IsOfFault, IsRunSize, given, line_words};
@@ -14,6 +14,8 @@ use crate::inquiries::Inquiry;
 use crate::invocations::{Beside, Invocation, LiveOptions, RunSize};
 use crate::line_words::{LineWordFault, LineWords, lines_of};
 use crate::questions::{question_of, word_in};
+use crate::shows::{event_in, frame_words_in, look_files_in, look_options_in, play_in};
+use crate::word_fault::WordFault;
 use arrayvec::ArrayVec;
 use clap::ArgMatches;
 
@@ -21,35 +23,35 @@ use clap::ArgMatches;
 ///
 /// # Errors
 ///
-/// A word for a line names none, or a bus that a word before it names.
+/// A word for a line names none, or a bus that a word before it names; or a word for what is
+/// expected isn't one, or is one too many.
 pub fn invocation_of<'a>(
     name: &str,
     found: &ArgMatches<'a>,
-) -> Result<Invocation<'a>, LineWordFault<'a>>
+) -> Result<Invocation<'a>, WordFault<'a>>
     ensures { MatchResult result (IsOfCommand name.now (rows_of (found_of found.now)))
         (IsOfFault name.now (rows_of (found_of found.now))) }
 {
     if name == "live" {
-        return live_in(found);
+        return Ok(live_in(found)?);
+    }
+    if name == "play" {
+        return Ok(play_in(found)?);
     }
     match at_line(name, found) {
-        Some(made) => made,
-        None => Ok(without_lines(name, found)),
+        Some(made) => Ok(Invocation::Tool(made?)),
+        None => Ok(without_lists(name, found)),
     }
 }
 
-/// The invocation of what was found under the name of a command that takes no lines of buses.
-fn without_lines<'a>(name: &str, found: &ArgMatches<'a>) -> Invocation<'a>
+/// The invocation of what was found under the name of a command that takes no words for lines and
+/// none for what is expected.
+fn without_lists<'a>(name: &str, found: &ArgMatches<'a>) -> Invocation<'a>
     requires building { ¬ (name.now ≡ codes "live") }
+    requires play { ¬ (name.now ≡ codes "play") }
     requires line { ¬ IsLineName name.now }
     ensures { IsOfCommand name.now (rows_of (found_of found.now)) result }
 {
-    if name == "play" {
-        return Invocation::Play {
-            files: play_files_in(found),
-            limit: number_in(found, "limit", 100_000),
-        };
-    }
     if name == "run" {
         return Invocation::Run {
             files: play_files_in(found),
@@ -59,7 +61,7 @@ fn without_lines<'a>(name: &str, found: &ArgMatches<'a>) -> Invocation<'a>
     if name == "look" {
         return Invocation::Look {
             files: look_files_in(found),
-            is_text: flag_in(found, "text"),
+            options: look_options_in(found),
         };
     }
     if name == "code" {
@@ -68,6 +70,14 @@ fn without_lines<'a>(name: &str, found: &ArgMatches<'a>) -> Invocation<'a>
             task: text_in(found, "TASK"),
             to: text_in(found, "OUT"),
         };
+    }
+    if name == "frame" {
+        return Invocation::Frame {
+            words: frame_words_in(found),
+        };
+    }
+    if name == "event" {
+        return event_in(found);
     }
     match question_of(name, found) {
         Some(question) => Invocation::Tell {
@@ -111,7 +121,7 @@ fn check_in<'a>(found: &ArgMatches<'a>) -> Invocation<'a>
 /// What is asked by what was found under `live`.
 fn live_in<'a>(found: &ArgMatches<'a>) -> Result<Invocation<'a>, LineWordFault<'a>>
     ensures { MatchResult result (IsOfCommand (codes "live") (rows_of (found_of found.now)))
-        (IsOfFault (codes "live") (rows_of (found_of found.now))) }
+        (IsFirstFault (line_words (rows_of (found_of found.now)))) }
 {
     let lines = lines_in(found)?;
     Ok(Invocation::Live {
@@ -182,7 +192,7 @@ fn files_in<'a>(found: &ArgMatches<'a>) -> Files<'a>
 }
 
 /// The files that are named for a scenario that is played or run.
-fn play_files_in<'a>(found: &ArgMatches<'a>) -> PlayFiles<'a>
+pub(crate) fn play_files_in<'a>(found: &ArgMatches<'a>) -> PlayFiles<'a>
     ensures { ArePlayFiles (rows_of (found_of found.now)) result }
 {
     PlayFiles {
@@ -192,19 +202,8 @@ fn play_files_in<'a>(found: &ArgMatches<'a>) -> PlayFiles<'a>
     }
 }
 
-/// The files that are named for a scenario that is looked at.
-fn look_files_in<'a>(found: &ArgMatches<'a>) -> PlayFiles<'a>
-    ensures { AreLookFiles (rows_of (found_of found.now)) result }
-{
-    PlayFiles {
-        text: text_in(found, "FILE"),
-        binding: text_in(found, "bind"),
-        scenario: text_in(found, "SCENARIO"),
-    }
-}
-
 /// Whether a flag was given.
-fn flag_in(found: &ArgMatches, id: &str) -> bool
+pub(crate) fn flag_in(found: &ArgMatches, id: &str) -> bool
     ensures { IsFlag (one_of id.now (rows_of (found_of found.now))) result }
 {
     found.get_flag(id)
@@ -231,7 +230,7 @@ pub(crate) fn text_in<'a>(found: &ArgMatches<'a>, id: &str) -> &'a str
 }
 
 /// The number that was given, or without one the default.
-fn number_in(found: &ArgMatches, id: &str, default: u32) -> u32
+pub(crate) fn number_in(found: &ArgMatches, id: &str, default: u32) -> u32
     ensures { IsNumber default (one_of id.now (rows_of (found_of found.now))) result }
 {
     match found.get_one::<u32>(id) {

@@ -1,6 +1,6 @@
 use Rattle.clap.specs.Words.{found_of}
 use Rattle.commandline.proofs.Given.{word_given}
-use Rattle.commandline.proofs.options.is_given.Goals as goal
+use Rattle.commandline.proofs.checks.is_given.Goals as goal
 
 pub returns : goal.returns
 returns c =

@@ -1,6 +1,6 @@
 use Rattle.clap.specs.Words.{found_of}
 use Rattle.commandline.proofs.Given.{flag_on}
-use Rattle.commandline.proofs.options.is_on.Goals as goal
+use Rattle.commandline.proofs.checks.is_on.Goals as goal
 
 pub returns : goal.returns
 returns c =

@@ -1,0 +1,124 @@
+//! The faults that `clap` doesn't find, in its words.
+
+ghost use Rattle.std.specs.Prelude.{◌≡◌, IfOk};
+ghost use Rattle.clap.specs.Words.{kind_of};
+
+use crate::builders::command_of;
+use crate::checks::{is_given, is_word};
+use crate::tables::{ASK, BLINK, CHECK, CODE, LISTEN, LIVE, LOOK, PLAY, PROBE, Subcommand};
+use clap::error::ErrorKind;
+use clap::{ArgMatches, Error};
+use invocations::{ExpectedFault, LineWordFault, WordFault, word_in};
+use std::alloc::{AllocError, Global};
+
+/// The fault of a binding that is named beside a code file, or beside another one.
+pub(crate) fn conflict(alloc: Global, name: &str) -> Result<Error, AllocError>
+    ensures { IfOk result (λ error. kind_of error ≡ ErrorKind.ArgumentConflict) }
+{
+    let (command, argument) = if name == "look" {
+        (LOOK, "[SCENARIO]")
+    } else {
+        (CHECK, "--code")
+    };
+    let message = format!(in alloc;
+        "the argument '{argument}' cannot be used with '--bind <FILE>'"
+    )?;
+    command_of(alloc, command)?.error(ErrorKind::ArgumentConflict, message.as_str())
+}
+
+/// The fault of files that aren't named.
+pub(crate) fn lack(alloc: Global, name: &str, found: &ArgMatches) -> Result<Error, AllocError>
+    ensures { IfOk result (λ error. kind_of error ≡ ErrorKind.MissingRequiredArgument) }
+{
+    let (command, arguments) = if name == "look" {
+        (LOOK, look_files_that_lack(found))
+    } else {
+        (PROBE, "<BIND>")
+    };
+    let message = format!(in alloc;
+        "the following required arguments were not provided:\n  {arguments}"
+    )?;
+    command_of(alloc, command)?.error(ErrorKind::MissingRequiredArgument, message.as_str())
+}
+
+/// The files that lack where a scenario is looked at.
+fn look_files_that_lack(found: &ArgMatches) -> &'static str {
+    if is_given(found, "bind") {
+        return "<SCENARIO>";
+    }
+    if is_given(found, "BIND") {
+        return "<SCENARIO> or --bind <FILE>";
+    }
+    "<BIND>\n  <SCENARIO>"
+}
+
+/// The fault of a code file that would be written over the text or the binding.
+pub(crate) fn overwriting(alloc: Global, found: &ArgMatches) -> Result<Error, AllocError>
+    ensures { IfOk result (λ error. kind_of error ≡ ErrorKind.ValueValidation) }
+{
+    let out = word_in(found, "OUT").unwrap_or("");
+    let input = if is_word(found, "FILE", out) {
+        "the text"
+    } else {
+        "the binding"
+    };
+    let message = format!(in alloc; "invalid value '{out}' for '<OUT>': this file is {input}")?;
+    command_of(alloc, CODE)?.error(ErrorKind::ValueValidation, message.as_str())
+}
+
+/// The fault of a word under the command's name.
+pub(crate) fn wrong_word(alloc: Global, name: &str, fault: WordFault) -> Result<Error, AllocError>
+    ensures { IfOk result (λ error. kind_of error ≡ ErrorKind.ValueValidation) }
+{
+    match fault {
+        WordFault::Line(fault) => no_line(alloc, name, fault),
+        WordFault::Expected(fault) => unexpected(alloc, fault),
+    }
+}
+
+/// The fault of a word that says nothing that is expected, or of one too many.
+fn unexpected(alloc: Global, fault: ExpectedFault) -> Result<Error, AllocError>
+    ensures { IfOk result (λ error. kind_of error ≡ ErrorKind.ValueValidation) }
+{
+    let (word, reason) = match fault {
+        ExpectedFault::NoPair(word) => (word, "not NAME=VALUE"),
+        ExpectedFault::TooMany(word) => (word, "16 are given before it, which is the most"),
+    };
+    let message = format!(in alloc;
+        "invalid value '{word}' for '--expect <NAME=VALUE>': {reason}"
+    )?;
+    command_of(alloc, PLAY)?.error(ErrorKind::ValueValidation, message.as_str())
+}
+
+/// The fault of a word that names no line, or a second one of a bus, under the command's name.
+fn no_line(alloc: Global, name: &str, fault: LineWordFault) -> Result<Error, AllocError>
+    ensures { IfOk result (λ error. kind_of error ≡ ErrorKind.ValueValidation) }
+{
+    let (word, reason) = match fault {
+        LineWordFault::NoLine(word) if name == "live" => {
+            (word, "not B=PATH or B=FROM,TO with B in 0..=63")
+        }
+        LineWordFault::NoLine(word) => (word, "not PATH or FROM,TO"),
+        LineWordFault::Again(word) => (word, "another line has this bus"),
+    };
+    let value = if name == "live" { "B=PATH" } else { "PATH" };
+    let message = format!(in alloc; "invalid value '{word}' for '--line <{value}>': {reason}")?;
+    command_of(alloc, line_command(name))?.error(ErrorKind::ValueValidation, message.as_str())
+}
+
+/// The command of this name among those that take a line.
+fn line_command(name: &str) -> Subcommand {
+    if name == "probe" {
+        return PROBE;
+    }
+    if name == "listen" {
+        return LISTEN;
+    }
+    if name == "blink" {
+        return BLINK;
+    }
+    if name == "ask" {
+        return ASK;
+    }
+    LIVE
+}

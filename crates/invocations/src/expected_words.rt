@@ -1,0 +1,78 @@
+//! What is expected of values at a play's end, as words of the command line name it.
+
+ghost use Rattle.std.specs.Prelude.{MatchOption, MatchResult, map};
+ghost use Rattle.invocations.specs.ExpectedWords.{AreExpected, IsExpectedWord};
+ghost use Rattle.invocations.specs.ExpectedWords.{IsFirstUnexpected};
+ghost use Rattle.invocations.specs.declared.expected_words.ExpectedWord.{ExpectedWord};
+
+use arrayvec::ArrayVec;
+
+/// What is expected of a value, as a word names it: `NAME=VALUE`.
+#[derive(Clone, Copy)]
+pub struct ExpectedWord<'a> {
+    /// The value's name, which isn't empty and has no `=`.
+    pub name: &'a str,
+    /// What it is to be, which isn't empty.
+    pub value: &'a str,
+}
+
+/// No name and no value, which fills the unused places of a collection of fixed capacity.
+impl Default for ExpectedWord<'_> {
+    fn default() -> Self {
+        ExpectedWord {
+            name: "",
+            value: "",
+        }
+    }
+}
+
+/// How many values may be expected at most.
+pub const MOST_EXPECTED: usize = 16;
+
+/// What is expected of values, in the order of the words.
+pub type ExpectedWords<'a> = ArrayVec<ExpectedWord<'a>, MOST_EXPECTED>;
+
+/// The first word that isn't taken as what is expected.
+#[derive(Clone, Copy)]
+pub enum ExpectedFault<'a> {
+    /// This word isn't `NAME=VALUE`.
+    NoPair(&'a str),
+    /// This word is `NAME=VALUE`, and 16 stand before it.
+    TooMany(&'a str),
+}
+
+/// What the words say is expected.
+///
+/// # Errors
+///
+/// A word isn't `NAME=VALUE`, or 16 stand before it.
+pub(crate) fn expected_of<'a>(words: &[&'a str]) -> Result<ExpectedWords<'a>, ExpectedFault<'a>>
+    ensures { MatchResult result
+        (λ expected. AreExpected (map (λ word. word.now) words.now) expected.items)
+        (IsFirstUnexpected (map (λ word. word.now) words.now)) }
+{
+    let mut expected = ArrayVec::new();
+    for word in words {
+        let Some(pair) = pair_of(word) else {
+            return Err(ExpectedFault::NoPair(word));
+        };
+        if expected.is_full() {
+            return Err(ExpectedFault::TooMany(word));
+        }
+        expected.push(pair);
+    }
+    Ok(expected)
+}
+
+/// What a word says is expected, where it is `NAME=VALUE`.
+fn pair_of<'a>(word: &'a str) -> Option<ExpectedWord<'a>>
+    ensures { MatchOption result ((expected : ExpectedWord) → ¬ IsExpectedWord word.now expected)
+        (IsExpectedWord word.now) }
+{
+    match word.split_once('=') {
+        Some((name, value)) if !name.is_empty() && !value.is_empty() => {
+            Some(ExpectedWord { name, value })
+        }
+        _ => None,
+    }
+}

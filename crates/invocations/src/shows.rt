@@ -1,0 +1,96 @@
+//! The readers of what `clap` found under the commands that play a scenario, and under those that
+//! put frames and events in words.
+
+ghost use Rattle.std.specs.Prelude.{◌≡◌, MatchResult, codes};
+ghost use Rattle.clap.specs.Words.{found_of, rows_of};
+ghost use Rattle.invocations.specs.ExpectedWords.{AreExpected, IsFirstUnexpected};
+ghost use Rattle.invocations.specs.Invocations.{AreFrameWords, AreLookFiles, AreLookOptions};
+ghost use Rattle.invocations.specs.Invocations.{IsOfCommand, expected_words};
+
+use crate::expected_words::{ExpectedFault, ExpectedWords, expected_of};
+use crate::files::PlayFiles;
+use crate::invocations::{FrameWords, Invocation, LookOptions, PlayShows};
+use crate::questions::word_in;
+use crate::readers::{flag_in, given_number_in, number_in, play_files_in, text_in};
+use arrayvec::ArrayVec;
+use clap::ArgMatches;
+
+/// What is asked by what was found under `play`.
+pub(crate) fn play_in<'a>(found: &ArgMatches<'a>) -> Result<Invocation<'a>, ExpectedFault<'a>>
+    ensures { MatchResult result (IsOfCommand (codes "play") (rows_of (found_of found.now)))
+        (IsFirstUnexpected (expected_words (rows_of (found_of found.now)))) }
+{
+    let expects = expected_in(found)?;
+    Ok(Invocation::Play {
+        files: play_files_in(found),
+        limit: number_in(found, "limit", 100_000),
+        shows: PlayShows {
+            names: flag_in(found, "names"),
+            expects,
+        },
+    })
+}
+
+/// What is expected at the play's end.
+fn expected_in<'a>(found: &ArgMatches<'a>) -> Result<ExpectedWords<'a>, ExpectedFault<'a>>
+    ensures { MatchResult result
+        (λ expected. AreExpected (expected_words (rows_of (found_of found.now))) expected.items)
+        (IsFirstUnexpected (expected_words (rows_of (found_of found.now)))) }
+{
+    match found.get_strs("expect") {
+        Some(words) => expected_of(words),
+        None => Ok(ArrayVec::new()),
+    }
+}
+
+/// The files that are named for a scenario that is looked at.
+pub(crate) fn look_files_in<'a>(found: &ArgMatches<'a>) -> PlayFiles<'a>
+    ensures { AreLookFiles (rows_of (found_of found.now)) result }
+{
+    match word_in(found, "bind") {
+        Some(binding) => PlayFiles {
+            text: text_in(found, "TEXT"),
+            binding,
+            scenario: text_in(found, "BIND"),
+        },
+        None => play_files_in(found),
+    }
+}
+
+/// What of the scenario the picture shows, and where it goes.
+pub(crate) fn look_options_in<'a>(found: &ArgMatches<'a>) -> LookOptions<'a>
+    ensures { AreLookOptions (rows_of (found_of found.now)) result }
+{
+    LookOptions {
+        is_text: flag_in(found, "text"),
+        to: word_in(found, "out"),
+        bus: given_number_in(found, "bus"),
+        from: given_number_in(found, "from"),
+        until: given_number_in(found, "to"),
+    }
+}
+
+/// The words for frames.
+pub(crate) fn frame_words_in<'a>(found: &ArgMatches<'a>) -> FrameWords<'a>
+    ensures { AreFrameWords (rows_of (found_of found.now)) result }
+{
+    FrameWords {
+        first: text_in(found, "HEX"),
+        others: [
+            word_in(found, "HEX2"),
+            word_in(found, "HEX3"),
+            word_in(found, "HEX4"),
+        ],
+    }
+}
+
+/// What is asked by what was found under `event`.
+pub(crate) fn event_in<'a>(found: &ArgMatches<'a>) -> Invocation<'a>
+    ensures { IsOfCommand (codes "event") (rows_of (found_of found.now)) result }
+{
+    Invocation::EventLine {
+        binding: text_in(found, "BIND"),
+        source: text_in(found, "B.K"),
+        information: number_in(found, "INFORMATION", 0),
+    }
+}

@@ -1,0 +1,35 @@
+//! The first word that is at fault.
+
+use crate::expected_words::ExpectedFault;
+use crate::line_words::LineWordFault;
+
+/// The first word that is at fault among those of one option.
+#[derive(Clone, Copy)]
+pub enum WordFault<'a> {
+    /// Of `--line`.
+    Line(LineWordFault<'a>),
+    /// Of `--expect`.
+    Expected(ExpectedFault<'a>),
+}
+
+impl<'a> From<LineWordFault<'a>> for WordFault<'a> {
+    ghost use Rattle.std.specs.Prelude.{◌≡◌};
+    ghost use Rattle.invocations.specs.declared.word_fault.WordFault.TheVariants.{Line};
+
+    ghost from_gives = { λ fault word_fault. word_fault ≡ Line fault };
+
+    fn from(fault: LineWordFault<'a>) -> Self {
+        WordFault::Line(fault)
+    }
+}
+
+impl<'a> From<ExpectedFault<'a>> for WordFault<'a> {
+    ghost use Rattle.std.specs.Prelude.{◌≡◌};
+    ghost use Rattle.invocations.specs.declared.word_fault.WordFault.TheVariants.{Expected};
+
+    ghost from_gives = { λ fault word_fault. word_fault ≡ Expected fault };
+
+    fn from(fault: ExpectedFault<'a>) -> Self {
+        WordFault::Expected(fault)
+    }
+}
