@@ -10,7 +10,7 @@
 //!
 //! ```text
 //! let mut installation = open(alloc, setup, &scenario, limit)?;
-//! let ending = play(alloc, &mut out, &mut installation, &scenario)?;
+//! let ending = play(alloc, &mut out, FrameStyle::Digits, &mut installation, &scenario)?;
 //! ```
 #![tactic(auto)]
 
@@ -24,5 +24,6 @@ mod playing;
 pub use ending::{Ending, write_counts, write_globals};
 pub use installation::Installation;
 pub use laws::plays_are_by_scenario;
+pub use lines::FrameStyle;
 pub use opening::{StartFault, bus_of, open};
 pub use playing::{play, play_on};

@@ -1,7 +1,8 @@
 //! The lines that are written of what happens.
 
-use daliframe::Frame24;
+use daliframe::{Frame, Frame24};
 use driving::Observer;
+use framewords::FramesWords;
 use ilplan::Plan;
 use plantevents::Origin;
 use std::alloc::{AllocError, Global};
@@ -9,10 +10,20 @@ use std::io::Write;
 use std::{fmt, io};
 use transact::{Outcome, Report, Transaction};
 
+/// How the frames of a play are written.
+#[derive(Clone, Copy, PartialEq, Eq, Debug)]
+pub enum FrameStyle {
+    /// As their hexadecimal digits.
+    Digits,
+    /// As their hexadecimal digits, and behind them in words.
+    Words,
+}
+
 /// An observer that writes a line for each event.
 #[derive(Drop)]
 pub(crate) struct Lines<'a, W> {
     out: &'a mut W,
+    style: FrameStyle,
     /// The names of the tasks, by their numbers.
     tasks: Vec<String>,
 }
@@ -23,9 +34,14 @@ impl<'a, W: Write> Lines<'a, W> {
     /// # Errors
     ///
     /// The allocator is out of memory.
-    pub(crate) fn new(alloc: Global, out: &'a mut W, plan: &Plan) -> Result<Self, AllocError> {
+    pub(crate) fn new(
+        alloc: Global,
+        out: &'a mut W,
+        style: FrameStyle,
+        plan: &Plan,
+    ) -> Result<Self, AllocError> {
         let tasks = task_names(alloc, plan)?;
-        Ok(Lines { out, tasks })
+        Ok(Lines { out, style, tasks })
     }
 }
 
@@ -52,7 +68,11 @@ impl<B, W: Write> Observer<B> for Lines<'_, W> {
     }
 
     fn heard(&mut self, _place: u64, bus: u8, frame: Frame24) -> io::Result<()> {
-        writeln!(self.out, "heard {bus} {frame}")
+        let behind = WordsBehind {
+            style: self.style,
+            frames: &[Frame::Forward24(frame)],
+        };
+        writeln!(self.out, "heard {bus} {frame}{behind}")
     }
 
     fn took(&mut self, _place: u64, _worker: usize, task: usize) -> io::Result<()> {
@@ -79,7 +99,11 @@ impl<B, W: Write> Observer<B> for Lines<'_, W> {
         transaction: &Transaction,
     ) -> io::Result<()> {
         let handed = TransactionLine { bus, transaction };
-        writeln!(self.out, "hand {handed}")
+        let behind = WordsBehind {
+            style: self.style,
+            frames: transaction.frames(),
+        };
+        writeln!(self.out, "hand {handed}{behind}")
     }
 
     fn reported(&mut self, _place: u64, bus: u8, report: &Report, _line: &B) -> io::Result<()> {
@@ -107,6 +131,22 @@ impl fmt::Display for TransactionLine<'_> {
             write!(f, " {frame}")?;
         }
         Ok(())
+    }
+}
+
+/// What stands behind frames on their line: two blanks and the frames in words, or nothing.
+#[derive(Clone, Copy)]
+struct WordsBehind<'a> {
+    style: FrameStyle,
+    frames: &'a [Frame],
+}
+
+impl fmt::Display for WordsBehind<'_> {
+    fn fmt<W: fmt::Write>(&self, f: &mut fmt::Formatter<W>) -> fmt::Result {
+        match self.style {
+            FrameStyle::Digits => Ok(()),
+            FrameStyle::Words => write!(f, "  {}", FramesWords(self.frames)),
+        }
     }
 }
 

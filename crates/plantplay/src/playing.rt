@@ -11,7 +11,7 @@ ghost use Rattle.plantplay.specs.PlaySteps.{IsHalted, IsHaltedAt};
 
 use crate::ending::{Ending, write_end};
 use crate::installation::Installation;
-use crate::lines::Lines;
+use crate::lines::{FrameStyle, Lines};
 use daliframe::BusNumber;
 use driving::{Halt, Observer};
 use simbus::{Scenario, SimBus};
@@ -21,9 +21,9 @@ use std::io::Write;
 use wordlines::Happening;
 
 /// Plays a scenario: its ticks and events in order, each with what follows from it, and writes a
-/// line for each event of the history, then `limit` where the history was full before the
-/// scenario's end, and what is left at the end; or `no memory` as the last line where the allocator
-/// was out of memory.
+/// line for each event of the history, with its frames in this style, then `limit` where the history
+/// was full before the scenario's end, and what is left at the end; or `no memory` as the last line
+/// where the allocator was out of memory.
 ///
 /// # Errors
 ///
@@ -31,6 +31,7 @@ use wordlines::Happening;
 pub fn play<W: Write>(
     alloc: Global,
     out: &mut W,
+    style: FrameStyle,
     installation: &mut Installation<SimBus>,
     scenario: &Scenario,
 ) -> io::Result<Ending>
@@ -41,7 +42,7 @@ pub fn play<W: Write>(
         (stage_of installation.new)) }
     ensures legal { AreLegal installation.new.plant.plant installation.new.plant.history }
 {
-    let played = play_lines(alloc, out, installation, scenario);
+    let played = play_lines(alloc, out, style, installation, scenario);
     let _legal = installation.plant().len();
     let ending = played?;
     write_ending(out, ending, installation)?;
@@ -52,6 +53,7 @@ pub fn play<W: Write>(
 fn play_lines<W: Write>(
     alloc: Global,
     out: &mut W,
+    style: FrameStyle,
     installation: &mut Installation<SimBus>,
     scenario: &Scenario,
 ) -> io::Result<Ending>
@@ -61,7 +63,7 @@ fn play_lines<W: Write>(
         (λ error. IsPlayedSomeFar (happenings scenario.now) (stage_of installation.old)
         (stage_of installation.new)) }
 {
-    match Lines::new(alloc, out, installation.plant().setup().plan()) {
+    match Lines::new(alloc, out, style, installation.plant().setup().plan()) {
         Ok(mut lines) => play_on(alloc, installation, scenario, &mut lines),
         Err(_) => Ok(Ending::NoMemory),
     }

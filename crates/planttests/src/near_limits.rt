@@ -7,7 +7,7 @@ use memo::{Memo, Trace};
 use plant::{CallRefusal, Plant};
 use plantevents::Event;
 use plantload::{LoadFault, load};
-use plantplay::{open, play};
+use plantplay::{FrameStyle, open, play};
 use plantrun::write_run;
 use simbus::{Scenario, parse};
 use std::alloc::{AllocError, Global};
@@ -183,7 +183,14 @@ fn played(
         return Err("it starts".into());
     };
     let mut out = Vec::new(alloc);
-    if play(alloc, &mut out, &mut installation, scenario).is_err()
+    if play(
+        alloc,
+        &mut out,
+        FrameStyle::Digits,
+        &mut installation,
+        scenario,
+    )
+    .is_err()
         || write_run(&mut out, Ended::Asked, installation.plant()).is_err()
     {
         return Err("it is printed".into());
