@@ -5,3 +5,4 @@ mod ReportedLines
 mod RunsOut
 mod ScenarioFaults
 mod StoppedCodes
+mod UnusedValues

@@ -1,5 +1,5 @@
 -- What a play leaves, from what it started with.
-use Rattle.std.proofs.Common.{◌≡◌, ℕ, List, ap}
+use Rattle.std.proofs.Common.{◌≡◌, ℕ, List, ap, sym}
 use Rattle.wordlines.specs.Wirings.{Wiring}
 use Rattle.wordlines.specs.declared.statements.Statement.{Statement}
 use Rattle.wordlines.specs.Happenings.{happenings}
@@ -15,7 +15,11 @@ use Rattle.plantplay.specs.Installations.{IsInstallation, stage_of}
 use Rattle.plantplay.specs.Stage.{Stage, IsPlayedTo}
 use Rattle.plantplay.specs.declared.installation.Installation.{Installation}
 use Rattle.plantplay.specs.declared.ending.Ending.{Ending}
-use Rattle.commands.specs.Plays.{PlayBytes, IsStarted, IsPlayedOut}
+use Rattle.plant.specs.Shown.{Shown}
+use Rattle.exits.specs.declared.exit_status.ExitStatus.{ExitStatus}
+use Rattle.invocations.specs.declared.expected_words.ExpectedWord.{ExpectedWord}
+use Rattle.expectations.specs.Expected.{AreKnown}
+use Rattle.commands.specs.Plays.{PlayBytes, IsJudgedBy, IsStarted, IsPlayedOut, IsPlayedUnder, status_of_played}
 
 -- the law of the scans of a text
 abbrev pub ScansAreAsMeant : Type 0
@@ -47,3 +51,26 @@ played_out bytes limit start left statements ending scans plays started played l
       played = played;
       told = told;
     }
+
+-- and how the program ends after that
+pub played_under : (bytes : PlayBytes) (limit : ℕ) (start left : Installation Simulated) (statements : List Statement)
+    (ending : Ending) → ScansAreAsMeant → PlaysAreByScenario → IsStarted bytes limit start statements
+    → IsPlayedTo ending (happenings statements) (stage_of start) (stage_of left)
+    → AreLegal left.plant.plant left.plant.history → (expected : List ExpectedWord) (status : ExitStatus)
+    → AreKnown start.plant.plant.plan expected
+    → IsJudgedBy (status_of_played ending left) left.plant expected status
+    → IsPlayedUnder bytes limit expected status
+unfolding played_out
+played_under bytes limit start left statements ending scans plays started played legal expected status known judged =
+    record {
+      ending = ending;
+      left = left;
+      played = played_out bytes limit start left statements ending scans plays started played legal;
+      known = known;
+      judged = judged;
+    }
+
+-- what is judged by an exit status is judged by the same one
+pub judged_by : (played shown : ExitStatus) (left : Shown) (expected : List ExpectedWord) (status : ExitStatus)
+    → shown ≡ played → IsJudgedBy shown left expected status → IsJudgedBy played left expected status
+judged_by played shown left expected status same h = rw (sym same) h

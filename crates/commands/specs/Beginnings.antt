@@ -1,12 +1,15 @@
 -- What a building begins with: the text's setup, or the one whose global variables begin with the values that were kept
 -- (profile).
-use Rattle.std.specs.Prelude.{◌≡◌, ℕ, List, Option, Some, None, ⊤}
+use Rattle.std.specs.Prelude.{◌≡◌, ◌⊎◌, ℕ, List, Option, Some, None, ⊤}
 use Rattle.wordlines.specs.Wirings.{Wiring}
 use Rattle.ilsource.specs.SourceTrees.{Tree}
 use Rattle.ilcompile.specs.Loaded.{Loaded}
 use Rattle.keeping.specs.KeptFiles.{IsKeptFile, KeptEntry, digest_of}
+use Rattle.keeping.specs.Faults.{IsKeptFault}
+use Rattle.keeping.specs.declared.fault.KeptFault.{KeptFault}
 use Rattle.plantload.specs.Loading.{IsSetup}
-use Rattle.plantload.specs.KeptLoading.{IsKeptSetup}
+use Rattle.plantload.specs.KeptLoading.{IsKeptLoadFault, IsKeptSetup}
+use Rattle.plantload.specs.declared.fault.LoadFault.{LoadFault}
 use Rattle.answers.specs.Connected.{IsConnected}
 use Rattle.commands.specs.declared.beginning.Beginning.{Beginning}
 use Rattle.commands.specs.declared.reading.DiskFault.{DiskFault}
@@ -32,10 +35,24 @@ abbrev pub IsFileOf : List ℕ → Option (List ℕ) → List KeptEntry → Type
 IsFileOf text None kept = ⊥
 IsFileOf text (Some bytes) kept = IsKeptFile bytes (digest_of text) kept
 
--- the values that are used are those of the file
-abbrev pub AreUsed : List ℕ → Option (List ℕ) → Option (List KeptEntry) → Type 0
-AreUsed text file (Some kept) = IsFileOf text file kept
-AreUsed text file None = ⊤
+-- the bytes are no file of values of the text
+abbrev pub IsUnusable : List ℕ → List ℕ → Type 0
+IsUnusable text bytes = (fault : KeptFault) × IsKeptFault text bytes fault
+
+-- the bytes are a file of values of the text, and the source program that begins with these is refused
+pub record AreRefused (binding text bytes : List ℕ) : Type 0 where
+  pub kept : List KeptEntry
+  pub file : IsKeptFile bytes (digest_of text) kept
+  pub wiring : Wiring
+  pub connected : IsConnected (Some binding) wiring
+  pub fault : LoadFault
+  pub refused : IsKeptLoadFault wiring text kept fault
+
+-- the values that are used are those of the file; none are, where there is no file, or none that can be used
+abbrev pub AreUsed : List ℕ → List ℕ → Option (List ℕ) → Option (List KeptEntry) → Type 0
+AreUsed binding text file (Some kept) = IsFileOf text file kept
+AreUsed binding text None None = ⊤
+AreUsed binding text (Some bytes) None = IsUnusable text bytes ⊎ AreRefused binding text bytes
 
 -- the file of kept values, where one is named: what the disk gave for it, or nothing where it isn't read
 abbrev pub IsKeepRead : (List ℕ → List ℕ → Type 0) → (List ℕ → DiskFault → Type 0) → Option (List ℕ) → Option (List ℕ)
@@ -52,5 +69,5 @@ pub record LiveBytes : Type 0 where
 
 -- a building of these files begins so
 pub record HasBegun (binding text : List ℕ) (file : Option (List ℕ)) (begun : Beginning) : Type 0 where
-  pub used : AreUsed text file begun.kept
+  pub used : AreUsed binding text file begun.kept
   pub loaded : IsBegunUnder binding text begun.kept begun.setup

@@ -36,7 +36,7 @@ pub record IsLivedOut {B C : Type 0} (binding text : List ℕ) (file : Option (L
     (clock_log : C → ClockLog) (words : List LineWord) (size : RunSize) (left : Lived B C) : Type 0 where
   pub setup : Loaded
   pub kept : Option (List KeptEntry)
-  pub used : AreUsed text file kept
+  pub used : AreUsed binding text file kept
   pub loaded : IsBegunUnder binding text kept setup
   pub building : Building B C
   pub opened : IsOpened bus_log clock_log setup words size building
@@ -54,7 +54,7 @@ pub record IsBuildingStop (binding text : List ℕ) (file : Option (List ℕ)) (
     (words : List LineWord) (size : RunSize) (stop : LiveStop) : Type 0 where
   pub setup : Loaded
   pub kept : Option (List KeptEntry)
-  pub used : AreUsed text file kept
+  pub used : AreUsed binding text file kept
   pub loaded : IsBegunUnder binding text kept setup
   pub stops : IsLiveStop refuses setup words size stop ⊎ IsNotLived setup size setup.plan.buses stop
 

@@ -9,6 +9,7 @@ use Rattle.wordlines.specs.Happenings.{happenings}
 use Rattle.wordlines.specs.Scenarios.{IsScenario, IsJudged}
 use Rattle.simbus.specs.Simulated.{Simulated}
 use Rattle.plantevents.specs.Legal.{AreLegal}
+use Rattle.plant.specs.Shown.{Shown}
 use Rattle.plantload.specs.MeantScans.{AreAsMeant}
 use Rattle.driving.specs.Downs.{has_down}
 use Rattle.plantplay.specs.ByScenario.{IsByScenario}
@@ -17,6 +18,8 @@ use Rattle.plantplay.specs.Stage.{IsPlayedTo}
 use Rattle.plantplay.specs.declared.installation.Installation.{Installation}
 use Rattle.plantplay.specs.declared.ending.Ending.{Ending}
 use Rattle.exits.specs.declared.exit_status.ExitStatus.{ExitStatus}
+use Rattle.exits.specs.declared.exit_status.ExitStatus.TheVariants.{Accepted, Refused, Misused}
+use Rattle.invocations.specs.declared.expected_words.ExpectedWord.{ExpectedWord}
 use Rattle.invocations.specs.declared.files.PlayFiles.{PlayFiles}
 use Rattle.exits.specs.declared.play_stop.PlayStop.{PlayStop}
 use Rattle.exits.specs.declared.play_stop.PlayStop.TheVariants.{Text, Scenario, Start}
@@ -27,6 +30,7 @@ use Rattle.commands.specs.declared.serving.Unserved.TheVariants.{NotRead, NotWri
 use Rattle.answers.specs.Answered.{IsCheckStop, IsStopOrMemory}
 use Rattle.answers.specs.Connected.{IsConnected, IsBindingStop}
 use Rattle.exits.specs.ExitStatuses.{status_of_play, status_of_play_stop}
+use Rattle.expectations.specs.Expected.{AreKnown, AreMet}
 
 -- the bytes of the three files
 pub record PlayBytes : Type 0 where
@@ -96,12 +100,38 @@ pub record IsPlayedOut (bytes : PlayBytes) (limit : ℕ) (ending : Ending) (left
 abbrev pub status_of_played : Ending → Installation Simulated → ExitStatus
 status_of_played ending left = status_of_play ending (has_down left.plant.plant.plan.buses left.plant.history)
 
--- by what stands against it, or by how the play ended
-abbrev pub IsPlayEnd : PlayBytes → ℕ → ExitStatus → Type 0
-IsPlayEnd bytes limit status =
+-- the exit status where something is not as it is expected, by the one that the play has without: what failed stays so
+abbrev pub status_unmet : ExitStatus → ExitStatus
+status_unmet Accepted = Refused
+status_unmet status = status
+
+-- that of the play where all that it left is as it is expected, and else the other one
+abbrev pub IsJudgedBy : ExitStatus → Shown → List ExpectedWord → ExitStatus → Type 0
+IsJudgedBy played left expected status =
+    (AreMet left expected × (status ≡ played)) ⊎ (¬ AreMet left expected × (status ≡ status_unmet played))
+
+-- Nothing is played, since a name that is expected is none of the text's global variables.
+pub record IsUnknown (bytes : PlayBytes) (limit : ℕ) (expected : List ExpectedWord) (status : ExitStatus) : Type 0 where
+  pub start : Installation Simulated
+  pub statements : List Statement
+  pub started : IsStarted bytes limit start statements
+  pub unknown : ¬ AreKnown start.plant.plant.plan expected
+  pub misused : status ≡ Misused
+
+-- It was played, and ended so; and the exit status is by how it ended and by what was expected of what it left.
+pub record IsPlayedUnder (bytes : PlayBytes) (limit : ℕ) (expected : List ExpectedWord) (status : ExitStatus) : Type 0
+  where
+    pub ending : Ending
+    pub left : Installation Simulated
+    pub played : IsPlayedOut bytes limit ending left
+    pub known : AreKnown played.start.plant.plant.plan expected
+    pub judged : IsJudgedBy (status_of_played ending left) left.plant expected status
+
+-- by what stands against it, or by the names that are expected, or by how the play ended and what is expected
+abbrev pub IsPlayEnd : PlayBytes → ℕ → List ExpectedWord → ExitStatus → Type 0
+IsPlayEnd bytes limit expected status =
     ((stop : PlayStop) × IsPlayStop bytes 1 limit stop × (status ≡ status_of_play_stop stop))
-    ⊎ ((ending : Ending) × (left : Installation Simulated) × IsPlayedOut bytes limit ending left
-    × (status ≡ status_of_played ending left))
+    ⊎ (IsUnknown bytes limit expected status ⊎ IsPlayedUnder bytes limit expected status)
 
 -- the disk gave these bytes for the three files
 pub record AreGiven (gives : List ℕ → List ℕ → Type 0) (files : PlayFiles) (bytes : PlayBytes) : Type 0 where
@@ -110,11 +140,11 @@ pub record AreGiven (gives : List ℕ → List ℕ → Type 0) (files : PlayFile
   pub scenario : gives files.scenario.now bytes.scenario
 
 -- the program ends so by what the disk gave for the three files; of what is printed nothing is said
-pub record IsPlayed (gives : List ℕ → List ℕ → Type 0) (files : PlayFiles) (limit : ℕ) (status : ExitStatus) : Type 0
-  where
-    pub bytes : PlayBytes
-    pub given : AreGiven gives files bytes
-    pub end : IsPlayEnd bytes limit status
+pub record IsPlayed (gives : List ℕ → List ℕ → Type 0) (files : PlayFiles) (limit : ℕ) (expected : List ExpectedWord)
+    (status : ExitStatus) : Type 0 where
+  pub bytes : PlayBytes
+  pub given : AreGiven gives files bytes
+  pub end : IsPlayEnd bytes limit expected status
 
 -- ---- files that are not read
 

@@ -1,6 +1,6 @@
 //! What a building begins with.
 
-ghost use Rattle.std.specs.Prelude.{ℕ, List, Option, IfErr, IfOk, option_map};
+ghost use Rattle.std.specs.Prelude.{◌≡◌, ℕ, List, Option, None, IfErr, IfOk, option_map};
 ghost use Rattle.commands.specs.Plays.{IsSetupUnder, IsStopUnder};
 ghost use Rattle.commands.specs.Beginnings.{AreUsed, IsBegunUnder, IsFileOf, IsKeepRead};
 
@@ -76,7 +76,7 @@ pub(crate) fn beginning_of(
     file: Option<&Vec<u8>>,
 ) -> Result<Beginning, Stop>
     ensures begun { IfOk result (λ b. IsBegunUnder binding.now text.now b.kept b.setup) }
-    ensures used { IfOk result (λ b. AreUsed text.now
+    ensures used { IfOk result (λ b. AreUsed binding.now text.now
         (option_map (λ bytes. bytes.now.items) file.entry) b.kept) }
     ensures stop { IfErr result (IsStopUnder binding.now text.now) }
 {
@@ -88,19 +88,25 @@ pub(crate) fn beginning_of(
             note: KeptNote::NoFile,
         });
     };
-    let kept = match Kept::parse(alloc, text, bytes) {
-        Ok(kept) => kept,
-        Err(KeptFault::Memory) => return Err(Stop::Memory),
-        Err(fault) => {
-            return Ok(Beginning {
-                setup,
-                kept: None,
-                note: KeptNote::Unused(fault),
-            });
-        }
-    };
-    let begun = begun_with(alloc, binding, text, setup, kept)?;
-    Ok(begun)
+    match Kept::parse(alloc, text, bytes) {
+        Ok(kept) => begun_with(alloc, binding, text, setup, kept),
+        Err(KeptFault::Memory) => Err(Stop::Memory),
+        Err(KeptFault::Empty) => Ok(without(setup, KeptNote::Unused(KeptFault::Empty))),
+        Err(KeptFault::Torn) => Ok(without(setup, KeptNote::Unused(KeptFault::Torn))),
+        Err(KeptFault::OtherText) => Ok(without(setup, KeptNote::Unused(KeptFault::OtherText))),
+    }
+}
+
+/// The setup as it is, for this reason.
+fn without(setup: Setup, note: KeptNote) -> Beginning
+    ensures setup { result.setup ≡ setup }
+    ensures kept { result.kept ≡ None }
+{
+    Beginning {
+        setup,
+        kept: None,
+        note,
+    }
 }
 
 /// The setup whose global variables begin with kept values, or the text's own where that is refused.
@@ -118,7 +124,7 @@ fn begun_with(
     requires loaded { IsSetupUnder binding.now text.now setup }
     ensures begun { IfOk result (λ b. IsBegunUnder binding.now text.now b.kept b.setup) }
     ensures used { IfOk result (λ b. (file : Option (List ℕ)) → IsFileOf text.now file kept
-        → AreUsed text.now file b.kept) }
+        → AreUsed binding.now text.now file b.kept) }
     ensures stop { IfErr result (IsStopUnder binding.now text.now) }
 {
     let binding = binding_of(alloc, Some(binding))?;
@@ -129,10 +135,8 @@ fn begun_with(
             note: KeptNote::Used(left_out),
         }),
         Err(LoadFault::Memory) => Err(Stop::Memory),
-        Err(_) => Ok(Beginning {
-            setup,
-            kept: None,
-            note: KeptNote::Refused,
-        }),
+        Err(LoadFault::Text(_)) => Ok(without(setup, KeptNote::Refused)),
+        Err(LoadFault::Name(_)) => Ok(without(setup, KeptNote::Refused)),
+        Err(LoadFault::Code(_)) => Ok(without(setup, KeptNote::Refused)),
     }
 }

@@ -31,6 +31,7 @@ mod shell;
 mod shell_tools;
 mod telling;
 mod tools;
+mod wording;
 
 pub use beginning::{Beginning, KeptNote};
 pub use code_files::{serve_check_code, serve_code};

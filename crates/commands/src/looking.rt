@@ -1,17 +1,18 @@
-//! Looking at a scenario: its files are read, it is played, and a picture of that is printed.
+//! Looking at a scenario: its files are read, it is played, and a picture of that is printed or
+//! written to a file.
 
 use crate::pages::{Pages, read_pages};
 use crate::playing::start;
 use crate::reading::Disk;
 use crate::serving::Unserved;
-use commandline::PlayFiles;
-use exits::ExitStatus;
-use picture::{write_svg, write_text};
+use commandline::{LookOptions, PlayFiles};
+use exits::{ExitStatus, PlayStop};
+use picture::{Moment, Picture, write_svg, write_text};
 use plant::Plant;
 use plantplay::{Ending, Installation, play_on, write_counts};
 use replay::Drawing;
 use simbus::{Scenario, SimBus};
-use std::alloc::Global;
+use std::alloc::{AllocError, Global};
 use std::io;
 use std::io::{BufWriter, Write};
 
@@ -20,71 +21,165 @@ const LIMIT: u32 = 100_000;
 
 /// Reads the files that are named, the binding before the text and that before the scenario, plays
 /// the scenario and prints a picture of what happened, as SVG or as lines for a terminal; the
-/// writer, which then has all of it, and how the program ends. What is printed is by rows alone.
+/// writer, which then has all of it, and how the program ends. Where the picture goes to a file, the
+/// writer has nothing, and what stands against playing goes to the standard error. What is printed
+/// is by rows alone.
 ///
 /// # Errors
 ///
-/// The first file that isn't read, or the writer's error.
-pub fn serve_look<'a, D: Disk, W: Write + Drop>(
+/// The first file that isn't read, that the picture isn't written, or the writer's error.
+pub fn serve_look<'a, D: Disk, W: Write + Drop, E: Eprint>(
     alloc: Global,
     disk: &D,
     to: W,
+    errors: &E,
     files: PlayFiles<'a>,
-    is_text: bool,
+    options: LookOptions<'a>,
 ) -> Result<(W, ExitStatus), Unserved<'a>> {
+    match options.to {
+        Some(path) => {
+            let status = look_at(alloc, disk, errors, files, options, path)?;
+            Ok((to, status))
+        }
+        None => {
+            let pages = read_pages(alloc, disk, files)?;
+            Ok(print(alloc, to, &pages, files, options)?)
+        }
+    }
+}
+
+/// Reads the files and writes the picture to the file at a path, or what stands against that to the
+/// standard error; how the program ends.
+fn look_at<'a, D: Disk, E: Eprint>(
+    alloc: Global,
+    disk: &D,
+    errors: &E,
+    files: PlayFiles<'a>,
+    options: LookOptions<'a>,
+    path: &'a str,
+) -> Result<ExitStatus, Unserved<'a>> {
+    if is_input(files, path) {
+        eprintln!(errors; "error: '{path}' is read, so the picture can't go there")?;
+        return Ok(ExitStatus::Misused);
+    }
     let pages = read_pages(alloc, disk, files)?;
-    Ok(print(alloc, to, &pages, is_text)?)
-}
-
-/// Prints the picture through a buffer, of which nothing is left behind.
-fn print<W: Write + Drop>(
-    alloc: Global,
-    to: W,
-    pages: &Pages,
-    is_text: bool,
-) -> io::Result<(W, ExitStatus)> {
-    let mut out = BufWriter::new(alloc, to)?;
-    let status = report(alloc, &mut out, pages, is_text)?;
-    Ok((out.into_inner()?, status))
-}
-
-/// Writes the picture, or what stands against playing the scenario; how the program ends.
-fn report<W: Write>(
-    alloc: Global,
-    out: &mut W,
-    pages: &Pages,
-    is_text: bool,
-) -> io::Result<ExitStatus> {
-    match start(alloc, pages, LIMIT) {
-        Ok((mut installation, scenario)) => {
-            draw(alloc, out, &mut installation, &scenario, is_text)
+    match draw(alloc, &pages, files, options)? {
+        Ok((picture, status)) => {
+            write_at(alloc, disk, path, picture, options)?;
+            Ok(status)
         }
         Err(stop) => {
-            writeln!(out, "{stop}")?;
+            eprintln!(errors; "{stop}")?;
             Ok(stop.status())
         }
     }
 }
 
-/// Plays a scenario and writes its picture; how the program ends.
-fn draw<W: Write>(
+/// Whether a path is that of a file that is read.
+fn is_input(files: PlayFiles, path: &str) -> bool {
+    path == files.text || path == files.binding || path == files.scenario
+}
+
+/// Prints the picture, or what stands against playing the scenario, through a buffer, and flushes
+/// it; how the program ends.
+fn print<W: Write + Drop>(
+    alloc: Global,
+    to: W,
+    pages: &Pages,
+    files: PlayFiles,
+    options: LookOptions,
+) -> io::Result<(W, ExitStatus)> {
+    let mut out = BufWriter::new(alloc, to)?;
+    let status = match draw(alloc, pages, files, options)? {
+        Ok((picture, status)) => {
+            write_picture(alloc, &mut out, picture, options)?;
+            status
+        }
+        Err(stop) => {
+            writeln!(out, "{stop}")?;
+            stop.status()
+        }
+    };
+    Ok((out.into_inner()?, status))
+}
+
+/// Writes the picture to the file at a path.
+fn write_at<'a, D: Disk>(
+    alloc: Global,
+    disk: &D,
+    path: &'a str,
+    picture: Picture,
+    options: LookOptions,
+) -> Result<(), Unserved<'a>> {
+    let mut bytes = Vec::new(alloc);
+    write_picture(alloc, &mut bytes, picture, options)?;
+    match disk.write(path, &bytes) {
+        Ok(()) => Ok(()),
+        Err(why) => Err(Unserved::NotWritten { path, why }),
+    }
+}
+
+/// Writes the picture as it is asked for.
+fn write_picture<W: Write>(
     alloc: Global,
     out: &mut W,
+    picture: Picture,
+    options: LookOptions,
+) -> io::Result<()> {
+    if options.is_text {
+        write_text(alloc, out, &picture)
+    } else {
+        write_svg(alloc, out, picture)
+    }
+}
+
+/// Plays the scenario; the picture of it that is asked for and how the program ends, or what stands
+/// against playing.
+///
+/// # Errors
+///
+/// The allocator is out of memory.
+fn draw(
+    alloc: Global,
+    pages: &Pages,
+    files: PlayFiles,
+    options: LookOptions,
+) -> io::Result<Result<(Picture, ExitStatus), PlayStop>> {
+    match start(alloc, pages, LIMIT) {
+        Ok((mut installation, scenario)) => {
+            let (mut picture, status) = draw_all(alloc, &mut installation, &scenario, options.bus)?;
+            picture.name = name_of(alloc, files, options)?;
+            Ok(Ok((part_of(alloc, picture, options)?, status)))
+        }
+        Err(stop) => Ok(Err(stop)),
+    }
+}
+
+/// Plays a scenario of which a bus may be asked for; its whole picture, and how the program ends.
+fn draw_all(
+    alloc: Global,
     installation: &mut Installation<SimBus>,
     scenario: &Scenario,
-    is_text: bool,
-) -> io::Result<ExitStatus> {
+    bus: Option<u32>,
+) -> io::Result<(Picture, ExitStatus)> {
     let mut drawing = Drawing::new(alloc, installation.plant().setup().plan(), scenario)?;
     let ending = play_on(alloc, installation, scenario, &mut drawing)?;
     let mut notes = Vec::new(alloc);
+    write_absent(&mut notes, bus, installation.plant().setup().plan().buses())?;
     write_notes(&mut notes, ending, installation.plant())?;
     let picture = drawing.into_picture(&notes)?;
-    if is_text {
-        write_text(out, &picture)?;
-    } else {
-        write_svg(out, &picture)?;
+    let status = ExitStatus::of_play(ending, installation.has_down());
+    Ok((picture, status))
+}
+
+/// Writes that a bus isn't there, where one is asked for that isn't among so many.
+fn write_absent<W: Write>(out: &mut W, bus: Option<u32>, buses: u8) -> io::Result<()> {
+    match bus {
+        Some(bus) if bus >= u32::from(buses) => {
+            writeln!(out, "bus {bus} is not there: the binding has {buses}")
+        }
+        _ => Ok(()),
     }
-    Ok(ExitStatus::of_play(ending, installation.has_down()))
 }
 
 /// Writes why the play ended before its scenario, and what was given up.
@@ -95,4 +190,48 @@ fn write_notes<W: Write>(out: &mut W, ending: Ending, plant: &Plant) -> io::Resu
         Ending::NoMemory => return writeln!(out, "no memory"),
     }
     write_counts(out, plant)
+}
+
+/// What a picture is of: the paths of its files, and the part that is asked for.
+fn name_of(alloc: Global, files: PlayFiles, options: LookOptions) -> Result<String, AllocError> {
+    let PlayFiles {
+        text,
+        binding,
+        scenario,
+    } = files;
+    let mut name = format!(in alloc; "{text}, {binding}, {scenario}")?;
+    if let Some(bus) = options.bus {
+        name.push_str(&format!(in alloc; ", bus {bus}")?)?;
+    }
+    if let Some(from) = options.from {
+        name.push_str(&format!(in alloc; ", from {}", moment(from))?)?;
+    }
+    if let Some(until) = options.until {
+        name.push_str(&format!(in alloc; ", to {}", moment(until))?)?;
+    }
+    Ok(name)
+}
+
+/// A moment of the command line.
+fn moment(milliseconds: u32) -> Moment {
+    Moment {
+        milliseconds: u64::from(milliseconds),
+    }
+}
+
+/// The part of a picture that is asked for.
+fn part_of(alloc: Global, picture: Picture, options: LookOptions) -> Result<Picture, AllocError> {
+    let picture = match options.bus {
+        Some(bus) => picture.of_bus(alloc, u8::try_from(bus).unwrap_or(u8::MAX))?,
+        None => picture,
+    };
+    if options.from.is_none() && options.until.is_none() {
+        return Ok(picture);
+    }
+    let from = options.from.unwrap_or(0);
+    let until = match options.until {
+        Some(until) => u64::from(until),
+        None => u64::MAX,
+    };
+    picture.between(alloc, u64::from(from), until)
 }

@@ -1,15 +1,18 @@
 //! Playing a scenario: its files are read, and what happens is printed.
 
-ghost use Rattle.std.specs.Prelude.{IfErr, IfOk};
-ghost use Rattle.commands.specs.Plays.{IsPlayEnd, IsPlayStop, IsPlayed, IsStarted, IsUnplayed};
+ghost use Rattle.std.specs.Prelude.{◌≡◌, ◌↔◌, IfErr, IfOk, IsTrue};
+ghost use Rattle.commands.specs.Plays.{IsJudgedBy, IsPlayEnd, IsPlayStop, IsPlayed, IsStarted};
+ghost use Rattle.commands.specs.Plays.{IsUnplayed, status_unmet};
+ghost use Rattle.expectations.specs.Expected.{AreKnown};
 
 use crate::pages::{Pages, read_pages, scenario_of, setup_in};
 use crate::reading::Disk;
 use crate::serving::Unserved;
-use commandline::PlayFiles;
+use commandline::{ExpectedWord, PlayFiles, PlayShows};
 use exits::{ExitStatus, PlayStop};
+use expectations::{are_known, are_met, report_unknown, report_unmet};
 use plantload::scans_are_as_meant;
-use plantplay::{Installation, open, play, plays_are_by_scenario};
+use plantplay::{FrameStyle, Installation, open, play, plays_are_by_scenario};
 use simbus::{Scenario, SimBus};
 use std::alloc::Global;
 use std::io;
@@ -17,55 +20,121 @@ use std::io::{BufWriter, Write};
 
 /// Reads the files that are named, the binding before the text and that before the scenario, plays
 /// the scenario and prints what happens; the writer, which then has every line, and how the program
-/// ends.
+/// ends. `complaints` gets what isn't as expected at the end, or the expected names that the text
+/// does not have; then nothing is played.
 ///
 /// # Errors
 ///
 /// The first file that isn't read, or the writer's error.
-pub fn serve_play<'a, D: Disk, W: Write + Drop>(
+pub fn serve_play<'a, D: Disk, W: Write + Drop, E: Write>(
     alloc: Global,
     disk: &D,
     to: W,
+    complaints: &mut E,
     files: PlayFiles<'a>,
     limit: u32,
+    shows: &PlayShows<'_>,
 ) -> Result<(W, ExitStatus), Unserved<'a>>
-    ensures played { IfOk result (λ done. IsPlayed (D.gives disk.now) files.entry limit done.1) }
+    ensures played { IfOk result (λ done.
+        IsPlayed (D.gives disk.now) files.entry limit shows.now.expects.items done.1) }
     ensures unplayed { IfErr result
         (IsUnplayed (D.gives disk.now) (D.fails disk.now) files.entry) }
 {
     let pages = read_pages(alloc, disk, files)?;
-    Ok(print(alloc, to, &pages, limit)?)
+    Ok(print(alloc, to, complaints, &pages, limit, shows)?)
 }
 
 /// Prints what happens through a buffer, of which nothing is left behind.
-fn print<W: Write + Drop>(
+fn print<W: Write + Drop, E: Write>(
     alloc: Global,
     to: W,
+    complaints: &mut E,
     pages: &Pages,
     limit: u32,
+    shows: &PlayShows,
 ) -> io::Result<(W, ExitStatus)>
-    ensures { IfOk result (λ done. IsPlayEnd pages.now limit done.1) }
+    ensures { IfOk result
+        (λ done. IsPlayEnd pages.now limit shows.now.expects.items done.1) }
 {
     let mut out = BufWriter::new(alloc, to)?;
-    let status = report(alloc, &mut out, pages, limit)?;
+    let expected = shows.expects.as_slice();
+    let style = style_of(shows);
+    let status = report(alloc, &mut out, complaints, pages, limit, style, expected)?;
     Ok((out.into_inner()?, status))
 }
 
+/// How frames are written.
+fn style_of(shows: &PlayShows) -> FrameStyle {
+    if shows.names {
+        FrameStyle::Words
+    } else {
+        FrameStyle::Digits
+    }
+}
+
 /// Writes what happens, or what stands against playing the scenario; how the program ends.
-fn report<W: Write>(alloc: Global, out: &mut W, pages: &Pages, limit: u32) -> io::Result<ExitStatus>
-    ensures { IfOk result (IsPlayEnd pages.now limit) }
+fn report<W: Write, E: Write>(
+    alloc: Global,
+    out: &mut W,
+    complaints: &mut E,
+    pages: &Pages,
+    limit: u32,
+    style: FrameStyle,
+    expected: &[ExpectedWord],
+) -> io::Result<ExitStatus>
+    ensures { IfOk result (IsPlayEnd pages.now limit expected.now) }
 {
     match start(alloc, pages, limit) {
         Ok((mut installation, scenario)) => {
+            if !knows(&installation, expected) {
+                let plan = installation.plant().setup().plan();
+                let _told = report_unknown(complaints, plan, expected);
+                return Ok(ExitStatus::Misused);
+            }
             scans_are_as_meant();
             plays_are_by_scenario();
-            let ending = play(alloc, out, &mut installation, &scenario)?;
-            Ok(ExitStatus::of_play(ending, installation.has_down()))
+            let ending = play(alloc, out, style, &mut installation, &scenario)?;
+            out.flush()?;
+            let _told = report_unmet(complaints, installation.plant(), expected);
+            let status = ExitStatus::of_play(ending, installation.has_down());
+            Ok(judged(status, &installation, expected))
         }
         Err(stop) => {
             writeln!(out, "{stop}")?;
             Ok(stop.status())
         }
+    }
+}
+
+/// Whether the text that is played has the names that are expected.
+fn knows(installation: &Installation<SimBus>, expected: &[ExpectedWord]) -> bool
+    ensures { IsTrue result ↔ AreKnown installation.now.plant.plant.plan expected.now }
+{
+    are_known(installation.plant().setup().plan(), expected)
+}
+
+/// How the program ends after a play that ended so by itself, by what is expected of what it left.
+fn judged(
+    status: ExitStatus,
+    installation: &Installation<SimBus>,
+    expected: &[ExpectedWord],
+) -> ExitStatus
+    ensures { IsJudgedBy status installation.now.plant expected.now result }
+{
+    if are_met(installation.plant(), expected) {
+        status
+    } else {
+        unmet(status)
+    }
+}
+
+/// How the program ends where something isn't as expected.
+fn unmet(status: ExitStatus) -> ExitStatus
+    ensures { result ≡ status_unmet status }
+{
+    match status {
+        ExitStatus::Accepted => ExitStatus::Refused,
+        other => other,
     }
 }
 

@@ -8,11 +8,12 @@ use crate::playing::serve_play;
 use crate::reading::{DiskFault, HostDisk};
 use crate::running::{serve_run, status_of_run};
 use crate::serving::{Unserved, serve};
-use crate::shell_tools::{run_ask, run_blink, run_listen, run_probe};
+use crate::shell_tools::{Complaints, run_ask, run_blink, run_listen, run_probe};
 use crate::telling::serve_question;
+use crate::wording::{serve_event, serve_frames};
 use building::{Departure, LiveStop, Site};
 use buslink::{Bus, Clock};
-use commandline::{Invocation, LineWord, LiveFiles, LiveOptions};
+use commandline::{Invocation, LineWord, LiveFiles, LiveOptions, Tool};
 use exits::ExitStatus;
 use observing::Storage;
 use std::rt::{Env, Files};
@@ -64,6 +65,10 @@ where
         Ok(invocation) => run_invocation(rt, threads, site, invocation),
         Err(error) => match ExitStatus::of_words(error.kind()) {
             ExitStatus::Failed => no_memory(rt),
+            ExitStatus::Accepted => match error.print(rt) {
+                Ok(()) => ExitStatus::Accepted,
+                Err(error) => not_printed(rt, &error),
+            },
             status => printed(rt, error.print(rt), status),
         },
     }
@@ -79,16 +84,21 @@ where
     let alloc = rt.alloc();
     let disk = HostDisk { rt };
     let out = io::writer(rt);
+    let mut complaints = Complaints { rt };
     let served = match invocation {
         Invocation::Ask(inquiry) => serve(alloc, &disk, out, inquiry),
-        Invocation::Play { files, limit } => serve_play(alloc, &disk, out, files, limit),
+        Invocation::Play {
+            files,
+            limit,
+            shows,
+        } => serve_play(alloc, &disk, out, &mut complaints, files, limit, &shows),
         Invocation::Run { files, size } => {
             match serve_run(threads, alloc, &disk, out, files, size) {
                 Ok((out, end)) => Ok((out, status_of_run(&end))),
                 Err(unserved) => Err(unserved),
             }
         }
-        Invocation::Look { files, is_text } => serve_look(alloc, &disk, out, files, is_text),
+        Invocation::Look { files, options } => { serve_look(alloc, &disk, out, rt, files, options) }
         Invocation::Tell { files, question } => serve_question(alloc, &disk, out, files, question),
         Invocation::Code { files, task, to } => serve_code(alloc, &disk, out, files, task, to),
         Invocation::CheckCode { path } => serve_check_code(alloc, &disk, out, path),
@@ -97,7 +107,21 @@ where
             lines,
             options,
         } => return run_building(rt, threads, site, files, &lines, &options),
-        other => return run_tool(rt, threads, site, other),
+        Invocation::Frame { words } => serve_frames(alloc, out, &mut complaints, words),
+        Invocation::EventLine {
+            binding,
+            source,
+            information,
+        } => serve_event(
+            alloc,
+            &disk,
+            out,
+            &mut complaints,
+            binding,
+            source,
+            information,
+        ),
+        Invocation::Tool(tool) => return run_tool(rt, threads, site, tool),
     };
     match served {
         Ok((_, status)) => status,
@@ -106,23 +130,22 @@ where
 }
 
 /// Does what is asked for at one line.
-fn run_tool<R, T, S>(rt: &R, timer: &T, site: &S, invocation: Invocation) -> ExitStatus
+fn run_tool<R, T, S>(rt: &R, timer: &T, site: &S, tool: Tool) -> ExitStatus
 where
     R: Files + Print + Eprint + AllocGlobal,
     T: Timer,
     S: Site + Storage + Sync,
 {
-    match invocation {
-        Invocation::Probe { line, against } => run_probe(rt, site, line, against),
-        Invocation::Listen {
+    match tool {
+        Tool::Probe { line, against } => run_probe(rt, site, line, against),
+        Tool::Listen {
             line,
             binding,
             record,
             end,
         } => run_listen(rt, timer, site, line, binding, record, end),
-        Invocation::Blink { line, address } => run_blink(rt, timer, site, line, address),
-        Invocation::Request { line, words } => run_ask(rt, site, line, words),
-        _ => ExitStatus::Misused,
+        Tool::Blink { line, address } => run_blink(rt, timer, site, line, address),
+        Tool::Request { line, words } => run_ask(rt, site, line, words),
     }
 }
 
@@ -191,7 +214,7 @@ pub(crate) fn not_served<R: Print + Eprint>(rt: &R, unserved: Unserved) -> ExitS
     match unserved {
         Unserved::NotRead { path, why } => not_read(rt, path, why),
         Unserved::NotWritten { path, why } => not_written(rt, path, why),
-        Unserved::NotPrinted(error) => printed(rt, Err(error), ExitStatus::Failed),
+        Unserved::NotPrinted(error) => not_printed(rt, &error),
     }
 }
 
@@ -220,15 +243,31 @@ fn not_text<R: Print + Eprint>(rt: &R) -> ExitStatus {
     )
 }
 
+/// Reports that standard output took nothing, since it is full or closed or memory was refused.
+pub(crate) fn not_printed<R: Print + Eprint>(rt: &R, error: &io::Error) -> ExitStatus {
+    match error.kind() {
+        io::ErrorKind::OutOfMemory => no_memory(rt),
+        _ => no_output(rt),
+    }
+}
+
 /// Reports that the allocator is out of memory.
-fn no_memory<R: Print>(rt: &R) -> ExitStatus {
-    let _ = println!(rt; "no memory");
+fn no_memory<R: Print + Eprint>(rt: &R) -> ExitStatus {
+    match println!(rt; "no memory") {
+        Ok(()) => ExitStatus::Failed,
+        Err(_) => no_output(rt),
+    }
+}
+
+/// Reports that standard output takes nothing.
+fn no_output<R: Eprint>(rt: &R) -> ExitStatus {
+    let _told = eprintln!(rt; "cannot write standard output");
     ExitStatus::Failed
 }
 
-/// The exit status, where what it goes with was printed. Wrong usage is wrong usage also where the
-/// message of it can't be printed.
-fn printed<R: Print>(rt: &R, done: io::Result<()>, status: ExitStatus) -> ExitStatus {
+/// The exit status, where what it goes with was printed on standard error. Wrong usage is wrong
+/// usage also where the message of it can't be printed.
+fn printed<R: Print + Eprint>(rt: &R, done: io::Result<()>, status: ExitStatus) -> ExitStatus {
     match (done, status) {
         (Ok(()), _) | (Err(_), ExitStatus::Misused) => status,
         (Err(error), _) => match error.kind() {

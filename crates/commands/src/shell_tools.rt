@@ -3,7 +3,7 @@
 use crate::living::{Halted, Notice};
 use crate::reading::HostDisk;
 use crate::serving::Unserved;
-use crate::shell::{HostNotice, not_served};
+use crate::shell::{HostNotice, not_printed, not_served};
 use crate::tools::{ToolEnd, ask_once, blink, listen, probe, status_of_tool};
 use building::Site;
 use commandline::{LineWord, ListenEnd as EndWords, LiveFiles, RequestWords};
@@ -20,8 +20,8 @@ use std::{fs, io};
 
 /// Standard error, as a writer.
 #[derive(Clone, Copy)]
-struct Complaints<'a, R> {
-    rt: &'a R,
+pub(crate) struct Complaints<'a, R> {
+    pub rt: &'a R,
 }
 
 impl<R: Eprint> Write for Complaints<'_, R> {
@@ -41,14 +41,22 @@ impl<R: Eprint> Write for Complaints<'_, R> {
 struct MaybeFile<'f, S> {
     storage: &'f S,
     path: Option<&'f str>,
+    /// The path, once the file has refused bytes.
+    refused: Option<&'f str>,
 }
 
 impl<S: Storage> Write for MaybeFile<'_, S> {
     fn write(&mut self, bytes: &[u8]) -> io::Result<usize> {
-        if let Some(path) = self.path {
-            let _size = self.storage.append(path, bytes)?;
+        let Some(path) = self.path else {
+            return Ok(bytes.len());
+        };
+        match self.storage.append(path, bytes) {
+            Ok(_size) => Ok(bytes.len()),
+            Err(error) => {
+                self.refused = Some(path);
+                Err(error)
+            }
         }
-        Ok(bytes.len())
     }
 
     fn flush(&mut self) -> io::Result<()> {
@@ -99,13 +107,13 @@ where
 }
 
 /// `listen`
-pub(crate) fn run_listen<R, T, S>(
+pub(crate) fn run_listen<'f, R, T, S>(
     rt: &R,
     timer: &T,
-    site: &S,
+    site: &'f S,
     line: LineWord,
     binding: Option<&str>,
-    record: Option<&str>,
+    record: Option<&'f str>,
     words: EndWords,
 ) -> ExitStatus
 where
@@ -119,9 +127,10 @@ where
             Err(_) => return not_opened(rt, path),
         }
     }
-    let mut record = MaybeFile {
+    let mut recorded = MaybeFile {
         storage: site,
         path: record,
+        refused: None,
     };
     let end = ListenEnd {
         millis: match words.seconds {
@@ -140,13 +149,16 @@ where
         &disk,
         site,
         &mut out,
-        &mut record,
+        &mut recorded,
         line,
         binding,
         timer,
         &end,
     );
-    ended(rt, end)
+    match (end, recorded.refused) {
+        (Err(Unserved::NotPrinted(_)), Some(path)) => not_opened(rt, path),
+        (end, _) => ended(rt, end),
+    }
 }
 
 /// `blink`
@@ -204,16 +216,31 @@ fn ended<R: Print + Eprint>(rt: &R, end: Result<ToolEnd, Unserved>) -> ExitStatu
         Err(unserved) => return not_served(rt, unserved),
     };
     if let Err(halted) = &end {
-        let _told = told(rt, halted);
+        if let Err(status) = told(rt, halted) {
+            return status;
+        }
     }
     status_of_tool(&end)
 }
 
 /// Reports what stands against a tool: of a text on standard output, else on standard error.
-fn told<R: Print + Eprint>(rt: &R, halted: &Halted) -> io::Result<()> {
+///
+/// # Errors
+///
+/// How the program ends where standard output takes nothing.
+fn told<R: Print + Eprint>(rt: &R, halted: &Halted) -> Result<(), ExitStatus> {
     match halted {
-        Halted::Text(stop) => println!(rt; "{stop}"),
-        Halted::NotWritten(path) => eprintln!(rt; "cannot write {path}"),
-        Halted::Building(stop) => HostNotice { rt }.halts(stop),
+        Halted::Text(stop) => match println!(rt; "{stop}") {
+            Ok(()) => Ok(()),
+            Err(error) => Err(not_printed(rt, &error)),
+        },
+        Halted::NotWritten(path) => {
+            let _told = eprintln!(rt; "cannot write {path}");
+            Ok(())
+        }
+        Halted::Building(stop) => {
+            let _told = HostNotice { rt }.halts(stop);
+            Ok(())
+        }
     }
 }

@@ -5,15 +5,15 @@ use crate::serving::{Unserved, binding_at, bytes_at};
 use answers::{AskedName, Stop, binding_of, check};
 use commandline::{Files, Question};
 use exits::{ExitStatus, PlayStop};
-use explaining::{explain_binding, explain_load, explain_scenario};
+use explaining::{Asked, explain_binding, explain_load, explain_scenario};
 use ilcompile::Setup;
 use iltext::parse;
-use listing::{write_notes, write_task};
+use listing::{Played, write_load, write_notes, write_played_notes, write_task};
 use plantload::load;
 use std::alloc::Global;
 use std::io;
 use std::io::{BufWriter, Write};
-use wordlines::Binding;
+use wordlines::{Binding, Scenario};
 
 /// What the files hold that a question is about.
 #[derive(Drop)]
@@ -42,7 +42,7 @@ pub fn serve_question<'a, D: Disk, W: Write + Drop>(
         text: bytes_at(alloc, disk, files.text)?,
         scenario: binding_at(alloc, disk, scenario_of(question))?,
     };
-    Ok(print(alloc, to, &sheets, question)?)
+    Ok(print(alloc, to, files, &sheets, question)?)
 }
 
 /// The path of the scenario that is asked about.
@@ -57,11 +57,12 @@ fn scenario_of(question: Question<'_>) -> Option<&str> {
 fn print<W: Write + Drop>(
     alloc: Global,
     to: W,
+    files: Files,
     sheets: &Sheets,
     question: Question,
 ) -> io::Result<(W, ExitStatus)> {
     let mut out = BufWriter::new(alloc, to)?;
-    let status = report(alloc, &mut out, sheets, question)?;
+    let status = report(alloc, &mut out, files, sheets, question)?;
     Ok((out.into_inner()?, status))
 }
 
@@ -69,11 +70,12 @@ fn print<W: Write + Drop>(
 fn report<W: Write>(
     alloc: Global,
     out: &mut W,
+    files: Files,
     sheets: &Sheets,
     question: Question,
 ) -> io::Result<ExitStatus> {
     match question {
-        Question::Faults { .. } => explain(alloc, out, sheets),
+        Question::Faults { scenario } => explain(alloc, out, files, scenario, sheets),
         Question::Notes => match setup_of(alloc, sheets) {
             Ok(setup) => tell_notes(alloc, out, &setup, &sheets.text),
             Err(stop) => tell_stop(out, &stop),
@@ -117,7 +119,7 @@ fn tell_notes<W: Write>(
     }
 }
 
-/// Writes the words of a task, or of all.
+/// Writes the words of a task, or of all and what they ask of the buses.
 fn list<W: Write>(
     alloc: Global,
     out: &mut W,
@@ -130,6 +132,7 @@ fn list<W: Write>(
             for number in 0..setup.plan().tasks() {
                 write_task(alloc, out, setup, number)?;
             }
+            write_load(alloc, out, setup)?;
             Ok(ExitStatus::Accepted)
         }
     }
@@ -152,17 +155,42 @@ fn list_named<W: Write>(
 }
 
 /// Explains the first thing that stands against the files, or says that there is none.
-fn explain<W: Write>(alloc: Global, out: &mut W, sheets: &Sheets) -> io::Result<ExitStatus> {
-    let bytes = match &sheets.binding {
-        Some(bytes) => bytes,
-        None => return explain_text(alloc, out, sheets, &Binding::one_bus(alloc)),
+fn explain<W: Write>(
+    alloc: Global,
+    out: &mut W,
+    files: Files,
+    scenario: Option<&str>,
+    sheets: &Sheets,
+) -> io::Result<ExitStatus> {
+    let (Some(bytes), Some(path)) = (&sheets.binding, files.binding) else {
+        let binding = Binding::one_bus(alloc);
+        let asked = asked(files, sheets, &binding, false);
+        return explain_text(alloc, out, &asked, scenario, sheets);
     };
     match Binding::parse(alloc, bytes) {
-        Ok(binding) => explain_text(alloc, out, sheets, &binding),
+        Ok(binding) => {
+            let asked = asked(files, sheets, &binding, true);
+            explain_text(alloc, out, &asked, scenario, sheets)
+        }
         Err(fault) => {
-            explain_binding(out, bytes, &fault)?;
+            explain_binding(alloc, out, path, bytes, &fault)?;
             Ok(ExitStatus::of_stop(&Stop::from(fault)))
         }
+    }
+}
+
+/// What is asked about.
+fn asked<'a>(
+    files: Files<'a>,
+    sheets: &'a Sheets,
+    binding: &'a Binding,
+    is_bound: bool,
+) -> Asked<'a> {
+    Asked {
+        path: files.text,
+        text: &sheets.text,
+        binding,
+        is_bound,
     }
 }
 
@@ -170,16 +198,17 @@ fn explain<W: Write>(alloc: Global, out: &mut W, sheets: &Sheets) -> io::Result<
 fn explain_text<W: Write>(
     alloc: Global,
     out: &mut W,
+    asked: &Asked,
+    scenario: Option<&str>,
     sheets: &Sheets,
-    binding: &Binding,
 ) -> io::Result<ExitStatus> {
-    match load(alloc, &sheets.text, binding) {
-        Ok(setup) => match &sheets.scenario {
-            Some(bytes) => explain_played(alloc, out, sheets, &setup, bytes),
-            None => explain_nothing(alloc, out, sheets, &setup),
+    match load(alloc, asked.text, asked.binding) {
+        Ok(setup) => match (&sheets.scenario, scenario) {
+            (Some(bytes), Some(path)) => explain_played(alloc, out, sheets, &setup, path, bytes),
+            _ => explain_nothing(alloc, out, sheets, &setup),
         },
         Err(fault) => {
-            explain_load(alloc, out, &sheets.text, &fault)?;
+            explain_load(alloc, out, asked, &fault)?;
             Ok(ExitStatus::of_stop(&Stop::from(fault)))
         }
     }
@@ -191,12 +220,13 @@ fn explain_played<W: Write>(
     out: &mut W,
     sheets: &Sheets,
     setup: &Setup,
+    path: &str,
     bytes: &[u8],
 ) -> io::Result<ExitStatus> {
     match simbus::parse(alloc, bytes) {
-        Ok(_installation) => explain_nothing(alloc, out, sheets, setup),
+        Ok(scenario) => explain_playable(alloc, out, sheets, setup, bytes, &scenario),
         Err(fault) => {
-            explain_scenario(out, bytes, &fault)?;
+            explain_scenario(alloc, out, path, bytes, &fault)?;
             let stop = PlayStop::from(fault);
             Ok(stop.status())
         }
@@ -212,4 +242,23 @@ fn explain_nothing<W: Write>(
 ) -> io::Result<ExitStatus> {
     writeln!(out, "nothing stands against it")?;
     tell_notes(alloc, out, setup, &sheets.text)
+}
+
+/// Says that nothing stands against the files, and writes the notes, also those on the scenario.
+fn explain_playable<W: Write>(
+    alloc: Global,
+    out: &mut W,
+    sheets: &Sheets,
+    setup: &Setup,
+    bytes: &[u8],
+    scenario: &Scenario,
+) -> io::Result<ExitStatus> {
+    writeln!(out, "nothing stands against it")?;
+    match parse(alloc, &sheets.text) {
+        Ok(source) => {
+            write_played_notes(alloc, out, setup, &source, Played { bytes, scenario })?;
+            Ok(ExitStatus::Accepted)
+        }
+        Err(_) => Err(io::Error::from(io::ErrorKind::OutOfMemory)),
+    }
 }

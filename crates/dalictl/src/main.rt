@@ -1,9 +1,8 @@
-//! The program `dalictl`: checks Instruction List texts, runs scans of their tasks, plays scenarios
-//! on simulated buses, or runs them there in threads, and runs buildings.
+//! The program `dalictl`.
 //!
 //! All of it is the crate `commands`, here over the machine's files, words, terminal, threads and
-//! devices.
-//! How the program ends is a `commands::ExitStatus`, by its number.
+//! devices. Its help, and docs/LANGUAGE.md, say what it does. How the program ends is a
+//! `commands::ExitStatus`, by its number.
 #![tactic(auto)]
 
 use building::HostSite;

@@ -1,10 +1,14 @@
-use Rattle.std.proofs.Common.{rules, ◌≡◌, ℕ, List, Some, option_map, subst, sym}
+use Rattle.std.proofs.Common.{rules, ◌≡◌, ◌∙◌, ℕ, List, Some, option_map, ap, subst, sym}
 use Rattle.keeping.specs.KeptFiles.{IsKeptFile, digest_of}
+use Rattle.keeping.specs.Faults.{IsKeptFaultOrMemory}
+use Rattle.keeping.specs.declared.fault.KeptFault.TheVariants.{Empty, Torn, OtherText}
 use Rattle.commands.specs.Beginnings.{IsFileOf}
+use Rattle.commands.proofs.LivesOut.{if_left}
+use Rattle.commands.proofs.UnusedValues.{begun_without, unusable_unused}
 use Rattle.commands.proofs.beginning.beginning_of.Goals as goal
 
-pub returns-clause-used : goal.returns-clause-used
-returns-clause-used c =
+pub returns-in-Ok-clause-used : goal.returns-in-Ok-clause-used
+returns-in-Ok-clause-used c =
     let text = c.args.text.now in
     let kept = c.in-Ok.kept in
     let bytes : c.deref.result.now ≡ c.in-Some.bytes.now.items = search rules in
@@ -12,4 +16,44 @@ returns-clause-used c =
     subst (λ (b : List ℕ). IsKeptFile b (digest_of text) kept) bytes c.in-Ok.ensures.kept in
     let file : IsFileOf text (option_map (λ bytes. bytes.now.items) c.args.file) kept =
     subst (λ f. IsFileOf text (option_map (λ bytes. bytes.now.items) f) kept) (sym c.in-Some.is) read in
-    c.in_ok-begun.ensures.used (option_map (λ bytes. bytes.now.items) c.args.file) file
+    if_left _ _ (λ b used. used (option_map (λ bytes. bytes.now.items) c.args.file) file) c.begun_with.result
+    c.begun_with.ensures.used
+
+pub returns-in-Err-Empty-clause-begun : goal.returns-in-Err-Empty-clause-begun
+returns-in-Err-Empty-clause-begun c =
+    begun_without c.args.binding.now c.args.text.now c.in_ok-setup.setup c.without.result c.in_ok-setup.ensures.setup
+    c.without.ensures.setup c.without.ensures.kept
+
+pub returns-in-Err-Empty-clause-used : goal.returns-in-Err-Empty-clause-used
+returns-in-Err-Empty-clause-used c =
+    let bytes : c.deref.result.now ≡ c.in-Some.bytes.now.items = search rules in
+    unusable_unused c.args.binding.now c.args.text.now c.deref.result.now
+    (option_map (λ bytes. bytes.now.items) c.args.file) c.without.result Empty
+    (ap (λ file. option_map (λ bytes. bytes.now.items) file) c.in-Some.is ∙ ap Some (sym bytes)) c.without.ensures.kept
+    (subst (IsKeptFaultOrMemory c.args.text.now c.deref.result.now) c.in-Err-Empty.field-0-is c.in-Err-Empty.ensures.fault)
+
+pub returns-in-Err-Torn-clause-begun : goal.returns-in-Err-Torn-clause-begun
+returns-in-Err-Torn-clause-begun c =
+    begun_without c.args.binding.now c.args.text.now c.in_ok-setup.setup c.without-in-Err-Torn.result c.in_ok-setup.ensures.setup
+    c.without-in-Err-Torn.ensures.setup c.without-in-Err-Torn.ensures.kept
+
+pub returns-in-Err-Torn-clause-used : goal.returns-in-Err-Torn-clause-used
+returns-in-Err-Torn-clause-used c =
+    let bytes : c.deref.result.now ≡ c.in-Some.bytes.now.items = search rules in
+    unusable_unused c.args.binding.now c.args.text.now c.deref.result.now
+    (option_map (λ bytes. bytes.now.items) c.args.file) c.without-in-Err-Torn.result Torn
+    (ap (λ file. option_map (λ bytes. bytes.now.items) file) c.in-Some.is ∙ ap Some (sym bytes)) c.without-in-Err-Torn.ensures.kept
+    (subst (IsKeptFaultOrMemory c.args.text.now c.deref.result.now) c.in-Err-Torn.field-0-is c.in-Err-Torn.ensures.fault)
+
+pub returns-in-Err-OtherText-clause-begun : goal.returns-in-Err-OtherText-clause-begun
+returns-in-Err-OtherText-clause-begun c =
+    begun_without c.args.binding.now c.args.text.now c.in_ok-setup.setup c.without-in-Err-OtherText.result c.in_ok-setup.ensures.setup
+    c.without-in-Err-OtherText.ensures.setup c.without-in-Err-OtherText.ensures.kept
+
+pub returns-in-Err-OtherText-clause-used : goal.returns-in-Err-OtherText-clause-used
+returns-in-Err-OtherText-clause-used c =
+    let bytes : c.deref.result.now ≡ c.in-Some.bytes.now.items = search rules in
+    unusable_unused c.args.binding.now c.args.text.now c.deref.result.now
+    (option_map (λ bytes. bytes.now.items) c.args.file) c.without-in-Err-OtherText.result OtherText
+    (ap (λ file. option_map (λ bytes. bytes.now.items) file) c.in-Some.is ∙ ap Some (sym bytes)) c.without-in-Err-OtherText.ensures.kept
+    (subst (IsKeptFaultOrMemory c.args.text.now c.deref.result.now) c.in-Err-OtherText.field-0-is c.in-Err-OtherText.ensures.fault)
