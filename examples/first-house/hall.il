@@ -1,8 +1,12 @@
-(* A house: each press of the push button switches the lamp on or off. *)
+(* A house: each short press of the push button switches the lamp on or off. *)
 PROGRAM sw
 VAR_EXTERNAL
+  event : UINT (0..1023);
   lamp : USINT (0..254);
 END_VAR
+  LD event
+  NE 2             (* anything but a short press: the button also says when it is pressed and released *)
+  RETC
   LD lamp
   EQ 0
   JMPC lit
@@ -16,8 +20,9 @@ END_PROGRAM
 
 CONFIGURATION house
 VAR_GLOBAL
-  pressed AT %IX0.0 : BOOL;          (* the push button *)
-  lamp AT %QB0.7 : USINT (0..254);   (* the level of the gear with short address 7 *)
+  pressed AT %IX0.0 : BOOL;              (* the push button *)
+  event AT %IW0.128 : UINT (0..1023);    (* what it said last *)
+  lamp AT %QB0.7 : USINT (0..254);       (* the level of the gear with short address 7 *)
 END_VAR
 TASK push (SINGLE := pressed, PRIORITY := 1);
 PROGRAM s1 WITH push : sw;

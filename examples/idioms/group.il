@@ -1,8 +1,12 @@
 (* A group's level: the button switches all lamps of group 1 with one frame. *)
 PROGRAM sw
 VAR_EXTERNAL
+  event : UINT (0..1023);
   shelf : USINT (0..254);
 END_VAR
+  LD event
+  NE 2             (* only a short press *)
+  RETC
   LD shelf
   EQ 0
   JMPC lit
@@ -35,6 +39,7 @@ END_PROGRAM
 CONFIGURATION house
 VAR_GLOBAL
   pressed AT %IX0.0 : BOOL;             (* the button *)
+  event AT %IW0.128 : UINT (0..1023);   (* what it said last *)
   shelf AT %QB0.65 : USINT (0..254);    (* the level of group 1: 64 and 1 *)
   level AT %IW0.2 : UINT (0..258);      (* what the second lamp answered last *)
 END_VAR

@@ -24,9 +24,13 @@ END_PROGRAM
 
 PROGRAM sw
 VAR_EXTERNAL
+  event : UINT (0..1023);
   night : BOOL;
   lamp : USINT (0..254);
 END_VAR
+  LD event
+  NE 2             (* only a short press *)
+  RETC
   LD lamp
   EQ 0
   JMPC lit
@@ -46,8 +50,9 @@ END_PROGRAM
 
 CONFIGURATION house
 VAR_GLOBAL
-  pressed AT %IX0.0 : BOOL;          (* the button *)
-  now : TIME;                        (* the time of day *)
+  pressed AT %IX0.0 : BOOL;              (* the button *)
+  event AT %IW0.128 : UINT (0..1023);    (* what it said last *)
+  now : TIME;                            (* the time of day *)
   night : BOOL;
   lamp AT %QB0.5 : USINT (0..254);
 END_VAR

@@ -1,8 +1,14 @@
 (* A scene from a button: each press sends all lamps of the bus to scene 2. *)
 PROGRAM evening
+VAR_EXTERNAL
+  event : UINT (0..1023);
+END_VAR
 VAR
   go : GEAR_DO;
 END_VAR
+  LD event
+  NE 2             (* only a short press *)
+  RETC
   CAL go(REQ := FALSE)
   CAL go(REQ := TRUE, ADR := 80, CMD := 12)    (* all control gear: GO TO SCENE 2 *)
 END_PROGRAM
@@ -27,8 +33,9 @@ END_PROGRAM
 
 CONFIGURATION house
 VAR_GLOBAL
-  pressed AT %IX0.0 : BOOL;           (* the button *)
-  level AT %IW0.1 : UINT (0..258);    (* what the first lamp answered last *)
+  pressed AT %IX0.0 : BOOL;             (* the button *)
+  event AT %IW0.128 : UINT (0..1023);   (* what it said last *)
+  level AT %IW0.1 : UINT (0..258);      (* what the first lamp answered last *)
 END_VAR
 TASK push (SINGLE := pressed, PRIORITY := 0);
 TASK clock (INTERVAL := T#1s, PRIORITY := 1);

@@ -2,9 +2,13 @@
    asked for its level, so that the first press does what people expect. *)
 PROGRAM sw
 VAR_EXTERNAL
+  event : UINT (0..1023);
   found : UINT (0..258);
   lamp : USINT (0..255);
 END_VAR
+  LD event
+  NE 2             (* only a short press *)
+  RETC
   LD lamp
   EQ 0
   OR( lamp
@@ -40,6 +44,7 @@ END_PROGRAM
 CONFIGURATION house
 VAR_GLOBAL
   pressed AT %IX0.0 : BOOL;                  (* the button *)
+  event AT %IW0.128 : UINT (0..1023);        (* what it said last *)
   found AT %IW0.5 : UINT (0..258);           (* what the lamp answered *)
   lamp AT %QB0.5 : USINT (0..255) := 255;    (* 255: it is not sent a level *)
 END_VAR

@@ -1,20 +1,22 @@
 //! The program `rows`: runs worked rows of the command line, each in memory.
 //!
-//! What crosses the boundary: files of rows, whose names are the words of the command line, and one
-//! line: how many rows hold and how many wrong ones don't, or the first one that is otherwise.
-//! README.md has their format; `workedrows` reads a row and compares, `running` runs its command
-//! lines by `commands::run`, whose threads are those of the program's own runtime, `simulated` and
-//! `disk` are where the lines of a row's buildings are and what is written beside them goes, and
-//! `wrong` has the rows that must not hold. Nothing is proved of the rows themselves, and a row more costs no
+//! What crosses the boundary: files of rows and pages of the documents, whose names are the words of
+//! the command line, and one line: how many rows hold and how many wrong ones don't, or the first one
+//! that is otherwise. README.md has their formats; `workedrows` reads a row and compares, `running`
+//! runs its command lines by `commands::run`, whose threads are those of the program's own runtime,
+//! `pages` has the commands of a page, `simulated` and `disk` are where the lines of a row's buildings
+//! are and what is written beside them goes, and `wrong` has the rows that must not hold. Nothing is proved of the rows themselves, and a row more costs no
 //! proof: `rows texts.rows` is a call.
 #![tactic(auto)]
 
 mod disk;
+mod pages;
 mod running;
 mod simulated;
 mod wrong;
 
 use building::{HostSite, Site};
+use pages::judge_page;
 use running::judge_lines;
 use std::process::ExitCode;
 use std::rt::{Env, Files};
@@ -23,7 +25,7 @@ use std::thread::Threads;
 use std::time::Clock as Timer;
 use std::{env, fs, io};
 use workedrows::{Judge, Stop};
-use wrong::refuse_rows;
+use wrong::{refuse_pages, refuse_rows};
 
 fn main(rt: HostRuntime) -> io::Result<ExitCode> {
     match judge_files(&rt, &HostSite { rt: &rt }) {
@@ -52,10 +54,14 @@ fn judge_files<R: Files + Env + AllocGlobal + Threads + Wait + Timer + Sync, S: 
     let mut wrong: u32 = 0;
     for path in env::args(rt)?.skip(1) {
         let text = fs::read_to_string(rt, path.as_str())?;
-        if path.as_str().starts_with("wrong") {
-            wrong = wrong.saturating_add(refuse_rows(rt.alloc(), rt, site, &text)?);
-        } else {
-            judge_lines(&mut judge, rt, site, &text)?;
+        let is_page = path.as_str().ends_with(".md");
+        match (path.as_str().starts_with("wrong"), is_page) {
+            (true, true) => wrong = wrong.saturating_add(refuse_pages(rt, site, &text)?),
+            (true, false) => {
+                wrong = wrong.saturating_add(refuse_rows(rt.alloc(), rt, site, &text)?);
+            }
+            (false, true) => judge_page(&mut judge, rt, site, path.as_str(), &text)?,
+            (false, false) => judge_lines(&mut judge, rt, site, &text)?,
         }
     }
     Ok((judge.rows(), wrong))

@@ -1,11 +1,14 @@
 //! Rows that must not hold: without them a judge who compares nothing would find no difference.
 //!
 //! Such a row is named for what the judge must say of it: the kind of the difference, ` at `, and
-//! the line that shows it, as `status at status 1`.
+//! the line that shows it, as `status at status 1`. The pages that must not hold stand in one file, each
+//! below a heading that is named in the same way.
 
+use crate::pages::judge_page;
 use crate::running::judge_lines;
 use building::Site;
 use std::alloc::Global;
+use std::rt::Files;
 use std::sync::Wait;
 use std::thread::Threads;
 use std::time::Clock as Timer;
@@ -63,6 +66,42 @@ fn judge_row<T: Threads + Wait + Timer + Sync, S: Site + Sync>(
     let mut judge = Judge::new(alloc);
     judge.begin_row(name)?;
     judge_lines(&mut judge, threads, site, lines)
+}
+
+/// How many pages a file has, where each is refused for what its heading says.
+///
+/// # Errors
+///
+/// The first page that holds, or that is refused for something else.
+pub fn refuse_pages<R: Files + AllocGlobal + Threads + Wait + Timer + Sync, S: Site + Sync>(
+    rt: &R,
+    site: &S,
+    text: &str,
+) -> Result<u32, Stop> {
+    let mut pages: u32 = 0;
+    for page in text.split("\n# ").skip(1) {
+        refuse_page(rt, site, page)?;
+        pages = pages.saturating_add(1);
+    }
+    Ok(pages)
+}
+
+/// Has a page judged by itself, from its heading on.
+fn refuse_page<R: Files + AllocGlobal + Threads + Wait + Timer + Sync, S: Site + Sync>(
+    rt: &R,
+    site: &S,
+    page: &str,
+) -> Result<(), Stop> {
+    let (name, lines) = match page.split_once('\n') {
+        Some(parts) => parts,
+        None => (page, ""),
+    };
+    let mut judge = Judge::new(rt.alloc());
+    match judge_page(&mut judge, rt, site, "wrong.md", lines) {
+        Ok(()) => Err(Stop::Held(String::from_str(rt.alloc(), name)?)),
+        Err(stop) if is_named(name, &stop) => Ok(()),
+        Err(stop) => Err(stop),
+    }
 }
 
 /// Whether a row is named for why it was refused.

@@ -16,6 +16,8 @@ pub enum Difference {
     Complained(String),
     /// It wrote another file: these hex digits.
     Wrote(String),
+    /// A page shows a file or a picture otherwise than it is.
+    Page,
 }
 
 impl Difference {
@@ -27,6 +29,7 @@ impl Difference {
             Difference::Printed(_) => "printed",
             Difference::Complained(_) => "complained",
             Difference::Wrote(_) => "wrote",
+            Difference::Page => "page",
         }
     }
 }
@@ -35,6 +38,7 @@ impl fmt::Display for Difference {
     fn fmt<W: fmt::Write>(&self, f: &mut fmt::Formatter<W>) -> fmt::Result {
         match self {
             Difference::Line => write!(f, "is no line of a row"),
+            Difference::Page => write!(f, "isn't the file that lies there"),
             Difference::Status(status) => write!(f, "ended with status {status}"),
             Difference::Printed(text) | Difference::Complained(text) | Difference::Wrote(text) => {
                 write!(f, "{}\n{text}", self.kind())

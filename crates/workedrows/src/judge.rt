@@ -3,10 +3,14 @@
 use crate::body::{Body, bytes_of_hex, hex_of_bytes};
 use crate::command_line::CommandLine;
 use crate::difference::{Difference, Stop};
+use crate::lines::{each_line_is_part, each_line_stands, text_of, without_digits};
 use crate::machine::{Machine, Output, StoredFile, Terminal, bytes_at, place_among};
 use std::alloc::{AllocError, Global};
 use std::cell::RefCell;
 use std::{io, mem};
+
+/// The line in place of what isn't shown.
+const MORE: &[u8] = b"..\n";
 
 /// What the lines that come are the body of.
 #[derive(Clone, Copy)]
@@ -29,6 +33,12 @@ enum Part {
     ComplainedParts,
     /// A file that was written, as hex digits.
     Written,
+    /// All that a terminal shows of a command.
+    Shown,
+    /// The same, but for the digits.
+    ShownLike,
+    /// The first lines of it, and a last line `..`.
+    ShownFirst,
 }
 
 /// How a command ended.
@@ -161,6 +171,35 @@ impl Judge {
         Ok(())
     }
 
+    /// Goes on with the row's files under another name, which counts as a row more.
+    ///
+    /// # Errors
+    ///
+    /// What was shown under the name before is otherwise.
+    pub fn continue_row(&mut self, name: &str) -> Result<(), Stop> {
+        self.end_part()?;
+        self.rows = self.rows.saturating_add(1);
+        self.row = String::from_str(self.alloc, name)?;
+        Ok(())
+    }
+
+    /// The bytes of the row's file at a path, where there is one.
+    ///
+    /// # Errors
+    ///
+    /// Memory was refused.
+    pub fn file(&self, path: &str) -> Result<Option<Vec<u8>>, AllocError> {
+        bytes_at(self.alloc, &self.files, path)
+    }
+
+    /// What the last command printed, where one ran.
+    pub fn printed(&self) -> Option<&[u8]> {
+        match &self.outcome {
+            Some(outcome) => Some(&outcome.output.printed),
+            None => None,
+        }
+    }
+
     /// Takes a line that isn't one of a body alone.
     fn take_heading(&mut self, heading: &str) -> Result<Option<CommandLine>, Stop> {
         let (kind, rest) = first_word(heading);
@@ -233,6 +272,9 @@ impl Judge {
             Part::Complained => self.compare_complained(&bytes),
             Part::ComplainedParts => self.find_complained(&bytes),
             Part::Written => self.compare_written(&bytes),
+            Part::Shown => self.compare_shown(&bytes),
+            Part::ShownLike => self.compare_shown_like(&bytes),
+            Part::ShownFirst => self.compare_shown_first(&bytes),
         }
     }
 
@@ -303,6 +345,34 @@ impl Judge {
         self.judge_printed(found, found.as_slice() == wanted)
     }
 
+    /// Compares all that a terminal shows: what was printed on standard error, and on standard output.
+    fn compare_shown(&self, wanted: &[u8]) -> Result<(), Stop> {
+        let found = self.shown()?;
+        self.judge_printed(&found, found.as_slice() == wanted)
+    }
+
+    /// The same, but for the digits.
+    fn compare_shown_like(&self, wanted: &[u8]) -> Result<(), Stop> {
+        let found = self.shown()?;
+        let is_like = without_digits(self.alloc, &found)? == without_digits(self.alloc, wanted)?;
+        self.judge_printed(&found, is_like)
+    }
+
+    /// Looks whether it begins with these lines, up to the line `..`.
+    fn compare_shown_first(&self, wanted: &[u8]) -> Result<(), Stop> {
+        let found = self.shown()?;
+        let first = wanted.strip_suffix(MORE).unwrap_or(wanted);
+        self.judge_printed(&found, found.starts_with(first))
+    }
+
+    /// What a terminal shows of the last command.
+    fn shown(&self) -> Result<Vec<u8>, Stop> {
+        let output = &self.outcome()?.output;
+        let mut shown = Vec::from_slice(self.alloc, &output.complained)?;
+        shown.extend_from_slice(&output.printed)?;
+        Ok(shown)
+    }
+
     /// Looks for each of these lines among those that were printed.
     fn find_printed(&self, wanted: &[u8]) -> Result<(), Stop> {
         let found = &self.outcome()?.output.printed;
@@ -358,7 +428,7 @@ impl Judge {
     }
 
     /// That this row doesn't hold, or that there is no memory to say so.
-    fn difference(&self, why: Difference) -> Stop {
+    pub fn difference(&self, why: Difference) -> Stop {
         match self.row_stop(why) {
             Ok(stop) => stop,
             Err(_) => Stop::Memory,
@@ -402,6 +472,9 @@ fn part_of(kind: &str, rest: &str) -> Option<Part> {
         ("text", _) => Part::Text,
         ("hex", _) => Part::Hex,
         ("out", _) => Part::Written,
+        ("shown", "") => Part::Shown,
+        ("shown", "like") => Part::ShownLike,
+        ("shown", "first") => Part::ShownFirst,
         ("stdout", "") => Part::Printed,
         ("stdout", "has") => Part::PrintedLines,
         ("stderr", "") => Part::Complained,
@@ -414,29 +487,4 @@ fn part_of(kind: &str, rest: &str) -> Option<Part> {
 fn repeated(words: &str) -> Option<(u32, &str)> {
     let (many, pattern) = words.split_once(' ')?;
     Some((many.parse::<u32>().ok()?, pattern))
-}
-
-/// Bytes as text.
-fn text_of(bytes: &[u8]) -> &str {
-    match str::from_utf8(bytes) {
-        Ok(text) => text,
-        Err(_) => "bytes that are no text",
-    }
-}
-
-/// Whether each line of `wanted` is a line of `printed`.
-fn each_line_stands(wanted: &[u8], printed: &[u8]) -> bool {
-    wanted.split(|byte| *byte == b'\n').all(|line| printed
-        .split(|byte| *byte == b'\n')
-        .any(|it| it == line))
-}
-
-/// Whether each line of `wanted` stands somewhere in `text`.
-fn each_line_is_part(wanted: &[u8], text: &str) -> bool {
-    wanted
-        .split(|byte| *byte == b'\n')
-        .all(|line| match str::from_utf8(line) {
-            Ok(line) => text.contains(line),
-            Err(_) => false,
-        })
 }

@@ -1,0 +1,244 @@
+//! Pages of the documents: each command that a page shows is run, and must print what stands below.
+//!
+//! The files of a page's commands are its blocks, and files of the disk that no block is. A block
+//! that is on the disk too must be equal to the file there.
+
+use crate::running::judge_lines;
+use building::Site;
+use std::alloc::{AllocError, Global};
+use std::fs;
+use std::rt::Files;
+use std::sync::Wait;
+use std::thread::Threads;
+use std::time::Clock as Timer;
+use workedrows::{
+    CHANGED, ChangedLine, Difference, Fit, Judge, PageStep, ShownRun, Stop, page_steps,
+};
+
+/// Judges a page: its path, which the names of its rows begin with, and its text.
+///
+/// # Errors
+///
+/// The first command that prints something else, or a block or a picture that is another one than
+/// the disk has.
+pub fn judge_page<R: Files + AllocGlobal + Threads + Wait + Timer + Sync, S: Site + Sync>(
+    judge: &mut Judge,
+    rt: &R,
+    site: &S,
+    path: &str,
+    text: &str,
+) -> Result<(), Stop> {
+    judge.begin_row(path)?;
+    let steps = page_steps(judge.alloc(), text)?;
+    let mut reading = Reading {
+        path,
+        folder: String::new(judge.alloc()),
+    };
+    for step in &steps {
+        reading.take_step(judge, rt, site, step)?;
+    }
+    judge.end_part()
+}
+
+/// How far a page is read.
+#[derive(Drop)]
+struct Reading<'a> {
+    /// The page's path.
+    path: &'a str,
+    /// The folder in which its commands are typed.
+    folder: String,
+}
+
+impl Reading<'_> {
+    /// Takes the next step of the page.
+    fn take_step<R: Files + AllocGlobal + Threads + Wait + Timer + Sync, S: Site + Sync>(
+        &mut self,
+        judge: &mut Judge,
+        rt: &R,
+        site: &S,
+        step: &PageStep,
+    ) -> Result<(), Stop> {
+        let folder = self.folder.as_str();
+        match step {
+            PageStep::Folder(name) => {
+                self.folder = joined(judge.alloc(), folder, name.as_str())?;
+                Ok(())
+            }
+            PageStep::File { name, bytes } => take_block(judge, rt, folder, name.as_str(), bytes),
+            PageStep::Run(run) => {
+                name_row(judge, self.path, run.line)?;
+                take_files(judge, rt, folder, run.words.as_str())?;
+                judge_run(judge, rt, site, run)
+            }
+            PageStep::Changed(changed) => {
+                name_row(judge, self.path, changed.line)?;
+                take_files(judge, rt, folder, changed.words.as_str())?;
+                judge_changed(judge, rt, site, changed)
+            }
+            PageStep::Picture { line, path } => {
+                name_row(judge, self.path, *line)?;
+                compare_picture(judge, rt, self.path, path.as_str())
+            }
+        }
+    }
+}
+
+/// Goes on with a row that is called by its page and its line there.
+fn name_row(judge: &mut Judge, path: &str, line: u32) -> Result<(), Stop> {
+    let name = format!(in judge.alloc(); "{path}:{line}")?;
+    judge.continue_row(name.as_str())
+}
+
+/// Takes a block as a file of the row, and compares it with the one that is on the disk.
+fn take_block<R: Files + AllocGlobal>(
+    judge: &mut Judge,
+    rt: &R,
+    folder: &str,
+    name: &str,
+    bytes: &[u8],
+) -> Result<(), Stop> {
+    put_file(judge, name, bytes)?;
+    judge.end_part()?;
+    let path = joined(judge.alloc(), folder, name)?;
+    match fs::read(rt, path.as_str()) {
+        Ok(found) if found.as_slice() != bytes => Err(judge.difference(Difference::Page)),
+        _ => Ok(()),
+    }
+}
+
+/// Has the judge keep a file, by the lines of a row.
+fn put_file(judge: &mut Judge, name: &str, bytes: &[u8]) -> Result<(), Stop> {
+    let heading = format!(in judge.alloc(); "-- file {name}")?;
+    judge.take_line(heading.as_str())?;
+    if let Ok(text) = str::from_utf8(bytes) {
+        for line in text.split('\n') {
+            judge.take_line(line)?;
+        }
+    }
+    Ok(())
+}
+
+/// Takes the files that the words of a command name, where no block is such a file.
+fn take_files<R: Files + AllocGlobal>(
+    judge: &mut Judge,
+    rt: &R,
+    folder: &str,
+    words: &str,
+) -> Result<(), Stop> {
+    for word in words.split(' ') {
+        if judge.file(word)?.is_none() {
+            let path = joined(judge.alloc(), folder, word)?;
+            if let Ok(bytes) = fs::read(rt, path.as_str()) {
+                put_file(judge, word, &bytes)?;
+                judge.end_part()?;
+            }
+        }
+    }
+    Ok(())
+}
+
+/// Has the judge keep a text with another line in it.
+fn put_changed(judge: &mut Judge, changed: &ChangedLine) -> Result<(), Stop> {
+    let heading = format!(in judge.alloc(); "-- file {CHANGED}")?;
+    let bytes = match judge.file(changed.text.as_str())? {
+        Some(bytes) => bytes,
+        None => Vec::new(judge.alloc()),
+    };
+    judge.take_line(heading.as_str())?;
+    if let Ok(text) = str::from_utf8(&bytes) {
+        let mut number: u32 = 0;
+        for line in text.split('\n') {
+            number = number.saturating_add(1);
+            judge.take_line(if number == changed.number {
+                changed.place.as_str()
+            } else {
+                line
+            })?;
+        }
+    }
+    judge.end_part()
+}
+
+/// Checks a text with another line in it.
+fn judge_changed<T: Threads + Wait + Timer + Sync, S: Site + Sync>(
+    judge: &mut Judge,
+    threads: &T,
+    site: &S,
+    changed: &ChangedLine,
+) -> Result<(), Stop> {
+    put_changed(judge, changed)?;
+    run_words(judge, threads, site, changed.words.as_str())?;
+    expect(judge, Fit::Whole, changed.shown.as_bytes())
+}
+
+/// Runs a command, and says what it must show where that goes to no file.
+fn judge_run<T: Threads + Wait + Timer + Sync, S: Site + Sync>(
+    judge: &mut Judge,
+    threads: &T,
+    site: &S,
+    run: &ShownRun,
+) -> Result<(), Stop> {
+    run_words(judge, threads, site, run.words.as_str())?;
+    if run.is_kept {
+        Ok(())
+    } else {
+        expect(judge, run.fit, &run.shown)
+    }
+}
+
+/// Runs the command line of these words.
+fn run_words<T: Threads + Wait + Timer + Sync, S: Site + Sync>(
+    judge: &mut Judge,
+    threads: &T,
+    site: &S,
+    words: &str,
+) -> Result<(), Stop> {
+    let heading = format!(in judge.alloc(); "-- run {words}")?;
+    judge_lines(judge, threads, site, heading.as_str())
+}
+
+/// Says what the last command must have shown.
+fn expect(judge: &mut Judge, fit: Fit, shown: &[u8]) -> Result<(), Stop> {
+    judge.take_line(match fit {
+        Fit::Whole => "-- shown",
+        Fit::Like => "-- shown like",
+        Fit::First => "-- shown first",
+    })?;
+    if let Ok(text) = str::from_utf8(shown) {
+        for line in text.split('\n') {
+            judge.take_line(line)?;
+        }
+    }
+    Ok(())
+}
+
+/// Compares a picture of the page with what the last command printed.
+fn compare_picture<R: Files + AllocGlobal>(
+    judge: &mut Judge,
+    rt: &R,
+    page: &str,
+    picture: &str,
+) -> Result<(), Stop> {
+    let folder = match page.rsplit_once('/') {
+        Some((folder, _)) => folder,
+        None => "",
+    };
+    let path = joined(judge.alloc(), folder, picture)?;
+    let wanted = fs::read(rt, path.as_str())?;
+    match judge.printed() {
+        Some(printed) if printed == wanted.as_slice() => Ok(()),
+        _ => Err(judge.difference(Difference::Page)),
+    }
+}
+
+/// A path as seen from the folder of the page's files, of one that is seen from this folder.
+fn joined(alloc: Global, folder: &str, path: &str) -> Result<String, AllocError> {
+    if folder.is_empty() {
+        return String::from_str(alloc, path);
+    }
+    match (path.strip_prefix("../"), folder.rsplit_once('/')) {
+        (Some(path), Some((above, _))) => format!(in alloc; "{above}/{path}"),
+        (Some(path), None) => String::from_str(alloc, path),
+        (None, _) => format!(in alloc; "{folder}/{path}"),
+    }
+}
