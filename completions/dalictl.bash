@@ -1,0 +1,44 @@
+# Completes the command line of dalictl in bash: `. completions/dalictl.bash`. Written by completions/make.
+
+_dalictl() {
+    local word=${COMP_WORDS[COMP_CWORD]} before=${COMP_WORDS[COMP_CWORD - 1]} options='' files='' others=''
+    if ((COMP_CWORD == 1)); then
+        mapfile -t COMPREPLY < <(compgen -W 'check step play run live probe listen blink ask look notes list explain code frame event help --help --version' -- "$word")
+        return
+    fi
+    # `=` is a word of its own: `--bind=FILE` is three.
+    if [[ $word == = ]]; then
+        word=''
+    elif [[ $before == = ]]; then
+        before=${COMP_WORDS[COMP_CWORD - 2]}
+    fi
+    case ${COMP_WORDS[1]} in
+        check) options='--bind --code --help' files='--bind' others='' ;;
+        step) options='--bind --scans --every --help' files='--bind' others='--scans --every' ;;
+        play) options='--limit --names --expect --help' files='' others='--limit --expect' ;;
+        run) options='--limit --workers --help' files='' others='--limit --workers' ;;
+        live) options='--line --period --for --stop --limit --workers --stay --log --log-size --record --status --json --keep --help' files='--stop --log --record --status --keep' others='--line --period --for --limit --workers --log-size' ;;
+        probe) options='--line --bus --help' files='--line' others='--bus' ;;
+        listen) options='--line --bind --bus --record --for --stop --help' files='--line --bind --record --stop' others='--bus --for' ;;
+        blink) options='--line --help' files='--line' others='' ;;
+        ask) options='--line --help' files='--line' others='' ;;
+        look) options='--bind --text --out --bus --from --to --help' files='--bind --out' others='--bus --from --to' ;;
+        notes) options='--bind --help' files='--bind' others='' ;;
+        list) options='--bind --help' files='--bind' others='' ;;
+        explain) options='--bind --help' files='--bind' others='' ;;
+        code) options='--bind --help' files='--bind' others='' ;;
+        frame) options='--help' files='' others='' ;;
+        event) options='--help' files='' others='' ;;
+        *) return ;;
+    esac
+    if [[ " $others " == *" $before "* ]]; then
+        COMPREPLY=()
+    elif [[ $word == -* && " $files " != *" $before "* ]]; then
+        mapfile -t COMPREPLY < <(compgen -W "$options" -- "$word")
+    else
+        compopt -o filenames 2>/dev/null
+        mapfile -t COMPREPLY < <(compgen -f -- "$word")
+    fi
+}
+
+complete -F _dalictl dalictl
