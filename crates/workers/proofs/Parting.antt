@@ -26,7 +26,7 @@ use Rattle.turns.specs.Logs.{IsServed, IsTimed, IsWorker}
 use Rattle.driving.specs.Links.{IsLinked}
 use Rattle.driving.specs.Open.{HasNothingOpen}
 use Rattle.workers.specs.Beginnings.{IsInStep}
-use Rattle.workers.specs.Teams.{AreWorkers}
+use Rattle.workers.specs.LinkedShares.{AreWorkers}
 use Rattle.workers.proofs.Following.{all_later, moment_within}
 
 -- each line has its own log among those of all

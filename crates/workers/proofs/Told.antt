@@ -17,7 +17,7 @@ use Rattle.driving.specs.Links.{IsLinked}
 use Rattle.driving.specs.Open.{HasNothingOpen}
 use Rattle.driving.specs.Links.{IsNoLess, log_of, more_failures}
 use Rattle.turns.specs.Logs.{IsServed, IsTimed, IsWorker}
-use Rattle.workers.specs.Teams.{AreServed, AreWorkers}
+use Rattle.workers.specs.LinkedShares.{AreServed, AreWorkers}
 use Rattle.turns.specs.declared.bus_worker.Served.{Served}
 use Rattle.workers.proofs.Lists.{each_at}
 

@@ -8,9 +8,9 @@ use Rattle.plant.specs.Shown.{Shown}
 use Rattle.receipts.specs.Each.{Each}
 use Rattle.driving.specs.Links.{IsNoLess, log_of}
 use Rattle.driving.specs.Links.{IsLinked}
-use Rattle.workers.specs.declared.beginning.Begun.{Begun}
-use Rattle.workers.specs.Crews.{HasRooms}
-use Rattle.workers.specs.Teams.{IsTeam}
+use Rattle.workers.specs.declared.beginning.RunParts.{RunParts}
+use Rattle.workers.specs.WorkerThreads.{HasThreadRoom}
+use Rattle.workers.specs.LinkedShares.{AreLinkedShares}
 
 -- since these logs each bus and the clock gave and took what the history at the start says
 pub record IsInStep {B C : Type 0} (start : Shown) (logs : List BusLog) (first : ClockLog) (bus_log : B → BusLog)
@@ -21,14 +21,14 @@ pub record IsInStep {B C : Type 0} (start : Shown) (logs : List BusLog) (first :
   pub moments : (clock_log clock).moments ≡ first.moments
   pub asks : IsNoLess first.asks (clock_log clock).asks
 
--- a team for each scan worker and bus of the plant, with room for their threads and for the end
-pub record IsBegun {B C J N : Type 0} (p : Plant) (logs : List BusLog) (first : ClockLog) (bus_log : B → BusLog)
-    (clock_log : C → ClockLog) (begun : Begun B C J N) : Type 0 where
-  pub team : IsTeam logs first bus_log clock_log begun.team
-  pub workers : length begun.team.workers.items ≡ p.workers
-  pub buses : length begun.team.buses.items ≡ p.plan.buses
-  pub no_line : begun.bench.lines.items ≡ []
-  pub no_share : begun.bench.shares.items ≡ []
-  pub lines : p.plan.buses ≤ vec_capacity begun.bench.lines
-  pub shares : p.plan.buses ≤ vec_capacity begun.bench.shares
-  pub rooms : HasRooms p.plan.buses p.workers begun.rooms
+-- a Share for each scan worker, for each bus and for the clock, with its link; room for the threads, and for the end
+pub record AreRunParts {B C J N : Type 0} (p : Plant) (logs : List BusLog) (first : ClockLog) (bus_log : B → BusLog)
+    (clock_log : C → ClockLog) (run_parts : RunParts B C J N) : Type 0 where
+  pub linked : AreLinkedShares logs first bus_log clock_log run_parts.linked
+  pub workers : length run_parts.linked.workers.items ≡ p.workers
+  pub buses : length run_parts.linked.buses.items ≡ p.plan.buses
+  pub no_line : run_parts.bus_lists.lines.items ≡ []
+  pub no_share : run_parts.bus_lists.shares.items ≡ []
+  pub lines : p.plan.buses ≤ vec_capacity run_parts.bus_lists.lines
+  pub shares : p.plan.buses ≤ vec_capacity run_parts.bus_lists.shares
+  pub thread_lists : HasThreadRoom p.plan.buses p.workers run_parts.thread_lists

@@ -1,8 +1,8 @@
 pub mod Beginnings
 pub mod Closings
-pub mod Crews
 pub mod Endings
+pub mod LinkedShares
 pub mod Runs
 pub mod Started
 pub mod Starts
-pub mod Teams
+pub mod WorkerThreads

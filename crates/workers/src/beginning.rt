@@ -1,4 +1,4 @@
-//! The lock, the links with their Shares, and the rooms, before the first thread begins.
+//! The lock, the Shares with their links, and the lists of threads, before the first thread begins.
 
 ghost use Rattle.std.specs.Prelude.{◌≡◌, ◌+◌, ◌≤◌, [], length, map, vec_len, vec_capacity, IfOk, IfErr};
 ghost use Rattle.driving.specs.Open.{HasNothingOpen};
@@ -6,13 +6,13 @@ ghost use Rattle.plant.specs.Shown.{IsWorkerCount};
 ghost use Rattle.std.specs.List.{range_with_len};
 ghost use Rattle.limits.specs.Limits.{most_buses, most_seats};
 ghost use Rattle.seats.specs.Openings.{fresh};
-ghost use Rattle.workers.specs.Beginnings.{IsBegun, IsInStep};
-ghost use Rattle.workers.specs.Crews.{HasRooms};
+ghost use Rattle.workers.specs.Beginnings.{AreRunParts, IsInStep};
+ghost use Rattle.workers.specs.WorkerThreads.{HasThreadRoom};
 
-use crate::closing::Bench;
+use crate::closing::BusLists;
+use crate::linked_shares::LinkedShares;
 use crate::pairing::put_together;
-use crate::team::Team;
-use crate::working::Rooms;
+use crate::working::ThreadLists;
 use buslink::{Bus, Clock};
 use plant::Plant;
 use plantevents::{what_a_part_shows, what_a_part_shows_of_links};
@@ -24,11 +24,11 @@ use turns::{Links, Served, Timed};
 
 /// What a run begins with.
 #[derive(Drop)]
-pub(crate) struct Begun<'a, B: Bus, C: Clock, J: Basis + Links, N: Names> {
+pub(crate) struct RunParts<'a, B: Bus, C: Clock, J: Basis + Links, N: Names> {
     pub shared: Shared<'a, J, Tie<N>, Books<N>>,
-    pub team: Team<'a, B, C, J, Tie<N>>,
-    pub bench: Bench<'a, B, J, Tie<N>>,
-    pub rooms: Rooms<'a, B, J, Tie<N>>,
+    pub linked: LinkedShares<'a, B, C, J, Tie<N>>,
+    pub bus_lists: BusLists<'a, B, J, Tie<N>>,
+    pub thread_lists: ThreadLists<'a, B, J, Tie<N>>,
 }
 
 /// What didn't begin, as it was.
@@ -51,40 +51,40 @@ fn room_for<X: Drop>(alloc: Global, count: usize) -> Result<Vec<X>, AllocError>
 /// What is made before the lock: the ledgers, and room for the links with their Shares and for the
 /// threads.
 #[derive(Drop)]
-struct Furniture<'a, B: Bus, J: Basis + Links, N: Names> {
-    rooms: Rooms<'a, B, J, Tie<N>>,
+struct Allocations<'a, B: Bus, J: Basis + Links, N: Names> {
+    thread_lists: ThreadLists<'a, B, J, Tie<N>>,
     served: Vec<Served<'a, B, J, Tie<N>>>,
     books: Books<N>,
     ties: Vec<Tie<N>>,
 }
 
 /// Makes what is made before the lock, for so many buses and scan workers.
-fn furnish<'a, B: Bus, J: Basis + Links, N: Names>(
+fn allocate<'a, B: Bus, J: Basis + Links, N: Names>(
     alloc: Global,
     blanks: Blanks,
     buses: usize,
     workers: usize,
-) -> Result<Furniture<'a, B, J, N>, AllocError>
+) -> Result<Allocations<'a, B, J, N>, AllocError>
     requires names { blanks ≡ N.names }
-    ensures rooms { IfOk result (λ made. HasRooms buses workers made.rooms) }
+    ensures thread_lists { IfOk result (λ made. HasThreadRoom buses workers made.thread_lists) }
     ensures served { IfOk result
         (λ made. (made.served.items ≡ []) × (buses ≤ vec_capacity made.served)) }
     ensures ties { IfOk result (λ made. made.ties.items ≡ map fresh (range_with_len 0 most_seats)) }
 {
     // (first, so that nothing but the call lets go of the blanks)
     let (books, ties) = blanks.open::<N>(alloc)?;
-    let rooms = Rooms::new(alloc, buses, workers)?;
+    let thread_lists = ThreadLists::new(alloc, buses, workers)?;
     let served = room_for(alloc, buses)?;
-    Ok(Furniture {
-        rooms,
+    Ok(Allocations {
+        thread_lists,
         served,
         books,
         ties,
     })
 }
 
-/// The lock round the plant, and the team of its Shares. What became of the links goes with the
-/// plant's history, in which nothing is open.
+/// The lock round the plant, and its Shares with their links. What became of the links goes with
+/// the plant's history, in which nothing is open.
 ///
 /// # Errors
 ///
@@ -96,7 +96,7 @@ pub(crate) fn begin<'a, B: Bus, C: Clock, J: Basis + Links, N: Names>(
     blanks: Blanks,
     lines: Vec<B>,
     clock: C,
-) -> Result<Begun<'a, B, C, J, N>, NotBegun<B, C>>
+) -> Result<RunParts<'a, B, C, J, N>, NotBegun<B, C>>
     requires start { plant ≡ J.start }
     requires idle { HasNothingOpen J.start }
     requires cells { (cells.now ≡ J.cells)
@@ -105,22 +105,22 @@ pub(crate) fn begin<'a, B: Bus, C: Clock, J: Basis + Links, N: Names>(
     requires links { IsInStep J.start J.buses J.clock B.log C.log lines.items clock }
     requires workers { IsWorkerCount J.start.plant.workers }
     requires buses { (vec_len lines ≡ J.start.plant.plan.buses) × (vec_len lines ≤ most_buses) }
-    ensures begun { IfOk result (IsBegun J.start.plant J.buses J.clock B.log C.log) }
+    ensures run_parts { IfOk result (AreRunParts J.start.plant J.buses J.clock B.log C.log) }
     ensures err { IfErr result (λ e. (e.plant ≡ plant) × (e.lines ≡ lines) × (e.clock ≡ clock)) }
 {
     what_a_part_shows();
     what_a_part_shows_of_links();
     let mut lines = lines;
     let count = lines.len();
-    let Ok(made) = furnish::<B, J, N>(alloc, blanks, count, plant.workers()) else {
+    let Ok(made) = allocate::<B, J, N>(alloc, blanks, count, plant.workers()) else {
         return Err(NotBegun {
             plant,
             lines,
             clock,
         });
     };
-    let Furniture {
-        rooms,
+    let Allocations {
+        thread_lists,
         mut served,
         books,
         ties,
@@ -141,14 +141,14 @@ pub(crate) fn begin<'a, B: Bus, C: Clock, J: Basis + Links, N: Names>(
         clock: share,
     } = shares;
     put_together(&mut lines, &mut shares, &mut served);
-    Ok(Begun {
+    Ok(RunParts {
         shared,
-        team: Team {
+        linked: LinkedShares {
             buses: served,
             workers,
             timed: Timed { clock, share },
         },
-        bench: Bench { lines, shares },
-        rooms,
+        bus_lists: BusLists { lines, shares },
+        thread_lists,
     })
 }

@@ -5,13 +5,13 @@ ghost use Rattle.plant.specs.Shown.{is_full};
 ghost use Rattle.plantlock.specs.Tied.{IsFront};
 ghost use Rattle.workers.specs.Closings.{IsClosed};
 ghost use Rattle.workers.specs.Endings.{ended_as_told};
-ghost use Rattle.workers.specs.Teams.{IsTeam};
+ghost use Rattle.workers.specs.LinkedShares.{AreLinkedShares};
 
 use crate::closed::ClosedParts;
 use crate::closed_plant::ClosedPlant;
 use crate::ended::Ended;
+use crate::linked_shares::LinkedShares;
 use crate::pairing::take_apart;
-use crate::team::Team;
 use buslink::{Bus, Clock};
 use plant::Plant;
 use plantevents::{what_a_part_shows, what_a_part_shows_of_links};
@@ -21,7 +21,7 @@ use turns::{Links, Timed};
 
 /// Empty lists with room for the buses and their Shares.
 #[derive(Drop)]
-pub(crate) struct Bench<'a, B: Bus, J: Basis, T: Seated> {
+pub(crate) struct BusLists<'a, B: Bus, J: Basis, T: Seated> {
     pub lines: Vec<B>,
     pub shares: Vec<Share<'a, J, T>>,
 }
@@ -41,34 +41,34 @@ fn as_shown(plant: &Plant, told: Ended) -> Ended
 /// Opens the lock for good. What went over each link is what the plant's history says.
 pub(crate) fn close<'a, B: Bus, C: Clock, J: Basis + Links, T: Seated, K: Tallies<T>>(
     shared: Shared<'a, J, T, K>,
-    team: Team<'a, B, C, J, T>,
-    bench: Bench<'a, B, J, T>,
+    linked: LinkedShares<'a, B, C, J, T>,
+    bus_lists: BusLists<'a, B, J, T>,
     ended: Ended,
 ) -> ClosedParts<B, C>
-    requires none { (bench.lines.items ≡ []) × (bench.shares.items ≡ []) }
-    requires room { (vec_len team.buses ≤ vec_capacity bench.lines)
-        × (vec_len team.buses ≤ vec_capacity bench.shares) }
-    requires workers { length team.workers.items ≡ J.start.plant.workers }
-    requires buses { length team.buses.items ≡ J.start.plant.plan.buses }
-    requires team { IsTeam J.buses J.clock B.log C.log team }
+    requires none { (bus_lists.lines.items ≡ []) × (bus_lists.shares.items ≡ []) }
+    requires room { (vec_len linked.buses ≤ vec_capacity bus_lists.lines)
+        × (vec_len linked.buses ≤ vec_capacity bus_lists.shares) }
+    requires workers { length linked.workers.items ≡ J.start.plant.workers }
+    requires buses { length linked.buses.items ≡ J.start.plant.plan.buses }
+    requires linked { AreLinkedShares J.buses J.clock B.log C.log linked }
     ensures closed { IsClosed J.start.plant J.buses J.clock B.log C.log result }
-    ensures count { length result.buses.items ≡ length team.entry.buses.items }
-    ensures clock { result.clock ≡ team.entry.timed.clock }
+    ensures count { length result.buses.items ≡ length linked.entry.buses.items }
+    ensures clock { result.clock ≡ linked.entry.timed.clock }
     ensures front { IsFront J.start.history result.plant.history }
     ensures limit { result.plant.limit ≡ J.start.limit }
     ensures ended { result.ended ≡ ended_as_told (is_full result.plant) ended }
 {
     what_a_part_shows();
     what_a_part_shows_of_links();
-    let Team {
+    let LinkedShares {
         buses,
         workers,
         timed,
-    } = team;
-    let Bench {
+    } = linked;
+    let BusLists {
         mut lines,
         mut shares,
-    } = bench;
+    } = bus_lists;
     take_apart(buses, &mut lines, &mut shares);
     let Timed { clock, share } = timed;
     let Final { plant, shares: _ } = shared.close(Shares {

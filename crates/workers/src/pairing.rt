@@ -6,7 +6,7 @@ ghost use Rattle.receipts.specs.Each.{Each};
 ghost use Rattle.receipts.specs.Receipts.{ShareParts, AreFresh, IsFresh};
 ghost use Rattle.driving.specs.Links.{log_of};
 ghost use Rattle.turns.specs.Logs.{IsServed};
-ghost use Rattle.workers.specs.Teams.{AreServed};
+ghost use Rattle.workers.specs.LinkedShares.{AreServed};
 
 use buslink::Bus;
 use plantlock::{Basis, Share};

@@ -11,13 +11,13 @@ ghost use Rattle.workers.specs.Closings.{IsClosed};
 ghost use Rattle.workers.specs.Runs.{HasEndedQuietly, HasRun, IsNotStarted};
 ghost use Rattle.workers.specs.declared.ended.Ended.TheVariants.{Asked, Limit};
 
-use crate::beginning::{Begun, NotBegun, begin};
+use crate::beginning::{NotBegun, RunParts, begin};
 use crate::closed::{Closed, NotStarted};
 use crate::closing::close;
-use crate::crew::Floor;
 use crate::ended::End;
 use crate::leaving::leave;
-use crate::working::{Crew, Worked, work};
+use crate::worker_threads::WorkerContext;
+use crate::working::{AllWorkers, WorkResult, work};
 use buslink::{Bus, Clock};
 use ilcompile::Setup;
 use plant::{OpenFault, Plant};
@@ -85,27 +85,27 @@ pub(crate) fn run_named<
     ensures count { IfOk result (λ c. length c.buses.items ≡ vec_len lines) }
     ensures err { IfErr result (λ e. (e.plant ≡ plant) × (e.lines ≡ lines) × (e.clock ≡ clock)) }
 {
-    let begun = begin::<B, C, J, N>(alloc, plant, cells, blanks, lines, clock)?;
-    let Begun {
+    let run_parts = begin::<B, C, J, N>(alloc, plant, cells, blanks, lines, clock)?;
+    let RunParts {
         shared,
-        team,
-        bench,
-        rooms,
-    } = begun;
+        linked,
+        bus_lists,
+        thread_lists,
+    } = run_parts;
     let end = End::new();
-    let crew = Crew {
-        floor: Floor {
+    let all_workers = AllWorkers {
+        context: WorkerContext {
             alloc,
             gate,
             shared: &shared,
             end: &end,
         },
-        team,
-        rooms,
+        linked,
+        thread_lists,
     };
-    let Worked { team, ended } = work(rt, crew);
+    let WorkResult { linked, ended } = work(rt, all_workers);
     let ended = end.cut_short().unwrap_or(ended);
-    let closed = close(shared, team, bench, ended);
+    let closed = close(shared, linked, bus_lists, ended);
     let parts = leave(alloc, gate, closed);
     Ok(Closed { parts })
 }

@@ -2,16 +2,18 @@
 
 ghost use Rattle.std.specs.Prelude.{◌≡◌, IfOk};
 ghost use Rattle.turns.specs.Logs.{HasEnded};
-ghost use Rattle.workers.specs.Crews.{IsCrew, HasRooms};
-ghost use Rattle.workers.specs.Teams.{IsTeam, HasSameCounts};
+ghost use Rattle.workers.specs.WorkerThreads.{AreReadyToStart, HasThreadRoom};
+ghost use Rattle.workers.specs.LinkedShares.{AreLinkedShares, HasSameCounts};
 ghost use Rattle.workers.specs.declared.ended.Ended.TheVariants.{Asked};
 
 use crate::bus_threads::StartedBus;
-use crate::crew::{Floor, finish_buses, finish_workers, start_buses, start_workers};
 use crate::ended::Ended;
+use crate::linked_shares::LinkedShares;
 use crate::scan_threads::StartedScans;
 use crate::serving::serve_clock;
-use crate::team::Team;
+use crate::worker_threads::{
+    WorkerContext, finish_buses, finish_workers, start_buses, start_workers,
+};
 use buslink::{Bus, Clock};
 use plantlock::Basis;
 use seats::{Seated, Tallies};
@@ -24,15 +26,15 @@ use turns::{Gate, Links};
 
 /// Room for the threads, made before the first begins.
 #[derive(Drop)]
-pub(crate) struct Rooms<'a, B: Bus, J: Basis + Links, T: Seated> {
+pub(crate) struct ThreadLists<'a, B: Bus, J: Basis + Links, T: Seated> {
     pub buses: Vec<StartedBus<'a, B, J, T>>,
     pub workers: Vec<StartedScans<'a, J, T>>,
 }
 
-/// A team, what it shares, and the rooms of its threads. It is one value, so that a closure captures
-/// one.
+/// The workers with what they share and the lists of their threads. It is one value, so that a
+/// closure captures one.
 #[derive(Drop)]
-pub(crate) struct Crew<
+pub(crate) struct AllWorkers<
     's,
     'a,
     B: Bus,
@@ -42,19 +44,19 @@ pub(crate) struct Crew<
     K: Tallies<T>,
     G: Gate,
 > {
-    pub floor: Floor<'s, 'a, J, T, K, G>,
-    pub team: Team<'a, B, C, J, T>,
-    pub rooms: Rooms<'a, B, J, T>,
+    pub context: WorkerContext<'s, 'a, J, T, K, G>,
+    pub linked: LinkedShares<'a, B, C, J, T>,
+    pub thread_lists: ThreadLists<'a, B, J, T>,
 }
 
-/// A team that has worked, and why the worker of the clock ended.
+/// What the workers leave: the Shares with their links, and why the worker of the clock ended.
 #[derive(Drop)]
-pub(crate) struct Worked<'a, B: Bus, C: Clock, J: Basis, T: Seated> {
-    pub team: Team<'a, B, C, J, T>,
+pub(crate) struct WorkResult<'a, B: Bus, C: Clock, J: Basis, T: Seated> {
+    pub linked: LinkedShares<'a, B, C, J, T>,
     pub ended: Ended,
 }
 
-impl<'a, B: Bus, J: Basis + Links, T: Seated> Rooms<'a, B, J, T> {
+impl<'a, B: Bus, J: Basis + Links, T: Seated> ThreadLists<'a, B, J, T> {
     /// Room for so many threads.
     ///
     /// # Errors
@@ -64,14 +66,14 @@ impl<'a, B: Bus, J: Basis + Links, T: Seated> Rooms<'a, B, J, T> {
         alloc: Global,
         buses: usize,
         workers: usize,
-    ) -> Result<Rooms<'a, B, J, T>, AllocError>
-        ensures { IfOk result (HasRooms buses workers) }
+    ) -> Result<ThreadLists<'a, B, J, T>, AllocError>
+        ensures { IfOk result (HasThreadRoom buses workers) }
     {
         let mut serving = Vec::new(alloc);
         serving.reserve(buses)?;
         let mut scanning = Vec::new(alloc);
         scanning.reserve(workers)?;
-        Ok(Rooms {
+        Ok(ThreadLists {
             buses: serving,
             workers: scanning,
         })
@@ -91,7 +93,11 @@ fn work_in<
     K: Tallies<T> + Send,
     G: Gate,
     R: Threads + Wait + Timer + Sync,
->(rt: &'t R, scope: &Scope<'t, E>, crew: Crew<'s, 'a, B, C, J, T, K, G>) -> Worked<'a, B, C, J, T>
+>(
+    rt: &'t R,
+    scope: &Scope<'t, E>,
+    all_workers: AllWorkers<'s, 'a, B, C, J, T, K, G>,
+) -> WorkResult<'a, B, C, J, T>
 where
     's: 't,
     'a: 't,
@@ -100,22 +106,40 @@ where
     T: 't,
     K: 't,
     G: 't,
-    requires crew { IsCrew J.buses J.clock B.log C.log crew }
-    ensures team { IsTeam J.buses J.clock B.log C.log result.team }
-    ensures same { HasSameCounts crew.entry.team result.team }
-    ensures asked { result.ended ≡ Asked → HasEnded J.clock (C.log result.team.timed.clock) }
+    requires all_workers { AreReadyToStart J.buses J.clock B.log C.log all_workers }
+    ensures linked { AreLinkedShares J.buses J.clock B.log C.log result.linked }
+    ensures same { HasSameCounts all_workers.entry.linked result.linked }
+    ensures asked { result.ended ≡ Asked → HasEnded J.clock (C.log result.linked.timed.clock) }
 {
-    let Crew {
-        floor,
-        mut team,
-        mut rooms,
-    } = crew;
-    start_workers(rt, scope, &floor, &mut team.workers, &mut rooms.workers);
-    start_buses(rt, scope, &floor, &mut team.buses, &mut rooms.buses);
-    let ended = serve_clock(rt, floor.gate, floor.shared, floor.end, &mut team.timed);
-    finish_workers(rt, &mut rooms.workers, &mut team.workers);
-    finish_buses(rt, &mut rooms.buses, &mut team.buses);
-    Worked { team, ended }
+    let AllWorkers {
+        context,
+        mut linked,
+        mut thread_lists,
+    } = all_workers;
+    start_workers(
+        rt,
+        scope,
+        &context,
+        &mut linked.workers,
+        &mut thread_lists.workers,
+    );
+    start_buses(
+        rt,
+        scope,
+        &context,
+        &mut linked.buses,
+        &mut thread_lists.buses,
+    );
+    let ended = serve_clock(
+        rt,
+        context.gate,
+        context.shared,
+        context.end,
+        &mut linked.timed,
+    );
+    finish_workers(rt, &mut thread_lists.workers, &mut linked.workers);
+    finish_buses(rt, &mut thread_lists.buses, &mut linked.buses);
+    WorkResult { linked, ended }
 }
 
 /// Lets all workers work until the end is told.
@@ -129,21 +153,21 @@ pub(crate) fn work<
     K: Tallies<T> + Send,
     G: Gate,
     R: Threads + Wait + Timer + Sync,
->(rt: &R, crew: Crew<'s, 'a, B, C, J, T, K, G>) -> Worked<'a, B, C, J, T>
-    requires crew { IsCrew J.buses J.clock B.log C.log crew }
-    ensures team { IsTeam J.buses J.clock B.log C.log result.team }
-    ensures same { HasSameCounts crew.entry.team result.team }
-    ensures asked { result.ended ≡ Asked → HasEnded J.clock (C.log result.team.timed.clock) }
+>(rt: &R, all_workers: AllWorkers<'s, 'a, B, C, J, T, K, G>) -> WorkResult<'a, B, C, J, T>
+    requires all_workers { AreReadyToStart J.buses J.clock B.log C.log all_workers }
+    ensures linked { AreLinkedShares J.buses J.clock B.log C.log result.linked }
+    ensures same { HasSameCounts all_workers.entry.linked result.linked }
+    ensures asked { result.ended ≡ Asked → HasEnded J.clock (C.log result.linked.timed.clock) }
 {
     thread::scope(
         thread::scope_env(),
         rt,
         |scope|
-            requires crew { IsCrew J.buses J.clock B.log C.log crew }
-            ensures team { IsTeam J.buses J.clock B.log C.log result.team }
-            ensures same { HasSameCounts crew.entry.team result.team }
+            requires all_workers { AreReadyToStart J.buses J.clock B.log C.log all_workers }
+            ensures linked { AreLinkedShares J.buses J.clock B.log C.log result.linked }
+            ensures same { HasSameCounts all_workers.entry.linked result.linked }
             ensures asked { result.ended ≡ Asked
-                → HasEnded J.clock (C.log result.team.timed.clock) }
-        { work_in(rt, scope, crew) },
+                → HasEnded J.clock (C.log result.linked.timed.clock) }
+        { work_in(rt, scope, all_workers) },
     )
 }

@@ -6,8 +6,8 @@ use Rattle.workers.proofs.beginning.begin.Goals as goal
 pub new-requires-clause-unused : goal.new-requires-clause-unused
 new-requires-clause-unused g c = all_unused c.in-Ok.made.ties.items c.in-Ok.ensures.ties
 
-pub returns-clause-begun : goal.returns-clause-begun
-returns-clause-begun g c =
+pub returns-clause-run_parts : goal.returns-clause-run_parts
+returns-clause-run_parts g c =
     let start = g.J.Basis.start in
     let fresh = c.in-Ok-new.ensures.fresh in
     let share = c.in-Ok-new.made.1.clock in
@@ -26,11 +26,11 @@ returns-clause-begun g c =
     let count = c.len-count.ensures in
     let workers = c.workers.ensures.value in
     let same = ap (λ (p : Shown). p.plant.workers) c.requires.start in
-    let rooms = c.in-Ok.ensures.rooms in
-    let for_buses = rooms.for_buses in
-    let for_workers = rooms.for_workers in
+    let thread_lists = c.in-Ok.ensures.thread_lists in
+    let for_buses = thread_lists.for_buses in
+    let for_workers = thread_lists.for_workers in
     record {
-      team = record {
+      linked = record {
         buses = c.put_together.ensures.served;
         workers = fresh_workers start c.in-Ok-new.made.1.workers.items c.requires.idle shows.worker fresh.workers;
         timed =
@@ -43,10 +43,10 @@ returns-clause-begun g c =
       no_share = c.put_together.ensures.shares.0;
       lines = omega (arith, lines_count, lines_fit, lines_room);
       shares = omega (arith, shares_count, shares_long, shares_fit, shares_room);
-      rooms = record {
-        no_bus = rooms.no_bus;
+      thread_lists = record {
+        no_bus = thread_lists.no_bus;
         for_buses = omega (arith, for_buses, count, lines_count);
-        no_worker = rooms.no_worker;
+        no_worker = thread_lists.no_worker;
         for_workers = omega (arith, for_workers, workers, same);
       };
     }

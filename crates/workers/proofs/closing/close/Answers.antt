@@ -12,8 +12,8 @@ returns-clause-closed g c =
     let logs = g.J.Links.buses in
     let log = g.B.Bus.log in
     let h = c.close-plant.result.plant.history in
-    let served = c.args.team.buses.items in
-    let workers = c.args.team.workers.items in
+    let served = c.args.linked.buses.items in
+    let workers = c.args.linked.workers.items in
     let parts = c.close-plant.ensures.parts in
     let shows = c.what_a_part_shows.ensures in
     let shows_links = c.what_a_part_shows_of_links.ensures in
@@ -26,31 +26,32 @@ returns-clause-closed g c =
       legal = subst (λ p. AreLegal p h) c.close-plant.ensures.plant c.close-plant.ensures.legal;
       idle =
           nothing_open c.close-plant.result.plant g.J.Basis.start.plant logs log served workers
-          c.close-plant.ensures.plant c.requires.workers c.requires.buses c.requires.team.workers of_workers
-          c.requires.team.buses of_buses shows.worker shows.hand;
+          c.close-plant.ensures.plant c.requires.workers c.requires.buses c.requires.linked.workers of_workers
+          c.requires.linked.buses of_buses shows.worker shows.hand;
       buses =
           subst (λ xs. Each (λ b line. IsLinked (log_of logs b) b h (log line)) 0 xs) (sym lines)
-          (all_linked logs log h served c.requires.team.buses of_buses shows_links.sent shows_links.heard
+          (all_linked logs log h served c.requires.linked.buses of_buses shows_links.sent shows_links.heard
           shows_links.downs);
       hears =
           subst (λ xs. Each (λ b line. IsNoLess (log_of logs b).hears (log line).hears) 0 xs) (sym lines)
-          (all_no_less logs log served c.requires.team.buses);
+          (all_no_less logs log served c.requires.linked.buses);
       clock =
-          timed g.J.Links.clock (g.C.Clock.log c.args.team.timed.clock) c.args.team.timed.share h c.requires.team.timed
+          timed g.J.Links.clock (g.C.Clock.log c.args.linked.timed.clock) c.args.linked.timed.share h
+          c.requires.linked.timed
           (subst (λ s. HasPart s h) c.close-plant.ensures.clock parts.clock) (shows_links.given h);
-      moments = c.requires.team.timed.moments;
-      asks = c.requires.team.timed.asks;
+      moments = c.requires.linked.timed.moments;
+      asks = c.requires.linked.timed.asks;
     }
 
 pub invariant_of-result : goal.invariant_of-result
 invariant_of-result g c =
     let h = c.close-plant.result.plant.history in
-    let served = c.args.team.buses.items in
-    let workers = c.args.team.workers.items in
+    let served = c.args.linked.buses.items in
+    let workers = c.args.linked.workers.items in
     let parts = c.close-plant.ensures.parts in
     let shows = c.what_a_part_shows.ensures in
     let shares = c.close-plant.ensures.buses ∙ c.take_apart.ensures.shares in
     nothing_open c.close-plant.result.plant g.J.Basis.start.plant g.J.Links.buses g.B.Bus.log served workers
-    c.close-plant.ensures.plant c.requires.workers c.requires.buses c.requires.team.workers
-    (subst (λ xs. HaveParts xs h) c.close-plant.ensures.workers parts.workers) c.requires.team.buses
+    c.close-plant.ensures.plant c.requires.workers c.requires.buses c.requires.linked.workers
+    (subst (λ xs. HaveParts xs h) c.close-plant.ensures.workers parts.workers) c.requires.linked.buses
     (subst (λ xs. HaveParts xs h) shares parts.buses) shows.worker shows.hand

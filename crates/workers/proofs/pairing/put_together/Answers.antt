@@ -5,7 +5,7 @@ use Rattle.receipts.specs.Receipts.{ShareParts, IsFresh}
 use Rattle.receipts.proofs.Eaching.{each_first, each_rest, each_push, each_none}
 use Rattle.driving.specs.Links.{log_of}
 use Rattle.turns.specs.Logs.{IsServed}
-use Rattle.workers.specs.Teams.{AreServed}
+use Rattle.workers.specs.LinkedShares.{AreServed}
 use Rattle.workers.proofs.pairing.put_together.Goals as goal
 
 pub loop-bus-init : goal.loop-bus-init

@@ -5,7 +5,7 @@ use Rattle.receipts.specs.Each.{Each}
 use Rattle.receipts.specs.Receipts.{ShareParts, IsFresh}
 use Rattle.driving.specs.Links.{log_of}
 use Rattle.turns.specs.Logs.{IsServed}
-use Rattle.workers.specs.Teams.{AreServed}
+use Rattle.workers.specs.LinkedShares.{AreServed}
 use Rattle.workers.proofs.pairing.put_together.Given as goal
 
 abbrev pub invariant-loop-bus : goal.invariant-loop-bus

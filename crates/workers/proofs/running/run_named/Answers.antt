@@ -8,20 +8,21 @@ use Rattle.workers.proofs.Ends.{full_as_told, was_asked}
 use Rattle.workers.proofs.GoneOn.{front_of_front}
 use Rattle.workers.proofs.running.run_named.Goals as goal
 
-pub work-team-requires-clause-crew : goal.work-team-requires-clause-crew
-work-team-requires-clause-crew g c κs within =
-    let begun = c.in_ok-begun.ensures.begun in let lines = c.requires.buses.0 in let few = c.requires.buses.1 in
-    let buses = begun.buses in let workers = begun.workers in
-    let buses_long = c.in_ok-begun.begun.team.buses.ok.0 in
-    let workers_long = c.in_ok-begun.begun.team.workers.ok.0 in
-    let for_buses = begun.rooms.for_buses in let for_workers = begun.rooms.for_workers in
+pub work-linked-requires-clause-all_workers : goal.work-linked-requires-clause-all_workers
+work-linked-requires-clause-all_workers g c κs within =
+    let run_parts = c.in_ok-run_parts.ensures.run_parts in
+    let lines = c.requires.buses.0 in let few = c.requires.buses.1 in
+    let buses = run_parts.buses in let workers = run_parts.workers in
+    let buses_long = c.in_ok-run_parts.run_parts.linked.buses.ok.0 in
+    let workers_long = c.in_ok-run_parts.run_parts.linked.workers.ok.0 in
+    let for_buses = run_parts.thread_lists.for_buses in let for_workers = run_parts.thread_lists.for_workers in
     record {
-      team = begun.team;
+      linked = run_parts.linked;
       few = omega (arith, lines, few, buses, buses_long);
-      rooms = record {
-        no_bus = begun.rooms.no_bus;
+      thread_lists = record {
+        no_bus = run_parts.thread_lists.no_bus;
         for_buses = omega (arith, for_buses, buses, buses_long);
-        no_worker = begun.rooms.no_worker;
+        no_worker = run_parts.thread_lists.no_worker;
         for_workers = omega (arith, for_workers, workers, workers_long);
       };
     }
@@ -36,9 +37,9 @@ invariant_of-result g c = record {
   workers = c.requires.workers;
   count =
       let left = c.leave-parts.ensures.count in let long = c.close-closed.result.buses.ok.0 in
-      let closed = c.close-closed.ensures.count in let worked = c.work-team.ensures.same.buses in
-      let begun = c.in_ok-begun.ensures.begun.buses in
-      omega (arith, left, long, closed, worked, begun);
+      let closed = c.close-closed.ensures.count in let worked = c.work-linked.ensures.same.buses in
+      let run_parts = c.in_ok-run_parts.ensures.run_parts.buses in
+      omega (arith, left, long, closed, worked, run_parts);
 }
 
 pub returns-clause-closed : goal.returns-clause-closed
@@ -53,13 +54,13 @@ not_cut_short (Some told) ended other is = absurd (other is)
 
 pub returns-clause-ended : goal.returns-clause-ended
 returns-clause-ended g c = λ asked.
-    let worked = c.work-team.result in
+    let worked = c.work-linked.result in
     let told = was_asked _ _ (sym c.close-closed.ensures.ended ∙ c.leave-parts.ensures.asked asked) in
     record {
       clock =
           subst (λ clock. HasEnded g.J.Links.clock (g.C.Clock.log clock))
           (sym (c.leave-parts.ensures.clock ∙ c.close-closed.ensures.clock))
-          (c.work-team.ensures.asked
+          (c.work-linked.ensures.asked
           (not_cut_short c.cut_short.result worked.ended c.cut_short.ensures (sym c.unwrap_or-ended.ensures ∙ told)));
       quiet =
           c.leave-parts.ensures.left g.J.Basis.start.plant g.J.Links.buses g.J.Links.clock

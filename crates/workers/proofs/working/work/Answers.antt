@@ -6,7 +6,7 @@ scoped-requires g c =
     let t = c.type_bounds in
     record {
       at = λ a. (
-        c.requires.crew,
+        c.requires.all_workers,
         (
           search (rules, t.send-B.leaving, t.send-B.owned),
           search (rules, t.send-C.leaving, t.send-C.owned),

@@ -7,7 +7,7 @@ use turns::{Served, Timed};
 
 /// The buses and the clock with their Shares, and the Shares of the scan workers.
 #[derive(Drop)]
-pub struct Team<'a, B: Bus, C: Clock, J: Basis, T: Seated> {
+pub struct LinkedShares<'a, B: Bus, C: Clock, J: Basis, T: Seated> {
     /// The buses, by their numbers.
     pub buses: Vec<Served<'a, B, J, T>>,
     /// The scan workers, by their numbers.

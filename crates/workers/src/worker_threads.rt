@@ -2,8 +2,8 @@
 
 ghost use Rattle.std.specs.Prelude.{◌≡◌, ◌+◌, ◌<◌, ◌≤◌, [], length, vec_len, vec_capacity};
 ghost use Rattle.limits.specs.Limits.{most_buses};
-ghost use Rattle.workers.specs.Crews.{AreStartedBuses, AreStartedScans};
-ghost use Rattle.workers.specs.Teams.{AreServed, AreWorkers};
+ghost use Rattle.workers.specs.WorkerThreads.{AreStartedBuses, AreStartedScans};
+ghost use Rattle.workers.specs.LinkedShares.{AreServed, AreWorkers};
 
 use crate::bus_threads::{BusTask, StartedBus, finish_bus, start_bus};
 use crate::ended::End;
@@ -19,7 +19,7 @@ use turns::{Gate, Links, Served};
 
 /// What all workers share.
 #[derive(Drop)]
-pub(crate) struct Floor<'s, 'a, J: Basis, T: Seated, K: Tallies<T>, G: Gate> {
+pub(crate) struct WorkerContext<'s, 'a, J: Basis, T: Seated, K: Tallies<T>, G: Gate> {
     pub alloc: Global,
     pub gate: &'s G,
     pub shared: &'s Shared<'a, J, T, K>,
@@ -41,7 +41,7 @@ pub(crate) fn start_buses<
 >(
     rt: &'t R,
     scope: &Scope<'t, E>,
-    floor: &Floor<'s, 'a, J, T, K, G>,
+    context: &WorkerContext<'s, 'a, J, T, K, G>,
     buses: &mut Vec<Served<'a, B, J, T>>,
     started: &mut Vec<StartedBus<'a, B, J, T>>,
 )
@@ -65,9 +65,9 @@ where
     for bus in 0..count {
         let served = buses.remove(0);
         let task = BusTask {
-            gate: floor.gate,
-            shared: floor.shared,
-            end: floor.end,
+            gate: context.gate,
+            shared: context.shared,
+            end: context.end,
             bus,
             served,
         };
@@ -109,7 +109,7 @@ pub(crate) fn start_workers<
 >(
     rt: &'t R,
     scope: &Scope<'t, E>,
-    floor: &Floor<'s, 'a, J, T, K, G>,
+    context: &WorkerContext<'s, 'a, J, T, K, G>,
     workers: &mut Vec<Share<'a, J, T>>,
     started: &mut Vec<StartedScans<'a, J, T>>,
 )
@@ -130,10 +130,10 @@ where
     for worker in 0..workers.len() {
         let share = workers.remove(0);
         let task = ScanTask {
-            alloc: floor.alloc,
-            gate: floor.gate,
-            shared: floor.shared,
-            end: floor.end,
+            alloc: context.alloc,
+            gate: context.gate,
+            shared: context.shared,
+            end: context.end,
             worker,
             share,
         };

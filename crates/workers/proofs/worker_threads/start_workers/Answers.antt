@@ -1,10 +1,10 @@
 use Rattle.std.proofs.Common.{◌≡◌, ◌+◌, ◌<◌, ◌∙◌, length, arith, subst, sym}
 use Rattle.receipts.proofs.Eaching.{each_first, each_rest, each_push}
-use Rattle.workers.specs.Crews.{AreStartedScans}
+use Rattle.workers.specs.WorkerThreads.{AreStartedScans}
 use Rattle.turns.specs.Logs.{IsWorker}
 use Rattle.workers.specs.Started.{IsStartedScans}
-use Rattle.workers.specs.Teams.{AreWorkers}
-use Rattle.workers.proofs.crew.start_workers.Goals as goal
+use Rattle.workers.specs.LinkedShares.{AreWorkers}
+use Rattle.workers.proofs.worker_threads.start_workers.Goals as goal
 
 pub start_scans-requires-clause-worker : goal.start_scans-requires-clause-worker
 start_scans-requires-clause-worker g c κs within =

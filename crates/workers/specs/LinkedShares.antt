@@ -5,7 +5,7 @@ use Rattle.buslink.specs.ClockLog.{ClockLog}
 use Rattle.receipts.specs.Each.{Each}
 use Rattle.receipts.specs.Receipts.{ShareParts}
 use Rattle.turns.specs.declared.bus_worker.Served.{Served}
-use Rattle.workers.specs.declared.team.Team.{Team}
+use Rattle.workers.specs.declared.linked_shares.LinkedShares.{LinkedShares}
 use Rattle.driving.specs.Links.{log_of}
 use Rattle.turns.specs.Logs.{IsServed, IsTimed, IsWorker}
 
@@ -18,13 +18,13 @@ abbrev pub AreWorkers : ℕ → List ShareParts → Type 0
 AreWorkers n shares = Each IsWorker n shares
 
 -- nothing is open, and what went over the links since the first logs is what the Shares have receipts for
-pub record IsTeam {B C J T : Type 0} (logs : List BusLog) (first : ClockLog) (bus_log : B → BusLog)
-    (clock_log : C → ClockLog) (team : Team B C J T) : Type 0 where
-  pub buses : AreServed logs bus_log 0 team.buses.items
-  pub workers : AreWorkers 0 team.workers.items
-  pub timed : IsTimed first team.timed.share (clock_log team.timed.clock)
+pub record AreLinkedShares {B C J T : Type 0} (logs : List BusLog) (first : ClockLog) (bus_log : B → BusLog)
+    (clock_log : C → ClockLog) (linked : LinkedShares B C J T) : Type 0 where
+  pub buses : AreServed logs bus_log 0 linked.buses.items
+  pub workers : AreWorkers 0 linked.workers.items
+  pub timed : IsTimed first linked.timed.share (clock_log linked.timed.clock)
 
 -- as many of each
-pub record HasSameCounts {B C J T : Type 0} (before after : Team B C J T) : Type 0 where
+pub record HasSameCounts {B C J T : Type 0} (before after : LinkedShares B C J T) : Type 0 where
   pub buses : length after.buses.items ≡ length before.buses.items
   pub workers : length after.workers.items ≡ length before.workers.items

@@ -2,8 +2,8 @@ use Rattle.std.proofs.Common.{◌≡◌, ◌+◌, length}
 use Rattle.receipts.specs.Each.{Each}
 use Rattle.std.specs.Prelude.{vec_len, vec_capacity}
 use Rattle.workers.specs.Started.{IsStartedScans}
-use Rattle.workers.specs.Teams.{AreWorkers}
-use Rattle.workers.proofs.crew.finish_workers.Given as goal
+use Rattle.workers.specs.LinkedShares.{AreWorkers}
+use Rattle.workers.proofs.worker_threads.finish_workers.Given as goal
 
 abbrev pub invariant-loop-worker : goal.invariant-loop-worker
 invariant-loop-worker g l =

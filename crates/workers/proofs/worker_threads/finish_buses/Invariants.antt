@@ -2,8 +2,8 @@ use Rattle.std.proofs.Common.{◌≡◌, ◌+◌, length}
 use Rattle.receipts.specs.Each.{Each}
 use Rattle.std.specs.Prelude.{vec_len, vec_capacity}
 use Rattle.workers.specs.Started.{IsStartedBus}
-use Rattle.workers.specs.Teams.{AreServed}
-use Rattle.workers.proofs.crew.finish_buses.Given as goal
+use Rattle.workers.specs.LinkedShares.{AreServed}
+use Rattle.workers.proofs.worker_threads.finish_buses.Given as goal
 
 abbrev pub invariant-loop-bus : goal.invariant-loop-bus
 invariant-loop-bus g l =

@@ -1,8 +1,8 @@
 use Rattle.std.proofs.Common.{◌≡◌, ◌+◌, length}
 use Rattle.std.specs.Prelude.{vec_len, vec_capacity}
-use Rattle.workers.specs.Crews.{AreStartedScans}
-use Rattle.workers.specs.Teams.{AreWorkers}
-use Rattle.workers.proofs.crew.start_workers.Given as goal
+use Rattle.workers.specs.WorkerThreads.{AreStartedScans}
+use Rattle.workers.specs.LinkedShares.{AreWorkers}
+use Rattle.workers.proofs.worker_threads.start_workers.Given as goal
 
 abbrev pub invariant-loop-worker : goal.invariant-loop-worker
 invariant-loop-worker g l =

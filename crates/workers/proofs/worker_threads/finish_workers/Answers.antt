@@ -3,8 +3,8 @@ use Rattle.receipts.specs.Each.{Each}
 use Rattle.receipts.proofs.Eaching.{each_first, each_rest, each_push}
 use Rattle.turns.specs.Logs.{IsWorker}
 use Rattle.workers.specs.Started.{IsStartedScans}
-use Rattle.workers.specs.Teams.{AreWorkers}
-use Rattle.workers.proofs.crew.finish_workers.Goals as goal
+use Rattle.workers.specs.LinkedShares.{AreWorkers}
+use Rattle.workers.proofs.worker_threads.finish_workers.Goals as goal
 
 pub loop-worker-preserved : goal.loop-worker-preserved
 loop-worker-preserved g c =

@@ -1,8 +1,8 @@
 use Rattle.std.proofs.Common.{◌≡◌, ◌+◌, length}
 use Rattle.std.specs.Prelude.{vec_len, vec_capacity}
-use Rattle.workers.specs.Crews.{AreStartedBuses}
-use Rattle.workers.specs.Teams.{AreServed}
-use Rattle.workers.proofs.crew.start_buses.Given as goal
+use Rattle.workers.specs.WorkerThreads.{AreStartedBuses}
+use Rattle.workers.specs.LinkedShares.{AreServed}
+use Rattle.workers.proofs.worker_threads.start_buses.Given as goal
 
 abbrev pub invariant-loop-bus : goal.invariant-loop-bus
 invariant-loop-bus g l =

@@ -4,8 +4,8 @@ use Rattle.receipts.proofs.Eaching.{each_first, each_rest, each_push}
 use Rattle.driving.specs.Links.{log_of}
 use Rattle.turns.specs.Logs.{IsServed}
 use Rattle.workers.specs.Started.{IsStartedBus}
-use Rattle.workers.specs.Teams.{AreServed}
-use Rattle.workers.proofs.crew.finish_buses.Goals as goal
+use Rattle.workers.specs.LinkedShares.{AreServed}
+use Rattle.workers.proofs.worker_threads.finish_buses.Goals as goal
 
 pub loop-bus-preserved : goal.loop-bus-preserved
 loop-bus-preserved g c =

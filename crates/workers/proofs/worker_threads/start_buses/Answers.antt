@@ -1,11 +1,11 @@
 use Rattle.std.proofs.Common.{◌≡◌, ◌+◌, ◌<◌, ◌∙◌, length, arith, subst, sym}
 use Rattle.receipts.proofs.Eaching.{each_first, each_rest, each_push}
-use Rattle.workers.specs.Crews.{AreStartedBuses}
+use Rattle.workers.specs.WorkerThreads.{AreStartedBuses}
 use Rattle.driving.specs.Links.{log_of}
 use Rattle.turns.specs.Logs.{IsServed}
 use Rattle.workers.specs.Started.{IsStartedBus}
-use Rattle.workers.specs.Teams.{AreServed}
-use Rattle.workers.proofs.crew.start_buses.Goals as goal
+use Rattle.workers.specs.LinkedShares.{AreServed}
+use Rattle.workers.proofs.worker_threads.start_buses.Goals as goal
 
 pub start_bus-requires-clause-served : goal.start_bus-requires-clause-served
 start_bus-requires-clause-served g c κs within =
