@@ -26,18 +26,18 @@ use ilmachine::ScanResult;
 use limits::MOST_SEATS;
 use plant::{CallError, CallRefusal, Handed, Order, Plant};
 use receipts::{Basis, NotedPart, Share, Shares};
-use seats::{Seated, Tallies};
+use seats::{Tallies, Tally};
 use std::alloc::{AllocError, Global};
 use std::sync::{Mutex, OnceLock, OnceToken, Wait};
 use transact::Report;
 
 /// The lock round the plant.
-pub struct Shared<'a, J: Basis, T: Seated, K: Tallies<T>> {
+pub struct Shared<'a, J: Basis, T: Tally, K: Tallies<T>> {
     tied: Mutex<TiedPlant<'a, J, T, K>>,
 }
 
 /// Written out, so that it is proved here alone.
-impl<'a, J: Basis, T: Seated, K: Tallies<T>> Drop for Shared<'a, J, T, K> {
+impl<'a, J: Basis, T: Tally, K: Tallies<T>> Drop for Shared<'a, J, T, K> {
     fn drop(self) {
         let Self { tied: _ } = self;
     }
@@ -45,7 +45,7 @@ impl<'a, J: Basis, T: Seated, K: Tallies<T>> Drop for Shared<'a, J, T, K> {
 
 /// The plant after the lock was opened for good, and the Shares.
 #[derive(Drop)]
-pub struct Final<'a, J: Basis, T: Seated> {
+pub struct Final<'a, J: Basis, T: Tally> {
     pub plant: Plant,
     pub shares: Shares<'a, J, T>,
 }
@@ -63,7 +63,7 @@ fn no_tokens<'a>(alloc: Global) -> Result<Vec<Option<OnceToken<'a, NotedPart>>>,
 }
 
 /// What one of the Shares had and has is its part of the histories.
-fn meet_at<'a, J: Basis, T: Seated, K: Tallies<T>>(
+fn meet_at<'a, J: Basis, T: Tally, K: Tallies<T>>(
     tied: &mut TiedPlant<'a, J, T, K>,
     shares: &mut Vec<Share<'a, J, T>>,
     k: usize,
@@ -78,7 +78,7 @@ fn meet_at<'a, J: Basis, T: Seated, K: Tallies<T>>(
 }
 
 /// What each of the Shares had and has is its part of the histories.
-fn meet_all<'a, J: Basis, T: Seated, K: Tallies<T>>(
+fn meet_all<'a, J: Basis, T: Tally, K: Tallies<T>>(
     tied: &mut TiedPlant<'a, J, T, K>,
     shares: &mut Vec<Share<'a, J, T>>,
 )
@@ -91,11 +91,11 @@ fn meet_all<'a, J: Basis, T: Seated, K: Tallies<T>>(
     }
 }
 
-impl<'a, J: Basis, T: Seated, K: Tallies<T>> Shared<'a, J, T, K> {
+impl<'a, J: Basis, T: Tally, K: Tallies<T>> Shared<'a, J, T, K> {
     /// The plant under a lock, and the Share of each role. There is a cell for each event from now
     /// on, up to the plant's limit at least; whoever lends the cells makes them new, since a call
-    /// waits without end where its cell was written before. The books and the ties are those of all
-    /// seats, none with an amount.
+    /// waits without end where its cell was written before. The tallies of the lock and of the
+    /// threads are those of all seats, none with an amount.
     ///
     /// # Errors
     ///
@@ -104,26 +104,26 @@ impl<'a, J: Basis, T: Seated, K: Tallies<T>> Shared<'a, J, T, K> {
         alloc: Global,
         plant: Plant,
         cells: &'a [OnceLock<NotedPart>],
-        books: K,
-        ties: Vec<T>,
+        tallies: K,
+        thread_tallies: Vec<T>,
     ) -> Result<(Shared<'a, J, T, K>, Shares<'a, J, T>), Plant>
         requires start { plant ≡ J.start }
         requires cells { cells.now ≡ J.cells }
         requires enough { J.start.limit ≤ length J.start.history + length J.cells }
         requires workers { J.start.plant.workers ≤ most_workers }
         requires buses { J.start.plant.plan.buses ≤ most_buses }
-        requires unused { AreUnused T.seat T.amount 0 ties.items }
+        requires unused { AreUnused T.seat T.amount 0 thread_tallies.items }
         ensures fresh { IfOk result (λ made. AreFreshShares J.start made.1) }
         ensures err { IfErr result (λ back. back ≡ plant) }
     {
-        let mut books = books;
+        let mut tallies = tallies;
         let Ok(newest) = no_tokens(alloc) else {
             return Err(plant);
         };
-        let Ok(shares) = Shares::of(alloc, &plant, &mut books, ties) else {
+        let Ok(shares) = Shares::of(alloc, &plant, &mut tallies, thread_tallies) else {
             return Err(plant);
         };
-        let tied = TiedPlant::new(plant, cells, books, newest);
+        let tied = TiedPlant::new(plant, cells, tallies, newest);
         Ok((
             Shared {
                 tied: Mutex::new(tied),

@@ -13,14 +13,14 @@ use limits::{MOST_SEATS, MOST_WORKERS};
 use plant::Plant;
 use plantevents::{Event, Role};
 use receipts::{Basis, NotedPart, Share};
-use seats::{Seated, Tallies};
+use seats::{Tallies, Tally};
 use std::marker::PhantomData;
 use std::sync::{OnceLock, OnceToken, Wait};
 
 /// The row of cells, and of each role the number that its Share has too, and what shows its newest
 /// cell.
 #[derive(Drop)]
-pub(crate) struct Ties<'a, J: Basis, T: Seated, K: Tallies<T>> {
+pub(crate) struct Ties<'a, J: Basis, T: Tally, K: Tallies<T>> {
     pub cells: &'a [OnceLock<NotedPart>],
     pub numbers: K,
     pub newest: Vec<Option<OnceToken<'a, NotedPart>>>,
@@ -40,7 +40,7 @@ fn index_of(role: Role) -> usize
     }
 }
 
-impl<'a, J: Basis, T: Seated, K: Tallies<T>> Ties<'a, J, T, K> {
+impl<'a, J: Basis, T: Tally, K: Tallies<T>> Ties<'a, J, T, K> {
     /// What a Share has is its part of the history.
     pub(crate) fn meet(&mut self, share: &mut Share<'a, J, T>)
         requires tied { (p : Shown)

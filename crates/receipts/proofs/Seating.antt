@@ -1,4 +1,4 @@
--- The ties of the seats are taken one after another, and the numbers are those of the roles that have a seat.
+-- The tallies of the seats are taken one after another, and the numbers are those of the roles that have a seat.
 use Rattle.std.proofs.Common.{◌≡◌, ◌≢◌, ℕ, ◌+◌, ◌-◌, ◌<◌, ◌≤◌, Bool, List, [], ◌∷◌, ◌++◌, length, remove}
 use Rattle.std.proofs.Common.{◌∙◌, ⊎_elim, refl, sym, ap, subst, arith}
 use Rattle.std.proofs.lemmas.List.{length-append}
@@ -11,27 +11,28 @@ use Rattle.plantevents.proofs.Parting.{role_tells}
 use Rattle.ilplan.specs.Plans.{Planned}
 use Rattle.plant.specs.Shown.{Shown, is_reserved}
 use Rattle.receipts.specs.Receipts.{ShareParts, AreFresh, IsFresh, IsRole, index_of, seat_of, seat_at}
-use Rattle.receipts.specs.Seats.{AreCounted, AreUnused, IsNextTie}
+use Rattle.receipts.specs.Seats.{AreCounted, AreUnused, IsNextTally}
 use Rattle.receipts.specs.Tokens.{one_if}
 use Rattle.buslink.proofs.Eaching.{each_first, each_rest, each_push, each_none}
 use Rattle.receipts.proofs.Roles.{index_apart, seat_apart}
 
-length_remove : {T : Type 0} (ties : List T) → 0 < length ties → length (remove ties 0) + 1 ≡ length ties
+length_remove : {T : Type 0} (tallies : List T) → 0 < length tallies → length (remove tallies 0) + 1 ≡ length tallies
 length_remove [] some = absurd (omega arith)
 length_remove (x ∷ xs) some = omega arith
 
-pub next_unused : {T : Type 0} (seat : T → ℕ × ℕ) (amount : T → ℕ) (n : ℕ) (ties : List T) (tie : T) → n < most_seats
-    → AreUnused seat amount n ties → tie ≡ slice_index_or ties 0 tie → IsNextTie seat amount n tie (remove ties 0)
-next_unused {T = T} seat amount n ties tie low unused is =
+pub next_unused : {T : Type 0} (seat : T → ℕ × ℕ) (amount : T → ℕ) (n : ℕ) (tallies : List T) (tally : T)
+    → n < most_seats → AreUnused seat amount n tallies → tally ≡ slice_index_or tallies 0 tally
+    → IsNextTally seat amount n tally (remove tallies 0)
+next_unused {T = T} seat amount n tallies tally low unused is =
     let P : ℕ → T → Type 0 = λ k t. (seat t ≡ seat_at k) × (amount t ≡ 0) in
-    let some : 0 < length ties = omega (arith, unused.count) in
-    let first = each_first P n ties tie some unused.each is in
+    let some : 0 < length tallies = omega (arith, unused.count) in
+    let first = each_first P n tallies tally some unused.each is in
     record {
       seated = first.0;
       unused = first.1;
       rest = record {
-        count = let e = length_remove ties some in omega (arith, unused.count, e);
-        each = each_rest P n ties unused.each;
+        count = let e = length_remove tallies some in omega (arith, unused.count, e);
+        each = each_rest P n tallies unused.each;
       };
     }
 

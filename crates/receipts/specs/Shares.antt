@@ -7,7 +7,7 @@ use Rattle.receipts.specs.declared.receipt.NotedPart.{NotedPart}
 use Rattle.receipts.specs.Receipts.{ShareParts, IsRole, seat_of, reach_of}
 use Rattle.receipts.specs.Tokens.{Says}
 
--- its cells begin after the history at the start; its tie is that of its role; and the tie and the token say which
+-- its cells begin after the history at the start; its tally is that of its role; and the tally and the token say which
 -- receipts it has, and how far they reach
 pub record IsShare (start : Shown) (cells : List Named) (base reach : ℕ) (seat : ℕ × ℕ) (amount : ℕ)
     (newest : Option (OnceToken NotedPart)) (s : ShareParts) : Type 0 where

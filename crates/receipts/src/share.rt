@@ -12,12 +12,12 @@ use crate::basis::Basis;
 use crate::receipt::{NotedPart, Receipt};
 use memo::Trace;
 use plantevents::{Event, Role};
-use seats::{Seated, Tallies};
+use seats::{Tallies, Tally};
 use std::marker::{Model, PhantomData};
 use std::sync::{OnceLock, OnceToken, Wait};
 
 /// The part of one role: its receipts, and what ties them to the plant under the lock.
-pub struct Share<'a, J: Basis, T: Seated> {
+pub struct Share<'a, J: Basis, T: Tally> {
     role: Role,
     /// For contracts alone.
     receipts: Trace<Receipt>,
@@ -27,13 +27,13 @@ pub struct Share<'a, J: Basis, T: Seated> {
     base: u64,
     /// One more than the place of the newest receipt; 0 where there is none.
     reach: u64,
-    tie: T,
+    tally: T,
     newest: Option<OnceToken<'a, NotedPart>>,
     basis: PhantomData<J>,
 }
 
 /// Written out, so that it is proved here alone.
-impl<'a, J: Basis, T: Seated> Drop for Share<'a, J, T> {
+impl<'a, J: Basis, T: Tally> Drop for Share<'a, J, T> {
     fn drop(self) {
         let Self {
             role: _,
@@ -41,14 +41,14 @@ impl<'a, J: Basis, T: Seated> Drop for Share<'a, J, T> {
             reserved: _,
             base: _,
             reach: _,
-            tie: _,
+            tally: _,
             newest: _,
             basis: _,
         } = self;
     }
 }
 
-impl<'a, J: Basis, T: Seated> Model for Share<'a, J, T> {
+impl<'a, J: Basis, T: Tally> Model for Share<'a, J, T> {
     ghost use Rattle.plantevents.specs.Parts.{part};
     ghost use Rattle.receipts.specs.Receipts.{ShareParts};
     ghost use Rattle.receipts.specs.Shares.{IsShare};
@@ -63,7 +63,8 @@ impl<'a, J: Basis, T: Seated> Model for Share<'a, J, T> {
     } };
 
     ghost invariant = { λ s.
-        IsShare J.start J.cells s.base s.reach (T.seat s.tie) (T.amount s.tie) s.newest (record {
+        IsShare J.start J.cells s.base s.reach (T.seat s.tally) (T.amount s.tally) s.newest
+        (record {
           role = s.role;
           receipts = s.receipts.items;
           before = part s.role J.start.history;
@@ -117,12 +118,12 @@ fn one_if(reserved: bool) -> u64
     if reserved { 1 } else { 0 }
 }
 
-impl<'a, J: Basis, T: Seated> Share<'a, J, T> {
+impl<'a, J: Basis, T: Tally> Share<'a, J, T> {
     /// The Share of a role, which has no receipt yet. So many events there were at the start.
-    pub(crate) fn new(base: u64, role: Role, reserved: bool, tie: T) -> Share<'a, J, T>
+    pub(crate) fn new(base: u64, role: Role, reserved: bool, tally: T) -> Share<'a, J, T>
         requires base { base ≡ length J.start.history }
         requires known { IsRole J.start.plant role }
-        requires tie { (T.seat tie ≡ seat_of role) × (T.amount tie ≡ one_if reserved) }
+        requires tally { (T.seat tally ≡ seat_of role) × (T.amount tally ≡ one_if reserved) }
         requires reserved { reserved ≡ is_reserved role J.start }
         ensures fresh { IsFresh J.start role result }
     {
@@ -132,7 +133,7 @@ impl<'a, J: Basis, T: Seated> Share<'a, J, T> {
             reserved,
             base,
             reach: 0,
-            tie,
+            tally,
             newest: None,
             basis: PhantomData,
         }
@@ -169,7 +170,7 @@ impl<'a, J: Basis, T: Seated> Share<'a, J, T> {
             receipts → (self.old.receipts ≡ receipts) × (self.old.reserved ≡ reserved) }
         ensures same { (numbers.new ≡ numbers.old) × (self.new ≡ self.old) }
     {
-        numbers.audit(&mut self.tie);
+        numbers.audit(&mut self.tally);
         if let Some(theirs) = newest {
             if let Some(mine) = &self.newest {
                 theirs.agrees(mine);
@@ -186,7 +187,7 @@ impl<'a, J: Basis, T: Seated> Share<'a, J, T> {
             → K.number numbers.new k ≡ K.number numbers.old k }
     {
         if !self.reserved {
-            numbers.add(&mut self.tie, 1);
+            numbers.add(&mut self.tally, 1);
             self.reserved = true;
         }
     }
@@ -213,12 +214,12 @@ impl<'a, J: Basis, T: Seated> Share<'a, J, T> {
         ensures others { (k : ℕ × ℕ) → k ≢ seat_of self.old.role
             → K.number numbers.new k ≡ K.number numbers.old k }
     {
-        numbers.audit(&mut self.tie);
+        numbers.audit(&mut self.tally);
         let was = 2 * self.reach + one_if(self.reserved);
         self.reserved = reserved_after(&event, self.reserved);
         self.reach = index + 1;
         let is = 2 * self.reach + one_if(self.reserved);
-        numbers.add(&mut self.tie, is - was);
+        numbers.add(&mut self.tally, is - was);
         self.receipts.push(&Receipt::of(index, event));
         let cell = cell_of(cells, self.base, index);
         let token = write(rt, cell, NotedPart::of(&self.receipts));

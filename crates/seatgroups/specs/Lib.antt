@@ -1,3 +1,3 @@
 pub mod Groups
 pub mod Openings
-pub mod GroupTies
+pub mod GroupThreadTallies

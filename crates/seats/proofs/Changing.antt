@@ -1,8 +1,8 @@
--- What the books are where a number is written anew.
+-- What the lock's tallies are where a number is written anew.
 use Rattle.std.proofs.Common.{◌≡◌, ◌∙◌, ℕ, List, [], ap}
 use Rattle.std.proofs.lemmas.List.{set-get_or}
 use Rattle.std.specs.Prelude.{slice_index_or, slice_set}
-use Rattle.seats.specs.Families.{number}
+use Rattle.seats.specs.SeatTallies.{number}
 
 -- the number that is there changes nothing
 pub kept : (rows after : List (List ℕ)) (seat : ℕ × ℕ) (is : ℕ) → is ≡ number rows seat

@@ -1,2 +1,2 @@
-pub mod Families
+pub mod SeatTallies
 pub mod Openings

@@ -1,34 +1,34 @@
-//! Opening: all books without amounts, and the tie of each seat.
+//! Opening: the lock's tallies without amounts, and the thread's tally of each seat.
 
 ghost use Rattle.std.specs.Prelude.{◌≡◌, ℕ, ◌+◌, ◌≤◌, [], ◌∷◌, ◌++◌, IfOk, map};
 ghost use Rattle.std.specs.Prelude.{slice_index_or, vec_capacity, vec_len};
 ghost use Rattle.std.specs.List.{range_with_len};
 ghost use Rattle.limits.specs.Limits.{most_seats};
 ghost use Rattle.seatgroups.specs.Openings.{no_amounts};
-ghost use Rattle.seats.specs.Families.{Seating, number, seating_of};
+ghost use Rattle.seats.specs.SeatTallies.{SeatAmount, number, seat_amount_of};
 ghost use Rattle.seats.specs.Openings.{fresh, fresh_group};
 
-use crate::family::{Books, Half, Tie};
+use crate::all_groups::{LockTallies, TallyByGroup, ThreadTally};
 use limits::MOST_SEATS;
-use seatgroups::{GroupBlanks, GroupBooks, GroupTie, GroupTies, Names};
+use seatgroups::{GroupLockTallies, GroupThreadTallies, GroupThreadTally, Names, NewGroupTallies};
 use std::alloc::{AllocError, Global};
 use std::marker::Model;
 
 /// A new ledger for each seat. Contracts see their names, by groups of nine.
-pub struct Blanks {
-    g0: GroupBlanks,
-    g1: GroupBlanks,
-    g2: GroupBlanks,
-    g3: GroupBlanks,
-    g4: GroupBlanks,
-    g5: GroupBlanks,
-    g6: GroupBlanks,
-    g7: GroupBlanks,
-    g8: GroupBlanks,
+pub struct NewTallies {
+    g0: NewGroupTallies,
+    g1: NewGroupTallies,
+    g2: NewGroupTallies,
+    g3: NewGroupTallies,
+    g4: NewGroupTallies,
+    g5: NewGroupTallies,
+    g6: NewGroupTallies,
+    g7: NewGroupTallies,
+    g8: NewGroupTallies,
 }
 
 /// Written out, so that it is proved here alone.
-impl Drop for Blanks {
+impl Drop for NewTallies {
     fn drop(self) {
         let Self {
             g0: _,
@@ -44,7 +44,7 @@ impl Drop for Blanks {
     }
 }
 
-impl Model for Blanks {
+impl Model for NewTallies {
     ghost use Rattle.std.specs.Prelude.{List, ℕ, [], ◌∷◌};
 
     ghost Value = { List (List ℕ) };
@@ -52,131 +52,134 @@ impl Model for Blanks {
     ghost view = { λ b. b.g0 ∷ b.g1 ∷ b.g2 ∷ b.g3 ∷ b.g4 ∷ b.g5 ∷ b.g6 ∷ b.g7 ∷ b.g8 ∷ [] };
 }
 
-/// The form that `Half` has for a group, so that what is done for one group stands once.
+/// The form that `TallyByGroup` has for a group, so that what is done for one group stands once.
 trait OfGroup<N: Names, X> {
-    ghost seating: { X → Seating };
+    ghost seat_amount: { X → SeatAmount };
 
-    /// The tie, as one of this group.
-    fn half(tie: X) -> Half<N>
-        ensures { seating_of result ≡ seating tie };
+    /// The tally, as one of this group.
+    fn by_group(tally: X) -> TallyByGroup<N>
+        ensures { seat_amount_of result ≡ seat_amount tally };
 }
 
-impl<N: Names> OfGroup<N, GroupTie<N, 0>> for Half<N> {
-    ghost seating = { λ t. record { seat = (0, t.0); amount = t.1 } };
+impl<N: Names> OfGroup<N, GroupThreadTally<N, 0>> for TallyByGroup<N> {
+    ghost seat_amount = { λ t. record { seat = (0, t.0); amount = t.1 } };
 
-    fn half(tie: GroupTie<N, 0>) -> Half<N>
-        ensures { seating_of result ≡ record { seat = (0, tie.0); amount = tie.1 } }
+    fn by_group(tally: GroupThreadTally<N, 0>) -> TallyByGroup<N>
+        ensures { seat_amount_of result ≡ record { seat = (0, tally.0); amount = tally.1 } }
     {
-        Half::G0(tie)
+        TallyByGroup::G0(tally)
     }
 }
 
-impl<N: Names> OfGroup<N, GroupTie<N, 1>> for Half<N> {
-    ghost seating = { λ t. record { seat = (1, t.0); amount = t.1 } };
+impl<N: Names> OfGroup<N, GroupThreadTally<N, 1>> for TallyByGroup<N> {
+    ghost seat_amount = { λ t. record { seat = (1, t.0); amount = t.1 } };
 
-    fn half(tie: GroupTie<N, 1>) -> Half<N>
-        ensures { seating_of result ≡ record { seat = (1, tie.0); amount = tie.1 } }
+    fn by_group(tally: GroupThreadTally<N, 1>) -> TallyByGroup<N>
+        ensures { seat_amount_of result ≡ record { seat = (1, tally.0); amount = tally.1 } }
     {
-        Half::G1(tie)
+        TallyByGroup::G1(tally)
     }
 }
 
-impl<N: Names> OfGroup<N, GroupTie<N, 2>> for Half<N> {
-    ghost seating = { λ t. record { seat = (2, t.0); amount = t.1 } };
+impl<N: Names> OfGroup<N, GroupThreadTally<N, 2>> for TallyByGroup<N> {
+    ghost seat_amount = { λ t. record { seat = (2, t.0); amount = t.1 } };
 
-    fn half(tie: GroupTie<N, 2>) -> Half<N>
-        ensures { seating_of result ≡ record { seat = (2, tie.0); amount = tie.1 } }
+    fn by_group(tally: GroupThreadTally<N, 2>) -> TallyByGroup<N>
+        ensures { seat_amount_of result ≡ record { seat = (2, tally.0); amount = tally.1 } }
     {
-        Half::G2(tie)
+        TallyByGroup::G2(tally)
     }
 }
 
-impl<N: Names> OfGroup<N, GroupTie<N, 3>> for Half<N> {
-    ghost seating = { λ t. record { seat = (3, t.0); amount = t.1 } };
+impl<N: Names> OfGroup<N, GroupThreadTally<N, 3>> for TallyByGroup<N> {
+    ghost seat_amount = { λ t. record { seat = (3, t.0); amount = t.1 } };
 
-    fn half(tie: GroupTie<N, 3>) -> Half<N>
-        ensures { seating_of result ≡ record { seat = (3, tie.0); amount = tie.1 } }
+    fn by_group(tally: GroupThreadTally<N, 3>) -> TallyByGroup<N>
+        ensures { seat_amount_of result ≡ record { seat = (3, tally.0); amount = tally.1 } }
     {
-        Half::G3(tie)
+        TallyByGroup::G3(tally)
     }
 }
 
-impl<N: Names> OfGroup<N, GroupTie<N, 4>> for Half<N> {
-    ghost seating = { λ t. record { seat = (4, t.0); amount = t.1 } };
+impl<N: Names> OfGroup<N, GroupThreadTally<N, 4>> for TallyByGroup<N> {
+    ghost seat_amount = { λ t. record { seat = (4, t.0); amount = t.1 } };
 
-    fn half(tie: GroupTie<N, 4>) -> Half<N>
-        ensures { seating_of result ≡ record { seat = (4, tie.0); amount = tie.1 } }
+    fn by_group(tally: GroupThreadTally<N, 4>) -> TallyByGroup<N>
+        ensures { seat_amount_of result ≡ record { seat = (4, tally.0); amount = tally.1 } }
     {
-        Half::G4(tie)
+        TallyByGroup::G4(tally)
     }
 }
 
-impl<N: Names> OfGroup<N, GroupTie<N, 5>> for Half<N> {
-    ghost seating = { λ t. record { seat = (5, t.0); amount = t.1 } };
+impl<N: Names> OfGroup<N, GroupThreadTally<N, 5>> for TallyByGroup<N> {
+    ghost seat_amount = { λ t. record { seat = (5, t.0); amount = t.1 } };
 
-    fn half(tie: GroupTie<N, 5>) -> Half<N>
-        ensures { seating_of result ≡ record { seat = (5, tie.0); amount = tie.1 } }
+    fn by_group(tally: GroupThreadTally<N, 5>) -> TallyByGroup<N>
+        ensures { seat_amount_of result ≡ record { seat = (5, tally.0); amount = tally.1 } }
     {
-        Half::G5(tie)
+        TallyByGroup::G5(tally)
     }
 }
 
-impl<N: Names> OfGroup<N, GroupTie<N, 6>> for Half<N> {
-    ghost seating = { λ t. record { seat = (6, t.0); amount = t.1 } };
+impl<N: Names> OfGroup<N, GroupThreadTally<N, 6>> for TallyByGroup<N> {
+    ghost seat_amount = { λ t. record { seat = (6, t.0); amount = t.1 } };
 
-    fn half(tie: GroupTie<N, 6>) -> Half<N>
-        ensures { seating_of result ≡ record { seat = (6, tie.0); amount = tie.1 } }
+    fn by_group(tally: GroupThreadTally<N, 6>) -> TallyByGroup<N>
+        ensures { seat_amount_of result ≡ record { seat = (6, tally.0); amount = tally.1 } }
     {
-        Half::G6(tie)
+        TallyByGroup::G6(tally)
     }
 }
 
-impl<N: Names> OfGroup<N, GroupTie<N, 7>> for Half<N> {
-    ghost seating = { λ t. record { seat = (7, t.0); amount = t.1 } };
+impl<N: Names> OfGroup<N, GroupThreadTally<N, 7>> for TallyByGroup<N> {
+    ghost seat_amount = { λ t. record { seat = (7, t.0); amount = t.1 } };
 
-    fn half(tie: GroupTie<N, 7>) -> Half<N>
-        ensures { seating_of result ≡ record { seat = (7, tie.0); amount = tie.1 } }
+    fn by_group(tally: GroupThreadTally<N, 7>) -> TallyByGroup<N>
+        ensures { seat_amount_of result ≡ record { seat = (7, tally.0); amount = tally.1 } }
     {
-        Half::G7(tie)
+        TallyByGroup::G7(tally)
     }
 }
 
-impl<N: Names> OfGroup<N, GroupTie<N, 8>> for Half<N> {
-    ghost seating = { λ t. record { seat = (8, t.0); amount = t.1 } };
+impl<N: Names> OfGroup<N, GroupThreadTally<N, 8>> for TallyByGroup<N> {
+    ghost seat_amount = { λ t. record { seat = (8, t.0); amount = t.1 } };
 
-    fn half(tie: GroupTie<N, 8>) -> Half<N>
-        ensures { seating_of result ≡ record { seat = (8, tie.0); amount = tie.1 } }
+    fn by_group(tally: GroupThreadTally<N, 8>) -> TallyByGroup<N>
+        ensures { seat_amount_of result ≡ record { seat = (8, tally.0); amount = tally.1 } }
     {
-        Half::G8(tie)
+        TallyByGroup::G8(tally)
     }
 }
 
-/// Puts the tie of a seat after those that are there.
-fn put<N: Names, X, H: OfGroup<N, X>>(ties: &mut Vec<Tie<N>>, tie: X)
-    requires { vec_len ties.old + 1 ≤ vec_capacity ties.old }
-    ensures ties { ties.new.items ≡ ties.old.items ++ H.seating tie ∷ [] }
-    ensures len { vec_len ties.new ≡ vec_len ties.old + 1 }
-    ensures capacity { vec_capacity ties.new ≡ vec_capacity ties.old }
+/// Puts the tally of a seat after those that are there.
+fn put<N: Names, X, H: OfGroup<N, X>>(thread_tallies: &mut Vec<ThreadTally<N>>, tally: X)
+    requires { vec_len thread_tallies.old + 1 ≤ vec_capacity thread_tallies.old }
+    ensures thread_tallies { thread_tallies.new.items
+        ≡ thread_tallies.old.items ++ H.seat_amount tally ∷ [] }
+    ensures len { vec_len thread_tallies.new ≡ vec_len thread_tallies.old + 1 }
+    ensures capacity { vec_capacity thread_tallies.new ≡ vec_capacity thread_tallies.old }
 {
-    ties.push_reserved(Tie { half: H::half(tie) });
+    thread_tallies.push_reserved(ThreadTally {
+        by_group: H::by_group(tally),
+    });
 }
 
 /// Opens a group.
-fn open_group<N: Names, const G: usize, H: OfGroup<N, GroupTie<N, G>>>(
-    blanks: GroupBlanks,
-    ties: &mut Vec<Tie<N>>,
-) -> GroupBooks<N, G>
-    requires names { blanks ≡ slice_index_or N.names G [] }
-    requires room { vec_len ties.old + 9 ≤ vec_capacity ties.old }
-    requires seats { (t : ℕ × ℕ) → H.seating t ≡ record { seat = (G, t.0); amount = t.1 } }
-    ensures books { result ≡ no_amounts }
-    ensures ties { ties.new.items ≡ ties.old.items ++ fresh_group G }
-    ensures len { vec_len ties.new ≡ vec_len ties.old + 9 }
-    ensures capacity { vec_capacity ties.new ≡ vec_capacity ties.old }
+fn open_group<N: Names, const G: usize, H: OfGroup<N, GroupThreadTally<N, G>>>(
+    new_tallies: NewGroupTallies,
+    thread_tallies: &mut Vec<ThreadTally<N>>,
+) -> GroupLockTallies<N, G>
+    requires names { new_tallies ≡ slice_index_or N.names G [] }
+    requires room { vec_len thread_tallies.old + 9 ≤ vec_capacity thread_tallies.old }
+    requires seats { (t : ℕ × ℕ) → H.seat_amount t ≡ record { seat = (G, t.0); amount = t.1 } }
+    ensures tallies { result ≡ no_amounts }
+    ensures thread_tallies { thread_tallies.new.items ≡ thread_tallies.old.items ++ fresh_group G }
+    ensures len { vec_len thread_tallies.new ≡ vec_len thread_tallies.old + 9 }
+    ensures capacity { vec_capacity thread_tallies.new ≡ vec_capacity thread_tallies.old }
 {
     let (
-        books,
-        GroupTies {
+        tallies,
+        GroupThreadTallies {
             t0,
             t1,
             t2,
@@ -187,44 +190,49 @@ fn open_group<N: Names, const G: usize, H: OfGroup<N, GroupTie<N, G>>>(
             t7,
             t8,
         },
-    ) = blanks.open::<N, G>();
-    put::<N, GroupTie<N, G>, H>(ties, t0);
-    put::<N, GroupTie<N, G>, H>(ties, t1);
-    put::<N, GroupTie<N, G>, H>(ties, t2);
-    put::<N, GroupTie<N, G>, H>(ties, t3);
-    put::<N, GroupTie<N, G>, H>(ties, t4);
-    put::<N, GroupTie<N, G>, H>(ties, t5);
-    put::<N, GroupTie<N, G>, H>(ties, t6);
-    put::<N, GroupTie<N, G>, H>(ties, t7);
-    put::<N, GroupTie<N, G>, H>(ties, t8);
-    books
+    ) = new_tallies.open::<N, G>();
+    put::<N, GroupThreadTally<N, G>, H>(thread_tallies, t0);
+    put::<N, GroupThreadTally<N, G>, H>(thread_tallies, t1);
+    put::<N, GroupThreadTally<N, G>, H>(thread_tallies, t2);
+    put::<N, GroupThreadTally<N, G>, H>(thread_tallies, t3);
+    put::<N, GroupThreadTally<N, G>, H>(thread_tallies, t4);
+    put::<N, GroupThreadTally<N, G>, H>(thread_tallies, t5);
+    put::<N, GroupThreadTally<N, G>, H>(thread_tallies, t6);
+    put::<N, GroupThreadTally<N, G>, H>(thread_tallies, t7);
+    put::<N, GroupThreadTally<N, G>, H>(thread_tallies, t8);
+    tallies
 }
 
-impl Blanks {
+impl NewTallies {
     /// New ledgers for all seats.
-    pub fn new() -> Blanks {
-        Blanks {
-            g0: GroupBlanks::new(),
-            g1: GroupBlanks::new(),
-            g2: GroupBlanks::new(),
-            g3: GroupBlanks::new(),
-            g4: GroupBlanks::new(),
-            g5: GroupBlanks::new(),
-            g6: GroupBlanks::new(),
-            g7: GroupBlanks::new(),
-            g8: GroupBlanks::new(),
+    pub fn new() -> NewTallies {
+        NewTallies {
+            g0: NewGroupTallies::new(),
+            g1: NewGroupTallies::new(),
+            g2: NewGroupTallies::new(),
+            g3: NewGroupTallies::new(),
+            g4: NewGroupTallies::new(),
+            g5: NewGroupTallies::new(),
+            g6: NewGroupTallies::new(),
+            g7: NewGroupTallies::new(),
+            g8: NewGroupTallies::new(),
         }
     }
 
-    /// Opens them: the books have no amount at any seat, and there is the tie of each seat in turn.
-    pub fn open<N: Names>(self, alloc: Global) -> Result<(Books<N>, Vec<Tie<N>>), AllocError>
+    /// Opens them: the lock has no amount at any seat, and there is the thread's tally of each seat
+    /// in turn.
+    pub fn open<N: Names>(
+        self,
+        alloc: Global,
+    ) -> Result<(LockTallies<N>, Vec<ThreadTally<N>>), AllocError>
         requires { self ≡ N.names }
-        ensures books { IfOk result (λ r. (seat : ℕ × ℕ) → number r.0 seat ≡ 0) }
-        ensures ties { IfOk result (λ r. r.1.items ≡ map fresh (range_with_len 0 most_seats)) }
+        ensures tallies { IfOk result (λ r. (seat : ℕ × ℕ) → number r.0 seat ≡ 0) }
+        ensures thread_tallies { IfOk result
+            (λ r. r.1.items ≡ map fresh (range_with_len 0 most_seats)) }
     {
-        let mut ties = Vec::new(alloc);
-        ties.reserve(MOST_SEATS)?;
-        let Blanks {
+        let mut thread_tallies = Vec::new(alloc);
+        thread_tallies.reserve(MOST_SEATS)?;
+        let NewTallies {
             g0,
             g1,
             g2,
@@ -235,17 +243,17 @@ impl Blanks {
             g7,
             g8,
         } = self;
-        let books = Books {
-            g0: open_group::<N, 0, Half<N>>(g0, &mut ties),
-            g1: open_group::<N, 1, Half<N>>(g1, &mut ties),
-            g2: open_group::<N, 2, Half<N>>(g2, &mut ties),
-            g3: open_group::<N, 3, Half<N>>(g3, &mut ties),
-            g4: open_group::<N, 4, Half<N>>(g4, &mut ties),
-            g5: open_group::<N, 5, Half<N>>(g5, &mut ties),
-            g6: open_group::<N, 6, Half<N>>(g6, &mut ties),
-            g7: open_group::<N, 7, Half<N>>(g7, &mut ties),
-            g8: open_group::<N, 8, Half<N>>(g8, &mut ties),
+        let tallies = LockTallies {
+            g0: open_group::<N, 0, TallyByGroup<N>>(g0, &mut thread_tallies),
+            g1: open_group::<N, 1, TallyByGroup<N>>(g1, &mut thread_tallies),
+            g2: open_group::<N, 2, TallyByGroup<N>>(g2, &mut thread_tallies),
+            g3: open_group::<N, 3, TallyByGroup<N>>(g3, &mut thread_tallies),
+            g4: open_group::<N, 4, TallyByGroup<N>>(g4, &mut thread_tallies),
+            g5: open_group::<N, 5, TallyByGroup<N>>(g5, &mut thread_tallies),
+            g6: open_group::<N, 6, TallyByGroup<N>>(g6, &mut thread_tallies),
+            g7: open_group::<N, 7, TallyByGroup<N>>(g7, &mut thread_tallies),
+            g8: open_group::<N, 8, TallyByGroup<N>>(g8, &mut thread_tallies),
         };
-        Ok((books, ties))
+        Ok((tallies, thread_tallies))
     }
 }

@@ -7,12 +7,12 @@ use crate::links::Links;
 use buslink::Clock;
 use driving::{Halt, Observer};
 use plantlock::{Basis, Share, Shared};
-use seats::{Seated, Tallies};
+use seats::{Tallies, Tally};
 use std::sync::Wait;
 
 /// The clock with its Share.
 #[derive(Drop)]
-pub struct Timed<'a, C: Clock, J: Basis, T: Seated> {
+pub struct Timed<'a, C: Clock, J: Basis, T: Tally> {
     pub clock: C,
     pub share: Share<'a, J, T>,
 }
@@ -30,7 +30,7 @@ pub fn tick_once<
     B,
     C: Clock,
     J: Basis + Links,
-    T: Seated,
+    T: Tally,
     K: Tallies<T>,
     O: Observer<B>,
     R: Wait,

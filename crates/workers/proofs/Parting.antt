@@ -19,7 +19,7 @@ use Rattle.plant.specs.Shown.{Shown}
 use Rattle.receipts.specs.Each.{Each}
 use Rattle.receipts.specs.Receipts.{ShareParts, AreFresh, IsFresh, seat_at, whole}
 use Rattle.receipts.specs.Seats.{AreUnused}
-use Rattle.seats.specs.Families.{Seating}
+use Rattle.seats.specs.SeatTallies.{SeatAmount}
 use Rattle.seats.specs.Openings.{fresh}
 use Rattle.driving.specs.Links.{IsNoLess, log_of, more_failures, no_frame}
 use Rattle.turns.specs.Logs.{IsServed, IsTimed, IsWorker}
@@ -149,21 +149,24 @@ in_step_at_first start bus_log clock_log lines clock empty =
       asks = omega arith;
     }
 
--- the ties of new ledgers: one for each seat, in their order, without an amount
-unused_from : (a n : ℕ) → Each (λ k (t : Seating). (t.seat ≡ seat_at k) × (t.amount ≡ 0)) a (map fresh (range_with_len a n))
+-- the threads' tallies of new ledgers: one for each seat, in their order, without an amount
+unused_from : (a n : ℕ) → Each (λ k (t : SeatAmount). (t.seat ≡ seat_at k) × (t.amount ≡ 0)) a
+    (map fresh (range_with_len a n))
 unused_from a zero k t at = absurd (cc)
 unused_from a (suc n) zero t at =
     let same : fresh a ≡ t = cc in
     let here : a ≡ a + 0 = omega arith in
-    subst (λ (x : Seating). (x.seat ≡ seat_at (a + 0)) × (x.amount ≡ 0)) same (ap seat_at here, refl)
+    subst (λ (x : SeatAmount). (x.seat ≡ seat_at (a + 0)) × (x.amount ≡ 0)) same (ap seat_at here, refl)
 unused_from a (suc n) (suc k) t at =
     let there : a + 1 + k ≡ a + suc k = omega arith in
     subst (λ m. (t.seat ≡ seat_at m) × (t.amount ≡ 0)) there (unused_from (a + 1) n k t at)
 
-pub all_unused : (ties : List Seating) → ties ≡ map fresh (range_with_len 0 most_seats)
-    → AreUnused (λ (t : Seating). t.seat) (λ (t : Seating). t.amount) 0 ties
-all_unused ties is = record {
+pub all_unused : (tallies : List SeatAmount) → tallies ≡ map fresh (range_with_len 0 most_seats)
+    → AreUnused (λ (t : SeatAmount). t.seat) (λ (t : SeatAmount). t.amount) 0 tallies
+all_unused tallies is = record {
   count = let long = ap length is in omega (arith, long);
-  each = subst (λ (xs : List Seating). Each (λ k (t : Seating). (t.seat ≡ seat_at k) × (t.amount ≡ 0)) 0 xs) (sym is)
+  each =
+      subst (λ (xs : List SeatAmount). Each (λ k (t : SeatAmount). (t.seat ≡ seat_at k) × (t.amount ≡ 0)) 0 xs)
+      (sym is)
       (unused_from 0 most_seats);
 }

@@ -17,7 +17,7 @@ use buslink::{Bus, Clock};
 use plant::Plant;
 use plantevents::{what_a_part_shows, what_a_part_shows_of_links};
 use plantlock::{Basis, NotedPart, Shared, Shares};
-use seats::{Blanks, Books, Names, Tie};
+use seats::{LockTallies, Names, NewTallies, ThreadTally};
 use std::alloc::{AllocError, Global};
 use std::sync::OnceLock;
 use turns::{Links, Served, Timed};
@@ -25,10 +25,10 @@ use turns::{Links, Served, Timed};
 /// What a run begins with.
 #[derive(Drop)]
 pub(crate) struct RunParts<'a, B: Bus, C: Clock, J: Basis + Links, N: Names> {
-    pub shared: Shared<'a, J, Tie<N>, Books<N>>,
-    pub linked: LinkedShares<'a, B, C, J, Tie<N>>,
-    pub bus_lists: BusLists<'a, B, J, Tie<N>>,
-    pub thread_lists: ThreadLists<'a, B, J, Tie<N>>,
+    pub shared: Shared<'a, J, ThreadTally<N>, LockTallies<N>>,
+    pub linked: LinkedShares<'a, B, C, J, ThreadTally<N>>,
+    pub bus_lists: BusLists<'a, B, J, ThreadTally<N>>,
+    pub thread_lists: ThreadLists<'a, B, J, ThreadTally<N>>,
 }
 
 /// What didn't begin, as it was.
@@ -52,34 +52,35 @@ fn room_for<X: Drop>(alloc: Global, count: usize) -> Result<Vec<X>, AllocError>
 /// threads.
 #[derive(Drop)]
 struct Allocations<'a, B: Bus, J: Basis + Links, N: Names> {
-    thread_lists: ThreadLists<'a, B, J, Tie<N>>,
-    served: Vec<Served<'a, B, J, Tie<N>>>,
-    books: Books<N>,
-    ties: Vec<Tie<N>>,
+    thread_lists: ThreadLists<'a, B, J, ThreadTally<N>>,
+    served: Vec<Served<'a, B, J, ThreadTally<N>>>,
+    tallies: LockTallies<N>,
+    thread_tallies: Vec<ThreadTally<N>>,
 }
 
 /// Makes what is made before the lock, for so many buses and scan workers.
 fn allocate<'a, B: Bus, J: Basis + Links, N: Names>(
     alloc: Global,
-    blanks: Blanks,
+    new_tallies: NewTallies,
     buses: usize,
     workers: usize,
 ) -> Result<Allocations<'a, B, J, N>, AllocError>
-    requires names { blanks ≡ N.names }
+    requires names { new_tallies ≡ N.names }
     ensures thread_lists { IfOk result (λ made. HasThreadRoom buses workers made.thread_lists) }
     ensures served { IfOk result
         (λ made. (made.served.items ≡ []) × (buses ≤ vec_capacity made.served)) }
-    ensures ties { IfOk result (λ made. made.ties.items ≡ map fresh (range_with_len 0 most_seats)) }
+    ensures thread_tallies { IfOk result
+        (λ made. made.thread_tallies.items ≡ map fresh (range_with_len 0 most_seats)) }
 {
-    // (first, so that nothing but the call lets go of the blanks)
-    let (books, ties) = blanks.open::<N>(alloc)?;
+    // (first, so that nothing but the call lets go of the new tallies)
+    let (tallies, thread_tallies) = new_tallies.open::<N>(alloc)?;
     let thread_lists = ThreadLists::new(alloc, buses, workers)?;
     let served = room_for(alloc, buses)?;
     Ok(Allocations {
         thread_lists,
         served,
-        books,
-        ties,
+        tallies,
+        thread_tallies,
     })
 }
 
@@ -93,7 +94,7 @@ pub(crate) fn begin<'a, B: Bus, C: Clock, J: Basis + Links, N: Names>(
     alloc: Global,
     plant: Plant,
     cells: &'a [OnceLock<NotedPart>],
-    blanks: Blanks,
+    new_tallies: NewTallies,
     lines: Vec<B>,
     clock: C,
 ) -> Result<RunParts<'a, B, C, J, N>, NotBegun<B, C>>
@@ -101,7 +102,7 @@ pub(crate) fn begin<'a, B: Bus, C: Clock, J: Basis + Links, N: Names>(
     requires idle { HasNothingOpen J.start }
     requires cells { (cells.now ≡ J.cells)
         × (J.start.limit ≤ length J.start.history + length J.cells) }
-    requires names { blanks ≡ N.names }
+    requires names { new_tallies ≡ N.names }
     requires links { IsInStep J.start J.buses J.clock B.log C.log lines.items clock }
     requires workers { IsWorkerCount J.start.plant.workers }
     requires buses { (vec_len lines ≡ J.start.plant.plan.buses) × (vec_len lines ≤ most_buses) }
@@ -112,7 +113,7 @@ pub(crate) fn begin<'a, B: Bus, C: Clock, J: Basis + Links, N: Names>(
     what_a_part_shows_of_links();
     let mut lines = lines;
     let count = lines.len();
-    let Ok(made) = allocate::<B, J, N>(alloc, blanks, count, plant.workers()) else {
+    let Ok(made) = allocate::<B, J, N>(alloc, new_tallies, count, plant.workers()) else {
         return Err(NotBegun {
             plant,
             lines,
@@ -122,10 +123,10 @@ pub(crate) fn begin<'a, B: Bus, C: Clock, J: Basis + Links, N: Names>(
     let Allocations {
         thread_lists,
         mut served,
-        books,
-        ties,
+        tallies,
+        thread_tallies,
     } = made;
-    let (shared, shares) = match Shared::new(alloc, plant, cells, books, ties) {
+    let (shared, shares) = match Shared::new(alloc, plant, cells, tallies, thread_tallies) {
         Ok(made) => made,
         Err(plant) => {
             return Err(NotBegun {

@@ -14,7 +14,7 @@ use crate::ended::Ended;
 use crate::running::{new_cells, run_named};
 use buslink::{Bus, Clock};
 use plant::OpenFault;
-use seats::Blanks;
+use seats::NewTallies;
 use std::alloc::Global;
 use std::marker::Brand;
 use std::sync::Wait;
@@ -87,7 +87,7 @@ pub(crate) fn run_under<B: Bus + Send, C: Clock + Send, G: Gate, R: Threads + Wa
         alloc,
         plant,
         cells.as_slice(),
-        Blanks::new(),
+        NewTallies::new(),
         buses,
         clock,
         gate,

@@ -2,12 +2,12 @@
 
 use buslink::{Bus, Clock};
 use plantlock::{Basis, Share};
-use seats::Seated;
+use seats::Tally;
 use turns::{Served, Timed};
 
 /// The buses and the clock with their Shares, and the Shares of the scan workers.
 #[derive(Drop)]
-pub struct LinkedShares<'a, B: Bus, C: Clock, J: Basis, T: Seated> {
+pub struct LinkedShares<'a, B: Bus, C: Clock, J: Basis, T: Tally> {
     /// The buses, by their numbers.
     pub buses: Vec<Served<'a, B, J, T>>,
     /// The scan workers, by their numbers.

@@ -22,7 +22,7 @@ use buslink::{Bus, Clock};
 use ilcompile::Setup;
 use plant::{OpenFault, Plant};
 use plantlock::{Basis, NotedPart, Shared};
-use seats::{Blanks, Names, Seated, Tallies};
+use seats::{Names, NewTallies, Tallies, Tally};
 use std::alloc::{AllocError, Global};
 use std::marker::Brand;
 use std::sync::{OnceLock, Wait};
@@ -63,7 +63,7 @@ pub(crate) fn run_named<
     alloc: Global,
     plant: Plant,
     cells: &'a [OnceLock<NotedPart>],
-    blanks: Blanks,
+    new_tallies: NewTallies,
     lines: Vec<B>,
     clock: C,
     gate: &G,
@@ -72,7 +72,7 @@ pub(crate) fn run_named<
     requires idle { HasNothingOpen J.start }
     requires cells { (cells.now ≡ J.cells)
         × (J.start.limit ≤ length J.start.history + length J.cells) }
-    requires names { blanks ≡ N.names }
+    requires names { new_tallies ≡ N.names }
     requires links { IsInStep J.start J.buses J.clock B.log C.log lines.items clock }
     requires workers { IsWorkerCount J.start.plant.workers }
     requires buses { (vec_len lines ≡ J.start.plant.plan.buses) × (vec_len lines ≤ most_buses) }
@@ -85,7 +85,7 @@ pub(crate) fn run_named<
     ensures count { IfOk result (λ c. length c.buses.items ≡ vec_len lines) }
     ensures err { IfErr result (λ e. (e.plant ≡ plant) × (e.lines ≡ lines) × (e.clock ≡ clock)) }
 {
-    let run_parts = begin::<B, C, J, N>(alloc, plant, cells, blanks, lines, clock)?;
+    let run_parts = begin::<B, C, J, N>(alloc, plant, cells, new_tallies, lines, clock)?;
     let RunParts {
         shared,
         linked,
@@ -180,7 +180,7 @@ pub fn run<B: Bus + Send, C: Clock + Send, G: Gate, R: Threads + Wait + Timer + 
         alloc,
         plant,
         cells.as_slice(),
-        Blanks::new(),
+        NewTallies::new(),
         buses,
         clock,
         gate,

@@ -10,7 +10,7 @@ use crate::ended::End;
 use crate::scan_threads::{ScanTask, StartedScans, finish_scans, start_scans};
 use buslink::Bus;
 use plantlock::{Basis, Share, Shared};
-use seats::{Seated, Tallies};
+use seats::{Tallies, Tally};
 use std::alloc::Global;
 use std::sync::Wait;
 use std::thread::{Scope, Threads};
@@ -19,7 +19,7 @@ use turns::{Gate, Links, Served};
 
 /// What all workers share.
 #[derive(Drop)]
-pub(crate) struct WorkerContext<'s, 'a, J: Basis, T: Seated, K: Tallies<T>, G: Gate> {
+pub(crate) struct WorkerContext<'s, 'a, J: Basis, T: Tally, K: Tallies<T>, G: Gate> {
     pub alloc: Global,
     pub gate: &'s G,
     pub shared: &'s Shared<'a, J, T, K>,
@@ -34,7 +34,7 @@ pub(crate) fn start_buses<
     E,
     B: Bus + Send,
     J: Basis + Links + Send + Sync,
-    T: Seated + Send,
+    T: Tally + Send,
     K: Tallies<T> + Send,
     G: Gate,
     R: Threads + Wait + Timer + Sync,
@@ -80,7 +80,7 @@ pub(crate) fn finish_buses<
     'a,
     B: Bus + Send,
     J: Basis + Links + Send + Sync,
-    T: Seated + Send,
+    T: Tally + Send,
     R: Threads + Wait,
 >(rt: &R, started: &mut Vec<StartedBus<'a, B, J, T>>, buses: &mut Vec<Served<'a, B, J, T>>)
     requires none { buses.old.items ≡ [] }
@@ -102,7 +102,7 @@ pub(crate) fn start_workers<
     'a,
     E,
     J: Basis + Send + Sync,
-    T: Seated + Send,
+    T: Tally + Send,
     K: Tallies<T> + Send,
     G: Gate,
     R: Threads + Wait + Timer + Sync,
@@ -142,7 +142,7 @@ where
 }
 
 /// Waits for each scan worker.
-pub(crate) fn finish_workers<'a, J: Basis + Send + Sync, T: Seated + Send, R: Threads + Wait>(
+pub(crate) fn finish_workers<'a, J: Basis + Send + Sync, T: Tally + Send, R: Threads + Wait>(
     rt: &R,
     started: &mut Vec<StartedScans<'a, J, T>>,
     workers: &mut Vec<Share<'a, J, T>>,

@@ -16,7 +16,7 @@ use crate::worker_threads::{
 };
 use buslink::{Bus, Clock};
 use plantlock::Basis;
-use seats::{Seated, Tallies};
+use seats::{Tallies, Tally};
 use std::alloc::{AllocError, Global};
 use std::sync::Wait;
 use std::thread;
@@ -26,7 +26,7 @@ use turns::{Gate, Links};
 
 /// Room for the threads, made before the first begins.
 #[derive(Drop)]
-pub(crate) struct ThreadLists<'a, B: Bus, J: Basis + Links, T: Seated> {
+pub(crate) struct ThreadLists<'a, B: Bus, J: Basis + Links, T: Tally> {
     pub buses: Vec<StartedBus<'a, B, J, T>>,
     pub workers: Vec<StartedScans<'a, J, T>>,
 }
@@ -40,7 +40,7 @@ pub(crate) struct AllWorkers<
     B: Bus,
     C: Clock,
     J: Basis + Links,
-    T: Seated,
+    T: Tally,
     K: Tallies<T>,
     G: Gate,
 > {
@@ -51,12 +51,12 @@ pub(crate) struct AllWorkers<
 
 /// What the workers leave: the Shares with their links, and why the worker of the clock ended.
 #[derive(Drop)]
-pub(crate) struct WorkResult<'a, B: Bus, C: Clock, J: Basis, T: Seated> {
+pub(crate) struct WorkResult<'a, B: Bus, C: Clock, J: Basis, T: Tally> {
     pub linked: LinkedShares<'a, B, C, J, T>,
     pub ended: Ended,
 }
 
-impl<'a, B: Bus, J: Basis + Links, T: Seated> ThreadLists<'a, B, J, T> {
+impl<'a, B: Bus, J: Basis + Links, T: Tally> ThreadLists<'a, B, J, T> {
     /// Room for so many threads.
     ///
     /// # Errors
@@ -89,7 +89,7 @@ fn work_in<
     B: Bus + Send,
     C: Clock,
     J: Basis + Links + Send + Sync,
-    T: Seated + Send,
+    T: Tally + Send,
     K: Tallies<T> + Send,
     G: Gate,
     R: Threads + Wait + Timer + Sync,
@@ -149,7 +149,7 @@ pub(crate) fn work<
     B: Bus + Send,
     C: Clock + Send,
     J: Basis + Links + Send + Sync,
-    T: Seated + Send,
+    T: Tally + Send,
     K: Tallies<T> + Send,
     G: Gate,
     R: Threads + Wait + Timer + Sync,

@@ -48,8 +48,10 @@ loop-bus-preserved g c =
     let same : most_workers + n + 1 ≡ most_workers + (n + 1) = omega arith in (
       fresh_pushed g.J.Basis.start Bus n c.loop-bus.shares.items c.push.new.self.items c.next_share-share.result inv.0
           made.fresh c.in_ok-push.ensures.items,
-      subst (λ m. AreUnused g.T.Seated.seat g.T.Seated.amount m c.next_share-share.new.ties.items) same made.unused,
-      subst (λ m. AreCounted g.J.Basis.start (g.K.Tallies.number c.next_share-share.new.books) m) same (made.counted inv.2),
+      subst (λ m. AreUnused g.T.Tally.seat g.T.Tally.amount m c.next_share-share.new.thread_tallies.items) same
+          made.unused,
+      subst (λ m. AreCounted g.J.Basis.start (g.K.Tallies.number c.next_share-share.new.tallies) m) same
+          (made.counted inv.2),
     )
 
 pub overflow_sub-buses : goal.overflow_sub-buses
@@ -60,8 +62,8 @@ overflow_sub-buses g c =
     c.requires.start c.setup.ensures.plan c.plan.ensures.value c.buses-buses.ensures.value))
     c.requires.seated
 
-pub skip_ties-requires : goal.skip_ties-requires
-skip_ties-requires g c =
+pub skip_tallies-requires : goal.skip_tallies-requires
+skip_tallies-requires g c =
     let inv = c.loop-bus.invariant in
     let passed =
     buses_passed c.loop-bus.bus c.buses-buses.result g.J.Basis.start.plant.plan.buses c.from.result
@@ -90,14 +92,14 @@ returns-clause-unused g c =
     (buses_known c.args.plant.now g.J.Basis.start c.setup.result.now.plan c.plan.result.now c.buses-buses.result
     c.requires.start c.setup.ensures.plan c.plan.ensures.value c.buses-buses.ensures.value)
     c.requires.seated c.from.ensures in
-    subst (λ m. AreUnused g.T.Seated.seat g.T.Seated.amount m c.skip_ties.new.ties.items) passed.0
-    (c.skip_ties.ensures (most_workers + c.loop-bus.bus) passed.1 inv.1)
+    subst (λ m. AreUnused g.T.Tally.seat g.T.Tally.amount m c.skip_tallies.new.thread_tallies.items) passed.0
+    (c.skip_tallies.ensures (most_workers + c.loop-bus.bus) passed.1 inv.1)
 
 pub returns-clause-counted : goal.returns-clause-counted
 returns-clause-counted g c =
     let inv = c.loop-bus.invariant in
-    buses_counted g.J.Basis.start (g.K.Tallies.number c.loop-bus.books)
-    (subst (λ (n : ℕ). AreCounted g.J.Basis.start (g.K.Tallies.number c.loop-bus.books) (most_workers + n))
+    buses_counted g.J.Basis.start (g.K.Tallies.number c.loop-bus.tallies)
+    (subst (λ (n : ℕ). AreCounted g.J.Basis.start (g.K.Tallies.number c.loop-bus.tallies) (most_workers + n))
     (at_end c.loop-bus.bus c.buses-buses.result g.J.Basis.start.plant.plan.buses c.loop-bus.auto.bus-end
     c.loop-bus-test.false
     (buses_known c.args.plant.now g.J.Basis.start c.setup.result.now.plan c.plan.result.now c.buses-buses.result

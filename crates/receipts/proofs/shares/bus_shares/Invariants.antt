@@ -8,5 +8,5 @@ use Rattle.receipts.proofs.shares.bus_shares.Given as goal
 abbrev pub invariant-loop-bus : goal.invariant-loop-bus
 invariant-loop-bus g l =
     AreFresh g.J.Basis.start Bus l.bus l.shares.items
-    × AreUnused g.T.Seated.seat g.T.Seated.amount (most_workers + l.bus) l.ties.items
-    × AreCounted g.J.Basis.start (g.K.Tallies.number l.books) (most_workers + l.bus)
+    × AreUnused g.T.Tally.seat g.T.Tally.amount (most_workers + l.bus) l.thread_tallies.items
+    × AreCounted g.J.Basis.start (g.K.Tallies.number l.tallies) (most_workers + l.bus)

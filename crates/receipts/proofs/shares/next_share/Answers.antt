@@ -5,13 +5,13 @@ use Rattle.receipts.proofs.Roles.{index_below}
 use Rattle.receipts.proofs.Seating.{counted_next}
 use Rattle.receipts.proofs.shares.next_share.Goals as goal
 
-pub next_tie-tie-requires : goal.next_tie-tie-requires
-next_tie-tie-requires g c =
+pub next_tally-tally-requires : goal.next_tally-tally-requires
+next_tally-tally-requires g c =
     (index_of c.args.role, index_below g.J.Basis.start.plant c.args.role c.requires.known, c.requires.unused)
 
 pub count_place-requires : goal.count_place-requires
 count_place-requires g c =
-    (c.next_tie-tie.ensures (index_of c.args.role) (index_below g.J.Basis.start.plant c.args.role c.requires.known)
+    (c.next_tally-tally.ensures (index_of c.args.role) (index_below g.J.Basis.start.plant c.args.role c.requires.known)
     c.requires.unused).unused
 
 pub new-requires-clause-base : goal.new-requires-clause-base
@@ -20,10 +20,10 @@ new-requires-clause-base g c = c.len.ensures.value ∙ ap (λ (p : Shown). lengt
 pub new-requires-clause-known : goal.new-requires-clause-known
 new-requires-clause-known g c = c.requires.known
 
-pub new-requires-clause-tie : goal.new-requires-clause-tie
-new-requires-clause-tie g c = (
+pub new-requires-clause-tally : goal.new-requires-clause-tally
+new-requires-clause-tally g c = (
   c.count_place.ensures.seat
-      ∙ (c.next_tie-tie.ensures (index_of c.args.role)
+      ∙ (c.next_tally-tally.ensures (index_of c.args.role)
       (index_below g.J.Basis.start.plant c.args.role c.requires.known) c.requires.unused).seated,
   c.count_place.ensures.amount,
 )
@@ -37,14 +37,14 @@ returns-clause-fresh g c = c.new.ensures.fresh
 
 pub returns-clause-unused : goal.returns-clause-unused
 returns-clause-unused g c =
-    (c.next_tie-tie.ensures (index_of c.args.role) (index_below g.J.Basis.start.plant c.args.role c.requires.known)
+    (c.next_tally-tally.ensures (index_of c.args.role) (index_below g.J.Basis.start.plant c.args.role c.requires.known)
     c.requires.unused).rest
 
 pub returns-clause-counted : goal.returns-clause-counted
 returns-clause-counted g c =
-    counted_next g.J.Basis.start (g.K.Tallies.number c.args.books.now) (g.K.Tallies.number c.count_place.new.books)
-    c.args.role (g.T.Seated.seat c.next_tie-tie.result) c.keeps-reserved.result c.requires.known
-    (c.next_tie-tie.ensures (index_of c.args.role) (index_below g.J.Basis.start.plant c.args.role c.requires.known)
+    counted_next g.J.Basis.start (g.K.Tallies.number c.args.tallies.now) (g.K.Tallies.number c.count_place.new.tallies)
+    c.args.role (g.T.Tally.seat c.next_tally-tally.result) c.keeps-reserved.result c.requires.known
+    (c.next_tally-tally.ensures (index_of c.args.role) (index_below g.J.Basis.start.plant c.args.role c.requires.known)
     c.requires.unused).seated
     (c.keeps-reserved.ensures.value ∙ ap (λ (p : Shown). is_reserved c.args.role p) c.requires.start)
     c.count_place.ensures.mine c.count_place.ensures.others

@@ -14,7 +14,7 @@ pub loop-worker-init : goal.loop-worker-init
 loop-worker-init g c = (
   fresh_none g.J.Basis.start Worker c.new-shares.result.items c.new-shares.ensures.items,
   c.requires.unused,
-  counted_none g.J.Basis.start (g.K.Tallies.number c.args.books.now),
+  counted_none g.J.Basis.start (g.K.Tallies.number c.args.tallies.now),
 )
 
 pub next_share-share-requires-clause-start : goal.next_share-share-requires-clause-start
@@ -56,8 +56,8 @@ overflow_sub-workers g c =
     subst (λ (n : ℕ). n ≤ most_workers)
     (sym (c.workers-workers.ensures.value ∙ ap (λ (p : Shown). p.plant.workers) c.requires.start)) c.requires.seated
 
-pub skip_ties-requires : goal.skip_ties-requires
-skip_ties-requires g c =
+pub skip_tallies-requires : goal.skip_tallies-requires
+skip_tallies-requires g c =
     let inv = c.loop-worker.invariant in
     let passed =
     workers_passed c.loop-worker.worker c.workers-workers.result g.J.Basis.start.plant.workers
@@ -81,14 +81,14 @@ returns-clause-unused g c =
     workers_passed c.loop-worker.worker c.workers-workers.result g.J.Basis.start.plant.workers
     (most_workers - c.workers-workers.result) c.loop-worker.auto.worker-end c.loop-worker-test.false
     (c.workers-workers.ensures.value ∙ ap (λ (p : Shown). p.plant.workers) c.requires.start) c.requires.seated refl in
-    subst (λ m. AreUnused g.T.Seated.seat g.T.Seated.amount m c.skip_ties.new.ties.items) passed.0
-    (c.skip_ties.ensures c.loop-worker.worker passed.1 inv.1)
+    subst (λ m. AreUnused g.T.Tally.seat g.T.Tally.amount m c.skip_tallies.new.thread_tallies.items) passed.0
+    (c.skip_tallies.ensures c.loop-worker.worker passed.1 inv.1)
 
 pub returns-clause-counted : goal.returns-clause-counted
 returns-clause-counted g c =
     let inv = c.loop-worker.invariant in
-    workers_counted g.J.Basis.start (g.K.Tallies.number c.loop-worker.books)
-    (subst (λ (n : ℕ). AreCounted g.J.Basis.start (g.K.Tallies.number c.loop-worker.books) n)
+    workers_counted g.J.Basis.start (g.K.Tallies.number c.loop-worker.tallies)
+    (subst (λ (n : ℕ). AreCounted g.J.Basis.start (g.K.Tallies.number c.loop-worker.tallies) n)
     (at_end c.loop-worker.worker c.workers-workers.result g.J.Basis.start.plant.workers c.loop-worker.auto.worker-end
     c.loop-worker-test.false
     (c.workers-workers.ensures.value ∙ ap (λ (p : Shown). p.plant.workers) c.requires.start))

@@ -4,7 +4,7 @@ use Rattle.workers.proofs.Parting.{all_unused, fresh_buses, fresh_timed, fresh_w
 use Rattle.workers.proofs.beginning.begin.Goals as goal
 
 pub new-requires-clause-unused : goal.new-requires-clause-unused
-new-requires-clause-unused g c = all_unused c.in-Ok.made.ties.items c.in-Ok.ensures.ties
+new-requires-clause-unused g c = all_unused c.in-Ok.made.thread_tallies.items c.in-Ok.ensures.thread_tallies
 
 pub returns-clause-run_parts : goal.returns-clause-run_parts
 returns-clause-run_parts g c =

@@ -11,4 +11,4 @@ ghosts-run_named-J-Links g a = record {
 }
 
 abbrev pub ghosts-run_named-N-Names : goal.ghosts-run_named-N-Names
-ghosts-run_named-N-Names g a = record { names = a.blanks }
+ghosts-run_named-N-Names g a = record { names = a.new_tallies }

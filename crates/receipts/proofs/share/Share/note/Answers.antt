@@ -9,16 +9,18 @@ use Rattle.receipts.proofs.share.Share.note.Goals as goal
 pub overflow_mul-was : goal.overflow_mul-was
 overflow_mul-was g c =
     twice_fits c.args.index c.self.inside.reach (one_if c.self.inside.reserved) c.requires.small
-    (not_later (g.K.Tallies.number c.args.numbers.now) (length g.J.Basis.start.history) g.J.Basis.cells (g.T.Seated.seat c.self.inside.tie)
-    (g.T.Seated.amount c.self.inside.tie) c.args.index c.self.inside.reach (one_if c.self.inside.reserved)
+    (not_later (g.K.Tallies.number c.args.numbers.now) (length g.J.Basis.start.history) g.J.Basis.cells
+    (g.T.Tally.seat c.self.inside.tally)
+    (g.T.Tally.amount c.self.inside.tally) c.args.index c.self.inside.reach (one_if c.self.inside.reserved)
     c.self.inside.newest _ c.args.self.now c.self.view_is c.audit.ensures.same c.self.invariant.seated
     c.self.invariant.says refl c.requires.order)
 
 pub overflow_add-was : goal.overflow_add-was
 overflow_add-was g c =
     was_fits c.args.index c.self.inside.reach c.one_if.result c.requires.small
-    (not_later (g.K.Tallies.number c.args.numbers.now) (length g.J.Basis.start.history) g.J.Basis.cells (g.T.Seated.seat c.self.inside.tie)
-    (g.T.Seated.amount c.self.inside.tie) c.args.index c.self.inside.reach c.one_if.result c.self.inside.newest _
+    (not_later (g.K.Tallies.number c.args.numbers.now) (length g.J.Basis.start.history) g.J.Basis.cells
+    (g.T.Tally.seat c.self.inside.tally)
+    (g.T.Tally.amount c.self.inside.tally) c.args.index c.self.inside.reach c.one_if.result c.self.inside.newest _
     c.args.self.now c.self.view_is c.audit.ensures.same c.self.invariant.seated c.self.invariant.says c.one_if.ensures
     c.requires.order)
 
@@ -35,8 +37,9 @@ overflow_add-is g c =
 pub overflow_sub-is : goal.overflow_sub-is
 overflow_sub-is g c =
     grows (2 * c.self.inside.reach + c.one_if.result) c.args.index c.one_if-2.result
-    (not_later (g.K.Tallies.number c.args.numbers.now) (length g.J.Basis.start.history) g.J.Basis.cells (g.T.Seated.seat c.self.inside.tie)
-    (g.T.Seated.amount c.self.inside.tie) c.args.index c.self.inside.reach c.one_if.result c.self.inside.newest _
+    (not_later (g.K.Tallies.number c.args.numbers.now) (length g.J.Basis.start.history) g.J.Basis.cells
+    (g.T.Tally.seat c.self.inside.tally)
+    (g.T.Tally.amount c.self.inside.tally) c.args.index c.self.inside.reach c.one_if.result c.self.inside.newest _
     c.args.self.now c.self.view_is c.audit.ensures.same c.self.invariant.seated c.self.invariant.says c.one_if.ensures
     c.requires.order)
 
@@ -50,16 +53,17 @@ pub invariant_of-self : goal.invariant_of-self
 invariant_of-self g c = record {
   known = c.self.invariant.known;
   based = c.self.invariant.based;
-  seated = c.add.ensures.seat ∙ ap g.T.Seated.seat c.audit.ensures.tie ∙ c.self.invariant.seated;
+  seated = c.add.ensures.seat ∙ ap g.T.Tally.seat c.audit.ensures.tally ∙ c.self.invariant.seated;
   says = record {
     numbered =
-        grown (g.T.Seated.amount c.self.inside.tie) (g.T.Seated.amount c.audit.new.tie) c.self.inside.reach
-        c.args.index c.one_if.result c.one_if-2.result (g.T.Seated.amount c.add.new.tie) c.self.inside.reserved
-        c.reserved_after-self-inside.result (ap g.T.Seated.amount c.audit.ensures.tie)
+        grown (g.T.Tally.amount c.self.inside.tally) (g.T.Tally.amount c.audit.new.tally) c.self.inside.reach
+        c.args.index c.one_if.result c.one_if-2.result (g.T.Tally.amount c.add.new.tally) c.self.inside.reserved
+        c.reserved_after-self-inside.result (ap g.T.Tally.amount c.audit.ensures.tally)
         c.self.invariant.says.numbered c.one_if.ensures c.one_if-2.ensures
         (grows (2 * c.self.inside.reach + c.one_if.result) c.args.index c.one_if-2.result
-        (not_later (g.K.Tallies.number c.args.numbers.now) (length g.J.Basis.start.history) g.J.Basis.cells (g.T.Seated.seat c.self.inside.tie)
-        (g.T.Seated.amount c.self.inside.tie) c.args.index c.self.inside.reach c.one_if.result c.self.inside.newest _
+        (not_later (g.K.Tallies.number c.args.numbers.now) (length g.J.Basis.start.history) g.J.Basis.cells
+        (g.T.Tally.seat c.self.inside.tally)
+        (g.T.Tally.amount c.self.inside.tally) c.args.index c.self.inside.reach c.one_if.result c.self.inside.newest _
         c.args.self.now c.self.view_is c.audit.ensures.same c.self.invariant.seated c.self.invariant.says
         c.one_if.ensures c.requires.order))
         c.add.ensures.amount;
@@ -95,15 +99,16 @@ returns-clause-mine g c =
     g.K.Tallies.number c.add.new.self (seat_of s.role)
     ≡ 2 * (c.args.index + 1) + one_if (reserved_after c.args.event s.reserved)) c.self.view_is
     (ap (g.K.Tallies.number c.add.new.self)
-    (sym (ap g.T.Seated.seat c.audit.ensures.tie ∙ c.self.invariant.seated))
-    ∙ grown (g.T.Seated.amount c.self.inside.tie) (g.T.Seated.amount c.audit.new.tie) c.self.inside.reach
+    (sym (ap g.T.Tally.seat c.audit.ensures.tally ∙ c.self.invariant.seated))
+    ∙ grown (g.T.Tally.amount c.self.inside.tally) (g.T.Tally.amount c.audit.new.tally) c.self.inside.reach
     c.args.index c.one_if.result c.one_if-2.result
-    (g.K.Tallies.number c.add.new.self (g.T.Seated.seat c.audit.new.tie)) c.self.inside.reserved
-    c.reserved_after-self-inside.result (ap g.T.Seated.amount c.audit.ensures.tie) c.self.invariant.says.numbered
+    (g.K.Tallies.number c.add.new.self (g.T.Tally.seat c.audit.new.tally)) c.self.inside.reserved
+    c.reserved_after-self-inside.result (ap g.T.Tally.amount c.audit.ensures.tally) c.self.invariant.says.numbered
     c.one_if.ensures c.one_if-2.ensures
     (grows (2 * c.self.inside.reach + c.one_if.result) c.args.index c.one_if-2.result
-    (not_later (g.K.Tallies.number c.args.numbers.now) (length g.J.Basis.start.history) g.J.Basis.cells (g.T.Seated.seat c.self.inside.tie)
-    (g.T.Seated.amount c.self.inside.tie) c.args.index c.self.inside.reach c.one_if.result c.self.inside.newest _
+    (not_later (g.K.Tallies.number c.args.numbers.now) (length g.J.Basis.start.history) g.J.Basis.cells
+    (g.T.Tally.seat c.self.inside.tally)
+    (g.T.Tally.amount c.self.inside.tally) c.args.index c.self.inside.reach c.one_if.result c.self.inside.newest _
     c.args.self.now c.self.view_is c.audit.ensures.same c.self.invariant.seated c.self.invariant.says
     c.one_if.ensures c.requires.order))
     c.add.ensures.mine
@@ -112,7 +117,7 @@ returns-clause-mine g c =
 pub returns-clause-others : goal.returns-clause-others
 returns-clause-others g c =
     others_stay (g.K.Tallies.number c.add.new.self) (g.K.Tallies.number c.audit.new.self)
-    (g.K.Tallies.number c.args.numbers.now) (g.T.Seated.seat c.audit.new.tie) (seat_of c.args.self.now.role)
-    (ap g.T.Seated.seat c.audit.ensures.tie ∙ c.self.invariant.seated
+    (g.K.Tallies.number c.args.numbers.now) (g.T.Tally.seat c.audit.new.tally) (seat_of c.args.self.now.role)
+    (ap g.T.Tally.seat c.audit.ensures.tally ∙ c.self.invariant.seated
     ∙ ap (λ (s : ShareParts). seat_of s.role) c.self.view_is)
-    c.add.ensures.others (λ k. ap (λ (b : g.row.K.Denot). g.K.Tallies.number b k) c.audit.ensures.books)
+    c.add.ensures.others (λ k. ap (λ (b : g.row.K.Denot). g.K.Tallies.number b k) c.audit.ensures.tallies)
